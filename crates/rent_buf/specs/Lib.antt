@@ -1,0 +1,5 @@
+pub mod Buf
+pub mod Buffer
+pub mod Lends
+pub mod Rent
+pub mod SliceMut

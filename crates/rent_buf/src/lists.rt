@@ -1,0 +1,210 @@
+// Lists of bytes and of numbers, which a contract sees as lists.
+ghost use Rattle.std.specs.Prelude.{◌≡◌, ◌≤◌, [], ◌∷◌, ◌++◌, ◌↔◌, nat_eq, length, IsTrue, IfOk, OnOk, OnErr};
+ghost use Rattle.std.specs.Cmp.Lexicographic.{pointwise, nat_list_eq_equiv};
+ghost use Rattle.std.specs.Cmp.{partial_equiv_from_equiv};
+
+use crate::fault::OutOfMemory;
+use std::alloc::Global;
+use std::marker::Model;
+
+/// A list of bytes (own). It owns a vector, which keeps its allocator.
+#[derive(Debug, Drop)]
+pub struct ByteList {
+    items: Vec<u8>,
+}
+
+impl Model for ByteList {
+    ghost use Rattle.std.specs.Prelude.{List, ℕ};
+
+    ghost Value = { List ℕ };
+
+    ghost view = { λ l. l.items.items };
+}
+
+impl ByteList {
+    /// No bytes (own). It takes no memory before the first byte.
+    pub fn new(alloc: Global) -> Self
+        ensures { result ≡ [] }
+    {
+        ByteList {
+            items: Vec::new(alloc),
+        }
+    }
+
+    /// The bytes of a vector, in its memory (own).
+    pub fn from_vec(v: Vec<u8>) -> Self
+        ensures { result ≡ v.items }
+    {
+        ByteList { items: v }
+    }
+
+    /// The vector of the bytes, in the list's memory (own).
+    pub fn into_vec(self) -> Vec<u8>
+        ensures { result.items ≡ self }
+    {
+        let ByteList { items } = self;
+        items
+    }
+
+    /// The bytes (own).
+    pub fn as_slice(&self) -> &[u8]
+        ensures { result.now ≡ self.now }
+    {
+        self.items.as_slice()
+    }
+
+    /// The number of bytes (own).
+    pub fn len(&self) -> usize
+        ensures { result ≡ length self.now }
+    {
+        self.items.len()
+    }
+
+    /// Whether there is no byte (own).
+    pub fn is_empty(&self) -> bool
+        ensures { IsTrue result ↔ (self.now ≡ []) }
+    {
+        self.items.is_empty()
+    }
+
+    /// Adds a byte at the end (own). Where memory runs out, the list stays, and the byte is given up.
+    pub fn push(&mut self, byte: u8) -> Result<(), OutOfMemory>
+        ensures ok { OnOk result (self.new ≡ self.old ++ byte ∷ []) }
+        ensures err { OnErr result (self.new ≡ self.old) }
+    {
+        self.items.push(byte)?;
+        Ok(())
+    }
+
+    /// Adds bytes at the end (own). Where memory runs out, the list stays.
+    pub fn append(&mut self, bytes: &[u8]) -> Result<(), OutOfMemory>
+        ensures ok { OnOk result (self.new ≡ self.old ++ bytes.now) }
+        ensures err { OnErr result (self.new ≡ self.old) }
+    {
+        self.items.extend_from_slice(bytes)?;
+        Ok(())
+    }
+
+    /// A list of the same bytes in memory of its own (own), or `OutOfMemory`.
+    pub fn try_clone(&self) -> Result<Self, OutOfMemory>
+        ensures { IfOk result (λ copy. copy ≡ self.now) }
+    {
+        self.try_clone_with_capacity(self.items.len())
+    }
+
+    // A copy with room for so many bytes, which is reserved once.
+    pub(crate) fn try_clone_with_capacity(&self, capacity: usize) -> Result<Self, OutOfMemory>
+        requires { length self.now ≤ capacity }
+        ensures { IfOk result (λ copy. copy ≡ self.now) }
+    {
+        let mut items = Vec::with_capacity(*self.items.allocator(), capacity)?;
+        items.extend_from_slice(self.items.as_slice())?;
+        Ok(ByteList { items })
+    }
+}
+
+impl PartialEq for ByteList {
+    ghost eq = { pointwise nat_eq };
+
+    ghost laws = { partial_equiv_from_equiv nat_list_eq_equiv };
+
+    fn eq(&self, other: &Self) -> bool {
+        self.as_slice() == other.as_slice()
+    }
+}
+
+impl Eq for ByteList {
+    ghost laws = { nat_list_eq_equiv };
+}
+
+/// A list of numbers (own). It owns a vector, which keeps its allocator.
+#[derive(Debug, Drop)]
+pub struct NumList {
+    items: Vec<u64>,
+}
+
+impl Model for NumList {
+    ghost use Rattle.std.specs.Prelude.{List, ℕ};
+
+    ghost Value = { List ℕ };
+
+    ghost view = { λ l. l.items.items };
+}
+
+impl NumList {
+    /// No numbers (own). It takes no memory before the first number.
+    pub fn new(alloc: Global) -> Self
+        ensures { result ≡ [] }
+    {
+        NumList {
+            items: Vec::new(alloc),
+        }
+    }
+
+    /// The numbers of a vector, in its memory (own).
+    pub fn from_vec(v: Vec<u64>) -> Self
+        ensures { result ≡ v.items }
+    {
+        NumList { items: v }
+    }
+
+    /// The vector of the numbers, in the list's memory (own).
+    pub fn into_vec(self) -> Vec<u64>
+        ensures { result.items ≡ self }
+    {
+        let NumList { items } = self;
+        items
+    }
+
+    /// The numbers (own).
+    pub fn as_slice(&self) -> &[u64]
+        ensures { result.now ≡ self.now }
+    {
+        self.items.as_slice()
+    }
+
+    /// How many numbers there are (own).
+    pub fn len(&self) -> usize
+        ensures { result ≡ length self.now }
+    {
+        self.items.len()
+    }
+
+    /// Whether there is no number (own).
+    pub fn is_empty(&self) -> bool
+        ensures { IsTrue result ↔ (self.now ≡ []) }
+    {
+        self.items.is_empty()
+    }
+
+    /// Adds a number at the end (own). Where memory runs out, the list stays, and the number is given up.
+    pub fn push(&mut self, number: u64) -> Result<(), OutOfMemory>
+        ensures ok { OnOk result (self.new ≡ self.old ++ number ∷ []) }
+        ensures err { OnErr result (self.new ≡ self.old) }
+    {
+        self.items.push(number)?;
+        Ok(())
+    }
+
+    /// A list of the same numbers in memory of its own (own), or `OutOfMemory`.
+    pub fn try_clone(&self) -> Result<Self, OutOfMemory>
+        ensures { IfOk result (λ copy. copy ≡ self.now) }
+    {
+        let items = Vec::from_slice(*self.items.allocator(), self.items.as_slice())?;
+        Ok(NumList { items })
+    }
+}
+
+impl PartialEq for NumList {
+    ghost eq = { pointwise nat_eq };
+
+    ghost laws = { partial_equiv_from_equiv nat_list_eq_equiv };
+
+    fn eq(&self, other: &Self) -> bool {
+        self.as_slice() == other.as_slice()
+    }
+}
+
+impl Eq for NumList {
+    ghost laws = { nat_list_eq_equiv };
+}

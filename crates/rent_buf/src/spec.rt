@@ -1,0 +1,224 @@
+// A buffer as plain data, and the buffer that is built of it.
+ghost use Rattle.std.specs.Prelude.{◌≡◌, ◌↔◌, refl, IfOk, IfSome, IsSome};
+ghost use Rattle.rent_buf.specs.Buffer.{BufferBounds};
+ghost use Rattle.rent_buf.specs.Buf.{built, content_of, under_of, with_bytes_of};
+
+use crate::fault::OutOfMemory;
+use crate::io_buf::{IoBuf, IoBufMut};
+use crate::lists::ByteList;
+use crate::rent::Rent;
+use crate::slice::SliceMut;
+use std::marker::Model;
+
+/// How the number of a buffer's bytes follows a store (own).
+#[derive(Clone, Copy, Debug, PartialEq, Eq)]
+pub enum Kind {
+    /// A vector with a stated total: after a store the stored bytes are its last.
+    Vector,
+}
+
+/// A buffer as plain data (own): its kind, its bytes, its total and its range.
+#[derive(Debug, Drop, PartialEq, Eq)]
+pub struct BufSpec {
+    kind: Kind,
+    total: usize,
+    begin: usize,
+    end: usize,
+    bytes: ByteList,
+}
+
+impl Model for BufSpec {
+    ghost use Rattle.rent_buf.specs.Buffer.{Buffer, BufferBounds};
+
+    ghost Value = { Buffer };
+
+    ghost view = { λ b. record { kind = b.kind; bytes = b.bytes; total = b.total; begin = b.begin; end = b.end } };
+
+    ghost invariant = { λ b. BufferBounds (record { kind = b.kind; bytes = b.bytes; total = b.total; begin = b.begin; end = b.end }) };
+
+    ghost inverse = { λ b. record { kind = b.kind; total = b.total; begin = b.begin; end = b.end; bytes = b.bytes } };
+}
+
+impl BufSpec {
+    /// The buffer of this kind, total, range and bytes (own). `None` comes exactly where a bound
+    /// fails: `bytes.len() <= total`, `begin <= end`, `begin <= bytes.len()` and `end <= total`.
+    pub fn new(
+        kind: Kind,
+        total: usize,
+        begin: usize,
+        end: usize,
+        bytes: ByteList,
+    ) -> Option<BufSpec>
+        ensures some { IfSome result (λ b. b ≡ record { kind = kind; bytes = bytes; total = total; begin = begin; end = end }) }
+        ensures exact { IsSome result ↔ BufferBounds (record { kind = kind; bytes = bytes; total = total; begin = begin; end = end }) }
+    {
+        let count = bytes.len();
+        if count <= total && begin <= end && begin <= count && end <= total {
+            Some(BufSpec {
+                kind,
+                total,
+                begin,
+                end,
+                bytes,
+            })
+        } else {
+            None
+        }
+    }
+
+    /// The kind (own).
+    pub fn kind(&self) -> Kind
+        ensures { result ≡ self.now.kind }
+    {
+        self.kind
+    }
+
+    /// The most bytes that the buffer holds (own).
+    pub fn total(&self) -> usize
+        ensures { result ≡ self.now.total }
+    {
+        self.total
+    }
+
+    /// Where the range begins, in bytes (own).
+    pub fn begin(&self) -> usize
+        ensures { result ≡ self.now.begin }
+    {
+        self.begin
+    }
+
+    /// Where the range ends, in bytes (own).
+    pub fn end(&self) -> usize
+        ensures { result ≡ self.now.end }
+    {
+        self.end
+    }
+
+    /// The initialised bytes of the whole buffer (own).
+    pub fn bytes(&self) -> &[u8]
+        ensures value { result.now ≡ self.now.bytes }
+        ensures bounds { BufferBounds self.now }
+    {
+        self.bytes.as_slice()
+    }
+
+    /// A copy (own), or `OutOfMemory`. The total is reserved once, so a `build` of the copy moves
+    /// no byte.
+    pub fn try_clone(&self) -> Result<BufSpec, OutOfMemory>
+        ensures { IfOk result (λ copy. copy ≡ self.now) }
+    {
+        let bytes = self.bytes.try_clone_with_capacity(self.total)?;
+        Ok(BufSpec {
+            kind: self.kind,
+            total: self.total,
+            begin: self.begin,
+            end: self.end,
+            bytes,
+        })
+    }
+
+    /// The buffer that it describes (own). Its total is reserved. Where memory runs out, the spec
+    /// is given up.
+    pub fn build(self) -> Result<Buf, OutOfMemory>
+        ensures { IfOk result (λ buf. built buf ≡ self) }
+    {
+        let BufSpec {
+            kind,
+            total,
+            begin,
+            end,
+            bytes,
+        } = self;
+        match kind {
+            Kind::Vector => match Rent::from_vec(bytes.into_vec(), total) {
+                Ok(rent) => Ok(Buf::Vector(SliceMut::new(rent, begin, end))),
+                Err(_) => Err(OutOfMemory),
+            },
+        }
+    }
+}
+
+/// A buffer of any kind, with its range (own).
+#[derive(Drop)]
+pub enum Buf {
+    /// A range of a vector with a stated total.
+    Vector(SliceMut<Rent>),
+}
+
+impl Buf {
+    /// The buffer as plain data (own). It takes no memory.
+    pub fn into_spec(self) -> BufSpec
+        ensures { result ≡ built self }
+    {
+        match self {
+            Buf::Vector(slice) => {
+                let _ = slice.bytes_total();
+                let (begin, end) = (slice.begin(), slice.end());
+                let rent = slice.into_inner();
+                let total = rent.bytes_total();
+                BufSpec {
+                    kind: Kind::Vector,
+                    total,
+                    begin,
+                    end,
+                    bytes: ByteList::from_vec(rent.into_vec()),
+                }
+            }
+        }
+    }
+}
+
+impl IoBuf for Buf {
+    ghost content = { content_of };
+
+    fn bytes(&self) -> &[u8] {
+        match self {
+            Buf::Vector(slice) => slice.bytes(),
+        }
+    }
+
+    fn bytes_init(&self) -> usize {
+        match self {
+            Buf::Vector(slice) => slice.bytes_init(),
+        }
+    }
+}
+
+impl IoBufMut for Buf {
+    ghost use Rattle.rent_buf.specs.declared.spec.Buf.TheVariants.{Vector};
+
+    ghost buffer = { built };
+
+    ghost under = { under_of };
+
+    ghost with_bytes = { with_bytes_of };
+
+    fn bytes_total(&self) -> usize {
+        match self {
+            Buf::Vector(slice) => slice.bytes_total(),
+        }
+    }
+
+    fn store(&mut self, at: usize, bytes: &[u8]) {
+        match self {
+            Buf::Vector(slice) => slice.store(at, bytes),
+        }
+    }
+
+    fn range_mut(&mut self, begin: usize, end: usize) -> &mut [u8] {
+        match self {
+            Buf::Vector(slice) => slice.range_mut(begin, end),
+        }
+    }
+
+    ghost with_bytes_buffer = { elim [ Vector slice ↦ λ at w. refl ] };
+
+    ghost with_bytes_under = { elim [ Vector slice ↦ λ at w. refl ] };
+}
+
+/// A buffer that is handed back (own).
+#[derive(Debug, Drop, PartialEq, Eq)]
+pub enum HeldBuf {
+    /// One buffer.
+    One(BufSpec),
+}
