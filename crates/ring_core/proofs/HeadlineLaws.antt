@@ -1,0 +1,15 @@
+-- The laws of whole runs, each by its name, for whoever cites them.
+use Rattle.std.proofs.Common.{ℕ, List}
+use Rattle.ring_core.specs.declared.ledger.Event.{Event}
+use Rattle.ring_core.specs.Ledger.{empty}
+use Rattle.ring_core.specs.Run.{replies}
+use Rattle.ring_core.specs.Headline.{OneReplyEach}
+use Rattle.ring_core.proofs.HeadlineReplies.{length-replies}
+pub use Rattle.ring_core.proofs.HeadlineReplies.{refused-exactly}
+pub use Rattle.ring_core.proofs.HeadlineNumbers.{given-in-order}
+pub use Rattle.ring_core.proofs.HeadlinePolls.{pending-until-reaped, reaped-or-not, hands-back-own, given-once, executed-once, reaped-once, one-own}
+pub use Rattle.ring_core.proofs.HeadlineOnce.{handed-once, refused-where-gone, first-poll-hands}
+
+-- There are as many replies as events.
+pub one-reply-each : (capacity : ℕ) (events : List Event) → OneReplyEach events (replies (empty capacity) events)
+one-reply-each capacity events = length-replies (empty capacity) events

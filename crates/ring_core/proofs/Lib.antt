@@ -1,0 +1,13 @@
+pub mod Amended
+pub mod HeadlineLists
+pub mod HeadlineTaking
+pub mod HeadlineReaping
+pub mod HeadlineListed
+pub mod HeadlineReplies
+pub mod HeadlineNumbers
+pub mod HeadlineHistory
+pub mod HeadlineTrace
+pub mod HeadlineReached
+pub mod HeadlinePolls
+pub mod HeadlineOnce
+pub mod HeadlineLaws

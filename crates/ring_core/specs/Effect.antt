@@ -1,0 +1,28 @@
+-- What moves when a call is executed.
+use Rattle.std.specs.Prelude.{ℕ, List, take, drop}
+use Rattle.ring_core.specs.declared.world.HandleState.{HandleState}
+use Rattle.ring_core.specs.declared.request.Call.{Call}
+use Rattle.ring_core.specs.declared.request.Call.TheVariants.{In}
+use Rattle.ring_core.specs.declared.request.Told.{Told}
+use Rattle.ring_core.specs.declared.request.Told.TheVariants.{Count}
+use Rattle.ring_core.specs.declared.request.Outcome.{Outcome}
+use Rattle.ring_core.specs.Lists.{amended}
+use Rattle.ring_core.specs.World.{input_at}
+
+-- What an executed call leaves: the handles, the bytes that came, and the outcome.
+pub record Effect : Type 0 where
+  pub world : List HandleState
+  pub got : List ℕ
+  pub outcome : Outcome
+
+-- The first k bytes leave the input.
+abbrev pub without_front : ℕ → HandleState → HandleState
+without_front k handle = record handle { input = drop k handle.input }
+
+-- What a count leaves, by the row of the call; `sent` are the bytes to send.
+abbrev pub count_effect : List HandleState → Call → List ℕ → ℕ → Effect
+count_effect world (In h want) sent k = record { world = amended world h (without_front k); got = take k (input_at world h); outcome = Outcome.Count k }
+
+-- What an executed call leaves.
+abbrev pub effect : List HandleState → Call → List ℕ → Told → Effect
+effect world call sent (Count k) = count_effect world call sent k

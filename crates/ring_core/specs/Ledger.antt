@@ -1,0 +1,66 @@
+-- The ledger: what the machine keeps. Operations and handles stand by number, the first at 0.
+use Rattle.std.specs.Prelude.{ℕ, Bool, true, false, nat_lt, List, [], length, Option, None}
+use Rattle.rent_buf.specs.Buffer.{Buffer}
+use Rattle.rent_buf.specs.declared.spec.HeldBuf.{HeldBuf}
+use Rattle.ring_core.specs.declared.request.Request.{Request}
+use Rattle.ring_core.specs.declared.request.Outcome.{Outcome}
+use Rattle.ring_core.specs.declared.world.HandleState.{HandleState}
+use Rattle.ring_core.specs.Lists.{numbers_where}
+use Rattle.ring_core.specs.Request.{buffer_of}
+
+-- What stands in the queue: the request of an operation.
+pub data Queued : Type 0 where
+  Req : ℕ → Queued
+
+-- What is in flight, and what is done: an operation.
+pub data Item : Type 0 where
+  Op : ℕ → Item
+
+-- Where an operation is; from its execution until it is gone it has its outcome.
+pub data Place : Type 0 where
+  InQueue : Place
+  InFlight : Place
+  InDone : Outcome → Place
+  Reaped : Outcome → Place
+  Gone : Place
+
+-- An operation: the request that was submitted, its buffer as it is now, the task that waits for it, and its place.
+pub record Operation : Type 0 where
+  pub request : Request Buffer
+  pub buffer : HeldBuf
+  pub task : Option ℕ
+  pub place : Place
+
+-- The ledger. What stands on the handles is in `world`.
+pub record Ledger : Type 0 where
+  pub capacity : ℕ
+  pub queue : List Queued
+  pub flying : List Item
+  pub done : List Item
+  pub ops : List Operation
+  pub world : List HandleState
+
+-- The empty ledger of a capacity.
+abbrev pub empty : ℕ → Ledger
+empty capacity = record { capacity = capacity; queue = []; flying = []; done = []; ops = []; world = [] }
+
+-- A new operation of a request.
+abbrev pub new_operation : Request Buffer → Operation
+new_operation request = record { request = request; buffer = buffer_of request; task = None; place = InQueue }
+
+-- A place other than Gone.
+abbrev pub is_kept : Place → Bool
+is_kept Gone = false
+is_kept _ = true
+
+-- An operation isn't gone.
+abbrev pub is_live : Operation → Bool
+is_live operation = is_kept operation.place
+
+-- The operations that aren't gone, ascending.
+abbrev pub live_ops : Ledger → List ℕ
+live_ops L = numbers_where is_live 0 L.ops
+
+-- The user holds a handle: each handle that was given is its user's.
+abbrev pub user_holds : Ledger → ℕ → Bool
+user_holds L h = nat_lt h (length L.world)

@@ -1,0 +1,18 @@
+-- Lists by number: the first element has the number 0.
+use Rattle.std.specs.Prelude.{ℕ, zero, suc, Bool, false, if◌then◌else◌, List, [], ◌∷◌, Option, None, Some}
+
+-- The list with the element of a number changed by a function.
+abbrev pub amended : {A : Type 0} → List A → ℕ → (A → A) → List A
+amended [] n change = []
+amended (x ∷ xs) zero change = change x ∷ xs
+amended (x ∷ xs) (suc n) change = x ∷ amended xs n change
+
+-- The numbers of the elements that pass a test, ascending; the first element has the number n.
+abbrev pub numbers_where : {A : Type 0} → (A → Bool) → ℕ → List A → List ℕ
+numbers_where test n [] = []
+numbers_where test n (x ∷ xs) = if test x then n ∷ numbers_where test (suc n) xs else numbers_where test (suc n) xs
+
+-- An element that was looked up is there, and passes a test.
+abbrev pub passes : {A : Type 0} → (A → Bool) → Option A → Bool
+passes test None = false
+passes test (Some x) = test x

@@ -1,0 +1,21 @@
+-- Which outcomes a call may have.
+use Rattle.std.specs.Prelude.{ℕ, Bool, ◌&&◌, ◌||◌, ◌==◌, nat_le, List, length, slice_get}
+use Rattle.ring_core.specs.declared.world.HandleState.{HandleState}
+use Rattle.ring_core.specs.declared.request.Call.{Call}
+use Rattle.ring_core.specs.declared.request.Call.TheVariants.{In}
+use Rattle.ring_core.specs.declared.request.Told.{Told}
+use Rattle.ring_core.specs.declared.request.Told.TheVariants.{Count}
+use Rattle.ring_core.specs.Lists.{passes}
+use Rattle.ring_core.specs.World.{gives_bytes}
+
+-- Bytes in: at most the want and the input; 0 only where the want is 0.
+abbrev pub may_read : ℕ → ℕ → HandleState → Bool
+may_read want k handle = nat_le k want && nat_le k (length handle.input) && (nat_le 1 k || want == 0)
+
+-- The counts of each call: on a handle that isn't in the world there is none.
+abbrev pub may_count : List HandleState → Call → ℕ → Bool
+may_count world (In h want) k = passes (λ handle. gives_bytes handle.kind && may_read want k handle) (slice_get world h)
+
+-- The outcome that is told is allowed to a call.
+abbrev pub is_allowed : List HandleState → Call → Told → Bool
+is_allowed world call (Count k) = may_count world call k

@@ -1,0 +1,68 @@
+-- Which events are refused, and with which name: a test for each name, over the events that may get it.
+use Rattle.std.specs.Prelude.{ℕ, Bool, true, false, not, ◌||◌, nat_le, List, [], ◌∷◌, length, Option, Some, None, slice_get}
+use Rattle.ring_core.specs.declared.ledger.Event.{Event}
+use Rattle.ring_core.specs.declared.ledger.Event.TheVariants.{Feed, Submit, Poll, Exec}
+use Rattle.ring_core.specs.declared.ledger.Refusal.{Refusal}
+use Rattle.ring_core.specs.declared.ledger.Refusal.TheVariants.{NoOp, NoHandle, Full, NotFlying, BadOutcome}
+use Rattle.ring_core.specs.declared.request.Told.{Told}
+use Rattle.ring_core.specs.Lists.{passes}
+use Rattle.ring_core.specs.Request.{named, call_of}
+use Rattle.ring_core.specs.Outcome.{is_allowed}
+use Rattle.ring_core.specs.Ledger.{Ledger, Item, Op, is_live, live_ops, user_holds}
+
+-- The most operations that aren't gone.
+abbrev pub most_live : ℕ
+most_live = 4294967232
+
+-- An operation was never given, or is gone.
+abbrev pub lacks_op : Ledger → ℕ → Bool
+lacks_op L n = not (passes is_live (slice_get L.ops n))
+
+-- The user doesn't hold one of these handles.
+abbrev pub lacks_handle : Ledger → List ℕ → Bool
+lacks_handle L [] = false
+lacks_handle L (h ∷ handles) = not (user_holds L h) || lacks_handle L handles
+
+-- An outcome is allowed to an item of `flying`.
+abbrev pub allowed : Ledger → Item → Told → Bool
+allowed L (Op n) told = passes (λ operation. is_allowed L.world (call_of operation.request) told) (slice_get L.ops n)
+
+-- NoOp: the operation was never given, or was handed back.
+abbrev pub has_no_op : Ledger → Event → Bool
+has_no_op L (Poll n task) = lacks_op L n
+has_no_op L _ = false
+
+-- NoHandle: the user doesn't hold a handle that the event names.
+abbrev pub has_no_handle : Ledger → Event → Bool
+has_no_handle L (Feed h bytes) = lacks_handle L (h ∷ [])
+has_no_handle L (Submit request) = lacks_handle L (named request)
+has_no_handle L _ = false
+
+-- Full: as many operations as there may be aren't gone.
+abbrev pub is_full : Ledger → Event → Bool
+is_full L (Submit request) = nat_le most_live (length (live_ops L))
+is_full L _ = false
+
+-- NotFlying: the place isn't below the length of `flying`.
+abbrev pub is_not_flying : Ledger → Event → Bool
+is_not_flying L (Exec place told) = nat_le (length L.flying) place
+is_not_flying L _ = false
+
+-- BadOutcome: the outcome isn't allowed to the item at the place.
+abbrev pub has_bad_outcome : Ledger → Event → Bool
+has_bad_outcome L (Exec place told) = not (passes (λ item. allowed L item told) (slice_get L.flying place))
+has_bad_outcome L _ = false
+
+-- A name where its test passes, else the next one.
+abbrev pub refused_if : Bool → Refusal → Option Refusal → Option Refusal
+refused_if true refusal next = Some refusal
+refused_if false refusal next = next
+
+-- The name that an event is refused with: the first whose test passes, in this order; else none.
+abbrev pub cause : Ledger → Event → Option Refusal
+cause L event =
+    refused_if (has_no_op L event) NoOp (
+    refused_if (has_no_handle L event) NoHandle (
+    refused_if (is_full L event) Full (
+    refused_if (is_not_flying L event) NotFlying (
+    refused_if (has_bad_outcome L event) BadOutcome None))))

@@ -1,0 +1,114 @@
+-- A ring as a value, and what its calls do.
+use Rattle.std.specs.Prelude.{ℕ, ◌+◌, ◌-◌, ◌≡◌, ◌≤◌, ◌<◌, Bool, IsTrue, List, [], ◌∷◌, ◌++◌, take, drop, length, Result, Ok, Err, Option, Some, None}
+use Rattle.ring_core.specs.declared.entry.Entry.{Entry}
+use Rattle.ring_core.specs.declared.entry.Flight.{Flight}
+use Rattle.ring_core.specs.declared.entry.Completion.{Completion}
+use Rattle.ring_core.specs.declared.entry.Body.{Body}
+use Rattle.ring_core.specs.declared.entry.Body.TheVariants.{Call as Calls}
+use Rattle.ring_core.specs.declared.world.HandleState.{HandleState}
+use Rattle.ring_core.specs.declared.ring.Push.{Push}
+use Rattle.ring_core.specs.declared.ring.Push.TheVariants.{Done, Full}
+use Rattle.ring_core.specs.declared.ring.EnterError.{EnterError}
+use Rattle.ring_core.specs.declared.ring.EnterError.TheVariants.{Fault, Busy}
+use Rattle.ring_core.specs.Counts.{Rose}
+
+-- A ring: its queue, what is in flight, the completions that stand, its handles, for how many pushes it has reserved memory,
+-- and how often it failed and was busy. Every ring tells its capacity, its counts, `spare`, and the lengths of `queue` and `done`;
+-- where it doesn't tell its lists their contents mean nothing.
+pub record RingView : Type 0 where
+  pub capacity : ℕ
+  pub queue : List Entry
+  pub flying : List Flight
+  pub done : List Completion
+  pub world : List HandleState
+  pub spare : ℕ
+  pub faults : ℕ
+  pub busies : ℕ
+
+-- What is in flight after one entry was taken: a call joins the end.
+abbrev pub flying_with : List Flight → Entry → Body → List Flight
+flying_with flying entry (Calls call) = flying ++ record { entry = entry } ∷ []
+
+-- What is in flight after entries were taken, in order.
+abbrev pub flying_after : List Flight → List Entry → List Flight
+flying_after flying [] = flying
+flying_after flying (entry ∷ entries) = flying_after (flying_with flying entry entry.body) entries
+
+-- A ring after its queue was taken, in order.
+abbrev pub entered : RingView → RingView
+entered view = record view { queue = []; flying = flying_after view.flying view.queue }
+
+-- A ring after a push: the entry joins the queue's end, and takes the memory of one push.
+abbrev pub pushed : RingView → Entry → RingView
+pushed view entry = record view { queue = view.queue ++ entry ∷ []; spare = view.spare - 1 }
+
+-- A ring with room for more pushes.
+abbrev pub reserved : RingView → ℕ → RingView
+reserved view n = record view { spare = view.spare + n }
+
+-- A ring with these completions left.
+abbrev pub with_done : RingView → List Completion → RingView
+with_done view done = record view { done = done }
+
+-- What no call makes less: the counts; and the capacity stays.
+pub record IsLater (old new : RingView) : Type 0 where
+  pub same_capacity : new.capacity ≡ old.capacity
+  pub more_faults : old.faults ≤ new.faults
+  pub more_busies : old.busies ≤ new.busies
+
+-- A push of an entry. It is handed back exactly where the queue is at capacity, and then nothing has changed.
+pub record IsPushed (tells : Bool) (entry : Entry) (old new : RingView) : Type 0 where
+  pub had_room : length old.queue < old.capacity
+  pub one_more : length new.queue ≡ length old.queue + 1
+  pub same_done : length new.done ≡ length old.done
+  pub one_spare_less : new.spare + 1 ≡ old.spare
+  pub later : IsLater old new
+  pub told : IsTrue tells → new ≡ pushed old entry
+
+abbrev pub PushesFor : Bool → Entry → RingView → RingView → Push → Type 0
+PushesFor tells entry old new Done = IsPushed tells entry old new
+PushesFor tells entry old new (Full back) = (back ≡ entry) × (new ≡ old) × (length old.queue ≡ old.capacity)
+
+-- An enter that took the whole queue, n entries. At most one completion came for each.
+pub record IsEntered (tells : Bool) (old new : RingView) (n : ℕ) : Type 0 where
+  pub all : n ≡ length old.queue
+  pub emptied : new.queue ≡ []
+  pub few_done : length new.done ≤ length old.done + n
+  pub spare : old.spare ≤ new.spare
+  pub later : IsLater old new
+  pub told : IsTrue tells → new ≡ entered old
+
+-- A prefix of the queue was taken, of `count` entries.
+pub record TookFront (count : ℕ) (old new : RingView) : Type 0 where
+  pub within : count ≤ length old.queue
+  pub queue : new.queue ≡ drop count old.queue
+  pub flying : new.flying ≡ flying_after old.flying (take count old.queue)
+  pub done : new.done ≡ old.done
+  pub world : new.world ≡ old.world
+
+-- An enter that failed or was busy: a prefix of the queue may have been taken, with at most one completion for each entry of it.
+pub record IsCutShort (tells : Bool) (old new : RingView) : Type 0 where
+  pub count : ℕ
+  pub rest : length new.queue + count ≡ length old.queue
+  pub few_done : length new.done ≤ length old.done + count
+  pub spare : old.spare ≤ new.spare
+  pub later : IsLater old new
+  pub told : IsTrue tells → TookFront count old new
+
+abbrev pub EntersFor : Bool → RingView → RingView → Result ℕ EnterError → Type 0
+EntersFor tells old new (Ok n) = IsEntered tells old new n
+EntersFor tells old new (Err Fault) = Rose old.faults new.faults × IsCutShort tells old new
+EntersFor tells old new (Err Busy) = Rose old.busies new.busies × IsCutShort tells old new
+
+-- The first completion that stood was taken off.
+pub record IsTakenOff (tells : Bool) (old new : RingView) (completion : Completion) : Type 0 where
+  pub one_less : length new.done + 1 ≡ length old.done
+  pub same_queue : length new.queue ≡ length old.queue
+  pub spare : old.spare ≤ new.spare
+  pub later : IsLater old new
+  pub told : IsTrue tells → (old.done ≡ completion ∷ new.done) × (new ≡ with_done old new.done)
+
+-- None comes exactly where no completion stands, and then nothing has changed.
+abbrev pub NextFor : Bool → RingView → RingView → Option Completion → Type 0
+NextFor tells old new None = (new ≡ old) × (old.done ≡ [])
+NextFor tells old new (Some completion) = IsTakenOff tells old new completion

@@ -1,0 +1,65 @@
+-- The step of the machine: the next ledger and the reply, for each event.
+use Rattle.std.specs.Prelude.{ℕ, [], ◌∷◌, ◌++◌, length, Option, Some, None, slice_get}
+use Rattle.rent_buf.specs.Buffer.{Buffer}
+use Rattle.ring_core.specs.declared.request.Request.{Request}
+use Rattle.ring_core.specs.declared.world.HandleState.{HandleState}
+use Rattle.ring_core.specs.declared.ledger.Event.{Event}
+use Rattle.ring_core.specs.declared.ledger.Event.TheVariants.{Give, Feed, Submit, Poll, Turn, Exec}
+use Rattle.ring_core.specs.declared.ledger.Refusal.{Refusal}
+use Rattle.ring_core.specs.declared.ledger.Refusal.TheVariants.{NoOp}
+use Rattle.ring_core.specs.declared.ledger.Reply.{Reply}
+use Rattle.ring_core.specs.declared.ledger.Reply.TheVariants.{Handle, Fed, Submitted, Pending, Handed, Refused}
+use Rattle.ring_core.specs.Lists.{amended}
+use Rattle.ring_core.specs.World.{fresh, with_input}
+use Rattle.ring_core.specs.Ledger.{Ledger, Operation, Place, Reaped, Req, new_operation}
+use Rattle.ring_core.specs.Queue.{with_op, push, leave}
+use Rattle.ring_core.specs.Turn.{turn_step, exec_step}
+use Rattle.ring_core.specs.Refusal.{cause}
+
+-- Give: a new handle of its user.
+abbrev pub give_step : Ledger → HandleState → Ledger
+give_step L handle = record L { world = L.world ++ handle ∷ [] }
+
+-- The ledger with what stands on a handle changed.
+abbrev pub with_handle : Ledger → ℕ → (HandleState → HandleState) → Ledger
+with_handle L h change = record L { world = amended L.world h change }
+
+-- The ledger with a new operation of the next number.
+abbrev pub with_new_op : Ledger → Operation → Ledger
+with_new_op L operation = record L { ops = L.ops ++ operation ∷ [] }
+
+-- Submit: the next number, and a push of its request.
+abbrev pub submit_step : Ledger → Request Buffer → Ledger
+submit_step L request = push (with_new_op L (new_operation request)) (Req (length L.ops))
+
+-- An operation that a task waits for.
+abbrev pub with_task : ℕ → Operation → Operation
+with_task task operation = record operation { task = Some task }
+
+-- Poll: where the operation is reaped it is handed over and leaves; else its task is this one.
+abbrev pub poll_at : Ledger → ℕ → ℕ → Operation → Place → Ledger × Reply
+poll_at L n task operation (Reaped outcome) = (leave L n, Handed outcome operation.buffer)
+poll_at L n task operation _ = (with_op L n (with_task task), Pending)
+
+-- The poll of an operation that was looked up.
+abbrev pub poll_step : Ledger → ℕ → ℕ → Option Operation → Ledger × Reply
+poll_step L n task None = (L, Refused NoOp)
+poll_step L n task (Some operation) = poll_at L n task operation operation.place
+
+-- The row of an event that isn't refused.
+abbrev pub row : Ledger → Event → Ledger × Reply
+row L (Give kind) = (give_step L (fresh kind), Handle (length L.world))
+row L (Feed h bytes) = (with_handle L h (with_input bytes), Fed)
+row L (Submit request) = (submit_step L request, Submitted (length L.ops))
+row L (Poll n task) = poll_step L n task (slice_get L.ops n)
+row L Turn = turn_step L
+row L (Exec place told) = exec_step L place told (slice_get L.flying place)
+
+-- An event with its cause: where there is one, nothing changes and the reply has its name.
+abbrev pub answered : Option Refusal → Ledger → Event → Ledger × Reply
+answered (Some refusal) L event = (L, Refused refusal)
+answered None L event = row L event
+
+-- One step of the machine.
+unfoldable pub step : Ledger → Event → Ledger × Reply
+step L event = answered (cause L event) L event

@@ -1,0 +1,87 @@
+-- The steps of Turn and Exec.
+use Rattle.std.specs.Prelude.{ℕ, List, [], ◌∷◌, ◌++◌, remove, option_to_list, Option, Some, None, slice_get}
+use Rattle.rent_buf.specs.Buffer.{Buffer, stored}
+use Rattle.rent_buf.specs.declared.spec.HeldBuf.{HeldBuf}
+use Rattle.rent_buf.specs.declared.spec.HeldBuf.TheVariants.{One}
+use Rattle.ring_core.specs.declared.request.Request.{Request}
+use Rattle.ring_core.specs.declared.request.Request.TheVariants.{Recv}
+use Rattle.ring_core.specs.declared.request.Told.{Told}
+use Rattle.ring_core.specs.declared.request.Told.TheVariants.{Count}
+use Rattle.ring_core.specs.declared.ledger.Refusal.TheVariants.{NotFlying}
+use Rattle.ring_core.specs.declared.ledger.Reply.{Reply}
+use Rattle.ring_core.specs.declared.ledger.Reply.TheVariants.{Turned, ExecutedOp, Refused}
+use Rattle.ring_core.specs.Request.{sent_of, call_of}
+use Rattle.ring_core.specs.Effect.{Effect, effect}
+use Rattle.ring_core.specs.Ledger.{Ledger, Operation, Place, InDone, Reaped, Item, Op}
+use Rattle.ring_core.specs.Queue.{with_op, take_all}
+
+-- The place of what was done is at its user; another place stays.
+abbrev pub reaped_place : Place → Place
+reaped_place (InDone outcome) = Reaped outcome
+reaped_place place = place
+
+-- An operation that is reaped.
+abbrev pub with_reap : Operation → Operation
+with_reap operation = record operation { place = reaped_place operation.place }
+
+-- A completion: its operation is reaped.
+abbrev pub reap_one : Ledger → Item → Ledger
+reap_one L (Op n) = with_op L n with_reap
+
+-- Completions, in order.
+abbrev pub reap_each : Ledger → List Item → Ledger
+reap_each L [] = L
+reap_each L (item ∷ items) = reap_each (reap_one L item) items
+
+-- The numbers of the operations among items.
+abbrev pub ops_in : List Item → List ℕ
+ops_in [] = []
+ops_in (Op n ∷ items) = n ∷ ops_in items
+
+-- The task that is woken by the completion of an operation, where it has one.
+abbrev pub task_woken : Option Operation → List ℕ
+task_woken None = []
+task_woken (Some operation) = option_to_list operation.task
+
+-- The tasks that are woken by completions of operations, in order.
+abbrev pub tasks_woken : List Operation → List ℕ → List ℕ
+tasks_woken ops [] = []
+tasks_woken ops (n ∷ numbers) = task_woken (slice_get ops n) ++ tasks_woken ops numbers
+
+-- All completions that stand are named and reaped. The reply's second list, of handles, is empty: no close is among them.
+abbrev pub reap_all : Ledger → Ledger × Reply
+reap_all L = (reap_each (record L { done = [] }) L.done, Turned (ops_in L.done) [] (tasks_woken L.ops (ops_in L.done)))
+
+-- Turn: the queue is taken; then each completion that stood, in order.
+abbrev pub turn_step : Ledger → Ledger × Reply
+turn_step L = reap_all (take_all L)
+
+-- The buffer of an operation after its outcome: after a count, that of a reading request has the bytes that came.
+abbrev pub held : Request Buffer → Told → List ℕ → HeldBuf
+held (Recv fd buf) (Count k) got = One (stored buf got)
+
+-- The effect of executing a request.
+abbrev pub effect_of : Ledger → Request Buffer → Told → Effect
+effect_of L request told = effect L.world (call_of request) (sent_of request) told
+
+-- An executed operation has its buffer and its outcome.
+abbrev pub with_result : Told → Effect → Operation → Operation
+with_result told result operation = record operation { buffer = held operation.request told result.got; place = InDone result.outcome }
+
+-- What executing an operation leaves.
+abbrev pub with_effect : Ledger → ℕ → Told → Effect → Ledger
+with_effect L n told result = record (with_op L n (with_result told result)) { world = result.world }
+
+-- Executing an operation that was looked up.
+abbrev pub exec_op : Ledger → ℕ → Told → Option Operation → Ledger
+exec_op L n told None = L
+exec_op L n told (Some operation) = with_effect L n told (effect_of L operation.request told)
+
+-- The item at a place leaves `flying` and becomes the last completion.
+abbrev pub complete_at : Ledger → ℕ → Item → Ledger
+complete_at L place item = record L { flying = remove L.flying place; done = L.done ++ item ∷ [] }
+
+-- Exec: the item at the place is executed and completed.
+abbrev pub exec_step : Ledger → ℕ → Told → Option Item → Ledger × Reply
+exec_step L place told None = (L, Refused NotFlying)
+exec_step L place told (Some (Op n)) = (exec_op (complete_at L place (Op n)) n told (slice_get L.ops n), ExecutedOp n)

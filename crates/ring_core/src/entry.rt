@@ -1,0 +1,41 @@
+//! The entries of a ring, and its completions.
+use crate::request::{Call, Outcome};
+
+/// The first of the data words that are reserved: they reach no slot. (own)
+pub const FIRST_RESERVED: u64 = 18446744073709551612;
+
+/// What an entry asks for. (own)
+#[derive(Clone, Copy, Debug, PartialEq, Eq)]
+pub enum Body {
+    /// The call of an operation.
+    Call(Call),
+}
+
+/// A submission. The ring compares data words alone, and never serials. (io_uring's submission queue entry)
+#[derive(Clone, Copy, Debug, PartialEq, Eq)]
+pub struct Entry {
+    /// The data word, which the completion carries back: the key of the operation's slot.
+    pub word: u64,
+    /// The operation's number, for what reads the ring and not for the ring itself.
+    pub serial: u64,
+    /// What is asked for.
+    pub body: Body,
+}
+
+/// An entry that was taken from the queue and isn't finished. (own)
+#[derive(Clone, Copy, Debug, PartialEq, Eq)]
+pub struct Flight {
+    /// The entry.
+    pub entry: Entry,
+}
+
+/// A completion. (io_uring's completion queue entry, without its flags)
+#[derive(Clone, Copy, Debug, PartialEq, Eq)]
+pub struct Completion {
+    /// The entry's data word.
+    pub word: u64,
+    /// The entry's serial.
+    pub serial: u64,
+    /// How the entry ended.
+    pub outcome: Outcome,
+}
