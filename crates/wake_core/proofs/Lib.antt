@@ -1,0 +1,7 @@
+mod NumberLemmas
+mod SafetyLemmas
+mod SlotLemmas
+mod StepLaws
+mod StepSafety
+mod TableLemmas
+mod ViewLemmas

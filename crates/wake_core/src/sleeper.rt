@@ -1,0 +1,18 @@
+//! The stages of the thread that drains, falls asleep and is woken.
+
+/// Where the sleeper stands in its round. (own)
+#[derive(Clone, Copy, Debug, PartialEq, Eq)]
+pub enum SleeperStage {
+    /// It runs, and the flag is true.
+    Awake,
+    /// It drained once in this round. True: that drain gave nothing.
+    First(bool),
+    /// Its first drain gave nothing, and it made the flag false.
+    Cleared,
+    /// It drained twice in this round. True: both drains gave nothing, and the flag is false.
+    Second(bool),
+    /// It sleeps until the token is set, or until it is roused.
+    Asleep,
+    /// It was woken, and the flag is still false.
+    Up,
+}
