@@ -1,0 +1,190 @@
+-- What an execution does to a ring and slots that mean a ledger.
+use Rattle.std.proofs.Common.{◌≡◌, ◌≢◌, ◌⊎◌, inl, inr, ℕ, ◌≤◌, ◌<◌, true, false, List, ◌++◌, [], ◌∷◌, Some, refl, sym, ◌∙◌, ap, subst, length, map}
+use Rattle.std.specs.Prelude.{slice_get, remove}
+use Rattle.std.specs.Ordering.{nat_cmp}
+use Rattle.std.specs.FinMap.{FinMap, get, insert}
+use Rattle.std.proofs.lemmas.List.{map-append}
+use Rattle.rent_buf.specs.Buffer.{Buffer}
+use Rattle.ring_core.specs.Ring.{RingView}
+use Rattle.ring_core.specs.Lists.{amended}
+use Rattle.ring_core.specs.MemRing.{IsFinished, body_effect}
+use Rattle.ring_core.specs.Outcome.{is_allowed}
+use Rattle.ring_core.specs.Effect.{Effect, effect}
+use Rattle.ring_core.specs.Request.{call_of, sent_of, with_buffer}
+use Rattle.ring_core.specs.declared.entry.Entry.{Entry}
+use Rattle.ring_core.specs.declared.entry.Flight.{Flight}
+use Rattle.ring_core.specs.declared.entry.Completion.{Completion}
+use Rattle.ring_core.specs.declared.request.Told.{Told}
+use Rattle.ring_core.specs.Ledger.{Ledger, Operation, Place, InQueue, InFlight, InDone, Op, is_live, is_kept}
+use Rattle.ring_core.specs.Turn.{held, with_result, with_effect, complete_at}
+use Rattle.ring_core.proofs.Amended.{get-amended-same, get-amended-other}
+use Rattle.uring_driver.specs.declared.slot.Slot.{Slot}
+use Rattle.uring_driver.specs.Slot.{room_of, filled, IsFilled, FillsSlot}
+use Rattle.uring_driver.specs.Slots.{SlotFor, SlotsStand}
+use Rattle.uring_driver.specs.Lists.{EntryFor, CompletionFor, IsAt, ListsStand, queued_of, item_of, done_item_of, is_reserved, kept as unreserved}
+use Rattle.uring_driver.specs.Stands.{Means}
+use Rattle.uring_driver.proofs.Lists.{some, skip, skip-not, skip-one, get-removed, map-removed, get-pushed}
+use Rattle.uring_driver.proofs.Maps.{put-same}
+use Rattle.uring_driver.proofs.Slots.{slots-replaced, other-slot}
+use Rattle.uring_driver.proofs.Kept.{queued-kept, kept-pushed, not-reserved}
+use Rattle.uring_driver.proofs.Flights.{o, s, slot-there, n-is, there-s, which, flies, request-is, life-is, allows-is, effect-is, here, filled-held, got-fits}
+
+module _ {B : Type 0} (buffer : B → Buffer) (v : RingView) (slots slots' : FinMap nat_cmp (Slot B)) (L : Ledger) (place : ℕ) (told : Told) (v' : RingView) (got : List ℕ) (c : Completion)
+    (old : Means buffer v slots L) (fin : IsFinished v place told [] v' got c) (fills : FillsSlot buffer slots c.word got slots') where
+  abbrev n : ℕ
+  n = fin.flight.entry.serial
+
+  abbrev op : Operation
+  op = o buffer v slots L place fin.flight old fin.there
+
+  abbrev slot : Slot B
+  slot = s buffer v slots L place fin.flight old fin.there
+
+  abbrev result : Effect
+  result = effect L.world (call_of op.request) (sent_of op.request) told
+
+  abbrev f : Operation → Operation
+  f = with_result told result
+
+  abbrev ops' : List Operation
+  ops' = amended L.ops n f
+
+  abbrev L' : Ledger
+  L' = with_effect (complete_at L place (Op n)) n told result
+
+  eff : body_effect v.world fin.flight.entry.body [] told ≡ result
+  eff = effect-is buffer v slots L place fin.flight old fin.there told
+
+  word : c.word ≡ fin.flight.entry.word
+  word = ap (λ x. x.word) fin.answer
+
+  serial : c.serial ≡ n
+  serial = ap (λ x. x.serial) fin.answer
+
+  outcome : c.outcome ≡ result.outcome
+  outcome = ap (λ x. x.outcome) fin.answer ∙ ap (λ x. x.outcome) eff
+
+  got-is : got ≡ result.got
+  got-is = fin.bytes ∙ ap (λ x. x.got) eff
+
+  stored-is : IsFilled buffer slots c.word got slots' slot
+  stored-is =
+      let allows : is_allowed L.world (call_of op.request) told ≡ true = sym (allows-is buffer v slots L place fin.flight old fin.there told) ∙ fin.allows in
+      let fit : length got ≤ room_of op.request = subst (λ x. length x ≤ room_of op.request) (sym got-is) (got-fits L.world op.request told (sent_of op.request) allows) in
+      fills slot (ap (get slots) word ∙ slot-there buffer v slots L place fin.flight old fin.there) (subst (λ r. length got ≤ room_of r) (sym (request-is buffer v slots L place fin.flight old fin.there)) fit)
+
+  abbrev t : Slot B
+  t = stored-is.after
+
+  lives : is_live (f op) ≡ is_live op
+  lives = sym (ap is_kept (flies buffer v slots L place fin.flight old fin.there))
+
+  fits-t : SlotFor buffer (amended L.ops slot.serial f) t
+  unfolding stored-is
+  fits-t = record {
+    operation = f op;
+    there = ap (slice_get (amended L.ops slot.serial f)) stored-is.serial ∙ get-amended-same f L.ops slot.serial op (there-s buffer v slots L place fin.flight old fin.there);
+    live = refl;
+    request = stored-is.request ∙ ap (λ r. filled r got) (request-is buffer v slots L place fin.flight old fin.there) ∙ filled-held op.request told got ∙ ap (λ x. with_buffer op.request (held op.request told x)) got-is;
+    life = stored-is.life ∙ life-is buffer v slots L place fin.flight old fin.there;
+    fresh = λ h. (let z : false ≡ true = h in cc);
+  }
+
+  slots-stand : SlotsStand buffer slots' ops'
+  unfolding stored-is
+  slots-stand =
+      let a = slots-replaced buffer slots L.ops fin.flight.entry.word slot t f op old.in_slots (slot-there buffer v slots L place fin.flight old fin.there) stored-is.serial (there-s buffer v slots L place fin.flight old fin.there) lives fits-t in
+      subst (λ x. SlotsStand buffer x ops') (sym (stored-is.slots ∙ ap (λ k. insert slots k t) word)) (subst (λ x. SlotsStand buffer (insert slots fin.flight.entry.word t) (amended L.ops x f)) (n-is buffer v slots L place fin.flight old fin.there) a)
+
+  -- The slots of other numbers are kept.
+  slot-kept : (k : ℕ) (u : Slot B) → get slots k ≡ Some u → u.serial ≢ n → get slots' k ≡ Some u
+  unfolding stored-is
+  slot-kept k u h q =
+      let a = other-slot buffer slots L.ops fin.flight.entry.word slot t f op old.in_slots (slot-there buffer v slots L place fin.flight old fin.there) stored-is.serial (there-s buffer v slots L place fin.flight old fin.there) lives fits-t k u h (λ r. q (r ∙ n-is buffer v slots L place fin.flight old fin.there)) in
+      ap (λ m. get m k) (stored-is.slots ∙ ap (λ x. insert slots x t) word) ∙ a
+
+  at-kept : (m : ℕ) (p : Place) → IsAt L.ops m p → m ≢ n → IsAt ops' m p
+  at-kept m p a q = record { operation = a.operation; there = get-amended-other f L.ops n m q ∙ a.there; stays = a.stays }
+
+  entry-kept : (x : Entry) → EntryFor buffer slots x → x.serial ≢ n → EntryFor buffer slots' x
+  entry-kept x E q = record { slot = E.slot; there = slot-kept x.word E.slot E.there (λ r. q (sym E.serial ∙ r)); serial = E.serial; call = E.call }
+
+  completion-kept : (x : Completion) → CompletionFor slots x → x.serial ≢ n → CompletionFor slots' x
+  completion-kept x E q = record { slot = E.slot; there = slot-kept x.word E.slot E.there (λ r. q (sym E.serial ∙ r)); serial = E.serial }
+
+  not-this : (m : ℕ) (p : Place) → IsAt L.ops m p → p ≢ InFlight → m ≢ n
+  not-this m p a h e =
+      let b = here buffer v slots L place fin.flight old fin.there in
+      h (sym a.stays ∙ ap (λ x. x.place) (some a.operation op (slice_get L.ops m) a.there (ap (slice_get L.ops) e ∙ which buffer v slots L place fin.flight old fin.there)) ∙ flies buffer v slots L place fin.flight old fin.there)
+
+  new-place : IsAt ops' n (InDone c.outcome)
+  new-place = record { operation = f op; there = get-amended-same f L.ops n op (which buffer v slots L place fin.flight old fin.there); stays = ap (λ x. InDone x) (sym outcome) }
+
+  new-completion : CompletionFor slots' c
+  unfolding stored-is
+  new-completion = record {
+    slot = t;
+    there = ap (λ m. get m c.word) stored-is.slots ∙ put-same slots c.word t;
+    serial = stored-is.serial ∙ n-is buffer v slots L place fin.flight old fin.there ∙ sym serial;
+  }
+
+  queue-is : v'.queue ≡ v.queue
+  queue-is = ap (λ x. x.queue) fin.ring
+
+  flying-is : v'.flying ≡ remove v.flying place
+  flying-is = ap (λ x. x.flying) fin.ring
+
+  done-is : unreserved v'.done ≡ unreserved v.done ++ c ∷ []
+  done-is =
+      let free : is_reserved c.word ≡ false = not-reserved c.word (subst (λ x. x < 4294967232) (sym word) (old.in_slots.below fin.flight.entry.word slot (slot-there buffer v slots L place fin.flight old fin.there))) in
+      ap unreserved (ap (λ x. x.done) fin.ring ∙ ap (λ x. v.done ++ x ∷ []) (sym fin.answer)) ∙ kept-pushed v.done c free
+
+  flew : (i : ℕ) (x : Flight) → slice_get v'.flying i ≡ Some x → slice_get v.flying (skip place i) ≡ Some x
+  flew i x h = sym (get-removed v.flying place i) ∙ ap (λ xs. slice_get xs i) (sym flying-is) ∙ h
+
+  done-at : (i : ℕ) (x : Completion) → slice_get (unreserved v'.done) i ≡ Some x → (slice_get (unreserved v.done) i ≡ Some x) ⊎ ((i ≡ length (unreserved v.done)) × (x ≡ c))
+  done-at i x h = get-pushed (unreserved v.done) c i x (ap (λ xs. slice_get xs i) (sym done-is) ∙ h)
+
+  lists-stand : ListsStand buffer slots' v' L'
+  lists-stand =
+      let l = old.in_lists in
+      record {
+        queue = l.queue ∙ ap (map queued_of) (sym queue-is);
+        flying = ap (λ x. remove x place) l.flying ∙ sym (map-removed item_of v.flying place) ∙ ap (map item_of) (sym flying-is);
+        done = ap (λ x. x ++ Op n ∷ []) l.done ∙ ap (λ x. map done_item_of (unreserved v.done) ++ Op x ∷ []) (sym serial) ∙ sym (map-append done_item_of (unreserved v.done) (c ∷ [])) ∙ ap (map done_item_of) (sym done-is);
+        in_queue = λ i x h. (
+            queued-kept buffer slots slots' L.ops ops' x x.body (λ a. (let q = not-this x.serial InQueue a.1 (λ r. cc) in (entry-kept x a.0 q, at-kept x.serial InQueue a.1 q)))
+            (l.in_queue i x (ap (λ xs. slice_get xs i) (sym queue-is) ∙ h)));
+        in_flight = λ i x h. (
+            let at = flew i x h in
+            let a = l.in_flight (skip place i) x at in
+            let q : x.entry.serial ≢ n = λ r. skip-not place i (l.flight_once (skip place i) place x fin.flight at fin.there r) in
+            (entry-kept x.entry a.0 q, at-kept x.entry.serial InFlight a.1 q));
+        in_done = λ i x h. elim (done-at i x h) [
+          | inl r ↦
+              let a = l.in_done i x r in
+              let q = not-this x.serial (InDone x.outcome) a.1 (λ y. cc) in
+              (completion-kept x a.0 q, at-kept x.serial (InDone x.outcome) a.1 q)
+          | inr r ↦ (subst (λ y. CompletionFor slots' y) (sym r.1) new-completion, subst (λ y. IsAt ops' y.serial (InDone y.outcome)) (sym r.1) (subst (λ y. IsAt ops' y (InDone c.outcome)) (sym serial) new-place))
+        ];
+        queue_once = λ i j x y h k r. l.queue_once i j x y (ap (λ xs. slice_get xs i) (sym queue-is) ∙ h) (ap (λ xs. slice_get xs j) (sym queue-is) ∙ k) r;
+        flight_once = λ i j x y h k r. skip-one place i j (l.flight_once (skip place i) (skip place j) x y (flew i x h) (flew j y k) r);
+        done_once = λ i j x y h k r. elim (done-at i x h) [
+          | inl a ↦ elim (done-at j y k) [
+            | inl b ↦ l.done_once i j x y a b r
+            | inr b ↦ absurd (not-this x.serial (InDone x.outcome) (l.in_done i x a).1 (λ z. cc) (r ∙ ap (λ z. z.serial) b.1 ∙ serial))
+          ]
+          | inr a ↦ elim (done-at j y k) [
+            | inl b ↦ absurd (not-this y.serial (InDone y.outcome) (l.in_done j y b).1 (λ z. cc) (sym r ∙ ap (λ z. z.serial) a.1 ∙ serial))
+            | inr b ↦ a.0 ∙ sym b.0
+          ]
+        ];
+      }
+
+  pub means-executed : Means buffer v' slots' (with_effect (complete_at L place (Op fin.flight.entry.serial)) fin.flight.entry.serial told (effect L.world (call_of (o buffer v slots L place fin.flight old fin.there).request) (sent_of (o buffer v slots L place fin.flight old fin.there).request) told))
+  means-executed = record {
+    capacity = ap (λ x. x.capacity) fin.ring ∙ old.capacity;
+    world = ap (λ x. x.world) fin.ring ∙ ap (λ x. x.world) eff;
+    in_slots = slots-stand;
+    in_lists = lists-stand;
+  }

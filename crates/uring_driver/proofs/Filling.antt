@@ -1,0 +1,23 @@
+-- A slot whose buffer has the bytes that came.
+use Rattle.std.proofs.Common.{◌≡◌, ◌≤◌, ℕ, List, length, Some, refl, sym, ◌∙◌, ap, subst}
+use Rattle.std.specs.Ordering.{nat_cmp}
+use Rattle.std.specs.FinMap.{FinMap, get, insert}
+use Rattle.rent_buf.specs.Buffer.{Buffer}
+use Rattle.ring_core.specs.Request.{plain_request}
+use Rattle.ring_core.specs.declared.request.Request.{Request}
+use Rattle.uring_driver.specs.declared.slot.Slot.{Slot}
+use Rattle.uring_driver.specs.Slot.{room_of, filled, FillsSlot}
+use Rattle.uring_driver.proofs.Lists.{some}
+
+pub filled-in : {B : Type 0} (buffer : B → Buffer) (slots : FinMap nat_cmp (Slot B)) (key : ℕ) (bytes : List ℕ) (t : Slot B) (request : Request B) → get slots key ≡ Some t →
+    (length bytes ≤ room_of (plain_request buffer t.request) → plain_request buffer request ≡ filled (plain_request buffer t.request) bytes) →
+    FillsSlot buffer slots key bytes (insert slots key (record t { request = request }))
+filled-in buffer slots key bytes t request there told s h fits =
+    let e = some t s (get slots key) there h in
+    record {
+      after = record t { request = request };
+      slots = refl;
+      serial = ap (λ x. x.serial) e;
+      life = ap (λ x. x.life) e;
+      request = told (subst (λ x. length bytes ≤ room_of (plain_request buffer x.request)) (sym e) fits) ∙ ap (λ x. filled (plain_request buffer x.request) bytes) e;
+    }

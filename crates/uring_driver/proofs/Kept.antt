@@ -1,0 +1,78 @@
+-- Lists that mean the same after a change of slots and of operations that keeps what each entry needs.
+use Rattle.std.proofs.Common.{◌≡◌, ℕ, Bool, true, false, List, [], ◌∷◌, ◌++◌, Some, refl, sym, ◌∙◌, ap, subst, arith, ◌<◌}
+use Rattle.std.specs.Prelude.{slice_get}
+use Rattle.std.specs.Ordering.{nat_cmp}
+use Rattle.std.specs.FinMap.{FinMap, get}
+use Rattle.std.proofs.lemmas.Bool.Decides.{nat_tests}
+use Rattle.rent_buf.specs.Buffer.{Buffer}
+use Rattle.ring_core.specs.Ring.{RingView}
+use Rattle.ring_core.specs.Request.{call_of, plain_request}
+use Rattle.ring_core.specs.declared.entry.Body.{Body}
+use Rattle.ring_core.specs.declared.entry.Body.TheVariants.{Call as Calls}
+use Rattle.ring_core.specs.declared.entry.Entry.{Entry}
+use Rattle.ring_core.specs.declared.entry.Completion.{Completion}
+use Rattle.ring_core.specs.Ledger.{Ledger, Operation, Place, InQueue, InFlight, InDone}
+use Rattle.uring_driver.specs.declared.slot.Slot.{Slot}
+use Rattle.uring_driver.specs.Lists.{EntryFor, CompletionFor, IsAt, QueuedFor, ListsStand, is_reserved, kept, kept_unless}
+
+-- What an entry in the queue is.
+pub call-queued : {B : Type 0} (buffer : B → Buffer) (slots : FinMap nat_cmp (Slot B)) (ops : List Operation) (e : Entry) (b : Body) → QueuedFor buffer slots ops e b → EntryFor buffer slots e × IsAt ops e.serial InQueue
+call-queued buffer slots ops e (Calls call) q = q
+
+-- What an entry in the queue means is kept by all that keeps it of a request.
+pub queued-kept : {B : Type 0} (buffer : B → Buffer) (slots slots' : FinMap nat_cmp (Slot B)) (ops ops' : List Operation) (e : Entry) (b : Body) → (EntryFor buffer slots e × IsAt ops e.serial InQueue → EntryFor buffer slots' e × IsAt ops' e.serial InQueue) → QueuedFor buffer slots ops e b → QueuedFor buffer slots' ops' e b
+queued-kept buffer slots slots' ops ops' e (Calls call) go q = go q
+
+-- A key is no reserved word.
+pub not-reserved : (key : ℕ) → key < 4294967232 → is_reserved key ≡ false
+not-reserved key h = grind (arith, nat_tests)
+
+unless-joined : (b : Bool) (c : Completion) (xs ys : List Completion) → kept_unless b c (xs ++ ys) ≡ kept_unless b c xs ++ ys
+unless-joined true c xs ys = refl
+unless-joined false c xs ys = refl
+
+kept-joined : (xs ys : List Completion) → kept (xs ++ ys) ≡ kept xs ++ kept ys
+kept-joined [] ys = refl
+kept-joined (c ∷ xs) ys = ap (kept_unless (is_reserved c.word) c) (kept-joined xs ys) ∙ unless-joined (is_reserved c.word) c (kept xs) (kept ys)
+
+-- A completion that isn't reserved is the last one kept.
+pub kept-pushed : (xs : List Completion) (c : Completion) → is_reserved c.word ≡ false → kept (xs ++ c ∷ []) ≡ kept xs ++ c ∷ []
+kept-pushed xs c h = kept-joined xs (c ∷ []) ∙ ap (λ b. kept xs ++ kept_unless b c []) h
+
+-- The operation of a number is at the place where it was.
+abbrev pub KeepsOp : List Operation → List Operation → ℕ → Type 0
+KeepsOp ops ops' n = (o : Operation) → slice_get ops n ≡ Some o → (p : Operation) × (slice_get ops' n ≡ Some p) × (p.place ≡ o.place)
+
+-- A slot of a number stays at its key, with its number and its request.
+abbrev pub KeepsSlot : {B : Type 0} → FinMap nat_cmp (Slot B) → FinMap nat_cmp (Slot B) → ℕ → Type 0
+KeepsSlot {B} slots slots' n = (k : ℕ) (t : Slot B) → get slots k ≡ Some t → t.serial ≡ n → (u : Slot B) × (get slots' k ≡ Some u) × (u.serial ≡ t.serial) × (u.request ≡ t.request)
+
+module _ {B : Type 0} (buffer : B → Buffer) (slots slots' : FinMap nat_cmp (Slot B)) (ops ops' : List Operation) where
+  pub entry-kept : (e : Entry) → KeepsSlot slots slots' e.serial → EntryFor buffer slots e → EntryFor buffer slots' e
+  entry-kept e keeps E = (let u = keeps e.word E.slot E.there E.serial in record { slot = u.0; there = u.1; serial = u.2 ∙ E.serial; call = E.call ∙ ap (λ r. Calls (call_of (plain_request buffer r))) (sym u.3) })
+
+  pub at-kept : (n : ℕ) (p : Place) → KeepsOp ops ops' n → IsAt ops n p → IsAt ops' n p
+  at-kept n p keeps a = (let o = keeps a.operation a.there in record { operation = o.0; there = o.1; stays = o.2 ∙ a.stays })
+
+  pub completion-kept : (c : Completion) → KeepsSlot slots slots' c.serial → CompletionFor slots c → CompletionFor slots' c
+  completion-kept c keeps C = (let u = keeps c.word C.slot C.there C.serial in record { slot = u.0; there = u.1; serial = u.2 ∙ C.serial })
+
+  -- What is queued, in flight or done is kept, so the lists mean what they meant.
+  pub lists-kept : (v : RingView) (L : Ledger) → L.ops ≡ ops →
+      ((n : ℕ) → IsAt ops n InQueue → KeepsSlot slots slots' n × KeepsOp ops ops' n) →
+      ((n : ℕ) → IsAt ops n InFlight → KeepsSlot slots slots' n × KeepsOp ops ops' n) →
+      ((i : ℕ) (c : Completion) → slice_get (kept v.done) i ≡ Some c → IsAt ops c.serial (InDone c.outcome) → KeepsSlot slots slots' c.serial × KeepsOp ops ops' c.serial) →
+      ListsStand buffer slots v L → ListsStand buffer slots' v (record L { ops = ops' })
+  lists-kept v L same in_queue in_flight in_done old =
+      let at : (n : ℕ) (p : Place) → IsAt L.ops n p → IsAt ops n p = λ n p a. subst (λ x. IsAt x n p) same a in
+      record {
+        queue = old.queue;
+        flying = old.flying;
+        done = old.done;
+        in_queue = λ i e h. queued-kept buffer slots slots' L.ops ops' e e.body (λ a. (let k = in_queue e.serial (at e.serial InQueue a.1) in (entry-kept e k.0 a.0, at-kept e.serial InQueue k.1 (at e.serial InQueue a.1)))) (old.in_queue i e h);
+        in_flight = λ i f h. (let a = old.in_flight i f h in let k = in_flight f.entry.serial (at f.entry.serial InFlight a.1) in (entry-kept f.entry k.0 a.0, at-kept f.entry.serial InFlight k.1 (at f.entry.serial InFlight a.1)));
+        in_done = λ i c h. (let a = old.in_done i c h in let b = at c.serial (InDone c.outcome) a.1 in let k = in_done i c h b in (completion-kept c k.0 a.0, at-kept c.serial (InDone c.outcome) k.1 b));
+        queue_once = old.queue_once;
+        flight_once = old.flight_once;
+        done_once = old.done_once;
+      }

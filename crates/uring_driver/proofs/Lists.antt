@@ -1,0 +1,87 @@
+-- Lists by place.
+use Rattle.std.proofs.Common.{◌≡◌, ◌≢◌, ◌⊎◌, inl, inr, ℕ, zero, suc, ◌≤◌, ◌<◌, List, [], ◌∷◌, ◌++◌, length, map, Option, Some, refl, sym, ◌∙◌, ap, arith}
+use Rattle.std.specs.Prelude.{slice_get, remove}
+use Rattle.ring_core.specs.Lists.{amended}
+
+-- An option holds one value.
+pub some : {X : Type 0} (x y : X) (o : Option X) → o ≡ Some x → o ≡ Some y → x ≡ y
+some x y o p q = let e = sym p ∙ q in cc
+
+-- Two numbers are equal or not.
+pub same-or-not : (a b : ℕ) → (a ≡ b) ⊎ (a ≢ b)
+same-or-not zero zero = inl refl
+same-or-not zero (suc b) = inr (λ e. cc)
+same-or-not (suc a) zero = inr (λ e. cc)
+same-or-not (suc a) (suc b) = elim (same-or-not a b) [ inl e ↦ inl (ap suc e) | inr e ↦ inr (λ h. e (cc)) ]
+
+-- A list of no length is empty.
+pub emptied : {A : Type 0} (xs : List A) → length xs ≤ 0 → xs ≡ []
+emptied [] h = refl
+emptied (x ∷ xs) h = absurd (omega arith)
+
+-- The place that an element had before a removal.
+pub skip : ℕ → ℕ → ℕ
+skip zero i = suc i
+skip (suc p) zero = zero
+skip (suc p) (suc i) = suc (skip p i)
+
+pub skip-not : (p i : ℕ) → skip p i ≢ p
+unfolding skip
+skip-not zero i e = cc
+skip-not (suc p) zero e = cc
+skip-not (suc p) (suc i) e = skip-not p i (cc)
+
+pub skip-one : (p i j : ℕ) → skip p i ≡ skip p j → i ≡ j
+unfolding skip
+skip-one zero i j e = cc
+skip-one (suc p) zero zero e = refl
+skip-one (suc p) zero (suc j) e = cc
+skip-one (suc p) (suc i) zero e = cc
+skip-one (suc p) (suc i) (suc j) e = ap suc (skip-one p i j (cc))
+
+pub get-removed : {A : Type 0} (xs : List A) (p i : ℕ) → slice_get (remove xs p) i ≡ slice_get xs (skip p i)
+unfolding skip
+get-removed [] zero i = refl
+get-removed [] (suc p) i = refl
+get-removed (x ∷ xs) zero i = refl
+get-removed (x ∷ xs) (suc p) zero = refl
+get-removed (x ∷ xs) (suc p) (suc i) = get-removed xs p i
+
+pub map-removed : {A B : Type 0} (f : A → B) (xs : List A) (p : ℕ) → map f (remove xs p) ≡ remove (map f xs) p
+map-removed f [] zero = refl
+map-removed f [] (suc p) = refl
+map-removed f (x ∷ xs) zero = refl
+map-removed f (x ∷ xs) (suc p) = ap (λ ys. f x ∷ ys) (map-removed f xs p)
+
+-- A place of a list that is mapped.
+pub get-map : {A B : Type 0} (f : A → B) (xs : List A) (i : ℕ) (x : A) → slice_get xs i ≡ Some x → slice_get (map f xs) i ≡ Some (f x)
+get-map f [] i x h = cc
+get-map f (y ∷ xs) zero x h = let e : y ≡ x = cc in ap (λ z. Some (f z)) e
+get-map f (y ∷ xs) (suc i) x h = get-map f xs i x h
+
+pub map-get : {A B : Type 0} (f : A → B) (xs : List A) (i : ℕ) (y : B) → slice_get (map f xs) i ≡ Some y → (x : A) × (slice_get xs i ≡ Some x) × (y ≡ f x)
+map-get f [] i y h = cc
+map-get f (x ∷ xs) zero y h = (x, refl, (let e : f x ≡ y = cc in sym e))
+map-get f (x ∷ xs) (suc i) y h = map-get f xs i y h
+
+-- A place of a list with one more element at its end.
+pub get-pushed : {A : Type 0} (xs : List A) (y : A) (i : ℕ) (z : A) → slice_get (xs ++ y ∷ []) i ≡ Some z → (slice_get xs i ≡ Some z) ⊎ ((i ≡ length xs) × (z ≡ y))
+get-pushed [] y zero z h = inr (refl, cc)
+get-pushed [] y (suc i) z h = cc
+get-pushed (x ∷ xs) y zero z h = inl h
+get-pushed (x ∷ xs) y (suc i) z h = elim (get-pushed xs y i z h) [ inl e ↦ inl e | inr e ↦ inr (ap suc e.0, e.1) ]
+
+pub get-front : {A : Type 0} (xs ys : List A) (i : ℕ) (z : A) → slice_get xs i ≡ Some z → slice_get (xs ++ ys) i ≡ Some z
+get-front [] ys i z h = cc
+get-front (x ∷ xs) ys zero z h = h
+get-front (x ∷ xs) ys (suc i) z h = get-front xs ys i z h
+
+pub get-last : {A : Type 0} (xs : List A) (y : A) → slice_get (xs ++ y ∷ []) (length xs) ≡ Some y
+get-last [] y = refl
+get-last (x ∷ xs) y = get-last xs y
+
+-- A change in front of one more element.
+pub amended-append : {A : Type 0} (xs ys : List A) (n : ℕ) (f : A → A) → n < length xs → amended (xs ++ ys) n f ≡ amended xs n f ++ ys
+amended-append [] ys n f h = absurd (omega (arith, h))
+amended-append (x ∷ xs) ys zero f h = refl
+amended-append (x ∷ xs) ys (suc n) f h = ap (λ zs. x ∷ zs) (amended-append xs ys n f (omega (arith, h)))

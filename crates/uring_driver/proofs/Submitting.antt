@@ -1,0 +1,142 @@
+-- What a new operation and its entry do to a ring and slots that mean a ledger.
+use Rattle.std.proofs.Common.{◌≡◌, ◌≢◌, ◌⊎◌, inl, inr, ℕ, ◌+◌, ◌<◌, List, [], ◌∷◌, ◌++◌, length, Some, None, refl, sym, ◌∙◌, ap, subst, arith}
+use Rattle.std.specs.Prelude.{slice_get}
+use Rattle.std.specs.Ordering.{nat_cmp}
+use Rattle.std.specs.FinMap.{FinMap, get, insert}
+use Rattle.std.proofs.lemmas.List.{map-append}
+use Rattle.std.proofs.lemmas.Option.{slice_get_within}
+use Rattle.rent_buf.specs.Buffer.{Buffer}
+use Rattle.op_slots.specs.declared.lifecycle.Lifecycle.TheVariants.{Submitted as Fresh}
+use Rattle.ring_core.specs.Ring.{RingView, pushed}
+use Rattle.ring_core.specs.Request.{call_of, plain_request}
+use Rattle.ring_core.specs.declared.entry.Entry.{Entry}
+use Rattle.ring_core.specs.declared.entry.Completion.{Completion}
+use Rattle.ring_core.specs.declared.request.Request.{Request}
+use Rattle.ring_core.specs.declared.entry.Body.TheVariants.{Call as Calls}
+use Rattle.ring_core.specs.Ledger.{Ledger, Req, Operation, Place, InQueue, InFlight, InDone, new_operation}
+use Rattle.ring_core.specs.Queue.{append}
+use Rattle.ring_core.specs.Step.{with_new_op}
+use Rattle.uring_driver.specs.declared.slot.Slot.{Slot}
+use Rattle.uring_driver.specs.Slots.{SlotFor, SlotsStand}
+use Rattle.uring_driver.specs.Lists.{EntryFor, CompletionFor, IsAt, QueuedFor, ListsStand, queued_of}
+use Rattle.uring_driver.specs.Stands.{Means}
+use Rattle.uring_driver.proofs.Lists.{some, same-or-not, get-pushed, get-front, get-last}
+use Rattle.uring_driver.proofs.Maps.{put-same, put-other, len-new}
+use Rattle.uring_driver.proofs.Counts.{live-more}
+use Rattle.uring_driver.proofs.Kept.{queued-kept, call-queued}
+use Rattle.uring_driver.proofs.Flights.{with-own}
+
+module _ {B : Type 0} (buffer : B → Buffer) (w : RingView) (slots : FinMap nat_cmp (Slot B)) (M : Ledger) (given key : ℕ) (request : Request B)
+    (old : Means buffer w slots M) (numbered : given ≡ length M.ops) (free : get slots key ≡ None) (below : key < 4294967232) where
+  abbrev t : Slot B
+  t = record { serial = given; request = request; life = Fresh }
+
+  abbrev e : Entry
+  e = record { word = key; serial = given; body = Calls (call_of (plain_request buffer request)) }
+
+  abbrev new : Operation
+  new = new_operation (plain_request buffer request)
+
+  abbrev ops' : List Operation
+  ops' = M.ops ++ new ∷ []
+
+  there-new : slice_get ops' given ≡ Some new
+  there-new = ap (slice_get ops') numbered ∙ get-last M.ops new
+
+  -- A number that was given is another.
+  other : (n : ℕ) (o : Operation) → slice_get M.ops n ≡ Some o → n ≢ given
+  other n o h q = (let l = slice_get_within M.ops n o h in omega (arith, l, q, numbered))
+
+  -- A slot that was there is kept.
+  kept : (k : ℕ) (u : Slot B) → get slots k ≡ Some u → get (insert slots key t) k ≡ Some u
+  kept k u h = elim (same-or-not k key) [
+    | inl q ↦ (let n : Some u ≡ None = sym h ∙ ap (get slots) q ∙ free in cc)
+    | inr q ↦ put-other slots key t k q ∙ h
+  ]
+
+  at-kept : (n : ℕ) (p : Place) → IsAt M.ops n p → IsAt ops' n p
+  at-kept n p a = record { operation = a.operation; there = get-front M.ops (new ∷ []) n a.operation a.there; stays = a.stays }
+
+  entry-kept : (x : Entry) → EntryFor buffer slots x → EntryFor buffer (insert slots key t) x
+  entry-kept x E = record { slot = E.slot; there = kept x.word E.slot E.there; serial = E.serial; call = E.call }
+
+  completion-kept : (c : Completion) → CompletionFor slots c → CompletionFor (insert slots key t) c
+  completion-kept c C = record { slot = C.slot; there = kept c.word C.slot C.there; serial = C.serial }
+
+  slot-kept : (u : Slot B) → SlotFor buffer M.ops u → SlotFor buffer ops' u
+  slot-kept u m = record { operation = m.operation; there = get-front M.ops (new ∷ []) u.serial m.operation m.there; live = m.live; request = m.request; life = m.life; fresh = m.fresh }
+
+  new-slot : SlotFor buffer ops' t
+  new-slot = record { operation = new; there = there-new; live = refl; request = sym (with-own (plain_request buffer request)); life = refl; fresh = λ _. refl }
+
+  -- Each slot is the new one, or was there.
+  which : (k : ℕ) (u : Slot B) → get (insert slots key t) k ≡ Some u → ((k ≡ key) × (t ≡ u)) ⊎ (get slots k ≡ Some u)
+  which k u h = elim (same-or-not k key) [
+    | inl q ↦ inl (q, some t u (get (insert slots key t) key) (put-same slots key t) (ap (get (insert slots key t)) (sym q) ∙ h))
+    | inr q ↦ inr (sym (put-other slots key t k q) ∙ h)
+  ]
+
+  slots-pushed : SlotsStand buffer (insert slots key t) ops'
+  slots-pushed = record {
+    holds = λ k u h. elim (which k u h) [
+      | inl q ↦ subst (λ x. SlotFor buffer ops' x) q.1 new-slot
+      | inr q ↦ slot-kept u (old.in_slots.holds k u q)
+    ];
+    one = λ k j u x h i q. elim (which k u h) [
+      | inl a ↦ elim (which j x i) [
+        | inl b ↦ a.0 ∙ sym b.0
+        | inr b ↦ (let m = old.in_slots.holds j x b in absurd (other x.serial m.operation m.there (sym q ∙ ap (λ z. z.serial) (sym a.1))))
+      ]
+      | inr a ↦ elim (which j x i) [
+        | inl b ↦ (let m = old.in_slots.holds k u a in absurd (other u.serial m.operation m.there (q ∙ ap (λ z. z.serial) (sym b.1))))
+        | inr b ↦ old.in_slots.one k j u x a b q
+      ]
+    ];
+    each = λ n o h l. elim (get-pushed M.ops new n o h) [
+      | inl a ↦ (let m = old.in_slots.each n o a l in record { key = m.key; slot = m.slot; there = kept m.key m.slot m.there; serial = m.serial })
+      | inr a ↦ record { key = key; slot = t; there = put-same slots key t; serial = numbered ∙ sym a.0 }
+    ];
+    counted = len-new slots key t free ∙ ap (λ n. n + 1) old.in_slots.counted ∙ sym (live-more M.ops new refl);
+    below = λ k u h. elim (which k u h) [
+      | inl q ↦ subst (λ x. x < 4294967232) (sym q.0) below
+      | inr q ↦ old.in_slots.below k u q
+    ];
+  }
+
+  -- The number of an entry that is queued is another.
+  queued-other : (i : ℕ) (x : Entry) → slice_get w.queue i ≡ Some x → x.serial ≢ given
+  queued-other i x h = (let m = (call-queued buffer slots M.ops x x.body (old.in_lists.in_queue i x h)).1 in other x.serial m.operation m.there)
+
+  lists-pushed : ListsStand buffer (insert slots key t) (pushed w e) (append (with_new_op M new) (Req given))
+  lists-pushed = (let l = old.in_lists in record {
+    queue = ap (λ x. x ++ Req given ∷ []) l.queue ∙ sym (map-append queued_of w.queue (e ∷ []));
+    flying = l.flying;
+    done = l.done;
+    in_queue = λ i x h. elim (get-pushed w.queue e i x h) [
+      | inl a ↦ queued-kept buffer slots (insert slots key t) M.ops ops' x x.body (λ m. (entry-kept x m.0, at-kept x.serial InQueue m.1)) (l.in_queue i x a)
+      | inr a ↦ subst (λ y. QueuedFor buffer (insert slots key t) ops' y y.body) (sym a.1)
+          (record { slot = t; there = put-same slots key t; serial = refl; call = refl }, record { operation = new; there = there-new; stays = refl })
+    ];
+    in_flight = λ i x h. (let m = l.in_flight i x h in (entry-kept x.entry m.0, at-kept x.entry.serial InFlight m.1));
+    in_done = λ i c h. (let m = l.in_done i c h in (completion-kept c m.0, at-kept c.serial (InDone c.outcome) m.1));
+    queue_once = λ i j x y h k q. elim (get-pushed w.queue e i x h) [
+      | inl a ↦ elim (get-pushed w.queue e j y k) [
+        | inl f ↦ l.queue_once i j x y a f q
+        | inr f ↦ absurd (queued-other i x a (q ∙ ap (λ z. z.serial) f.1))
+      ]
+      | inr a ↦ elim (get-pushed w.queue e j y k) [
+        | inl f ↦ absurd (queued-other j y f (sym q ∙ ap (λ z. z.serial) a.1))
+        | inr f ↦ a.0 ∙ sym f.0
+      ]
+    ];
+    flight_once = l.flight_once;
+    done_once = l.done_once;
+  })
+
+  pub means-pushed : Means buffer (pushed w (record { word = key; serial = given; body = Calls (call_of (plain_request buffer request)) })) (insert slots key (record { serial = given; request = request; life = Fresh })) (append (with_new_op M (new_operation (plain_request buffer request))) (Req given))
+  means-pushed = record {
+    capacity = old.capacity;
+    world = old.world;
+    in_slots = slots-pushed;
+    in_lists = lists-pushed;
+  }

@@ -1,0 +1,41 @@
+-- What the readers of a driver show. Cited by `IoUringDriver` and by whoever holds one.
+use Rattle.std.specs.Prelude.{ℕ, ◌≡◌, ◌+◌, ◌-◌, ◌⊎◌, ◌==◌, if◌then◌else◌, Bool, true, ◌&&◌, nat_lt, nat_le, List, [], ◌∷◌}
+use Rattle.std.specs.FinMap as map
+use Rattle.uring_driver.specs.declared.driver.IoUringDriver.{IoUringDriver}
+
+-- The driver's ring.
+abbrev pub ring_in : {R B : Type 0} → IoUringDriver R B → R
+ring_in driver = driver.ring.0
+
+-- How many slots are live.
+abbrev pub live_slots : {R B : Type 0} → IoUringDriver R B → ℕ
+live_slots driver = map.len driver.slots.values
+
+-- How many operations were given.
+abbrev pub given_by : {R B : Type 0} → IoUringDriver R B → ℕ
+given_by driver = driver.given
+
+-- How many handles were given.
+abbrev pub handles_of : {R B : Type 0} → IoUringDriver R B → ℕ
+handles_of driver = driver.held
+
+-- A handle is one of so many from the first on.
+abbrev pub is_among : ℕ → ℕ → ℕ → Bool
+is_among first count h = nat_le first h && nat_lt (h - first) count
+
+-- The first handle, once h was given after so many others.
+abbrev pub first_with : ℕ → ℕ → ℕ → ℕ
+first_with first count h = if count == 0 then h else first
+
+-- A handle follows those that were given: it has the next number, or none was given.
+abbrev pub IsNextHandle : {R B : Type 0} → IoUringDriver R B → ℕ → Type 0
+IsNextHandle driver h = (driver.held ≡ 0) ⊎ (h ≡ driver.first + driver.held)
+
+-- The user holds a handle: the driver gave it.
+abbrev pub holds_handle : {R B : Type 0} → IoUringDriver R B → ℕ → Bool
+holds_handle driver h = is_among driver.first driver.held h
+
+-- The user holds each of these handles.
+abbrev pub holds_all : {R B : Type 0} → IoUringDriver R B → List ℕ → Bool
+holds_all driver [] = true
+holds_all driver (h ∷ handles) = holds_handle driver h && holds_all driver handles

@@ -1,0 +1,12 @@
+pub mod Op
+pub mod Roomy
+pub mod Driver
+pub mod Slot
+pub mod Slots
+pub mod Lists
+pub mod Stands
+pub mod Submitted
+pub mod PollOp
+pub mod Executed
+pub mod Reap
+pub mod Turned

@@ -1,0 +1,84 @@
+-- What the lists of a ring mean in the ledger. Its entries are read by serials there; the ring itself compares words alone. Cited by `Stands`.
+use Rattle.std.specs.Prelude.{ℕ, ◌≡◌, Bool, true, false, nat_le, List, [], ◌∷◌, map, Some, slice_get}
+use Rattle.std.specs.Ordering.{nat_cmp}
+use Rattle.std.specs.FinMap as finite
+use Rattle.rent_buf.specs.Buffer.{Buffer}
+use Rattle.ring_core.specs.declared.entry.Body.{Body}
+use Rattle.ring_core.specs.declared.entry.Body.TheVariants.{Call as Calls}
+use Rattle.ring_core.specs.declared.entry.Entry.{Entry}
+use Rattle.ring_core.specs.declared.entry.Flight.{Flight}
+use Rattle.ring_core.specs.declared.entry.Completion.{Completion}
+use Rattle.ring_core.specs.Request.{call_of, plain_request}
+use Rattle.ring_core.specs.Ring.{RingView}
+use Rattle.ring_core.specs.Ledger.{Ledger, Queued, Req, Item, Op, Operation, Place, InQueue, InFlight, InDone}
+use Rattle.uring_driver.specs.declared.slot.Slot.{Slot}
+
+-- What an entry with a body means in the queue.
+abbrev pub queued_in : Entry → Body → Queued
+queued_in entry (Calls call) = Req entry.serial
+
+-- What an entry means in the queue.
+abbrev pub queued_of : Entry → Queued
+queued_of entry = queued_in entry entry.body
+
+-- What an entry in flight means.
+abbrev pub item_of : Flight → Item
+item_of flight = Op flight.entry.serial
+
+-- What a completion means.
+abbrev pub done_item_of : Completion → Item
+done_item_of completion = Op completion.serial
+
+-- A word is one of those that reach no slot.
+abbrev pub is_reserved : ℕ → Bool
+is_reserved word = nat_le 18446744073709551612 word
+
+-- A completion in front of others, unless it is left out.
+abbrev pub kept_unless : Bool → Completion → List Completion → List Completion
+kept_unless true completion rest = rest
+kept_unless false completion rest = completion ∷ rest
+
+-- The completions without those whose words are reserved.
+abbrev pub kept : List Completion → List Completion
+kept [] = []
+kept (completion ∷ rest) = kept_unless (is_reserved completion.word) completion (kept rest)
+
+-- No two elements of a list have one number.
+abbrev pub Once : {A : Type 0} → (A → ℕ) → List A → Type 0
+Once {A} number xs = (i j : ℕ) (x y : A) → slice_get xs i ≡ Some x → slice_get xs j ≡ Some y → number x ≡ number y → i ≡ j
+
+-- The operation of a number is at a place.
+pub record IsAt (ops : List Operation) (number : ℕ) (place : Place) : Type 0 where
+  pub operation : Operation
+  pub there : slice_get ops number ≡ Some operation
+  pub stays : operation.place ≡ place
+
+-- An entry's word is the key of the slot that has its serial, and it asks for that slot's request.
+pub record EntryFor {B : Type 0} (buffer : B → Buffer) (slots : finite.FinMap nat_cmp (Slot B)) (entry : Entry) : Type 0 where
+  pub slot : Slot B
+  pub there : finite.get slots entry.word ≡ Some slot
+  pub serial : slot.serial ≡ entry.serial
+  pub call : entry.body ≡ Calls (call_of (plain_request buffer slot.request))
+
+-- A completion's word is the key of the slot that has its serial.
+pub record CompletionFor {B : Type 0} (slots : finite.FinMap nat_cmp (Slot B)) (completion : Completion) : Type 0 where
+  pub slot : Slot B
+  pub there : finite.get slots completion.word ≡ Some slot
+  pub serial : slot.serial ≡ completion.serial
+
+-- What stands in the queue, by its body: a call is that of an operation that is queued.
+abbrev pub QueuedFor : {B : Type 0} → (B → Buffer) → finite.FinMap nat_cmp (Slot B) → List Operation → Entry → Body → Type 0
+QueuedFor buffer slots ops entry (Calls call) = EntryFor buffer slots entry × IsAt ops entry.serial InQueue
+
+-- The three lists of a ring, read by serials, are those of the ledger; each word in them is the key of the slot of that serial;
+-- an operation's completion has its outcome; and no operation stands twice in a list.
+pub record ListsStand {B : Type 0} (buffer : B → Buffer) (slots : finite.FinMap nat_cmp (Slot B)) (view : RingView) (L : Ledger) : Type 0 where
+  pub queue : L.queue ≡ map queued_of view.queue
+  pub flying : L.flying ≡ map item_of view.flying
+  pub done : L.done ≡ map done_item_of (kept view.done)
+  pub in_queue : (i : ℕ) (entry : Entry) → slice_get view.queue i ≡ Some entry → QueuedFor buffer slots L.ops entry entry.body
+  pub in_flight : (i : ℕ) (flight : Flight) → slice_get view.flying i ≡ Some flight → EntryFor buffer slots flight.entry × IsAt L.ops flight.entry.serial InFlight
+  pub in_done : (i : ℕ) (completion : Completion) → slice_get (kept view.done) i ≡ Some completion → CompletionFor slots completion × IsAt L.ops completion.serial (InDone completion.outcome)
+  pub queue_once : Once (λ entry. entry.serial) view.queue
+  pub flight_once : Once (λ flight. flight.entry.serial) view.flying
+  pub done_once : Once (λ completion. completion.serial) (kept view.done)

@@ -1,0 +1,56 @@
+-- When slots stand for operations. Cited by `Stands`.
+use Rattle.std.specs.Prelude.{ℕ, ◌≡◌, ◌<◌, Bool, true, false, List, Option, Some, None, length, slice_get}
+use Rattle.std.specs.Ordering.{nat_cmp}
+use Rattle.std.specs.FinMap as map
+use Rattle.rent_buf.specs.Buffer.{Buffer}
+use Rattle.op_slots.specs.declared.lifecycle.Lifecycle.{Lifecycle}
+use Rattle.op_slots.specs.declared.lifecycle.Lifecycle.TheVariants.{Submitted, Waiting, Completed}
+use Rattle.ring_core.specs.declared.request.Outcome.{Outcome}
+use Rattle.ring_core.specs.Lists.{numbers_where}
+use Rattle.ring_core.specs.Request.{plain_request, with_buffer, buffer_of}
+use Rattle.ring_core.specs.Ledger.{Operation, Place, InQueue, InFlight, InDone, Reaped, Gone, is_live}
+use Rattle.uring_driver.specs.declared.slot.Slot.{Slot}
+
+-- A slot's life while its operation isn't reaped: it waits with the task that polled last, if one did.
+abbrev pub waiting : Option ℕ → Lifecycle Outcome
+waiting None = Submitted
+waiting (Some task) = Waiting task
+
+-- A slot's life, by the place of its operation and the task that waits for it. One that is gone has no slot.
+abbrev pub life_at : Place → Option ℕ → Lifecycle Outcome
+life_at InQueue task = waiting task
+life_at InFlight task = waiting task
+life_at (InDone outcome) task = waiting task
+life_at (Reaped outcome) task = Completed outcome
+life_at Gone task = Submitted
+
+-- An operation is queued or in flight: it wasn't executed.
+abbrev pub is_early : Place → Bool
+is_early InQueue = true
+is_early InFlight = true
+is_early _ = false
+
+-- A slot holds an operation that isn't gone: its number, its request with its buffer, and its stage of life.
+-- Until the operation is executed its buffer is the one that was submitted.
+pub record SlotFor {B : Type 0} (buffer : B → Buffer) (ops : List Operation) (slot : Slot B) : Type 0 where
+  pub operation : Operation
+  pub there : slice_get ops slot.serial ≡ Some operation
+  pub live : is_live operation ≡ true
+  pub request : plain_request buffer slot.request ≡ with_buffer operation.request operation.buffer
+  pub life : slot.life ≡ life_at operation.place operation.task
+  pub fresh : is_early operation.place ≡ true → operation.buffer ≡ buffer_of operation.request
+
+-- A live slot has a number.
+pub record HasSlot {B : Type 0} (slots : map.FinMap nat_cmp (Slot B)) (number : ℕ) : Type 0 where
+  pub key : ℕ
+  pub slot : Slot B
+  pub there : map.get slots key ≡ Some slot
+  pub serial : slot.serial ≡ number
+
+-- Each operation that isn't gone has exactly one live slot, and each live slot is one of these. No key is a reserved word.
+pub record SlotsStand {B : Type 0} (buffer : B → Buffer) (slots : map.FinMap nat_cmp (Slot B)) (ops : List Operation) : Type 0 where
+  pub holds : (key : ℕ) (slot : Slot B) → map.get slots key ≡ Some slot → SlotFor buffer ops slot
+  pub one : (k j : ℕ) (s t : Slot B) → map.get slots k ≡ Some s → map.get slots j ≡ Some t → s.serial ≡ t.serial → k ≡ j
+  pub each : (number : ℕ) (operation : Operation) → slice_get ops number ≡ Some operation → is_live operation ≡ true → HasSlot slots number
+  pub counted : map.len slots ≡ length (numbers_where is_live 0 ops)
+  pub below : (key : ℕ) (slot : Slot B) → map.get slots key ≡ Some slot → key < 4294967232

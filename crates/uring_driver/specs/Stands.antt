@@ -1,0 +1,37 @@
+-- When a driver stands for a ledger. Each call of the driver cites it, before and after, and so does whoever holds a driver.
+use Rattle.std.specs.Prelude.{ℕ, ◌≡◌, List, length}
+use Rattle.std.specs.Ordering.{nat_cmp}
+use Rattle.std.specs.FinMap as map
+use Rattle.rent_buf.specs.Buffer.{Buffer}
+use Rattle.ring_core.specs.declared.ledger.Event.{Event}
+use Rattle.ring_core.specs.declared.ledger.Reply.{Reply}
+use Rattle.ring_core.specs.Ledger.{Ledger, user_holds}
+use Rattle.ring_core.specs.Step.{step}
+use Rattle.ring_core.specs.Run.{ledger}
+use Rattle.ring_core.specs.Ring.{RingView}
+use Rattle.uring_driver.specs.declared.slot.Slot.{Slot}
+use Rattle.uring_driver.specs.declared.driver.IoUringDriver.{IoUringDriver}
+use Rattle.uring_driver.specs.Driver.{ring_in, given_by, holds_handle}
+use Rattle.uring_driver.specs.Slots.{SlotsStand}
+use Rattle.uring_driver.specs.Lists.{ListsStand}
+
+-- A ring and slots mean a ledger: its capacity, what stands on its handles, its operations by their slots, and its lists.
+pub record Means {B : Type 0} (buffer : B → Buffer) (view : RingView) (slots : map.FinMap nat_cmp (Slot B)) (L : Ledger) : Type 0 where
+  pub capacity : view.capacity ≡ L.capacity
+  pub world : view.world ≡ L.world
+  pub in_slots : SlotsStand buffer slots L.ops
+  pub in_lists : ListsStand buffer slots view L
+
+-- A driver stands for a ledger that some events led to, from the empty one of its ring's capacity. `view` reads its ring, and
+-- `buffer` its buffers. The next operation has the next number, and the user holds the ledger's handles.
+pub record Stands {R B : Type 0} (view : R → RingView) (buffer : B → Buffer) (driver : IoUringDriver R B) (L : Ledger) : Type 0 where
+  pub events : List Event
+  pub reached : L ≡ ledger (view (ring_in driver)).capacity events
+  pub numbered : given_by driver ≡ length L.ops
+  pub handles : (h : ℕ) → holds_handle driver h ≡ user_holds L h
+  pub means : Means buffer (view (ring_in driver)) driver.slots.values L
+
+-- A call's answer is the machine's reply to its event, and the driver stands for the machine's next ledger.
+pub record Answers {R B : Type 0} (view : R → RingView) (buffer : B → Buffer) (L : Ledger) (event : Event) (reply : Reply) (new : IoUringDriver R B) : Type 0 where
+  pub reply_is : (step L event).1 ≡ reply
+  pub stands : Stands view buffer new (step L event).0

@@ -1,0 +1,79 @@
+-- What a submission answers.
+use Rattle.std.specs.Prelude.{ℕ, ◌≡◌, ◌+◌, ◌<◌, ◌⊎◌, Bool, IsTrue, Result, Ok, Err, length}
+use Rattle.std.specs.FinMap as map
+use Rattle.rent_buf.specs.Buffer.{Buffer}
+use Rattle.op_slots.specs.Slots.{Slots}
+use Rattle.ring_core.specs.declared.request.Request.{Request}
+use Rattle.ring_core.specs.declared.ledger.Event.TheVariants.{Submit}
+use Rattle.ring_core.specs.declared.ledger.Reply.TheVariants.{Submitted as Given}
+use Rattle.ring_core.specs.Counts.{Rose}
+use Rattle.ring_core.specs.Request.{plain_request}
+use Rattle.ring_core.specs.Ledger.{Ledger}
+use Rattle.ring_core.specs.Ring.{RingView}
+use Rattle.uring_driver.specs.declared.op.Op.{Op as Token}
+use Rattle.uring_driver.specs.declared.op.Submitted.{Submitted}
+use Rattle.uring_driver.specs.declared.op.Submitted.TheVariants.{Op}
+use Rattle.uring_driver.specs.declared.op.SubmitError.{SubmitError}
+use Rattle.uring_driver.specs.declared.op.SubmitFault.{SubmitFault}
+use Rattle.uring_driver.specs.declared.op.SubmitFault.TheVariants.{Full, RingFault, Busy, OutOfMemory}
+use Rattle.uring_driver.specs.declared.slot.Slot.{Slot}
+use Rattle.uring_driver.specs.declared.driver.IoUringDriver.{IoUringDriver}
+use Rattle.uring_driver.specs.Driver.{ring_in}
+use Rattle.uring_driver.specs.Op.{number_of, Holds}
+use Rattle.uring_driver.specs.Roomy.{IsSameButRoom}
+use Rattle.uring_driver.specs.Stands.{Stands, Answers}
+
+-- A submission got the machine's next number.
+abbrev pub SubmitsFor : {R B : Type 0} → (R → RingView) → (B → Buffer) → Ledger → Request B → IoUringDriver R B → Submitted → Type 0
+SubmitsFor view buffer L request new (Op op) = Answers view buffer L (Submit (plain_request buffer request)) (Given (number_of op)) new
+
+-- The driver holds the new token beside those that it held, and no other.
+pub record AddsTo {R B : Type 0} (old new : IoUringDriver R B) (op : Token) : Type 0 where
+  pub this : Holds new op
+  pub kept : (other : Token) → Holds old other → Holds new other
+  pub only : (other : Token) → Holds new other → (other ≡ op) ⊎ Holds old other
+  pub number : number_of op ≡ old.given
+  pub next : new.given ≡ old.given + 1
+
+abbrev pub AddsToken : {R B : Type 0} → IoUringDriver R B → IoUringDriver R B → Submitted → Type 0
+AddsToken old new (Op op) = AddsTo old new op
+
+-- The submission was refused as Full.
+abbrev pub IsFullError : {B : Type 0} → Result Submitted (SubmitError B) → Type 0
+IsFullError (Ok submitted) = ⊥
+IsFullError (Err refused) = refused.why ≡ Full
+
+-- The slots and the counts of a driver are as before; its ring may have changed.
+pub record SameSlots {R B : Type 0} (old new : IoUringDriver R B) : Type 0 where
+  pub slots : new.slots.values ≡ old.slots.values
+  pub given : new.given ≡ old.given
+  pub first : new.first ≡ old.first
+  pub held : new.held ≡ old.held
+
+-- Why a submission was refused, and what it left of the ring. Full: the ring is the same. A fault of the ring: that count rose,
+-- and a prefix of the queue may have been taken; a steady ring has none. OutOfMemory: the driver stands for what it stood for.
+abbrev pub WhyRefused : {R B : Type 0} → (R → RingView) → (B → Buffer) → Bool → IoUringDriver R B → IoUringDriver R B → SubmitFault → Type 0
+WhyRefused view buffer steady old new Full = new ≡ old
+WhyRefused view buffer steady old new RingFault = Rose (view (ring_in old)).faults (view (ring_in new)).faults × (IsTrue steady → ⊥)
+WhyRefused view buffer steady old new Busy = Rose (view (ring_in old)).busies (view (ring_in new)).busies × (IsTrue steady → ⊥)
+WhyRefused view buffer steady old new OutOfMemory = (L : Ledger) → Stands view buffer old L → Stands view buffer new L
+
+-- A refused submission hands its request back, and leaves slots and counts.
+pub record SubmitRefused {R B : Type 0} (view : R → RingView) (buffer : B → Buffer) (steady : Bool) (request : Request B) (old new : IoUringDriver R B) (refused : SubmitError B) : Type 0 where
+  pub back : refused.request ≡ request
+  pub same : SameSlots old new
+  pub why : WhyRefused view buffer steady old new refused.why
+
+-- The memory of a submission is taken, and its queue has room.
+pub record IsPrepared {B : Type 0} (view : RingView) (room : ℕ) (slots : Slots (Slot B)) : Type 0 where
+  pub few : map.len slots.values < 4294967232
+  pub slot : 0 < slots.room
+  pub spare : 0 < room
+  pub queue : length view.queue < view.capacity
+
+-- Why a submission can't be made. Nothing changed but reserved memory, and at a fault of the ring what it took.
+abbrev pub Unprepared : {R : Type 0} {B : Type 0} → (R → RingView) → Bool → R × ℕ → R × ℕ → Slots (Slot B) → Slots (Slot B) → SubmitFault → Type 0
+Unprepared view steady old new slots slots' Full = (map.len slots.values ≡ 4294967232) × (new ≡ old) × (slots' ≡ slots)
+Unprepared view steady old new slots slots' RingFault = (map.len slots.values < 4294967232) × Rose (view old.0).faults (view new.0).faults × (IsTrue steady → ⊥)
+Unprepared view steady old new slots slots' Busy = (map.len slots.values < 4294967232) × Rose (view old.0).busies (view new.0).busies × (IsTrue steady → ⊥)
+Unprepared view steady old new slots slots' OutOfMemory = (map.len slots.values < 4294967232) × IsSameButRoom (view old.0) (view new.0)

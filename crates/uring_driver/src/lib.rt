@@ -1,0 +1,13 @@
+//! The completion driver: it keeps a slot for each operation in flight, and a ring's entries mean those slots.
+#![tactic(auto)]
+
+pub mod driver;
+pub mod op;
+mod slot;
+mod uring;
+
+pub use driver::IoUringDriver;
+pub use op::{Done, Executed, Op, PollOp, Stop, SubmitError, SubmitFault, Submitted, Turned};
+
+#[cfg(test)]
+mod tests;

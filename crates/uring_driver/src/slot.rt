@@ -1,0 +1,127 @@
+//! What a slot of the driver holds, and what its calls do to one slot.
+ghost use Rattle.std.specs.Prelude.{◌≡◌, ◌≤◌, true, false, length, IsSome, IfSome, IfNone, option_copied};
+ghost use Rattle.std.specs.FinMap as map;
+ghost use Rattle.op_slots.specs.Lifecycle.{IsCompleted};
+ghost use Rattle.ring_core.specs.Request.{plain_request};
+ghost use Rattle.uring_driver.specs.Slot.{has_number, flies_in, filled, room_of, PollsSlot, CompletesSlot, KeepsNumbers, FillsSlot};
+
+use crate::op::Done;
+use op_slots::{AfterComplete, AfterPoll, Lifecycle, Slab};
+use rent_buf::IoBufMut;
+use ring_core::{Completion, Outcome, Request};
+
+/// What a slot holds: an operation's number, its request with its buffer, and how far it is. (own; monoio's slot is a
+/// `Lifecycle` alone)
+#[derive(Drop)]
+pub struct Slot<B> {
+    /// The operation's number.
+    pub serial: u64,
+    /// Its request, with its buffer.
+    pub request: Request<B>,
+    /// How far it is.
+    pub life: Lifecycle<Outcome>,
+}
+
+/// The slot that was looked up holds this number.
+pub fn is_numbered<B>(slot: Option<&Slot<B>>, number: u64) -> bool
+    ensures { result ≡ has_number (option_copied slot.entry) number }
+{
+    match slot {
+        Some(slot) => slot.serial == number,
+        None => false,
+    }
+}
+
+// The slot that was looked up is in flight: live and not completed.
+fn is_flying<B>(slot: Option<&Slot<B>>) -> bool
+    ensures { result ≡ flies_in (option_copied slot.entry) }
+{
+    match slot {
+        Some(slot) => match &slot.life {
+            Lifecycle::Completed(_) => false,
+            _ => true,
+        },
+        None => false,
+    }
+}
+
+/// Asks a live slot for its result.
+pub fn poll_slot<B: Drop>(slots: &mut Slab<Slot<B>>, key: usize, task: u64) -> AfterPoll
+    requires { IsSome (map.get slots.old.values key) }
+    ensures { PollsSlot slots.old.values key task slots.new.values result }
+{
+    let slot = slots.value_mut(key);
+    slot.life.poll(task)
+}
+
+/// Frees a completed slot.
+pub fn take_done<B: Drop>(slots: &mut Slab<Slot<B>>, key: usize) -> Done<B>
+    requires live { IsSome (map.get slots.old.values key) }
+    requires completed { IfSome (map.get slots.old.values key) (λ s. IsCompleted s.life) }
+    ensures done { IfSome (map.get slots.old.values key) (λ s. (s.request ≡ result.request) × (s.life ≡ Lifecycle.Completed result.outcome)) }
+    ensures slots { slots.new.values ≡ map.remove slots.old.values key }
+{
+    match slots.remove(key) {
+        Some(slot) => {
+            let Slot {
+                serial: _,
+                request,
+                life,
+            } = slot;
+            match life {
+                Lifecycle::Completed(outcome) => Done { outcome, request },
+                _ => unreachable!(),
+            }
+        }
+        None => unreachable!(),
+    }
+}
+
+/// Completes the slot that a completion names, and answers its number and the task to wake. Where that is no slot in
+/// flight nothing changes.
+pub fn complete_slot<B: Drop>(
+    slots: &mut Slab<Slot<B>>,
+    completion: &Completion,
+) -> Option<(u64, Option<u64>)>
+    ensures completes { CompletesSlot slots.old.values completion.now slots.new.values result }
+    ensures flying { IfSome result (λ _. flies_in (map.get slots.old.values completion.now.word) ≡ true) }
+    ensures stray { IfNone result (flies_in (map.get slots.new.values completion.now.word) ≡ false) }
+    ensures numbers { KeepsNumbers slots.old.values slots.new.values }
+{
+    let key = completion.word as usize;
+    if !is_flying(slots.peek(key)) {
+        return None;
+    }
+    let slot = slots.value_mut(key);
+    let serial = slot.serial;
+    match slot.life.complete(completion.outcome) {
+        AfterComplete::Kept => Some((serial, None)),
+        AfterComplete::Wake(task) => Some((serial, Some(task))),
+    }
+}
+
+/// Stores the bytes that came in the buffer of a live slot, where they fit.
+pub fn fill_slot<B: IoBufMut + Drop>(slots: &mut Slab<Slot<B>>, key: usize, bytes: &[u8])
+    ensures fills { FillsSlot B.buffer slots.old.values key bytes.now slots.new.values }
+    ensures numbers { KeepsNumbers slots.old.values slots.new.values }
+{
+    if slots.peek(key).is_none() {
+        return;
+    }
+    let slot = slots.value_mut(key);
+    fill(&mut slot.request, bytes);
+}
+
+// Stores bytes at the begin of the range of a request's buffer, where they fit.
+fn fill<B: IoBufMut>(request: &mut Request<B>, bytes: &[u8])
+    ensures { length bytes.now ≤ room_of (plain_request B.buffer request.old) →
+        plain_request B.buffer request.new ≡ filled (plain_request B.buffer request.old) bytes.now }
+{
+    match request {
+        Request::Recv { fd: _, buf } => {
+            if bytes.len() <= buf.bytes_total() {
+                buf.store(0, bytes);
+            }
+        }
+    }
+}
