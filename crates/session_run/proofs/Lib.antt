@@ -1,0 +1,13 @@
+mod TextCuts
+mod TextNumbers
+mod TextHex
+mod TextWrites
+mod TextFields
+mod TextSpaces
+mod TextEvents
+mod TextLinesRead
+mod Commands
+mod Tokens
+mod Steps
+mod Runs
+mod Writing

@@ -1,0 +1,198 @@
+-- What each step of a session's driver makes of the session.
+use Rattle.std.proofs.Common.{◌≡◌, ◌≢◌, ◌≤◌, ℕ, ◌+◌, Bool, true, false, not, ◌||◌, ◌&&◌, List, [], ◌∷◌, ◌++◌, length, Option, None, Some, length-append, refl, sym, ◌∙◌, ap, subst, arith}
+use Rattle.std.specs.Prelude.{slice_get, nat_le, ◌↔◌, Result, Ok, Err}
+use Rattle.std.proofs.lemmas.Bool.Decides.{nat_tests}
+use Rattle.rent_buf.specs.Buffer.{Buffer}
+use Rattle.rent_buf.specs.Buf.{built}
+use Rattle.rent_buf.specs.declared.spec.Buf.{Buf}
+use Rattle.ring_core.specs.Lists.{amended, passes}
+use Rattle.ring_core.specs.Ring.{RingView}
+use Rattle.ring_core.specs.Ledger.{Ledger, Operation, is_live, live_ops, user_holds}
+use Rattle.ring_core.specs.Request.{named, plain_request}
+use Rattle.ring_core.specs.Refusal.{cause, refused_if, most_live, lacks_handle}
+use Rattle.ring_core.specs.declared.ledger.Event.{Event}
+use Rattle.ring_core.specs.declared.ledger.Event.TheVariants.{Feed, Submit, Poll, Exec}
+use Rattle.ring_core.specs.declared.request.Told.{Told}
+use Rattle.ring_core.specs.declared.mem_ring.ExecRefusal.{ExecRefusal}
+use Rattle.rent_buf.specs.declared.fault.OutOfMemory.{OutOfMemory as NoMemory}
+use Rattle.uring_driver.specs.declared.op.Executed.{Executed}
+use Rattle.uring_driver.specs.declared.op.Executed.TheVariants.{Op as ExecutedNumber}
+use Rattle.uring_driver.specs.Executed.{ExecutesFor}
+use Rattle.session_run.specs.Executed.{reply_to, AnswersRefusal}
+use Rattle.ring_core.specs.declared.ledger.Refusal.{Refusal}
+use Rattle.ring_core.specs.declared.ledger.Refusal.TheVariants.{NoOp, NoHandle, Full, NotFlying, BadOutcome}
+use Rattle.ring_core.specs.declared.ledger.Reply.{Reply}
+use Rattle.ring_core.specs.declared.ledger.Reply.TheVariants.{Refused, ExecutedOp, Submitted as Given}
+use Rattle.ring_core.proofs.Amended.{length-amended}
+use Rattle.ring_core.proofs.HeadlineReplies.{step-refused}
+use Rattle.uring_driver.specs.declared.op.Op.{Op}
+use Rattle.uring_driver.specs.declared.driver.IoUringDriver.{IoUringDriver}
+use Rattle.uring_driver.specs.Driver.{given_by, holds_handle, holds_all, live_slots}
+use Rattle.uring_driver.specs.Op.{Holds, number_of, KeepsTokens}
+use Rattle.uring_driver.specs.Slot.{serial_of}
+use Rattle.uring_driver.specs.Slot.{number_at}
+use Rattle.uring_driver.specs.Submitted.{AddsTo, AddsToken, SubmitsFor, SameSlots, WhyRefused, SubmitRefused}
+use Rattle.uring_driver.specs.declared.op.Submitted.{Submitted}
+use Rattle.uring_driver.specs.Turned.{TurnsFor}
+use Rattle.uring_driver.specs.declared.op.Turned.{Turned}
+use Rattle.uring_driver.specs.declared.op.Stop.{Stop}
+use Rattle.uring_driver.specs.declared.op.Stop.TheVariants.{RingFault, Busy, BadCompletion, OutOfMemory}
+use Rattle.uring_driver.specs.declared.op.SubmitError.{SubmitError}
+use Rattle.uring_driver.specs.declared.op.SubmitFault.{SubmitFault}
+use Rattle.ring_core.specs.declared.request.Request.{Request}
+use Rattle.uring_driver.specs.Stands.{Stands, Answers}
+use Rattle.session_run.specs.declared.session.Session.{Session}
+use Rattle.session_run.specs.Token.{token_at}
+use Rattle.session_run.specs.Session.{AreHeld, SessionStands, SessionAnswers, StepsFor}
+use Rattle.session_run.proofs.Tokens.{are_held-kept, are_held-taken, are_held-added}
+
+-- A driver's answer, where it keeps all tokens, is the session's.
+pub answers-kept : (old new : Session) (L : Ledger) (event : Event) (reply : Reply) → SessionStands old L → new.tokens.items ≡ old.tokens.items → Answers (λ r. r) built L event reply new.driver → KeepsTokens old.driver new.driver → given_by new.driver ≡ given_by old.driver → SessionAnswers L event reply new
+answers-kept old new L event reply stands tokens answers kept given = record {
+  reply_is = answers.reply_is;
+  stands = record {
+    driver = answers.stands;
+    numbered = ap (λ items. length items) tokens ∙ stands.numbered ∙ sym given;
+    tokens = subst (λ items. AreHeld items new.driver) (sym tokens) (are_held-kept old.tokens.items old.driver new.driver stands.tokens kept);
+  };
+}
+
+-- Where the driver and the tokens are the same, a session stands for the same ledger.
+pub stands-same : (old new : Session) (L : Ledger) → SessionStands old L → new.driver ≡ old.driver → new.tokens.items ≡ old.tokens.items → SessionStands new L
+stands-same old new L stands driver tokens = record {
+  driver = subst (λ d. Stands (λ r. r) built d L) (sym driver) stands.driver;
+  numbered = ap (λ items. length items) tokens ∙ stands.numbered ∙ ap (λ d. given_by d) (sym driver);
+  tokens = subst (λ d. AreHeld new.tokens.items d) (sym driver) (subst (λ items. AreHeld items old.driver) (sym tokens) stands.tokens);
+}
+
+-- A refused event changes nothing.
+pub answers-refused : (old new : Session) (L : Ledger) (event : Event) (refusal : Refusal) → SessionStands old L → cause L event ≡ Some refusal → new.driver ≡ old.driver → new.tokens.items ≡ old.tokens.items → SessionAnswers L event (Refused refusal) new
+answers-refused old new L event refusal stands named driver tokens =
+    let same = step-refused L event refusal named in
+    record { reply_is = ap (λ next. next.1) same; stands = subst (λ next. SessionStands new next.0) (sym same) (stands-same old new L stands driver tokens) }
+
+-- A turn that stopped over the ring in memory changed nothing.
+pub stopped-same : (L : Ledger) (old new : IoUringDriver RingView Buf) (turned : Turned) (stop : Stop) → TurnsFor (λ r. r) built true L old new turned (Some stop) → new ≡ old
+stopped-same L old new turned RingFault turns = absurd (turns refl)
+stopped-same L old new turned Busy turns = absurd (turns refl)
+stopped-same L old new turned (BadCompletion word) turns = absurd turns
+stopped-same L old new turned OutOfMemory turns = turns
+
+-- A driver with the same slots holds the same tokens.
+pub kept-same_slots : (old new : IoUringDriver RingView Buf) → SameSlots old new → KeepsTokens old new
+kept-same_slots old new same op = (
+  λ h. subst (λ slots. number_at slots op.key ≡ Some (number_of op)) (sym same.slots) h,
+  λ h. subst (λ slots. number_at slots op.key ≡ Some (number_of op)) same.slots h,
+)
+
+-- A driver over the ring in memory that refused a submission stands as before.
+stands-refused : (old new : IoUringDriver RingView Buf) (L : Ledger) (why : SubmitFault) → WhyRefused (λ r. r) built true old new why → Stands (λ r. r) built old L → Stands (λ r. r) built new L
+stands-refused old new L SubmitFault.Full refused stands = subst (λ d. Stands (λ r. r) built d L) (sym refused) stands
+stands-refused old new L SubmitFault.RingFault refused stands = absurd (refused.1 refl)
+stands-refused old new L SubmitFault.Busy refused stands = absurd (refused.1 refl)
+stands-refused old new L SubmitFault.OutOfMemory refused stands = refused L stands
+
+-- So does the session.
+pub stands-unsubmitted : (old new : Session) (L : Ledger) (request : Request Buf) (refused : SubmitError Buf) → SessionStands old L → new.tokens.items ≡ old.tokens.items → SubmitRefused (λ r. r) built true request old.driver new.driver refused → SessionStands new L
+stands-unsubmitted old new L request refused stands tokens why = record {
+  driver = stands-refused old.driver new.driver L refused.why why.why stands.driver;
+  numbered = ap (λ items. length items) tokens ∙ stands.numbered ∙ sym why.same.given;
+  tokens = subst (λ items. AreHeld items new.driver) (sym tokens) (are_held-kept old.tokens.items old.driver new.driver stands.tokens (kept-same_slots old.driver new.driver why.same));
+}
+
+-- A feed of a handle that the user doesn't hold is refused.
+pub cause-feed : (L : Ledger) (h : ℕ) (bytes : List ℕ) → user_holds L h ≡ false → cause L (Feed h bytes) ≡ Some NoHandle
+cause-feed L h bytes absent = ap (λ held. refused_if (not held || false) NoHandle None) absent
+
+-- The test of an order.
+pub nat_le-true : (a b : ℕ) → a ≤ b → nat_le a b ≡ true
+nat_le-true a b order = grind (arith, nat_tests)
+
+-- Where each of two holds, both do.
+not-and : (a b : Bool) → (not a || not b) ≡ not (a && b)
+not-and true b = refl
+not-and false b = refl
+
+-- The user lacks one of some handles where the driver doesn't hold all of them.
+pub lacks_handle-holds_all : (driver : IoUringDriver RingView Buf) (L : Ledger) → ((h : ℕ) → holds_handle driver h ≡ user_holds L h) → (handles : List ℕ) → lacks_handle L handles ≡ not (holds_all driver handles)
+lacks_handle-holds_all driver L same [] = refl
+lacks_handle-holds_all driver L same (h ∷ handles) =
+    ap (λ b. not b || lacks_handle L handles) (sym (same h))
+    ∙ ap (λ b. not (holds_handle driver h) || b) (lacks_handle-holds_all driver L same handles)
+    ∙ not-and (holds_handle driver h) (holds_all driver handles)
+
+-- A submission that names a handle which the user doesn't hold is refused.
+pub cause-submit_handle : (session : Session) (L : Ledger) (request : Request Buffer) → SessionStands session L → holds_all session.driver (named request) ≡ false → cause L (Submit request) ≡ Some NoHandle
+cause-submit_handle session L request stands absent =
+    ap (λ lacks. refused_if lacks NoHandle (refused_if (nat_le most_live (length (live_ops L))) Full None))
+    (lacks_handle-holds_all session.driver L stands.driver.handles (named request) ∙ ap not absent)
+
+-- Another one is refused as Full where as many operations as there may be are live.
+pub cause-submit_full : (session : Session) (L : Ledger) (request : Request Buffer) (live : ℕ) → SessionStands session L → holds_all session.driver (named request) ≡ true → live ≡ live_slots session.driver → most_live ≤ live → cause L (Submit request) ≡ Some Full
+cause-submit_full session L request live stands held count full =
+    ap (λ lacks. refused_if lacks NoHandle (refused_if (nat_le most_live (length (live_ops L))) Full None))
+    (lacks_handle-holds_all session.driver L stands.driver.handles (named request) ∙ ap not held)
+    ∙ ap (λ b. refused_if b Full None) (ap (λ k. nat_le most_live k) (sym stands.driver.means.in_slots.counted ∙ sym count) ∙ nat_le-true most_live live full)
+
+-- A poll of what isn't there is refused.
+pub cause-poll : (L : Ledger) (n task : ℕ) → passes is_live (slice_get L.ops n) ≡ false → cause L (Poll n task) ≡ Some NoOp
+cause-poll L n task absent = ap (λ live. refused_if (not live) NoOp None) absent
+
+-- What isn't true is false.
+false-unless : (b : Bool) → (b ≡ true → ⊥) → b ≡ false
+false-unless true never = absurd (never refl)
+false-unless false never = refl
+
+-- An operation whose token isn't kept isn't live.
+pub no_token-lacks : (session : Session) (L : Ledger) (n : ℕ) → SessionStands session L → token_at session.tokens.items n ≡ None → (found : Option Operation) → slice_get L.ops n ≡ found → passes is_live found ≡ false
+no_token-lacks session L n stands none None is = refl
+no_token-lacks session L n stands none (Some operation) is = false-unless (is_live operation) (λ live.
+    let slot = stands.driver.means.in_slots.each n operation is live in
+    let op : Op = record { number = n; key = slot.key } in
+    let holds : Holds session.driver op = ap serial_of slot.there ∙ ap (λ k. Some k) slot.serial in
+    let there : token_at session.tokens.items n ≡ Some op = (stands.tokens n op).1 (holds, refl) in
+    (let both : ◌≡◌ {A = Option Op} None (Some op) = sym none ∙ there in cc))
+
+-- An operation that is handed over leaves with its token.
+pub answers-taken : (old new : Session) (L : Ledger) (n : ℕ) (op : Op) (event : Event) (reply : Reply) → SessionStands old L → token_at old.tokens.items n ≡ Some op → new.tokens.items ≡ amended old.tokens.items n (λ token. None) → ((other : Op) → Holds new.driver other ↔ (Holds old.driver other × (other ≢ op))) → given_by new.driver ≡ given_by old.driver → Answers (λ r. r) built L event reply new.driver → SessionAnswers L event reply new
+answers-taken old new L n op event reply stands there tokens taken given answers = record {
+  reply_is = answers.reply_is;
+  stands = record {
+    driver = answers.stands;
+    numbered = ap (λ items. length items) tokens ∙ length-amended (λ token. None) old.tokens.items n ∙ stands.numbered ∙ sym given;
+    tokens = subst (λ items. AreHeld items new.driver) (sym tokens) (are_held-taken old.tokens.items old.driver new.driver n op there stands.tokens taken);
+  };
+}
+
+-- A list with one element more.
+length-added : {A : Type 0} (xs : List A) (x : A) → length (xs ++ x ∷ []) ≡ length xs + 1
+length-added xs x = length-append xs (x ∷ [])
+
+-- A new operation's token stands at the end.
+pub answers-added : (old new : Session) (L : Ledger) (op : Op) (event : Event) (reply : Reply) → SessionStands old L → new.tokens.items ≡ old.tokens.items ++ Some op ∷ [] → AddsTo old.driver new.driver op → Answers (λ r. r) built L event reply new.driver → SessionAnswers L event reply new
+answers-added old new L op event reply stands tokens adds answers = record {
+  reply_is = answers.reply_is;
+  stands = record {
+    driver = answers.stands;
+    numbered = ap (λ items. length items) tokens ∙ length-added old.tokens.items (Some op) ∙ ap (λ k. k + 1) stands.numbered ∙ sym adds.next;
+    tokens = subst (λ items. AreHeld items new.driver) (sym tokens) (are_held-added old.tokens.items old.driver new.driver op stands.numbered stands.tokens adds);
+  };
+}
+
+-- So does what a submission gave.
+pub answers-submitted : (old new : Session) (L : Ledger) (request : Request Buf) (submitted : Submitted) (op : Op) → submitted ≡ Submitted.Op op → SessionStands old L → new.tokens.items ≡ old.tokens.items ++ Some op ∷ [] → AddsToken old.driver new.driver submitted → SubmitsFor (λ r. r) built L request new.driver submitted → SessionAnswers L (Submit (plain_request built request)) (Given (number_of op)) new
+answers-submitted old new L request submitted op is stands tokens adds answers =
+    answers-added old new L op _ _ stands tokens (subst (λ s. AddsToken old.driver new.driver s) is adds) (subst (λ s. SubmitsFor (λ r. r) built L request new.driver s) is answers)
+
+-- What was executed is the session's answer.
+pub answers-executed : (old new : Session) (L : Ledger) (place : ℕ) (told : Told) (executed : Executed) → SessionStands old L → new.tokens.items ≡ old.tokens.items → ExecutesFor built L place told new.driver (Ok executed) → KeepsTokens old.driver new.driver → given_by new.driver ≡ given_by old.driver → SessionAnswers L (Exec place told) (reply_to executed) new
+answers-executed old new L place told (ExecutedNumber n) stands tokens answers kept given = answers-kept old new L (Exec place told) (ExecutedOp n) stands tokens answers kept given
+
+-- So is an execution that was refused.
+pub steps-unexecuted : (old new : Session) (L : Ledger) (place : ℕ) (told : Told) (why : ExecRefusal) (result : Result Reply NoMemory) → SessionStands old L → new.tokens.items ≡ old.tokens.items → ExecutesFor built L place told new.driver (Err why) → new.driver ≡ old.driver → AnswersRefusal why result → StepsFor L (Exec place told) new result
+steps-unexecuted old new L place told ExecRefusal.NotFlying result stands tokens cause_is driver answer =
+    subst (λ r. StepsFor L (Exec place told) new r) (sym answer) (answers-refused old new L (Exec place told) NotFlying stands cause_is driver tokens)
+steps-unexecuted old new L place told ExecRefusal.BadOutcome result stands tokens cause_is driver answer =
+    subst (λ r. StepsFor L (Exec place told) new r) (sym answer) (answers-refused old new L (Exec place told) BadOutcome stands cause_is driver tokens)
+steps-unexecuted old new L place told ExecRefusal.OutOfMemory (Ok reply) stands tokens cause_is driver answer = absurd (let never : ◌≡◌ {A = Bool} false true = answer in cc)
+steps-unexecuted old new L place told ExecRefusal.OutOfMemory (Err refused) stands tokens cause_is driver answer = stands-same old new L stands driver tokens

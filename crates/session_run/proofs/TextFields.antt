@@ -1,0 +1,117 @@
+-- What the words of a line are read as, part by part: each is read exactly where it is written.
+use Rattle.std.proofs.Common.{◌≡◌, ◌∙◌, ℕ, ◌^◌, ◌<◌, List, [], ◌∷◌, length, refl, ap, sym, arith}
+use Rattle.std.specs.Prelude.{Bool, true, false, ◌&&◌, if◌then◌else◌, nat_le, Option, Some, None, option_and_then, option_map, bytes_eq, codes, decimal}
+use Rattle.std.proofs.lemmas.Bool.{leb-true, le-leb}
+use Rattle.std.proofs.lemmas.Slice.Eq.{bytes_eq-Decides}
+use Rattle.rent_buf.specs.Buffer.{Buffer, BufferBounds, IsFull}
+use Rattle.rent_buf.specs.declared.spec.Kind.{Kind}
+use Rattle.rent_buf.specs.declared.spec.Kind.TheVariants.{Vector}
+use Rattle.ring_core.specs.declared.world.HandleKind.{HandleKind}
+use Rattle.ring_core.specs.declared.world.HandleKind.TheVariants.{Stream}
+use Rattle.session_run.specs.TextEvent.{AreBytes, IsBuffer, buffer_kind_word, buffer_words, handle_kind_word}
+use Rattle.session_run.specs.TextReads.{number_of, number_field, bytes_end, at_end, handle_kind_of, kind_field, bounded, buffer_of}
+use Rattle.session_run.specs.TextWords.{bytes_word}
+use Rattle.session_run.proofs.TextHex.{bytes_of-bytes_word, bytes_of-Some}
+use Rattle.session_run.proofs.TextNumbers.{None-from, number_of-decimal, number_of-Some}
+
+-- What stood behind an answer.
+pub and_then-Some : {A B : Type 0} (f : A → Option B) (o : Option A) (y : B) → option_and_then f o ≡ Some y → (x : A) × (o ≡ Some x) × (f x ≡ Some y)
+and_then-Some f None y is = absurd (cc)
+and_then-Some f (Some x) y is = (x, refl, is)
+
+pub map-Some : {A B : Type 0} (f : A → B) (o : Option A) (y : B) → option_map f o ≡ Some y → (x : A) × (o ≡ Some x) × (f x ≡ y)
+map-Some f None y is = absurd (cc)
+map-Some f (Some x) y is = (x, refl, cc)
+
+pub if-Some : {A : Type 0} (b : Bool) (o : Option A) (y : A) → (if b then o else None) ≡ Some y → (b ≡ true) × (o ≡ Some y)
+if-Some true o y is = (refl, is)
+if-Some false o y is = absurd (cc)
+
+pub some_same : {A : Type 0} (x y : A) → Some x ≡ Some y → x ≡ y
+some_same x y is = cc
+
+and-true : (a b : Bool) → (a && b) ≡ true → (a ≡ true) × (b ≡ true)
+and-true true true is = (refl, refl)
+and-true true false is = absurd (cc)
+and-true false b is = absurd (cc)
+
+pub at_end-Some : {A : Type 0} (value : A) (words : List (List ℕ)) (y : A) → at_end value words ≡ Some y → (words ≡ []) × (value ≡ y)
+at_end-Some value [] y is = (refl, cc)
+at_end-Some value (word ∷ words) y is = absurd (cc)
+
+-- Numbers.
+pub number_field-decimal : (n : ℕ) (words : List (List ℕ)) → n < 2 ^ 64 → number_field (decimal n ∷ words) ≡ Some (n, words)
+number_field-decimal n words small = rw (number_of-decimal n small) refl
+
+pub number_field-Some : (words rest : List (List ℕ)) (n : ℕ) → number_field words ≡ Some (n, rest) → (words ≡ decimal n ∷ rest) × (n < 2 ^ 64)
+number_field-Some [] rest n is = absurd (cc)
+number_field-Some (word ∷ words) rest n is =
+    let read = and_then-Some (λ (number : ℕ). Some (number, words)) (number_of word) (n, rest) is in
+    let pair : (read.0, words) ≡ (n, rest) = some_same (read.0, words) (n, rest) read.2 in
+    let same : read.0 ≡ n = ap (λ (p : ℕ × List (List ℕ)). p.0) pair in
+    let behind : words ≡ rest = ap (λ (p : ℕ × List (List ℕ)). p.1) pair in
+    let number = number_of-Some word n (read.1 ∙ ap (λ (m : ℕ). Some m) same) in
+    (rw (number.0, behind) refl, number.1)
+
+-- Bytes.
+pub bytes_end-Some : (words : List (List ℕ)) (bytes : List ℕ) → bytes_end words ≡ Some bytes → (words ≡ bytes_word bytes ∷ []) × AreBytes bytes
+bytes_end-Some [] bytes is = absurd (cc)
+bytes_end-Some (word ∷ []) bytes is = let read = bytes_of-Some word bytes is in (ap (λ (w : List ℕ). w ∷ []) read.0, read.1)
+bytes_end-Some (word ∷ next ∷ words) bytes is = absurd (cc)
+
+-- Kinds.
+pub handle_kind_of-word : (kind : HandleKind) → handle_kind_of (handle_kind_word kind) ≡ Some kind
+handle_kind_of-word Stream = refl
+
+pub handle_kind_of-Some : (word : List ℕ) (kind : HandleKind) → handle_kind_of word ≡ Some kind → word ≡ handle_kind_word kind
+handle_kind_of-Some word Stream is =
+    (bytes_eq-Decides word (codes "stream")).0 (if-Some (bytes_eq word (codes "stream")) (Some Stream) Stream is).0
+
+pub kind_field-Some : (words rest : List (List ℕ)) (kind : Kind) → kind_field words ≡ Some (kind, rest) → words ≡ buffer_kind_word kind ∷ rest
+kind_field-Some [] rest kind is = absurd (cc)
+kind_field-Some (word ∷ words) rest Vector is =
+    let read = if-Some (bytes_eq word (codes "v")) (Some (Vector, words)) (Vector, rest) is in
+    let behind : words ≡ rest = ap (λ (p : Kind × List (List ℕ)). p.1) (some_same (Vector, words) (Vector, rest) read.1) in
+    let first : word ≡ codes "v" = (bytes_eq-Decides word (codes "v")).0 read.0 in
+    rw (first, behind) refl
+
+-- Buffers.
+pub bounded-bounds : (b : Buffer) → BufferBounds b → bounded b ≡ Some b
+bounded-bounds b h =
+    rw (le-leb (length b.bytes) b.total h.fits, le-leb b.begin b.end h.ordered, le-leb b.begin (length b.bytes) h.within, le-leb b.end b.total h.inside) refl
+
+-- A vector keeps the last bound, which says nothing of it.
+full_vector : (kind : Kind) (bytes : List ℕ) (total : ℕ) → IsFull kind bytes total
+full_vector Vector bytes total = tt
+
+pub bounded-Some : (b c : Buffer) → bounded b ≡ Some c → (b ≡ c) × BufferBounds b
+bounded-Some b c is =
+    let tests = if-Some (nat_le (length b.bytes) b.total && nat_le b.begin b.end && nat_le b.begin (length b.bytes) && nat_le b.end b.total) (Some b) c is in
+    let three = and-true (nat_le (length b.bytes) b.total && nat_le b.begin b.end && nat_le b.begin (length b.bytes)) (nat_le b.end b.total) tests.0 in
+    let two = and-true (nat_le (length b.bytes) b.total && nat_le b.begin b.end) (nat_le b.begin (length b.bytes)) three.0 in
+    let one = and-true (nat_le (length b.bytes) b.total) (nat_le b.begin b.end) two.0 in (
+      some_same b c tests.1,
+      record {
+        fits = leb-true (length b.bytes) b.total one.0;
+        ordered = leb-true b.begin b.end one.1;
+        within = leb-true b.begin (length b.bytes) two.1;
+        inside = leb-true b.end b.total three.1;
+        full = full_vector b.kind b.bytes b.total;
+      },
+    )
+
+pub bounded-None : (b : Buffer) → (BufferBounds b → ⊥) → bounded b ≡ None
+bounded-None b never = None-from (bounded b) (λ c is. never (bounded-Some b c is).1)
+
+buffer_of-parts : (kind : Kind) (bytes : List ℕ) (total begin end : ℕ) (b : Buffer) → b ≡ record { kind = kind; bytes = bytes; total = total; begin = begin; end = end }
+    → BufferBounds b → AreBytes bytes → total < 2 ^ 64 → begin < 2 ^ 64 → end < 2 ^ 64
+    → buffer_of (buffer_kind_word kind ∷ decimal total ∷ decimal begin ∷ decimal end ∷ bytes_word bytes ∷ []) ≡ Some b
+buffer_of-parts Vector bytes total begin end b is bounds small total_fits begin_fits end_fits =
+    rw (number_of-decimal total total_fits, number_of-decimal begin begin_fits, number_of-decimal end end_fits, bytes_of-bytes_word bytes small)
+    (ap bounded (sym is) ∙ bounded-bounds b bounds)
+
+pub buffer_of-words : (b : Buffer) → IsBuffer b → buffer_of (buffer_words b) ≡ Some b
+buffer_of-words b h =
+    let bounds = h.bounds in
+    let fits = h.fits in
+    buffer_of-parts b.kind b.bytes b.total b.begin b.end b refl h.bounds h.bytes h.fits (omega (arith, bounds.ordered, bounds.inside)) (omega (arith, bounds.inside))

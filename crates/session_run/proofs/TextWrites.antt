@@ -1,0 +1,48 @@
+-- What a write that failed leaves.
+use Rattle.std.proofs.Common.{◌≡◌, ◌∙◌, ℕ, ◌+◌, ◌-◌, ◌<◌, ◌≤◌, List, [], ◌∷◌, ◌++◌, length, get_or, take, drop, refl, ap, sym, arith, decimal, append_assoc}
+use Rattle.std.proofs.lemmas.List.{take_more, take_all, append-nil}
+use Rattle.session_run.proofs.TextCuts.{take-rest}
+use Rattle.session_run.specs.TextWords.{numbers_word}
+use Rattle.std.specs.Prelude.{Result, Ok, Err, OnErr}
+use Rattle.session_run.specs.TextWrites.{Starts}
+
+-- What begins as a longer list begins as its front.
+pub starts_behind : (front more now all : List ℕ) → now ≡ front ++ more → Starts now all → Starts front all
+starts_behind front more now all is starts =
+    record { more = more ++ starts.more; is = starts.is ∙ ap (λ (l : List ℕ). l ++ starts.more) is ∙ append_assoc front more starts.more }
+
+-- A fact holds where there is an error.
+pub on_err : {T E P : Type 0} (r : Result T E) → P → OnErr r P
+on_err (Ok x) p = tt
+on_err (Err e) p = p
+
+-- Numbers, each behind a comma.
+abbrev pub behind_commas : List ℕ → List ℕ
+behind_commas [] = []
+behind_commas (n ∷ ns) = 44 ∷ decimal n ++ behind_commas ns
+
+pub behind_commas-append : (ms ns : List ℕ) → behind_commas (ms ++ ns) ≡ behind_commas ms ++ behind_commas ns
+behind_commas-append [] ns = refl
+behind_commas-append (m ∷ ms) ns = rw (behind_commas-append ms ns) (simp append_assoc)
+
+-- A list of numbers is the first, then the others behind commas.
+pub numbers_word-cons : (n : ℕ) (ns : List ℕ) → numbers_word (n ∷ ns) ≡ decimal n ++ behind_commas ns
+numbers_word-cons n [] = sym (append-nil (decimal n))
+numbers_word-cons n (m ∷ ms) = ap (λ (rest : List ℕ). decimal n ++ 44 ∷ rest) (numbers_word-cons m ms)
+
+pub numbers_word-first : (ns : List ℕ) → 0 < length ns → numbers_word ns ≡ decimal (get_or ns 0 0) ++ behind_commas (drop 1 ns)
+numbers_word-first [] some = absurd (omega arith)
+numbers_word-first (n ∷ ns) some = numbers_word-cons n ns
+
+-- What the loop of `put_numbers` leaves after one number more.
+pub commas-written : (old ns before between behind : List ℕ) (i : ℕ) → i < length ns → before ≡ old ++ behind_commas (take i ns)
+    → between ≡ before ++ 44 ∷ [] → behind ≡ between ++ decimal (get_or ns i 0) → behind ≡ old ++ behind_commas (take (i + 1) ns)
+commas-written old ns before between behind i below is0 is1 is2 =
+    rw (is2, is1, is0, take_more ns i 0 below, behind_commas-append (take i ns) (get_or ns i 0 ∷ []), append-nil (decimal (get_or ns i 0))) (simp append_assoc)
+
+-- What `put_numbers` leaves.
+pub numbers-written : (old ns first all : List ℕ) (i : ℕ) → 0 < length ns → length (take (length ns - 1) (drop 1 ns)) ≤ i → first ≡ old ++ decimal (get_or ns 0 0)
+    → all ≡ first ++ behind_commas (take i (take (length ns - 1) (drop 1 ns))) → all ≡ old ++ numbers_word ns
+numbers-written old ns first all i some done is0 is1 =
+    let whole : take i (take (length ns - 1) (drop 1 ns)) ≡ drop 1 ns = take_all i (take (length ns - 1) (drop 1 ns)) done ∙ take-rest ns 1 in
+    rw (is1, whole, is0, numbers_word-first ns some) (simp append_assoc)

@@ -1,0 +1,15 @@
+pub mod Source
+pub mod Sink
+pub mod MemSource
+pub mod TextWords
+pub mod TextEvent
+pub mod TextReply
+pub mod TextLines
+pub mod TextWrites
+pub mod TextReads
+pub mod Token
+pub mod Session
+pub mod Executed
+pub mod Command
+pub mod Top
+pub mod Ends

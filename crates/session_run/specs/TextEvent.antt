@@ -1,0 +1,79 @@
+-- The texts of events, and the events that a line stands for.
+use Rattle.std.specs.Prelude.{◌≡◌, ℕ, ◌^◌, ◌<◌, List, [], ◌∷◌, All, codes, decimal}
+use Rattle.rent_buf.specs.Buffer.{Buffer, BufferBounds}
+use Rattle.rent_buf.specs.declared.spec.Kind.{Kind}
+use Rattle.rent_buf.specs.declared.spec.Kind.TheVariants.{Vector}
+use Rattle.ring_core.specs.declared.ledger.Event.{Event}
+use Rattle.ring_core.specs.declared.ledger.Event.TheVariants.{Give, Feed, Submit, Poll, Turn, Exec}
+use Rattle.ring_core.specs.declared.request.Request.{Request}
+use Rattle.ring_core.specs.declared.request.Request.TheVariants.{Recv}
+use Rattle.ring_core.specs.declared.request.Told.{Told}
+use Rattle.ring_core.specs.declared.request.Told.TheVariants.{Count}
+use Rattle.ring_core.specs.declared.world.HandleKind.{HandleKind}
+use Rattle.ring_core.specs.declared.world.HandleKind.TheVariants.{Stream}
+use Rattle.session_run.specs.TextWords.{spaced, bytes_word}
+
+-- The word of a handle's kind.
+abbrev pub handle_kind_word : HandleKind → List ℕ
+handle_kind_word Stream = codes "stream"
+
+-- The word of a buffer's kind.
+abbrev pub buffer_kind_word : Kind → List ℕ
+buffer_kind_word Vector = codes "v"
+
+-- The words of a buffer.
+abbrev pub buffer_words : Buffer → List (List ℕ)
+buffer_words b = buffer_kind_word b.kind ∷ decimal b.total ∷ decimal b.begin ∷ decimal b.end ∷ bytes_word b.bytes ∷ []
+
+-- The words of a request.
+abbrev pub request_words : Request Buffer → List (List ℕ)
+request_words (Recv h buffer) = codes "recv" ∷ decimal h ∷ buffer_words buffer
+
+-- The words of what an executor tells.
+abbrev pub told_words : Told → List (List ℕ)
+told_words (Count k) = codes "ok" ∷ decimal k ∷ []
+
+-- The words of an event.
+abbrev pub event_words : Event → List (List ℕ)
+event_words (Give kind) = codes "give" ∷ handle_kind_word kind ∷ []
+event_words (Feed h bytes) = codes "feed" ∷ decimal h ∷ bytes_word bytes ∷ []
+event_words (Submit request) = codes "submit" ∷ request_words request
+event_words (Poll n task) = codes "poll" ∷ decimal n ∷ decimal task ∷ []
+event_words Turn = codes "turn" ∷ []
+event_words (Exec place told) = codes "exec" ∷ decimal place ∷ told_words told
+
+-- The text of an event.
+abbrev pub event_text : Event → List ℕ
+event_text event = spaced (event_words event)
+
+-- Bytes of the program: each is below 256.
+abbrev pub AreBytes : List ℕ → Type 0
+AreBytes bytes = All (λ byte. byte < 256) bytes
+
+-- A buffer of the program: its bounds hold and its numbers fit their type.
+pub record IsBuffer (b : Buffer) : Type 0 where
+  pub bounds : BufferBounds b
+  pub fits : b.total < 2 ^ 64
+  pub bytes : AreBytes b.bytes
+
+-- A request of the program.
+abbrev pub IsRequest : Request Buffer → Type 0
+IsRequest (Recv h buffer) = (h < 2 ^ 64) × IsBuffer buffer
+
+-- What the program's executors may tell.
+abbrev pub IsTold : Told → Type 0
+IsTold (Count k) = k < 2 ^ 32
+
+-- An event of the program: its numbers fit their types, its bytes are bytes, and its buffer keeps its bounds.
+abbrev pub IsEvent : Event → Type 0
+IsEvent (Give kind) = Unit {0}
+IsEvent (Feed h bytes) = (h < 2 ^ 64) × AreBytes bytes
+IsEvent (Submit request) = IsRequest request
+IsEvent (Poll n task) = (n < 2 ^ 64) × (task < 2 ^ 64)
+IsEvent Turn = Unit {0}
+IsEvent (Exec place told) = (place < 2 ^ 64) × IsTold told
+
+-- A line stands for an event exactly where it is its text.
+pub record StandsFor (line : List ℕ) (event : Event) : Type 0 where
+  pub typed : IsEvent event
+  pub text : line ≡ event_text event

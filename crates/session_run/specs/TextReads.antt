@@ -1,0 +1,142 @@
+-- What the readers of a line answer, word by word. Only contracts of private functions cite these: `event_of-stands` and
+-- `stands-event_of` (proofs/TextEvents.antt) prove that a line is read as an event exactly where it stands for it.
+use Rattle.std.specs.Prelude.{ℕ, ◌+◌, ◌-◌, ◌*◌, ◌^◌, ◌==◌, ◌&&◌, ◌||◌, nat_lt, nat_le, if◌then◌else◌, List, [], ◌∷◌, length, codes, bytes_eq, decimal, Option, Some, None, option_and_then, option_map}
+use Rattle.std.specs.Str.Parse.{digits_value}
+use Rattle.rent_buf.specs.Buffer.{Buffer}
+use Rattle.rent_buf.specs.declared.spec.Kind.{Kind}
+use Rattle.rent_buf.specs.declared.spec.Kind.TheVariants.{Vector}
+use Rattle.ring_core.specs.declared.ledger.Event.{Event}
+use Rattle.ring_core.specs.declared.ledger.Event.TheVariants.{Give, Feed, Submit, Poll, Turn, Exec}
+use Rattle.ring_core.specs.declared.request.Request.{Request}
+use Rattle.ring_core.specs.declared.request.Request.TheVariants.{Recv}
+use Rattle.ring_core.specs.declared.request.Told.{Told}
+use Rattle.ring_core.specs.declared.request.Told.TheVariants.{Count}
+use Rattle.ring_core.specs.declared.world.HandleKind.{HandleKind}
+use Rattle.ring_core.specs.declared.world.HandleKind.TheVariants.{Stream}
+use Rattle.session_run.specs.TextLines.{onto_first}
+
+-- The words of a line, which a space ends.
+abbrev pub words : List ℕ → List (List ℕ)
+words [] = [] ∷ []
+words (byte ∷ bytes) = if byte == 32 then [] ∷ words bytes else onto_first byte (words bytes)
+
+-- The words behind a word: those past the space that ended it.
+abbrev pub words_behind : List ℕ → List (List ℕ)
+words_behind [] = []
+words_behind (space ∷ bytes) = words bytes
+
+-- The number that a word writes.
+unfoldable pub number_of : List ℕ → Option ℕ
+number_of word = if nat_lt (digits_value 10 word) (2 ^ 64) && bytes_eq (decimal (digits_value 10 word)) word then Some (digits_value 10 word) else None
+
+-- The value of a lower-case hexadecimal digit, or 16.
+abbrev pub digit_value_of : ℕ → ℕ
+digit_value_of byte =
+    if nat_le 48 byte && nat_le byte 57 then byte - 48
+    else if nat_le 97 byte && nat_le byte 102 then byte - 87
+    else 16
+
+-- A byte in front of bytes that were read.
+abbrev pub pair_onto : ℕ → ℕ → Option (List ℕ) → Option (List ℕ)
+pair_onto high low None = None
+pair_onto high low (Some bytes) = if high == 16 || low == 16 then None else Some ((high * 16 + low) ∷ bytes)
+
+-- The bytes that pairs of digits write.
+unfoldable pub pairs_of : List ℕ → Option (List ℕ)
+pairs_of [] = Some []
+pairs_of (digit ∷ []) = None
+pairs_of (high ∷ low ∷ digits) = pair_onto (digit_value_of high) (digit_value_of low) (pairs_of digits)
+
+-- The bytes that a word writes.
+abbrev pub bytes_of : List ℕ → Option (List ℕ)
+bytes_of word = if bytes_eq word (codes "-") then Some [] else if length word == 0 then None else pairs_of word
+
+-- The number that the first word writes, and the further words.
+abbrev pub number_field : List (List ℕ) → Option (ℕ × List (List ℕ))
+number_field [] = None
+number_field (word ∷ words) = option_and_then (λ number. Some (number, words)) (number_of word)
+
+-- The bytes that the one word writes.
+abbrev pub bytes_end : List (List ℕ) → Option (List ℕ)
+bytes_end [] = None
+bytes_end (word ∷ []) = bytes_of word
+bytes_end (word ∷ _) = None
+
+-- The value, where no further word stands.
+abbrev pub at_end : {A : Type 0} → A → List (List ℕ) → Option A
+at_end value [] = Some value
+at_end value (word ∷ words) = None
+
+-- The kind of a handle that a word writes.
+abbrev pub handle_kind_of : List ℕ → Option HandleKind
+handle_kind_of word = if bytes_eq word (codes "stream") then Some Stream else None
+
+-- The kind of a buffer that the first word writes, and the further words.
+abbrev pub kind_field : List (List ℕ) → Option (Kind × List (List ℕ))
+kind_field [] = None
+kind_field (word ∷ words) = if bytes_eq word (codes "v") then Some (Vector, words) else None
+
+-- The buffer, where its bounds hold.
+abbrev pub bounded : Buffer → Option Buffer
+bounded b = if nat_le (length b.bytes) b.total && nat_le b.begin b.end && nat_le b.begin (length b.bytes) && nat_le b.end b.total then Some b else None
+
+-- The buffer that words write.
+abbrev pub buffer_of : List (List ℕ) → Option Buffer
+buffer_of words =
+    option_and_then (λ kind. option_and_then (λ total. option_and_then (λ begin. option_and_then (λ end. option_and_then (λ bytes.
+    bounded (record { kind = kind.0; bytes = bytes; total = total.0; begin = begin.0; end = end.0 }))
+    (bytes_end end.1)) (number_field begin.1)) (number_field total.1)) (number_field kind.1)) (kind_field words)
+
+-- The request that the words behind its name write.
+abbrev pub recv_of : List (List ℕ) → Option (Request Buffer)
+recv_of words = option_and_then (λ h. option_map (λ buffer. Recv h.0 buffer) (buffer_of h.1)) (number_field words)
+
+-- The request that words write.
+abbrev pub request_of : List (List ℕ) → Option (Request Buffer)
+request_of [] = None
+request_of (word ∷ words) = if bytes_eq word (codes "recv") then recv_of words else None
+
+-- What an executor tells, by a number, where no further word stands.
+abbrev pub count_of : ℕ × List (List ℕ) → Option Told
+count_of k = if nat_lt k.0 (2 ^ 32) then at_end (Count k.0) k.1 else None
+
+-- What an executor tells, by words.
+abbrev pub told_of : List (List ℕ) → Option Told
+told_of [] = None
+told_of (word ∷ words) = if bytes_eq word (codes "ok") then option_and_then count_of (number_field words) else None
+
+-- The events by the words behind their first one.
+abbrev pub turn_of : List (List ℕ) → Option Event
+turn_of words = at_end Turn words
+
+abbrev pub give_of : List (List ℕ) → Option Event
+give_of [] = None
+give_of (word ∷ words) = option_and_then (λ kind. at_end (Give kind) words) (handle_kind_of word)
+
+abbrev pub feed_of : List (List ℕ) → Option Event
+feed_of words = option_and_then (λ h. option_map (λ bytes. Feed h.0 bytes) (bytes_end h.1)) (number_field words)
+
+abbrev pub submit_of : List (List ℕ) → Option Event
+submit_of words = option_map Submit (request_of words)
+
+abbrev pub poll_of : List (List ℕ) → Option Event
+poll_of words = option_and_then (λ n. option_and_then (λ task. at_end (Poll n.0 task.0) task.1) (number_field n.1)) (number_field words)
+
+abbrev pub exec_of : List (List ℕ) → Option Event
+exec_of words = option_and_then (λ place. option_map (λ told. Exec place.0 told) (told_of place.1)) (number_field words)
+
+-- The event by its first word and those behind it.
+unfoldable pub event_by : List ℕ → List (List ℕ) → Option Event
+event_by word words =
+    if bytes_eq word (codes "turn") then turn_of words
+    else if bytes_eq word (codes "exec") then exec_of words
+    else if bytes_eq word (codes "poll") then poll_of words
+    else if bytes_eq word (codes "feed") then feed_of words
+    else if bytes_eq word (codes "submit") then submit_of words
+    else if bytes_eq word (codes "give") then give_of words
+    else None
+
+-- The event that words write.
+abbrev pub event_of : List (List ℕ) → Option Event
+event_of [] = None
+event_of (word ∷ words) = event_by word words

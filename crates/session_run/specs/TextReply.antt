@@ -1,0 +1,43 @@
+-- The texts of replies.
+use Rattle.std.specs.Prelude.{ℕ, List, [], ◌∷◌, codes, decimal}
+use Rattle.rent_buf.specs.declared.spec.HeldBuf.{HeldBuf}
+use Rattle.rent_buf.specs.declared.spec.HeldBuf.TheVariants.{One}
+use Rattle.ring_core.specs.declared.ledger.Refusal.{Refusal}
+use Rattle.ring_core.specs.declared.ledger.Refusal.TheVariants.{NoOp, NoHandle, Full, NotFlying, BadOutcome}
+use Rattle.ring_core.specs.declared.ledger.Reply.{Reply}
+use Rattle.ring_core.specs.declared.ledger.Reply.TheVariants.{Handle, Fed, Submitted, Pending, Handed, Turned, ExecutedOp, Refused}
+use Rattle.ring_core.specs.declared.request.Outcome.{Outcome}
+use Rattle.ring_core.specs.declared.request.Outcome.TheVariants.{Count}
+use Rattle.session_run.specs.TextEvent.{buffer_words}
+use Rattle.session_run.specs.TextWords.{spaced, numbers_word}
+
+-- The word of a refusal.
+abbrev pub refusal_word : Refusal → List ℕ
+refusal_word NoOp = codes "NoOp"
+refusal_word NoHandle = codes "NoHandle"
+refusal_word Full = codes "Full"
+refusal_word NotFlying = codes "NotFlying"
+refusal_word BadOutcome = codes "BadOutcome"
+
+-- The words of what was handed back.
+abbrev pub held_words : HeldBuf → List (List ℕ)
+held_words (One buffer) = buffer_words buffer
+
+-- The words of an outcome, and of what was handed back with it.
+abbrev pub ready_words : Outcome → HeldBuf → List (List ℕ)
+ready_words (Count k) held = codes "ok" ∷ decimal k ∷ held_words held
+
+-- The words of a reply.
+abbrev pub reply_words : Reply → List (List ℕ)
+reply_words (Handle h) = codes "handle" ∷ decimal h ∷ []
+reply_words Fed = codes "fed" ∷ []
+reply_words (Submitted n) = codes "op" ∷ decimal n ∷ []
+reply_words Pending = codes "pending" ∷ []
+reply_words (Handed outcome held) = codes "ready" ∷ ready_words outcome held
+reply_words (Turned reaped closed woken) = codes "turned" ∷ numbers_word reaped ∷ numbers_word closed ∷ numbers_word woken ∷ []
+reply_words (ExecutedOp n) = codes "executed" ∷ codes "op" ∷ decimal n ∷ []
+reply_words (Refused refusal) = codes "refused" ∷ refusal_word refusal ∷ []
+
+-- The text of a reply.
+abbrev pub reply_text : Reply → List ℕ
+reply_text reply = spaced (reply_words reply)

@@ -1,0 +1,83 @@
+-- What the top call has done, by its status. `top` cites these, and so do the functions that it calls.
+use Rattle.std.specs.Prelude.{ℕ, ◌≡◌, ◌≤◌, ◌<◌, Bool, IsTrue, List, [], ◌∷◌, ◌++◌, length, drop, Option, Some, codes, decimal}
+use Rattle.std.specs.List.{AllZip}
+use Rattle.ring_core.specs.declared.ledger.Event.{Event}
+use Rattle.ring_core.specs.declared.ledger.Reply.{Reply}
+use Rattle.ring_core.specs.Ledger.{empty}
+use Rattle.ring_core.specs.Run.{ledger, replies}
+use Rattle.session_run.specs.declared.session.Session.{Session}
+use Rattle.session_run.specs.declared.top.Kept.{Kept}
+use Rattle.session_run.specs.declared.top.Kept.TheVariants.{Run}
+use Rattle.session_run.specs.Session.{SessionStands}
+use Rattle.session_run.specs.TextEvent.{StandsFor}
+use Rattle.session_run.specs.TextReply.{reply_text}
+use Rattle.session_run.specs.TextLines.{lines, IsFirstWrong}
+use Rattle.session_run.specs.TextWrites.{Starts}
+
+-- The most bytes of input.
+abbrev pub most_input : ℕ
+most_input = 16777216
+
+-- A text and its newline.
+abbrev pub ended : List ℕ → List ℕ
+ended text = text ++ 10 ∷ []
+
+-- The text of each reply and its newline, in order.
+abbrev pub reply_lines : List Reply → List ℕ
+reply_lines [] = []
+reply_lines (reply ∷ more) = ended (reply_text reply) ++ reply_lines more
+
+-- What is written of a wrong line: its number and a newline.
+abbrev pub bad_line_text : ℕ → List ℕ
+bad_line_text n = ended (codes "line " ++ decimal n)
+
+-- The input was read to its end, and its lines stand for these events, one each.
+pub record WasRead (left rest : List ℕ) (events : List Event) : Type 0 where
+  pub to_its_end : rest ≡ []
+  pub stand : AllZip StandsFor (lines left) events
+
+-- A run is done. Where the source tells its bytes they were read to their end, and are the texts of the events; where the sink
+-- tells its bytes the text of each of the machine's replies was written, and nothing else. A session is kept that stands for
+-- the ledger that the events lead to.
+pub record RunDone (tells_source tells_sink : Bool) (capacity : ℕ) (left rest taken now : List ℕ) (kept : Option Kept) : Type 0 where
+  pub events : List Event
+  pub read : IsTrue tells_source → WasRead left rest events
+  pub written : IsTrue tells_sink → now ≡ taken ++ reply_lines (replies (empty capacity) events)
+  pub session : Session
+  pub kept_is : kept ≡ Some (Run session)
+  pub stands : SessionStands session (ledger capacity events)
+
+-- The input was read to its end, and this is the number of its first line that stands for no event.
+pub record IsBadLine (left rest : List ℕ) (n : ℕ) : Type 0 where
+  pub to_its_end : rest ≡ []
+  pub first : IsFirstWrong (lines left) n
+
+-- A line is wrong: its number was written, and nothing else.
+pub record LineRefused (tells_source tells_sink : Bool) (left rest taken now : List ℕ) : Type 0 where
+  pub n : ℕ
+  pub bad : IsTrue tells_source → IsBadLine left rest n
+  pub written : IsTrue tells_sink → now ≡ taken ++ bad_line_text n
+
+-- More bytes were taken than the input may have.
+pub record TookTooMany (left rest : List ℕ) : Type 0 where
+  pub count : ℕ
+  pub many : most_input < count
+  pub there : count ≤ length left
+  pub taken : rest ≡ drop count left
+
+-- A front of a text was written.
+pub record WroteFront (text taken now : List ℕ) : Type 0 where
+  pub front : List ℕ
+  pub starts : Starts front text
+  pub written : now ≡ taken ++ front
+
+-- A text that the program may write: the replies to the events that the lines of the input stand for, or the number of a wrong line.
+pub data IsText (tells_source : Bool) (capacity : ℕ) (left rest : List ℕ) : List ℕ → Type 0 where
+  of_replies : (events : List Event) → (IsTrue tells_source → WasRead left rest events) → IsText tells_source capacity left rest (reply_lines (replies (empty capacity) events))
+  of_bad_line : (n : ℕ) → (IsTrue tells_source → IsBadLine left rest n) → IsText tells_source capacity left rest (bad_line_text n)
+
+-- A front of a text that the program may write was written.
+pub record WroteSome (tells_source tells_sink : Bool) (capacity : ℕ) (left rest taken now : List ℕ) : Type 0 where
+  pub text : List ℕ
+  pub may : IsText tells_source capacity left rest text
+  pub front : IsTrue tells_sink → WroteFront text taken now

@@ -1,0 +1,331 @@
+//! A session: a driver over the ring in memory, and the tokens of its operations.
+ghost use Rattle.std.specs.Prelude.{◌≡◌, ◌<◌, ◌^◌, length, IfOk, None, Some, IsTrue, IsOk, vec_len, vec_capacity};
+ghost use Rattle.rent_buf.specs.Buf.{built};
+ghost use Rattle.ring_core.specs.Lists.{amended};
+ghost use Rattle.ring_core.specs.Request.{named, buffer_of, plain_request};
+ghost use Rattle.ring_core.specs.Ledger.{Ledger, empty};
+ghost use Rattle.ring_core.specs.Run.{ledger, replies};
+ghost use Rattle.ring_core.specs.Headline.{OneReplyEach, RefusedExactly, PendingUntilReaped, HandsBackOwn, FirstPollHands, HandedOnce};
+ghost use Rattle.ring_core.specs.declared.ledger.Event.TheVariants.{Give, Feed, Submit, Poll, Turn, Exec};
+ghost use Rattle.uring_driver.specs.Driver.{holds_all, given_by};
+ghost use Rattle.session_run.specs.Token.{token_at};
+ghost use Rattle.session_run.specs.Session.{SessionStands, SessionAnswers, StepsFor, IsPoll, driver_in};
+ghost use Rattle.session_run.specs.Executed.{reply_to, AnswersRefusal};
+
+use op_slots::slab::MAX_LIVE;
+use rent_buf::{Buf, BufSpec, HeldBuf, OutOfMemory};
+use ring_core::{Event, ExecRefusal, HandleKind, MemRing, Refusal, Reply, Request, Told};
+use std::alloc::{AllocError, Global};
+use thiserror::Error;
+use uring_driver::{Executed, IoUringDriver, Op, PollOp, Submitted};
+
+// No counter of a session passes this number: memory would run out long before.
+const MOST_GIVEN: u64 = 1 << 62;
+
+/// Why a run gave no replies.
+#[derive(Clone, Copy, Debug, PartialEq, Eq, Error)]
+pub enum RunError {
+    /// Memory ran out.
+    #[error("OutOfMemory")]
+    OutOfMemory,
+}
+
+impl From<OutOfMemory> for RunError {
+    fn from(_: OutOfMemory) -> RunError {
+        RunError::OutOfMemory
+    }
+}
+
+impl From<AllocError> for RunError {
+    fn from(_: AllocError) -> RunError {
+        RunError::OutOfMemory
+    }
+}
+
+/// A driver over the ring in memory, which events step. It keeps the token of each operation that isn't handed back, by the
+/// operation's number. (own)
+pub struct Session {
+    driver: IoUringDriver<MemRing, Buf>,
+    tokens: Vec<Option<Op>>,
+}
+
+impl Drop for Session {
+    fn drop(self) {
+        let Session { driver: _, tokens } = self;
+        forget_all(tokens);
+    }
+}
+
+impl Session {
+    /// A session over a ring whose queue holds `capacity` entries.
+    pub fn new(alloc: Global, capacity: u32) -> Result<Session, OutOfMemory>
+        requires { 0 < capacity }
+        ensures { IfOk result (λ session. SessionStands session (empty capacity)) }
+    {
+        let driver = IoUringDriver::new_with_entries(alloc, capacity)?;
+        Ok(Session {
+            driver,
+            tokens: Vec::new(alloc),
+        })
+    }
+
+    /// Its driver.
+    pub fn driver(&self) -> &IoUringDriver<MemRing, Buf>
+        ensures { result.now ≡ driver_in self.now }
+    {
+        &self.driver
+    }
+
+    /// One step of the machine: does what the event says on the driver, and answers what the machine replies. Where memory
+    /// runs out nothing has happened; a poll never answers that.
+    pub fn step(&mut self, event: &Event) -> Result<Reply, OutOfMemory>
+        ensures answers { (L : Ledger) → SessionStands self.old L → StepsFor L event.now self.new result }
+        ensures poll { IsPoll event.now → IsOk result }
+    {
+        match event {
+            Event::Give(kind) => self.give(*kind),
+            Event::Feed(h, bytes) => self.feed(*h, bytes.as_slice()),
+            Event::Submit(request) => self.submit(request),
+            Event::Poll(n, task) => Ok(self.poll(*n, *task)),
+            Event::Turn => self.turn(),
+            Event::Exec(place, told) => self.execute(*place, *told),
+        }
+    }
+
+    /// Runs events from an empty session on: the replies, one for each event, and the session after the last. The memory of
+    /// the replies is taken first.
+    pub fn run(
+        alloc: Global,
+        capacity: u32,
+        events: &[Event],
+    ) -> Result<(Vec<Reply>, Session), RunError>
+        requires capacity { 0 < capacity }
+        requires count { length events.now < 2 ^ 62 }
+        // The replies are the machine's, and the session stands for the ledger that it ends with.
+        ensures replies { IfOk result (λ run. run.0.items ≡ replies (empty capacity) events.now) }
+        ensures stands { IfOk result (λ run. SessionStands run.1 (ledger capacity events.now)) }
+
+        // There is one reply for each event, and it is Refused exactly where the machine names a cause, with that name.
+        ensures one_each { IfOk result (λ run. OneReplyEach events.now run.0.items) }
+        ensures refused { IfOk result (λ run. RefusedExactly capacity events.now run.0.items) }
+
+        // An unrefused poll is Pending exactly until its operation's reap. Else it hands back that operation's own buffer, with
+        // its own outcome; the first poll after the reap does so, and every later one is refused.
+        ensures pending { IfOk result (λ run. PendingUntilReaped capacity events.now run.0.items) }
+        ensures own { IfOk result (λ run. HandsBackOwn capacity events.now run.0.items) }
+        ensures first { IfOk result (λ run. FirstPollHands capacity events.now run.0.items) }
+        ensures once { IfOk result (λ run. HandedOnce events.now run.0.items) }
+    {
+        let mut replies = Vec::with_capacity(alloc, events.len())?;
+        let mut session = Session::new(alloc, capacity)?;
+        for event in events {
+            let reply = session.step(event)?;
+            replies.push_reserved(reply);
+        }
+        Ok((replies, session))
+    }
+
+    // A new handle of the user.
+    fn give(&mut self, kind: HandleKind) -> Result<Reply, OutOfMemory>
+        ensures { (L : Ledger) → SessionStands self.old L → StepsFor L (Give kind) self.new result }
+    {
+        if self.driver.handles() >= MOST_GIVEN {
+            return Err(OutOfMemory);
+        }
+        let fd = self.driver.give(kind)?;
+        Ok(Reply::Handle(fd.number()))
+    }
+
+    // Bytes arrive at a handle.
+    fn feed(&mut self, h: u64, bytes: &[u8]) -> Result<Reply, OutOfMemory>
+        ensures { (L : Ledger) → SessionStands self.old L → StepsFor L (Feed h bytes.now) self.new result }
+    {
+        if !self.driver.user_holds(h) {
+            return Ok(Reply::Refused(Refusal::NoHandle));
+        }
+        match self.driver.feed(h, bytes) {
+            Ok(()) => Ok(Reply::Fed),
+            Err(_) => Err(OutOfMemory),
+        }
+    }
+
+    // A request is submitted, its buffer built of the event's.
+    fn submit(&mut self, request: &Request<BufSpec>) -> Result<Reply, OutOfMemory>
+        ensures { (L : Ledger) → SessionStands self.old L → StepsFor L (Submit request.now) self.new result }
+    {
+        if !self.holds_named(request) {
+            return Ok(Reply::Refused(Refusal::NoHandle));
+        }
+        if self.driver.num_operations() >= MAX_LIVE {
+            return Ok(Reply::Refused(Refusal::Full));
+        }
+        if self.driver.given() >= MOST_GIVEN {
+            return Err(OutOfMemory);
+        }
+        if self.tokens.reserve(1).is_err() {
+            return Err(OutOfMemory);
+        }
+        match build_request(request) {
+            Ok(request) => self.submit_built(request),
+            Err(_) => Err(OutOfMemory),
+        }
+    }
+
+    // The user holds each handle that a request names.
+    fn holds_named(&self, request: &Request<BufSpec>) -> bool
+        ensures { result ≡ holds_all self.now.driver (named request.now) }
+    {
+        match request {
+            Request::Recv { fd, buf: _ } => self.driver.user_holds(fd.number()),
+        }
+    }
+
+    // A request of handles that the user holds is submitted, and its token kept.
+    fn submit_built(&mut self, request: Request<Buf>) -> Result<Reply, OutOfMemory>
+        requires held { IsTrue (holds_all self.old.driver (named request)) }
+        requires counter { given_by self.old.driver < 2 ^ 62 }
+        requires room { vec_len self.old.tokens < vec_capacity self.old.tokens }
+        ensures { (L : Ledger) → SessionStands self.old L → StepsFor L (Submit (plain_request built request)) self.new result }
+    {
+        match self.driver.submit_with(request) {
+            Ok(submitted) => {
+                let op = token_of(submitted);
+                let n = op.number();
+                self.tokens.push_reserved(Some(op));
+                Ok(Reply::Submitted(n))
+            }
+            Err(_) => Err(OutOfMemory),
+        }
+    }
+
+    // An operation is polled for a task.
+    fn poll(&mut self, n: u64, task: u64) -> Reply
+        ensures { (L : Ledger) → SessionStands self.old L → SessionAnswers L (Poll n task) result self.new }
+    {
+        match take_token(&mut self.tokens, n as usize) {
+            None => Reply::Refused(Refusal::NoOp),
+            Some(op) => {
+                if !self.driver.holds(&op) {
+                    op.forget();
+                    return Reply::Refused(Refusal::NoOp);
+                }
+                match self.driver.poll_op(op, task) {
+                    PollOp::Pending(op) => {
+                        put_token(&mut self.tokens, n as usize, op);
+                        Reply::Pending
+                    }
+                    PollOp::Ready(done) => Reply::Handed(done.outcome, held_of(done.request)),
+                }
+            }
+        }
+    }
+
+    // The queue is entered, and what is done is reaped.
+    fn turn(&mut self) -> Result<Reply, OutOfMemory>
+        ensures { (L : Ledger) → SessionStands self.old L → StepsFor L (Turn) self.new result }
+    {
+        let turned = self.driver.submit();
+        match turned.stop {
+            None => Ok(Reply::Turned(turned.reaped, turned.closed, turned.woken)),
+            Some(_) => Err(OutOfMemory),
+        }
+    }
+
+    // What is in flight at a place is executed.
+    fn execute(&mut self, place: usize, told: Told) -> Result<Reply, OutOfMemory>
+        ensures { (L : Ledger) → SessionStands self.old L → StepsFor L (Exec place told) self.new result }
+    {
+        match self.driver.execute(place, told) {
+            Ok(executed) => Ok(executed_reply(executed)),
+            Err(why) => refused_execution(why),
+        }
+    }
+}
+
+// The reply to what was executed.
+fn executed_reply(executed: Executed) -> Reply
+    ensures { result ≡ reply_to executed }
+{
+    match executed {
+        Executed::Op(n) => Reply::ExecutedOp(n),
+    }
+}
+
+// The answer to an execution that was refused.
+fn refused_execution(why: ExecRefusal) -> Result<Reply, OutOfMemory>
+    ensures { AnswersRefusal why result }
+{
+    match why {
+        ExecRefusal::NotFlying => Ok(Reply::Refused(Refusal::NotFlying)),
+        ExecRefusal::BadOutcome => Ok(Reply::Refused(Refusal::BadOutcome)),
+        ExecRefusal::OutOfMemory => Err(OutOfMemory),
+    }
+}
+
+// A request of an event, with its buffer built.
+fn build_request(request: &Request<BufSpec>) -> Result<Request<Buf>, OutOfMemory>
+    ensures plain { IfOk result (λ own. plain_request built own ≡ request.now) }
+    ensures names { IfOk result (λ own. named own ≡ named request.now) }
+{
+    match request {
+        Request::Recv { fd, buf } => {
+            let buf = buf.try_clone()?.build()?;
+            Ok(Request::Recv { fd: *fd, buf })
+        }
+    }
+}
+
+// The token that a submission gave.
+fn token_of(submitted: Submitted) -> Op
+    ensures { submitted ≡ Submitted.Op result }
+{
+    match submitted {
+        Submitted::Op(op) => op,
+    }
+}
+
+// Spends all tokens.
+fn forget_all(mut tokens: Vec<Option<Op>>) {
+    while let Some(token) = tokens.pop() {
+        match token {
+            Some(op) => op.forget(),
+            None => {}
+        }
+    }
+    tokens.destroy_empty();
+}
+
+// Takes the token of a number, where there is one.
+fn take_token(tokens: &mut Vec<Option<Op>>, n: usize) -> Option<Op>
+    ensures value { result ≡ token_at tokens.old.items n }
+    ensures rest { tokens.new.items ≡ amended tokens.old.items n (λ token. None) }
+{
+    if n < tokens.len() {
+        tokens[n].take()
+    } else {
+        None
+    }
+}
+
+// Puts a token back under its number.
+fn put_token(tokens: &mut Vec<Option<Op>>, n: usize, op: Op)
+    ensures { token_at tokens.old.items n ≡ None → tokens.new.items ≡ amended tokens.old.items n (λ token. Some op) }
+{
+    if n < tokens.len() {
+        match tokens[n].replace(op) {
+            Some(old) => old.forget(),
+            None => {}
+        }
+    } else {
+        op.forget();
+    }
+}
+
+// The buffer of a request as plain data.
+fn held_of(request: Request<Buf>) -> HeldBuf
+    ensures { result ≡ buffer_of (plain_request built request) }
+{
+    match request {
+        Request::Recv { fd: _, buf } => HeldBuf::One(buf.into_spec()),
+    }
+}

@@ -1,0 +1,83 @@
+//! The texts of events and of replies: words with one space between them, one text for each value.
+ghost use Rattle.std.specs.Prelude.{◌≡◌, ◌+◌, List, ℕ, IfOk, IfErr};
+ghost use Rattle.std.specs.List.{AllZip};
+ghost use Rattle.ring_core.specs.declared.ledger.Event.{Event};
+ghost use Rattle.session_run.specs.TextEvent.{IsEvent, StandsFor, event_text};
+ghost use Rattle.session_run.specs.TextLines.{lines, IfBadLine, IsFirstWrong};
+ghost use Rattle.session_run.specs.declared.text.LinesError.TheVariants.{OutOfMemory};
+
+mod cut;
+mod hex;
+mod number;
+mod reader;
+#[cfg(test)]
+mod tests;
+mod writer;
+
+use cut::{first_line, line_count};
+pub(crate) use number::{put_number, read_number};
+use reader::event_of_line;
+use rent_buf::OutOfMemory;
+use ring_core::Event;
+use std::alloc::{AllocError, AllocFailed, Global};
+use thiserror::Error;
+pub use writer::{write_event, write_reply};
+
+/// Why lines gave no events.
+#[derive(Clone, Copy, Debug, PartialEq, Eq, Error)]
+pub enum LinesError {
+    /// The line of this number, counted from 1, is the first that is no event's text.
+    #[error("line {0}")]
+    BadLine(u64),
+    /// Memory ran out.
+    #[error("out of memory")]
+    OutOfMemory,
+}
+
+impl From<OutOfMemory> for LinesError {
+    ghost from_gives = { λ _ e. e ≡ OutOfMemory };
+
+    fn from(_: OutOfMemory) -> LinesError {
+        LinesError::OutOfMemory
+    }
+}
+
+impl From<AllocError> for LinesError {
+    ghost from_gives = { λ _ e. e ≡ OutOfMemory };
+
+    fn from(_: AllocError) -> LinesError {
+        LinesError::OutOfMemory
+    }
+}
+
+impl<T: Drop> From<AllocFailed<T>> for LinesError {
+    ghost from_gives = { λ _ e. e ≡ OutOfMemory };
+
+    fn from(_: AllocFailed<T>) -> LinesError {
+        LinesError::OutOfMemory
+    }
+}
+
+/// The events that the lines of a text stand for, one for each line, in order. (own)
+pub fn read_events(alloc: Global, text: &[u8]) -> Result<Vec<Event>, LinesError>
+    ensures events { IfOk result (λ events. AllZip StandsFor (lines text.now) events.items) }
+    ensures bad_line { IfErr result (IfBadLine (IsFirstWrong (lines text.now))) }
+{
+    let mut events = Vec::with_capacity(alloc, line_count(text))?;
+    let mut rest = text;
+    while !rest.is_empty() {
+        let (line, behind) = first_line(rest);
+        match event_of_line(alloc, line)? {
+            Some(event) => events.push(event)?,
+            None => return Err(LinesError::BadLine(events.len() as u64 + 1)),
+        }
+        rest = behind;
+    }
+    Ok(events)
+}
+
+/// No two events have the same text, so a line stands for one event at most. (own)
+pub fn texts_differ()
+    ensures events { (a b : Event) → IsEvent a → IsEvent b → event_text a ≡ event_text b → a ≡ b }
+    ensures lines { (line : List ℕ) (a b : Event) → StandsFor line a → StandsFor line b → a ≡ b }
+{}

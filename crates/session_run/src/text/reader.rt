@@ -1,0 +1,203 @@
+// Reading a line into an event.
+ghost use Rattle.std.specs.Prelude.{◌≡◌, IfOk, MatchOption, Some, None};
+ghost use Rattle.session_run.specs.TextReads.{words, words_behind, event_of, feed_of, submit_of, poll_of, exec_of, give_of, turn_of, request_of, buffer_of, told_of, number_field, bytes_end, kind_field, handle_kind_of};
+
+use crate::text::cut::{first_word, is_word, next_word};
+use crate::text::hex::read_bytes;
+use crate::text::number::read_number;
+use rent_buf::{BufSpec, ByteList, Kind, OutOfMemory};
+use ring_core::{Event, HandleKind, Request, SharedFd, Told};
+use std::alloc::Global;
+
+/// The event that a line stands for.
+#[tactic(auto, unfolding(crate::specs::TextReads::event_by))]
+pub(crate) fn event_of_line(alloc: Global, line: &[u8]) -> Result<Option<Event>, OutOfMemory>
+    ensures { IfOk result (λ event. event ≡ event_of (words line.now)) }
+{
+    let (word, rest) = first_word(line);
+    if is_word(word, b"turn") {
+        return Ok(turn_event(rest));
+    }
+    if is_word(word, b"exec") {
+        return Ok(exec_event(rest));
+    }
+    if is_word(word, b"poll") {
+        return Ok(poll_event(rest));
+    }
+    if is_word(word, b"feed") {
+        return feed_event(alloc, rest);
+    }
+    if is_word(word, b"submit") {
+        return submit_event(alloc, rest);
+    }
+    if is_word(word, b"give") {
+        return Ok(give_event(rest));
+    }
+    Ok(None)
+}
+
+// The events by the words behind their first one.
+
+fn turn_event(rest: &[u8]) -> Option<Event>
+    ensures { result ≡ turn_of (words_behind rest.now) }
+{
+    match next_word(rest) {
+        None => Some(Event::Turn),
+        Some(_) => None,
+    }
+}
+
+fn give_event(rest: &[u8]) -> Option<Event>
+    ensures { result ≡ give_of (words_behind rest.now) }
+{
+    let (word, rest) = next_word(rest)?;
+    let kind = handle_kind(word)?;
+    match next_word(rest) {
+        None => Some(Event::Give(kind)),
+        Some(_) => None,
+    }
+}
+
+fn feed_event(alloc: Global, rest: &[u8]) -> Result<Option<Event>, OutOfMemory>
+    ensures { IfOk result (λ event. event ≡ feed_of (words_behind rest.now)) }
+{
+    let Some((h, rest)) = next_number(rest) else {
+        return Ok(None);
+    };
+    match last_bytes(alloc, rest)? {
+        Some(bytes) => Ok(Some(Event::Feed(h, bytes))),
+        None => Ok(None),
+    }
+}
+
+fn submit_event(alloc: Global, rest: &[u8]) -> Result<Option<Event>, OutOfMemory>
+    ensures { IfOk result (λ event. event ≡ submit_of (words_behind rest.now)) }
+{
+    match read_request(alloc, rest)? {
+        Some(request) => Ok(Some(Event::Submit(request))),
+        None => Ok(None),
+    }
+}
+
+fn poll_event(rest: &[u8]) -> Option<Event>
+    ensures { result ≡ poll_of (words_behind rest.now) }
+{
+    let (n, rest) = next_number(rest)?;
+    let (task, rest) = next_number(rest)?;
+    match next_word(rest) {
+        None => Some(Event::Poll(n, task)),
+        Some(_) => None,
+    }
+}
+
+fn exec_event(rest: &[u8]) -> Option<Event>
+    ensures { result ≡ exec_of (words_behind rest.now) }
+{
+    let (place, rest) = next_number(rest)?;
+    let told = read_told(rest)?;
+    Some(Event::Exec(place as usize, told))
+}
+
+// The parts of an event.
+
+fn read_request(alloc: Global, rest: &[u8]) -> Result<Option<Request<BufSpec>>, OutOfMemory>
+    ensures { IfOk result (λ request. request ≡ request_of (words_behind rest.now)) }
+{
+    let Some((word, rest)) = next_word(rest) else {
+        return Ok(None);
+    };
+    if !is_word(word, b"recv") {
+        return Ok(None);
+    }
+    let Some((h, rest)) = next_number(rest) else {
+        return Ok(None);
+    };
+    match read_buffer(alloc, rest)? {
+        Some(buf) => Ok(Some(Request::Recv {
+            fd: SharedFd::new(h),
+            buf,
+        })),
+        None => Ok(None),
+    }
+}
+
+fn read_buffer(alloc: Global, rest: &[u8]) -> Result<Option<BufSpec>, OutOfMemory>
+    ensures { IfOk result (λ buffer. buffer ≡ buffer_of (words_behind rest.now)) }
+{
+    let Some((kind, rest)) = next_buffer_kind(rest) else {
+        return Ok(None);
+    };
+    let Some((total, rest)) = next_number(rest) else {
+        return Ok(None);
+    };
+    let Some((begin, rest)) = next_number(rest) else {
+        return Ok(None);
+    };
+    let Some((end, rest)) = next_number(rest) else {
+        return Ok(None);
+    };
+    match last_bytes(alloc, rest)? {
+        Some(bytes) => Ok(BufSpec::new(kind, total as usize, begin as usize, end as usize, bytes)),
+        None => Ok(None),
+    }
+}
+
+fn read_told(rest: &[u8]) -> Option<Told>
+    ensures { result ≡ told_of (words_behind rest.now) }
+{
+    let (word, rest) = next_word(rest)?;
+    if !is_word(word, b"ok") {
+        return None;
+    }
+    let (k, rest) = next_number(rest)?;
+    if k > u32::MAX as u64 {
+        return None;
+    }
+    match next_word(rest) {
+        None => Some(Told::Count(k as u32)),
+        Some(_) => None,
+    }
+}
+
+fn handle_kind(word: &[u8]) -> Option<HandleKind>
+    ensures { result ≡ handle_kind_of word.now }
+{
+    if is_word(word, b"stream") {
+        Some(HandleKind::Stream)
+    } else {
+        None
+    }
+}
+
+// The words of a line.
+
+fn next_buffer_kind(rest: &[u8]) -> Option<(Kind, &[u8])>
+    ensures { MatchOption result (kind_field (words_behind rest.now) ≡ None) (λ cut. kind_field (words_behind rest.now) ≡ Some (cut.0, words_behind cut.1.now)) }
+{
+    let (word, rest) = next_word(rest)?;
+    if is_word(word, b"v") {
+        Some((Kind::Vector, rest))
+    } else {
+        None
+    }
+}
+
+fn next_number(rest: &[u8]) -> Option<(u64, &[u8])>
+    ensures { MatchOption result (number_field (words_behind rest.now) ≡ None) (λ cut. number_field (words_behind rest.now) ≡ Some (cut.0, words_behind cut.1.now)) }
+{
+    let (word, rest) = next_word(rest)?;
+    let number = read_number(word)?;
+    Some((number, rest))
+}
+
+fn last_bytes(alloc: Global, rest: &[u8]) -> Result<Option<ByteList>, OutOfMemory>
+    ensures { IfOk result (λ bytes. bytes ≡ bytes_end (words_behind rest.now)) }
+{
+    let Some((word, rest)) = next_word(rest) else {
+        return Ok(None);
+    };
+    match next_word(rest) {
+        None => read_bytes(alloc, word),
+        Some(_) => Ok(None),
+    }
+}

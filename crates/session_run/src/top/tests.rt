@@ -1,0 +1,178 @@
+use super::*;
+use crate::mem_source::{MemSink, MemSource};
+use crate::source::{StdSink, StdSource};
+use rent_buf::{ByteList, NumList};
+use std::test::Fail;
+
+// Runs of the program: a name, the capacity's word, the lines, the status, and the replies, separated by `;`.
+#[rattlefmt::skip]
+const ROWS: [(&str, &str, &str, Status, &str); 12] = [
+    ("one read", "1",
+     "give stream;submit recv 0 v 4 0 4 -;poll 0 7;feed 0 6162;turn;exec 0 ok 2;poll 0 7;turn;poll 0 7;poll 0 7", Status::Done,
+     "handle 0;op 0;pending;fed;turned - - -;executed op 0;pending;turned 0 - 7;ready ok 2 v 4 0 4 6162;refused NoOp;"),
+    ("an empty input", "4", "", Status::Done, ""),
+    ("the capacity 0", "0", "", Status::BadWords, ""),
+    ("a capacity with a leading zero", "04", "", Status::BadWords, ""),
+    ("a capacity past its type", "4294967296", "", Status::BadWords, ""),
+    ("the greatest capacity", "4294967295", "", Status::Done, ""),
+    ("a short read into a vector", "4",
+     "give stream;feed 0 6162;submit recv 0 v 4 0 4 30313233;turn;exec 0 ok 2;turn;poll 0 1", Status::Done,
+     "handle 0;fed;op 0;turned - - -;executed op 0;turned 0 - -;ready ok 2 v 4 0 4 6162;"),
+    ("a read into a range", "4",
+     "give stream;feed 0 6162636465;submit recv 0 v 10 1 8 30313233;turn;exec 0 ok 5;turn;poll 0 1", Status::Done,
+     "handle 0;fed;op 0;turned - - -;executed op 0;turned 0 - -;ready ok 5 v 10 1 8 306162636465;"),
+    ("nothing is there", "4", "submit recv 9 v 1 0 1 -;exec 0 ok 0;poll 0 1", Status::Done,
+     "refused NoHandle;refused NotFlying;refused NoOp;"),
+    ("outcomes that aren't allowed", "4",
+     "give stream;submit recv 0 v 2 0 2 -;turn;feed 0 61;exec 0 ok 2;exec 0 ok 0;exec 0 ok 1", Status::Done,
+     "handle 0;op 0;turned - - -;fed;refused BadOutcome;refused BadOutcome;executed op 0;"),
+    ("an event that isn't built", "4", "drop 0", Status::BadLine, "line 1;"),
+    ("an empty line", "4", "give stream;;", Status::BadLine, "line 2;"),
+];
+
+// The words `run` and another.
+fn run_words(alloc: Global, capacity: &str) -> Result<Vec<String>, AllocError> {
+    let mut words = Vec::new(alloc);
+    words.push(String::from_str(alloc, "run")?)?;
+    words.push(String::from_str(alloc, capacity)?)?;
+    Ok(words)
+}
+
+// Lines from text in which `;` stands for a newline.
+fn lines_of(alloc: Global, text: &str) -> Result<ByteList, AllocError> {
+    let mut bytes = Vec::new(alloc);
+    for byte in text.as_bytes() {
+        bytes.push(if *byte == b';' { b'\n' } else { *byte })?;
+    }
+    Ok(ByteList::from_vec(bytes))
+}
+
+// The numbers of the calls that fail: one, or none.
+fn failing(alloc: Global, call: Option<u64>) -> Result<NumList, AllocError> {
+    let mut calls = Vec::new(alloc);
+    if let Some(call) = call {
+        calls.push(call)?;
+    }
+    Ok(NumList::from_vec(calls))
+}
+
+// Runs the top call over memory, and gives its status and what was written.
+fn run_top<R: Threads + Wait + Net + Clock + Sync>(
+    rt: &R,
+    alloc: Global,
+    words: &[String],
+    source: MemSource,
+    failing_write: Option<u64>,
+) -> Result<(Status, MemSink), AllocError> {
+    let mut source = source;
+    let mut sink = MemSink::new(alloc, failing(alloc, failing_write)?);
+    let mut kept = None;
+    let status = top(rt, alloc, words, &mut source, &mut sink, &mut kept);
+    Ok((status, sink))
+}
+
+#[test]
+fn rows(rt: HostRuntime) -> Result<(), Fail> {
+    for (name, capacity, input, status, output) in ROWS {
+        let words = run_words(rt.alloc(), capacity)?;
+        let source = MemSource::new(lines_of(rt.alloc(), input)?, failing(rt.alloc(), None)?);
+        let (ended, sink) = run_top(&rt, rt.alloc(), words.as_slice(), source, None)?;
+        let wanted = lines_of(rt.alloc(), output)?;
+        assert_eq!(rt; ended, status, "in the row {name:?}");
+        assert_eq!(rt; sink.taken(), wanted.as_slice(), "in the row {name:?}");
+    }
+    Ok(())
+}
+
+// An input, a read that fails, a write that fails, the status, and what was written.
+#[rattlefmt::skip]
+const FAULTS: [(&str, Option<u64>, Option<u64>, Status, &str); 6] = [
+    ("give stream;", Some(0), None, Status::ReadFault, ""),
+    ("give stream;", Some(1), None, Status::ReadFault, ""),
+    ("give stream;", None, Some(0), Status::WriteFault, ""),
+    ("give stream;", None, Some(1), Status::WriteFault, "handle 0;"),
+    ("drop 0;", None, Some(0), Status::WriteFault, ""),
+    ("give stream;submit recv 0 v 18446744073709551615 0 0 -;", None, None, Status::OutOfMemory, ""),
+];
+
+#[test]
+fn faults(rt: HostRuntime) -> Result<(), Fail> {
+    for (input, read, write, status, output) in FAULTS {
+        let words = run_words(rt.alloc(), "4")?;
+        let source = MemSource::new(lines_of(rt.alloc(), input)?, failing(rt.alloc(), read)?);
+        let (ended, sink) = run_top(&rt, rt.alloc(), words.as_slice(), source, write)?;
+        let wanted = lines_of(rt.alloc(), output)?;
+        assert_eq!(rt; ended, status, "for {input:?}");
+        assert_eq!(rt; sink.taken(), wanted.as_slice(), "for {input:?}");
+    }
+    Ok(())
+}
+
+#[test]
+fn an_input_that_is_too_long_is_refused(rt: HostRuntime) -> Result<(), Fail> {
+    let bytes = ByteList::from_vec(vec![in rt.alloc(); b'\n'; 16777217]?);
+    let source = MemSource::new(bytes, failing(rt.alloc(), None)?);
+    let (ended, sink) = run_top(
+        &rt,
+        rt.alloc(),
+        run_words(rt.alloc(), "4")?.as_slice(),
+        source,
+        None,
+    )?;
+    assert_eq!(rt; ended, Status::TooLong);
+    assert_eq!(rt; sink.taken().len(), 0);
+    Ok(())
+}
+
+#[test]
+fn an_input_that_is_cut_ends_well_or_has_a_wrong_line(rt: HostRuntime) -> Result<(), Fail> {
+    let input = lines_of(
+        rt.alloc(),
+        "give stream;feed 0 61;submit recv 0 v 1 0 1 -;turn;exec 0 ok 1;turn;poll 0 2",
+    )?;
+    for count in 0..input.len() {
+        let mut bytes = Vec::new(rt.alloc());
+        for byte in input.as_slice().iter().take(count) {
+            bytes.push(*byte)?;
+        }
+        let source = MemSource::new(ByteList::from_vec(bytes), failing(rt.alloc(), None)?);
+        let (ended, sink) = run_top(
+            &rt,
+            rt.alloc(),
+            run_words(rt.alloc(), "4")?.as_slice(),
+            source,
+            None,
+        )?;
+        let refused = sink.taken().starts_with(b"line ");
+        assert_eq!(rt;
+            ended,
+            if refused {
+                Status::BadLine
+            } else {
+                Status::Done
+            },
+            "cut after {count}"
+        );
+    }
+    Ok(())
+}
+
+#[test]
+fn what_std_reads_and_writes_goes_through(rt: HostRuntime) -> Result<(), Fail> {
+    let input: &[u8] = b"turn\n";
+    let mut source = StdSource::new(input);
+    let mut sink = StdSink::new(Vec::new(rt.alloc()));
+    let mut kept = None;
+    let words = run_words(rt.alloc(), "1")?;
+    let status = top(
+        &rt,
+        rt.alloc(),
+        words.as_slice(),
+        &mut source,
+        &mut sink,
+        &mut kept,
+    );
+    assert_eq!(rt; status, Status::Done);
+    assert_eq!(rt; kept.is_some(), true);
+    Ok(())
+}
