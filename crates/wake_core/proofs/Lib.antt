@@ -1,5 +1,6 @@
 mod NumberLemmas
 mod SafetyLemmas
+mod SendLemmas
 mod SlotLemmas
 mod StepLaws
 mod StepSafety

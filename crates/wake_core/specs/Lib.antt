@@ -1,6 +1,9 @@
+pub mod Locked
+pub mod Remote
 pub mod SenderSlot
 pub mod SenderState
 pub mod SenderTable
+pub mod Sleeping
 pub mod Step
 pub mod Waker
 pub mod WakerList

@@ -1,15 +1,26 @@
-//! The state that the threads of a driver share: wakers that wait, and the stages of senders and sleeper.
+//! The state that the threads of a driver share, its lock, and the senders and the sleeper that work on it.
 #![tactic(auto)]
 
+pub mod cell;
 pub mod fault;
+pub mod gate;
 pub mod law;
+pub(crate) mod locked;
+pub mod park;
+pub mod remote;
 pub mod senders;
 pub mod sleeper;
 pub mod state;
+pub mod unpark;
 pub mod waker;
 
+pub use cell::WakeCell;
 pub use fault::OutOfMemory;
+pub use gate::{Gate, OpenGate};
+pub use park::{SenderError, Settled, Sleeper, Woken};
+pub use remote::RemoteSender;
 pub use senders::SenderStage;
 pub use sleeper::SleeperStage;
 pub use state::{MAX_PUSHED, MAX_SENDERS, WakeState};
+pub use unpark::{Unpark, UnparkError, UnparkHandle};
 pub use waker::{Waker, WakerList};

@@ -193,6 +193,20 @@ impl<P: Ledger, D: Ledger> WakeState<P, D> {
         WakerList::from_vec(queue)
     }
 
+    // Tells what was booked to one who has all shares of both ledgers in hand. Does nothing.
+    pub(crate) fn audit(&mut self, all_pushes: &mut Share<P>, all_drains: &mut Share<D>)
+        requires pushes { all_pushes.old.parts ≡ P.parts }
+        requires drains { all_drains.old.parts ≡ D.parts }
+        ensures state { self.new ≡ self.old }
+        ensures pushes { self.old.pushes ≡ all_pushes.old.amount }
+        ensures drains { self.old.drains ≡ all_drains.old.amount }
+        ensures kept_pushes { (all_pushes.new.parts ≡ all_pushes.old.parts) × (all_pushes.new.amount ≡ all_pushes.old.amount) }
+        ensures kept_drains { (all_drains.new.parts ≡ all_drains.old.parts) × (all_drains.new.amount ≡ all_drains.old.amount) }
+    {
+        self.pushes.audit(all_pushes);
+        self.drains.audit(all_drains);
+    }
+
     /// The first drain of a round: gives out all wakers that wait, as `drain_rest` does, and goes to `First`.
     /// (monoio: receiving from the channel before parking)
     pub fn drain_first(&mut self, share: &mut Share<D>) -> WakerList

@@ -1,0 +1,17 @@
+//! What a sender waits at in the middle of its send.
+use std::sync::Wait;
+use std::time::Clock;
+
+/// A place between a sender's push and its reading of the flag, outside the lock. (own)
+pub trait Gate: Sync {
+    /// Comes back when this sender may read the flag.
+    fn pause<R: Wait + Clock>(&self, rt: &R, sender: u64);
+}
+
+/// The gate that lets each sender pass at once. (own)
+#[derive(Clone, Copy, Debug, PartialEq, Eq)]
+pub struct OpenGate;
+
+impl Gate for OpenGate {
+    fn pause<R: Wait + Clock>(&self, _rt: &R, _sender: u64) {}
+}

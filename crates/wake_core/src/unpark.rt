@@ -1,0 +1,58 @@
+//! Waking the sleeper from another thread.
+ghost use Rattle.std.specs.Prelude.{IsOk};
+
+use crate::cell::Shared;
+use crate::fault::OutOfMemory;
+use std::sync::ledger::Ledger;
+use std::sync::{Arc, Wait};
+use thiserror::Error;
+
+/// Why the sleeper was not told.
+#[derive(Clone, Copy, Debug, PartialEq, Eq, Error)]
+pub enum UnparkError {
+    /// Memory ran out. Nothing was sent.
+    #[error("OutOfMemory")]
+    OutOfMemory,
+}
+
+/// What wakes a sleeper. (monoio: `Unpark`)
+pub trait Unpark {
+    /// Wakes the sleeper where it sleeps or is about to.
+    fn unpark<R: Wait>(&self, rt: &R) -> Result<(), UnparkError>;
+}
+
+impl<U: Unpark> Unpark for Arc<U> {
+    fn unpark<R: Wait>(&self, rt: &R) -> Result<(), UnparkError> {
+        (**self).unpark(rt)
+    }
+}
+
+/// A handle that wakes the sleeper of one cell. (monoio: `UnparkHandle`)
+#[derive(Drop)]
+pub struct UnparkHandle<P: Ledger, D: Ledger> {
+    shared: Arc<Shared<P, D>>,
+}
+
+impl<P: Ledger, D: Ledger> UnparkHandle<P, D> {
+    // The handle of this cell.
+    pub(crate) fn over(shared: Arc<Shared<P, D>>) -> UnparkHandle<P, D> {
+        UnparkHandle { shared }
+    }
+
+    /// Another handle of the same cell. (monoio: `UnparkHandle::clone`)
+    pub fn try_clone(&self) -> Result<UnparkHandle<P, D>, OutOfMemory> {
+        let shared = Arc::try_clone(&self.shared).map_err(|_| OutOfMemory)?;
+        Ok(UnparkHandle { shared })
+    }
+}
+
+impl<P: Ledger, D: Ledger> Unpark for UnparkHandle<P, D> {
+    /// Nudges the state once: the token is set where the flag is false. Takes no memory, and is always Ok.
+    /// (monoio: `UnparkHandle::unpark`)
+    fn unpark<R: Wait>(&self, rt: &R) -> Result<(), UnparkError>
+        ensures { IsOk result }
+    {
+        self.shared.nudge(rt);
+        Ok(())
+    }
+}
