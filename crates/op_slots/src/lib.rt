@@ -4,5 +4,5 @@
 pub mod lifecycle;
 pub mod slab;
 
-pub use lifecycle::{AfterComplete, AfterPoll, Lifecycle};
+pub use lifecycle::{AfterComplete, AfterDrop, AfterPoll, Lifecycle};
 pub use slab::{InsertError, MAX_LIVE, OutOfMemory, Ref, Slab};

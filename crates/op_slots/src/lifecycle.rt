@@ -1,6 +1,6 @@
 // What one operation goes through, from its submission to its result.
 ghost use Rattle.std.specs.Prelude.{◌≡◌};
-ghost use Rattle.op_slots.specs.Lifecycle.{IsCompleted, after_complete, polled, after_poll};
+ghost use Rattle.op_slots.specs.Lifecycle.{IsCompleted, IsIgnored, after_complete, polled, after_poll, dropped, after_drop};
 
 /// Where an operation stands, with `R` for its result. A task is a number that its owner chose.
 ///
@@ -11,6 +11,8 @@ pub enum Lifecycle<R> {
     Submitted,
     /// Submitted, and this task asked last.
     Waiting(u64),
+    /// Its owner dropped it before it completed: nobody will ask for its result.
+    Ignored,
     /// Completed with this result, which nobody has taken.
     Completed(R),
 }
@@ -24,6 +26,8 @@ pub enum AfterComplete {
     Kept,
     /// Wake this task, which waits.
     Wake(u64),
+    /// Free the slot: nobody will ask for the result.
+    Free,
 }
 
 /// What is to be done after a task asked for a result.
@@ -37,10 +41,22 @@ pub enum AfterPoll {
     Take,
 }
 
+/// What is to be done after the owner of an operation dropped it.
+///
+/// (own)
+#[derive(Clone, Copy, Debug, PartialEq, Eq)]
+pub enum AfterDrop {
+    /// Nothing: the slot stays until the operation completes.
+    Left,
+    /// Free the slot: its result was there, and is given up.
+    Free,
+}
+
 impl<R: Drop> Lifecycle<R> {
-    /// Keeps the result of an operation that hasn't completed, and answers which task to wake.
+    /// Keeps the result of an operation that hasn't completed, and answers which task to wake, or that the slot is to be
+    /// freed, since the owner dropped it.
     ///
-    /// Ports monoio's `complete` on a slot, which wakes the task itself.
+    /// Ports monoio's `complete` on a slot, which wakes the task and frees the slot itself.
     pub fn complete(&mut self, r: R) -> AfterComplete
         requires { ¬ IsCompleted self.old }
         ensures state { self.new ≡ Lifecycle.Completed r }
@@ -48,6 +64,7 @@ impl<R: Drop> Lifecycle<R> {
     {
         let answer = match self {
             Lifecycle::Waiting(task) => AfterComplete::Wake(*task),
+            Lifecycle::Ignored => AfterComplete::Free,
             _ => AfterComplete::Kept,
         };
         *self = Lifecycle::Completed(r);
@@ -58,6 +75,7 @@ impl<R: Drop> Lifecycle<R> {
     ///
     /// Ports monoio's `poll_op` on a slot, which takes the result out itself.
     pub fn poll(&mut self, task: u64) -> AfterPoll
+        requires { ¬ IsIgnored self.old }
         ensures state { self.new ≡ polled self.old task }
         ensures answer { result ≡ after_poll self.old }
     {
@@ -66,6 +84,23 @@ impl<R: Drop> Lifecycle<R> {
             _ => {
                 *self = Lifecycle::Waiting(task);
                 AfterPoll::Pending
+            }
+        }
+    }
+
+    /// The owner gives the operation up. Without a result it is ignored from then on; a result is to be freed with its slot.
+    ///
+    /// Ports monoio's `drop_op` on a slot, which frees the slot itself.
+    pub fn drop_owner(&mut self) -> AfterDrop
+        requires { ¬ IsIgnored self.old }
+        ensures state { self.new ≡ dropped self.old }
+        ensures answer { result ≡ after_drop self.old }
+    {
+        match self {
+            Lifecycle::Completed(_) => AfterDrop::Free,
+            _ => {
+                *self = Lifecycle::Ignored;
+                AfterDrop::Left
             }
         }
     }
@@ -83,5 +118,14 @@ mod tests {
         assert_eq!(rt; lifecycle.complete(10), AfterComplete::Wake(7));
         assert_eq!(rt; lifecycle.poll(8), AfterPoll::Take);
         assert!(rt; matches!(lifecycle, Lifecycle::Completed(10)));
+    }
+
+    #[test]
+    fn what_is_dropped_early_is_freed_at_its_completion(rt: HostRuntime) {
+        let mut early: Lifecycle<u64> = Lifecycle::Waiting(7);
+        assert_eq!(rt; early.drop_owner(), AfterDrop::Left);
+        assert_eq!(rt; early.complete(10), AfterComplete::Free);
+        let mut late: Lifecycle<u64> = Lifecycle::Completed(10);
+        assert_eq!(rt; late.drop_owner(), AfterDrop::Free);
     }
 }

@@ -1,7 +1,7 @@
 -- A buffer as a value, and what storing bytes in it makes of it. Each crate that moves bytes cites it.
-use Rattle.std.specs.Prelude.{ℕ, ◌+◌, ◌-◌, ◌≤◌, List, ◌++◌, length, take, drop, min}
+use Rattle.std.specs.Prelude.{ℕ, ◌≡◌, ◌+◌, ◌-◌, ◌≤◌, List, ◌++◌, length, take, drop, min}
 use Rattle.rent_buf.specs.declared.spec.Kind.{Kind}
-use Rattle.rent_buf.specs.declared.spec.Kind.TheVariants.{Vector}
+use Rattle.rent_buf.specs.declared.spec.Kind.TheVariants.{Vector, Grown, Fixed}
 
 -- A buffer is its kind, its bytes, a total and a range.
 pub record Buffer : Type 0 where
@@ -11,9 +11,11 @@ pub record Buffer : Type 0 where
   pub begin : ℕ
   pub end : ℕ
 
--- How many bytes a kind always has: a Vector is bound to no number.
+-- How many bytes a kind always has: a Fixed one is as long as its total, the others are bound to no number.
 abbrev pub IsFull : Kind → List ℕ → ℕ → Type 0
 IsFull Vector bytes total = Unit {0}
+IsFull Grown bytes total = Unit {0}
+IsFull Fixed bytes total = length bytes ≡ total
 
 -- The bounds that every buffer keeps.
 pub record BufferBounds (b : Buffer) : Type 0 where
@@ -22,6 +24,10 @@ pub record BufferBounds (b : Buffer) : Type 0 where
   pub within : b.begin ≤ length b.bytes
   pub inside : b.end ≤ b.total
   pub full : IsFull b.kind b.bytes b.total
+
+-- A buffer of a kind whose range is its whole total.
+abbrev pub whole_of : Kind → List ℕ → ℕ → Buffer
+whole_of kind bytes total = record { kind = kind; bytes = bytes; total = total; begin = 0; end = total }
 
 -- How many bytes the range has room for.
 abbrev pub room : Buffer → ℕ
@@ -39,9 +45,11 @@ want_of b = min (room b) most_asked
 abbrev pub shown : Buffer → List ℕ
 shown b = drop b.begin (take b.end b.bytes)
 
--- The bytes of a buffer of a kind after s was stored from a place on: a Vector keeps what stood before, then has s.
+-- The bytes of a buffer of a kind after s was stored from a place on: each keeps what stood before, then has s. A Vector ends there. The others keep what stood behind.
 abbrev pub written : Kind → List ℕ → ℕ → List ℕ → List ℕ
 written Vector bytes at s = take at bytes ++ s
+written Grown bytes at s = take at bytes ++ s ++ drop (at + length s) bytes
+written Fixed bytes at s = take at bytes ++ s ++ drop (at + length s) bytes
 
 -- A buffer with s standing from a place on. Its total and its range stay.
 abbrev pub put : Buffer → ℕ → List ℕ → Buffer

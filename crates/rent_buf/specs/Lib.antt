@@ -1,5 +1,8 @@
 pub mod Buf
 pub mod Buffer
+pub mod Fixed
+pub mod Grow
 pub mod Lends
 pub mod Rent
+pub mod Slice
 pub mod SliceMut

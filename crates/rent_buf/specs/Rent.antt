@@ -1,16 +1,16 @@
 -- A vector with a stated total, as a value and as a buffer.
 use Rattle.std.specs.Prelude.{ℕ, List}
-use Rattle.rent_buf.specs.Buffer.{Buffer, overwritten}
+use Rattle.rent_buf.specs.Buffer.{Buffer, whole_of, overwritten}
 use Rattle.rent_buf.specs.declared.spec.Kind.TheVariants.{Vector}
 
--- A rent is its bytes and its total.
+-- A vector with a stated total is its bytes and its total.
 pub record Rented : Type 0 where
   pub bytes : List ℕ
   pub total : ℕ
 
 -- A rent is a Vector whose range is the whole total.
 abbrev pub buffer_of_rent : Rented → Buffer
-buffer_of_rent r = record { kind = Vector; bytes = r.bytes; total = r.total; begin = 0; end = r.total }
+buffer_of_rent r = whole_of Vector r.bytes r.total
 
 -- A rent with w in place of as many of its bytes from a place on.
 abbrev pub with_bytes_of_rent : Rented → ℕ → List ℕ → Rented

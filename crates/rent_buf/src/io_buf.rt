@@ -1,13 +1,19 @@
 // What a buffer is to code that reads it, and to code that fills it.
 ghost use Rattle.std.specs.Prelude.{◌≡◌, ◌+◌, ◌≤◌, ◌↔◌, List, ℕ, length, slice_range, IsTrue};
+ghost use Rattle.std.specs.Arc.{arc_value};
 ghost use Rattle.std.specs.Borrow.{Lends, Array, sem, u8 as byte};
 ghost use Rattle.rent_buf.specs.Buffer.{Buffer, BufferBounds, IsRange, room, shown, put, overwritten};
+ghost use Rattle.rent_buf.specs.Slice.{IsWithin};
 ghost use Rattle.rent_buf.specs.SliceMut.{sliced};
 
-use crate::slice::SliceMut;
+use crate::slice::{Slice, SliceMut};
+use bytes::{Bytes, BytesMut};
+use std::marker::Model;
+use std::rc::Rc;
+use std::sync::Arc;
 
 /// A buffer whose initialised bytes can be read (`IoBuf` of the Rust). No call takes memory.
-pub trait IoBuf {
+pub trait IoBuf: Sized {
     /// The initialised bytes.
     ghost content: { Self → List ℕ };
 
@@ -18,6 +24,30 @@ pub trait IoBuf {
     /// The number of the initialised bytes (`bytes_init` of the Rust).
     fn bytes_init(&self) -> usize
         ensures { result ≡ length (content self.now) };
+
+    /// The initialised bytes from `begin` to `end` as a buffer (`slice` of the Rust).
+    final fn slice(self, begin: usize, end: usize) -> Slice<Self>
+        requires { IsWithin (content self) begin end }
+        ensures { result ≡ record { inner = self; begin = begin; end = end } }
+    {
+        Slice::new(self, begin, end)
+    }
+
+    /// The initialised bytes from `begin` to `end` as a buffer (`slice_unchecked` of the Rust),
+    /// with the condition of `slice`.
+    final fn slice_unchecked(self, begin: usize, end: usize) -> Slice<Self>
+        requires { IsWithin (content self) begin end }
+        ensures { result ≡ record { inner = self; begin = begin; end = end } }
+    {
+        Slice::new_unchecked(self, begin, end)
+    }
+
+    /// Whether `slice` may be called so (own): `begin <= end` and `end <= bytes_init()`.
+    final fn slice_fits(&self, begin: usize, end: usize) -> bool
+        ensures { IsTrue result ↔ IsWithin (content self.now) begin end }
+    {
+        begin <= end && end <= self.bytes_init()
+    }
 }
 
 /// A buffer that can be filled (`IoBufMut` of the Rust). No call takes memory.
@@ -25,7 +55,7 @@ pub trait IoBuf {
 /// A contract sees a buffer of any type as a value, `buffer`, and the ranges of the buffers that
 /// it was cut from, `under`, the outermost first. So what generic code did to a slice is known of
 /// the buffer that comes out of it.
-pub trait IoBufMut: IoBuf + Sized {
+pub trait IoBufMut: IoBuf {
     /// The buffer as a value.
     ghost buffer: { Self → Buffer };
 
@@ -102,4 +132,139 @@ pub trait IoBufMut: IoBuf + Sized {
 
     /// Other bytes leave the ranges under the buffer.
     ghost with_bytes_under: { (b : Self) (at : ℕ) (w : List ℕ) → under (with_bytes b at w) ≡ under b };
+}
+
+/// Bytes that last as long as the program (own; the Rust takes a `&'static [u8]` itself).
+#[derive(Debug, Drop)]
+pub struct StaticBytes {
+    bytes: &'static [u8],
+}
+
+impl Model for StaticBytes {
+    ghost use Rattle.std.specs.Prelude.{List, ℕ};
+
+    ghost Value = { List ℕ };
+
+    ghost view = { λ s. s.bytes.now };
+}
+
+impl StaticBytes {
+    /// These bytes as a buffer (own).
+    pub fn new(b: &'static [u8]) -> StaticBytes
+        ensures { result ≡ b.now }
+    {
+        StaticBytes { bytes: b }
+    }
+}
+
+impl IoBuf for StaticBytes {
+    ghost content = { λ s. s };
+
+    fn bytes(&self) -> &[u8] {
+        self.bytes
+    }
+
+    fn bytes_init(&self) -> usize {
+        self.bytes.len()
+    }
+}
+
+/// A text that lasts as long as the program, as its bytes (own; the Rust takes a `&'static str`
+/// itself).
+#[derive(Debug, Drop)]
+pub struct StaticStr {
+    text: &'static str,
+}
+
+impl Model for StaticStr {
+    ghost use Rattle.std.specs.Prelude.{List, ℕ};
+
+    ghost Value = { List ℕ };
+
+    ghost view = { λ s. s.text.now };
+}
+
+impl StaticStr {
+    /// The bytes of this text as a buffer (own).
+    pub fn new(s: &'static str) -> StaticStr
+        ensures { result ≡ s.now }
+    {
+        StaticStr { text: s }
+    }
+}
+
+impl IoBuf for StaticStr {
+    ghost content = { λ s. s };
+
+    fn bytes(&self) -> &[u8] {
+        self.text.as_bytes()
+    }
+
+    fn bytes_init(&self) -> usize {
+        self.text.len()
+    }
+}
+
+impl IoBuf for Vec<u8> {
+    ghost content = { λ v. v.items };
+
+    fn bytes(&self) -> &[u8] {
+        self.as_slice()
+    }
+
+    fn bytes_init(&self) -> usize {
+        self.len()
+    }
+}
+
+impl IoBuf for Bytes {
+    ghost content = { λ b. b };
+
+    fn bytes(&self) -> &[u8] {
+        self.as_slice()
+    }
+
+    fn bytes_init(&self) -> usize {
+        self.len()
+    }
+}
+
+impl IoBuf for BytesMut {
+    ghost content = { λ b. b.items };
+
+    fn bytes(&self) -> &[u8] {
+        self.as_slice()
+    }
+
+    fn bytes_init(&self) -> usize {
+        self.len()
+    }
+}
+
+impl<T: IoBuf> IoBuf for Rc<T> {
+    ghost content = { λ rc. T.content rc.value };
+
+    fn bytes(&self) -> &[u8] {
+        let inner: &T = self;
+        inner.bytes()
+    }
+
+    fn bytes_init(&self) -> usize {
+        let inner: &T = self;
+        inner.bytes_init()
+    }
+}
+
+impl<T: IoBuf> IoBuf for Arc<T> {
+    ghost content = { λ arc. T.content (arc_value arc) };
+
+    fn bytes(&self) -> &[u8] {
+        let inner: &T = self;
+        inner.bytes()
+    }
+
+    fn bytes_init(&self) -> usize {
+        let inner: &T = self;
+        inner.bytes_init()
+    }
 }

@@ -1,11 +1,96 @@
 // A range of a buffer, as a buffer.
-ghost use Rattle.std.specs.Prelude.{◌≡◌, ◌+◌, refl, drop};
+ghost use Rattle.std.specs.Prelude.{◌≡◌, ◌+◌, refl, drop, slice_range};
 ghost use Rattle.std.specs.Borrow.{sem};
 ghost use Rattle.rent_buf.specs.Buffer.{IsRange, shown};
+ghost use Rattle.rent_buf.specs.Slice.{IsWithin};
 ghost use Rattle.rent_buf.specs.SliceMut.{sliced, whole, with_range};
 
 use crate::io_buf::{IoBuf, IoBufMut};
 use std::marker::Model;
+
+/// A range of a buffer's initialised bytes (`Slice` of the Rust). A contract sees it as the buffer
+/// inside, and where its range begins and ends, `Cut`.
+#[derive(Drop)]
+pub struct Slice<T: IoBuf> {
+    buf: T,
+    begin: usize,
+    end: usize,
+}
+
+impl<T: IoBuf> Model for Slice<T> {
+    ghost use Rattle.rent_buf.specs.Slice.{Cut, IsWithin};
+
+    ghost Value = { Cut T };
+
+    ghost view = { λ s. record { inner = s.buf; begin = s.begin; end = s.end } };
+
+    ghost invariant = { λ s. IsWithin (T.content s.buf) s.begin s.end };
+}
+
+impl<T: IoBuf> Slice<T> {
+    /// The initialised bytes of a buffer from `begin` to `end` (`new` of the Rust).
+    pub fn new(buf: T, begin: usize, end: usize) -> Slice<T>
+        requires { IsWithin (T.content buf) begin end }
+        ensures { result ≡ record { inner = buf; begin = begin; end = end } }
+    {
+        Slice { buf, begin, end }
+    }
+
+    /// The initialised bytes of a buffer from `begin` to `end` (`new_unchecked` of the Rust), with
+    /// the condition of `new`.
+    pub fn new_unchecked(buf: T, begin: usize, end: usize) -> Slice<T>
+        requires { IsWithin (T.content buf) begin end }
+        ensures { result ≡ record { inner = buf; begin = begin; end = end } }
+    {
+        Slice::new(buf, begin, end)
+    }
+
+    /// Where the range begins (`begin` of the Rust).
+    pub fn begin(&self) -> usize
+        ensures { result ≡ self.now.begin }
+    {
+        self.begin
+    }
+
+    /// Where the range ends (`end` of the Rust).
+    pub fn end(&self) -> usize
+        ensures { result ≡ self.now.end }
+    {
+        self.end
+    }
+
+    /// The buffer inside (`get_ref` of the Rust).
+    pub fn get_ref(&self) -> &T
+        ensures { result.now ≡ self.now.inner }
+    {
+        &self.buf
+    }
+
+    /// The buffer inside (`into_inner` of the Rust).
+    pub fn into_inner(self) -> T
+        ensures { result ≡ self.inner }
+    {
+        let Slice {
+            buf,
+            begin: _,
+            end: _,
+        } = self;
+        buf
+    }
+}
+
+impl<T: IoBuf> IoBuf for Slice<T> {
+    ghost content = { λ s. slice_range (T.content s.inner) s.begin s.end };
+
+    fn bytes(&self) -> &[u8] {
+        let all = self.buf.bytes();
+        &all[self.begin..self.end]
+    }
+
+    fn bytes_init(&self) -> usize {
+        self.end - self.begin
+    }
+}
 
 /// A range of a buffer that can be filled (`SliceMut` of the Rust). It shows the initialised bytes
 /// from `begin` to the lesser of `end` and the buffer's `bytes_init`, and has room to `end`. A

@@ -1,9 +1,12 @@
 // A buffer as plain data, and the buffer that is built of it.
-ghost use Rattle.std.specs.Prelude.{◌≡◌, ◌↔◌, refl, IfOk, IfSome, IsSome};
-ghost use Rattle.rent_buf.specs.Buffer.{BufferBounds};
+ghost use Rattle.std.specs.Prelude.{◌≡◌, ◌+◌, ◌↔◌, refl, IfOk, IfSome, IsSome, IsTrue};
+ghost use Rattle.rent_buf.specs.Buffer.{BufferBounds, IsFull};
+ghost use Rattle.rent_buf.specs.SliceMut.{whole};
 ghost use Rattle.rent_buf.specs.Buf.{built, content_of, under_of, with_bytes_of};
 
 use crate::fault::OutOfMemory;
+use crate::fixed::FixedVec;
+use crate::grow::Grow;
 use crate::io_buf::{IoBuf, IoBufMut};
 use crate::lists::ByteList;
 use crate::rent::Rent;
@@ -15,6 +18,23 @@ use std::marker::Model;
 pub enum Kind {
     /// A vector with a stated total: after a store the stored bytes are its last.
     Vector,
+    /// A vector with a stated total: after a store the longer tail is kept.
+    Grown,
+    /// Bytes of a fixed number, which is the total.
+    Fixed,
+}
+
+impl Kind {
+    // Whether a buffer of this kind and total may have these bytes.
+    fn allows(self, bytes: &[u8], total: usize) -> bool
+        ensures { IsTrue result ↔ IsFull self bytes.now total }
+    {
+        match self {
+            Kind::Vector => true,
+            Kind::Grown => true,
+            Kind::Fixed => bytes.len() == total,
+        }
+    }
 }
 
 /// A buffer as plain data (own): its kind, its bytes, its total and its range.
@@ -41,7 +61,8 @@ impl Model for BufSpec {
 
 impl BufSpec {
     /// The buffer of this kind, total, range and bytes (own). `None` comes exactly where a bound
-    /// fails: `bytes.len() <= total`, `begin <= end`, `begin <= bytes.len()` and `end <= total`.
+    /// fails: `bytes.len() <= total`, `begin <= end`, `begin <= bytes.len()` and `end <= total`, and
+    /// for `Kind::Fixed` `bytes.len() == total`.
     pub fn new(
         kind: Kind,
         total: usize,
@@ -53,7 +74,8 @@ impl BufSpec {
         ensures exact { IsSome result ↔ BufferBounds (record { kind = kind; bytes = bytes; total = total; begin = begin; end = end }) }
     {
         let count = bytes.len();
-        if count <= total && begin <= end && begin <= count && end <= total {
+        let is_full = kind.allows(bytes.as_slice(), total);
+        if count <= total && begin <= end && begin <= count && end <= total && is_full {
             Some(BufSpec {
                 kind,
                 total,
@@ -134,6 +156,14 @@ impl BufSpec {
                 Ok(rent) => Ok(Buf::Vector(SliceMut::new(rent, begin, end))),
                 Err(_) => Err(OutOfMemory),
             },
+            Kind::Grown => match Grow::from_vec(bytes.into_vec(), total) {
+                Ok(grow) => Ok(Buf::Grown(SliceMut::new(grow, begin, end))),
+                Err(_) => Err(OutOfMemory),
+            },
+            Kind::Fixed => {
+                let fixed = FixedVec::from_vec(bytes.into_vec());
+                Ok(Buf::Fixed(SliceMut::new(fixed, begin, end)))
+            }
         }
     }
 }
@@ -143,6 +173,10 @@ impl BufSpec {
 pub enum Buf {
     /// A range of a vector with a stated total.
     Vector(SliceMut<Rent>),
+    /// A range of a vector with a stated total that keeps its longer tail.
+    Grown(SliceMut<Grow>),
+    /// A range of a vector of fixed length.
+    Fixed(SliceMut<FixedVec>),
 }
 
 impl Buf {
@@ -151,20 +185,66 @@ impl Buf {
         ensures { result ≡ built self }
     {
         match self {
-            Buf::Vector(slice) => {
-                let _ = slice.bytes_total();
-                let (begin, end) = (slice.begin(), slice.end());
-                let rent = slice.into_inner();
-                let total = rent.bytes_total();
-                BufSpec {
-                    kind: Kind::Vector,
-                    total,
-                    begin,
-                    end,
-                    bytes: ByteList::from_vec(rent.into_vec()),
-                }
-            }
+            Buf::Vector(slice) => spec_of_rent(slice),
+            Buf::Grown(slice) => spec_of_grow(slice),
+            Buf::Fixed(slice) => spec_of_fixed(slice),
         }
+    }
+}
+
+// The buffer inside a range, and where the range begins and ends.
+fn taken_apart<T: IoBufMut>(slice: SliceMut<T>) -> (T, usize, usize)
+    ensures inside { T.buffer result.0 ≡ whole slice.buffer slice.under }
+    ensures begin { (whole slice.buffer slice.under).begin + result.1 ≡ slice.buffer.begin }
+    ensures end { (whole slice.buffer slice.under).begin + result.2 ≡ slice.buffer.end }
+    ensures bounds { BufferBounds slice.buffer }
+{
+    let _ = slice.bytes_total();
+    let (begin, end) = (slice.begin(), slice.end());
+    (slice.into_inner(), begin, end)
+}
+
+// The plain data of a range of each kind.
+
+fn spec_of_rent(slice: SliceMut<Rent>) -> BufSpec
+    ensures { result ≡ slice.buffer }
+{
+    let (rent, begin, end) = taken_apart(slice);
+    let total = rent.bytes_total();
+    BufSpec {
+        kind: Kind::Vector,
+        total,
+        begin,
+        end,
+        bytes: ByteList::from_vec(rent.into_vec()),
+    }
+}
+
+fn spec_of_grow(slice: SliceMut<Grow>) -> BufSpec
+    ensures { result ≡ slice.buffer }
+{
+    let (grow, begin, end) = taken_apart(slice);
+    let total = grow.bytes_total();
+    BufSpec {
+        kind: Kind::Grown,
+        total,
+        begin,
+        end,
+        bytes: ByteList::from_vec(grow.into_vec()),
+    }
+}
+
+fn spec_of_fixed(slice: SliceMut<FixedVec>) -> BufSpec
+    ensures { result ≡ slice.buffer }
+{
+    let (fixed, begin, end) = taken_apart(slice);
+    let total = fixed.bytes_total();
+    BufSpec {
+        kind: Kind::Fixed,
+        total,
+        begin,
+        end,
+        bytes: ByteList::from_vec(fixed.into_vec()),
     }
 }
 
@@ -174,18 +254,22 @@ impl IoBuf for Buf {
     fn bytes(&self) -> &[u8] {
         match self {
             Buf::Vector(slice) => slice.bytes(),
+            Buf::Grown(slice) => slice.bytes(),
+            Buf::Fixed(slice) => slice.bytes(),
         }
     }
 
     fn bytes_init(&self) -> usize {
         match self {
             Buf::Vector(slice) => slice.bytes_init(),
+            Buf::Grown(slice) => slice.bytes_init(),
+            Buf::Fixed(slice) => slice.bytes_init(),
         }
     }
 }
 
 impl IoBufMut for Buf {
-    ghost use Rattle.rent_buf.specs.declared.spec.Buf.TheVariants.{Vector};
+    ghost use Rattle.rent_buf.specs.declared.spec.Buf.TheVariants.{Vector, Grown, Fixed};
 
     ghost buffer = { built };
 
@@ -196,24 +280,30 @@ impl IoBufMut for Buf {
     fn bytes_total(&self) -> usize {
         match self {
             Buf::Vector(slice) => slice.bytes_total(),
+            Buf::Grown(slice) => slice.bytes_total(),
+            Buf::Fixed(slice) => slice.bytes_total(),
         }
     }
 
     fn store(&mut self, at: usize, bytes: &[u8]) {
         match self {
             Buf::Vector(slice) => slice.store(at, bytes),
+            Buf::Grown(slice) => slice.store(at, bytes),
+            Buf::Fixed(slice) => slice.store(at, bytes),
         }
     }
 
     fn range_mut(&mut self, begin: usize, end: usize) -> &mut [u8] {
         match self {
             Buf::Vector(slice) => slice.range_mut(begin, end),
+            Buf::Grown(slice) => slice.range_mut(begin, end),
+            Buf::Fixed(slice) => slice.range_mut(begin, end),
         }
     }
 
-    ghost with_bytes_buffer = { elim [ Vector slice ↦ λ at w. refl ] };
+    ghost with_bytes_buffer = { elim [ Vector slice ↦ λ at w. refl | Grown slice ↦ λ at w. refl | Fixed slice ↦ λ at w. refl ] };
 
-    ghost with_bytes_under = { elim [ Vector slice ↦ λ at w. refl ] };
+    ghost with_bytes_under = { elim [ Vector slice ↦ λ at w. refl | Grown slice ↦ λ at w. refl | Fixed slice ↦ λ at w. refl ] };
 }
 
 /// A buffer that is handed back (own).

@@ -5,6 +5,9 @@ ghost use Rattle.rent_buf.specs.Buffer.{IsRange, shown, put, overwritten};
 use super::*;
 use std::alloc::Global;
 
+mod kinds;
+mod readers;
+
 // Fills a range of a buffer as a buffer of its own, and gives the buffer back.
 fn fill_range<B: IoBufMut>(buf: B, begin: usize, end: usize, bytes: &[u8]) -> B
     requires range { IsRange (B.buffer buf) begin end }

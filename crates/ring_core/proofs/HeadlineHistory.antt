@@ -1,25 +1,21 @@
--- What happened to an operation before the event at k, and that one more event passes it on.
-use Rattle.std.proofs.Common.{◌≡◌, inl, inr, ℕ, suc, ◌<◌, List, Option, Some, None, option_map, slice_get, sym, ◌∙◌, ap, subst, arith}
+-- One more event passes the history of an operation on.
+use Rattle.std.proofs.Common.{◌≡◌, inl, inr, ℕ, suc, Bool, true, false, List, Option, Some, None, option_map, slice_get, refl, sym, ◌∙◌, ap, subst, arith}
 use Rattle.rent_buf.specs.Buffer.{Buffer}
 use Rattle.rent_buf.specs.declared.spec.HeldBuf.{HeldBuf}
 use Rattle.ring_core.specs.declared.request.Request.{Request}
-use Rattle.ring_core.specs.declared.request.Told.{Told}
 use Rattle.ring_core.specs.declared.request.Outcome.{Outcome}
 use Rattle.ring_core.specs.declared.ledger.Event.{Event}
-use Rattle.ring_core.specs.declared.ledger.Event.TheVariants.{Submit, Poll, Turn}
+use Rattle.ring_core.specs.declared.ledger.Event.TheVariants.{Turn}
 use Rattle.ring_core.specs.declared.ledger.Reply.{Reply}
-use Rattle.ring_core.specs.declared.ledger.Reply.TheVariants.{Submitted, Handed, ExecutedOp}
-use Rattle.ring_core.specs.Ledger.{Operation, Place, InQueue, InFlight, InDone, Reaped, Gone, empty}
-use Rattle.ring_core.specs.Turn.{reaped_place, with_reap}
-use Rattle.ring_core.specs.Run.{replies, IsGiven, IsExecuted, IsFirstTurn, IsOwn}
-use Rattle.ring_core.specs.Headline.{IsHanded, IsHandedBefore}
+use Rattle.ring_core.specs.declared.ledger.Reply.TheVariants.{ExecutedOp}
+use Rattle.ring_core.specs.Ledger.{Operation, Place, InQueue, InFlight, InDone, Reaped, Gone, empty, is_kept}
+use Rattle.ring_core.specs.Run.{replies, IsGiven}
+use Rattle.ring_core.specs.Headline.{IsReapedBefore, IsHandedBefore, IsDroppedBefore}
 use Rattle.ring_core.proofs.HeadlineLists.{same-or-not, below-or-not}
-use Rattle.ring_core.proofs.HeadlineTaking.{taken_place, with_take}
+use Rattle.ring_core.proofs.HeadlineTaking.{taken_place, with_take, Took}
+use Rattle.ring_core.proofs.HeadlineReaping.{place_after, ended_place, with_end}
 use Rattle.ring_core.proofs.HeadlineReplies.{executed-reply}
-
--- Nothing before k is so.
-abbrev pub NotBefore : (ℕ → Type 0) → ℕ → Type 0
-NotBefore P k = (j : ℕ) → j < k → P j → ⊥
+use Rattle.ring_core.proofs.HeadlineMoments.{NotBefore, Executes, Hands, Drops, Given, Stands, WasReaped, reaped-before, Placed, Owned, Unknown, History, IsCalm}
 
 -- What wasn't before k, and isn't at k, wasn't before the next.
 pub not-before-next : (P : ℕ → Type 0) (k : ℕ) → (P k → ⊥) → NotBefore P k → NotBefore P (suc k)
@@ -28,66 +24,20 @@ not-before-next P k here before = λ j lt p. elim (same-or-not j k) [
   | inr e ↦ before j (omega arith) p
 ]
 
--- The event at j executes n.
-abbrev pub Executes : ℕ → List Event → ℕ → ℕ → Type 0
-Executes capacity events n j = (told : Told) × IsExecuted capacity events n j told
-
--- The event at j hands n over.
-abbrev pub Hands : ℕ → List Event → ℕ → ℕ → Type 0
-Hands capacity events n j = IsHanded events (replies (empty capacity) events) n j
-
--- n was given before k, with this request.
-pub record Given (capacity : ℕ) (events : List Event) (k n : ℕ) (request : Request Buffer) : Type 0 where
-  pub at : ℕ
-  pub before : at < k
-  pub event : slice_get events at ≡ Some (Submit request)
-  pub reply : slice_get (replies (empty capacity) events) at ≡ Some (Submitted n)
-
--- n was executed before k, and no Turn came since.
-pub record Stands (capacity : ℕ) (events : List Event) (k n : ℕ) (outcome : Outcome) (buffer : HeldBuf) : Type 0 where
-  pub own : IsOwn capacity events n outcome buffer
-  pub given_first : own.given < own.exec
-  pub before : own.exec < k
-  pub no_turn : (t : ℕ) → own.exec < t → t < k → slice_get events t ≡ Some Turn → ⊥
-
--- n was executed, and the first Turn after it came before k.
-pub record WasReaped (capacity : ℕ) (events : List Event) (k n : ℕ) (outcome : Outcome) (buffer : HeldBuf) : Type 0 where
-  pub own : IsOwn capacity events n outcome buffer
-  pub given_first : own.given < own.exec
-  pub turn : ℕ
-  pub first : IsFirstTurn events own.exec turn
-  pub before : turn < k
-
--- What happened to an operation that is at a place.
-abbrev pub Placed : ℕ → List Event → ℕ → ℕ → HeldBuf → Place → Type 0
-Placed capacity events k n buffer InQueue = NotBefore (Executes capacity events n) k × NotBefore (Hands capacity events n) k
-Placed capacity events k n buffer InFlight = NotBefore (Executes capacity events n) k × NotBefore (Hands capacity events n) k
-Placed capacity events k n buffer (InDone outcome) = Stands capacity events k n outcome buffer × NotBefore (Hands capacity events n) k
-Placed capacity events k n buffer (Reaped outcome) = WasReaped capacity events k n outcome buffer × NotBefore (Hands capacity events n) k
-Placed capacity events k n buffer Gone = IsHandedBefore events (replies (empty capacity) events) n k
-
--- What happened to what has the number n; a number that wasn't given has no history.
-abbrev pub History : ℕ → List Event → ℕ → ℕ → Option Operation → Type 0
-History capacity events k n None = NotBefore (Executes capacity events n) k × NotBefore (IsGiven capacity events n) k × NotBefore (Hands capacity events n) k
-History capacity events k n (Some o) = Given capacity events k n o.request × Placed capacity events k n o.buffer o.place
-
--- An event with this reply neither gives, nor executes, nor hands over n.
-pub record IsCalm (e : Event) (r : Reply) (n : ℕ) : Type 0 where
-  pub gives_none : r ≡ Submitted n → ⊥
-  pub executes_none : r ≡ ExecutedOp n → ⊥
-  pub hands_none : (task : ℕ) (outcome : Outcome) (buffer : HeldBuf) → e ≡ Poll n task → r ≡ Handed outcome buffer → ⊥
-
 module _ (capacity : ℕ) (events : List Event) (k : ℕ) (e : Event) (r : Reply)
     (here : slice_get events k ≡ Some e) (reply : slice_get (replies (empty capacity) events) k ≡ Some r) where
-  -- Such an event executes nothing of that number, gives none, and hands none over.
-  calm-executes : (n : ℕ) → IsCalm e r n → Executes capacity events n k → ⊥
-  calm-executes n calm x = calm.executes_none (let q = sym reply ∙ executed-reply capacity events n k x.0 x.1 in cc)
+  -- Such an event executes nothing of that number, gives none, hands none over, and drops none.
+  pub quiet-executes : (n : ℕ) → (r ≡ ExecutedOp n → ⊥) → Executes capacity events n k → ⊥
+  quiet-executes n none x = none (let q = sym reply ∙ executed-reply capacity events n k x.0 x.1 in cc)
 
   calm-gives : (n : ℕ) → IsCalm e r n → IsGiven capacity events n k → ⊥
   calm-gives n calm x = calm.gives_none (let q = sym reply ∙ x.reply in cc)
 
-  calm-hands : (n : ℕ) → IsCalm e r n → Hands capacity events n k → ⊥
+  pub calm-hands : (n : ℕ) → IsCalm e r n → Hands capacity events n k → ⊥
   calm-hands n calm x = calm.hands_none x.task x.outcome x.buffer (let q = sym here ∙ x.event in cc) (let q = sym reply ∙ x.reply in cc)
+
+  pub calm-drops : (n : ℕ) → IsCalm e r n → Drops capacity events n k → ⊥
+  calm-drops n calm x = calm.drops_none (let q = sym here ∙ x.event in cc) (let q = sym reply ∙ x.reply in cc)
 
   -- One event more keeps each part of a history.
   pub given-next : (n : ℕ) (request : Request Buffer) → Given capacity events k n request → Given capacity events (suc k) n request
@@ -104,8 +54,49 @@ module _ (capacity : ℕ) (events : List Event) (k : ℕ) (e : Event) (r : Reply
     ];
   }
 
-  reaped-next : (n : ℕ) (outcome : Outcome) (buffer : HeldBuf) → WasReaped capacity events k n outcome buffer → WasReaped capacity events (suc k) n outcome buffer
-  reaped-next n outcome buffer s = record { own = s.own; given_first = s.given_first; turn = s.turn; first = s.first; before = (let b = s.before in omega arith) }
+  pub was_reaped-next : (n : ℕ) (outcome : Outcome) (buffer : HeldBuf) → WasReaped capacity events k n outcome buffer → WasReaped capacity events (suc k) n outcome buffer
+  was_reaped-next n outcome buffer s = record { own = s.own; given_first = s.given_first; turn = s.turn; first = s.first; before = (let b = s.before in omega arith) }
+
+  reaped-next : (n : ℕ) → IsReapedBefore capacity events n k → IsReapedBefore capacity events n (suc k)
+  reaped-next n h = record { reap = h.reap; before = (let b = h.before in omega arith); reaped = h.reaped }
+
+  handed-next : (n : ℕ) → IsHandedBefore events (replies (empty capacity) events) n k → IsHandedBefore events (replies (empty capacity) events) n (suc k)
+  handed-next n h = record { hand = h.hand; before = (let b = h.before in omega arith); is_handed = h.is_handed }
+
+  dropped-next : (n : ℕ) → IsDroppedBefore events (replies (empty capacity) events) n k → IsDroppedBefore events (replies (empty capacity) events) n (suc k)
+  dropped-next n h = record { drop = h.drop; before = (let b = h.before in omega arith); is_dropped = h.is_dropped }
+
+  -- An event that is no Turn and executes nothing of n passes on what happened to an operation that stays at its place.
+  pub placed-next : (n : ℕ) (buffer : HeldBuf) (p : Place) → (r ≡ ExecutedOp n → ⊥) → (e ≡ Turn → ⊥) → Placed capacity events k n buffer p → Placed capacity events (suc k) n buffer p
+  placed-next n buffer InQueue none turns h = not-before-next (Executes capacity events n) k (quiet-executes n none) h
+  placed-next n buffer InFlight none turns h = not-before-next (Executes capacity events n) k (quiet-executes n none) h
+  placed-next n buffer (InDone outcome) none turns h = stands-next n outcome buffer turns h
+  placed-next n buffer (Reaped outcome) none turns h = was_reaped-next n outcome buffer h
+  placed-next n buffer Gone none turns h = reaped-next n h
+
+  -- An event that neither hands over nor drops n passes on what its user did.
+  pub owned-next : (n : ℕ) (dropped kept : Bool) → (Hands capacity events n k → ⊥) → (Drops capacity events n k → ⊥) → Owned capacity events k n dropped kept → Owned capacity events (suc k) n dropped kept
+  owned-next n true kept hands drops h = dropped-next n h
+  owned-next n false true hands drops h = (not-before-next (Hands capacity events n) k hands h.0, not-before-next (Drops capacity events n) k drops h.1)
+  owned-next n false false hands drops h = handed-next n h
+
+  -- A number that wasn't given still wasn't.
+  unknown-next : (n : ℕ) → IsCalm e r n → Unknown capacity events k n → Unknown capacity events (suc k) n
+  unknown-next n calm h = record {
+    ungiven = not-before-next (IsGiven capacity events n) k (calm-gives n calm) h.ungiven;
+    unexecuted = not-before-next (Executes capacity events n) k (quiet-executes n calm.executes_none) h.unexecuted;
+    unhanded = not-before-next (Hands capacity events n) k (calm-hands n calm) h.unhanded;
+    undropped = not-before-next (Drops capacity events n) k (calm-drops n calm) h.undropped;
+  }
+
+  -- An event that is no Turn, and does nothing to n, passes its history on.
+  pub history-next : (n : ℕ) (x : Option Operation) → IsCalm e r n → (e ≡ Turn → ⊥) → History capacity events k n x → History capacity events (suc k) n x
+  history-next n None calm turns h = unknown-next n calm h
+  history-next n (Some o) calm turns h = record {
+    given = given-next n o.request h.given;
+    placed = placed-next n o.buffer o.place calm.executes_none turns h.placed;
+    owned = owned-next n o.dropped (is_kept o.place) (calm-hands n calm) (calm-drops n calm) h.owned;
+  }
 
   -- A Turn at k is the first after what was executed before.
   stands-reaped : (n : ℕ) (outcome : Outcome) (buffer : HeldBuf) → e ≡ Turn → Stands capacity events k n outcome buffer → WasReaped capacity events (suc k) n outcome buffer
@@ -121,41 +112,39 @@ module _ (capacity : ℕ) (events : List Event) (k : ℕ) (e : Event) (r : Reply
     before = omega arith;
   }
 
-  -- Where the event hands nothing over and executes nothing, the operation is still unhanded and unexecuted.
-  pub hands-next : (n : ℕ) → IsCalm e r n → NotBefore (Hands capacity events n) k → NotBefore (Hands capacity events n) (suc k)
-  hands-next n calm b = not-before-next (Hands capacity events n) k (calm-hands n calm) b
-
-  executes-next : (n : ℕ) → IsCalm e r n → NotBefore (Executes capacity events n) k → NotBefore (Executes capacity events n) (suc k)
-  executes-next n calm b = not-before-next (Executes capacity events n) k (calm-executes n calm) b
-
-  handed-next : (n : ℕ) → IsHandedBefore events (replies (empty capacity) events) n k → IsHandedBefore events (replies (empty capacity) events) n (suc k)
-  handed-next n h = record { hand = h.hand; before = (let b = h.before in omega arith); is_handed = h.is_handed }
-
-  -- An event that is no Turn passes on what happened to an operation that stays at its place.
-  pub placed-next : (n : ℕ) (buffer : HeldBuf) (p : Place) → IsCalm e r n → (e ≡ Turn → ⊥) → Placed capacity events k n buffer p → Placed capacity events (suc k) n buffer p
-  placed-next n buffer InQueue calm turns h = (executes-next n calm h.0, hands-next n calm h.1)
-  placed-next n buffer InFlight calm turns h = (executes-next n calm h.0, hands-next n calm h.1)
-  placed-next n buffer (InDone outcome) calm turns h = (stands-next n outcome buffer turns h.0, hands-next n calm h.1)
-  placed-next n buffer (Reaped outcome) calm turns h = (reaped-next n outcome buffer h.0, hands-next n calm h.1)
-  placed-next n buffer Gone calm turns h = handed-next n h
-
-  -- An event that is no Turn, and does nothing to n, passes its history on.
-  pub history-next : (n : ℕ) (x : Option Operation) → IsCalm e r n → (e ≡ Turn → ⊥) → History capacity events k n x → History capacity events (suc k) n x
-  history-next n None calm turns h = (executes-next n calm h.0, not-before-next (IsGiven capacity events n) k (calm-gives n calm) h.1, hands-next n calm h.2)
-  history-next n (Some o) calm turns h = (given-next n o.request h.0, placed-next n o.buffer o.place calm turns h.1)
+  -- What was executed is reaped: where it was dropped it is gone, else it is at its user.
+  placed-after : (n : ℕ) (buffer : HeldBuf) (dropped : Bool) (outcome : Outcome) → WasReaped capacity events (suc k) n outcome buffer → Placed capacity events (suc k) n buffer (place_after dropped outcome)
+  placed-after n buffer true outcome s = reaped-before capacity events (suc k) n outcome buffer s
+  placed-after n buffer false outcome s = s
 
   -- A Turn passes on what happened, and reaps what was executed.
-  placed-reaped : (n : ℕ) (buffer : HeldBuf) (p : Place) → IsCalm e r n → e ≡ Turn → Placed capacity events k n buffer p → Placed capacity events (suc k) n buffer (reaped_place p)
-  placed-reaped n buffer InQueue calm turn h = (executes-next n calm h.0, hands-next n calm h.1)
-  placed-reaped n buffer InFlight calm turn h = (executes-next n calm h.0, hands-next n calm h.1)
-  placed-reaped n buffer (InDone outcome) calm turn h = (stands-reaped n outcome buffer turn h.0, hands-next n calm h.1)
-  placed-reaped n buffer (Reaped outcome) calm turn h = (reaped-next n outcome buffer h.0, hands-next n calm h.1)
-  placed-reaped n buffer Gone calm turn h = handed-next n h
+  placed-ended : (n : ℕ) (buffer : HeldBuf) (dropped : Bool) (p : Place) → (r ≡ ExecutedOp n → ⊥) → e ≡ Turn → Placed capacity events k n buffer p → Placed capacity events (suc k) n buffer (ended_place dropped p)
+  placed-ended n buffer dropped InQueue none turn h = not-before-next (Executes capacity events n) k (quiet-executes n none) h
+  placed-ended n buffer dropped InFlight none turn h = not-before-next (Executes capacity events n) k (quiet-executes n none) h
+  placed-ended n buffer dropped (InDone outcome) none turn h = placed-after n buffer dropped outcome (stands-reaped n outcome buffer turn h)
+  placed-ended n buffer dropped (Reaped outcome) none turn h = was_reaped-next n outcome buffer h
+  placed-ended n buffer dropped Gone none turn h = reaped-next n h
+
+  -- No Turn takes an operation that wasn't dropped from its user.
+  kept-ended : (p : Place) → is_kept (ended_place false p) ≡ is_kept p
+  kept-ended InQueue = refl
+  kept-ended InFlight = refl
+  kept-ended (InDone outcome) = refl
+  kept-ended (Reaped outcome) = refl
+  kept-ended Gone = refl
+
+  owned-ended : (n : ℕ) (dropped : Bool) (p : Place) → IsCalm e r n → Owned capacity events k n dropped (is_kept p) → Owned capacity events (suc k) n dropped (is_kept (ended_place dropped p))
+  owned-ended n true p calm h = dropped-next n h
+  owned-ended n false p calm h = subst (Owned capacity events (suc k) n false) (sym (kept-ended p)) (owned-next n false (is_kept p) (calm-hands n calm) (calm-drops n calm) h)
 
   -- A Turn reaps what was executed.
-  pub history-reaped : (n : ℕ) (x : Option Operation) → IsCalm e r n → e ≡ Turn → History capacity events k n x → History capacity events (suc k) n (option_map with_reap x)
-  history-reaped n None calm turn h = (executes-next n calm h.0, not-before-next (IsGiven capacity events n) k (calm-gives n calm) h.1, hands-next n calm h.2)
-  history-reaped n (Some o) calm turn h = (given-next n o.request h.0, placed-reaped n o.buffer o.place calm turn h.1)
+  pub history-reaped : (n : ℕ) (x : Option Operation) → IsCalm e r n → e ≡ Turn → History capacity events k n x → History capacity events (suc k) n (option_map with_end x)
+  history-reaped n None calm turn h = unknown-next n calm h
+  history-reaped n (Some o) calm turn h = record {
+    given = given-next n o.request h.given;
+    placed = placed-ended n o.buffer o.dropped o.place calm.executes_none turn h.placed;
+    owned = owned-ended n o.dropped o.place calm h.owned;
+  }
 
 placed-taken : (capacity : ℕ) (events : List Event) (k n : ℕ) (buffer : HeldBuf) (p : Place) → Placed capacity events k n buffer p → Placed capacity events k n buffer (taken_place p)
 placed-taken capacity events k n buffer InQueue h = h
@@ -164,7 +153,21 @@ placed-taken capacity events k n buffer (InDone outcome) h = h
 placed-taken capacity events k n buffer (Reaped outcome) h = h
 placed-taken capacity events k n buffer Gone h = h
 
+kept-taken : (p : Place) → is_kept (taken_place p) ≡ is_kept p
+kept-taken InQueue = refl
+kept-taken InFlight = refl
+kept-taken (InDone outcome) = refl
+kept-taken (Reaped outcome) = refl
+kept-taken Gone = refl
+
+taken-history : (capacity : ℕ) (events : List Event) (k n : ℕ) (canceled : Bool) (x : Option Operation) → History capacity events k n x → History capacity events k n (option_map (with_take canceled) x)
+taken-history capacity events k n canceled None h = h
+taken-history capacity events k n canceled (Some o) h = record {
+  given = h.given;
+  placed = placed-taken capacity events k n o.buffer o.place h.placed;
+  owned = subst (Owned capacity events k n o.dropped) (sym (kept-taken o.place)) h.owned;
+}
+
 -- Taking is no event of an operation's history.
-pub history-taken : (capacity : ℕ) (events : List Event) (k n : ℕ) (x : Option Operation) → History capacity events k n x → History capacity events k n (option_map with_take x)
-history-taken capacity events k n None h = h
-history-taken capacity events k n (Some o) h = (h.0, placed-taken capacity events k n o.buffer o.place h.1)
+pub history-taken : (capacity : ℕ) (events : List Event) (k n : ℕ) (x y : Option Operation) → Took x y → History capacity events k n x → History capacity events k n y
+history-taken capacity events k n x y took h = subst (History capacity events k n) (sym took.is) (taken-history capacity events k n took.canceled x h)

@@ -8,7 +8,8 @@ use Rattle.ring_core.proofs.HeadlineReplies.{length-replies}
 pub use Rattle.ring_core.proofs.HeadlineReplies.{refused-exactly}
 pub use Rattle.ring_core.proofs.HeadlineNumbers.{given-in-order}
 pub use Rattle.ring_core.proofs.HeadlinePolls.{pending-until-reaped, reaped-or-not, hands-back-own, given-once, executed-once, reaped-once, one-own}
-pub use Rattle.ring_core.proofs.HeadlineOnce.{handed-once, refused-where-gone, first-poll-hands}
+pub use Rattle.ring_core.proofs.HeadlineOnce.{handed-once, dropped-once, refused-where-gone, first-poll-hands}
+pub use Rattle.ring_core.proofs.HeadlineEnds.{reap-names, kept-until-reaped, canceled-where-asked}
 
 -- There are as many replies as events.
 pub one-reply-each : (capacity : ℕ) (events : List Event) → OneReplyEach events (replies (empty capacity) events)

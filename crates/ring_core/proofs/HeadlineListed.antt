@@ -6,12 +6,12 @@ use Rattle.ring_core.specs.declared.request.Request.{Request}
 use Rattle.ring_core.specs.declared.request.Outcome.{Outcome}
 use Rattle.ring_core.specs.declared.world.HandleState.{HandleState}
 use Rattle.ring_core.specs.Lists.{amended}
-use Rattle.ring_core.specs.Ledger.{Ledger, Operation, Place, InQueue, InFlight, InDone, Reaped, Gone, Queued, Req, Op, new_operation}
-use Rattle.ring_core.specs.Queue.{with_op, at_place, take_one, take_each, take_all, make_room, append}
+use Rattle.ring_core.specs.Ledger.{Ledger, Operation, Place, InQueue, InFlight, InDone, Reaped, Gone, Queued, Req, Cancel, Op, new_operation}
+use Rattle.ring_core.specs.Queue.{with_op, at_place, with_cancel, take_one, take_each, take_all, make_room, append}
 use Rattle.ring_core.specs.Step.{with_new_op, submit_step}
 use Rattle.ring_core.proofs.Amended.{get-amended-other}
-use Rattle.ring_core.proofs.HeadlineLists.{same-or-not, below-or-not, below-or-above, same-cases, same, get-amended, amended-append, get-append-within, get-append-end, get-append-past, queued, listed, queued-append, listed-append, listed-remove}
-use Rattle.ring_core.proofs.HeadlineTaking.{in_queue, in_flight, in_done, queue_mark, flight_mark, done_mark, Listed, with_take, take_all-ops, listed-take_all, length-take_each, one-taken}
+use Rattle.ring_core.proofs.HeadlineLists.{same-or-not, below-or-not, below-or-above, same-cases, same, get-amended, amended-append, amended-append-fixed, get-append-within, get-append-end, get-append-past, queued, listed, queued-append, queued-cancel, listed-append, listed-remove}
+use Rattle.ring_core.proofs.HeadlineTaking.{in_queue, in_flight, in_done, queue_mark, flight_mark, done_mark, Listed, Took, take_all-ops, listed-take_all, length-take_each, one-taken, one-canceled}
 
 -- One element is changed, and the others stay.
 pub changed-cases : {A : Type 0} (f : A → A) (xs : List A) (n k : ℕ) → ((k ≡ n) × (slice_get (amended xs n f) k ≡ option_map f (slice_get xs n))) ⊎ ((k ≢ n) × (slice_get (amended xs n f) k ≡ slice_get xs k))
@@ -43,21 +43,24 @@ known ops m entries fits = elim (same-cases m m) [
   ]
 ]
 
--- Taking before a new operation is appended, or after it, is the same.
-take-new_op : (L : Ledger) (o : Operation) (entries : List Queued) → ((n : ℕ) → queued n entries ≡ queue_mark (slice_get L.ops n)) → take_each (with_new_op L o) entries ≡ with_new_op (take_each L entries) o
-take-new_op L o [] h = refl
-take-new_op L o (Req m ∷ entries) h =
+-- Taking before a new operation is appended, or after it, is the same: no cancel is recorded of what isn't in flight.
+take-new_op : (L : Ledger) (o : Operation) (entries : List Queued) → with_cancel o ≡ o → ((n : ℕ) → queued n entries ≡ queue_mark (slice_get L.ops n)) → take_each (with_new_op L o) entries ≡ with_new_op (take_each L entries) o
+take-new_op L o [] still h = refl
+take-new_op L o (Req m ∷ entries) still h =
     ap (λ ops. take_each (record (take_one L (Req m)) { ops = ops }) entries) (amended-append L.ops (o ∷ []) m (at_place InFlight) (known L.ops m entries h))
-    ∙ take-new_op (take_one L (Req m)) o entries (λ n. (one-taken L.ops m entries h n).1)
+    ∙ take-new_op (take_one L (Req m)) o entries still (λ n. (one-taken L.ops m entries h n None).1)
+take-new_op L o (Cancel m ∷ entries) still h =
+    ap (λ ops. take_each (record (take_one L (Cancel m)) { ops = ops }) entries) (amended-append-fixed L.ops o m with_cancel still)
+    ∙ take-new_op (take_one L (Cancel m)) o entries still (λ n. h n ∙ sym (one-canceled L.ops m n None).1)
 
 -- A new operation and its request join the ledger.
 abbrev pub joined : Ledger → Operation → Ledger
 joined M o = append (with_new_op M o) (Req (length M.ops))
 
 -- Making room before a new operation is appended, or after it, is the same.
-room-new_op : (b : Bool) (L : Ledger) (o : Operation) → Listed L → (if b then take_all (with_new_op L o) else with_new_op L o) ≡ with_new_op (if b then take_all L else L) o
-room-new_op true L o h = take-new_op (record L { queue = [] }) o L.queue h.waiting
-room-new_op false L o h = refl
+room-new_op : (b : Bool) (L : Ledger) (o : Operation) → with_cancel o ≡ o → Listed L → (if b then take_all (with_new_op L o) else with_new_op L o) ≡ with_new_op (if b then take_all L else L) o
+room-new_op true L o still h = take-new_op (record L { queue = [] }) o L.queue still h.waiting
+room-new_op false L o still h = refl
 
 -- Making room leaves the count of the operations.
 length-room : (b : Bool) (L : Ledger) → length (if b then take_all L else L).ops ≡ length L.ops
@@ -70,15 +73,15 @@ length-make_room L = length-room (length L.queue == L.capacity) L
 -- Submitting makes room, then joins the operation and its request.
 pub submit-joined : (L : Ledger) (request : Request Buffer) → Listed L → submit_step L request ≡ joined (make_room L) (new_operation request)
 submit-joined L request h =
-    ap (λ M. append M (Req (length L.ops))) (room-new_op (length L.queue == L.capacity) L (new_operation request) h)
+    ap (λ M. append M (Req (length L.ops))) (room-new_op (length L.queue == L.capacity) L (new_operation request) refl h)
     ∙ ap (λ n. append (with_new_op (make_room L) (new_operation request)) (Req n)) (sym (length-make_room L))
 
-room-ops : (b : Bool) (L : Ledger) → Listed L → (n : ℕ) → (slice_get (if b then take_all L else L).ops n ≡ slice_get L.ops n) ⊎ (slice_get (if b then take_all L else L).ops n ≡ option_map with_take (slice_get L.ops n))
+room-ops : (b : Bool) (L : Ledger) → Listed L → (n : ℕ) → (slice_get (if b then take_all L else L).ops n ≡ slice_get L.ops n) ⊎ Took (slice_get L.ops n) (slice_get (if b then take_all L else L).ops n)
 room-ops true L h n = inr (take_all-ops L h n)
 room-ops false L h n = inl refl
 
 -- Making room leaves an operation, or takes it.
-pub make_room-ops : (L : Ledger) → Listed L → (n : ℕ) → (slice_get (make_room L).ops n ≡ slice_get L.ops n) ⊎ (slice_get (make_room L).ops n ≡ option_map with_take (slice_get L.ops n))
+pub make_room-ops : (L : Ledger) → Listed L → (n : ℕ) → (slice_get (make_room L).ops n ≡ slice_get L.ops n) ⊎ Took (slice_get L.ops n) (slice_get (make_room L).ops n)
 make_room-ops L h n = room-ops (length L.queue == L.capacity) L h n
 
 -- The lists hold what the places say after room was made.
@@ -88,6 +91,10 @@ listed-room false L h = h
 
 pub listed-make_room : (L : Ledger) → Listed L → Listed (make_room L)
 listed-make_room L h = listed-room (length L.queue == L.capacity) L h
+
+-- The lists hold what the places say after a cancel joined the queue.
+pub listed-appended : (M : Ledger) (m : ℕ) → Listed M → Listed (append M (Cancel m))
+listed-appended M m h = record { waiting = λ n. queued-cancel n M.queue m ∙ h.waiting n; flown = h.flown; standing = h.standing }
 
 -- A number that wasn't given stands in no list; a new operation stands in the queue alone.
 listed-joined-at : (M : Ledger) (o : Operation) → o.place ≡ InQueue → Listed M → (n : ℕ) →

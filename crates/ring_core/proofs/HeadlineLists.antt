@@ -2,7 +2,7 @@
 use Rattle.std.proofs.Common.{◌≡◌, ◌≢◌, ◌⊎◌, inl, inr, ℕ, zero, suc, ◌+◌, ◌<◌, ◌≤◌, true, false, List, [], ◌∷◌, ◌++◌, length, remove, eqb, Some, None, option_map, slice_get, refl, ap, arith, if◌then◌else◌}
 use Rattle.std.proofs.lemmas.Bool.Decides.{eqb_tells}
 use Rattle.ring_core.specs.Lists.{amended}
-use Rattle.ring_core.specs.Ledger.{Queued, Req, Item, Op}
+use Rattle.ring_core.specs.Ledger.{Queued, Req, Cancel, Item, Op}
 
 -- Two numbers are the same, or they aren't.
 pub same-or-not : (n m : ℕ) → (n ≡ m) ⊎ (n ≢ m)
@@ -29,6 +29,13 @@ pub amended-append : {A : Type 0} (xs ys : List A) (n : ℕ) (f : A → A) → n
 amended-append [] ys n f h = absurd (omega (arith, h))
 amended-append (x ∷ xs) ys zero f h = refl
 amended-append (x ∷ xs) ys (suc n) f h = ap (λ zs. x ∷ zs) (amended-append xs ys n f (omega (arith, h)))
+
+-- A change that leaves what is appended is one of the list before it, whatever its number.
+pub amended-append-fixed : {A : Type 0} (xs : List A) (y : A) (n : ℕ) (f : A → A) → f y ≡ y → amended (xs ++ y ∷ []) n f ≡ amended xs n f ++ y ∷ []
+amended-append-fixed [] y zero f h = ap (λ z. z ∷ []) h
+amended-append-fixed [] y (suc n) f h = refl
+amended-append-fixed (x ∷ xs) y zero f h = refl
+amended-append-fixed (x ∷ xs) y (suc n) f h = ap (λ zs. x ∷ zs) (amended-append-fixed xs y n f h)
 
 -- What stood in a list stands where it was after one more is appended.
 pub get-append-within : {A : Type 0} (xs : List A) (y : A) (n : ℕ) → n < length xs → slice_get (xs ++ y ∷ []) n ≡ slice_get xs n
@@ -61,21 +68,30 @@ same-by n m (inr e) = inr (e.1, ap (λ b. if b then 1 else 0) e.0)
 pub same-cases : (n m : ℕ) → ((n ≡ m) × (same n m ≡ 1)) ⊎ ((n ≢ m) × (same n m ≡ 0))
 same-cases n m = same-by n m (eqb_tells n m)
 
--- How often the request of n stands in a queue.
+-- How often the request of n stands in a queue: a cancel is no request.
 abbrev pub queued : ℕ → List Queued → ℕ
 queued n [] = 0
 queued n (Req m ∷ entries) = same n m + queued n entries
+queued n (Cancel m ∷ entries) = queued n entries
 
 -- How often the operation n stands in a list.
 abbrev pub listed : ℕ → List Item → ℕ
 listed n [] = 0
 listed n (Op m ∷ items) = same n m + listed n items
 
--- What is appended stands in the list once more.
+-- A request that is appended stands in the queue once more.
 pub queued-append : (n : ℕ) (xs : List Queued) (m : ℕ) → queued n (xs ++ Req m ∷ []) ≡ queued n xs + same n m
 queued-append n [] m = omega arith
 queued-append n (Req x ∷ xs) m = let r = queued-append n xs m in omega arith
+queued-append n (Cancel x ∷ xs) m = queued-append n xs m
 
+-- A cancel that is appended is no request more.
+pub queued-cancel : (n : ℕ) (xs : List Queued) (m : ℕ) → queued n (xs ++ Cancel m ∷ []) ≡ queued n xs
+queued-cancel n [] m = refl
+queued-cancel n (Req x ∷ xs) m = ap (λ k. same n x + k) (queued-cancel n xs m)
+queued-cancel n (Cancel x ∷ xs) m = queued-cancel n xs m
+
+-- An operation that is appended stands in the list once more.
 pub listed-append : (n : ℕ) (xs : List Item) (m : ℕ) → listed n (xs ++ Op m ∷ []) ≡ listed n xs + same n m
 listed-append n [] m = omega arith
 listed-append n (Op x ∷ xs) m = let r = listed-append n xs m in omega arith

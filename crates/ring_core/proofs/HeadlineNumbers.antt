@@ -3,15 +3,15 @@ use Rattle.std.proofs.Common.{◌≡◌, ℕ, zero, suc, ◌+◌, cond, List, []
 use Rattle.std.proofs.lemmas.List.Sums.{sum_by-cons}
 use Rattle.ring_core.specs.declared.request.Told.{Told}
 use Rattle.ring_core.specs.declared.ledger.Event.{Event}
-use Rattle.ring_core.specs.declared.ledger.Event.TheVariants.{Give, Feed, Submit, Poll, Turn, Exec}
+use Rattle.ring_core.specs.declared.ledger.Event.TheVariants.{Give, Feed, Submit, Poll, Drop, Cancel, Turn, Exec}
 use Rattle.ring_core.specs.declared.ledger.Refusal.{Refusal}
 use Rattle.ring_core.specs.declared.ledger.Reply.{Reply}
 use Rattle.ring_core.specs.declared.ledger.Reply.TheVariants.{Submitted}
 use Rattle.ring_core.specs.Ledger.{Ledger, Operation, Place, InQueue, InFlight, InDone, Reaped, Gone, Item, Op, empty, new_operation}
-use Rattle.ring_core.specs.Queue.{take_all, at_place}
+use Rattle.ring_core.specs.Queue.{take_all, at_place, with_op}
 use Rattle.ring_core.specs.Turn.{exec_op, exec_step, with_result, effect_of, complete_at}
 use Rattle.ring_core.specs.Refusal.{cause}
-use Rattle.ring_core.specs.Step.{step, row, answered, poll_at, poll_step, with_task, with_new_op}
+use Rattle.ring_core.specs.Step.{step, row, answered, poll_at, poll_step, with_drop, drop_at, drop_step, with_task, with_new_op}
 use Rattle.ring_core.specs.Run.{after, replies}
 use Rattle.ring_core.specs.Headline.{gives_number, GivenInOrder}
 use Rattle.ring_core.proofs.Amended.{length-amended}
@@ -37,6 +37,18 @@ numbers-poll : (L : Ledger) (n task : ℕ) (x : Option Operation) → Numbers L 
 numbers-poll L n task None = record { count = omega arith; number = λ m q. cc }
 numbers-poll L n task (Some o) = numbers-op L n task o o.place
 
+-- A Drop gives no number.
+length-drop_at : (L : Ledger) (n : ℕ) (p : Place) → length (drop_at L n p).ops ≡ length L.ops
+length-drop_at L n InQueue = length-make_room L
+length-drop_at L n InFlight = length-make_room L
+length-drop_at L n (InDone outcome) = length-make_room L
+length-drop_at L n (Reaped outcome) = length-amended (at_place Gone) L.ops n
+length-drop_at L n Gone = length-make_room L
+
+numbers-drop : (L : Ledger) (n : ℕ) (x : Option Operation) → Numbers L (drop_step L n x)
+numbers-drop L n None = record { count = omega arith; number = λ m q. cc }
+numbers-drop L n (Some o) = record { count = length-drop_at (with_op L n with_drop) n o.place ∙ length-amended with_drop L.ops n ∙ omega arith; number = λ m q. cc }
+
 -- An Exec gives no number.
 length-exec_op : (L : Ledger) (n : ℕ) (told : Told) (x : Option Operation) → length (exec_op L n told x).ops ≡ length L.ops
 length-exec_op L n told None = refl
@@ -55,6 +67,8 @@ numbers-row L (Submit request) = record {
   number = λ m q. cc;
 }
 numbers-row L (Poll n task) = numbers-poll L n task (slice_get L.ops n)
+numbers-row L (Drop n) = numbers-drop L n (slice_get L.ops n)
+numbers-row L (Cancel n) = record { count = length-make_room L ∙ omega arith; number = λ m q. cc }
 numbers-row L Turn = record { count = length-reap_all (take_all L) ∙ length-take_each (record L { queue = [] }) L.queue ∙ omega arith; number = λ m q. cc }
 numbers-row L (Exec place told) = numbers-exec L place told (slice_get L.flying place)
 

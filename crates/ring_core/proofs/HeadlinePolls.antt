@@ -4,15 +4,15 @@ use Rattle.std.proofs.lemmas.Option.{slice_get_within, slice_get_past}
 use Rattle.ring_core.specs.declared.ledger.Event.{Event}
 use Rattle.ring_core.specs.declared.ledger.Event.TheVariants.{Submit, Poll, Exec}
 use Rattle.ring_core.specs.declared.ledger.Reply.TheVariants.{Pending}
-use Rattle.ring_core.specs.Ledger.{Ledger, Operation, Place, InQueue, InFlight, InDone, Reaped, Gone, empty, is_live, is_kept}
+use Rattle.ring_core.specs.Ledger.{Ledger, Operation, Place, InQueue, InFlight, InDone, Reaped, Gone, empty, is_kept}
 use Rattle.ring_core.specs.Turn.{effect_of, held}
 use Rattle.ring_core.specs.Step.{poll_at, poll_step}
 use Rattle.ring_core.specs.Run.{replies, ledger_before, IsGiven, IsReaped}
 use Rattle.ring_core.specs.Headline.{IsPolled, IsReapedBefore, PendingUntilReaped, ReapedOrNot, HandsOwn, HandsBackOwn, GivenOnce, ExecutedOnce, ReapedOnce, OneOwn}
 use Rattle.ring_core.proofs.HeadlineListed.{flying-there}
 use Rattle.ring_core.proofs.HeadlineLists.{same-or-not, below-or-above}
-use Rattle.ring_core.proofs.HeadlineReplies.{reply-at, step-row, polled-there}
-use Rattle.ring_core.proofs.HeadlineHistory.{NotBefore, Executes, Placed, History}
+use Rattle.ring_core.proofs.HeadlineReplies.{reply-at, step-row, OwnedAt, found}
+use Rattle.ring_core.proofs.HeadlineMoments.{NotBefore, Executes, Placed, History, reaped-before}
 use Rattle.ring_core.proofs.HeadlineTrace.{Trace}
 use Rattle.ring_core.proofs.HeadlineReached.{reached}
 use Rattle.ring_core.proofs.HeadlineNumbers.{submitted-number}
@@ -36,8 +36,8 @@ module _ (capacity : ℕ) (events : List Event) where
       let t : Trace capacity events j L = traced j (Exec y.1.place y.0) y.1.event in
       let f : (o : Operation) × (slice_get L.ops n ≡ Some o) × (o.place ≡ InFlight) = flying-there L y.1.place n t.lists y.1.item in
       let h : History capacity events j n (Some f.0) = subst (History capacity events j n) f.1 (t.history n) in
-      let p : Placed capacity events j n f.0.buffer InFlight = subst (Placed capacity events j n f.0.buffer) f.2 h.1 in
-      p.0 i lt x
+      let p : Placed capacity events j n f.0.buffer InFlight = subst (Placed capacity events j n f.0.buffer) f.2 h.placed in
+      p i lt x
 
   -- At most one event executes n.
   pub executed-once : ExecutedOnce capacity events
@@ -50,7 +50,7 @@ module _ (capacity : ℕ) (events : List Event) where
       let t : Trace capacity events j L = traced j (Submit y.request) y.event in
       let number : n ≡ length L.ops = submitted-number L (Submit y.request) n (let q = sym (reply-at (empty capacity) events j (Submit y.request) y.event) ∙ y.reply in cc) in
       let h : History capacity events j n None = subst (History capacity events j n) (slice_get_past L.ops n (omega arith)) (t.history n) in
-      h.1 i lt x
+      h.ungiven i lt x
 
   -- At most one event gives n.
   pub given-once : GivenOnce capacity events
@@ -94,18 +94,17 @@ module _ (capacity : ℕ) (events : List Event) where
 
     -- The answer by the place of the operation.
     answer-at : (p : Place) → is_kept p ≡ true → Placed capacity events i n o.buffer p → slice_get (replies (empty capacity) events) i ≡ Some (poll_at (ledger_before capacity events i) n task o p).1 → Answers n i
-    answer-at InQueue live h reply = waits reply h.0
-    answer-at InFlight live h reply = waits reply h.0
+    answer-at InQueue live h reply = waits reply h
+    answer-at InFlight live h reply = waits reply h
     answer-at (InDone outcome) live h reply = inl (
       reply,
       λ z. (
-          let s = h.0 in
-          let e : z.reaped.exec ≡ s.own.exec = executed-once n z.reaped.exec s.own.exec z.reaped.told s.own.told z.reaped.executed s.own.is_executed in
-          s.no_turn z.reap (let a = z.reaped.turn.behind in omega arith) z.before z.reaped.turn.event),
+          let e : z.reaped.exec ≡ h.own.exec = executed-once n z.reaped.exec h.own.exec z.reaped.told h.own.told z.reaped.executed h.own.is_executed in
+          h.no_turn z.reap (let a = z.reaped.turn.behind in omega arith) z.before z.reaped.turn.event),
     )
     answer-at (Reaped outcome) live h reply = inr (
-      (let s = h.0 in record { outcome = outcome; buffer = o.buffer; reply = reply; own = s.own; given_first = s.given_first; executed_before = (let a = s.first.behind in let b = s.before in omega arith) }),
-      (let s = h.0 in record { reap = s.turn; before = s.before; reaped = record { exec = s.own.exec; told = s.own.told; executed = s.own.is_executed; turn = s.first } }),
+      record { outcome = outcome; buffer = o.buffer; reply = reply; own = h.own; given_first = h.given_first; executed_before = (let a = h.first.behind in let b = h.before in omega arith) },
+      reaped-before capacity events i n outcome o.buffer h,
     )
     answer-at Gone live h reply = (let f : ⊥ = cc in absurd f)
 
@@ -114,13 +113,14 @@ module _ (capacity : ℕ) (events : List Event) where
   answer n i x =
       let L : Ledger = ledger_before capacity events i in
       let t : Trace capacity events i L = traced i (Poll n x.task) x.event in
-      let p : (o : Operation) × (slice_get L.ops n ≡ Some o) × (is_live o ≡ true) = polled-there L n x.task x.unrefused in
-      let h : History capacity events i n (Some p.0) = subst (History capacity events i n) p.1 (t.history n) in
-      let reply : slice_get (replies (empty capacity) events) i ≡ Some (poll_at L n x.task p.0 p.0.place).1 =
+      let f : OwnedAt L n = found L n x.unrefused in
+      let o : Operation = f.operation in
+      let h : History capacity events i n (Some o) = subst (History capacity events i n) f.there (t.history n) in
+      let reply : slice_get (replies (empty capacity) events) i ≡ Some (poll_at L n x.task o o.place).1 =
       reply-at (empty capacity) events i (Poll n x.task) x.event
       ∙ ap (λ s. Some s.1) (step-row L (Poll n x.task) x.unrefused)
-      ∙ ap (λ y. Some (poll_step L n x.task y).1) p.1 in
-      answer-at n i x.task p.0 p.0.place p.2 h.1 reply
+      ∙ ap (λ y. Some (poll_step L n x.task y).1) f.there in
+      answer-at n i x.task o o.place f.kept h.placed reply
 
   -- An unrefused Poll is answered Pending exactly where no event before it reaps its operation.
   pub pending-until-reaped : PendingUntilReaped capacity events (replies (empty capacity) events)

@@ -1,18 +1,18 @@
 -- The replies of a run, one by one: each is that of the step from the ledger before it.
-use Rattle.std.proofs.Common.{◌≡◌, ℕ, zero, suc, Bool, true, false, not, List, [], ◌∷◌, length, take, Option, Some, None, slice_get, refl, sym, ◌∙◌, ap}
+use Rattle.std.proofs.Common.{◌≡◌, ℕ, zero, suc, Bool, true, false, not, ◌&&◌, List, [], ◌∷◌, length, take, Option, Some, None, slice_get, refl, sym, ◌∙◌, ap}
 use Rattle.std.specs.Prelude.{nat_le}
 use Rattle.ring_core.specs.declared.request.Told.{Told}
 use Rattle.ring_core.specs.declared.ledger.Event.{Event}
-use Rattle.ring_core.specs.declared.ledger.Event.TheVariants.{Give, Feed, Submit, Poll, Turn, Exec}
+use Rattle.ring_core.specs.declared.ledger.Event.TheVariants.{Give, Feed, Submit, Poll, Drop, Cancel, Turn, Exec}
 use Rattle.ring_core.specs.declared.ledger.Reply.{Reply}
-use Rattle.ring_core.specs.declared.ledger.Reply.TheVariants.{ExecutedOp, Refused}
+use Rattle.ring_core.specs.declared.ledger.Reply.TheVariants.{Dropped, ExecutedOp, Refused}
 use Rattle.ring_core.specs.declared.ledger.Refusal.{Refusal}
 use Rattle.ring_core.specs.declared.ledger.Refusal.TheVariants.{NoOp, NotFlying, BadOutcome}
 use Rattle.ring_core.specs.Lists.{passes}
-use Rattle.ring_core.specs.Ledger.{Ledger, Operation, Place, InQueue, InFlight, InDone, Reaped, Gone, Item, Op, empty, is_live, is_kept}
-use Rattle.ring_core.specs.Refusal.{cause, refused_if, allowed}
+use Rattle.ring_core.specs.Ledger.{Ledger, Operation, Place, InQueue, InFlight, InDone, Reaped, Gone, Item, Op, empty, is_kept, is_owned}
+use Rattle.ring_core.specs.Refusal.{cause, refused_if, lacks_op, allowed}
 use Rattle.ring_core.specs.Turn.{exec_step}
-use Rattle.ring_core.specs.Step.{step, row, answered, poll_at, poll_step}
+use Rattle.ring_core.specs.Step.{step, row, answered, poll_at, poll_step, drop_step}
 use Rattle.ring_core.specs.Run.{after, replies, ledger_before, IsExecuted}
 use Rattle.ring_core.specs.Headline.{RefusedExactly}
 
@@ -49,21 +49,31 @@ pub step-row : (L : Ledger) (e : Event) → cause L e ≡ None → step L e ≡ 
 unfolding step
 step-row L e h = ap (λ c. answered c L e) h
 
--- What lacks nothing is there, and isn't gone.
-live-there : (x : Option Operation) → refused_if (not (passes is_live x)) NoOp None ≡ None → (o : Operation) × (x ≡ Some o) × (is_live o ≡ true)
-live-there None h = (let f : ⊥ = cc in absurd f)
-live-there (Some o) h = (o, refl, kept o.place h)
-  where
-    kept : (p : Place) → refused_if (not (is_kept p)) NoOp None ≡ None → is_kept p ≡ true
-    kept InQueue h = refl
-    kept InFlight h = refl
-    kept (InDone outcome) h = refl
-    kept (Reaped outcome) h = refl
-    kept Gone h = (let f : ⊥ = cc in absurd f)
+-- An operation of a number that is its user's.
+pub record OwnedAt (L : Ledger) (n : ℕ) : Type 0 where
+  pub operation : Operation
+  pub there : slice_get L.ops n ≡ Some operation
+  pub kept : is_kept operation.place ≡ true
+  pub undropped : operation.dropped ≡ false
 
--- A poll that isn't refused finds an operation that isn't gone.
-pub polled-there : (L : Ledger) (n task : ℕ) → cause L (Poll n task) ≡ None → (o : Operation) × (slice_get L.ops n ≡ Some o) × (is_live o ≡ true)
-polled-there L n task h = live-there (slice_get L.ops n) h
+-- A test that refuses nothing passes.
+unrefused : (b : Bool) → refused_if (not b) NoOp None ≡ None → b ≡ true
+unrefused true h = refl
+unrefused false h = (let f : ⊥ = cc in absurd f)
+
+-- What is its user's is neither gone nor dropped.
+kept-undropped : (kept dropped : Bool) → (kept && not dropped) ≡ true → (kept ≡ true) × (dropped ≡ false)
+kept-undropped true true h = (let f : ⊥ = cc in absurd f)
+kept-undropped true false h = (refl, refl)
+kept-undropped false dropped h = (let f : ⊥ = cc in absurd f)
+
+owned-there : (L : Ledger) (n : ℕ) (x : Option Operation) → slice_get L.ops n ≡ x → passes is_owned x ≡ true → OwnedAt L n
+owned-there L n None there h = (let f : ⊥ = cc in absurd f)
+owned-there L n (Some o) there h = let k = kept-undropped (is_kept o.place) o.dropped h in record { operation = o; there = there; kept = k.0; undropped = k.1 }
+
+-- An event about an operation that isn't refused as NoOp finds it, and it is its user's.
+pub found : (L : Ledger) (n : ℕ) → refused_if (lacks_op L n) NoOp None ≡ None → OwnedAt L n
+found L n h = owned-there L n (slice_get L.ops n) refl (unrefused (passes is_owned (slice_get L.ops n)) h)
 
 -- What has neither cause of an Exec is an item in flight.
 item-there : (L : Ledger) (told : Told) (b : Bool) (x : Option Item) → refused_if b NotFlying (refused_if (not (passes (λ item. allowed L item told) x)) BadOutcome None) ≡ None → (m : ℕ) × (x ≡ Some (Op m))
@@ -87,6 +97,10 @@ executed-reply capacity events n i told x =
     ∙ ap (λ s. Some s.1) (step-row L (Exec x.place told) x.unrefused)
     ∙ ap Some (executed-row L x.place n told x.item)
 
+-- A Drop that finds an operation is answered so.
+pub dropped-row : (L : Ledger) (n : ℕ) → OwnedAt L n → (row L (Drop n)).1 ≡ Dropped
+dropped-row L n f = ap (λ x. (drop_step L n x).1) f.there
+
 -- A Poll that finds an operation isn't refused.
 place-answers : (L : Ledger) (n task : ℕ) (o : Operation) (p : Place) (c : Refusal) → (poll_at L n task o p).1 ≡ Refused c → ⊥
 place-answers L n task o InQueue c h = cc
@@ -100,7 +114,9 @@ row-answers : (L : Ledger) (e : Event) (c : Refusal) → cause L e ≡ None → 
 row-answers L (Give kind) c h r = cc
 row-answers L (Feed x bytes) c h r = cc
 row-answers L (Submit request) c h r = cc
-row-answers L (Poll n task) c h r = (let t = polled-there L n task h in let a = ap (λ x. (poll_step L n task x).1) t.1 in place-answers L n task t.0 t.0.place c (sym a ∙ r))
+row-answers L (Poll n task) c h r = (let f = found L n h in let a = ap (λ x. (poll_step L n task x).1) f.there in place-answers L n task f.operation f.operation.place c (sym a ∙ r))
+row-answers L (Drop n) c h r = (let f = found L n h in let a : (row L (Drop n)).1 ≡ Dropped = dropped-row L n f in cc)
+row-answers L (Cancel n) c h r = cc
 row-answers L Turn c h r = cc
 row-answers L (Exec place told) c h r = (let t = executed-there L place told h in let a = executed-row L place t.0 told t.1 in cc)
 

@@ -1,10 +1,10 @@
 -- What moves when a call is executed.
-use Rattle.std.specs.Prelude.{ℕ, List, take, drop}
+use Rattle.std.specs.Prelude.{ℕ, List, [], take, drop}
 use Rattle.ring_core.specs.declared.world.HandleState.{HandleState}
 use Rattle.ring_core.specs.declared.request.Call.{Call}
 use Rattle.ring_core.specs.declared.request.Call.TheVariants.{In}
 use Rattle.ring_core.specs.declared.request.Told.{Told}
-use Rattle.ring_core.specs.declared.request.Told.TheVariants.{Count}
+use Rattle.ring_core.specs.declared.request.Told.TheVariants.{Count, Fail}
 use Rattle.ring_core.specs.declared.request.Outcome.{Outcome}
 use Rattle.ring_core.specs.Lists.{amended}
 use Rattle.ring_core.specs.World.{input_at}
@@ -23,6 +23,11 @@ without_front k handle = record handle { input = drop k handle.input }
 abbrev pub count_effect : List HandleState → Call → List ℕ → ℕ → Effect
 count_effect world (In h want) sent k = record { world = amended world h (without_front k); got = take k (input_at world h); outcome = Outcome.Count k }
 
--- What an executed call leaves.
+-- Nothing moves.
+abbrev pub unmoved : List HandleState → Outcome → Effect
+unmoved world outcome = record { world = world; got = []; outcome = outcome }
+
+-- What an executed call leaves: an error moves nothing.
 abbrev pub effect : List HandleState → Call → List ℕ → Told → Effect
 effect world call sent (Count k) = count_effect world call sent k
+effect world call sent (Fail e) = unmoved world (Outcome.Fail e)

@@ -1,5 +1,5 @@
 -- The ledger: what the machine keeps. Operations and handles stand by number, the first at 0.
-use Rattle.std.specs.Prelude.{ℕ, Bool, true, false, nat_lt, List, [], length, Option, None}
+use Rattle.std.specs.Prelude.{ℕ, Bool, true, false, not, ◌&&◌, nat_lt, List, [], length, Option, None}
 use Rattle.rent_buf.specs.Buffer.{Buffer}
 use Rattle.rent_buf.specs.declared.spec.HeldBuf.{HeldBuf}
 use Rattle.ring_core.specs.declared.request.Request.{Request}
@@ -8,9 +8,10 @@ use Rattle.ring_core.specs.declared.world.HandleState.{HandleState}
 use Rattle.ring_core.specs.Lists.{numbers_where}
 use Rattle.ring_core.specs.Request.{buffer_of}
 
--- What stands in the queue: the request of an operation.
+-- What stands in the queue: the request of an operation, or a cancel of one.
 pub data Queued : Type 0 where
   Req : ℕ → Queued
+  Cancel : ℕ → Queued
 
 -- What is in flight, and what is done: an operation.
 pub data Item : Type 0 where
@@ -24,11 +25,14 @@ pub data Place : Type 0 where
   Reaped : Outcome → Place
   Gone : Place
 
--- An operation: the request that was submitted, its buffer as it is now, the task that waits for it, and its place.
+-- An operation: the request that was submitted, its buffer as it is now, the task that waits for it, whether its cancel was taken,
+-- whether it was dropped, and its place.
 pub record Operation : Type 0 where
   pub request : Request Buffer
   pub buffer : HeldBuf
   pub task : Option ℕ
+  pub canceled : Bool
+  pub dropped : Bool
   pub place : Place
 
 -- The ledger. What stands on the handles is in `world`.
@@ -46,7 +50,7 @@ empty capacity = record { capacity = capacity; queue = []; flying = []; done = [
 
 -- A new operation of a request.
 abbrev pub new_operation : Request Buffer → Operation
-new_operation request = record { request = request; buffer = buffer_of request; task = None; place = InQueue }
+new_operation request = record { request = request; buffer = buffer_of request; task = None; canceled = false; dropped = false; place = InQueue }
 
 -- A place other than Gone.
 abbrev pub is_kept : Place → Bool
@@ -56,6 +60,10 @@ is_kept _ = true
 -- An operation isn't gone.
 abbrev pub is_live : Operation → Bool
 is_live operation = is_kept operation.place
+
+-- An operation is its user's: it is neither gone nor dropped.
+abbrev pub is_owned : Operation → Bool
+is_owned operation = is_live operation && not operation.dropped
 
 -- The operations that aren't gone, ascending.
 abbrev pub live_ops : Ledger → List ℕ

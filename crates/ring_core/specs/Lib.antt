@@ -13,6 +13,8 @@ pub mod Headline
 pub mod Rows
 pub mod Counts
 pub mod Ring
+pub mod Flights
+pub mod Found
 pub mod Reserved
 pub mod MemRing
 pub mod Lends

@@ -3,22 +3,18 @@ use Rattle.std.specs.Prelude.{ℕ, ◌≡◌, ◌≤◌, Bool, true, false, List
 use Rattle.ring_core.specs.declared.world.HandleState.{HandleState}
 use Rattle.ring_core.specs.declared.request.Told.{Told}
 use Rattle.ring_core.specs.declared.request.Outcome.{Outcome}
+use Rattle.ring_core.specs.declared.request.Outcome.TheVariants.{Count as Counted}
 use Rattle.ring_core.specs.declared.entry.Body.{Body}
-use Rattle.ring_core.specs.declared.entry.Body.TheVariants.{Call as Calls}
+use Rattle.ring_core.specs.declared.entry.Body.TheVariants.{Call as Calls, Cancel as Cancels}
 use Rattle.ring_core.specs.declared.entry.Entry.{Entry}
 use Rattle.ring_core.specs.declared.entry.Flight.{Flight}
 use Rattle.ring_core.specs.declared.entry.Completion.{Completion}
 use Rattle.ring_core.specs.declared.mem_ring.ExecRefusal.{ExecRefusal}
 use Rattle.ring_core.specs.declared.mem_ring.ExecRefusal.TheVariants.{NotFlying, BadOutcome, OutOfMemory}
+use Rattle.ring_core.specs.Lists.{passes}
 use Rattle.ring_core.specs.Outcome.{is_allowed}
-use Rattle.ring_core.specs.Effect.{Effect, effect}
+use Rattle.ring_core.specs.Effect.{Effect, unmoved, effect}
 use Rattle.ring_core.specs.Ring.{RingView}
-
--- These handles, these bytes and this outcome are what an effect leaves.
-pub record Leaves (effect : Effect) (world : List HandleState) (got : List ℕ) (outcome : Outcome) : Type 0 where
-  pub world_is : world ≡ effect.world
-  pub got_is : got ≡ effect.got
-  pub outcome_is : outcome ≡ effect.outcome
 
 -- The ring in memory with no entries.
 abbrev pub fresh_ring : ℕ → RingView
@@ -33,13 +29,28 @@ entry_of (Some flight) = Some flight.entry
 abbrev pub entry_at : List Flight → ℕ → Option Entry
 entry_at flying place = entry_of (slice_get flying place)
 
--- What is told is allowed to the body of an entry in flight.
-abbrev pub is_allowed_body : List HandleState → Body → Told → Bool
-is_allowed_body world (Calls call) told = is_allowed world call told
+-- What is told is allowed to the body of an entry in flight that is marked, or isn't. No cancel is ever in flight: none is allowed.
+abbrev pub is_allowed_body : List HandleState → Bool → Body → Told → Bool
+is_allowed_body world marked (Calls call) told = is_allowed world marked call told
+is_allowed_body world marked (Cancels key) told = false
 
 -- What executing the body of an entry in flight leaves.
 abbrev pub body_effect : List HandleState → Body → List ℕ → Told → Effect
 body_effect world (Calls call) sent told = effect world call sent told
+body_effect world (Cancels key) sent told = unmoved world (Counted 0)
+
+-- What is told is allowed to what is in flight at a place.
+abbrev pub admits_at : RingView → ℕ → Told → Bool
+admits_at view place told = passes (λ flight. is_allowed_body view.world flight.marked flight.entry.body told) (slice_get view.flying place)
+
+-- The bytes that come to what was looked up in flight. They don't depend on what is sent.
+abbrev pub coming_to : List HandleState → Told → Option Flight → List ℕ
+coming_to world told None = []
+coming_to world told (Some flight) = (body_effect world flight.entry.body [] told).got
+
+-- The bytes that come to what is in flight at a place.
+abbrev pub coming_at : RingView → ℕ → Told → List ℕ
+coming_at view place told = coming_to view.world told (slice_get view.flying place)
 
 -- The completion of an entry with an outcome.
 abbrev pub completion_of : Entry → Outcome → Completion
@@ -57,7 +68,7 @@ finished view place entry result = record view {
 pub record IsFinished (old : RingView) (place : ℕ) (told : Told) (sent : List ℕ) (new : RingView) (got : List ℕ) (completion : Completion) : Type 0 where
   pub flight : Flight
   pub there : slice_get old.flying place ≡ Some flight
-  pub allows : is_allowed_body old.world flight.entry.body told ≡ true
+  pub allows : is_allowed_body old.world flight.marked flight.entry.body told ≡ true
   pub answer : completion ≡ completion_of flight.entry (body_effect old.world flight.entry.body sent told).outcome
   pub ring : new ≡ finished old place flight.entry (body_effect old.world flight.entry.body sent told)
   pub bytes : got ≡ (body_effect old.world flight.entry.body sent told).got
@@ -66,7 +77,14 @@ pub record IsFinished (old : RingView) (place : ℕ) (told : Told) (sent : List 
 pub record IsForbidden (old : RingView) (place : ℕ) (told : Told) : Type 0 where
   pub flight : Flight
   pub there : slice_get old.flying place ≡ Some flight
-  pub forbids : is_allowed_body old.world flight.entry.body told ≡ false
+  pub forbids : is_allowed_body old.world flight.marked flight.entry.body told ≡ false
+
+-- What the test before an execution answers: one case for each answer, and no two of them can hold at once. It never wants memory.
+abbrev pub AdmitsFor : RingView → ℕ → Told → Result Entry ExecRefusal → Type 0
+AdmitsFor view place told (Ok entry) = (entry_at view.flying place ≡ Some entry) × (admits_at view place told ≡ true)
+AdmitsFor view place told (Err NotFlying) = length view.flying ≤ place
+AdmitsFor view place told (Err BadOutcome) = IsForbidden view place told
+AdmitsFor view place told (Err OutOfMemory) = ⊥
 
 -- What `finish_at` answers and leaves: one case for each answer, and but for want of memory no two of them can hold at once.
 abbrev pub FinishesFor : RingView → ℕ → Told → List ℕ → RingView → List ℕ → Result Completion ExecRefusal → Type 0

@@ -1,10 +1,10 @@
 -- Which outcomes a call may have.
-use Rattle.std.specs.Prelude.{ℕ, Bool, ◌&&◌, ◌||◌, ◌==◌, nat_le, List, length, slice_get}
+use Rattle.std.specs.Prelude.{ℕ, Bool, ◌&&◌, ◌||◌, ◌==◌, nat_le, if◌then◌else◌, List, length, slice_get}
 use Rattle.ring_core.specs.declared.world.HandleState.{HandleState}
 use Rattle.ring_core.specs.declared.request.Call.{Call}
 use Rattle.ring_core.specs.declared.request.Call.TheVariants.{In}
 use Rattle.ring_core.specs.declared.request.Told.{Told}
-use Rattle.ring_core.specs.declared.request.Told.TheVariants.{Count}
+use Rattle.ring_core.specs.declared.request.Told.TheVariants.{Count, Fail}
 use Rattle.ring_core.specs.Lists.{passes}
 use Rattle.ring_core.specs.World.{gives_bytes}
 
@@ -16,6 +16,19 @@ may_read want k handle = nat_le k want && nat_le k (length handle.input) && (nat
 abbrev pub may_count : List HandleState → Call → ℕ → Bool
 may_count world (In h want) k = passes (λ handle. gives_bytes handle.kind && may_read want k handle) (slice_get world h)
 
--- The outcome that is told is allowed to a call.
-abbrev pub is_allowed : List HandleState → Call → Told → Bool
-is_allowed world call (Count k) = may_count world call k
+-- The error of a canceled operation.
+abbrev pub canceled_error : ℕ
+canceled_error = 125
+
+-- The greatest error number.
+abbrev pub last_error : ℕ
+last_error = 4095
+
+-- The error of a cancel comes exactly where the cancel was taken; every other one from 1 to the greatest always may.
+abbrev pub may_fail : Bool → ℕ → Bool
+may_fail canceled e = if e == canceled_error then canceled else nat_le 1 e && nat_le e last_error
+
+-- The outcome that is told is allowed to a call whose cancel was taken, or wasn't.
+abbrev pub is_allowed : List HandleState → Bool → Call → Told → Bool
+is_allowed world canceled call (Count k) = may_count world call k
+is_allowed world canceled call (Fail e) = may_fail canceled e

@@ -1,7 +1,7 @@
 -- Taking the queue, pushing an entry, and the leaving of an operation.
-use Rattle.std.specs.Prelude.{ℕ, ◌==◌, if◌then◌else◌, List, [], ◌∷◌, ◌++◌, length}
+use Rattle.std.specs.Prelude.{ℕ, true, ◌==◌, if◌then◌else◌, List, [], ◌∷◌, ◌++◌, length}
 use Rattle.ring_core.specs.Lists.{amended}
-use Rattle.ring_core.specs.Ledger.{Ledger, Operation, Place, InFlight, Gone, Queued, Req, Item, Op}
+use Rattle.ring_core.specs.Ledger.{Ledger, Operation, Place, InFlight, Gone, Queued, Req, Cancel, Item, Op}
 
 -- The ledger with an operation changed.
 abbrev pub with_op : Ledger → ℕ → (Operation → Operation) → Ledger
@@ -15,9 +15,19 @@ at_place place operation = record operation { place = place }
 abbrev pub with_flying : Ledger → Item → Ledger
 with_flying L item = record L { flying = L.flying ++ item ∷ [] }
 
--- Taking one entry: Req n joins the end of `flying`.
+-- The taking of its cancel is recorded of an operation in flight, and of no other.
+abbrev pub canceled_at : Place → Operation → Operation
+canceled_at InFlight operation = record operation { canceled = true }
+canceled_at _ operation = operation
+
+-- An operation after its cancel was taken.
+abbrev pub with_cancel : Operation → Operation
+with_cancel operation = canceled_at operation.place operation
+
+-- Taking one entry: Req n joins the end of `flying`; Cancel n is recorded where n is in flight, and else does nothing.
 abbrev pub take_one : Ledger → Queued → Ledger
 take_one L (Req n) = with_op (with_flying L (Op n)) n (at_place InFlight)
+take_one L (Cancel n) = with_op L n with_cancel
 
 -- Taking entries, in order.
 abbrev pub take_each : Ledger → List Queued → Ledger

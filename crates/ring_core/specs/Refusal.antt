@@ -1,22 +1,22 @@
 -- Which events are refused, and with which name: a test for each name, over the events that may get it.
 use Rattle.std.specs.Prelude.{ℕ, Bool, true, false, not, ◌||◌, nat_le, List, [], ◌∷◌, length, Option, Some, None, slice_get}
 use Rattle.ring_core.specs.declared.ledger.Event.{Event}
-use Rattle.ring_core.specs.declared.ledger.Event.TheVariants.{Feed, Submit, Poll, Exec}
+use Rattle.ring_core.specs.declared.ledger.Event.TheVariants.{Feed, Submit, Poll, Drop, Cancel, Exec}
 use Rattle.ring_core.specs.declared.ledger.Refusal.{Refusal}
 use Rattle.ring_core.specs.declared.ledger.Refusal.TheVariants.{NoOp, NoHandle, Full, NotFlying, BadOutcome}
 use Rattle.ring_core.specs.declared.request.Told.{Told}
 use Rattle.ring_core.specs.Lists.{passes}
 use Rattle.ring_core.specs.Request.{named, call_of}
 use Rattle.ring_core.specs.Outcome.{is_allowed}
-use Rattle.ring_core.specs.Ledger.{Ledger, Item, Op, is_live, live_ops, user_holds}
+use Rattle.ring_core.specs.Ledger.{Ledger, Item, Op, is_owned, live_ops, user_holds}
 
 -- The most operations that aren't gone.
 abbrev pub most_live : ℕ
 most_live = 4294967232
 
--- An operation was never given, or is gone.
+-- An operation was never given, is gone, or was dropped.
 abbrev pub lacks_op : Ledger → ℕ → Bool
-lacks_op L n = not (passes is_live (slice_get L.ops n))
+lacks_op L n = not (passes is_owned (slice_get L.ops n))
 
 -- The user doesn't hold one of these handles.
 abbrev pub lacks_handle : Ledger → List ℕ → Bool
@@ -25,11 +25,13 @@ lacks_handle L (h ∷ handles) = not (user_holds L h) || lacks_handle L handles
 
 -- An outcome is allowed to an item of `flying`.
 abbrev pub allowed : Ledger → Item → Told → Bool
-allowed L (Op n) told = passes (λ operation. is_allowed L.world (call_of operation.request) told) (slice_get L.ops n)
+allowed L (Op n) told = passes (λ operation. is_allowed L.world operation.canceled (call_of operation.request) told) (slice_get L.ops n)
 
--- NoOp: the operation was never given, or was handed back.
+-- NoOp: the operation was never given, was handed back, or was dropped.
 abbrev pub has_no_op : Ledger → Event → Bool
 has_no_op L (Poll n task) = lacks_op L n
+has_no_op L (Drop n) = lacks_op L n
+has_no_op L (Cancel n) = lacks_op L n
 has_no_op L _ = false
 
 -- NoHandle: the user doesn't hold a handle that the event names.

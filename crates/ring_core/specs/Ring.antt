@@ -1,10 +1,11 @@
 -- A ring as a value, and what its calls do.
-use Rattle.std.specs.Prelude.{ℕ, ◌+◌, ◌-◌, ◌≡◌, ◌≤◌, ◌<◌, Bool, IsTrue, List, [], ◌∷◌, ◌++◌, take, drop, length, Result, Ok, Err, Option, Some, None}
+use Rattle.std.specs.Prelude.{ℕ, ◌+◌, ◌-◌, ◌≡◌, ◌≤◌, ◌<◌, Bool, false, ◌||◌, ◌==◌, IsTrue, List, [], ◌∷◌, ◌++◌, take, drop, map, length, Result, Ok, Err, Option, Some, None}
 use Rattle.ring_core.specs.declared.entry.Entry.{Entry}
 use Rattle.ring_core.specs.declared.entry.Flight.{Flight}
 use Rattle.ring_core.specs.declared.entry.Completion.{Completion}
+use Rattle.ring_core.specs.declared.request.Outcome.TheVariants.{Count as Counted}
 use Rattle.ring_core.specs.declared.entry.Body.{Body}
-use Rattle.ring_core.specs.declared.entry.Body.TheVariants.{Call as Calls}
+use Rattle.ring_core.specs.declared.entry.Body.TheVariants.{Call as Calls, Cancel as Cancels}
 use Rattle.ring_core.specs.declared.world.HandleState.{HandleState}
 use Rattle.ring_core.specs.declared.ring.Push.{Push}
 use Rattle.ring_core.specs.declared.ring.Push.TheVariants.{Done, Full}
@@ -25,18 +26,33 @@ pub record RingView : Type 0 where
   pub faults : ℕ
   pub busies : ℕ
 
--- What is in flight after one entry was taken: a call joins the end.
+-- An entry in flight after a cancel of a key was taken: it is marked where its data word is that key. No serial is compared.
+abbrev pub marked_by : ℕ → Flight → Flight
+marked_by key flight = record flight { marked = flight.marked || flight.entry.word == key }
+
+-- What is in flight after one entry was taken: a call joins the end; a cancel marks what has its key.
 abbrev pub flying_with : List Flight → Entry → Body → List Flight
-flying_with flying entry (Calls call) = flying ++ record { entry = entry } ∷ []
+flying_with flying entry (Calls call) = flying ++ record { entry = entry; marked = false } ∷ []
+flying_with flying entry (Cancels key) = map (marked_by key) flying
+
+-- The completion that the taking of an entry leaves: a call leaves none; a cancel is done, whatever it marked.
+abbrev pub done_with : List Completion → Entry → Body → List Completion
+done_with done entry (Calls call) = done
+done_with done entry (Cancels key) = done ++ record { word = entry.word; serial = entry.serial; outcome = Counted 0 } ∷ []
 
 -- What is in flight after entries were taken, in order.
 abbrev pub flying_after : List Flight → List Entry → List Flight
 flying_after flying [] = flying
 flying_after flying (entry ∷ entries) = flying_after (flying_with flying entry entry.body) entries
 
+-- The completions that stand after entries were taken, in order.
+abbrev pub done_after : List Completion → List Entry → List Completion
+done_after done [] = done
+done_after done (entry ∷ entries) = done_after (done_with done entry entry.body) entries
+
 -- A ring after its queue was taken, in order.
 abbrev pub entered : RingView → RingView
-entered view = record view { queue = []; flying = flying_after view.flying view.queue }
+entered view = record view { queue = []; flying = flying_after view.flying view.queue; done = done_after view.done view.queue }
 
 -- A ring after a push: the entry joins the queue's end, and takes the memory of one push.
 abbrev pub pushed : RingView → Entry → RingView
@@ -83,7 +99,7 @@ pub record TookFront (count : ℕ) (old new : RingView) : Type 0 where
   pub within : count ≤ length old.queue
   pub queue : new.queue ≡ drop count old.queue
   pub flying : new.flying ≡ flying_after old.flying (take count old.queue)
-  pub done : new.done ≡ old.done
+  pub done : new.done ≡ done_after old.done (take count old.queue)
   pub world : new.world ≡ old.world
 
 -- An enter that failed or was busy: a prefix of the queue may have been taken, with at most one completion for each entry of it.

@@ -5,11 +5,11 @@ use Rattle.rent_buf.specs.declared.spec.Kind.TheVariants.{Vector}
 use Rattle.rent_buf.specs.declared.spec.HeldBuf.TheVariants.{One}
 use Rattle.ring_core.specs.declared.world.HandleKind.TheVariants.{Stream}
 use Rattle.ring_core.specs.declared.request.Request.TheVariants.{Recv}
-use Rattle.ring_core.specs.declared.request.Told.TheVariants.{Count}
+use Rattle.ring_core.specs.declared.request.Told.TheVariants.{Count, Fail}
 use Rattle.ring_core.specs.declared.request.Outcome.{Outcome}
-use Rattle.ring_core.specs.declared.ledger.Event.TheVariants.{Give, Feed, Submit, Poll, Turn, Exec}
+use Rattle.ring_core.specs.declared.ledger.Event.TheVariants.{Give, Feed, Submit, Poll, Drop, Cancel, Turn, Exec}
 use Rattle.ring_core.specs.declared.ledger.Refusal.TheVariants.{NoOp, NoHandle, NotFlying, BadOutcome}
-use Rattle.ring_core.specs.declared.ledger.Reply.TheVariants.{Handle, Fed, Submitted, Pending, Handed, Turned, ExecutedOp, Refused}
+use Rattle.ring_core.specs.declared.ledger.Reply.TheVariants.{Handle, Fed, Submitted, Pending, Handed, Dropped, Asked, Turned, ExecutedOp, Refused}
 use Rattle.ring_core.specs.Ledger.{empty}
 use Rattle.ring_core.specs.Run.{replies}
 
@@ -114,3 +114,87 @@ RefusedOutcomes =
     Refused BadOutcome ∷
     Refused BadOutcome ∷
     ExecutedOp 0 ∷ [])
+
+-- A cancel that is taken late marks nothing: neither its own operation, which is done, nor the next one.
+abbrev pub LateCancel : Type 0
+LateCancel =
+    replies (empty 8) (
+    Give Stream ∷
+    Feed 0 (97 ∷ []) ∷
+    Submit (Recv 0 (vector 1 0 1 [])) ∷
+    Turn ∷
+    Exec 0 (Count 1) ∷
+    Turn ∷
+    Cancel 0 ∷
+    Poll 0 1 ∷
+    Submit (Recv 0 (vector 1 0 1 [])) ∷
+    Turn ∷
+    Exec 0 (Fail 125) ∷
+    Feed 0 (98 ∷ []) ∷
+    Exec 0 (Count 1) ∷
+    Turn ∷
+    Poll 1 2 ∷ [])
+    ≡ (
+    Handle 0 ∷
+    Fed ∷
+    Submitted 0 ∷
+    Turned [] [] [] ∷
+    ExecutedOp 0 ∷
+    Turned (0 ∷ []) [] [] ∷
+    Asked ∷
+    Handed (Outcome.Count 1) (One (vector 1 0 1 (97 ∷ []))) ∷
+    Submitted 1 ∷
+    Turned [] [] [] ∷
+    Refused BadOutcome ∷
+    Fed ∷
+    ExecutedOp 1 ∷
+    Turned (1 ∷ []) [] [] ∷
+    Handed (Outcome.Count 1) (One (vector 1 0 1 (98 ∷ []))) ∷ [])
+
+-- A drop over a full queue: the request is taken, then its cancel, and the turn that reaps it names it.
+abbrev pub FullQueue : Type 0
+FullQueue =
+    replies (empty 1) (
+    Give Stream ∷
+    Submit (Recv 0 (vector 1 0 1 [])) ∷
+    Submit (Recv 0 (vector 1 0 1 [])) ∷
+    Drop 1 ∷
+    Turn ∷
+    Exec 1 (Fail 125) ∷
+    Turn ∷
+    Poll 1 7 ∷ [])
+    ≡ (
+    Handle 0 ∷
+    Submitted 0 ∷
+    Submitted 1 ∷
+    Dropped ∷
+    Turned [] [] [] ∷
+    ExecutedOp 1 ∷
+    Turned (1 ∷ []) [] [] ∷
+    Refused NoOp ∷ [])
+
+-- Errors: 0 and 4096 aren't any, that of a cancel wants one, and another hands back the submitted buffer.
+abbrev pub Errors : Type 0
+Errors =
+    replies (empty 4) (
+    Give Stream ∷
+    Feed 0 (97 ∷ []) ∷
+    Submit (Recv 0 (vector 2 0 2 (48 ∷ 49 ∷ []))) ∷
+    Turn ∷
+    Exec 0 (Fail 0) ∷
+    Exec 0 (Fail 4096) ∷
+    Exec 0 (Fail 125) ∷
+    Exec 0 (Fail 104) ∷
+    Turn ∷
+    Poll 0 1 ∷ [])
+    ≡ (
+    Handle 0 ∷
+    Fed ∷
+    Submitted 0 ∷
+    Turned [] [] [] ∷
+    Refused BadOutcome ∷
+    Refused BadOutcome ∷
+    Refused BadOutcome ∷
+    ExecutedOp 0 ∷
+    Turned (0 ∷ []) [] [] ∷
+    Handed (Outcome.Fail 104) (One (vector 2 0 2 (48 ∷ 49 ∷ []))) ∷ [])

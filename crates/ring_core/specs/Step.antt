@@ -1,17 +1,17 @@
 -- The step of the machine: the next ledger and the reply, for each event.
-use Rattle.std.specs.Prelude.{ℕ, [], ◌∷◌, ◌++◌, length, Option, Some, None, slice_get}
+use Rattle.std.specs.Prelude.{ℕ, true, [], ◌∷◌, ◌++◌, length, Option, Some, None, slice_get}
 use Rattle.rent_buf.specs.Buffer.{Buffer}
 use Rattle.ring_core.specs.declared.request.Request.{Request}
 use Rattle.ring_core.specs.declared.world.HandleState.{HandleState}
 use Rattle.ring_core.specs.declared.ledger.Event.{Event}
-use Rattle.ring_core.specs.declared.ledger.Event.TheVariants.{Give, Feed, Submit, Poll, Turn, Exec}
+use Rattle.ring_core.specs.declared.ledger.Event.TheVariants.{Give, Feed, Submit, Poll, Drop, Cancel, Turn, Exec}
 use Rattle.ring_core.specs.declared.ledger.Refusal.{Refusal}
 use Rattle.ring_core.specs.declared.ledger.Refusal.TheVariants.{NoOp}
 use Rattle.ring_core.specs.declared.ledger.Reply.{Reply}
-use Rattle.ring_core.specs.declared.ledger.Reply.TheVariants.{Handle, Fed, Submitted, Pending, Handed, Refused}
+use Rattle.ring_core.specs.declared.ledger.Reply.TheVariants.{Handle, Fed, Submitted, Pending, Handed, Dropped, Asked, Refused}
 use Rattle.ring_core.specs.Lists.{amended}
 use Rattle.ring_core.specs.World.{fresh, with_input}
-use Rattle.ring_core.specs.Ledger.{Ledger, Operation, Place, Reaped, Req, new_operation}
+use Rattle.ring_core.specs.Ledger.{Ledger, Operation, Place, Reaped, Queued, Req, new_operation}
 use Rattle.ring_core.specs.Queue.{with_op, push, leave}
 use Rattle.ring_core.specs.Turn.{turn_step, exec_step}
 use Rattle.ring_core.specs.Refusal.{cause}
@@ -46,12 +46,28 @@ abbrev pub poll_step : Ledger → ℕ → ℕ → Option Operation → Ledger ×
 poll_step L n task None = (L, Refused NoOp)
 poll_step L n task (Some operation) = poll_at L n task operation operation.place
 
+-- An operation that was dropped.
+abbrev pub with_drop : Operation → Operation
+with_drop operation = record operation { dropped = true }
+
+-- Drop, by the operation's place: where it is reaped it leaves; else its cancel is pushed.
+abbrev pub drop_at : Ledger → ℕ → Place → Ledger
+drop_at L n (Reaped outcome) = leave L n
+drop_at L n _ = push L (Queued.Cancel n)
+
+-- The drop of an operation that was looked up.
+abbrev pub drop_step : Ledger → ℕ → Option Operation → Ledger × Reply
+drop_step L n None = (L, Refused NoOp)
+drop_step L n (Some operation) = (drop_at (with_op L n with_drop) n operation.place, Dropped)
+
 -- The row of an event that isn't refused.
 abbrev pub row : Ledger → Event → Ledger × Reply
 row L (Give kind) = (give_step L (fresh kind), Handle (length L.world))
 row L (Feed h bytes) = (with_handle L h (with_input bytes), Fed)
 row L (Submit request) = (submit_step L request, Submitted (length L.ops))
 row L (Poll n task) = poll_step L n task (slice_get L.ops n)
+row L (Drop n) = drop_step L n (slice_get L.ops n)
+row L (Cancel n) = (push L (Queued.Cancel n), Asked)
 row L Turn = turn_step L
 row L (Exec place told) = exec_step L place told (slice_get L.flying place)
 

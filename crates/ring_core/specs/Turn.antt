@@ -1,19 +1,19 @@
 -- The steps of Turn and Exec.
-use Rattle.std.specs.Prelude.{ℕ, List, [], ◌∷◌, ◌++◌, remove, option_to_list, Option, Some, None, slice_get}
+use Rattle.std.specs.Prelude.{ℕ, Bool, true, false, List, [], ◌∷◌, ◌++◌, remove, option_to_list, Option, Some, None, slice_get}
 use Rattle.rent_buf.specs.Buffer.{Buffer, stored}
 use Rattle.rent_buf.specs.declared.spec.HeldBuf.{HeldBuf}
 use Rattle.rent_buf.specs.declared.spec.HeldBuf.TheVariants.{One}
 use Rattle.ring_core.specs.declared.request.Request.{Request}
 use Rattle.ring_core.specs.declared.request.Request.TheVariants.{Recv}
 use Rattle.ring_core.specs.declared.request.Told.{Told}
-use Rattle.ring_core.specs.declared.request.Told.TheVariants.{Count}
+use Rattle.ring_core.specs.declared.request.Told.TheVariants.{Count, Fail}
 use Rattle.ring_core.specs.declared.ledger.Refusal.TheVariants.{NotFlying}
 use Rattle.ring_core.specs.declared.ledger.Reply.{Reply}
 use Rattle.ring_core.specs.declared.ledger.Reply.TheVariants.{Turned, ExecutedOp, Refused}
-use Rattle.ring_core.specs.Request.{sent_of, call_of}
+use Rattle.ring_core.specs.Request.{buffer_of, sent_of, call_of}
 use Rattle.ring_core.specs.Effect.{Effect, effect}
 use Rattle.ring_core.specs.Ledger.{Ledger, Operation, Place, InDone, Reaped, Item, Op}
-use Rattle.ring_core.specs.Queue.{with_op, take_all}
+use Rattle.ring_core.specs.Queue.{with_op, take_all, leave}
 
 -- The place of what was done is at its user; another place stays.
 abbrev pub reaped_place : Place → Place
@@ -24,9 +24,19 @@ reaped_place place = place
 abbrev pub with_reap : Operation → Operation
 with_reap operation = record operation { place = reaped_place operation.place }
 
--- A completion: its operation is reaped.
+-- The completion of an operation that was dropped, or wasn't: a dropped one leaves, another is reaped.
+abbrev pub reap_if : Bool → Ledger → ℕ → Ledger
+reap_if true L n = leave L n
+reap_if false L n = with_op L n with_reap
+
+-- The completion of an operation that was looked up.
+abbrev pub reap_op : Ledger → ℕ → Option Operation → Ledger
+reap_op L n None = L
+reap_op L n (Some operation) = reap_if operation.dropped L n
+
+-- A completion: its operation is reaped, or leaves.
 abbrev pub reap_one : Ledger → Item → Ledger
-reap_one L (Op n) = with_op L n with_reap
+reap_one L (Op n) = reap_op L n (slice_get L.ops n)
 
 -- Completions, in order.
 abbrev pub reap_each : Ledger → List Item → Ledger
@@ -38,10 +48,15 @@ abbrev pub ops_in : List Item → List ℕ
 ops_in [] = []
 ops_in (Op n ∷ items) = n ∷ ops_in items
 
--- The task that is woken by the completion of an operation, where it has one.
+-- The task that waits for an operation, where there is one: none waits for a dropped one.
+abbrev pub task_if : Bool → Option ℕ → List ℕ
+task_if true task = []
+task_if false task = option_to_list task
+
+-- The task that is woken by the completion of an operation that was looked up.
 abbrev pub task_woken : Option Operation → List ℕ
 task_woken None = []
-task_woken (Some operation) = option_to_list operation.task
+task_woken (Some operation) = task_if operation.dropped operation.task
 
 -- The tasks that are woken by completions of operations, in order.
 abbrev pub tasks_woken : List Operation → List ℕ → List ℕ
@@ -56,9 +71,10 @@ reap_all L = (reap_each (record L { done = [] }) L.done, Turned (ops_in L.done) 
 abbrev pub turn_step : Ledger → Ledger × Reply
 turn_step L = reap_all (take_all L)
 
--- The buffer of an operation after its outcome: after a count, that of a reading request has the bytes that came.
+-- The buffer of an operation after its outcome: after a count, that of a reading request has the bytes that came; after an error it is the submitted one.
 abbrev pub held : Request Buffer → Told → List ℕ → HeldBuf
 held (Recv fd buf) (Count k) got = One (stored buf got)
+held request (Fail e) got = buffer_of request
 
 -- The effect of executing a request.
 abbrev pub effect_of : Ledger → Request Buffer → Told → Effect

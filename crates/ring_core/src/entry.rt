@@ -4,17 +4,22 @@ use crate::request::{Call, Outcome};
 /// The first of the data words that are reserved: they reach no slot. (own)
 pub const FIRST_RESERVED: u64 = 18446744073709551612;
 
+/// The data word of a cancel. (own)
+pub const CANCEL_WORD: u64 = 18446744073709551615;
+
 /// What an entry asks for. (own)
 #[derive(Clone, Copy, Debug, PartialEq, Eq)]
 pub enum Body {
     /// The call of an operation.
     Call(Call),
+    /// The cancel of what has this data word.
+    Cancel(u64),
 }
 
 /// A submission. The ring compares data words alone, and never serials. (io_uring's submission queue entry)
 #[derive(Clone, Copy, Debug, PartialEq, Eq)]
 pub struct Entry {
-    /// The data word, which the completion carries back: the key of the operation's slot.
+    /// The data word, which the completion carries back: the key of the operation's slot, or `CANCEL_WORD`.
     pub word: u64,
     /// The operation's number, for what reads the ring and not for the ring itself.
     pub serial: u64,
@@ -27,6 +32,8 @@ pub struct Entry {
 pub struct Flight {
     /// The entry.
     pub entry: Entry,
+    /// A cancel of its data word was taken since.
+    pub marked: bool,
 }
 
 /// A completion. (io_uring's completion queue entry, without its flags)

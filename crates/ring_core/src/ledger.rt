@@ -1,5 +1,5 @@
 //! The events of the machine, its replies and its refusals. What a step makes of an event is `step` of `specs/Step.antt`.
-ghost use Rattle.ring_core.specs.Rows.{OneRead, ShortRead, RangeRead, RefusedInOrder, RefusedOutcomes};
+ghost use Rattle.ring_core.specs.Rows.{OneRead, ShortRead, RangeRead, RefusedInOrder, RefusedOutcomes, LateCancel, FullQueue, Errors};
 
 use crate::request::{Outcome, Request, Told};
 use crate::world::HandleKind;
@@ -16,6 +16,10 @@ pub enum Event {
     Submit(Request<BufSpec>),
     /// Polls an operation for a task.
     Poll(u64, u64),
+    /// Gives an operation up.
+    Drop(u64),
+    /// Asks for the cancel of an operation.
+    Cancel(u64),
     /// Enters the queue and reaps what is done.
     Turn,
     /// Executes what stands at a place of the in-flight list.
@@ -25,7 +29,7 @@ pub enum Event {
 /// Why an event changed nothing. Where several hold, the first in this order is given.
 #[derive(Clone, Copy, Debug, PartialEq, Eq)]
 pub enum Refusal {
-    /// The operation was never given, or was handed back.
+    /// The operation was never given, was handed back, or was dropped.
     NoOp,
     /// A named handle isn't its user's.
     NoHandle,
@@ -50,6 +54,10 @@ pub enum Reply {
     Pending,
     /// The operation's outcome, and its buffer.
     Handed(Outcome, HeldBuf),
+    /// The operation is given up.
+    Dropped,
+    /// The cancel is asked for.
+    Asked,
     /// The operations that were reaped, the handles whose closes were, and the tasks that were woken.
     Turned(NumList, NumList, NumList),
     /// The operation that was executed.
@@ -65,4 +73,7 @@ pub fn worked_rows()
     ensures range_read { RangeRead }
     ensures refused_in_order { RefusedInOrder }
     ensures refused_outcomes { RefusedOutcomes }
+    ensures late_cancel { LateCancel }
+    ensures full_queue { FullQueue }
+    ensures errors { Errors }
 {}

@@ -2,6 +2,7 @@
 #![tactic(auto)]
 
 pub mod entry;
+mod flights;
 pub mod headline;
 pub mod input;
 pub mod ledger;
@@ -9,13 +10,14 @@ pub mod mem_ring;
 pub mod request;
 pub mod ring;
 pub mod shared_fd;
+mod tallies;
 pub mod world;
 
-pub use entry::{Body, Completion, Entry, FIRST_RESERVED, Flight};
+pub use entry::{Body, CANCEL_WORD, Completion, Entry, FIRST_RESERVED, Flight};
 pub use input::Input;
 pub use ledger::{Event, Refusal, Reply};
 pub use mem_ring::{ExecRefusal, MemRing};
-pub use request::{Call, MOST_ASKED, Outcome, Request, Told};
+pub use request::{CANCELED, Call, LAST_ERROR, MOST_ASKED, Outcome, Request, Told};
 pub use ring::{EnterError, Push, Ring};
 pub use shared_fd::SharedFd;
 pub use world::{HandleKind, HandleState, World, WorldError};

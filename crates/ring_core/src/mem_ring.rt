@@ -3,12 +3,13 @@ ghost use Rattle.std.specs.Prelude.{◌≡◌, ◌<◌, ◌≤◌, ◌+◌, [], 
 ghost use Rattle.std.specs.VecDeque.{deque_len, deque_capacity};
 ghost use Rattle.std.specs.Prelude.{IfSome};
 ghost use Rattle.std.specs.Borrow.{sem};
-ghost use Rattle.ring_core.specs.Ring.{flying_with, flying_after};
-ghost use Rattle.ring_core.specs.MemRing.{fresh_ring, entry_at, FinishesFor};
+ghost use Rattle.ring_core.specs.Ring.{flying_with, flying_after, done_with, done_after};
+ghost use Rattle.ring_core.specs.MemRing.{fresh_ring, entry_at, is_allowed_body, admits_at, coming_at, completion_of, AdmitsFor, IsFinished, FinishesFor};
 ghost use Rattle.ring_core.specs.Lends.{lends_world};
 
 use crate::entry::{Body, Completion, Entry, Flight};
-use crate::request::{Call, Told};
+use crate::flights::Flights;
+use crate::request::{Outcome, Told};
 use crate::ring::{EnterError, Push, Ring};
 use crate::world::World;
 use rent_buf::{ByteList, OutOfMemory};
@@ -36,22 +37,23 @@ pub enum ExecRefusal {
 pub struct MemRing {
     entries: u32,
     queue: VecDeque<Entry>,
-    flying: VecDeque<Flight>,
+    flying: Flights,
     done: VecDeque<Completion>,
     spare: usize,
     world: World,
 }
 
 impl Model for MemRing {
+    ghost use Rattle.std.specs.Prelude.{length};
     ghost use Rattle.std.specs.VecDeque.{deque_len, deque_capacity};
     ghost use Rattle.ring_core.specs.Ring.{RingView};
     ghost use Rattle.ring_core.specs.Reserved.{HasRoom};
 
     ghost Value = { RingView };
 
-    ghost view = { λ r. record { capacity = r.entries; queue = r.queue.items; flying = r.flying.items; done = r.done.items; world = r.world; spare = r.spare; faults = 0; busies = 0 } };
+    ghost view = { λ r. record { capacity = r.entries; queue = r.queue.items; flying = r.flying.flights; done = r.done.items; world = r.world; spare = r.spare; faults = 0; busies = 0 } };
 
-    ghost invariant = { λ r. HasRoom r.entries (deque_len r.queue) (deque_len r.flying) (deque_len r.done) r.spare (deque_capacity r.queue) (deque_capacity r.flying) (deque_capacity r.done) };
+    ghost invariant = { λ r. HasRoom r.entries (deque_len r.queue) (length r.flying.flights) (deque_len r.done) r.spare (deque_capacity r.queue) r.flying.room (deque_capacity r.done) };
 }
 
 impl MemRing {
@@ -63,7 +65,7 @@ impl MemRing {
         MemRing {
             entries,
             queue: VecDeque::new(alloc),
-            flying: VecDeque::new(alloc),
+            flying: Flights::new(alloc),
             done: VecDeque::new(alloc),
             spare: 0,
             world: World::new(alloc),
@@ -88,6 +90,63 @@ impl MemRing {
         &mut self.world
     }
 
+    /// The entry at a place of the in-flight list, where what is told is allowed to it; else why it can't be executed. (own)
+    pub fn admits(&self, place: usize, told: Told) -> Result<Entry, ExecRefusal>
+        ensures { AdmitsFor self.now place told result }
+    {
+        let Some(flight) = self.flying.get(place) else {
+            return Err(ExecRefusal::NotFlying);
+        };
+        if self.allows(flight, told) {
+            Ok(flight.entry)
+        } else {
+            Err(ExecRefusal::BadOutcome)
+        }
+    }
+
+    // What is told is allowed to an entry in flight.
+    fn allows(&self, flight: Flight, told: Told) -> bool
+        ensures { result ≡ is_allowed_body self.now.world flight.marked flight.entry.body told }
+    {
+        match flight.entry.body {
+            Body::Call(call) => self.world.allows(flight.marked, call, told),
+            Body::Cancel(_) => false,
+        }
+    }
+
+    /// The bytes that come to the entry at a place with what is told, which is allowed to it. (own)
+    pub fn coming(&self, place: usize, told: Told) -> &[u8]
+        requires { admits_at self.now place told ≡ true }
+        ensures { result.now ≡ coming_at self.now place told }
+    {
+        let Some(flight) = self.flying.get(place) else {
+            unreachable!()
+        };
+        match flight.entry.body {
+            Body::Call(call) => self.world.coming(flight.marked, call, told),
+            Body::Cancel(_) => unreachable!(),
+        }
+    }
+
+    /// Executes the entry at a place with what is told, which is allowed to it: moves its bytes, so that those that come
+    /// are gone, moves the entry to the end of what is done, and answers its completion. It takes no memory. (own)
+    pub fn finish(&mut self, place: usize, told: Told, sent: &[u8]) -> Completion
+        requires { admits_at self.old place told ≡ true }
+        ensures { IsFinished self.old place told sent.now self.new (coming_at self.old place told) result }
+    {
+        let Some(flight) = self.flying.get(place) else {
+            unreachable!()
+        };
+        let Body::Call(call) = flight.entry.body else {
+            unreachable!()
+        };
+        let outcome = self.world.execute(flight.marked, call, told, sent);
+        let completion = completion_for(flight.entry, outcome);
+        self.flying.remove(place);
+        self.done.push_back_reserved(completion);
+        completion
+    }
+
     /// Executes the entry at a place of the in-flight list with what is told: moves its bytes, puts those that came into
     /// the empty `got`, moves the entry to the end of what is done, and answers its completion.
     pub fn finish_at(
@@ -100,26 +159,14 @@ impl MemRing {
         requires { got.old ≡ [] }
         ensures { FinishesFor self.old place told sent.now self.new got.new result }
     {
-        let Some(flight) = self.flying.get(place) else {
-            return Err(ExecRefusal::NotFlying);
-        };
-        let entry = flight.entry;
-        let call = call_in(entry.body);
-        if !self.world.allows(call, told) {
-            return Err(ExecRefusal::BadOutcome);
+        match self.admits(place, told) {
+            Ok(_) => {}
+            Err(why) => return Err(why),
         }
-        let outcome = match self.world.execute(call, told, sent, got) {
-            Ok(outcome) => outcome,
-            Err(_) => return Err(ExecRefusal::OutOfMemory),
-        };
-        let completion = Completion {
-            word: entry.word,
-            serial: entry.serial,
-            outcome,
-        };
-        let _ = self.flying.remove(place);
-        self.done.push_back_reserved(completion);
-        Ok(completion)
+        match got.append(self.coming(place, told)) {
+            Ok(()) => Ok(self.finish(place, told, sent)),
+            Err(_) => Err(ExecRefusal::OutOfMemory),
+        }
     }
 }
 
@@ -151,7 +198,7 @@ impl Ring for MemRing {
             return Err(OutOfMemory);
         };
         self.queue.reserve(room - queued)?;
-        self.flying.reserve(room - flying)?;
+        self.flying.reserve(room)?;
         self.done.reserve(room - done)?;
         self.spare += n;
         Ok(())
@@ -169,7 +216,7 @@ impl Ring for MemRing {
     fn enter(&mut self) -> Result<u32, EnterError> {
         let _most = self.entries;
         let taken = self.queue.len() as u32;
-        take_all(&mut self.queue, &mut self.flying);
+        take_all(&mut self.queue, &mut self.flying, &mut self.done);
         Ok(taken)
     }
 
@@ -189,37 +236,49 @@ fn total_room(queued: usize, flying: usize, done: usize, spare: usize, n: usize)
         .checked_add(spare)
 }
 
-// The call of a body.
-fn call_in(body: Body) -> Call
-    ensures { body ≡ Body.Call result }
+// The completion of an entry with an outcome.
+fn completion_for(entry: Entry, outcome: Outcome) -> Completion
+    ensures { result ≡ completion_of entry outcome }
 {
-    match body {
-        Body::Call(call) => call,
+    Completion {
+        word: entry.word,
+        serial: entry.serial,
+        outcome,
     }
 }
 
 // One entry is taken.
-fn take_entry(entry: Entry, flying: &mut VecDeque<Flight>)
-    requires { deque_len flying.old < deque_capacity flying.old }
-    ensures flying { flying.new.items ≡ flying_with flying.old.items entry entry.body }
-    ensures length { deque_len flying.new ≡ deque_len flying.old + 1 }
-    ensures capacity { deque_capacity flying.new ≡ deque_capacity flying.old }
+fn take_entry(entry: Entry, flying: &mut Flights, done: &mut VecDeque<Completion>)
+    requires flying_room { length flying.old.flights < flying.old.room }
+    requires done_room { deque_len done.old < deque_capacity done.old }
+    ensures flying { flying.new.flights ≡ flying_with flying.old.flights entry entry.body }
+    ensures done { done.new.items ≡ done_with done.old.items entry entry.body }
+    ensures length { length flying.new.flights + deque_len done.new ≡ length flying.old.flights + deque_len done.old + 1 }
+    ensures longer { (length flying.old.flights ≤ length flying.new.flights) × (deque_len done.old ≤ deque_len done.new) }
+    ensures room { (flying.new.room ≡ flying.old.room) × (deque_capacity done.new ≡ deque_capacity done.old) }
 {
     match entry.body {
-        Body::Call(_) => flying.push_back_reserved(Flight { entry }),
+        Body::Call(_) => flying.push_reserved(entry),
+        Body::Cancel(key) => {
+            flying.mark(key);
+            done.push_back_reserved(completion_for(entry, Outcome::Count(0)));
+        }
     }
 }
 
 // The queue is taken, in order.
-fn take_all(queue: &mut VecDeque<Entry>, flying: &mut VecDeque<Flight>)
-    requires { deque_len queue.old + deque_len flying.old ≤ deque_capacity flying.old }
+fn take_all(queue: &mut VecDeque<Entry>, flying: &mut Flights, done: &mut VecDeque<Completion>)
+    requires flying_room { deque_len queue.old + length flying.old.flights ≤ flying.old.room }
+    requires done_room { deque_len queue.old + deque_len done.old ≤ deque_capacity done.old }
     ensures queue { queue.new.items ≡ [] }
-    ensures flying { flying.new.items ≡ flying_after flying.old.items queue.old.items }
-    ensures lengths { (deque_len queue.new ≡ 0) × (deque_len flying.new ≡ deque_len queue.old + deque_len flying.old) }
-    ensures capacities { (deque_capacity queue.new ≡ deque_capacity queue.old) × (deque_capacity flying.new ≡ deque_capacity flying.old) }
+    ensures flying { flying.new.flights ≡ flying_after flying.old.flights queue.old.items }
+    ensures done { done.new.items ≡ done_after done.old.items queue.old.items }
+    ensures lengths { (deque_len queue.new ≡ 0) × (length flying.new.flights + deque_len done.new ≡ deque_len queue.old + length flying.old.flights + deque_len done.old) }
+    ensures longer { (length flying.old.flights ≤ length flying.new.flights) × (deque_len done.old ≤ deque_len done.new) }
+    ensures capacities { (deque_capacity queue.new ≡ deque_capacity queue.old) × (flying.new.room ≡ flying.old.room) × (deque_capacity done.new ≡ deque_capacity done.old) }
 {
     while let Some(entry) = queue.pop_front() {
-        take_entry(entry, flying);
+        take_entry(entry, flying, done);
     }
 }
 

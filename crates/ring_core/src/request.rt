@@ -8,6 +8,12 @@ use rent_buf::IoBufMut;
 /// The most bytes that one request asks for.
 pub const MOST_ASKED: usize = 2147483647;
 
+/// The error of a canceled operation. (monoio's `operation_canceled`)
+pub const CANCELED: u16 = 125;
+
+/// The greatest error number. (Linux's `MAX_ERRNO`)
+pub const LAST_ERROR: u16 = 4095;
+
 /// A request, with the buffer that it owns until it is handed back. (monoio's `OpAble` types)
 #[derive(Debug, Drop)]
 pub enum Request<B> {
@@ -37,6 +43,8 @@ pub enum Call {
 pub enum Told {
     /// So many bytes moved.
     Count(u32),
+    /// It failed with this error.
+    Fail(u16),
 }
 
 /// How a request ended. (monoio's `CqeResult`)
@@ -44,6 +52,8 @@ pub enum Told {
 pub enum Outcome {
     /// So many bytes moved.
     Count(u32),
+    /// It failed with this error.
+    Fail(u16),
 }
 
 impl<B: IoBufMut> Request<B> {

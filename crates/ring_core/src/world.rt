@@ -2,13 +2,12 @@
 ghost use Rattle.std.specs.Prelude.{◌≡◌, ◌<◌, ◌≤◌, ◌&&◌, [], ◌∷◌, ◌++◌, length, take, true, OnOk, OnErr, IfOk, option_copied, slice_get};
 ghost use Rattle.ring_core.specs.Lists.{amended, passes};
 ghost use Rattle.ring_core.specs.World.{fresh, gives_bytes, input_of, with_input};
-ghost use Rattle.ring_core.specs.Outcome.{may_read, is_allowed};
-ghost use Rattle.ring_core.specs.Effect.{effect, without_front};
-ghost use Rattle.ring_core.specs.MemRing.{Leaves};
+ghost use Rattle.ring_core.specs.Outcome.{may_read, may_count, may_fail, is_allowed};
+ghost use Rattle.ring_core.specs.Effect.{effect, count_effect, without_front};
 
 use crate::input::Input;
-use crate::request::{Call, Outcome, Told};
-use rent_buf::{ByteList, OutOfMemory};
+use crate::request::{CANCELED, Call, LAST_ERROR, Outcome, Told};
+use rent_buf::OutOfMemory;
 use std::alloc::Global;
 use std::marker::Model;
 use thiserror::Error;
@@ -98,35 +97,82 @@ impl World {
         feed_at(&mut self.handles, h as usize, bytes)
     }
 
-    /// The outcome that is told is allowed to a call (`is_allowed`).
-    pub fn allows(&self, call: Call, told: Told) -> bool
-        ensures { result ≡ is_allowed self.now call told }
+    /// The outcome that is told is allowed to a call whose cancel was taken, or wasn't (`is_allowed`).
+    pub fn allows(&self, canceled: bool, call: Call, told: Told) -> bool
+        ensures { result ≡ is_allowed self.now canceled call told }
     {
-        match (call, told) {
-            (Call::In { h, ask }, Told::Count(k)) => may_take(self.handles.get(h as usize), ask, k),
+        match told {
+            Told::Count(k) => self.allows_count(call, k),
+            Told::Fail(e) => may_end_with(canceled, e),
         }
     }
 
-    /// Moves what an allowed outcome moves (`effect`), and answers the outcome. The bytes that came join `got`.
-    pub fn execute(
-        &mut self,
-        call: Call,
-        told: Told,
-        sent: &[u8],
-        got: &mut ByteList,
-    ) -> Result<Outcome, OutOfMemory>
-        requires allowed { is_allowed self.old call told ≡ true }
-        requires fresh { got.old ≡ [] }
-        ensures ok { IfOk result (Leaves (effect self.old call sent.now told) self.new got.new) }
-        ensures err { OnErr result ((self.new ≡ self.old) × (got.new ≡ [])) }
+    // A call may have this count.
+    fn allows_count(&self, call: Call, k: u32) -> bool
+        ensures { result ≡ may_count self.now call k }
     {
-        match (call, told) {
-            (Call::In { h, ask }, Told::Count(k)) => {
-                copy_front(self.handles.get(h as usize), ask, k, got)?;
+        match call {
+            Call::In { h, ask } => may_take(self.handles.get(h as usize), ask, k),
+        }
+    }
+
+    /// The bytes that an allowed outcome brings (`effect`). They wait here until it is executed. (own)
+    pub fn coming(&self, canceled: bool, call: Call, told: Told) -> &[u8]
+        requires { is_allowed self.now canceled call told ≡ true }
+        ensures { result.now ≡ (effect self.now call [] told).got }
+    {
+        match told {
+            Told::Count(k) => self.coming_count(call, k),
+            Told::Fail(_) => &[],
+        }
+    }
+
+    // The bytes that an allowed count brings.
+    fn coming_count(&self, call: Call, k: u32) -> &[u8]
+        requires { may_count self.now call k ≡ true }
+        ensures { result.now ≡ (count_effect self.now call [] k).got }
+    {
+        match call {
+            Call::In { h, ask } => front(self.handles.get(h as usize), ask, k),
+        }
+    }
+
+    /// Moves what an allowed outcome moves (`effect`), and answers the outcome. The bytes that it brings are gone. It
+    /// takes no memory.
+    pub fn execute(&mut self, canceled: bool, call: Call, told: Told, sent: &[u8]) -> Outcome
+        requires { is_allowed self.old canceled call told ≡ true }
+        ensures world { self.new ≡ (effect self.old call sent.now told).world }
+        ensures outcome { result ≡ (effect self.old call sent.now told).outcome }
+    {
+        match told {
+            Told::Count(k) => self.move_count(call, k, sent),
+            Told::Fail(e) => Outcome::Fail(e),
+        }
+    }
+
+    // Moves what an allowed count moves (`count_effect`), and answers the outcome.
+    fn move_count(&mut self, call: Call, k: u32, sent: &[u8]) -> Outcome
+        requires { may_count self.old call k ≡ true }
+        ensures world { self.new ≡ (count_effect self.old call sent.now k).world }
+        ensures outcome { result ≡ (count_effect self.old call sent.now k).outcome }
+    {
+        match call {
+            Call::In { h, ask: _ } => {
                 consume_at(&mut self.handles, h as usize, k as usize);
-                Ok(Outcome::Count(k))
+                Outcome::Count(k)
             }
         }
+    }
+}
+
+// An execution may end with this error.
+fn may_end_with(canceled: bool, e: u16) -> bool
+    ensures { result ≡ may_fail canceled e }
+{
+    if e == CANCELED {
+        canceled
+    } else {
+        e >= 1 && e <= LAST_ERROR
     }
 }
 
@@ -154,23 +200,14 @@ fn may_take(handle: Option<&HandleState>, ask: u32, k: u32) -> bool
     }
 }
 
-// The first bytes of a handle's input join `got`.
-fn copy_front(
-    handle: Option<&HandleState>,
-    ask: u32,
-    k: u32,
-    got: &mut ByteList,
-) -> Result<(), OutOfMemory>
+// The first bytes of a handle's input.
+fn front(handle: Option<&HandleState>, ask: u32, k: u32) -> &[u8]
     requires { passes (λ handle. gives_bytes handle.kind && may_read ask k handle) (option_copied handle) ≡ true }
-    ensures ok { OnOk result (got.new ≡ got.old ++ take k (input_of (option_copied handle.entry))) }
-    ensures err { OnErr result (got.new ≡ got.old) }
+    ensures { result.now ≡ take k (input_of (option_copied handle.entry)) }
 {
     match handle {
-        Some(handle) => {
-            let bytes = handle.input.as_slice();
-            got.append(&bytes[..k as usize])
-        }
-        None => Ok(()),
+        Some(handle) => &handle.input.as_slice()[..k as usize],
+        None => unreachable!(),
     }
 }
 

@@ -1,9 +1,9 @@
 -- What the words of the command line ask for.
 use Rattle.std.proofs.Common.{◌≡◌, ◌≤◌, ◌<◌, ℕ, List, [], ◌∷◌, length, get_or, Option, None, Some, sym, ◌∙◌, ap, arith}
-use Rattle.std.specs.Prelude.{codes, decimal}
+use Rattle.std.specs.Prelude.{◌^◌, codes, decimal}
 use Rattle.session_run.specs.declared.command.Command.{Command}
-use Rattle.session_run.specs.declared.command.Command.TheVariants.{Run}
-use Rattle.session_run.specs.Command.{IsRun, IsCapacity, capacity_in, ReadsCapacity, ReadsCommand}
+use Rattle.session_run.specs.declared.command.Command.TheVariants.{Run, Wake}
+use Rattle.session_run.specs.Command.{IsRun, IsWake, IsNoCommand, IsCapacity, ReadsCapacity, ReadsCounts, ReadsUpTo, ReadsCommand, IsWithin, ReadsNothing}
 use Rattle.session_run.specs.TextReads.{number_of}
 use Rattle.session_run.proofs.TextNumbers.{number_of-decimal, number_of-Some}
 
@@ -28,15 +28,74 @@ capacity-outside word n reads outside capacity is =
 pub capacity-unread : (word : List ℕ) → number_of word ≡ None → (capacity : ℕ) → IsCapacity word capacity → ⊥
 capacity-unread word reads capacity is = (let never : ◌≡◌ {A = Option ℕ} None (Some capacity) = sym reads ∙ number_of-capacity word capacity is in cc)
 
+-- A number within the bound is one up to it.
+pub upto-within : (most : ℕ) (word : List ℕ) (n : ℕ) → number_of word ≡ Some n → n ≤ most → ReadsUpTo most word (Some n)
+upto-within most word n reads within = (within, (number_of-Some word n reads).0)
+
+-- A word that is read as a number past the bound is none up to it.
+pub upto-outside : (most : ℕ) (word : List ℕ) (n : ℕ) → most < 2 ^ 64 → number_of word ≡ Some n → (n ≤ most → ⊥) → ReadsUpTo most word None
+upto-outside most word n small reads outside = λ number within is.
+    let same : Some n ≡ Some number = sym reads ∙ ap number_of is ∙ number_of-decimal number (omega arith) in
+    let equal : n ≡ number = cc in
+    outside (omega arith)
+
+-- A word that is read as no number is none.
+pub upto-unread : (most : ℕ) (word : List ℕ) → most < 2 ^ 64 → number_of word ≡ None → ReadsUpTo most word None
+upto-unread most word small reads = λ number within is.
+    (let never : ◌≡◌ {A = Option ℕ} None (Some number) = sym reads ∙ ap number_of is ∙ number_of-decimal number (omega arith) in cc)
+
+-- Two words are no `wake`.
+two-no-wake : (name word : List ℕ) (senders count : ℕ) → IsWake (name ∷ word ∷ []) senders count → ⊥
+two-no-wake name word senders count wake = (let all : name ∷ word ∷ [] ≡ codes "wake" ∷ decimal senders ∷ decimal count ∷ [] = wake.words_are in cc)
+
+-- Three words are no `run`.
+three-no-run : (name first second : List ℕ) (capacity : ℕ) → IsRun (name ∷ first ∷ second ∷ []) capacity → ⊥
+three-no-run name first second capacity run = (let all : name ∷ first ∷ second ∷ [] ≡ codes "run" ∷ decimal capacity ∷ [] = run.words_are in cc)
+
 -- The words `run` and another ask for what that one does.
 pub command-run : (name word : List ℕ) (command : Option Command) → name ≡ codes "run" → ReadsCapacity word command → ReadsCommand (name ∷ word ∷ []) command
-command-run name word None is reads = λ capacity run.
-    reads capacity (record { positive = run.positive; fits = run.fits; word_is = (let both : name ∷ word ∷ [] ≡ codes "run" ∷ decimal capacity ∷ [] = run.words_are in cc) })
+command-run name word None is reads = record {
+  no_run = λ capacity run. reads capacity (record { positive = run.positive; fits = run.fits; word_is = (let both : name ∷ word ∷ [] ≡ codes "run" ∷ decimal capacity ∷ [] = run.words_are in cc) });
+  no_wake = two-no-wake name word;
+}
 command-run name word (Some (Run capacity)) is reads = record { positive = reads.positive; fits = reads.fits; words_are = ap (λ x. x ∷ word ∷ []) is ∙ ap (λ x. codes "run" ∷ x ∷ []) reads.word_is }
+command-run name word (Some (Wake senders count)) is reads = absurd reads
 
 -- Two words of which the first isn't `run` ask for nothing.
 pub command-other : (name word : List ℕ) → (name ≡ codes "run" → ⊥) → ReadsCommand (name ∷ word ∷ []) None
-command-other name word other = λ capacity run. other (let both : name ∷ word ∷ [] ≡ codes "run" ∷ decimal capacity ∷ [] = run.words_are in cc)
+command-other name word other = record {
+  no_run = λ capacity run. other (let both : name ∷ word ∷ [] ≡ codes "run" ∷ decimal capacity ∷ [] = run.words_are in cc);
+  no_wake = two-no-wake name word;
+}
+
+-- The words `wake` and two more ask for what those do.
+pub command-wake : (name first second : List ℕ) (command : Option Command) → name ≡ codes "wake" → ReadsCounts first second command → ReadsCommand (name ∷ first ∷ second ∷ []) command
+command-wake name first second None is reads = record {
+  no_run = three-no-run name first second;
+  no_wake = λ senders count wake.
+      let all : name ∷ first ∷ second ∷ [] ≡ codes "wake" ∷ decimal senders ∷ decimal count ∷ [] = wake.words_are in
+      reads senders count (record { few = wake.few; small = wake.small; first_is = cc; second_is = cc });
+}
+command-wake name first second (Some (Run capacity)) is reads = absurd reads
+command-wake name first second (Some (Wake senders count)) is reads = record {
+  few = reads.few;
+  small = reads.small;
+  words_are = ap (λ x. x ∷ first ∷ second ∷ []) is ∙ ap (λ x. codes "wake" ∷ x ∷ second ∷ []) reads.first_is ∙ ap (λ x. codes "wake" ∷ decimal senders ∷ x ∷ []) reads.second_is;
+}
+
+-- Three words of which the first isn't `wake` ask for nothing.
+pub command-no_wake : (name first second : List ℕ) → (name ≡ codes "wake" → ⊥) → ReadsCommand (name ∷ first ∷ second ∷ []) None
+command-no_wake name first second other = record {
+  no_run = three-no-run name first second;
+  no_wake = λ senders count wake. other (let all : name ∷ first ∷ second ∷ [] ≡ codes "wake" ∷ decimal senders ∷ decimal count ∷ [] = wake.words_are in cc);
+}
+
+-- Words that are neither two nor three ask for nothing.
+pub command-none : (words : List (List ℕ)) → (length words ≡ 2 → ⊥) → (length words ≡ 3 → ⊥) → ReadsCommand words None
+command-none words not_two not_three = record {
+  no_run = λ capacity run. not_two (ap length run.words_are);
+  no_wake = λ senders count wake. not_three (ap length wake.words_are);
+}
 
 -- A list of two is its two elements.
 pub two-words : {A : Type 0} (xs : List A) (x y : A) → 2 ≤ length xs → length xs < 3 → x ≡ get_or xs 0 x → y ≡ get_or xs 1 y → xs ≡ x ∷ y ∷ []
@@ -45,14 +104,49 @@ two-words (a ∷ []) x y some few first second = absurd (omega (arith, some))
 two-words (a ∷ b ∷ []) x y some few first second = ap (λ z. z ∷ b ∷ []) (sym first) ∙ ap (λ z. x ∷ z ∷ []) (sym second)
 two-words (a ∷ b ∷ d ∷ xs) x y some few first second = absurd (omega (arith, few))
 
--- The command that words ask for has their capacity.
-pub reads-run : (words : List (List ℕ)) (command : Command) → ReadsCommand words (Some command) → IsRun words (capacity_in command)
-reads-run words (Run capacity) reads = reads
+-- A list of three is its three elements.
+pub three-words : {A : Type 0} (xs : List A) (x y z : A) → 3 ≤ length xs → length xs < 4 → x ≡ get_or xs 0 x → y ≡ get_or xs 1 y → z ≡ get_or xs 2 z → xs ≡ x ∷ y ∷ z ∷ []
+three-words [] x y z some few first second third = absurd (omega (arith, some))
+three-words (a ∷ []) x y z some few first second third = absurd (omega (arith, some))
+three-words (a ∷ b ∷ []) x y z some few first second third = absurd (omega (arith, some))
+three-words (a ∷ b ∷ d ∷ []) x y z some few first second third = ap (λ w. w ∷ b ∷ d ∷ []) (sym first) ∙ ap (λ w. x ∷ w ∷ d ∷ []) (sym second) ∙ ap (λ w. x ∷ y ∷ w ∷ []) (sym third)
+three-words (a ∷ b ∷ d ∷ e ∷ xs) x y z some few first second third = absurd (omega (arith, few))
+
+-- A number has one text.
+same-number : (a b : ℕ) → a < 2 ^ 64 → b < 2 ^ 64 → decimal a ≡ decimal b → a ≡ b
+same-number a b small_a small_b texts =
+    let low : Some a ≡ Some b = sym (number_of-decimal a small_a) ∙ ap number_of texts ∙ number_of-decimal b small_b in
+    cc
 
 -- Words have one capacity.
 pub same-capacity : (words : List (List ℕ)) (a b : ℕ) → IsRun words a → IsRun words b → a ≡ b
 same-capacity words a b first second =
     let both : codes "run" ∷ decimal a ∷ [] ≡ codes "run" ∷ decimal b ∷ [] = sym first.words_are ∙ second.words_are in
-    let texts : decimal a ≡ decimal b = cc in
-    let low : Some a ≡ Some b = sym (number_of-decimal a (let fits = first.fits in omega arith)) ∙ ap number_of texts ∙ number_of-decimal b (let fits = second.fits in omega arith) in
-    cc
+    same-number a b (let fits = first.fits in omega arith) (let fits = second.fits in omega arith) (cc)
+
+-- Words have one number of senders, and one of wakers.
+pub same-counts : (words : List (List ℕ)) (a b m n : ℕ) → IsWake words a m → IsWake words b n → (a ≡ b) × (m ≡ n)
+same-counts words a b m n first second =
+    let all : codes "wake" ∷ decimal a ∷ decimal m ∷ [] ≡ codes "wake" ∷ decimal b ∷ decimal n ∷ [] = sym first.words_are ∙ second.words_are in (
+      same-number a b (let few = first.few in omega arith) (let few = second.few in omega arith) (cc),
+      same-number m n (let small = first.small in omega arith) (let small = second.small in omega arith) (cc),
+    )
+
+-- Words don't ask for both commands.
+pub not-both : (words : List (List ℕ)) (capacity senders count : ℕ) → IsRun words capacity → IsWake words senders count → ⊥
+not-both words capacity senders count run wake = (let all : codes "run" ∷ decimal capacity ∷ [] ≡ codes "wake" ∷ decimal senders ∷ decimal count ∷ [] = sym run.words_are ∙ wake.words_are in cc)
+
+-- The numbers of a command that words ask for are within its bounds.
+pub reads-within : (words : List (List ℕ)) (command : Command) → ReadsCommand words (Some command) → IsWithin command
+reads-within words (Run capacity) reads = reads.positive
+reads-within words (Wake senders count) reads = reads.few
+
+-- Words that ask for a command are a command's.
+pub reads-some : (words : List (List ℕ)) (command : Command) → ReadsCommand words (Some command) → IsNoCommand words → ⊥
+reads-some words (Run capacity) reads none = none.no_run capacity reads
+reads-some words (Wake senders count) reads none = none.no_wake senders count reads
+
+-- A command that `wake` asks for reads nothing.
+pub reads-nothing : (words : List (List ℕ)) (command : Command) (senders count : ℕ) → ReadsCommand words (Some command) → IsWake words senders count → ReadsNothing command
+reads-nothing words (Run capacity) senders count reads wake = absurd (not-both words capacity senders count reads wake)
+reads-nothing words (Wake s c) senders count reads wake = tt

@@ -7,7 +7,9 @@ mod TextSpaces
 mod TextEvents
 mod TextLinesRead
 mod Commands
-mod Tokens
+mod KeptTokens
 mod Steps
 mod Runs
 mod Writing
+mod Endings
+mod Parts

@@ -7,11 +7,11 @@ use Rattle.rent_buf.specs.Buf.{built}
 use Rattle.rent_buf.specs.declared.spec.Buf.{Buf}
 use Rattle.ring_core.specs.Lists.{amended, passes}
 use Rattle.ring_core.specs.Ring.{RingView}
-use Rattle.ring_core.specs.Ledger.{Ledger, Operation, is_live, live_ops, user_holds}
+use Rattle.ring_core.specs.Ledger.{Ledger, Operation, Place, InQueue, InFlight, InDone, Reaped, Gone, is_live, is_owned, live_ops, user_holds}
 use Rattle.ring_core.specs.Request.{named, plain_request}
 use Rattle.ring_core.specs.Refusal.{cause, refused_if, most_live, lacks_handle}
 use Rattle.ring_core.specs.declared.ledger.Event.{Event}
-use Rattle.ring_core.specs.declared.ledger.Event.TheVariants.{Feed, Submit, Poll, Exec}
+use Rattle.ring_core.specs.declared.ledger.Event.TheVariants.{Feed, Submit, Poll, Drop, Cancel, Exec}
 use Rattle.ring_core.specs.declared.request.Told.{Told}
 use Rattle.ring_core.specs.declared.mem_ring.ExecRefusal.{ExecRefusal}
 use Rattle.rent_buf.specs.declared.fault.OutOfMemory.{OutOfMemory as NoMemory}
@@ -27,10 +27,12 @@ use Rattle.ring_core.proofs.Amended.{length-amended}
 use Rattle.ring_core.proofs.HeadlineReplies.{step-refused}
 use Rattle.uring_driver.specs.declared.op.Op.{Op}
 use Rattle.uring_driver.specs.declared.driver.IoUringDriver.{IoUringDriver}
-use Rattle.uring_driver.specs.Driver.{given_by, holds_handle, holds_all, live_slots}
-use Rattle.uring_driver.specs.Op.{Holds, number_of, KeepsTokens}
-use Rattle.uring_driver.specs.Slot.{serial_of}
-use Rattle.uring_driver.specs.Slot.{number_at}
+use Rattle.uring_driver.specs.Driver.{due_in, given_by, holds_handle, holds_all, live_slots}
+use Rattle.uring_driver.specs.Op.{Holds, number_of, KeepsTokens, DropsToken}
+use Rattle.uring_driver.specs.declared.slot.Slot.{Slot}
+use Rattle.uring_driver.specs.Slot.{is_owned_life, number_if, serial_of, number_at}
+use Rattle.uring_driver.specs.Slots.{waiting, life_of, life_at}
+use Rattle.ring_core.specs.Step.{step}
 use Rattle.uring_driver.specs.Submitted.{AddsTo, AddsToken, SubmitsFor, SameSlots, WhyRefused, SubmitRefused}
 use Rattle.uring_driver.specs.declared.op.Submitted.{Submitted}
 use Rattle.uring_driver.specs.Turned.{TurnsFor}
@@ -42,31 +44,37 @@ use Rattle.uring_driver.specs.declared.op.SubmitFault.{SubmitFault}
 use Rattle.ring_core.specs.declared.request.Request.{Request}
 use Rattle.uring_driver.specs.Stands.{Stands, Answers}
 use Rattle.session_run.specs.declared.session.Session.{Session}
-use Rattle.session_run.specs.Token.{token_at}
+use Rattle.session_run.specs.Token.{token_at, by_number}
 use Rattle.session_run.specs.Session.{AreHeld, SessionStands, SessionAnswers, StepsFor}
-use Rattle.session_run.proofs.Tokens.{are_held-kept, are_held-taken, are_held-added}
+use Rattle.session_run.proofs.KeptTokens.{are_held-kept, are_held-taken, are_held-added}
+
+-- A session that keeps its tokens stands for a ledger where its driver does, which has nothing due and holds the tokens that it held.
+pub stands-kept : (old new : Session) (L M : Ledger) → SessionStands old L → by_number new.tokens ≡ by_number old.tokens → Stands (λ r. r) built new.driver M → (due_in old.driver ≡ [] → due_in new.driver ≡ []) → KeepsTokens old.driver new.driver → given_by new.driver ≡ given_by old.driver → SessionStands new M
+stands-kept old new L M stands tokens driver due kept given = record {
+  driver = driver;
+  none_due = due stands.none_due;
+  numbered = ap (λ items. length items) tokens ∙ stands.numbered ∙ sym given;
+  tokens = subst (λ items. AreHeld items new.driver) (sym tokens) (are_held-kept (by_number old.tokens) old.driver new.driver stands.tokens kept);
+}
 
 -- A driver's answer, where it keeps all tokens, is the session's.
-pub answers-kept : (old new : Session) (L : Ledger) (event : Event) (reply : Reply) → SessionStands old L → new.tokens.items ≡ old.tokens.items → Answers (λ r. r) built L event reply new.driver → KeepsTokens old.driver new.driver → given_by new.driver ≡ given_by old.driver → SessionAnswers L event reply new
-answers-kept old new L event reply stands tokens answers kept given = record {
+pub answers-kept : (old new : Session) (L : Ledger) (event : Event) (reply : Reply) → SessionStands old L → by_number new.tokens ≡ by_number old.tokens → Answers (λ r. r) built L event reply new.driver → (due_in old.driver ≡ [] → due_in new.driver ≡ []) → KeepsTokens old.driver new.driver → given_by new.driver ≡ given_by old.driver → SessionAnswers L event reply new
+answers-kept old new L event reply stands tokens answers due kept given = record {
   reply_is = answers.reply_is;
-  stands = record {
-    driver = answers.stands;
-    numbered = ap (λ items. length items) tokens ∙ stands.numbered ∙ sym given;
-    tokens = subst (λ items. AreHeld items new.driver) (sym tokens) (are_held-kept old.tokens.items old.driver new.driver stands.tokens kept);
-  };
+  stands = stands-kept old new L (step L event).0 stands tokens answers.stands due kept given;
 }
 
 -- Where the driver and the tokens are the same, a session stands for the same ledger.
-pub stands-same : (old new : Session) (L : Ledger) → SessionStands old L → new.driver ≡ old.driver → new.tokens.items ≡ old.tokens.items → SessionStands new L
+pub stands-same : (old new : Session) (L : Ledger) → SessionStands old L → new.driver ≡ old.driver → by_number new.tokens ≡ by_number old.tokens → SessionStands new L
 stands-same old new L stands driver tokens = record {
   driver = subst (λ d. Stands (λ r. r) built d L) (sym driver) stands.driver;
+  none_due = ap (λ d. due_in d) driver ∙ stands.none_due;
   numbered = ap (λ items. length items) tokens ∙ stands.numbered ∙ ap (λ d. given_by d) (sym driver);
-  tokens = subst (λ d. AreHeld new.tokens.items d) (sym driver) (subst (λ items. AreHeld items old.driver) (sym tokens) stands.tokens);
+  tokens = subst (λ d. AreHeld (by_number new.tokens) d) (sym driver) (subst (λ items. AreHeld items old.driver) (sym tokens) stands.tokens);
 }
 
 -- A refused event changes nothing.
-pub answers-refused : (old new : Session) (L : Ledger) (event : Event) (refusal : Refusal) → SessionStands old L → cause L event ≡ Some refusal → new.driver ≡ old.driver → new.tokens.items ≡ old.tokens.items → SessionAnswers L event (Refused refusal) new
+pub answers-refused : (old new : Session) (L : Ledger) (event : Event) (refusal : Refusal) → SessionStands old L → cause L event ≡ Some refusal → new.driver ≡ old.driver → by_number new.tokens ≡ by_number old.tokens → SessionAnswers L event (Refused refusal) new
 answers-refused old new L event refusal stands named driver tokens =
     let same = step-refused L event refusal named in
     record { reply_is = ap (λ next. next.1) same; stands = subst (λ next. SessionStands new next.0) (sym same) (stands-same old new L stands driver tokens) }
@@ -93,12 +101,9 @@ stands-refused old new L SubmitFault.Busy refused stands = absurd (refused.1 ref
 stands-refused old new L SubmitFault.OutOfMemory refused stands = refused L stands
 
 -- So does the session.
-pub stands-unsubmitted : (old new : Session) (L : Ledger) (request : Request Buf) (refused : SubmitError Buf) → SessionStands old L → new.tokens.items ≡ old.tokens.items → SubmitRefused (λ r. r) built true request old.driver new.driver refused → SessionStands new L
-stands-unsubmitted old new L request refused stands tokens why = record {
-  driver = stands-refused old.driver new.driver L refused.why why.why stands.driver;
-  numbered = ap (λ items. length items) tokens ∙ stands.numbered ∙ sym why.same.given;
-  tokens = subst (λ items. AreHeld items new.driver) (sym tokens) (are_held-kept old.tokens.items old.driver new.driver stands.tokens (kept-same_slots old.driver new.driver why.same));
-}
+pub stands-unsubmitted : (old new : Session) (L : Ledger) (request : Request Buf) (refused : SubmitError Buf) → SessionStands old L → by_number new.tokens ≡ by_number old.tokens → (due_in old.driver ≡ [] → due_in new.driver ≡ []) → SubmitRefused (λ r. r) built true request old.driver new.driver refused → SessionStands new L
+stands-unsubmitted old new L request refused stands tokens due why =
+    stands-kept old new L L stands tokens (stands-refused old.driver new.driver L refused.why why.why stands.driver) due (kept-same_slots old.driver new.driver why.same) why.same.given
 
 -- A feed of a handle that the user doesn't hold is refused.
 pub cause-feed : (L : Ledger) (h : ℕ) (bytes : List ℕ) → user_holds L h ≡ false → cause L (Feed h bytes) ≡ Some NoHandle
@@ -134,33 +139,75 @@ cause-submit_full session L request live stands held count full =
     (lacks_handle-holds_all session.driver L stands.driver.handles (named request) ∙ ap not held)
     ∙ ap (λ b. refused_if b Full None) (ap (λ k. nat_le most_live k) (sym stands.driver.means.in_slots.counted ∙ sym count) ∙ nat_le-true most_live live full)
 
--- A poll of what isn't there is refused.
-pub cause-poll : (L : Ledger) (n task : ℕ) → passes is_live (slice_get L.ops n) ≡ false → cause L (Poll n task) ≡ Some NoOp
-cause-poll L n task absent = ap (λ live. refused_if (not live) NoOp None) absent
+-- A poll, a drop or a cancel of what isn't its user's is refused.
+pub cause-poll : (L : Ledger) (n task : ℕ) → passes is_owned (slice_get L.ops n) ≡ false → cause L (Poll n task) ≡ Some NoOp
+cause-poll L n task absent = ap (λ owned. refused_if (not owned) NoOp None) absent
+
+pub cause-drop : (L : Ledger) (n : ℕ) → passes is_owned (slice_get L.ops n) ≡ false → cause L (Drop n) ≡ Some NoOp
+cause-drop L n absent = ap (λ owned. refused_if (not owned) NoOp None) absent
+
+pub cause-cancel : (L : Ledger) (n : ℕ) → passes is_owned (slice_get L.ops n) ≡ false → cause L (Cancel n) ≡ Some NoOp
+cause-cancel L n absent = ap (λ owned. refused_if (not owned) NoOp None) absent
 
 -- What isn't true is false.
 false-unless : (b : Bool) → (b ≡ true → ⊥) → b ≡ false
 false-unless true never = absurd (never refl)
 false-unless false never = refl
 
--- An operation whose token isn't kept isn't live.
-pub no_token-lacks : (session : Session) (L : Ledger) (n : ℕ) → SessionStands session L → token_at session.tokens.items n ≡ None → (found : Option Operation) → slice_get L.ops n ≡ found → passes is_live found ≡ false
-no_token-lacks session L n stands none None is = refl
-no_token-lacks session L n stands none (Some operation) is = false-unless (is_live operation) (λ live.
-    let slot = stands.driver.means.in_slots.each n operation is live in
-    let op : Op = record { number = n; key = slot.key } in
-    let holds : Holds session.driver op = ap serial_of slot.there ∙ ap (λ k. Some k) slot.serial in
-    let there : token_at session.tokens.items n ≡ Some op = (stands.tokens n op).1 (holds, refl) in
-    (let both : ◌≡◌ {A = Option Op} None (Some op) = sym none ∙ there in cc))
+-- Both parts of what holds hold.
+and-parts : (a b : Bool) → (a && b) ≡ true → (a ≡ true) × (b ≡ true)
+and-parts true true is = (refl, refl)
+and-parts true false is = absurd (let never : ◌≡◌ {A = Bool} false true = is in cc)
+and-parts false b is = absurd (let never : ◌≡◌ {A = Bool} false true = is in cc)
 
--- An operation that is handed over leaves with its token.
-pub answers-taken : (old new : Session) (L : Ledger) (n : ℕ) (op : Op) (event : Event) (reply : Reply) → SessionStands old L → token_at old.tokens.items n ≡ Some op → new.tokens.items ≡ amended old.tokens.items n (λ token. None) → ((other : Op) → Holds new.driver other ↔ (Holds old.driver other × (other ≢ op))) → given_by new.driver ≡ given_by old.driver → Answers (λ r. r) built L event reply new.driver → SessionAnswers L event reply new
-answers-taken old new L n op event reply stands there tokens taken given answers = record {
+-- The slot of an operation that wasn't dropped is its user's.
+owned-waiting : (task : Option ℕ) → is_owned_life (waiting task) ≡ true
+owned-waiting None = refl
+owned-waiting (Some task) = refl
+
+owned-undropped : (was_dropped : Bool) (place : Place) (task : Option ℕ) → not was_dropped ≡ true → is_owned_life (life_of was_dropped place task) ≡ true
+owned-undropped true place task is = absurd (let never : ◌≡◌ {A = Bool} false true = is in cc)
+owned-undropped false InQueue task is = owned-waiting task
+owned-undropped false InFlight task is = owned-waiting task
+owned-undropped false (InDone outcome) task is = owned-waiting task
+owned-undropped false (Reaped outcome) task is = refl
+owned-undropped false Gone task is = refl
+
+-- The slot of an operation that is its user's has its number.
+serial_of-owned : (slot : Slot Buf) (operation : Operation) (n : ℕ) → slot.serial ≡ n → slot.life ≡ life_at operation → not operation.dropped ≡ true → serial_of (Some slot) ≡ Some n
+serial_of-owned slot operation n serial life undropped =
+    ap (λ b. number_if b slot.serial) (ap is_owned_life life ∙ owned-undropped operation.dropped operation.place operation.task undropped) ∙ ap (λ k. Some k) serial
+
+-- What stands at one number is one.
+one-there : (ops : List Operation) (k n : ℕ) (x y : Operation) → k ≡ n → slice_get ops k ≡ Some x → slice_get ops n ≡ Some y → x ≡ y
+one-there ops k n x y same first second = (let both : Some x ≡ Some y = sym first ∙ ap (slice_get ops) same ∙ second in cc)
+
+-- The driver holds a token of each operation that is its user's.
+holds-owned : (session : Session) (L : Ledger) (n : ℕ) (operation : Operation) → SessionStands session L → slice_get L.ops n ≡ Some operation → is_owned operation ≡ true → (op : Op) × Holds session.driver op × (number_of op ≡ n)
+holds-owned session L n operation stands is owned =
+    let parts = and-parts (is_live operation) (not operation.dropped) owned in
+    let slot = stands.driver.means.in_slots.each n operation is parts.0 in
+    let for = stands.driver.means.in_slots.holds slot.key slot.slot slot.there in
+    let same : for.operation ≡ operation = one-there L.ops slot.slot.serial n for.operation operation slot.serial for.there is in
+    (record { number = n; key = slot.key }, ap serial_of slot.there ∙ serial_of-owned slot.slot operation n slot.serial (for.life ∙ ap life_at same) parts.1, refl)
+
+-- An operation whose token isn't kept isn't its user's.
+pub no_token-lacks : (session : Session) (L : Ledger) (n : ℕ) → SessionStands session L → token_at (by_number session.tokens) n ≡ None → (found : Option Operation) → slice_get L.ops n ≡ found → passes is_owned found ≡ false
+no_token-lacks session L n stands none None is = refl
+no_token-lacks session L n stands none (Some operation) is = false-unless (is_owned operation) (λ owned.
+    let op = holds-owned session L n operation stands is owned in
+    let there : token_at (by_number session.tokens) n ≡ Some op.0 = (stands.tokens n op.0).1 (op.1, op.2) in
+    (let both : ◌≡◌ {A = Option Op} None (Some op.0) = sym none ∙ there in cc))
+
+-- An operation that is handed over or dropped leaves with its token.
+pub answers-taken : (old new : Session) (L : Ledger) (n : ℕ) (op : Op) (event : Event) (reply : Reply) → SessionStands old L → token_at (by_number old.tokens) n ≡ Some op → by_number new.tokens ≡ amended (by_number old.tokens) n (λ token. None) → DropsToken old.driver new.driver op → (due_in old.driver ≡ [] → due_in new.driver ≡ []) → given_by new.driver ≡ given_by old.driver → Answers (λ r. r) built L event reply new.driver → SessionAnswers L event reply new
+answers-taken old new L n op event reply stands there tokens taken due given answers = record {
   reply_is = answers.reply_is;
   stands = record {
     driver = answers.stands;
-    numbered = ap (λ items. length items) tokens ∙ length-amended (λ token. None) old.tokens.items n ∙ stands.numbered ∙ sym given;
-    tokens = subst (λ items. AreHeld items new.driver) (sym tokens) (are_held-taken old.tokens.items old.driver new.driver n op there stands.tokens taken);
+    none_due = due stands.none_due;
+    numbered = ap (λ items. length items) tokens ∙ length-amended (λ token. None) (by_number old.tokens) n ∙ stands.numbered ∙ sym given;
+    tokens = subst (λ items. AreHeld items new.driver) (sym tokens) (are_held-taken (by_number old.tokens) old.driver new.driver n op there stands.tokens taken);
   };
 }
 
@@ -169,27 +216,28 @@ length-added : {A : Type 0} (xs : List A) (x : A) → length (xs ++ x ∷ []) �
 length-added xs x = length-append xs (x ∷ [])
 
 -- A new operation's token stands at the end.
-pub answers-added : (old new : Session) (L : Ledger) (op : Op) (event : Event) (reply : Reply) → SessionStands old L → new.tokens.items ≡ old.tokens.items ++ Some op ∷ [] → AddsTo old.driver new.driver op → Answers (λ r. r) built L event reply new.driver → SessionAnswers L event reply new
-answers-added old new L op event reply stands tokens adds answers = record {
+pub answers-added : (old new : Session) (L : Ledger) (op : Op) (event : Event) (reply : Reply) → SessionStands old L → by_number new.tokens ≡ by_number old.tokens ++ Some op ∷ [] → AddsTo old.driver new.driver op → (due_in old.driver ≡ [] → due_in new.driver ≡ []) → Answers (λ r. r) built L event reply new.driver → SessionAnswers L event reply new
+answers-added old new L op event reply stands tokens adds due answers = record {
   reply_is = answers.reply_is;
   stands = record {
     driver = answers.stands;
-    numbered = ap (λ items. length items) tokens ∙ length-added old.tokens.items (Some op) ∙ ap (λ k. k + 1) stands.numbered ∙ sym adds.next;
-    tokens = subst (λ items. AreHeld items new.driver) (sym tokens) (are_held-added old.tokens.items old.driver new.driver op stands.numbered stands.tokens adds);
+    none_due = due stands.none_due;
+    numbered = ap (λ items. length items) tokens ∙ length-added (by_number old.tokens) (Some op) ∙ ap (λ k. k + 1) stands.numbered ∙ sym adds.next;
+    tokens = subst (λ items. AreHeld items new.driver) (sym tokens) (are_held-added (by_number old.tokens) old.driver new.driver op stands.numbered stands.tokens adds);
   };
 }
 
 -- So does what a submission gave.
-pub answers-submitted : (old new : Session) (L : Ledger) (request : Request Buf) (submitted : Submitted) (op : Op) → submitted ≡ Submitted.Op op → SessionStands old L → new.tokens.items ≡ old.tokens.items ++ Some op ∷ [] → AddsToken old.driver new.driver submitted → SubmitsFor (λ r. r) built L request new.driver submitted → SessionAnswers L (Submit (plain_request built request)) (Given (number_of op)) new
-answers-submitted old new L request submitted op is stands tokens adds answers =
-    answers-added old new L op _ _ stands tokens (subst (λ s. AddsToken old.driver new.driver s) is adds) (subst (λ s. SubmitsFor (λ r. r) built L request new.driver s) is answers)
+pub answers-submitted : (old new : Session) (L : Ledger) (request : Request Buf) (submitted : Submitted) (op : Op) → submitted ≡ Submitted.Op op → SessionStands old L → by_number new.tokens ≡ by_number old.tokens ++ Some op ∷ [] → AddsToken old.driver new.driver submitted → (due_in old.driver ≡ [] → due_in new.driver ≡ []) → SubmitsFor (λ r. r) built L request new.driver submitted → SessionAnswers L (Submit (plain_request built request)) (Given (number_of op)) new
+answers-submitted old new L request submitted op is stands tokens adds due answers =
+    answers-added old new L op _ _ stands tokens (subst (λ s. AddsToken old.driver new.driver s) is adds) due (subst (λ s. SubmitsFor (λ r. r) built L request new.driver s) is answers)
 
 -- What was executed is the session's answer.
-pub answers-executed : (old new : Session) (L : Ledger) (place : ℕ) (told : Told) (executed : Executed) → SessionStands old L → new.tokens.items ≡ old.tokens.items → ExecutesFor built L place told new.driver (Ok executed) → KeepsTokens old.driver new.driver → given_by new.driver ≡ given_by old.driver → SessionAnswers L (Exec place told) (reply_to executed) new
-answers-executed old new L place told (ExecutedNumber n) stands tokens answers kept given = answers-kept old new L (Exec place told) (ExecutedOp n) stands tokens answers kept given
+pub answers-executed : (old new : Session) (L : Ledger) (place : ℕ) (told : Told) (executed : Executed) → SessionStands old L → by_number new.tokens ≡ by_number old.tokens → ExecutesFor built L place told new.driver (Ok executed) → (due_in old.driver ≡ [] → due_in new.driver ≡ []) → KeepsTokens old.driver new.driver → given_by new.driver ≡ given_by old.driver → SessionAnswers L (Exec place told) (reply_to executed) new
+answers-executed old new L place told (ExecutedNumber n) stands tokens answers due kept given = answers-kept old new L (Exec place told) (ExecutedOp n) stands tokens answers due kept given
 
 -- So is an execution that was refused.
-pub steps-unexecuted : (old new : Session) (L : Ledger) (place : ℕ) (told : Told) (why : ExecRefusal) (result : Result Reply NoMemory) → SessionStands old L → new.tokens.items ≡ old.tokens.items → ExecutesFor built L place told new.driver (Err why) → new.driver ≡ old.driver → AnswersRefusal why result → StepsFor L (Exec place told) new result
+pub steps-unexecuted : (old new : Session) (L : Ledger) (place : ℕ) (told : Told) (why : ExecRefusal) (result : Result Reply NoMemory) → SessionStands old L → by_number new.tokens ≡ by_number old.tokens → ExecutesFor built L place told new.driver (Err why) → new.driver ≡ old.driver → AnswersRefusal why result → StepsFor L (Exec place told) new result
 steps-unexecuted old new L place told ExecRefusal.NotFlying result stands tokens cause_is driver answer =
     subst (λ r. StepsFor L (Exec place told) new r) (sym answer) (answers-refused old new L (Exec place told) NotFlying stands cause_is driver tokens)
 steps-unexecuted old new L place told ExecRefusal.BadOutcome result stands tokens cause_is driver answer =

@@ -5,20 +5,20 @@ use Rattle.std.proofs.lemmas.Bool.{ltb-true, lt-ltb}
 use Rattle.std.proofs.lemmas.Slice.Eq.{bytes_eq-Decides}
 use Rattle.rent_buf.specs.Buffer.{Buffer}
 use Rattle.rent_buf.specs.declared.spec.Kind.{Kind}
-use Rattle.rent_buf.specs.declared.spec.Kind.TheVariants.{Vector}
+use Rattle.rent_buf.specs.declared.spec.Kind.TheVariants.{Vector, Grown, Fixed}
 use Rattle.ring_core.specs.declared.ledger.Event.{Event}
-use Rattle.ring_core.specs.declared.ledger.Event.TheVariants.{Give, Feed, Submit, Poll, Turn, Exec}
+use Rattle.ring_core.specs.declared.ledger.Event.TheVariants.{Give, Feed, Submit, Poll, Drop, Cancel, Turn, Exec}
 use Rattle.ring_core.specs.declared.request.Request.{Request}
 use Rattle.ring_core.specs.declared.request.Request.TheVariants.{Recv}
 use Rattle.ring_core.specs.declared.request.Told.{Told}
-use Rattle.ring_core.specs.declared.request.Told.TheVariants.{Count}
+use Rattle.ring_core.specs.declared.request.Told.TheVariants.{Count, Fail}
 use Rattle.ring_core.specs.declared.world.HandleKind.{HandleKind}
 use Rattle.ring_core.specs.declared.world.HandleKind.TheVariants.{Stream}
 use Rattle.session_run.specs.TextEvent.{AreBytes, IsBuffer, IsEvent, IsRequest, IsTold, StandsFor, buffer_kind_word, buffer_words, event_text, event_words, handle_kind_word, request_words, told_words}
 use Rattle.session_run.specs.TextLines.{IsWrong}
-use Rattle.session_run.specs.TextReads.{words, number_field, bytes_end, at_end, handle_kind_of, kind_field, bounded, buffer_of, recv_of, request_of, count_of, told_of, give_of, feed_of, submit_of, poll_of, exec_of, turn_of, event_by, event_of}
+use Rattle.session_run.specs.TextReads.{words, number_field, bytes_end, at_end, handle_kind_of, kind_field, bounded, buffer_of, recv_of, request_of, told_below, told_of, give_of, feed_of, submit_of, poll_of, numbered_of, exec_of, turn_of, event_by, event_of}
 use Rattle.session_run.specs.TextWords.{spaced, bytes_word}
-use Rattle.session_run.proofs.TextFields.{and_then-Some, map-Some, if-Some, some_same, at_end-Some, number_field-Some, bytes_end-Some, handle_kind_of-Some, kind_field-Some, bounded-Some, buffer_of-words}
+use Rattle.session_run.proofs.TextFields.{and_then-Some, map-Some, if-Some, some_same, at_end-Some, number_field-Some, bytes_end-Some, handle_kind_of-Some, buffer_of-words, buffer_read}
 use Rattle.session_run.proofs.TextHex.{bytes_of-bytes_word}
 use Rattle.session_run.proofs.TextNumbers.{number_of-decimal}
 use Rattle.session_run.proofs.TextSpaces.{AreSolid, is_solid, solid_decimal, solid_bytes, words-spaced, spaced-words}
@@ -30,8 +30,11 @@ event_of-event_words (Give Stream) h = refl
 event_of-event_words (Feed n bytes) h = rw (number_of-decimal n h.0, bytes_of-bytes_word bytes h.1) refl
 event_of-event_words (Submit (Recv n buffer)) h = rw (number_of-decimal n h.0, buffer_of-words buffer h.1) refl
 event_of-event_words (Poll n task) h = rw (number_of-decimal n h.0, number_of-decimal task h.1) refl
+event_of-event_words (Drop n) h = rw (number_of-decimal n h) refl
+event_of-event_words (Cancel n) h = rw (number_of-decimal n h) refl
 event_of-event_words Turn h = refl
 event_of-event_words (Exec place (Count k)) h = rw (number_of-decimal place h.0, number_of-decimal k (omega (arith, h.1)), lt-ltb k (2 ^ 32) h.1) refl
+event_of-event_words (Exec place (Fail e)) h = rw (number_of-decimal place h.0, number_of-decimal e (omega (arith, h.1)), lt-ltb e (2 ^ 16) h.1) refl
 
 -- What words that are read as an event are.
 abbrev Spells : List (List ℕ) → Event → Type 0
@@ -66,16 +69,58 @@ poll_read more event is =
     let second = number_field-Some n.0.1 task.0.1 task.0.0 task.1 in
     subst (λ (e : Event). Spells (codes "poll" ∷ more) e) end.1 (ap (λ (l : List (List ℕ)). codes "poll" ∷ l) (first.0 ∙ ap (λ (l : List (List ℕ)). decimal n.0.0 ∷ l) (second.0 ∙ ap (λ (l : List (List ℕ)). decimal task.0.0 ∷ l) end.0)), (first.1, second.1))
 
-told_read : (all : List (List ℕ)) (told : Told) → told_of all ≡ Some told → (all ≡ told_words told) × IsTold told
+-- One of two answers.
+either-Some : {A : Type 0} (b : Bool) (o p : Option A) (value : A) → (if b then o else p) ≡ Some value → ((b ≡ true) × (o ≡ Some value)) ⊎ (p ≡ Some value)
+either-Some true o p value is = inl (refl, is)
+either-Some false o p value is = inr is
+
+-- An event of one number.
+numbered_read : (word : List ℕ) (make : ℕ → Event) (more : List (List ℕ)) (event : Event) → ((n : ℕ) → n < 2 ^ 64 → Spells (word ∷ decimal n ∷ []) (make n)) → numbered_of make more ≡ Some event → Spells (word ∷ more) event
+numbered_read word make more event spelt is =
+    let n = and_then-Some (λ (n : ℕ × List (List ℕ)). at_end (make n.0) n.1) (number_field more) event is in
+    let end = at_end-Some (make n.0.0) n.0.1 event n.2 in
+    let number = number_field-Some more n.0.1 n.0.0 n.1 in
+    let spells = spelt n.0.0 number.1 in
+    subst (λ (e : Event). Spells (word ∷ more) e) end.1 (ap (λ (l : List (List ℕ)). word ∷ l) (number.0 ∙ ap (λ (l : List (List ℕ)). decimal n.0.0 ∷ l) end.0) ∙ spells.0, spells.1)
+
+drop_read : (more : List (List ℕ)) (event : Event) → numbered_of Drop more ≡ Some event → Spells (codes "drop" ∷ more) event
+drop_read more event is = numbered_read (codes "drop") Drop more event (λ n small. (refl, small)) is
+
+cancel_read : (more : List (List ℕ)) (event : Event) → numbered_of Cancel more ≡ Some event → Spells (codes "cancel" ∷ more) event
+cancel_read more event is = numbered_read (codes "cancel") Cancel more event (λ n small. (refl, small)) is
+
+-- What an executor tells, by the words behind its first one.
+abbrev Tells : List (List ℕ) → Told → Type 0
+Tells all told = (all ≡ told_words told) × IsTold told
+
+-- What is told by a number below a bound.
+below_read : (word : List ℕ) (bound : ℕ) (make : ℕ → Told) (more : List (List ℕ)) (told : Told) → ((n : ℕ) → n < bound → Tells (word ∷ decimal n ∷ []) (make n)) → option_and_then (told_below bound make) (number_field more) ≡ Some told → Tells (word ∷ more) told
+below_read word bound make more told spelt is =
+    let n = and_then-Some (told_below bound make) (number_field more) told is in
+    let fits = if-Some (nat_lt n.0.0 bound) (at_end (make n.0.0) n.0.1) told n.2 in
+    let end = at_end-Some (make n.0.0) n.0.1 told fits.1 in
+    let number = number_field-Some more n.0.1 n.0.0 n.1 in
+    let tells = spelt n.0.0 (ltb-true n.0.0 bound fits.0) in
+    subst (λ (t : Told). Tells (word ∷ more) t) end.1 (ap (λ (l : List (List ℕ)). word ∷ l) (number.0 ∙ ap (λ (l : List (List ℕ)). decimal n.0.0 ∷ l) end.0) ∙ tells.0, tells.1)
+
+count_read : (more : List (List ℕ)) (told : Told) → option_and_then (told_below (2 ^ 32) Count) (number_field more) ≡ Some told → Tells (codes "ok" ∷ more) told
+count_read more told is = below_read (codes "ok") (2 ^ 32) Count more told (λ n small. (refl, small)) is
+
+error_read : (more : List (List ℕ)) (told : Told) → option_and_then (told_below (2 ^ 16) Fail) (number_field more) ≡ Some told → Tells (codes "err" ∷ more) told
+error_read more told is = below_read (codes "err") (2 ^ 16) Fail more told (λ n small. (refl, small)) is
+
+told_read : (all : List (List ℕ)) (told : Told) → told_of all ≡ Some told → Tells all told
 told_read [] told is = absurd (cc)
 told_read (word ∷ more) told is =
-    let ok = if-Some (bytes_eq word (codes "ok")) (option_and_then count_of (number_field more)) told is in
-    let k = and_then-Some count_of (number_field more) told ok.1 in
-    let fits = if-Some (nat_lt k.0.0 (2 ^ 32)) (at_end (Count k.0.0) k.0.1) told k.2 in
-    let end = at_end-Some (Count k.0.0) k.0.1 told fits.1 in
-    let number = number_field-Some more k.0.1 k.0.0 k.1 in
-    let first : word ≡ codes "ok" = (bytes_eq-Decides word (codes "ok")).0 ok.0 in
-    subst (λ (t : Told). (word ∷ more ≡ told_words t) × IsTold t) end.1 (ap (λ (w : List ℕ). w ∷ more) first ∙ ap (λ (l : List (List ℕ)). codes "ok" ∷ l) (number.0 ∙ ap (λ (l : List (List ℕ)). decimal k.0.0 ∷ l) end.0), ltb-true k.0.0 (2 ^ 32) fits.0)
+    elim (either-Some (bytes_eq word (codes "ok")) (option_and_then (told_below (2 ^ 32) Count) (number_field more)) _ told is) [
+      | inl it ↦
+          let rest = count_read more told it.1 in
+          (ap (λ (w : List ℕ). w ∷ more) ((bytes_eq-Decides word (codes "ok")).0 it.0) ∙ rest.0, rest.1)
+      | inr is ↦
+          let it = if-Some (bytes_eq word (codes "err")) (option_and_then (told_below (2 ^ 16) Fail) (number_field more)) told is in
+          let rest = error_read more told it.1 in
+          (ap (λ (w : List ℕ). w ∷ more) ((bytes_eq-Decides word (codes "err")).0 it.0) ∙ rest.0, rest.1)
+    ]
 
 exec_read : (more : List (List ℕ)) (event : Event) → exec_of more ≡ Some event → Spells (codes "exec" ∷ more) event
 exec_read more event is =
@@ -84,31 +129,6 @@ exec_read more event is =
     let number = number_field-Some more place.0.1 place.0.0 place.1 in
     let rest = told_read place.0.1 told.0 told.1 in
     subst (λ (e : Event). Spells (codes "exec" ∷ more) e) told.2 (ap (λ (l : List (List ℕ)). codes "exec" ∷ l) (number.0 ∙ ap (λ (l : List (List ℕ)). decimal place.0.0 ∷ l) rest.0), (number.1, rest.1))
-
-buffer_parts : (all : List (List ℕ)) (b : Buffer) (kind : Kind) (total begin end : ℕ) (bytes : List ℕ) (one two three four : List (List ℕ))
-    → all ≡ buffer_kind_word kind ∷ one → (one ≡ decimal total ∷ two) × (total < 2 ^ 64) → (two ≡ decimal begin ∷ three) × (begin < 2 ^ 64) → (three ≡ decimal end ∷ four) × (end < 2 ^ 64)
-    → (four ≡ bytes_word bytes ∷ []) × AreBytes bytes → bounded (record { kind = kind; bytes = bytes; total = total; begin = begin; end = end }) ≡ Some b
-    → (all ≡ buffer_words b) × IsBuffer b
-buffer_parts all b kind total begin end bytes one two three four k t g e y is =
-    let found = bounded-Some (record { kind = kind; bytes = bytes; total = total; begin = begin; end = end }) b is in
-    subst (λ (c : Buffer). (all ≡ buffer_words c) × IsBuffer c) found.0
-    (rw (k, t.0, g.0, e.0, y.0) refl, record { bounds = found.1; fits = t.1; bytes = y.1 })
-
--- A buffer's parts, each with what stood behind it.
-buffer_read : (all : List (List ℕ)) (b : Buffer) → buffer_of all ≡ Some b → (all ≡ buffer_words b) × IsBuffer b
-buffer_read all b is =
-    let behind_end = λ (kind : Kind) (total begin : ℕ) (end : ℕ × List (List ℕ)). option_and_then (λ (bytes : List ℕ). bounded (record { kind = kind; bytes = bytes; total = total; begin = begin; end = end.0 })) (bytes_end end.1) in
-    let behind_begin = λ (kind : Kind) (total : ℕ) (begin : ℕ × List (List ℕ)). option_and_then (behind_end kind total begin.0) (number_field begin.1) in
-    let behind_total = λ (kind : Kind) (total : ℕ × List (List ℕ)). option_and_then (behind_begin kind total.0) (number_field total.1) in
-    let behind_kind = λ (kind : Kind × List (List ℕ)). option_and_then (behind_total kind.0) (number_field kind.1) in
-    let kind = and_then-Some behind_kind (kind_field all) b is in
-    let total = and_then-Some (behind_total kind.0.0) (number_field kind.0.1) b kind.2 in
-    let begin = and_then-Some (behind_begin kind.0.0 total.0.0) (number_field total.0.1) b total.2 in
-    let end = and_then-Some (behind_end kind.0.0 total.0.0 begin.0.0) (number_field begin.0.1) b begin.2 in
-    let bytes = and_then-Some (λ (bytes : List ℕ). bounded (record { kind = kind.0.0; bytes = bytes; total = total.0.0; begin = begin.0.0; end = end.0.0 })) (bytes_end end.0.1) b end.2 in
-    buffer_parts all b kind.0.0 total.0.0 begin.0.0 end.0.0 bytes.0 kind.0.1 total.0.1 begin.0.1 end.0.1
-    (kind_field-Some all kind.0.1 kind.0.0 kind.1) (number_field-Some kind.0.1 total.0.1 total.0.0 total.1) (number_field-Some total.0.1 begin.0.1 begin.0.0 begin.1)
-    (number_field-Some begin.0.1 end.0.1 end.0.0 end.1) (bytes_end-Some end.0.1 bytes.0 bytes.1) bytes.2
 
 -- The words of a request.
 recv_read : (more : List (List ℕ)) (request : Request Buffer) → recv_of more ≡ Some request → (codes "recv" ∷ more ≡ request_words request) × IsRequest request
@@ -134,11 +154,6 @@ submit_read more event is =
     let rest = request_read more r.0 r.1 in
     subst (λ (e : Event). Spells (codes "submit" ∷ more) e) r.2 (ap (λ (l : List (List ℕ)). codes "submit" ∷ l) rest.0, rest.1)
 
--- One of two answers.
-either-Some : (b : Bool) (o p : Option Event) (event : Event) → (if b then o else p) ≡ Some event → ((b ≡ true) × (o ≡ Some event)) ⊎ (p ≡ Some event)
-either-Some true o p event is = inl (refl, is)
-either-Some false o p event is = inr is
-
 under : (word text : List ℕ) (more : List (List ℕ)) (event : Event) → bytes_eq word text ≡ true → Spells (text ∷ more) event → Spells (word ∷ more) event
 under word text more event same spells = (ap (λ (w : List ℕ). w ∷ more) ((bytes_eq-Decides word text).0 same) ∙ spells.0, spells.1)
 
@@ -155,9 +170,15 @@ event_by-Some word more event is =
             | inl it ↦ under word (codes "feed") more event it.0 (feed_read more event it.1)
             | inr is ↦ elim (either-Some (bytes_eq word (codes "submit")) (submit_of more) _ event is) [
               | inl it ↦ under word (codes "submit") more event it.0 (submit_read more event it.1)
-              | inr is ↦
-                  let it = if-Some (bytes_eq word (codes "give")) (give_of more) event is in
-                  under word (codes "give") more event it.0 (give_read more event it.1)
+              | inr is ↦ elim (either-Some (bytes_eq word (codes "give")) (give_of more) _ event is) [
+                | inl it ↦ under word (codes "give") more event it.0 (give_read more event it.1)
+                | inr is ↦ elim (either-Some (bytes_eq word (codes "drop")) (numbered_of Drop more) _ event is) [
+                  | inl it ↦ under word (codes "drop") more event it.0 (drop_read more event it.1)
+                  | inr is ↦
+                      let it = if-Some (bytes_eq word (codes "cancel")) (numbered_of Cancel more) event is in
+                      under word (codes "cancel") more event it.0 (cancel_read more event it.1)
+                ]
+              ]
             ]
           ]
         ]
@@ -170,6 +191,8 @@ event_of-Some (word ∷ more) event is = event_by-Some word more event is
 
 solid_kind : (kind : Kind) → is_solid (buffer_kind_word kind) ≡ true
 solid_kind Vector = refl
+solid_kind Grown = refl
+solid_kind Fixed = refl
 
 solid_buffer : (b : Buffer) → IsBuffer b → AreSolid (buffer_words b)
 solid_buffer b h =
@@ -182,8 +205,11 @@ words-event_text (Give Stream) h = refl
 words-event_text (Feed n bytes) h = words-spaced (codes "feed") (decimal n ∷ bytes_word bytes ∷ []) (refl, (solid_decimal n h.0, (solid_bytes bytes, tt)))
 words-event_text (Submit (Recv n buffer)) h = words-spaced (codes "submit") (codes "recv" ∷ decimal n ∷ buffer_words buffer) (refl, (refl, (solid_decimal n h.0, solid_buffer buffer h.1)))
 words-event_text (Poll n task) h = words-spaced (codes "poll") (decimal n ∷ decimal task ∷ []) (refl, (solid_decimal n h.0, (solid_decimal task h.1, tt)))
+words-event_text (Drop n) h = words-spaced (codes "drop") (decimal n ∷ []) (refl, (solid_decimal n h, tt))
+words-event_text (Cancel n) h = words-spaced (codes "cancel") (decimal n ∷ []) (refl, (solid_decimal n h, tt))
 words-event_text Turn h = refl
 words-event_text (Exec place (Count k)) h = words-spaced (codes "exec") (decimal place ∷ codes "ok" ∷ decimal k ∷ []) (refl, (solid_decimal place h.0, (refl, (solid_decimal k (omega (arith, h.1)), tt))))
+words-event_text (Exec place (Fail e)) h = words-spaced (codes "exec") (decimal place ∷ codes "err" ∷ decimal e ∷ []) (refl, (solid_decimal place h.0, (refl, (solid_decimal e (omega (arith, h.1)), tt))))
 
 -- A line that is read as an event stands for it, and a line that stands for an event is read as it.
 pub event_of-stands : (line : List ℕ) (event : Event) → event_of (words line) ≡ Some event → StandsFor line event

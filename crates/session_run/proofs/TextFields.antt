@@ -1,15 +1,15 @@
 -- What the words of a line are read as, part by part: each is read exactly where it is written.
-use Rattle.std.proofs.Common.{◌≡◌, ◌∙◌, ℕ, ◌^◌, ◌<◌, List, [], ◌∷◌, length, refl, ap, sym, arith}
-use Rattle.std.specs.Prelude.{Bool, true, false, ◌&&◌, if◌then◌else◌, nat_le, Option, Some, None, option_and_then, option_map, bytes_eq, codes, decimal}
-use Rattle.std.proofs.lemmas.Bool.{leb-true, le-leb}
+use Rattle.std.proofs.Common.{◌≡◌, ◌∙◌, ℕ, ◌^◌, ◌<◌, List, [], ◌∷◌, length, refl, ap, sym, subst, arith, inl, inr}
+use Rattle.std.specs.Prelude.{Bool, true, false, ◌⊎◌, ◌&&◌, if◌then◌else◌, nat_le, Option, Some, None, option_and_then, option_map, bytes_eq, codes, decimal}
+use Rattle.std.proofs.lemmas.Bool.{leb-true, le-leb, eq-eqb, eqb-true}
 use Rattle.std.proofs.lemmas.Slice.Eq.{bytes_eq-Decides}
 use Rattle.rent_buf.specs.Buffer.{Buffer, BufferBounds, IsFull}
 use Rattle.rent_buf.specs.declared.spec.Kind.{Kind}
-use Rattle.rent_buf.specs.declared.spec.Kind.TheVariants.{Vector}
+use Rattle.rent_buf.specs.declared.spec.Kind.TheVariants.{Vector, Grown, Fixed}
 use Rattle.ring_core.specs.declared.world.HandleKind.{HandleKind}
 use Rattle.ring_core.specs.declared.world.HandleKind.TheVariants.{Stream}
 use Rattle.session_run.specs.TextEvent.{AreBytes, IsBuffer, buffer_kind_word, buffer_words, handle_kind_word}
-use Rattle.session_run.specs.TextReads.{number_of, number_field, bytes_end, at_end, handle_kind_of, kind_field, bounded, buffer_of}
+use Rattle.session_run.specs.TextReads.{number_of, number_field, bytes_end, at_end, handle_kind_of, buffer_kind_of, kind_field, is_full, bounded, buffer_of}
 use Rattle.session_run.specs.TextWords.{bytes_word}
 use Rattle.session_run.proofs.TextHex.{bytes_of-bytes_word, bytes_of-Some}
 use Rattle.session_run.proofs.TextNumbers.{None-from, number_of-decimal, number_of-Some}
@@ -67,27 +67,58 @@ pub handle_kind_of-Some : (word : List ℕ) (kind : HandleKind) → handle_kind_
 handle_kind_of-Some word Stream is =
     (bytes_eq-Decides word (codes "stream")).0 (if-Some (bytes_eq word (codes "stream")) (Some Stream) Stream is).0
 
+pub buffer_kind_of-word : (kind : Kind) → buffer_kind_of (buffer_kind_word kind) ≡ Some kind
+buffer_kind_of-word Vector = refl
+buffer_kind_of-word Grown = refl
+buffer_kind_of-word Fixed = refl
+
+-- The first of two answers, or the other.
+either-kind : (b : Bool) (kind : Kind) (o : Option Kind) (y : Kind) → (if b then Some kind else o) ≡ Some y → ((b ≡ true) × (kind ≡ y)) ⊎ (o ≡ Some y)
+either-kind true kind o y is = inl (refl, some_same kind y is)
+either-kind false kind o y is = inr is
+
+pub buffer_kind_of-Some : (word : List ℕ) (kind : Kind) → buffer_kind_of word ≡ Some kind → word ≡ buffer_kind_word kind
+buffer_kind_of-Some word kind is =
+    elim (either-kind (bytes_eq word (codes "v")) Vector _ kind is) [
+      | inl it ↦ (bytes_eq-Decides word (codes "v")).0 it.0 ∙ ap buffer_kind_word it.1
+      | inr is ↦ elim (either-kind (bytes_eq word (codes "g")) Grown _ kind is) [
+        | inl it ↦ (bytes_eq-Decides word (codes "g")).0 it.0 ∙ ap buffer_kind_word it.1
+        | inr is ↦
+            let it = if-Some (bytes_eq word (codes "b")) (Some Fixed) kind is in
+            (bytes_eq-Decides word (codes "b")).0 it.0 ∙ ap buffer_kind_word (some_same Fixed kind it.1)
+      ]
+    ]
+
 pub kind_field-Some : (words rest : List (List ℕ)) (kind : Kind) → kind_field words ≡ Some (kind, rest) → words ≡ buffer_kind_word kind ∷ rest
 kind_field-Some [] rest kind is = absurd (cc)
-kind_field-Some (word ∷ words) rest Vector is =
-    let read = if-Some (bytes_eq word (codes "v")) (Some (Vector, words)) (Vector, rest) is in
-    let behind : words ≡ rest = ap (λ (p : Kind × List (List ℕ)). p.1) (some_same (Vector, words) (Vector, rest) read.1) in
-    let first : word ≡ codes "v" = (bytes_eq-Decides word (codes "v")).0 read.0 in
+kind_field-Some (word ∷ words) rest kind is =
+    let read = and_then-Some (λ (k : Kind). Some (k, words)) (buffer_kind_of word) (kind, rest) is in
+    let pair : (read.0, words) ≡ (kind, rest) = some_same (read.0, words) (kind, rest) read.2 in
+    let same : read.0 ≡ kind = ap (λ (p : Kind × List (List ℕ)). p.0) pair in
+    let behind : words ≡ rest = ap (λ (p : Kind × List (List ℕ)). p.1) pair in
+    let first : word ≡ buffer_kind_word kind = buffer_kind_of-Some word kind (read.1 ∙ ap (λ (k : Kind). Some k) same) in
     rw (first, behind) refl
 
 -- Buffers.
+is_full-IsFull : (kind : Kind) (bytes : List ℕ) (total : ℕ) → IsFull kind bytes total → is_full kind (length bytes) total ≡ true
+is_full-IsFull Vector bytes total h = refl
+is_full-IsFull Grown bytes total h = refl
+is_full-IsFull Fixed bytes total h = eq-eqb (length bytes) total h
+
+IsFull-is_full : (kind : Kind) (bytes : List ℕ) (total : ℕ) → is_full kind (length bytes) total ≡ true → IsFull kind bytes total
+IsFull-is_full Vector bytes total is = tt
+IsFull-is_full Grown bytes total is = tt
+IsFull-is_full Fixed bytes total is = eqb-true (length bytes) total is
+
 pub bounded-bounds : (b : Buffer) → BufferBounds b → bounded b ≡ Some b
 bounded-bounds b h =
-    rw (le-leb (length b.bytes) b.total h.fits, le-leb b.begin b.end h.ordered, le-leb b.begin (length b.bytes) h.within, le-leb b.end b.total h.inside) refl
-
--- A vector keeps the last bound, which says nothing of it.
-full_vector : (kind : Kind) (bytes : List ℕ) (total : ℕ) → IsFull kind bytes total
-full_vector Vector bytes total = tt
+    rw (le-leb (length b.bytes) b.total h.fits, le-leb b.begin b.end h.ordered, le-leb b.begin (length b.bytes) h.within, le-leb b.end b.total h.inside, is_full-IsFull b.kind b.bytes b.total h.full) refl
 
 pub bounded-Some : (b c : Buffer) → bounded b ≡ Some c → (b ≡ c) × BufferBounds b
 bounded-Some b c is =
-    let tests = if-Some (nat_le (length b.bytes) b.total && nat_le b.begin b.end && nat_le b.begin (length b.bytes) && nat_le b.end b.total) (Some b) c is in
-    let three = and-true (nat_le (length b.bytes) b.total && nat_le b.begin b.end && nat_le b.begin (length b.bytes)) (nat_le b.end b.total) tests.0 in
+    let tests = if-Some (nat_le (length b.bytes) b.total && nat_le b.begin b.end && nat_le b.begin (length b.bytes) && nat_le b.end b.total && is_full b.kind (length b.bytes) b.total) (Some b) c is in
+    let four = and-true (nat_le (length b.bytes) b.total && nat_le b.begin b.end && nat_le b.begin (length b.bytes) && nat_le b.end b.total) (is_full b.kind (length b.bytes) b.total) tests.0 in
+    let three = and-true (nat_le (length b.bytes) b.total && nat_le b.begin b.end && nat_le b.begin (length b.bytes)) (nat_le b.end b.total) four.0 in
     let two = and-true (nat_le (length b.bytes) b.total && nat_le b.begin b.end) (nat_le b.begin (length b.bytes)) three.0 in
     let one = and-true (nat_le (length b.bytes) b.total) (nat_le b.begin b.end) two.0 in (
       some_same b c tests.1,
@@ -96,7 +127,7 @@ bounded-Some b c is =
         ordered = leb-true b.begin b.end one.1;
         within = leb-true b.begin (length b.bytes) two.1;
         inside = leb-true b.end b.total three.1;
-        full = full_vector b.kind b.bytes b.total;
+        full = IsFull-is_full b.kind b.bytes b.total four.1;
       },
     )
 
@@ -106,8 +137,8 @@ bounded-None b never = None-from (bounded b) (λ c is. never (bounded-Some b c i
 buffer_of-parts : (kind : Kind) (bytes : List ℕ) (total begin end : ℕ) (b : Buffer) → b ≡ record { kind = kind; bytes = bytes; total = total; begin = begin; end = end }
     → BufferBounds b → AreBytes bytes → total < 2 ^ 64 → begin < 2 ^ 64 → end < 2 ^ 64
     → buffer_of (buffer_kind_word kind ∷ decimal total ∷ decimal begin ∷ decimal end ∷ bytes_word bytes ∷ []) ≡ Some b
-buffer_of-parts Vector bytes total begin end b is bounds small total_fits begin_fits end_fits =
-    rw (number_of-decimal total total_fits, number_of-decimal begin begin_fits, number_of-decimal end end_fits, bytes_of-bytes_word bytes small)
+buffer_of-parts kind bytes total begin end b is bounds small total_fits begin_fits end_fits =
+    rw (buffer_kind_of-word kind, number_of-decimal total total_fits, number_of-decimal begin begin_fits, number_of-decimal end end_fits, bytes_of-bytes_word bytes small)
     (ap bounded (sym is) ∙ bounded-bounds b bounds)
 
 pub buffer_of-words : (b : Buffer) → IsBuffer b → buffer_of (buffer_words b) ≡ Some b
@@ -115,3 +146,29 @@ buffer_of-words b h =
     let bounds = h.bounds in
     let fits = h.fits in
     buffer_of-parts b.kind b.bytes b.total b.begin b.end b refl h.bounds h.bytes h.fits (omega (arith, bounds.ordered, bounds.inside)) (omega (arith, bounds.inside))
+
+-- A buffer is read as what its parts are.
+buffer_parts : (all : List (List ℕ)) (b : Buffer) (kind : Kind) (total begin end : ℕ) (bytes : List ℕ) (one two three four : List (List ℕ))
+    → all ≡ buffer_kind_word kind ∷ one → (one ≡ decimal total ∷ two) × (total < 2 ^ 64) → (two ≡ decimal begin ∷ three) × (begin < 2 ^ 64) → (three ≡ decimal end ∷ four) × (end < 2 ^ 64)
+    → (four ≡ bytes_word bytes ∷ []) × AreBytes bytes → bounded (record { kind = kind; bytes = bytes; total = total; begin = begin; end = end }) ≡ Some b
+    → (all ≡ buffer_words b) × IsBuffer b
+buffer_parts all b kind total begin end bytes one two three four k t g e y is =
+    let found = bounded-Some (record { kind = kind; bytes = bytes; total = total; begin = begin; end = end }) b is in
+    subst (λ (c : Buffer). (all ≡ buffer_words c) × IsBuffer c) found.0
+    (rw (k, t.0, g.0, e.0, y.0) refl, record { bounds = found.1; fits = t.1; bytes = y.1 })
+
+-- A buffer's parts, each with what stood behind it.
+pub buffer_read : (all : List (List ℕ)) (b : Buffer) → buffer_of all ≡ Some b → (all ≡ buffer_words b) × IsBuffer b
+buffer_read all b is =
+    let behind_end = λ (kind : Kind) (total begin : ℕ) (end : ℕ × List (List ℕ)). option_and_then (λ (bytes : List ℕ). bounded (record { kind = kind; bytes = bytes; total = total; begin = begin; end = end.0 })) (bytes_end end.1) in
+    let behind_begin = λ (kind : Kind) (total : ℕ) (begin : ℕ × List (List ℕ)). option_and_then (behind_end kind total begin.0) (number_field begin.1) in
+    let behind_total = λ (kind : Kind) (total : ℕ × List (List ℕ)). option_and_then (behind_begin kind total.0) (number_field total.1) in
+    let behind_kind = λ (kind : Kind × List (List ℕ)). option_and_then (behind_total kind.0) (number_field kind.1) in
+    let kind = and_then-Some behind_kind (kind_field all) b is in
+    let total = and_then-Some (behind_total kind.0.0) (number_field kind.0.1) b kind.2 in
+    let begin = and_then-Some (behind_begin kind.0.0 total.0.0) (number_field total.0.1) b total.2 in
+    let end = and_then-Some (behind_end kind.0.0 total.0.0 begin.0.0) (number_field begin.0.1) b begin.2 in
+    let bytes = and_then-Some (λ (bytes : List ℕ). bounded (record { kind = kind.0.0; bytes = bytes; total = total.0.0; begin = begin.0.0; end = end.0.0 })) (bytes_end end.0.1) b end.2 in
+    buffer_parts all b kind.0.0 total.0.0 begin.0.0 end.0.0 bytes.0 kind.0.1 total.0.1 begin.0.1 end.0.1
+    (kind_field-Some all kind.0.1 kind.0.0 kind.1) (number_field-Some kind.0.1 total.0.1 total.0.0 total.1) (number_field-Some total.0.1 begin.0.1 begin.0.0 begin.1)
+    (number_field-Some begin.0.1 end.0.1 end.0.0 end.1) (bytes_end-Some end.0.1 bytes.0 bytes.1) bytes.2

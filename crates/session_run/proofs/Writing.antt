@@ -182,8 +182,3 @@ unread-later tells left rest f g h (NoEvents.BadLine n) order why = why
 unread-later tells left rest f g h NoEvents.TooLong order why = absurd why
 unread-later tells left rest f g h NoEvents.Fault order why = rose-later f g h order why
 unread-later tells left rest f g h NoEvents.OutOfMemory order why = tt
-
--- What a command has done where its status is this one.
-pub ends-as : (tells_source tells_sink : Bool) (capacity other : ℕ) (source : Reading) (sink : Writing) (kept : Option Kept) (status as_this : Status) → capacity ≡ other → status ≡ as_this → EndsFor tells_source tells_sink capacity source sink kept status → EndsFor tells_source tells_sink other source sink kept as_this
-ends-as ts tk capacity other source sink kept status as_this same is ends =
-    subst (λ k. EndsFor ts tk k source sink kept as_this) same (subst (λ s. EndsFor ts tk capacity source sink kept s) is ends)

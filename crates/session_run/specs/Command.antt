@@ -1,13 +1,24 @@
 -- What the words of the command line ask for.
-use Rattle.std.specs.Prelude.{ℕ, ◌≡◌, ◌≤◌, ◌<◌, ◌^◌, List, [], ◌∷◌, Option, Some, None, codes, decimal}
+use Rattle.std.specs.Prelude.{ℕ, ◌≡◌, ◌≤◌, ◌<◌, ◌^◌, List, [], ◌∷◌, Option, Some, None, ⊤, codes, decimal}
 use Rattle.session_run.specs.declared.command.Command.{Command}
-use Rattle.session_run.specs.declared.command.Command.TheVariants.{Run}
+use Rattle.session_run.specs.declared.command.Command.TheVariants.{Run, Wake}
 
 -- The words are `run CAP`, with a capacity from 1 to 4294967295.
 pub record IsRun (words : List (List ℕ)) (capacity : ℕ) : Type 0 where
   pub positive : 1 ≤ capacity
   pub fits : capacity < 2 ^ 32
   pub words_are : words ≡ codes "run" ∷ decimal capacity ∷ []
+
+-- The words are `wake SENDERS COUNT`, with at most 64 senders and at most 100000 wakers of each.
+pub record IsWake (words : List (List ℕ)) (senders count : ℕ) : Type 0 where
+  pub few : senders ≤ 64
+  pub small : count ≤ 100000
+  pub words_are : words ≡ codes "wake" ∷ decimal senders ∷ decimal count ∷ []
+
+-- The words are no command's.
+pub record IsNoCommand (words : List (List ℕ)) : Type 0 where
+  pub no_run : (capacity : ℕ) → IsRun words capacity → ⊥
+  pub no_wake : (senders count : ℕ) → IsWake words senders count → ⊥
 
 -- The word is a capacity.
 pub record IsCapacity (word : List ℕ) (capacity : ℕ) : Type 0 where
@@ -19,12 +30,38 @@ pub record IsCapacity (word : List ℕ) (capacity : ℕ) : Type 0 where
 abbrev pub ReadsCapacity : List ℕ → Option Command → Type 0
 ReadsCapacity word None = (capacity : ℕ) → IsCapacity word capacity → ⊥
 ReadsCapacity word (Some (Run capacity)) = IsCapacity word capacity
+ReadsCapacity word (Some (Wake senders count)) = ⊥
+
+-- The number of a word, at most this one: none exactly where it is no such number.
+abbrev pub ReadsUpTo : ℕ → List ℕ → Option ℕ → Type 0
+ReadsUpTo most word None = (number : ℕ) → number ≤ most → word ≡ decimal number → ⊥
+ReadsUpTo most word (Some number) = (number ≤ most) × (word ≡ decimal number)
+
+-- The words are how many senders there are, and how many wakers each sends.
+pub record AreCounts (first second : List ℕ) (senders count : ℕ) : Type 0 where
+  pub few : senders ≤ 64
+  pub small : count ≤ 100000
+  pub first_is : first ≡ decimal senders
+  pub second_is : second ≡ decimal count
+
+-- The command of these two words: none exactly where they are no such numbers.
+abbrev pub ReadsCounts : List ℕ → List ℕ → Option Command → Type 0
+ReadsCounts first second None = (senders count : ℕ) → AreCounts first second senders count → ⊥
+ReadsCounts first second (Some (Run capacity)) = ⊥
+ReadsCounts first second (Some (Wake senders count)) = AreCounts first second senders count
 
 -- The command of words: none exactly where they are no command's.
 abbrev pub ReadsCommand : List (List ℕ) → Option Command → Type 0
-ReadsCommand words None = (capacity : ℕ) → IsRun words capacity → ⊥
+ReadsCommand words None = IsNoCommand words
 ReadsCommand words (Some (Run capacity)) = IsRun words capacity
+ReadsCommand words (Some (Wake senders count)) = IsWake words senders count
 
--- The capacity of a command's queue.
-abbrev pub capacity_in : Command → ℕ
-capacity_in (Run capacity) = capacity
+-- The numbers of a command are within its bounds.
+abbrev pub IsWithin : Command → Type 0
+IsWithin (Run capacity) = 1 ≤ capacity
+IsWithin (Wake senders count) = senders ≤ 64
+
+-- The command reads no input.
+abbrev pub ReadsNothing : Command → Type 0
+ReadsNothing (Run capacity) = ⊥
+ReadsNothing (Wake senders count) = ⊤

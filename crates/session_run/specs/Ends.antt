@@ -1,5 +1,5 @@
 -- What the parts of the top call have done: reading, running, writing. Cited by the functions of `top`, and by no public clause.
-use Rattle.std.specs.Prelude.{ℕ, ◌≡◌, ◌≤◌, ◌⊎◌, Bool, IsTrue, List, [], ◌++◌, Option, Some, Result, Ok, Err}
+use Rattle.std.specs.Prelude.{ℕ, ◌≡◌, ◌≤◌, ◌*◌, ◌⊎◌, ⊤, Bool, IsTrue, List, [], ◌++◌, Option, Some, Result, Ok, Err}
 use Rattle.ring_core.specs.declared.ledger.Event.{Event}
 use Rattle.ring_core.specs.Counts.{Rose}
 use Rattle.ring_core.specs.Ledger.{empty}
@@ -12,8 +12,10 @@ use Rattle.session_run.specs.declared.top.NoEvents.{NoEvents}
 use Rattle.session_run.specs.declared.top.Unwritten.{Unwritten}
 use Rattle.session_run.specs.declared.top.Kept.{Kept}
 use Rattle.session_run.specs.declared.top.Kept.TheVariants.{Run}
+use Rattle.session_run.specs.declared.command.Command.{Command}
+use Rattle.session_run.specs.declared.command.Command.TheVariants.{Run as RunOf, Wake}
 use Rattle.session_run.specs.Session.{SessionStands}
-use Rattle.session_run.specs.Top.{RunDone, LineRefused, TookTooMany, IsBadLine, WroteFront, WroteSome, bad_line_text, reply_lines}
+use Rattle.session_run.specs.Top.{RunDone, LineRefused, TookTooMany, IsBadLine, WroteFront, WroteSome, WakesFor, bad_line_text, reply_lines}
 
 -- What a source had left and has left, and its count of faults before and after.
 pub record Reading : Type 0 where
@@ -108,3 +110,24 @@ EndsFor tells_source tells_sink capacity source sink kept TooLong = (IsTrue tell
 EndsFor tells_source tells_sink capacity source sink kept ReadFault = Rose source.faults source.later × (IsTrue tells_sink → sink.now ≡ sink.taken)
 EndsFor tells_source tells_sink capacity source sink kept WriteFault = Rose sink.faults sink.later × WroteSome tells_source tells_sink capacity source.left source.rest sink.taken sink.now
 EndsFor tells_source tells_sink capacity source sink kept OutOfMemory = (IsTrue tells_sink → sink.now ≡ sink.taken) ⊎ WroteSome tells_source tells_sink capacity source.left source.rest sink.taken sink.now
+
+-- What `wake` has done, by the status.
+pub record WakeEnds (tells : Bool) (total : ℕ) (sink : Writing) (status : Status) : Type 0 where
+  pub wrote : WakesFor tells total sink.taken sink.now status
+  pub flushed : status ≡ Done → IsTrue sink.flushed
+  pub rose : status ≡ WriteFault → Rose sink.faults sink.later
+
+-- What a command has done, by the status.
+abbrev pub CommandEnds : Bool → Bool → Command → Reading → Writing → Option Kept → Status → Type 0
+CommandEnds tells_source tells_sink (RunOf capacity) source sink kept status = EndsFor tells_source tells_sink capacity source sink kept status
+CommandEnds tells_source tells_sink (Wake senders count) source sink kept status = WakesFor tells_sink (senders * count) sink.taken sink.now status
+
+-- What every command has done, by the status.
+abbrev pub StatusFor : Bool → Bool → Reading → Writing → Status → Type 0
+StatusFor tells_source tells_sink source sink Done = IsTrue sink.flushed
+StatusFor tells_source tells_sink source sink BadWords = ⊥
+StatusFor tells_source tells_sink source sink BadLine = LineRefused tells_source tells_sink source.left source.rest sink.taken sink.now
+StatusFor tells_source tells_sink source sink TooLong = (IsTrue tells_source → TookTooMany source.left source.rest) × (IsTrue tells_sink → sink.now ≡ sink.taken)
+StatusFor tells_source tells_sink source sink ReadFault = Rose source.faults source.later × (IsTrue tells_sink → sink.now ≡ sink.taken)
+StatusFor tells_source tells_sink source sink WriteFault = Rose sink.faults sink.later
+StatusFor tells_source tells_sink source sink OutOfMemory = ⊤

@@ -1,9 +1,9 @@
 -- When a session stands for a ledger, and what its steps answer. Cited by `Session` and by the top call.
-use Rattle.std.specs.Prelude.{ℕ, ◌≡◌, ◌↔◌, List, length, Option, Some, Result, Ok, Err}
+use Rattle.std.specs.Prelude.{ℕ, ◌≡◌, ◌↔◌, List, [], length, Option, Some, Result, Ok, Err}
 use Rattle.rent_buf.specs.Buf.{built}
 use Rattle.rent_buf.specs.declared.fault.OutOfMemory.{OutOfMemory}
 use Rattle.ring_core.specs.declared.ledger.Event.{Event}
-use Rattle.ring_core.specs.declared.ledger.Event.TheVariants.{Poll}
+use Rattle.ring_core.specs.declared.ledger.Event.TheVariants.{Poll, Drop}
 use Rattle.ring_core.specs.declared.ledger.Reply.{Reply}
 use Rattle.ring_core.specs.Ring.{RingView}
 use Rattle.ring_core.specs.Ledger.{Ledger}
@@ -11,11 +11,12 @@ use Rattle.ring_core.specs.Step.{step}
 use Rattle.rent_buf.specs.declared.spec.Buf.{Buf}
 use Rattle.uring_driver.specs.declared.op.Op.{Op}
 use Rattle.uring_driver.specs.declared.driver.IoUringDriver.{IoUringDriver}
-use Rattle.uring_driver.specs.Driver.{given_by}
+use Rattle.uring_driver.specs.Driver.{given_by, due_in}
 use Rattle.uring_driver.specs.Op.{Holds, number_of}
 use Rattle.uring_driver.specs.Stands.{Stands}
 use Rattle.session_run.specs.declared.session.Session.{Session}
-use Rattle.session_run.specs.Token.{token_at}
+use Rattle.session_run.specs.declared.tokens.Tokens.{Tokens}
+use Rattle.session_run.specs.Token.{token_at, by_number}
 
 -- The tokens are those that the driver holds, each under its number.
 abbrev pub AreHeld : List (Option Op) → IoUringDriver RingView Buf → Type 0
@@ -25,11 +26,26 @@ AreHeld tokens driver = (n : ℕ) (op : Op) → (token_at tokens n ≡ Some op) 
 abbrev pub driver_in : Session → IoUringDriver RingView Buf
 driver_in session = session.driver
 
--- A session stands for a ledger: its driver does, and it keeps a place for each operation that was given, and the tokens that the driver holds.
-pub record SessionStands (session : Session) (L : Ledger) : Type 0 where
-  pub driver : Stands (λ r. r) built session.driver L
-  pub numbered : length session.tokens.items ≡ given_by session.driver
-  pub tokens : AreHeld session.tokens.items session.driver
+-- The tokens of a session.
+abbrev pub tokens_in : Session → Tokens
+tokens_in session = session.tokens
+
+-- A driver and tokens stand for a ledger: the driver does, and nothing is due in it; and there is a place for each operation that
+-- was given, with its token where the driver holds it.
+pub record PartsStand (engine : IoUringDriver RingView Buf) (kept : Tokens) (L : Ledger) : Type 0 where
+  pub driver : Stands (λ r. r) built engine L
+  pub none_due : due_in engine ≡ []
+  pub numbered : length (by_number kept) ≡ given_by engine
+  pub tokens : AreHeld (by_number kept) engine
+
+-- A driver and tokens are the parts of a session: they stand for some ledger.
+pub record AreParts (engine : IoUringDriver RingView Buf) (kept : Tokens) : Type 0 where
+  pub ledger : Ledger
+  pub stand : PartsStand engine kept ledger
+
+-- A session stands for a ledger where its parts do.
+abbrev pub SessionStands : Session → Ledger → Type 0
+SessionStands session L = PartsStand (driver_in session) (tokens_in session) L
 
 -- A reply is the machine's to an event, and the session stands for the machine's next ledger.
 pub record SessionAnswers (L : Ledger) (event : Event) (reply : Reply) (new : Session) : Type 0 where
@@ -41,8 +57,8 @@ abbrev pub StepsFor : Ledger → Event → Session → Result Reply OutOfMemory 
 StepsFor L event new (Ok reply) = SessionAnswers L event reply new
 StepsFor L event new (Err refused) = SessionStands new L
 
--- The event is a poll.
-pub record IsPoll (event : Event) : Type 0 where
-  pub n : ℕ
-  pub task : ℕ
-  pub is : event ≡ Poll n task
+-- The event is a poll or a drop.
+abbrev pub IsPollOrDrop : Event → Type 0
+IsPollOrDrop (Poll n task) = Unit {0}
+IsPollOrDrop (Drop n) = Unit {0}
+IsPollOrDrop _ = ⊥

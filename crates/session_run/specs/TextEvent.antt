@@ -2,13 +2,13 @@
 use Rattle.std.specs.Prelude.{◌≡◌, ℕ, ◌^◌, ◌<◌, List, [], ◌∷◌, All, codes, decimal}
 use Rattle.rent_buf.specs.Buffer.{Buffer, BufferBounds}
 use Rattle.rent_buf.specs.declared.spec.Kind.{Kind}
-use Rattle.rent_buf.specs.declared.spec.Kind.TheVariants.{Vector}
+use Rattle.rent_buf.specs.declared.spec.Kind.TheVariants.{Vector, Grown, Fixed}
 use Rattle.ring_core.specs.declared.ledger.Event.{Event}
-use Rattle.ring_core.specs.declared.ledger.Event.TheVariants.{Give, Feed, Submit, Poll, Turn, Exec}
+use Rattle.ring_core.specs.declared.ledger.Event.TheVariants.{Give, Feed, Submit, Poll, Drop, Cancel, Turn, Exec}
 use Rattle.ring_core.specs.declared.request.Request.{Request}
 use Rattle.ring_core.specs.declared.request.Request.TheVariants.{Recv}
 use Rattle.ring_core.specs.declared.request.Told.{Told}
-use Rattle.ring_core.specs.declared.request.Told.TheVariants.{Count}
+use Rattle.ring_core.specs.declared.request.Told.TheVariants.{Count, Fail}
 use Rattle.ring_core.specs.declared.world.HandleKind.{HandleKind}
 use Rattle.ring_core.specs.declared.world.HandleKind.TheVariants.{Stream}
 use Rattle.session_run.specs.TextWords.{spaced, bytes_word}
@@ -20,6 +20,8 @@ handle_kind_word Stream = codes "stream"
 -- The word of a buffer's kind.
 abbrev pub buffer_kind_word : Kind → List ℕ
 buffer_kind_word Vector = codes "v"
+buffer_kind_word Grown = codes "g"
+buffer_kind_word Fixed = codes "b"
 
 -- The words of a buffer.
 abbrev pub buffer_words : Buffer → List (List ℕ)
@@ -32,6 +34,7 @@ request_words (Recv h buffer) = codes "recv" ∷ decimal h ∷ buffer_words buff
 -- The words of what an executor tells.
 abbrev pub told_words : Told → List (List ℕ)
 told_words (Count k) = codes "ok" ∷ decimal k ∷ []
+told_words (Fail e) = codes "err" ∷ decimal e ∷ []
 
 -- The words of an event.
 abbrev pub event_words : Event → List (List ℕ)
@@ -39,6 +42,8 @@ event_words (Give kind) = codes "give" ∷ handle_kind_word kind ∷ []
 event_words (Feed h bytes) = codes "feed" ∷ decimal h ∷ bytes_word bytes ∷ []
 event_words (Submit request) = codes "submit" ∷ request_words request
 event_words (Poll n task) = codes "poll" ∷ decimal n ∷ decimal task ∷ []
+event_words (Drop n) = codes "drop" ∷ decimal n ∷ []
+event_words (Cancel n) = codes "cancel" ∷ decimal n ∷ []
 event_words Turn = codes "turn" ∷ []
 event_words (Exec place told) = codes "exec" ∷ decimal place ∷ told_words told
 
@@ -63,6 +68,7 @@ IsRequest (Recv h buffer) = (h < 2 ^ 64) × IsBuffer buffer
 -- What the program's executors may tell.
 abbrev pub IsTold : Told → Type 0
 IsTold (Count k) = k < 2 ^ 32
+IsTold (Fail e) = e < 2 ^ 16
 
 -- An event of the program: its numbers fit their types, its bytes are bytes, and its buffer keeps its bounds.
 abbrev pub IsEvent : Event → Type 0
@@ -70,6 +76,8 @@ IsEvent (Give kind) = Unit {0}
 IsEvent (Feed h bytes) = (h < 2 ^ 64) × AreBytes bytes
 IsEvent (Submit request) = IsRequest request
 IsEvent (Poll n task) = (n < 2 ^ 64) × (task < 2 ^ 64)
+IsEvent (Drop n) = n < 2 ^ 64
+IsEvent (Cancel n) = n < 2 ^ 64
 IsEvent Turn = Unit {0}
 IsEvent (Exec place told) = (place < 2 ^ 64) × IsTold told
 

@@ -1,16 +1,16 @@
 -- What the readers of a line answer, word by word. Only contracts of private functions cite these: `event_of-stands` and
 -- `stands-event_of` (proofs/TextEvents.antt) prove that a line is read as an event exactly where it stands for it.
-use Rattle.std.specs.Prelude.{ℕ, ◌+◌, ◌-◌, ◌*◌, ◌^◌, ◌==◌, ◌&&◌, ◌||◌, nat_lt, nat_le, if◌then◌else◌, List, [], ◌∷◌, length, codes, bytes_eq, decimal, Option, Some, None, option_and_then, option_map}
+use Rattle.std.specs.Prelude.{ℕ, Bool, true, ◌+◌, ◌-◌, ◌*◌, ◌^◌, ◌==◌, ◌&&◌, ◌||◌, nat_lt, nat_le, if◌then◌else◌, List, [], ◌∷◌, length, codes, bytes_eq, decimal, Option, Some, None, option_and_then, option_map}
 use Rattle.std.specs.Str.Parse.{digits_value}
 use Rattle.rent_buf.specs.Buffer.{Buffer}
 use Rattle.rent_buf.specs.declared.spec.Kind.{Kind}
-use Rattle.rent_buf.specs.declared.spec.Kind.TheVariants.{Vector}
+use Rattle.rent_buf.specs.declared.spec.Kind.TheVariants.{Vector, Grown, Fixed}
 use Rattle.ring_core.specs.declared.ledger.Event.{Event}
-use Rattle.ring_core.specs.declared.ledger.Event.TheVariants.{Give, Feed, Submit, Poll, Turn, Exec}
+use Rattle.ring_core.specs.declared.ledger.Event.TheVariants.{Give, Feed, Submit, Poll, Drop, Cancel, Turn, Exec}
 use Rattle.ring_core.specs.declared.request.Request.{Request}
 use Rattle.ring_core.specs.declared.request.Request.TheVariants.{Recv}
 use Rattle.ring_core.specs.declared.request.Told.{Told}
-use Rattle.ring_core.specs.declared.request.Told.TheVariants.{Count}
+use Rattle.ring_core.specs.declared.request.Told.TheVariants.{Count, Fail}
 use Rattle.ring_core.specs.declared.world.HandleKind.{HandleKind}
 use Rattle.ring_core.specs.declared.world.HandleKind.TheVariants.{Stream}
 use Rattle.session_run.specs.TextLines.{onto_first}
@@ -71,14 +71,30 @@ at_end value (word ∷ words) = None
 abbrev pub handle_kind_of : List ℕ → Option HandleKind
 handle_kind_of word = if bytes_eq word (codes "stream") then Some Stream else None
 
+-- The kind of a buffer that a word writes.
+abbrev pub buffer_kind_of : List ℕ → Option Kind
+buffer_kind_of word =
+    if bytes_eq word (codes "v") then Some Vector
+    else if bytes_eq word (codes "g") then Some Grown
+    else if bytes_eq word (codes "b") then Some Fixed
+    else None
+
 -- The kind of a buffer that the first word writes, and the further words.
 abbrev pub kind_field : List (List ℕ) → Option (Kind × List (List ℕ))
 kind_field [] = None
-kind_field (word ∷ words) = if bytes_eq word (codes "v") then Some (Vector, words) else None
+kind_field (word ∷ words) = option_and_then (λ kind. Some (kind, words)) (buffer_kind_of word)
+
+-- A buffer of the kind may have so many bytes.
+abbrev pub is_full : Kind → ℕ → ℕ → Bool
+is_full Vector count total = true
+is_full Grown count total = true
+is_full Fixed count total = count == total
 
 -- The buffer, where its bounds hold.
 abbrev pub bounded : Buffer → Option Buffer
-bounded b = if nat_le (length b.bytes) b.total && nat_le b.begin b.end && nat_le b.begin (length b.bytes) && nat_le b.end b.total then Some b else None
+bounded b =
+    if nat_le (length b.bytes) b.total && nat_le b.begin b.end && nat_le b.begin (length b.bytes) && nat_le b.end b.total && is_full b.kind (length b.bytes) b.total
+    then Some b else None
 
 -- The buffer that words write.
 abbrev pub buffer_of : List (List ℕ) → Option Buffer
@@ -96,14 +112,17 @@ abbrev pub request_of : List (List ℕ) → Option (Request Buffer)
 request_of [] = None
 request_of (word ∷ words) = if bytes_eq word (codes "recv") then recv_of words else None
 
--- What an executor tells, by a number, where no further word stands.
-abbrev pub count_of : ℕ × List (List ℕ) → Option Told
-count_of k = if nat_lt k.0 (2 ^ 32) then at_end (Count k.0) k.1 else None
+-- What an executor tells, by a number below a bound, where no further word stands.
+abbrev pub told_below : ℕ → (ℕ → Told) → ℕ × List (List ℕ) → Option Told
+told_below bound make n = if nat_lt n.0 bound then at_end (make n.0) n.1 else None
 
 -- What an executor tells, by words.
 abbrev pub told_of : List (List ℕ) → Option Told
 told_of [] = None
-told_of (word ∷ words) = if bytes_eq word (codes "ok") then option_and_then count_of (number_field words) else None
+told_of (word ∷ words) =
+    if bytes_eq word (codes "ok") then option_and_then (told_below (2 ^ 32) Count) (number_field words)
+    else if bytes_eq word (codes "err") then option_and_then (told_below (2 ^ 16) Fail) (number_field words)
+    else None
 
 -- The events by the words behind their first one.
 abbrev pub turn_of : List (List ℕ) → Option Event
@@ -122,6 +141,9 @@ submit_of words = option_map Submit (request_of words)
 abbrev pub poll_of : List (List ℕ) → Option Event
 poll_of words = option_and_then (λ n. option_and_then (λ task. at_end (Poll n.0 task.0) task.1) (number_field n.1)) (number_field words)
 
+abbrev pub numbered_of : (ℕ → Event) → List (List ℕ) → Option Event
+numbered_of make words = option_and_then (λ n. at_end (make n.0) n.1) (number_field words)
+
 abbrev pub exec_of : List (List ℕ) → Option Event
 exec_of words = option_and_then (λ place. option_map (λ told. Exec place.0 told) (told_of place.1)) (number_field words)
 
@@ -134,6 +156,8 @@ event_by word words =
     else if bytes_eq word (codes "feed") then feed_of words
     else if bytes_eq word (codes "submit") then submit_of words
     else if bytes_eq word (codes "give") then give_of words
+    else if bytes_eq word (codes "drop") then numbered_of Drop words
+    else if bytes_eq word (codes "cancel") then numbered_of Cancel words
     else None
 
 -- The event that words write.

@@ -5,9 +5,9 @@ use Rattle.rent_buf.specs.declared.spec.HeldBuf.TheVariants.{One}
 use Rattle.ring_core.specs.declared.ledger.Refusal.{Refusal}
 use Rattle.ring_core.specs.declared.ledger.Refusal.TheVariants.{NoOp, NoHandle, Full, NotFlying, BadOutcome}
 use Rattle.ring_core.specs.declared.ledger.Reply.{Reply}
-use Rattle.ring_core.specs.declared.ledger.Reply.TheVariants.{Handle, Fed, Submitted, Pending, Handed, Turned, ExecutedOp, Refused}
+use Rattle.ring_core.specs.declared.ledger.Reply.TheVariants.{Handle, Fed, Submitted, Pending, Handed, Dropped, Asked, Turned, ExecutedOp, Refused}
 use Rattle.ring_core.specs.declared.request.Outcome.{Outcome}
-use Rattle.ring_core.specs.declared.request.Outcome.TheVariants.{Count}
+use Rattle.ring_core.specs.declared.request.Outcome.TheVariants.{Count, Fail}
 use Rattle.session_run.specs.TextEvent.{buffer_words}
 use Rattle.session_run.specs.TextWords.{spaced, numbers_word}
 
@@ -26,6 +26,7 @@ held_words (One buffer) = buffer_words buffer
 -- The words of an outcome, and of what was handed back with it.
 abbrev pub ready_words : Outcome → HeldBuf → List (List ℕ)
 ready_words (Count k) held = codes "ok" ∷ decimal k ∷ held_words held
+ready_words (Fail e) held = codes "err" ∷ decimal e ∷ held_words held
 
 -- The words of a reply.
 abbrev pub reply_words : Reply → List (List ℕ)
@@ -34,6 +35,8 @@ reply_words Fed = codes "fed" ∷ []
 reply_words (Submitted n) = codes "op" ∷ decimal n ∷ []
 reply_words Pending = codes "pending" ∷ []
 reply_words (Handed outcome held) = codes "ready" ∷ ready_words outcome held
+reply_words Dropped = codes "dropped" ∷ []
+reply_words Asked = codes "asked" ∷ []
 reply_words (Turned reaped closed woken) = codes "turned" ∷ numbers_word reaped ∷ numbers_word closed ∷ numbers_word woken ∷ []
 reply_words (ExecutedOp n) = codes "executed" ∷ codes "op" ∷ decimal n ∷ []
 reply_words (Refused refusal) = codes "refused" ∷ refusal_word refusal ∷ []

@@ -1,6 +1,11 @@
 -- Tokens by the numbers of their operations.
 use Rattle.std.specs.Prelude.{ℕ, List, Option, Some, None, slice_get}
 use Rattle.uring_driver.specs.declared.op.Op.{Op}
+use Rattle.session_run.specs.declared.tokens.Tokens.{Tokens}
+
+-- The places of a session's tokens, by number.
+abbrev pub by_number : Tokens → List (Option Op)
+by_number tokens = tokens.ops.items
 
 -- What was looked up, where it is there and isn't empty.
 abbrev pub flat : {A : Type 0} → Option (Option A) → Option A

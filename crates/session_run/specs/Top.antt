@@ -8,6 +8,8 @@ use Rattle.ring_core.specs.Run.{ledger, replies}
 use Rattle.session_run.specs.declared.session.Session.{Session}
 use Rattle.session_run.specs.declared.top.Kept.{Kept}
 use Rattle.session_run.specs.declared.top.Kept.TheVariants.{Run}
+use Rattle.session_run.specs.declared.top.Status.{Status}
+use Rattle.session_run.specs.declared.top.Status.TheVariants.{Done, WriteFault, OutOfMemory}
 use Rattle.session_run.specs.Session.{SessionStands}
 use Rattle.session_run.specs.TextEvent.{StandsFor}
 use Rattle.session_run.specs.TextReply.{reply_text}
@@ -30,6 +32,10 @@ reply_lines (reply ∷ more) = ended (reply_text reply) ++ reply_lines more
 -- What is written of a wrong line: its number and a newline.
 abbrev pub bad_line_text : ℕ → List ℕ
 bad_line_text n = ended (codes "line " ++ decimal n)
+
+-- What is written of so many drained wakers: `drained`, their number and a newline.
+abbrev pub drained_text : ℕ → List ℕ
+drained_text n = ended (codes "drained " ++ decimal n)
 
 -- The input was read to its end, and its lines stand for these events, one each.
 pub record WasRead (left rest : List ℕ) (events : List Event) : Type 0 where
@@ -81,3 +87,10 @@ pub record WroteSome (tells_source tells_sink : Bool) (capacity : ℕ) (left res
   pub text : List ℕ
   pub may : IsText tells_source capacity left rest text
   pub front : IsTrue tells_sink → WroteFront text taken now
+
+-- What `wake` wrote of so many wakers, by the status. It has no other status than these three.
+abbrev pub WakesFor : Bool → ℕ → List ℕ → List ℕ → Status → Type 0
+WakesFor tells total taken now Done = IsTrue tells → now ≡ taken ++ drained_text total
+WakesFor tells total taken now WriteFault = IsTrue tells → WroteFront (drained_text total) taken now
+WakesFor tells total taken now OutOfMemory = IsTrue tells → now ≡ taken
+WakesFor tells total taken now _ = ⊥

@@ -1,4 +1,4 @@
-//! Runs the events that it reads on the completion engine, and writes the replies.
+//! Runs the events that it reads on the completion engine, and writes the replies; or sends wakers to a driver that parks.
 #![tactic(auto)]
 
 pub mod command;
@@ -6,8 +6,10 @@ pub mod mem_source;
 pub mod session;
 pub mod source;
 pub mod text;
+pub mod tokens;
 pub mod top;
 mod usage;
+pub mod wake;
 
 use source::{StdSink, StdSource};
 use std::process::ExitCode;

@@ -1,23 +1,22 @@
 //! A session: a driver over the ring in memory, and the tokens of its operations.
 ghost use Rattle.std.specs.Prelude.{◌≡◌, ◌<◌, ◌^◌, length, IfOk, None, Some, IsTrue, IsOk, vec_len, vec_capacity};
 ghost use Rattle.rent_buf.specs.Buf.{built};
-ghost use Rattle.ring_core.specs.Lists.{amended};
 ghost use Rattle.ring_core.specs.Request.{named, buffer_of, plain_request};
 ghost use Rattle.ring_core.specs.Ledger.{Ledger, empty};
 ghost use Rattle.ring_core.specs.Run.{ledger, replies};
-ghost use Rattle.ring_core.specs.Headline.{OneReplyEach, RefusedExactly, PendingUntilReaped, HandsBackOwn, FirstPollHands, HandedOnce};
-ghost use Rattle.ring_core.specs.declared.ledger.Event.TheVariants.{Give, Feed, Submit, Poll, Turn, Exec};
+ghost use Rattle.ring_core.specs.Headline.{OneReplyEach, RefusedExactly, PendingUntilReaped, HandsBackOwn, FirstPollHands, HandedOnce, DroppedOnce, ReapNames, CanceledWhereAsked};
+ghost use Rattle.ring_core.specs.declared.ledger.Event.TheVariants.{Give, Feed, Submit, Poll, Drop, Cancel, Turn, Exec};
 ghost use Rattle.uring_driver.specs.Driver.{holds_all, given_by};
-ghost use Rattle.session_run.specs.Token.{token_at};
-ghost use Rattle.session_run.specs.Session.{SessionStands, SessionAnswers, StepsFor, IsPoll, driver_in};
+ghost use Rattle.session_run.specs.Session.{AreParts, PartsStand, SessionStands, SessionAnswers, StepsFor, IsPollOrDrop, driver_in};
 ghost use Rattle.session_run.specs.Executed.{reply_to, AnswersRefusal};
 
+use crate::tokens::Tokens;
 use op_slots::slab::MAX_LIVE;
 use rent_buf::{Buf, BufSpec, HeldBuf, OutOfMemory};
 use ring_core::{Event, ExecRefusal, HandleKind, MemRing, Refusal, Reply, Request, Told};
 use std::alloc::{AllocError, Global};
 use thiserror::Error;
-use uring_driver::{Executed, IoUringDriver, Op, PollOp, Submitted};
+use uring_driver::{Driver, Executed, IoUringDriver, Op, PollOp, Submitted};
 
 // No counter of a session passes this number: memory would run out long before.
 const MOST_GIVEN: u64 = 1 << 62;
@@ -46,13 +45,13 @@ impl From<AllocError> for RunError {
 /// operation's number. (own)
 pub struct Session {
     driver: IoUringDriver<MemRing, Buf>,
-    tokens: Vec<Option<Op>>,
+    tokens: Tokens,
 }
 
 impl Drop for Session {
     fn drop(self) {
         let Session { driver: _, tokens } = self;
-        forget_all(tokens);
+        tokens.forget();
     }
 }
 
@@ -65,7 +64,7 @@ impl Session {
         let driver = IoUringDriver::new_with_entries(alloc, capacity)?;
         Ok(Session {
             driver,
-            tokens: Vec::new(alloc),
+            tokens: Tokens::new(alloc),
         })
     }
 
@@ -76,17 +75,38 @@ impl Session {
         &self.driver
     }
 
+    /// Its driver and its tokens, which stand for each ledger that the session stands for. It takes no memory.
+    pub fn into_parts(self) -> (IoUringDriver<MemRing, Buf>, Tokens)
+        ensures driver { result.0 ≡ driver_in self }
+        ensures stands { (L : Ledger) → SessionStands self L → PartsStand result.0 result.1 L }
+    {
+        let Session { driver, tokens } = self;
+        (driver, tokens)
+    }
+
+    /// A session of a driver and tokens that stand for some ledger: it stands for each ledger for which they do. The driver may
+    /// have been called since it was taken from its session. It takes no memory.
+    pub fn from_parts(driver: IoUringDriver<MemRing, Buf>, tokens: Tokens) -> Session
+        requires { AreParts driver tokens }
+        ensures driver { driver_in result ≡ driver }
+        ensures stands { (L : Ledger) → PartsStand driver tokens L → SessionStands result L }
+    {
+        Session { driver, tokens }
+    }
+
     /// One step of the machine: does what the event says on the driver, and answers what the machine replies. Where memory
-    /// runs out nothing has happened; a poll never answers that.
+    /// runs out nothing has happened; a poll and a drop never answer that.
     pub fn step(&mut self, event: &Event) -> Result<Reply, OutOfMemory>
         ensures answers { (L : Ledger) → SessionStands self.old L → StepsFor L event.now self.new result }
-        ensures poll { IsPoll event.now → IsOk result }
+        ensures memory { IsPollOrDrop event.now → IsOk result }
     {
         match event {
             Event::Give(kind) => self.give(*kind),
             Event::Feed(h, bytes) => self.feed(*h, bytes.as_slice()),
             Event::Submit(request) => self.submit(request),
             Event::Poll(n, task) => Ok(self.poll(*n, *task)),
+            Event::Drop(n) => Ok(self.give_up(*n)),
+            Event::Cancel(n) => self.cancel(*n),
             Event::Turn => self.turn(),
             Event::Exec(place, told) => self.execute(*place, *told),
         }
@@ -110,11 +130,19 @@ impl Session {
         ensures refused { IfOk result (λ run. RefusedExactly capacity events.now run.0.items) }
 
         // An unrefused poll is Pending exactly until its operation's reap. Else it hands back that operation's own buffer, with
-        // its own outcome; the first poll after the reap does so, and every later one is refused.
+        // its own outcome; the first poll after the reap does so where the operation wasn't dropped.
         ensures pending { IfOk result (λ run. PendingUntilReaped capacity events.now run.0.items) }
         ensures own { IfOk result (λ run. HandsBackOwn capacity events.now run.0.items) }
         ensures first { IfOk result (λ run. FirstPollHands capacity events.now run.0.items) }
+
+        // After an operation was handed back or dropped, each poll, drop and cancel of it is refused.
         ensures once { IfOk result (λ run. HandedOnce events.now run.0.items) }
+        ensures dropped { IfOk result (λ run. DroppedOnce events.now run.0.items) }
+
+        // The turn that reaps an operation names it, also where it was dropped. It ends as canceled only where its cancel was
+        // asked for, or it was dropped, before.
+        ensures names { IfOk result (λ run. ReapNames capacity events.now run.0.items) }
+        ensures canceled { IfOk result (λ run. CanceledWhereAsked capacity events.now run.0.items) }
     {
         let mut replies = Vec::with_capacity(alloc, events.len())?;
         let mut session = Session::new(alloc, capacity)?;
@@ -162,7 +190,7 @@ impl Session {
         if self.driver.given() >= MOST_GIVEN {
             return Err(OutOfMemory);
         }
-        if self.tokens.reserve(1).is_err() {
+        if self.tokens.reserve_one().is_err() {
             return Err(OutOfMemory);
         }
         match build_request(request) {
@@ -184,14 +212,14 @@ impl Session {
     fn submit_built(&mut self, request: Request<Buf>) -> Result<Reply, OutOfMemory>
         requires held { IsTrue (holds_all self.old.driver (named request)) }
         requires counter { given_by self.old.driver < 2 ^ 62 }
-        requires room { vec_len self.old.tokens < vec_capacity self.old.tokens }
+        requires room { vec_len self.old.tokens.ops < vec_capacity self.old.tokens.ops }
         ensures { (L : Ledger) → SessionStands self.old L → StepsFor L (Submit (plain_request built request)) self.new result }
     {
         match self.driver.submit_with(request) {
             Ok(submitted) => {
                 let op = token_of(submitted);
                 let n = op.number();
-                self.tokens.push_reserved(Some(op));
+                self.tokens.add(op);
                 Ok(Reply::Submitted(n))
             }
             Err(_) => Err(OutOfMemory),
@@ -202,7 +230,7 @@ impl Session {
     fn poll(&mut self, n: u64, task: u64) -> Reply
         ensures { (L : Ledger) → SessionStands self.old L → SessionAnswers L (Poll n task) result self.new }
     {
-        match take_token(&mut self.tokens, n as usize) {
+        match self.tokens.take(n as usize) {
             None => Reply::Refused(Refusal::NoOp),
             Some(op) => {
                 if !self.driver.holds(&op) {
@@ -211,10 +239,45 @@ impl Session {
                 }
                 match self.driver.poll_op(op, task) {
                     PollOp::Pending(op) => {
-                        put_token(&mut self.tokens, n as usize, op);
+                        self.tokens.put(n as usize, op);
                         Reply::Pending
                     }
                     PollOp::Ready(done) => Reply::Handed(done.outcome, held_of(done.request)),
+                }
+            }
+        }
+    }
+
+    // An operation is given up.
+    fn give_up(&mut self, n: u64) -> Reply
+        ensures { (L : Ledger) → SessionStands self.old L → SessionAnswers L (Drop n) result self.new }
+    {
+        match self.tokens.take(n as usize) {
+            None => Reply::Refused(Refusal::NoOp),
+            Some(op) => {
+                if !self.driver.holds(&op) {
+                    op.forget();
+                    return Reply::Refused(Refusal::NoOp);
+                }
+                self.driver.drop_op(op);
+                Reply::Dropped
+            }
+        }
+    }
+
+    // The cancel of an operation is asked for.
+    fn cancel(&mut self, n: u64) -> Result<Reply, OutOfMemory>
+        ensures { (L : Ledger) → SessionStands self.old L → StepsFor L (Cancel n) self.new result }
+    {
+        match self.tokens.of_number(n as usize) {
+            None => Ok(Reply::Refused(Refusal::NoOp)),
+            Some(op) => {
+                if !self.driver.holds(op) {
+                    return Ok(Reply::Refused(Refusal::NoOp));
+                }
+                match self.driver.cancel_op(op) {
+                    Ok(()) => Ok(Reply::Asked),
+                    Err(_) => Err(OutOfMemory),
                 }
             }
         }
@@ -284,43 +347,6 @@ fn token_of(submitted: Submitted) -> Op
     }
 }
 
-// Spends all tokens.
-fn forget_all(mut tokens: Vec<Option<Op>>) {
-    while let Some(token) = tokens.pop() {
-        match token {
-            Some(op) => op.forget(),
-            None => {}
-        }
-    }
-    tokens.destroy_empty();
-}
-
-// Takes the token of a number, where there is one.
-fn take_token(tokens: &mut Vec<Option<Op>>, n: usize) -> Option<Op>
-    ensures value { result ≡ token_at tokens.old.items n }
-    ensures rest { tokens.new.items ≡ amended tokens.old.items n (λ token. None) }
-{
-    if n < tokens.len() {
-        tokens[n].take()
-    } else {
-        None
-    }
-}
-
-// Puts a token back under its number.
-fn put_token(tokens: &mut Vec<Option<Op>>, n: usize, op: Op)
-    ensures { token_at tokens.old.items n ≡ None → tokens.new.items ≡ amended tokens.old.items n (λ token. Some op) }
-{
-    if n < tokens.len() {
-        match tokens[n].replace(op) {
-            Some(old) => old.forget(),
-            None => {}
-        }
-    } else {
-        op.forget();
-    }
-}
-
 // The buffer of a request as plain data.
 fn held_of(request: Request<Buf>) -> HeldBuf
     ensures { result ≡ buffer_of (plain_request built request) }
@@ -329,3 +355,6 @@ fn held_of(request: Request<Buf>) -> HeldBuf
         Request::Recv { fd: _, buf } => HeldBuf::One(buf.into_spec()),
     }
 }
+
+#[cfg(test)]
+mod tests;

@@ -1,24 +1,27 @@
 //! The top call: all that the program does, over any source and sink.
-ghost use Rattle.std.specs.Prelude.{◌≡◌, ◌≤◌, ◌<◌, ◌^◌, ◌+◌, ◌++◌, ◌⊎◌, ◌↔◌, map, length, string_bytes, None, Some, IfOk, IfErr, OnOk, OnErr, IsTrue, vec_len, [], ℕ, decimal, codes};
+ghost use Rattle.std.specs.Prelude.{◌≡◌, ◌≤◌, ◌<◌, ◌^◌, ◌+◌, ◌*◌, ◌++◌, ◌⊎◌, ◌↔◌, map, length, string_bytes, None, Some, IfOk, IfErr, OnOk, OnErr, IsTrue, vec_len, [], ℕ, decimal, codes};
 ghost use Rattle.ring_core.specs.Counts.{Rose};
 ghost use Rattle.ring_core.specs.Ledger.{empty};
 ghost use Rattle.ring_core.specs.Run.{replies};
-ghost use Rattle.session_run.specs.Command.{IsRun, capacity_in};
+ghost use Rattle.session_run.specs.Command.{IsRun, IsWake, IsNoCommand, IsWithin, ReadsNothing};
 ghost use Rattle.session_run.specs.TextReply.{reply_text};
-ghost use Rattle.session_run.specs.Top.{RunDone, WasRead, LineRefused, TookTooMany, WroteSome, bad_line_text, ended, reply_lines};
-ghost use Rattle.session_run.specs.Ends.{EndsFor, IsAll, RefusesFor, RunsEvents, Sent, WhyNoEvents, WhyStopped, WhyUnread, WhyUnwritten, WritesAll, WritesLine};
+ghost use Rattle.session_run.specs.Top.{RunDone, WasRead, LineRefused, TookTooMany, WakesFor, WroteSome, bad_line_text, drained_text, ended, reply_lines};
+ghost use Rattle.session_run.specs.Ends.{CommandEnds, EndsFor, IsAll, RefusesFor, RunsEvents, Sent, StatusFor, WakeEnds, WhyNoEvents, WhyStopped, WhyUnread, WhyUnwritten, WritesAll, WritesLine};
 
 use crate::command::{Command, command_of};
 use crate::session::{RunError, Session};
 use crate::source::{ByteSink, ByteSource, Failed};
 use crate::text::{LinesError, put_number, read_events, write_reply};
+use crate::wake::wake_all;
 use rent_buf::OutOfMemory;
 use ring_core::{Event, Reply};
 use std::alloc::{AllocError, Global};
-use std::net::Net;
+use std::marker::Brand;
 use std::rt::Clock;
 use std::sync::Wait;
+use std::sync::ledger::Blank;
 use std::thread::Threads;
+use wake_core::OpenGate;
 
 /// The most bytes of input.
 pub const MOST_INPUT: usize = 16777216;
@@ -63,8 +66,9 @@ impl Drop for Kept {
 }
 
 /// Does what the words say. `run CAP` reads lines, runs their events over a queue of `CAP` entries, and writes the text of
-/// each reply and a newline. The condition is that nothing is kept yet.
-pub fn top<R: Threads + Wait + Net + Clock + Sync, S: ByteSource, K: ByteSink>(
+/// each reply and a newline. `wake SENDERS COUNT` reads nothing: each sender sends so many wakers from a thread of its own,
+/// and `drained N` and a newline are written. The condition is that nothing is kept yet.
+pub fn top<R: Threads + Wait + Clock + Sync, S: ByteSource, K: ByteSink>(
     rt: &R,
     alloc: Global,
     words: &[String],
@@ -74,7 +78,7 @@ pub fn top<R: Threads + Wait + Net + Clock + Sync, S: ByteSource, K: ByteSink>(
 ) -> Status
     requires { kept.old ≡ None }
     // It is BadWords exactly where the words are no command's, and then nothing is read or written.
-    ensures bad_words { (result ≡ Status.BadWords) ↔ ((capacity : ℕ) → IsRun (map string_bytes words.now) capacity → ⊥) }
+    ensures bad_words { (result ≡ Status.BadWords) ↔ IsNoCommand (map string_bytes words.now) }
     ensures untouched { result ≡ Status.BadWords → (source.new ≡ source.old) × (sink.new ≡ sink.old) }
 
     // Done means that the input's lines stand for events, and that the replies of the machine to them were written.
@@ -92,29 +96,36 @@ pub fn top<R: Threads + Wait + Net + Clock + Sync, S: ByteSource, K: ByteSink>(
     ensures front { (capacity : ℕ) → IsRun (map string_bytes words.now) capacity → result ≡ Status.WriteFault → WroteSome S.tells K.tells capacity (S.left source.old) (S.left source.new) (K.taken sink.old) (K.taken sink.new) }
     ensures some { (capacity : ℕ) → IsRun (map string_bytes words.now) capacity → result ≡ Status.OutOfMemory → (IsTrue K.tells → K.taken sink.new ≡ K.taken sink.old) ⊎ WroteSome S.tells K.tells capacity (S.left source.old) (S.left source.new) (K.taken sink.old) (K.taken sink.new) }
     ensures kept { (result ≡ Status.Done → ⊥) → kept.new ≡ None }
+
+    // `wake` reads and keeps nothing, and writes how many wakers its senders sent.
+    ensures wakes { (senders count : ℕ) → IsWake (map string_bytes words.now) senders count → WakesFor K.tells (senders * count) (K.taken sink.old) (K.taken sink.new) result }
+    ensures unread { (senders count : ℕ) → IsWake (map string_bytes words.now) senders count → (source.new ≡ source.old) × (kept.new ≡ None) }
 {
-    let _ = rt;
     match command_of(words) {
-        Some(command) => run_command(alloc, command, source, sink, kept),
+        Some(command) => run_command(rt, alloc, command, source, sink, kept),
         None => Status::BadWords,
     }
 }
 
 // Does what a command asks for.
-fn run_command<S: ByteSource, K: ByteSink>(
+fn run_command<R: Threads + Wait + Clock + Sync, S: ByteSource, K: ByteSink>(
+    rt: &R,
     alloc: Global,
     command: Command,
     source: &mut S,
     sink: &mut K,
     kept: &mut Option<Kept>,
 ) -> Status
-    requires capacity { 0 < capacity_in command }
+    requires within { IsWithin command }
     requires fresh { kept.old ≡ None }
-    ensures ends { EndsFor S.tells K.tells (capacity_in command) (record { left = S.left source.old; rest = S.left source.new; faults = S.faults source.old; later = S.faults source.new }) (record { taken = K.taken sink.old; now = K.taken sink.new; faults = K.faults sink.old; later = K.faults sink.new; flushed = K.is_flushed sink.new }) kept.new result }
+    ensures ends { CommandEnds S.tells K.tells command (record { left = S.left source.old; rest = S.left source.new; faults = S.faults source.old; later = S.faults source.new }) (record { taken = K.taken sink.old; now = K.taken sink.new; faults = K.faults sink.old; later = K.faults sink.new; flushed = K.is_flushed sink.new }) kept.new result }
+    ensures status { StatusFor S.tells K.tells (record { left = S.left source.old; rest = S.left source.new; faults = S.faults source.old; later = S.faults source.new }) (record { taken = K.taken sink.old; now = K.taken sink.new; faults = K.faults sink.old; later = K.faults sink.new; flushed = K.is_flushed sink.new }) result }
     ensures kept { (result ≡ Status.Done → ⊥) → kept.new ≡ None }
+    ensures unread { ReadsNothing command → (source.new ≡ source.old) × (kept.new ≡ None) }
 {
     match command {
         Command::Run(capacity) => run_lines(alloc, capacity, source, sink, kept),
+        Command::Wake(senders, count) => run_wake(rt, alloc, senders, count, sink),
     }
 }
 
@@ -173,6 +184,25 @@ fn run_events<K: ByteSink>(
             Err(Unwritten::OutOfMemory) => Status::OutOfMemory,
         },
         Err(RunError::OutOfMemory) => Status::OutOfMemory,
+    }
+}
+
+// Sends and drains wakers, and writes how many.
+fn run_wake<R: Threads + Wait + Clock + Sync, K: ByteSink>(
+    rt: &R,
+    alloc: Global,
+    senders: u64,
+    count: u32,
+    sink: &mut K,
+) -> Status
+    requires few { senders ≤ 64 }
+    ensures { WakeEnds K.tells (senders * count) (record { taken = K.taken sink.old; now = K.taken sink.new; faults = K.faults sink.old; later = K.faults sink.new; flushed = K.is_flushed sink.new }) result }
+{
+    let (pushes, drains) = (Blank::new(65537), Blank::new(1));
+    let gate = OpenGate;
+    match wake_all::<Brand, Brand, OpenGate, R>(rt, alloc, pushes, drains, senders, count, &gate) {
+        Ok(settled) => write_drained(alloc, settled.drained, sink),
+        Err(OutOfMemory) => Status::OutOfMemory,
     }
 }
 
@@ -322,6 +352,30 @@ fn put_bad_line(line: u64, out: &mut Vec<u8>) -> Result<(), OutOfMemory>
 {
     out.extend_from_slice(b"line ")?;
     put_number(line, out)?;
+    out.push(b'\n')?;
+    Ok(())
+}
+
+// Writes `drained N` and a newline.
+fn write_drained<K: ByteSink>(alloc: Global, drained: u64, sink: &mut K) -> Status
+    ensures { WakeEnds K.tells drained (record { taken = K.taken sink.old; now = K.taken sink.new; faults = K.faults sink.old; later = K.faults sink.new; flushed = K.is_flushed sink.new }) result }
+{
+    let mut out = Vec::new(alloc);
+    if put_drained(drained, &mut out).is_err() {
+        return Status::OutOfMemory;
+    }
+    match write_last(out.as_slice(), sink) {
+        Ok(()) => Status::Done,
+        Err(_) => Status::WriteFault,
+    }
+}
+
+// Appends `drained N` and a newline.
+fn put_drained(drained: u64, out: &mut Vec<u8>) -> Result<(), OutOfMemory>
+    ensures { OnOk result (out.new.items ≡ out.old.items ++ drained_text drained) }
+{
+    out.extend_from_slice(b"drained ")?;
+    put_number(drained, out)?;
     out.push(b'\n')?;
     Ok(())
 }

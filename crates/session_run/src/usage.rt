@@ -9,11 +9,14 @@ use std::{env, io};
 pub(crate) const HELP: &str = "Runs events on a completion I/O engine with owned buffers.
 
 usage: session_run run CAP
+       session_run wake SENDERS COUNT
        session_run --help
        session_run --version
 
 `run CAP` reads events from standard input, a line each, runs them over a queue
 of CAP entries (1 to 4294967295), and writes the reply to each, a line each.
+`wake SENDERS COUNT` sends COUNT wakers (0 to 100000) from each of SENDERS
+threads (0 to 64) to a driver that parks, and writes how many it drained.
 The exit status is 0 where all was written, 1 for other words than these, 2 for
 a line that is no event, 3 for more than 16777216 bytes of input, 4 and 5 where
 reading or writing failed, and 6 where memory ran out.";
@@ -22,7 +25,7 @@ reading or writing failed, and 6 where memory ran out.";
 pub(crate) const VERSION: &str = "session_run 0.1.0";
 
 /// The line that goes to standard error where the words are no command's.
-pub(crate) const USAGE: &str = "usage: session_run run CAP";
+pub(crate) const USAGE: &str = "usage: session_run run CAP | wake SENDERS COUNT";
 
 /// What a person may ask for in place of a command.
 #[derive(Clone, Copy, Debug, PartialEq, Eq)]

@@ -1,5 +1,7 @@
--- Steps that calls are made of: a slot's life changes with its operation, and an operation leaves with its slot.
-use Rattle.std.proofs.Common.{◌≡◌, ◌≢◌, inl, inr, ℕ, true, false, Some, refl, sym, ◌∙◌, ap}
+-- Steps that calls are made of: a slot's life changes with its operation, an operation leaves with its slot, and a cancel joins the
+-- queue's end.
+use Rattle.std.proofs.Common.{◌≡◌, ◌≢◌, inl, inr, ℕ, true, false, [], ◌∷◌, ◌++◌, Some, refl, sym, ◌∙◌, ap, subst}
+use Rattle.std.proofs.lemmas.List.{map-append}
 use Rattle.std.specs.Prelude.{slice_get}
 use Rattle.std.specs.Ordering.{nat_cmp}
 use Rattle.std.specs.FinMap.{FinMap, get, insert, remove}
@@ -8,31 +10,34 @@ use Rattle.op_slots.specs.declared.lifecycle.Lifecycle.{Lifecycle}
 use Rattle.ring_core.specs.Ring.{RingView}
 use Rattle.ring_core.specs.Lists.{amended}
 use Rattle.ring_core.specs.declared.request.Outcome.{Outcome}
-use Rattle.ring_core.specs.Ledger.{Ledger, Operation, Place, InQueue, InFlight, InDone, Reaped, is_live, is_kept}
-use Rattle.ring_core.specs.Queue.{with_op}
+use Rattle.ring_core.specs.declared.entry.Body.TheVariants.{Cancel as Cancels}
+use Rattle.ring_core.specs.declared.entry.Entry.{Entry}
+use Rattle.ring_core.specs.Ledger.{Ledger, Cancel, Operation, Place, InQueue, InFlight, InDone, Reaped, is_live, is_kept}
+use Rattle.ring_core.specs.Queue.{with_op, append}
 use Rattle.ring_core.proofs.Amended.{get-amended-same, get-amended-other}
 use Rattle.uring_driver.specs.declared.slot.Slot.{Slot}
 use Rattle.uring_driver.specs.Slot.{with_life}
 use Rattle.uring_driver.specs.Slots.{SlotFor}
-use Rattle.uring_driver.specs.Lists.{IsAt}
+use Rattle.uring_driver.specs.Lists.{EntryFor, IsAt, QueuedFor, Meets, CancelsMean, is_call, queued_of}
+use Rattle.uring_driver.specs.Outbox.{cancel_entry}
 use Rattle.uring_driver.specs.Stands.{Means}
-use Rattle.uring_driver.proofs.Lists.{some, same-or-not}
+use Rattle.uring_driver.proofs.Lists.{some, same-or-not, get-pushed}
 use Rattle.uring_driver.proofs.Maps.{put-same, put-other}
 use Rattle.uring_driver.proofs.Slots.{slots-replaced, slots-freed, other-left}
-use Rattle.uring_driver.proofs.Kept.{KeepsOp, KeepsSlot, lists-kept}
+use Rattle.uring_driver.proofs.Kept.{KeepsOp, KeepsSlot, call-queued, lists-kept}
 
 -- A slot's life changes, and its operation with it, where it stands.
 module _ {B : Type 0} (buffer : B → Buffer) (v : RingView) (slots : FinMap nat_cmp (Slot B)) (L : Ledger) (key : ℕ) (s : Slot B) (life : Lifecycle Outcome) (f : Operation → Operation) (o : Operation)
     (old : Means buffer v slots L) (there : get slots key ≡ Some s) (which : slice_get L.ops s.serial ≡ Some o)
-    (stays : (p : Operation) → (f p).place ≡ p.place)
+    (stays : (p : Operation) → ((f p).place ≡ p.place) × ((f p).canceled ≡ p.canceled))
     (fits : SlotFor buffer (amended L.ops s.serial f) (with_life s life)) where
   abbrev t : Slot B
   t = with_life s life
 
   op-kept : (n : ℕ) → KeepsOp L.ops (amended L.ops s.serial f) n
   op-kept n p h = elim (same-or-not n s.serial) [
-    | inl e ↦ (f p, ap (slice_get (amended L.ops s.serial f)) e ∙ get-amended-same f L.ops s.serial p (ap (slice_get L.ops) (sym e) ∙ h), stays p)
-    | inr e ↦ (p, get-amended-other f L.ops s.serial n e ∙ h, refl)
+    | inl e ↦ (f p, ap (slice_get (amended L.ops s.serial f)) e ∙ get-amended-same f L.ops s.serial p (ap (slice_get L.ops) (sym e) ∙ h), (stays p).0, (stays p).1)
+    | inr e ↦ (p, get-amended-other f L.ops s.serial n e ∙ h, refl, refl)
   ]
 
   slot-kept : (n : ℕ) → KeepsSlot slots (insert slots key t) n
@@ -45,7 +50,7 @@ module _ {B : Type 0} (buffer : B → Buffer) (v : RingView) (slots : FinMap nat
   means-changed = record {
     capacity = old.capacity;
     world = old.world;
-    in_slots = slots-replaced buffer slots L.ops key s t f o old.in_slots there refl which (ap is_kept (stays o)) fits;
+    in_slots = slots-replaced buffer slots L.ops key s t f o old.in_slots there refl which (ap is_kept (stays o).0) fits;
     in_lists = lists-kept buffer slots (insert slots key t) L.ops (amended L.ops s.serial f) v L refl (λ n a. (slot-kept n, op-kept n)) (λ n a. (slot-kept n, op-kept n)) (λ i c h a. (slot-kept c.serial, op-kept c.serial)) old.in_lists;
   }
 
@@ -61,7 +66,7 @@ module _ {B : Type 0} (buffer : B → Buffer) (v : RingView) (slots : FinMap nat
   both : (n : ℕ) (p : Place) → p ≢ Reaped r → IsAt L.ops n p → KeepsSlot slots (remove slots key) n × KeepsOp L.ops (amended L.ops s.serial f) n
   both n p h a = (
     λ k u q i. (u, other-left buffer slots L.ops key s f o old.in_slots there which lives gone k u q (λ e. other n p a h (sym i ∙ e)), refl, refl),
-    λ q i. (q, get-amended-other f L.ops s.serial n (other n p a h) ∙ i, refl),
+    λ q i. (q, get-amended-other f L.ops s.serial n (other n p a h) ∙ i, refl, refl),
   )
 
   pub means-freed : Means buffer v (remove slots key) (with_op L s.serial f)
@@ -70,4 +75,67 @@ module _ {B : Type 0} (buffer : B → Buffer) (v : RingView) (slots : FinMap nat
     world = old.world;
     in_slots = slots-freed buffer slots L.ops key s f o old.in_slots there which lives gone;
     in_lists = lists-kept buffer slots (remove slots key) L.ops (amended L.ops s.serial f) v L refl (λ n a. both n InQueue (λ q. cc) a) (λ n a. both n InFlight (λ q. cc) a) (λ i c h a. both c.serial (InDone c.outcome) (λ q. cc) a) old.in_lists;
+  }
+
+-- A cancel of the operation of a live slot joins the queue's end.
+module _ {B : Type 0} (buffer : B → Buffer) (w : RingView) (slots : FinMap nat_cmp (Slot B)) (M : Ledger) (key : ℕ) (s : Slot B) (number : ℕ)
+    (old : Means buffer w slots M) (there : get slots key ≡ Some s) (serial : s.serial ≡ number) where
+  abbrev c' : Entry
+  c' = cancel_entry number key
+
+  -- At its push the key is that of the number alone.
+  meets : (e : Entry) → EntryFor buffer slots e → Meets e key number
+  meets e E = record {
+    by_word = λ h. sym E.serial ∙ ap (λ x. x.serial) (some E.slot s (get slots e.word) E.there (ap (get slots) h ∙ there)) ∙ serial;
+    by_serial = λ h. old.in_slots.one e.word key E.slot s E.there there (E.serial ∙ h ∙ sym serial);
+  }
+
+  last-key : (c : Entry) (k : ℕ) → c ≡ c' → c.body ≡ Cancels k → (key ≡ k) × (number ≡ c.serial)
+  last-key c k h b = (let q : Cancels key ≡ Cancels k = sym (ap (λ x. x.body) h) ∙ b in (cc, ap (λ x. x.serial) (sym h)))
+
+  meets-last : (e c : Entry) (k : ℕ) → EntryFor buffer slots e → c ≡ c' → c.body ≡ Cancels k → Meets e k c.serial
+  unfolding last-key
+  meets-last e c k E h b = (let l = last-key c k h b in subst (λ x. Meets e x c.serial) l.0 (subst (λ x. Meets e key x) l.1 (meets e E)))
+
+  no-call : (x : Entry) → x ≡ c' → is_call x.body ≡ true → ⊥
+  no-call x h q = (let z : false ≡ true = sym (ap (λ y. is_call y.body) h) ∙ q in cc)
+
+  cancels-more : CancelsMean (w.queue ++ c' ∷ []) w.flying
+  cancels-more = record {
+    before = λ i j e c k h l b less q. elim (get-pushed w.queue c' i e h) [
+      | inl a ↦ elim (get-pushed w.queue c' j c l) [
+        | inl d ↦ old.in_lists.cancels.before i j e c k a d b less q
+        | inr d ↦ meets-last e c k (call-queued buffer slots M.ops e e.body (old.in_lists.in_queue i e a) q).0 d.1 b
+      ]
+      | inr a ↦ absurd (no-call e a.1 q)
+    ];
+    flown = λ i j f c k h l b. elim (get-pushed w.queue c' j c l) [
+      | inl d ↦ old.in_lists.cancels.flown i j f c k h d b
+      | inr d ↦ meets-last f.entry c k (old.in_lists.in_flight i f h).0 d.1 b
+    ];
+  }
+
+  pub means-canceled : Means buffer (record w { queue = w.queue ++ cancel_entry number key ∷ [] }) slots (append M (Cancel number))
+  means-canceled = record {
+    capacity = old.capacity;
+    world = old.world;
+    in_slots = old.in_slots;
+    in_lists = (let l = old.in_lists in record {
+      queue = ap (λ x. x ++ Cancel number ∷ []) l.queue ∙ sym (map-append queued_of w.queue (c' ∷ []));
+      flying = l.flying;
+      done = l.done;
+      in_queue = λ i x h. elim (get-pushed w.queue c' i x h) [
+        | inl a ↦ l.in_queue i x a
+        | inr a ↦ subst (λ y. QueuedFor buffer slots M.ops y y.body) (sym a.1) refl
+      ];
+      in_flight = l.in_flight;
+      in_done = l.in_done;
+      queue_once = λ i j x y h k a b q. elim (get-pushed w.queue c' i x h) [
+        | inl d ↦ elim (get-pushed w.queue c' j y k) [ inl e ↦ l.queue_once i j x y d e a b q | inr e ↦ absurd (no-call y e.1 b) ]
+        | inr d ↦ absurd (no-call x d.1 a)
+      ];
+      flight_once = l.flight_once;
+      done_once = l.done_once;
+      cancels = cancels-more;
+    });
   }

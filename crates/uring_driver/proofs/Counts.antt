@@ -1,48 +1,79 @@
--- How many operations aren't gone, after a change of one.
-use Rattle.std.proofs.Common.{◌≡◌, ℕ, zero, suc, ◌+◌, Bool, true, false, cond, List, [], ◌∷◌, ◌++◌, length, Some, refl, sym, ◌∙◌, ap, arith, add_assoc}
-use Rattle.std.specs.Prelude.{slice_get, if◌then◌else◌}
+-- How many operations pass a test, after a change of one.
+use Rattle.std.proofs.Common.{◌≡◌, ℕ, zero, suc, ◌+◌, ◌≤◌, Bool, true, false, cond, List, [], ◌∷◌, ◌++◌, length, Some, refl, sym, ◌∙◌, ap, arith, add_assoc}
+use Rattle.std.specs.Prelude.{slice_get, ◌&&◌, not, if◌then◌else◌}
 use Rattle.ring_core.specs.Lists.{amended, numbers_where}
-use Rattle.ring_core.specs.Ledger.{Operation, is_live}
+use Rattle.ring_core.specs.Ledger.{Operation, is_live, is_owned}
 
--- The operations that aren't gone, counted.
-abbrev live_count : List Operation → ℕ
-live_count [] = 0
-live_count (o ∷ ops) = cond (is_live o) 1 0 + live_count ops
+-- The operations that pass, counted.
+abbrev passing : (Operation → Bool) → List Operation → ℕ
+passing test [] = 0
+passing test (o ∷ ops) = cond (test o) 1 0 + passing test ops
 
 length-if : (b : Bool) (n : ℕ) (xs : List ℕ) → length (if b then n ∷ xs else xs) ≡ cond b 1 0 + length xs
 length-if true n xs = omega arith
 length-if false n xs = omega arith
 
-length-numbers : (n : ℕ) (ops : List Operation) → length (numbers_where is_live n ops) ≡ live_count ops
-length-numbers n [] = refl
-length-numbers n (o ∷ ops) = length-if (is_live o) n (numbers_where is_live (suc n) ops) ∙ ap (λ k. cond (is_live o) 1 0 + k) (length-numbers (suc n) ops)
+length-numbers : (test : Operation → Bool) (n : ℕ) (ops : List Operation) → length (numbers_where test n ops) ≡ passing test ops
+length-numbers test n [] = refl
+length-numbers test n (o ∷ ops) = length-if (test o) n (numbers_where test (suc n) ops) ∙ ap (λ k. cond (test o) 1 0 + k) (length-numbers test (suc n) ops)
 
-amended-same : (f : Operation → Operation) (ops : List Operation) (n : ℕ) (o : Operation) → slice_get ops n ≡ Some o → is_live (f o) ≡ is_live o → live_count (amended ops n f) ≡ live_count ops
-amended-same f [] n o h l = refl
-amended-same f (x ∷ ops) zero o h l = let e : x ≡ o = cc in ap (λ b. cond b 1 0 + live_count ops) (ap (λ y. is_live (f y)) e ∙ l ∙ ap is_live (sym e))
-amended-same f (x ∷ ops) (suc n) o h l = ap (λ k. cond (is_live x) 1 0 + k) (amended-same f ops n o h l)
+amended-same : (test : Operation → Bool) (f : Operation → Operation) (ops : List Operation) (n : ℕ) (o : Operation) → slice_get ops n ≡ Some o → test (f o) ≡ test o → passing test (amended ops n f) ≡ passing test ops
+amended-same test f [] n o h l = refl
+amended-same test f (x ∷ ops) zero o h l = let e : x ≡ o = cc in ap (λ b. cond b 1 0 + passing test ops) (ap (λ y. test (f y)) e ∙ l ∙ ap test (sym e))
+amended-same test f (x ∷ ops) (suc n) o h l = ap (λ k. cond (test x) 1 0 + k) (amended-same test f ops n o h l)
 
-amended-less : (f : Operation → Operation) (ops : List Operation) (n : ℕ) (o : Operation) → slice_get ops n ≡ Some o → is_live o ≡ true → is_live (f o) ≡ false → live_count (amended ops n f) + 1 ≡ live_count ops
-amended-less f [] n o h l m = cc
-amended-less f (x ∷ ops) zero o h l m =
+amended-all : (test : Operation → Bool) (f : Operation → Operation) (ops : List Operation) (n : ℕ) → ((o : Operation) → test (f o) ≡ test o) → passing test (amended ops n f) ≡ passing test ops
+amended-all test f [] n l = refl
+amended-all test f (x ∷ ops) zero l = ap (λ b. cond b 1 0 + passing test ops) (l x)
+amended-all test f (x ∷ ops) (suc n) l = ap (λ k. cond (test x) 1 0 + k) (amended-all test f ops n l)
+
+amended-less : (test : Operation → Bool) (f : Operation → Operation) (ops : List Operation) (n : ℕ) (o : Operation) → slice_get ops n ≡ Some o → test o ≡ true → test (f o) ≡ false → passing test (amended ops n f) + 1 ≡ passing test ops
+amended-less test f [] n o h l m = cc
+amended-less test f (x ∷ ops) zero o h l m =
     let e : x ≡ o = cc in
-    let one : ◌≡◌ {A = ℕ} (cond (is_live x) 1 0) 1 = ap (λ b. cond b 1 0) (ap is_live e ∙ l) in
-    let none : ◌≡◌ {A = ℕ} (cond (is_live (f x)) 1 0) 0 = ap (λ b. cond b 1 0) (ap (λ y. is_live (f y)) e ∙ m) in
+    let one : ◌≡◌ {A = ℕ} (cond (test x) 1 0) 1 = ap (λ b. cond b 1 0) (ap test e ∙ l) in
+    let none : ◌≡◌ {A = ℕ} (cond (test (f x)) 1 0) 0 = ap (λ b. cond b 1 0) (ap (λ y. test (f y)) e ∙ m) in
     omega (arith, one, none)
-amended-less f (x ∷ ops) (suc n) o h l m = omega (arith, amended-less f ops n o h l m)
+amended-less test f (x ∷ ops) (suc n) o h l m = omega (arith, amended-less test f ops n o h l m)
 
-pushed-more : (ops : List Operation) (o : Operation) → is_live o ≡ true → live_count (ops ++ o ∷ []) ≡ live_count ops + 1
-pushed-more [] o h = ap (λ b. cond b 1 0 + 0) h
-pushed-more (x ∷ ops) o h = ap (λ k. cond (is_live x) 1 0 + k) (pushed-more ops o h) ∙ sym (add_assoc (cond (is_live x) 1 0) (live_count ops) 1)
+pushed-more : (test : Operation → Bool) (ops : List Operation) (o : Operation) → test o ≡ true → passing test (ops ++ o ∷ []) ≡ passing test ops + 1
+pushed-more test [] o h = ap (λ b. cond b 1 0 + 0) h
+pushed-more test (x ∷ ops) o h = ap (λ k. cond (test x) 1 0 + k) (pushed-more test ops o h) ∙ sym (add_assoc (cond (test x) 1 0) (passing test ops) 1)
 
--- One that is live exactly where it was.
-pub live-same : (f : Operation → Operation) (ops : List Operation) (n : ℕ) (o : Operation) → slice_get ops n ≡ Some o → is_live (f o) ≡ is_live o → length (numbers_where is_live 0 (amended ops n f)) ≡ length (numbers_where is_live 0 ops)
-live-same f ops n o h l = length-numbers 0 (amended ops n f) ∙ amended-same f ops n o h l ∙ sym (length-numbers 0 ops)
+one-within : (a b : Bool) → (a ≡ true → b ≡ true) → cond a 1 0 ≤ cond b 1 0
+one-within true true h = omega arith
+one-within true false h = (let z : false ≡ true = h refl in cc)
+one-within false true h = omega arith
+one-within false false h = omega arith
 
--- One that is gone now.
-pub live-less : (f : Operation → Operation) (ops : List Operation) (n : ℕ) (o : Operation) → slice_get ops n ≡ Some o → is_live o ≡ true → is_live (f o) ≡ false → length (numbers_where is_live 0 (amended ops n f)) + 1 ≡ length (numbers_where is_live 0 ops)
-live-less f ops n o h l m = ap (λ k. k + 1) (length-numbers 0 (amended ops n f)) ∙ amended-less f ops n o h l m ∙ sym (length-numbers 0 ops)
+passing-within : (p q : Operation → Bool) (ops : List Operation) → ((o : Operation) → p o ≡ true → q o ≡ true) → passing p ops ≤ passing q ops
+passing-within p q [] h = omega arith
+passing-within p q (o ∷ ops) h = omega (arith, one-within (p o) (q o) (h o), passing-within p q ops h)
+
+-- One that passes exactly where it did.
+pub where-same : (test : Operation → Bool) (f : Operation → Operation) (ops : List Operation) (n : ℕ) (o : Operation) → slice_get ops n ≡ Some o → test (f o) ≡ test o → length (numbers_where test 0 (amended ops n f)) ≡ length (numbers_where test 0 ops)
+where-same test f ops n o h l = length-numbers test 0 (amended ops n f) ∙ amended-same test f ops n o h l ∙ sym (length-numbers test 0 ops)
+
+-- A change after which each passes exactly where it did.
+pub where-all : (test : Operation → Bool) (f : Operation → Operation) (ops : List Operation) (n : ℕ) → ((o : Operation) → test (f o) ≡ test o) → length (numbers_where test 0 (amended ops n f)) ≡ length (numbers_where test 0 ops)
+where-all test f ops n l = length-numbers test 0 (amended ops n f) ∙ amended-all test f ops n l ∙ sym (length-numbers test 0 ops)
+
+-- One that passes no more.
+pub where-less : (test : Operation → Bool) (f : Operation → Operation) (ops : List Operation) (n : ℕ) (o : Operation) → slice_get ops n ≡ Some o → test o ≡ true → test (f o) ≡ false → length (numbers_where test 0 (amended ops n f)) + 1 ≡ length (numbers_where test 0 ops)
+where-less test f ops n o h l m = ap (λ k. k + 1) (length-numbers test 0 (amended ops n f)) ∙ amended-less test f ops n o h l m ∙ sym (length-numbers test 0 ops)
 
 -- One more.
-pub live-more : (ops : List Operation) (o : Operation) → is_live o ≡ true → length (numbers_where is_live 0 (ops ++ o ∷ [])) ≡ length (numbers_where is_live 0 ops) + 1
-live-more ops o h = length-numbers 0 (ops ++ o ∷ []) ∙ pushed-more ops o h ∙ ap (λ k. k + 1) (sym (length-numbers 0 ops))
+pub where-more : (test : Operation → Bool) (ops : List Operation) (o : Operation) → test o ≡ true → length (numbers_where test 0 (ops ++ o ∷ [])) ≡ length (numbers_where test 0 ops) + 1
+where-more test ops o h = length-numbers test 0 (ops ++ o ∷ []) ∙ pushed-more test ops o h ∙ ap (λ k. k + 1) (sym (length-numbers test 0 ops))
+
+-- A test that implies another.
+pub where-within : (p q : Operation → Bool) (ops : List Operation) → ((o : Operation) → p o ≡ true → q o ≡ true) → length (numbers_where p 0 ops) ≤ length (numbers_where q 0 ops)
+where-within p q ops h = (let a = length-numbers p 0 ops in let b = length-numbers q 0 ops in let c = passing-within p q ops h in omega (arith, a, b, c))
+
+and-first : (a b : Bool) → (a && b) ≡ true → a ≡ true
+and-first true b h = refl
+and-first false b h = h
+
+-- An operation of its user isn't gone.
+pub owned-lives : (o : Operation) → is_owned o ≡ true → is_live o ≡ true
+owned-lives o h = and-first (is_live o) (not o.dropped) h

@@ -1,5 +1,5 @@
 -- What an execution does to a ring and slots that mean a ledger.
-use Rattle.std.proofs.Common.{◌≡◌, ◌≢◌, ◌⊎◌, inl, inr, ℕ, ◌≤◌, ◌<◌, true, false, List, ◌++◌, [], ◌∷◌, Some, refl, sym, ◌∙◌, ap, subst, length, map}
+use Rattle.std.proofs.Common.{◌≡◌, ◌≢◌, ◌⊎◌, inl, inr, ℕ, ◌≤◌, ◌<◌, Bool, true, false, Option, List, ◌++◌, [], ◌∷◌, Some, refl, sym, ◌∙◌, ap, subst, length, map}
 use Rattle.std.specs.Prelude.{slice_get, remove}
 use Rattle.std.specs.Ordering.{nat_cmp}
 use Rattle.std.specs.FinMap.{FinMap, get, insert}
@@ -15,22 +15,27 @@ use Rattle.ring_core.specs.declared.entry.Entry.{Entry}
 use Rattle.ring_core.specs.declared.entry.Flight.{Flight}
 use Rattle.ring_core.specs.declared.entry.Completion.{Completion}
 use Rattle.ring_core.specs.declared.request.Told.{Told}
+use Rattle.ring_core.specs.declared.request.Outcome.{Outcome}
 use Rattle.ring_core.specs.Ledger.{Ledger, Operation, Place, InQueue, InFlight, InDone, Op, is_live, is_kept}
 use Rattle.ring_core.specs.Turn.{held, with_result, with_effect, complete_at}
 use Rattle.ring_core.proofs.Amended.{get-amended-same, get-amended-other}
 use Rattle.uring_driver.specs.declared.slot.Slot.{Slot}
-use Rattle.uring_driver.specs.Slot.{room_of, filled, IsFilled, FillsSlot}
-use Rattle.uring_driver.specs.Slots.{SlotFor, SlotsStand}
-use Rattle.uring_driver.specs.Lists.{EntryFor, CompletionFor, IsAt, ListsStand, queued_of, item_of, done_item_of, is_reserved, kept as unreserved}
+use Rattle.uring_driver.specs.Slot.{room_of, filled_by, IsFilled, FillsSlot}
+use Rattle.uring_driver.specs.Slots.{SlotFor, SlotsStand, life_of}
+use Rattle.uring_driver.specs.Lists.{EntryFor, CompletionFor, IsAt, IsFlown, CancelsMean, ListsStand, queued_of, item_of, done_item_of, is_reserved, kept as unreserved}
 use Rattle.uring_driver.specs.Stands.{Means}
 use Rattle.uring_driver.proofs.Lists.{some, skip, skip-not, skip-one, get-removed, map-removed, get-pushed}
 use Rattle.uring_driver.proofs.Maps.{put-same}
 use Rattle.uring_driver.proofs.Slots.{slots-replaced, other-slot}
-use Rattle.uring_driver.proofs.Kept.{queued-kept, kept-pushed, not-reserved}
+use Rattle.uring_driver.proofs.Kept.{queued-kept, kept-pushed, not-reserved, flown-at}
 use Rattle.uring_driver.proofs.Flights.{o, s, slot-there, n-is, there-s, which, flies, request-is, life-is, allows-is, effect-is, here, filled-held, got-fits}
 
+done-life : (b : Bool) (r : Outcome) (t : Option ℕ) → life_of b InFlight t ≡ life_of b (InDone r) t
+done-life true r t = refl
+done-life false r t = refl
+
 module _ {B : Type 0} (buffer : B → Buffer) (v : RingView) (slots slots' : FinMap nat_cmp (Slot B)) (L : Ledger) (place : ℕ) (told : Told) (v' : RingView) (got : List ℕ) (c : Completion)
-    (old : Means buffer v slots L) (fin : IsFinished v place told [] v' got c) (fills : FillsSlot buffer slots c.word got slots') where
+    (old : Means buffer v slots L) (fin : IsFinished v place told [] v' got c) (fills : FillsSlot buffer slots c.word told got slots') where
   abbrev n : ℕ
   n = fin.flight.entry.serial
 
@@ -67,10 +72,10 @@ module _ {B : Type 0} (buffer : B → Buffer) (v : RingView) (slots slots' : Fin
   got-is : got ≡ result.got
   got-is = fin.bytes ∙ ap (λ x. x.got) eff
 
-  stored-is : IsFilled buffer slots c.word got slots' slot
+  stored-is : IsFilled buffer slots c.word told got slots' slot
   stored-is =
-      let allows : is_allowed L.world (call_of op.request) told ≡ true = sym (allows-is buffer v slots L place fin.flight old fin.there told) ∙ fin.allows in
-      let fit : length got ≤ room_of op.request = subst (λ x. length x ≤ room_of op.request) (sym got-is) (got-fits L.world op.request told (sent_of op.request) allows) in
+      let allows : is_allowed L.world op.canceled (call_of op.request) told ≡ true = sym (allows-is buffer v slots L place fin.flight old fin.there told) ∙ fin.allows in
+      let fit : length got ≤ room_of op.request = subst (λ x. length x ≤ room_of op.request) (sym got-is) (got-fits L.world op.canceled op.request told (sent_of op.request) allows) in
       fills slot (ap (get slots) word ∙ slot-there buffer v slots L place fin.flight old fin.there) (subst (λ r. length got ≤ room_of r) (sym (request-is buffer v slots L place fin.flight old fin.there)) fit)
 
   abbrev t : Slot B
@@ -85,9 +90,10 @@ module _ {B : Type 0} (buffer : B → Buffer) (v : RingView) (slots slots' : Fin
     operation = f op;
     there = ap (slice_get (amended L.ops slot.serial f)) stored-is.serial ∙ get-amended-same f L.ops slot.serial op (there-s buffer v slots L place fin.flight old fin.there);
     live = refl;
-    request = stored-is.request ∙ ap (λ r. filled r got) (request-is buffer v slots L place fin.flight old fin.there) ∙ filled-held op.request told got ∙ ap (λ x. with_buffer op.request (held op.request told x)) got-is;
-    life = stored-is.life ∙ life-is buffer v slots L place fin.flight old fin.there;
+    request = stored-is.request ∙ ap (λ r. filled_by told r got) (request-is buffer v slots L place fin.flight old fin.there) ∙ filled-held op.request told got ∙ ap (λ x. with_buffer op.request (held op.request told x)) got-is;
+    life = stored-is.life ∙ life-is buffer v slots L place fin.flight old fin.there ∙ done-life op.dropped result.outcome op.task;
     fresh = λ h. (let z : false ≡ true = h in cc);
+    uncanceled = λ h. cc;
   }
 
   slots-stand : SlotsStand buffer slots' ops'
@@ -105,6 +111,9 @@ module _ {B : Type 0} (buffer : B → Buffer) (v : RingView) (slots slots' : Fin
 
   at-kept : (m : ℕ) (p : Place) → IsAt L.ops m p → m ≢ n → IsAt ops' m p
   at-kept m p a q = record { operation = a.operation; there = get-amended-other f L.ops n m q ∙ a.there; stays = a.stays }
+
+  flown-kept : (x : Flight) → IsFlown L.ops x → x.entry.serial ≢ n → IsFlown ops' x
+  flown-kept x a q = record { operation = a.operation; there = get-amended-other f L.ops n x.entry.serial q ∙ a.there; stays = a.stays; marked = a.marked }
 
   entry-kept : (x : Entry) → EntryFor buffer slots x → x.serial ≢ n → EntryFor buffer slots' x
   entry-kept x E q = record { slot = E.slot; there = slot-kept x.word E.slot E.there (λ r. q (sym E.serial ∙ r)); serial = E.serial; call = E.call }
@@ -153,13 +162,13 @@ module _ {B : Type 0} (buffer : B → Buffer) (v : RingView) (slots slots' : Fin
         flying = ap (λ x. remove x place) l.flying ∙ sym (map-removed item_of v.flying place) ∙ ap (map item_of) (sym flying-is);
         done = ap (λ x. x ++ Op n ∷ []) l.done ∙ ap (λ x. map done_item_of (unreserved v.done) ++ Op x ∷ []) (sym serial) ∙ sym (map-append done_item_of (unreserved v.done) (c ∷ [])) ∙ ap (map done_item_of) (sym done-is);
         in_queue = λ i x h. (
-            queued-kept buffer slots slots' L.ops ops' x x.body (λ a. (let q = not-this x.serial InQueue a.1 (λ r. cc) in (entry-kept x a.0 q, at-kept x.serial InQueue a.1 q)))
+            queued-kept buffer slots slots' L.ops ops' x x.body (λ _ a. (let q = not-this x.serial InQueue a.1 (λ r. cc) in (entry-kept x a.0 q, at-kept x.serial InQueue a.1 q)))
             (l.in_queue i x (ap (λ xs. slice_get xs i) (sym queue-is) ∙ h)));
         in_flight = λ i x h. (
             let at = flew i x h in
             let a = l.in_flight (skip place i) x at in
             let q : x.entry.serial ≢ n = λ r. skip-not place i (l.flight_once (skip place i) place x fin.flight at fin.there r) in
-            (entry-kept x.entry a.0 q, at-kept x.entry.serial InFlight a.1 q));
+            (entry-kept x.entry a.0 q, flown-kept x a.1 q));
         in_done = λ i x h. elim (done-at i x h) [
           | inl r ↦
               let a = l.in_done i x r in
@@ -167,7 +176,7 @@ module _ {B : Type 0} (buffer : B → Buffer) (v : RingView) (slots slots' : Fin
               (completion-kept x a.0 q, at-kept x.serial (InDone x.outcome) a.1 q)
           | inr r ↦ (subst (λ y. CompletionFor slots' y) (sym r.1) new-completion, subst (λ y. IsAt ops' y.serial (InDone y.outcome)) (sym r.1) (subst (λ y. IsAt ops' y (InDone c.outcome)) (sym serial) new-place))
         ];
-        queue_once = λ i j x y h k r. l.queue_once i j x y (ap (λ xs. slice_get xs i) (sym queue-is) ∙ h) (ap (λ xs. slice_get xs j) (sym queue-is) ∙ k) r;
+        queue_once = λ i j x y h k a b r. l.queue_once i j x y (ap (λ xs. slice_get xs i) (sym queue-is) ∙ h) (ap (λ xs. slice_get xs j) (sym queue-is) ∙ k) a b r;
         flight_once = λ i j x y h k r. skip-one place i j (l.flight_once (skip place i) (skip place j) x y (flew i x h) (flew j y k) r);
         done_once = λ i j x y h k r. elim (done-at i x h) [
           | inl a ↦ elim (done-at j y k) [
@@ -179,6 +188,10 @@ module _ {B : Type 0} (buffer : B → Buffer) (v : RingView) (slots slots' : Fin
             | inr b ↦ a.0 ∙ sym b.0
           ]
         ];
+        cancels = record {
+          before = λ i j x y key h k b less q. l.cancels.before i j x y key (ap (λ xs. slice_get xs i) (sym queue-is) ∙ h) (ap (λ xs. slice_get xs j) (sym queue-is) ∙ k) b less q;
+          flown = λ i j x y key h k b. l.cancels.flown (skip place i) j x y key (flew i x h) (ap (λ xs. slice_get xs j) (sym queue-is) ∙ k) b;
+        };
       }
 
   pub means-executed : Means buffer v' slots' (with_effect (complete_at L place (Op fin.flight.entry.serial)) fin.flight.entry.serial told (effect L.world (call_of (o buffer v slots L place fin.flight old fin.there).request) (sent_of (o buffer v slots L place fin.flight old fin.there).request) told))

@@ -1,5 +1,5 @@
 -- Lists that mean the same after a change of slots and of operations that keeps what each entry needs.
-use Rattle.std.proofs.Common.{◌≡◌, ℕ, Bool, true, false, List, [], ◌∷◌, ◌++◌, Some, refl, sym, ◌∙◌, ap, subst, arith, ◌<◌}
+use Rattle.std.proofs.Common.{◌≡◌, ℕ, Bool, true, false, List, [], ◌∷◌, ◌++◌, Some, refl, sym, ◌∙◌, ap, subst, arith, ◌<◌, append-nil}
 use Rattle.std.specs.Prelude.{slice_get}
 use Rattle.std.specs.Ordering.{nat_cmp}
 use Rattle.std.specs.FinMap.{FinMap, get}
@@ -8,20 +8,32 @@ use Rattle.rent_buf.specs.Buffer.{Buffer}
 use Rattle.ring_core.specs.Ring.{RingView}
 use Rattle.ring_core.specs.Request.{call_of, plain_request}
 use Rattle.ring_core.specs.declared.entry.Body.{Body}
-use Rattle.ring_core.specs.declared.entry.Body.TheVariants.{Call as Calls}
+use Rattle.ring_core.specs.declared.entry.Body.TheVariants.{Call as Calls, Cancel as Cancels}
 use Rattle.ring_core.specs.declared.entry.Entry.{Entry}
 use Rattle.ring_core.specs.declared.entry.Completion.{Completion}
+use Rattle.ring_core.specs.declared.entry.Flight.{Flight}
 use Rattle.ring_core.specs.Ledger.{Ledger, Operation, Place, InQueue, InFlight, InDone}
 use Rattle.uring_driver.specs.declared.slot.Slot.{Slot}
-use Rattle.uring_driver.specs.Lists.{EntryFor, CompletionFor, IsAt, QueuedFor, ListsStand, is_reserved, kept, kept_unless}
+use Rattle.uring_driver.specs.Lists.{EntryFor, CompletionFor, IsAt, IsFlown, QueuedFor, ListsStand, is_call, is_reserved, kept, kept_unless}
 
--- What an entry in the queue is.
-pub call-queued : {B : Type 0} (buffer : B → Buffer) (slots : FinMap nat_cmp (Slot B)) (ops : List Operation) (e : Entry) (b : Body) → QueuedFor buffer slots ops e b → EntryFor buffer slots e × IsAt ops e.serial InQueue
-call-queued buffer slots ops e (Calls call) q = q
+-- What a call in the queue is.
+pub call-queued : {B : Type 0} (buffer : B → Buffer) (slots : FinMap nat_cmp (Slot B)) (ops : List Operation) (e : Entry) (b : Body) → QueuedFor buffer slots ops e b → is_call b ≡ true → EntryFor buffer slots e × IsAt ops e.serial InQueue
+call-queued buffer slots ops e (Calls call) q h = q
+call-queued buffer slots ops e (Cancels key) q h = (let f : ⊥ = cc in absurd f)
 
--- What an entry in the queue means is kept by all that keeps it of a request.
-pub queued-kept : {B : Type 0} (buffer : B → Buffer) (slots slots' : FinMap nat_cmp (Slot B)) (ops ops' : List Operation) (e : Entry) (b : Body) → (EntryFor buffer slots e × IsAt ops e.serial InQueue → EntryFor buffer slots' e × IsAt ops' e.serial InQueue) → QueuedFor buffer slots ops e b → QueuedFor buffer slots' ops' e b
-queued-kept buffer slots slots' ops ops' e (Calls call) go q = go q
+-- The word of a cancel in the queue.
+pub cancel-queued : {B : Type 0} (buffer : B → Buffer) (slots : FinMap nat_cmp (Slot B)) (ops : List Operation) (e : Entry) (b : Body) → QueuedFor buffer slots ops e b → (key : ℕ) → b ≡ Cancels key → e.word ≡ 18446744073709551615
+cancel-queued buffer slots ops e (Calls call) q key h = (let f : ⊥ = cc in absurd f)
+cancel-queued buffer slots ops e (Cancels k) q key h = q
+
+-- What an entry in the queue means is kept by all that keeps it of a call.
+pub queued-kept : {B : Type 0} (buffer : B → Buffer) (slots slots' : FinMap nat_cmp (Slot B)) (ops ops' : List Operation) (e : Entry) (b : Body) → (is_call b ≡ true → EntryFor buffer slots e × IsAt ops e.serial InQueue → EntryFor buffer slots' e × IsAt ops' e.serial InQueue) → QueuedFor buffer slots ops e b → QueuedFor buffer slots' ops' e b
+queued-kept buffer slots slots' ops ops' e (Calls call) go q = go refl q
+queued-kept buffer slots slots' ops ops' e (Cancels key) go q = q
+
+-- Where what is in flight is.
+pub flown-at : (ops : List Operation) (f : Flight) → IsFlown ops f → IsAt ops f.entry.serial InFlight
+flown-at ops f a = record { operation = a.operation; there = a.there; stays = a.stays }
 
 -- A key is no reserved word.
 pub not-reserved : (key : ℕ) → key < 4294967232 → is_reserved key ≡ false
@@ -39,9 +51,17 @@ kept-joined (c ∷ xs) ys = ap (kept_unless (is_reserved c.word) c) (kept-joined
 pub kept-pushed : (xs : List Completion) (c : Completion) → is_reserved c.word ≡ false → kept (xs ++ c ∷ []) ≡ kept xs ++ c ∷ []
 kept-pushed xs c h = kept-joined xs (c ∷ []) ∙ ap (λ b. kept xs ++ kept_unless b c []) h
 
--- The operation of a number is at the place where it was.
+-- A cancel's word is reserved.
+pub cancel-reserved : (word : ℕ) → word ≡ 18446744073709551615 → is_reserved word ≡ true
+cancel-reserved word h = grind (arith, nat_tests)
+
+-- A completion that is reserved isn't kept.
+pub kept-reserved : (xs : List Completion) (c : Completion) → is_reserved c.word ≡ true → kept (xs ++ c ∷ []) ≡ kept xs
+kept-reserved xs c h = kept-joined xs (c ∷ []) ∙ ap (λ b. kept xs ++ kept_unless b c []) h ∙ append-nil (kept xs)
+
+-- The operation of a number is at the place where it was, and its cancel was taken exactly where it was.
 abbrev pub KeepsOp : List Operation → List Operation → ℕ → Type 0
-KeepsOp ops ops' n = (o : Operation) → slice_get ops n ≡ Some o → (p : Operation) × (slice_get ops' n ≡ Some p) × (p.place ≡ o.place)
+KeepsOp ops ops' n = (o : Operation) → slice_get ops n ≡ Some o → (p : Operation) × (slice_get ops' n ≡ Some p) × (p.place ≡ o.place) × (p.canceled ≡ o.canceled)
 
 -- A slot of a number stays at its key, with its number and its request.
 abbrev pub KeepsSlot : {B : Type 0} → FinMap nat_cmp (Slot B) → FinMap nat_cmp (Slot B) → ℕ → Type 0
@@ -53,6 +73,9 @@ module _ {B : Type 0} (buffer : B → Buffer) (slots slots' : FinMap nat_cmp (Sl
 
   pub at-kept : (n : ℕ) (p : Place) → KeepsOp ops ops' n → IsAt ops n p → IsAt ops' n p
   at-kept n p keeps a = (let o = keeps a.operation a.there in record { operation = o.0; there = o.1; stays = o.2 ∙ a.stays })
+
+  pub flown-kept : (f : Flight) → KeepsOp ops ops' f.entry.serial → IsFlown ops f → IsFlown ops' f
+  flown-kept f keeps a = (let o = keeps a.operation a.there in record { operation = o.0; there = o.1; stays = o.2 ∙ a.stays; marked = a.marked ∙ sym o.3 })
 
   pub completion-kept : (c : Completion) → KeepsSlot slots slots' c.serial → CompletionFor slots c → CompletionFor slots' c
   completion-kept c keeps C = (let u = keeps c.word C.slot C.there C.serial in record { slot = u.0; there = u.1; serial = u.2 ∙ C.serial })
@@ -69,10 +92,11 @@ module _ {B : Type 0} (buffer : B → Buffer) (slots slots' : FinMap nat_cmp (Sl
         queue = old.queue;
         flying = old.flying;
         done = old.done;
-        in_queue = λ i e h. queued-kept buffer slots slots' L.ops ops' e e.body (λ a. (let k = in_queue e.serial (at e.serial InQueue a.1) in (entry-kept e k.0 a.0, at-kept e.serial InQueue k.1 (at e.serial InQueue a.1)))) (old.in_queue i e h);
-        in_flight = λ i f h. (let a = old.in_flight i f h in let k = in_flight f.entry.serial (at f.entry.serial InFlight a.1) in (entry-kept f.entry k.0 a.0, at-kept f.entry.serial InFlight k.1 (at f.entry.serial InFlight a.1)));
+        in_queue = λ i e h. queued-kept buffer slots slots' L.ops ops' e e.body (λ q a. (let k = in_queue e.serial (at e.serial InQueue a.1) in (entry-kept e k.0 a.0, at-kept e.serial InQueue k.1 (at e.serial InQueue a.1)))) (old.in_queue i e h);
+        in_flight = λ i f h. (let a = old.in_flight i f h in let b = subst (λ x. IsFlown x f) same a.1 in let k = in_flight f.entry.serial (flown-at ops f b) in (entry-kept f.entry k.0 a.0, flown-kept f k.1 b));
         in_done = λ i c h. (let a = old.in_done i c h in let b = at c.serial (InDone c.outcome) a.1 in let k = in_done i c h b in (completion-kept c k.0 a.0, at-kept c.serial (InDone c.outcome) k.1 b));
         queue_once = old.queue_once;
         flight_once = old.flight_once;
         done_once = old.done_once;
+        cancels = old.cancels;
       }

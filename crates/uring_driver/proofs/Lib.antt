@@ -1,5 +1,8 @@
+mod Entering
 mod Lists
 mod Maps
+mod Numbers
+mod Completing
 mod Counts
 pub mod Slots
 mod Kept
@@ -8,6 +11,7 @@ mod Changing
 mod Taking
 mod Reaping
 mod Turns
+mod Owned
 mod Polling
 mod Tokens
 mod Flights
@@ -18,3 +22,6 @@ mod Handles
 mod Starting
 mod Submitting
 mod Submits
+mod Ending
+mod Dropping
+mod Drops

@@ -1,5 +1,5 @@
 -- Lists by place.
-use Rattle.std.proofs.Common.{◌≡◌, ◌≢◌, ◌⊎◌, inl, inr, ℕ, zero, suc, ◌≤◌, ◌<◌, List, [], ◌∷◌, ◌++◌, length, map, Option, Some, refl, sym, ◌∙◌, ap, arith}
+use Rattle.std.proofs.Common.{◌≡◌, ◌≢◌, ◌⊎◌, inl, inr, ℕ, zero, suc, ◌≤◌, ◌<◌, List, [], ◌∷◌, ◌++◌, length, map, Option, Some, None, refl, sym, ◌∙◌, ap, arith}
 use Rattle.std.specs.Prelude.{slice_get, remove}
 use Rattle.ring_core.specs.Lists.{amended}
 
@@ -85,3 +85,28 @@ pub amended-append : {A : Type 0} (xs ys : List A) (n : ℕ) (f : A → A) → n
 amended-append [] ys n f h = absurd (omega (arith, h))
 amended-append (x ∷ xs) ys zero f h = refl
 amended-append (x ∷ xs) ys (suc n) f h = ap (λ zs. x ∷ zs) (amended-append xs ys n f (omega (arith, h)))
+
+-- A change that leaves one more element at the end.
+pub amended-fixed : {A : Type 0} (xs : List A) (y : A) (n : ℕ) (f : A → A) → f y ≡ y → amended (xs ++ y ∷ []) n f ≡ amended xs n f ++ y ∷ []
+amended-fixed [] y zero f h = ap (λ z. z ∷ []) h
+amended-fixed [] y (suc n) f h = refl
+amended-fixed (x ∷ xs) y zero f h = refl
+amended-fixed (x ∷ xs) y (suc n) f h = ap (λ zs. x ∷ zs) (amended-fixed xs y n f h)
+
+-- What isn't there isn't changed.
+pub amended-absent : {A : Type 0} (xs : List A) (n : ℕ) (f : A → A) → slice_get xs n ≡ None → amended xs n f ≡ xs
+amended-absent [] n f h = refl
+amended-absent (x ∷ xs) zero f h = cc
+amended-absent (x ∷ xs) (suc n) f h = ap (λ zs. x ∷ zs) (amended-absent xs n f h)
+
+-- Two changes that do the same to the element.
+pub amended-like : {A : Type 0} (xs : List A) (n : ℕ) (f g : A → A) (x : A) → slice_get xs n ≡ Some x → f x ≡ g x → amended xs n f ≡ amended xs n g
+amended-like [] n f g x h e = refl
+amended-like (y ∷ xs) zero f g x h e = (let s : y ≡ x = cc in ap (λ z. z ∷ xs) (ap f s ∙ e ∙ ap g (sym s)))
+amended-like (y ∷ xs) (suc n) f g x h e = ap (λ zs. y ∷ zs) (amended-like xs n f g x h e)
+
+-- Two changes of one element, one after the other.
+pub amended-twice : {A : Type 0} (xs : List A) (n : ℕ) (f g : A → A) → amended (amended xs n f) n g ≡ amended xs n (λ x. g (f x))
+amended-twice [] n f g = refl
+amended-twice (x ∷ xs) zero f g = refl
+amended-twice (x ∷ xs) (suc n) f g = ap (λ zs. x ∷ zs) (amended-twice xs n f g)

@@ -43,3 +43,10 @@ remove-put m k v = same_map nat_cmp_total nat_cmp-IsAntisymmetric _ _ (λ q. eli
   | inl e ↦ ap (get (remove (insert m k v) k)) e ∙ gone-same (insert m k v) k ∙ sym (gone-same m k) ∙ ap (get (remove m k)) (sym e)
   | inr e ↦ gone-other (insert m k v) k q e ∙ put-other m k v q e ∙ sym (gone-other m k q e)
 ])
+
+-- What is there is written again.
+pub put-self : {X : Type 0} (m : FinMap nat_cmp X) (k : ℕ) (v : X) → get m k ≡ Some v → insert m k v ≡ m
+put-self m k v h = same_map nat_cmp_total nat_cmp-IsAntisymmetric _ _ (λ q. elim (same-or-not q k) [
+  | inl e ↦ ap (get (insert m k v)) e ∙ put-same m k v ∙ sym (ap (get m) e ∙ h)
+  | inr e ↦ put-other m k v q e
+])

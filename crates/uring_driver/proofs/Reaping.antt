@@ -1,35 +1,50 @@
 -- What treating one completion does to a ring and slots that mean a ledger.
-use Rattle.std.proofs.Common.{◌≡◌, ◌≢◌, ℕ, suc, ◌≤◌, ◌<◌, true, false, List, [], ◌∷◌, ◌++◌, map, Option, Some, None, refl, sym, ◌∙◌, ap, subst, arith}
-use Rattle.std.specs.Prelude.{slice_get, option_to_list}
+use Rattle.std.proofs.Common.{◌≡◌, ◌≢◌, ℕ, suc, ◌≤◌, ◌<◌, Bool, true, false, List, [], ◌∷◌, ◌++◌, map, Option, Some, None, refl, sym, ◌∙◌, ap, subst, arith}
+use Rattle.std.specs.Prelude.{slice_get, option_to_list, ◌&&◌, not}
 use Rattle.std.specs.Ordering.{nat_cmp}
 use Rattle.std.proofs.lemmas.Bool.Decides.{nat_tests}
-use Rattle.std.specs.FinMap.{FinMap, get, insert}
+use Rattle.std.specs.FinMap.{FinMap, get, insert, remove}
 use Rattle.rent_buf.specs.Buffer.{Buffer}
-use Rattle.op_slots.specs.declared.lifecycle.Lifecycle.TheVariants.{Completed}
+use Rattle.op_slots.specs.declared.lifecycle.Lifecycle.TheVariants.{Submitted, Waiting, Ignored, Completed}
 use Rattle.ring_core.specs.Ring.{RingView, with_done}
 use Rattle.ring_core.specs.Lists.{amended}
 use Rattle.ring_core.specs.declared.entry.Completion.{Completion}
-use Rattle.ring_core.specs.Ledger.{Ledger, Op, Operation, Place, InQueue, InFlight, InDone, is_live, is_kept}
-use Rattle.ring_core.specs.Turn.{reap_one, reaped_place, with_reap, task_woken}
+use Rattle.ring_core.specs.declared.request.Outcome.{Outcome}
+use Rattle.ring_core.specs.Ledger.{Ledger, Op, Operation, Place, InQueue, InFlight, InDone, Gone, is_live, is_kept}
+use Rattle.ring_core.specs.Queue.{at_place}
+use Rattle.ring_core.specs.Turn.{reap_one, reap_op, reap_if, reaped_place, with_reap, task_if, task_woken}
 use Rattle.ring_core.proofs.Amended.{get-amended-same, get-amended-other}
 use Rattle.uring_driver.specs.declared.slot.Slot.{Slot}
-use Rattle.uring_driver.specs.Slot.{with_life, is_flying, task_in, CompletesSlot}
-use Rattle.uring_driver.specs.Slots.{SlotFor, SlotsStand, waiting, life_at, is_early}
+use Rattle.uring_driver.specs.Slot.{with_life, is_flying, task_in, slots_completed, CompletesSlot}
+use Rattle.uring_driver.specs.Slots.{SlotFor, SlotsStand, waiting, life_of, life_at, is_early}
 use Rattle.uring_driver.specs.Lists.{CompletionFor, IsAt, ListsStand, is_reserved, kept, kept_unless, done_item_of}
 use Rattle.uring_driver.specs.Stands.{Means}
 use Rattle.uring_driver.specs.Reap.{TreatsOne}
 use Rattle.uring_driver.proofs.Lists.{some}
-use Rattle.uring_driver.proofs.Slots.{slots-replaced, other-slot}
+use Rattle.uring_driver.proofs.Maps.{remove-put}
+use Rattle.uring_driver.proofs.Slots.{slots-replaced, other-slot, slots-freed, other-left}
 use Rattle.uring_driver.proofs.Kept.{KeepsOp, KeepsSlot, lists-kept}
 
 waiting-flies : (t : Option ℕ) → is_flying (waiting t) ≡ true
 waiting-flies None = refl
 waiting-flies (Some t) = refl
 
--- The task that a completion wakes is that of the ledger's reap.
+done-flies : (b : Bool) (r : Outcome) (t : Option ℕ) → is_flying (life_of b (InDone r) t) ≡ true
+done-flies true r t = refl
+done-flies false r t = waiting-flies t
+
 wakes : (t : Option ℕ) → option_to_list (task_in (waiting t)) ≡ option_to_list t
 wakes None = refl
 wakes (Some t) = refl
+
+-- The task that a completion wakes is that of the ledger's reap.
+wakes-task : (b : Bool) (r : Outcome) (t : Option ℕ) → option_to_list (task_in (life_of b (InDone r) t)) ≡ task_if b t
+wakes-task true r t = refl
+wakes-task false r t = wakes t
+
+slots-waiting : {B : Type 0} (t : Option ℕ) (m : FinMap nat_cmp (Slot B)) (k : ℕ) (x : Slot B) → slots_completed (waiting t) m k x ≡ insert m k x
+slots-waiting None m k x = refl
+slots-waiting (Some t) m k x = refl
 
 pub reserved-test : (word : ℕ) → 18446744073709551612 ≤ word → is_reserved word ≡ true
 reserved-test word h = grind (arith, nat_tests)
@@ -56,6 +71,7 @@ means-reserved buffer v slots L c rest old first reserved =
         queue_once = l.queue_once;
         flight_once = l.flight_once;
         done_once = λ i j x y h k e. l.done_once i j x y (ap (λ xs. slice_get xs i) same ∙ h) (ap (λ xs. slice_get xs j) same ∙ k) e;
+        cancels = l.cancels;
       };
     }
 
@@ -97,41 +113,55 @@ module _ {B : Type 0} (buffer : B → Buffer) (v : RingView) (slots : FinMap nat
   unfolding here
   stands-done = ap (λ x. x.place) (some o here.1.operation (slice_get L.ops c.serial) which here.1.there) ∙ here.1.stays
 
-  life-is : s.life ≡ waiting o.task
+  life-is : s.life ≡ life_of o.dropped (InDone c.outcome) o.task
   unfolding o mine
-  life-is = mine.life ∙ ap (λ p. life_at p mine.operation.task) stands-done
+  life-is = mine.life ∙ ap (λ p. life_of mine.operation.dropped p mine.operation.task) stands-done
 
   abbrev t : Slot B
   t = with_life s (Completed c.outcome)
 
-  abbrev ops' : List Operation
-  ops' = amended L.ops c.serial with_reap
+  -- Its user may poll it: it is completed.
+  module _ (owned : o.dropped ≡ false) where
+    lives : is_live (with_reap o) ≡ is_live o
+    lives = ap (λ p. is_kept (reaped_place p)) stands-done ∙ sym (ap is_kept stands-done)
 
-  lives : is_live (with_reap o) ≡ is_live o
-  lives = ap (λ p. is_kept (reaped_place p)) stands-done ∙ sym (ap is_kept stands-done)
+    not-early : is_early (reaped_place o.place) ≡ true → ⊥
+    not-early h = (let z : false ≡ true = sym (ap (λ p. is_early (reaped_place p)) stands-done) ∙ h in cc)
 
-  not-early : is_early (reaped_place o.place) ≡ true → ⊥
-  not-early h = (let z : false ≡ true = sym (ap (λ p. is_early (reaped_place p)) stands-done) ∙ h in cc)
+    not-queued : reaped_place o.place ≡ InQueue → ⊥
+    not-queued h = (let z = sym (ap reaped_place stands-done) ∙ h in cc)
 
-  fits : SlotFor buffer (amended L.ops s.serial with_reap) t
-  unfolding o mine
-  fits = record {
-    operation = with_reap o;
-    there = get-amended-same with_reap L.ops s.serial o mine.there;
-    live = ap (λ p. is_kept (reaped_place p)) stands-done;
-    request = mine.request;
-    life = sym (ap (λ p. life_at (reaped_place p) o.task) stands-done);
-    fresh = λ h. absurd (not-early h);
-  }
+    fits : SlotFor buffer (amended L.ops s.serial with_reap) t
+    unfolding o mine
+    fits = record {
+      operation = with_reap o;
+      there = get-amended-same with_reap L.ops s.serial o mine.there;
+      live = ap (λ p. is_kept (reaped_place p)) stands-done;
+      request = mine.request;
+      life = sym (ap (λ b. life_of b (reaped_place o.place) o.task) owned ∙ ap (λ p. life_of false (reaped_place p) o.task) stands-done);
+      fresh = λ h. absurd (not-early h);
+      uncanceled = λ h. absurd (not-queued h);
+    }
 
-  slots-reaped : SlotsStand buffer (insert slots c.word t) ops'
-  slots-reaped = subst (λ x. SlotsStand buffer (insert slots c.word t) (amended L.ops x with_reap)) n-is (slots-replaced buffer slots L.ops c.word s t with_reap o old.in_slots slot-there refl there-s lives fits)
+    slots-reaped : SlotsStand buffer (insert slots c.word t) (amended L.ops c.serial with_reap)
+    slots-reaped = subst (λ x. SlotsStand buffer (insert slots c.word t) (amended L.ops x with_reap)) n-is (slots-replaced buffer slots L.ops c.word s t with_reap o old.in_slots slot-there refl there-s lives fits)
 
-  slot-kept : (n : ℕ) → n ≢ c.serial → KeepsSlot slots (insert slots c.word t) n
-  slot-kept n q k u h e = (u, other-slot buffer slots L.ops c.word s t with_reap o old.in_slots slot-there refl there-s lives fits k u h (λ r. q (sym e ∙ r ∙ n-is)), refl, refl)
+    slot-kept : (n : ℕ) → n ≢ c.serial → KeepsSlot slots (insert slots c.word t) n
+    slot-kept n q k u h e = (u, other-slot buffer slots L.ops c.word s t with_reap o old.in_slots slot-there refl there-s lives fits k u h (λ r. q (sym e ∙ r ∙ n-is)), refl, refl)
 
-  op-kept : (n : ℕ) → n ≢ c.serial → KeepsOp L.ops ops' n
-  op-kept n q p h = (p, get-amended-other with_reap L.ops c.serial n q ∙ h, refl)
+  -- Its user dropped it: its slot is freed.
+  module _ where
+    was : is_live o ≡ true
+    was = ap is_kept stands-done
+
+    slots-left : SlotsStand buffer (remove slots c.word) (amended L.ops c.serial (at_place Gone))
+    slots-left = subst (λ x. SlotsStand buffer (remove slots c.word) (amended L.ops x (at_place Gone))) n-is (slots-freed buffer slots L.ops c.word s (at_place Gone) o old.in_slots slot-there there-s was refl)
+
+    slot-left : (n : ℕ) → n ≢ c.serial → KeepsSlot slots (remove slots c.word) n
+    slot-left n q k u h e = (u, other-left buffer slots L.ops c.word s (at_place Gone) o old.in_slots slot-there there-s was refl k u h (λ r. q (sym e ∙ r ∙ n-is)), refl, refl)
+
+  op-kept : (f : Operation → Operation) (n : ℕ) → n ≢ c.serial → KeepsOp L.ops (amended L.ops c.serial f) n
+  op-kept f n q p h = (p, get-amended-other f L.ops c.serial n q ∙ h, refl, refl)
 
   not-this : (n : ℕ) (p : Place) → IsAt L.ops n p → p ≢ InDone c.outcome → n ≢ c.serial
   not-this n p a h e = h (sym a.stays ∙ ap (λ x. x.place) (some a.operation o (slice_get L.ops n) a.there (ap (slice_get L.ops) e ∙ which)) ∙ stands-done)
@@ -154,28 +184,39 @@ module _ {B : Type 0} (buffer : B → Buffer) (v : RingView) (slots : FinMap nat
     queue_once = l.queue_once;
     flight_once = l.flight_once;
     done_once = λ i j x y h k r. (let z = l.done_once (suc i) (suc j) x y (later i x h) (later j y k) r in cc);
+    cancels = l.cancels;
   })
 
-  lists-reaped : ListsStand buffer (insert slots c.word t) (with_done v rest) (record taken-off { ops = ops' })
-  lists-reaped =
-      lists-kept buffer slots (insert slots c.word t) L.ops ops' (with_done v rest) taken-off refl
-      (λ n a. (let q = not-this n InQueue a (λ r. cc) in (slot-kept n q, op-kept n q)))
-      (λ n a. (let q = not-this n InFlight a (λ r. cc) in (slot-kept n q, op-kept n q)))
+  lists-reaped : (slots' : FinMap nat_cmp (Slot B)) (f : Operation → Operation) → ((n : ℕ) → n ≢ c.serial → KeepsSlot slots slots' n) → ListsStand buffer slots' (with_done v rest) (record taken-off { ops = amended L.ops c.serial f })
+  lists-reaped slots' f keeps =
+      lists-kept buffer slots slots' L.ops (amended L.ops c.serial f) (with_done v rest) taken-off refl
+      (λ n a. (let q = not-this n InQueue a (λ r. cc) in (keeps n q, op-kept f n q)))
+      (λ n a. (let q = not-this n InFlight a (λ r. cc) in (keeps n q, op-kept f n q)))
       (λ i x h a. (
       let q : x.serial ≢ c.serial = λ r. (let z = old.in_lists.done_once (suc i) 0 x c (later i x h) (ap (λ xs. slice_get xs 0) first-kept) r in cc) in
-      (slot-kept x.serial q, op-kept x.serial q)))
+      (keeps x.serial q, op-kept f x.serial q)))
       lists-less
 
-  means-reaped : Means buffer (with_done v rest) (insert slots c.word t) (reap_one taken-off (Op c.serial))
-  means-reaped = record {
+  by_drop : (b : Bool) → o.dropped ≡ b → Means buffer (with_done v rest) (slots_completed (life_of b (InDone c.outcome) o.task) slots c.word t) (reap_if b taken-off c.serial)
+  by_drop true h = subst (λ m. Means buffer (with_done v rest) m (reap_if true taken-off c.serial)) (sym (remove-put slots c.word t)) (record {
     capacity = old.capacity;
     world = old.world;
-    in_slots = slots-reaped;
-    in_lists = lists-reaped;
-  }
+    in_slots = slots-left;
+    in_lists = lists-reaped (remove slots c.word) (at_place Gone) slot-left;
+  })
+  by_drop false h = subst (λ m. Means buffer (with_done v rest) m (reap_if false taken-off c.serial)) (sym (slots-waiting o.task slots c.word t)) (record {
+    capacity = old.capacity;
+    world = old.world;
+    in_slots = slots-reaped h;
+    in_lists = lists-reaped (insert slots c.word t) with_reap (slot-kept h);
+  })
+
+  means-reaped : Means buffer (with_done v rest) (slots_completed s.life slots c.word t) (reap_one taken-off (Op c.serial))
+  means-reaped = subst (λ K. Means buffer (with_done v rest) (slots_completed s.life slots c.word t) K) (sym (ap (reap_op taken-off c.serial) which))
+      (subst (λ l. Means buffer (with_done v rest) (slots_completed l slots c.word t) (reap_if o.dropped taken-off c.serial)) (sym life-is) (by_drop o.dropped refl))
 
   flies : is_flying s.life ≡ true
-  flies = ap is_flying life-is ∙ waiting-flies o.task
+  flies = ap is_flying life-is ∙ done-flies o.dropped c.outcome o.task
 
   -- It isn't stray.
   pub completes : (slots' : FinMap nat_cmp (Slot B)) (result : Option (ℕ × Option ℕ)) → CompletesSlot slots c slots' result → result ≡ None → ⊥
@@ -188,7 +229,7 @@ module _ {B : Type 0} (buffer : B → Buffer) (v : RingView) (slots : FinMap nat
       let z : ◌≡◌ {A = Option (ℕ × Option ℕ)} (Some (serial, task)) (Some (s.serial, task_in s.life)) = r.answer in
       let pair : ◌≡◌ {A = ℕ × Option ℕ} (serial, task) (s.serial, task_in s.life) = cc in
       let number : serial ≡ c.serial = ap (λ x. x.0) pair ∙ n-is in
-      let task_is : option_to_list task ≡ option_to_list o.task = ap (λ x. option_to_list x.1) pair ∙ ap (λ l. option_to_list (task_in l)) life-is ∙ wakes o.task in
+      let task_is : option_to_list task ≡ task_if o.dropped o.task = ap (λ x. option_to_list x.1) pair ∙ ap (λ l. option_to_list (task_in l)) life-is ∙ wakes-task o.dropped c.outcome o.task in
       record {
         number = c.serial;
         rest = map done_item_of (kept rest);

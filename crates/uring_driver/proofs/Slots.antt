@@ -10,12 +10,12 @@ use Rattle.ring_core.proofs.Amended.{get-amended-same, get-amended-other}
 use Rattle.uring_driver.specs.declared.slot.Slot.{Slot}
 use Rattle.uring_driver.specs.Slots.{SlotFor, SlotsStand}
 use Rattle.uring_driver.proofs.Lists.{some, same-or-not}
-use Rattle.uring_driver.proofs.Counts.{live-same, live-less}
+use Rattle.uring_driver.proofs.Counts.{where-same, where-less}
 use Rattle.uring_driver.proofs.Maps.{put-same, put-other, len-put, gone-same, gone-other, len-gone}
 
 -- A slot of another number means what it meant.
 slot-other : {B : Type 0} (buffer : B → Buffer) (ops : List Operation) (n : ℕ) (f : Operation → Operation) (t : Slot B) → t.serial ≢ n → SlotFor buffer ops t → SlotFor buffer (amended ops n f) t
-slot-other buffer ops n f t other m = record { operation = m.operation; there = get-amended-other f ops n t.serial other ∙ m.there; live = m.live; request = m.request; life = m.life; fresh = m.fresh }
+slot-other buffer ops n f t other m = record { operation = m.operation; there = get-amended-other f ops n t.serial other ∙ m.there; live = m.live; request = m.request; life = m.life; fresh = m.fresh; uncanceled = m.uncanceled }
 
 -- One operation was changed, and its slot still fits it.
 module _ {B : Type 0} (buffer : B → Buffer) (slots : FinMap nat_cmp (Slot B)) (ops : List Operation) (n : ℕ) (f : Operation → Operation) (o : Operation)
@@ -32,7 +32,7 @@ module _ {B : Type 0} (buffer : B → Buffer) (slots : FinMap nat_cmp (Slot B)) 
       | inl e ↦ stand.each m o (ap (slice_get ops) e ∙ which) (sym lives ∙ ap is_live (some (f o) p (slice_get (amended ops n f) n) (get-amended-same f ops n o which) (ap (slice_get (amended ops n f)) (sym e) ∙ h)) ∙ l)
       | inr e ↦ stand.each m p (sym (get-amended-other f ops n m e) ∙ h) l
     ];
-    counted = stand.counted ∙ sym (live-same f ops n o which lives);
+    counted = stand.counted ∙ sym (where-same is_live f ops n o which lives);
     below = stand.below;
   }
 
@@ -66,7 +66,7 @@ module _ {B : Type 0} (buffer : B → Buffer) (slots : FinMap nat_cmp (Slot B)) 
           let other : old.key ≢ key = λ q. e (sym old.serial ∙ ap (λ x. x.serial) (some old.slot s (get slots old.key) old.there (ap (get slots) q ∙ there))) in
           record { key = old.key; slot = old.slot; there = put-other slots key t old.key other ∙ old.there; serial = old.serial }
     ];
-    counted = len-put slots key t s there ∙ stand.counted ∙ sym (live-same f ops s.serial o which lives);
+    counted = len-put slots key t s there ∙ stand.counted ∙ sym (where-same is_live f ops s.serial o which lives);
     below = λ k u h. elim (same-or-not k key) [
       | inl e ↦ subst (λ x. x < 4294967232) (sym e) (stand.below key s there)
       | inr e ↦ stand.below k u (sym (put-other slots key t k e) ∙ h)
@@ -103,7 +103,7 @@ module _ {B : Type 0} (buffer : B → Buffer) (slots : FinMap nat_cmp (Slot B)) 
           let other : old.key ≢ key = λ q. e (sym old.serial ∙ ap (λ x. x.serial) (some old.slot s (get slots old.key) old.there (ap (get slots) q ∙ there))) in
           record { key = old.key; slot = old.slot; there = gone-other slots key old.key other ∙ old.there; serial = old.serial }
     ];
-    counted = (let a = len-gone slots key s there in let b = live-less f ops s.serial o which lives gone in omega (arith, a, b, stand.counted));
+    counted = (let a = len-gone slots key s there in let b = where-less is_live f ops s.serial o which lives gone in omega (arith, a, b, stand.counted));
     below = λ k t h. stand.below k t (left k t h).1;
   }
 

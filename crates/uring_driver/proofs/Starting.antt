@@ -1,5 +1,5 @@
 -- A fresh driver, a new handle, and bytes that arrive.
-use Rattle.std.proofs.Common.{◌≡◌, ℕ, ◌+◌, List, [], ◌∷◌, ◌++◌, length, Option, Some, None, refl, sym, ◌∙◌, ap, subst, length-append}
+use Rattle.std.proofs.Common.{◌≡◌, ◌≤◌, ℕ, ◌+◌, List, [], ◌∷◌, ◌++◌, length, Option, Some, None, refl, sym, ◌∙◌, ap, subst, arith, length-append}
 use Rattle.std.specs.Prelude.{nat_lt, IsTrue}
 use Rattle.std.specs.Ordering.{nat_cmp}
 use Rattle.std.specs.FinMap as finite
@@ -7,20 +7,20 @@ use Rattle.rent_buf.specs.Buffer.{Buffer}
 use Rattle.ring_core.specs.Ring.{RingView}
 use Rattle.ring_core.specs.MemRing.{fresh_ring}
 use Rattle.ring_core.specs.Lends.{with_world}
-use Rattle.ring_core.specs.Lists.{amended}
+use Rattle.ring_core.specs.Lists.{amended, numbers_where}
 use Rattle.ring_core.specs.World.{fresh, with_input}
 use Rattle.ring_core.specs.declared.world.HandleKind.{HandleKind}
 use Rattle.ring_core.specs.declared.world.HandleState.{HandleState}
 use Rattle.ring_core.specs.declared.ledger.Event.TheVariants.{Give, Feed}
 use Rattle.ring_core.specs.declared.ledger.Reply.TheVariants.{Handle, Fed}
-use Rattle.ring_core.specs.Ledger.{Ledger, empty, user_holds}
+use Rattle.ring_core.specs.Ledger.{Ledger, empty, is_owned, user_holds}
 use Rattle.ring_core.specs.Step.{give_step, with_handle}
 use Rattle.ring_core.specs.Run.{ledger}
 use Rattle.ring_core.proofs.Amended.{length-amended}
 use Rattle.uring_driver.specs.declared.slot.Slot.{Slot}
 use Rattle.uring_driver.specs.declared.driver.IoUringDriver.{IoUringDriver}
-use Rattle.uring_driver.specs.Driver.{ring_in, is_among, first_with, holds_handle}
-use Rattle.uring_driver.specs.Roomy.{IsIdle, with_spare}
+use Rattle.uring_driver.specs.Driver.{ring_in, due_in, room_in, pending, whole_ring, is_among, first_with, holds_handle}
+use Rattle.uring_driver.specs.Outbox.{IsIdle, with_spare, with_due, pending_ring}
 use Rattle.uring_driver.specs.Stands.{Means, Stands, Answers}
 use Rattle.uring_driver.proofs.Handles.{none-among, one-more}
 use Rattle.uring_driver.proofs.Steps.{reached-more, step-give, step-feed}
@@ -48,33 +48,38 @@ means-empty {B} buffer capacity = record {
     in_queue = λ i e h. cc;
     in_flight = λ i e h. cc;
     in_done = λ i c h. cc;
-    queue_once = λ i j x y h k e. cc;
+    queue_once = λ i j x y h k a b e. cc;
     flight_once = λ i j x y h k e. cc;
     done_once = λ i j x y h k e. cc;
+    cancels = record { before = λ i j e c key h k b l q. cc; flown = λ i j f c key h k b. cc };
   };
 }
 
 -- A driver over an idle ring with no handles stands for the empty ledger.
-pub stands-empty : {R B : Type 0} (view : R → RingView) (buffer : B → Buffer) (d : IoUringDriver R B) (ring : R) → ring_in d ≡ ring → d.slots.values ≡ finite.empty {X = Slot B} {R = nat_cmp} → d.given ≡ 0 → d.first ≡ 0 → d.held ≡ 0 → IsIdle (view ring) → (view ring).world ≡ [] → Stands view buffer d (empty (view ring).capacity)
+pub stands-empty : {R B : Type 0} (view : R → RingView) (buffer : B → Buffer) (d : IoUringDriver R B) (ring : R) → d.ring ≡ record { ring = ring; due = []; room = 0 } → d.slots.values ≡ finite.empty {X = Slot B} {R = nat_cmp} → d.given ≡ 0 → d.first ≡ 0 → d.held ≡ 0 → IsIdle (view ring) → (view ring).world ≡ [] → Stands view buffer d (empty (view ring).capacity)
 stands-empty {R} {B} view buffer d ring is slots given first held idle world = record {
   events = [];
-  reached = ap (λ x. empty (view x).capacity) (sym is);
+  reached = ap (λ x. empty (view x.ring).capacity) (sym is);
   numbered = given;
   handles = λ h. ap (λ k. is_among k d.held h) first ∙ ap (λ k. is_among 0 k h) held ∙ none-among h;
-  means = subst (λ x. Means buffer (view x) d.slots.values (empty (view ring).capacity)) (sym is)
-      (subst (λ (m : finite.FinMap nat_cmp (Slot B)). Means buffer (view ring) m (empty (view ring).capacity)) (sym slots)
-      (means-view buffer (fresh_ring (view ring).capacity) (view ring) (finite.empty {X = Slot B} {R = nat_cmp}) (empty (view ring).capacity) refl idle.queue idle.flying idle.done world (means-empty buffer (view ring).capacity)));
+  room = omega arith;
+  fits = (let a = ap (λ x. length ((view x.ring).queue ++ x.due)) is in let b = ap (λ xs. length (xs ++ [])) idle.queue in omega (arith, a, b));
+  means = subst (λ x. Means buffer (pending_ring view x) d.slots.values (empty (view ring).capacity)) (sym is)
+      (subst (λ (m : finite.FinMap nat_cmp (Slot B)). Means buffer (with_due (view ring) []) m (empty (view ring).capacity)) (sym slots)
+      (means-view buffer (fresh_ring (view ring).capacity) (with_due (view ring) []) (finite.empty {X = Slot B} {R = nat_cmp}) (empty (view ring).capacity) refl (ap (λ xs. xs ++ []) idle.queue) idle.flying idle.done world (means-empty buffer (view ring).capacity)));
 }
 
 -- A driver that differs in memory alone stands for the same ledger.
-pub stands-same : {R B : Type 0} (view : R → RingView) (buffer : B → Buffer) (d new : IoUringDriver R B) (L : Ledger) (spare : ℕ) → view (ring_in new) ≡ with_spare (view (ring_in d)) spare → new.slots.values ≡ d.slots.values → new.given ≡ d.given → new.first ≡ d.first → new.held ≡ d.held → Stands view buffer d L → Stands view buffer new L
-stands-same view buffer d new L spare ring slots given first held old = record {
+pub stands-same : {R B : Type 0} (view : R → RingView) (buffer : B → Buffer) (d new : IoUringDriver R B) (L : Ledger) (spare : ℕ) → view (ring_in new) ≡ with_spare (view (ring_in d)) spare → due_in new ≡ due_in d → room_in d ≤ room_in new → new.slots.values ≡ d.slots.values → new.given ≡ d.given → new.first ≡ d.first → new.held ≡ d.held → Stands view buffer d L → Stands view buffer new L
+stands-same view buffer d new L spare ring due room slots given first held old = record {
   events = old.events;
   reached = old.reached ∙ ap (λ x. ledger x.capacity old.events) (sym ring);
   numbered = given ∙ old.numbered;
   handles = λ h. ap (λ k. is_among k new.held h) first ∙ ap (λ k. is_among d.first k h) held ∙ old.handles h;
-  means = subst (λ m. Means buffer (view (ring_in new)) m L) (sym slots)
-      (means-view buffer (view (ring_in d)) (view (ring_in new)) d.slots.values L (ap (λ x. x.capacity) ring) (ap (λ x. x.queue) ring) (ap (λ x. x.flying) ring) (ap (λ x. x.done) ring) (ap (λ x. x.world) ring) old.means);
+  room = (let r = old.room in omega (arith, r, room));
+  fits = (let a = ap (λ x. length (x.queue ++ due_in new)) ring in let b = ap (λ xs. length ((view (ring_in d)).queue ++ xs)) due in let k = ap (λ x. x.capacity) ring in let f = old.fits in omega (arith, a, b, k, f));
+  means = subst (λ m. Means buffer (whole_ring view new) m L) (sym slots)
+      (means-view buffer (whole_ring view d) (whole_ring view new) d.slots.values L (ap (λ x. x.capacity) ring) (ap (λ x. x.queue ++ due_in new) ring ∙ ap (λ xs. (view (ring_in d)).queue ++ xs) due) (ap (λ x. x.flying) ring) (ap (λ x. x.done) ring) (ap (λ x. x.world) ring) old.means);
 }
 
 -- What stands on the handles changes in both.
@@ -83,10 +88,14 @@ means-world buffer v slots L world world' same old = record {
   capacity = old.capacity;
   world = same;
   in_slots = old.in_slots;
-  in_lists = (let l = old.in_lists in record { queue = l.queue; flying = l.flying; done = l.done; in_queue = l.in_queue; in_flight = l.in_flight; in_done = l.in_done; queue_once = l.queue_once; flight_once = l.flight_once; done_once = l.done_once });
+  in_lists = (let l = old.in_lists in record { queue = l.queue; flying = l.flying; done = l.done; in_queue = l.in_queue; in_flight = l.in_flight; in_done = l.in_done; queue_once = l.queue_once; flight_once = l.flight_once; done_once = l.done_once; cancels = l.cancels });
 }
 
-module _ {B : Type 0} (buffer : B → Buffer) (d new : IoUringDriver RingView B) (L : Ledger) (old : Stands (λ r. r) buffer d L) (slots : new.slots ≡ d.slots) (given : new.given ≡ d.given) where
+module _ {B : Type 0} (buffer : B → Buffer) (d new : IoUringDriver RingView B) (L : Ledger) (old : Stands (λ r. r) buffer d L) (slots : new.slots ≡ d.slots) (due : due_in new ≡ due_in d) (room : room_in new ≡ room_in d) (given : new.given ≡ d.given) where
+  -- The handles alone change in the ring.
+  fits-still : (world : List HandleState) → ring_in new ≡ with_world (ring_in d) world → length (pending (λ r. r) new) ≤ (ring_in new).capacity
+  fits-still world ring = (let a = ap (λ x. length (x.queue ++ due_in new)) ring in let b = ap (λ xs. length ((ring_in d).queue ++ xs)) due in let k = ap (λ x. x.capacity) ring in let f = old.fits in omega (arith, a, b, k, f))
+
   -- A new handle is the user's.
   pub stands-gives : (kind : HandleKind) (fd : ℕ) → fd ≡ length (ring_in d).world → ring_in new ≡ with_world (ring_in d) ((ring_in d).world ++ fresh kind ∷ []) → new.first ≡ first_with d.first d.held fd → new.held ≡ d.held + 1 →
       Answers (λ r. r) buffer L (Give kind) (Handle fd) new
@@ -102,10 +111,13 @@ module _ {B : Type 0} (buffer : B → Buffer) (d new : IoUringDriver RingView B)
           reached = reached-more L (ring_in new).capacity old.events (Give kind) (old.reached ∙ ap (λ x. ledger x.capacity old.events) (sym ring));
           numbered = given ∙ old.numbered ∙ ap (λ x. length x.0.ops) (sym e);
           handles = λ h. ap (λ k. is_among k new.held h) (first ∙ ap (first_with d.first d.held) count) ∙ ap (λ k. is_among (first_with d.first d.held (length L.world)) k h) held ∙ one-more d.first d.held (length L.world) old.handles h ∙ ap (nat_lt h) size ∙ ap (λ x. user_holds x.0 h) (sym e);
-          means = subst (λ K. Means buffer (ring_in new) new.slots.values K) (sym (ap (λ y. y.0) e))
-              (subst (λ r. Means buffer r new.slots.values (give_step L (fresh kind))) (sym ring)
-              (subst (λ s. Means buffer (with_world (ring_in d) ((ring_in d).world ++ fresh kind ∷ [])) s.values (give_step L (fresh kind))) (sym slots)
-              (means-world buffer (ring_in d) d.slots.values L ((ring_in d).world ++ fresh kind ∷ []) (L.world ++ fresh kind ∷ []) (ap (λ w. w ++ fresh kind ∷ []) m.world) m)));
+          room = (let b = ap (λ x. length (numbers_where is_owned 0 x.0.ops)) e in let r = old.room in omega (arith, b, r, room));
+          fits = fits-still ((ring_in d).world ++ fresh kind ∷ []) ring;
+          means = subst (λ K. Means buffer (whole_ring (λ r. r) new) new.slots.values K) (sym (ap (λ y. y.0) e))
+              (subst (λ r. Means buffer (with_due r (due_in new)) new.slots.values (give_step L (fresh kind))) (sym ring)
+              (subst (λ xs. Means buffer (with_due (with_world (ring_in d) ((ring_in d).world ++ fresh kind ∷ [])) xs) new.slots.values (give_step L (fresh kind))) (sym due)
+              (subst (λ s. Means buffer (with_due (with_world (ring_in d) ((ring_in d).world ++ fresh kind ∷ [])) (due_in d)) s.values (give_step L (fresh kind))) (sym slots)
+              (means-world buffer (whole_ring (λ r. r) d) d.slots.values L ((ring_in d).world ++ fresh kind ∷ []) (L.world ++ fresh kind ∷ []) (ap (λ w. w ++ fresh kind ∷ []) m.world) m))));
         };
       }
 
@@ -122,9 +134,12 @@ module _ {B : Type 0} (buffer : B → Buffer) (d new : IoUringDriver RingView B)
           reached = reached-more L (ring_in new).capacity old.events (Feed h bytes) (old.reached ∙ ap (λ x. ledger x.capacity old.events) (sym ring));
           numbered = given ∙ old.numbered ∙ ap (λ x. length x.0.ops) (sym e);
           handles = λ k. ap (λ n. is_among n new.held k) first ∙ ap (λ n. is_among d.first n k) held ∙ old.handles k ∙ ap (nat_lt k) (sym (length-amended (with_input bytes) L.world h)) ∙ ap (λ x. user_holds x.0 k) (sym e);
-          means = subst (λ K. Means buffer (ring_in new) new.slots.values K) (sym (ap (λ y. y.0) e))
-              (subst (λ r. Means buffer r new.slots.values (with_handle L h (with_input bytes))) (sym ring)
-              (subst (λ s. Means buffer (with_world (ring_in d) (amended (ring_in d).world h (with_input bytes))) s.values (with_handle L h (with_input bytes))) (sym slots)
-              (means-world buffer (ring_in d) d.slots.values L (amended (ring_in d).world h (with_input bytes)) (amended L.world h (with_input bytes)) (ap (λ w. amended w h (with_input bytes)) m.world) m)));
+          room = (let b = ap (λ x. length (numbers_where is_owned 0 x.0.ops)) e in let r = old.room in omega (arith, b, r, room));
+          fits = fits-still (amended (ring_in d).world h (with_input bytes)) ring;
+          means = subst (λ K. Means buffer (whole_ring (λ r. r) new) new.slots.values K) (sym (ap (λ y. y.0) e))
+              (subst (λ r. Means buffer (with_due r (due_in new)) new.slots.values (with_handle L h (with_input bytes))) (sym ring)
+              (subst (λ xs. Means buffer (with_due (with_world (ring_in d) (amended (ring_in d).world h (with_input bytes))) xs) new.slots.values (with_handle L h (with_input bytes))) (sym due)
+              (subst (λ s. Means buffer (with_due (with_world (ring_in d) (amended (ring_in d).world h (with_input bytes))) (due_in d)) s.values (with_handle L h (with_input bytes))) (sym slots)
+              (means-world buffer (whole_ring (λ r. r) d) d.slots.values L (amended (ring_in d).world h (with_input bytes)) (amended L.world h (with_input bytes)) (ap (λ w. amended w h (with_input bytes)) m.world) m))));
         };
       }

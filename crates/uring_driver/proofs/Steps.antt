@@ -8,18 +8,18 @@ use Rattle.ring_core.specs.declared.request.Told.{Told}
 use Rattle.ring_core.specs.declared.request.Outcome.{Outcome}
 use Rattle.ring_core.specs.declared.world.HandleKind.{HandleKind}
 use Rattle.ring_core.specs.declared.ledger.Event.{Event}
-use Rattle.ring_core.specs.declared.ledger.Event.TheVariants.{Give, Feed, Submit, Poll, Turn, Exec}
-use Rattle.ring_core.specs.declared.ledger.Reply.TheVariants.{Handle, Fed, Submitted, Pending, Handed}
+use Rattle.ring_core.specs.declared.ledger.Event.TheVariants.{Give, Feed, Submit, Poll, Drop, Cancel as Asks, Turn, Exec}
+use Rattle.ring_core.specs.declared.ledger.Reply.TheVariants.{Handle, Fed, Submitted, Pending, Handed, Dropped, Asked}
 use Rattle.ring_core.specs.declared.ledger.Refusal.TheVariants.{NoOp, NoHandle, Full, NotFlying, BadOutcome}
 use Rattle.ring_core.specs.Lists.{passes}
 use Rattle.ring_core.specs.Outcome.{is_allowed}
 use Rattle.ring_core.specs.Request.{named, call_of}
 use Rattle.ring_core.specs.World.{fresh, with_input}
-use Rattle.ring_core.specs.Ledger.{Ledger, Operation, Place, InQueue, InFlight, InDone, Reaped, Gone, Op, is_live, live_ops, user_holds, empty}
-use Rattle.ring_core.specs.Queue.{with_op, leave}
+use Rattle.ring_core.specs.Ledger.{Ledger, Operation, Place, InQueue, InFlight, InDone, Reaped, Gone, Cancel, Op, is_owned, live_ops, user_holds, empty}
+use Rattle.ring_core.specs.Queue.{with_op, push, leave}
 use Rattle.ring_core.specs.Refusal.{cause, refused_if, lacks_handle, allowed, most_live}
 use Rattle.ring_core.specs.Turn.{turn_step, exec_step}
-use Rattle.ring_core.specs.Step.{step, answered, give_step, poll_at, poll_step, submit_step, with_handle, with_task}
+use Rattle.ring_core.specs.Step.{step, answered, give_step, poll_at, poll_step, drop_at, drop_step, submit_step, with_handle, with_task, with_drop}
 use Rattle.ring_core.specs.Run.{after, ledger}
 
 after-append : (L : Ledger) (es : List Event) (e : Event) → (step (after L es) e).0 ≡ after L (es ++ e ∷ [])
@@ -30,11 +30,11 @@ after-append L (x ∷ es) e = after-append (step L x).0 es e
 pub reached-more : (L : Ledger) (capacity : ℕ) (es : List Event) (e : Event) → L ≡ ledger capacity es → (step L e).0 ≡ ledger capacity (es ++ e ∷ [])
 reached-more L capacity es e h = ap (λ K. (step K e).0) h ∙ after-append (empty capacity) es e
 
-step-poll : (L : Ledger) (n task : ℕ) (o : Operation) → slice_get L.ops n ≡ Some o → is_live o ≡ true → step L (Poll n task) ≡ poll_at L n task o o.place
+step-poll : (L : Ledger) (n task : ℕ) (o : Operation) → slice_get L.ops n ≡ Some o → is_owned o ≡ true → step L (Poll n task) ≡ poll_at L n task o o.place
 unfolding step
-step-poll L n task o there live =
-    ap (λ x. answered (refused_if (not (passes is_live x)) NoOp None) L (Poll n task)) there
-    ∙ ap (λ b. answered (refused_if (not b) NoOp None) L (Poll n task)) live
+step-poll L n task o there owned =
+    ap (λ x. answered (refused_if (not (passes is_owned x)) NoOp None) L (Poll n task)) there
+    ∙ ap (λ b. answered (refused_if (not b) NoOp None) L (Poll n task)) owned
     ∙ ap (poll_step L n task) there
 
 -- A place before the reap.
@@ -52,11 +52,37 @@ poll-waiting L n task o (InDone outcome) h = refl
 poll-waiting L n task o (Reaped outcome) h = cc
 poll-waiting L n task o Gone h = cc
 
-pub step-poll-waiting : (L : Ledger) (n task : ℕ) (o : Operation) → slice_get L.ops n ≡ Some o → is_live o ≡ true → is_waiting o.place ≡ true → step L (Poll n task) ≡ (with_op L n (with_task task), Pending)
-step-poll-waiting L n task o there live h = step-poll L n task o there live ∙ poll-waiting L n task o o.place h
+pub step-poll-waiting : (L : Ledger) (n task : ℕ) (o : Operation) → slice_get L.ops n ≡ Some o → is_owned o ≡ true → is_waiting o.place ≡ true → step L (Poll n task) ≡ (with_op L n (with_task task), Pending)
+step-poll-waiting L n task o there owned h = step-poll L n task o there owned ∙ poll-waiting L n task o o.place h
 
-pub step-poll-reaped : (L : Ledger) (n task : ℕ) (o : Operation) → slice_get L.ops n ≡ Some o → is_live o ≡ true → (r : Outcome) → o.place ≡ Reaped r → step L (Poll n task) ≡ (leave L n, Handed r o.buffer)
-step-poll-reaped L n task o there live r h = step-poll L n task o there live ∙ ap (poll_at L n task o) h
+pub step-poll-reaped : (L : Ledger) (n task : ℕ) (o : Operation) → slice_get L.ops n ≡ Some o → is_owned o ≡ true → (r : Outcome) → o.place ≡ Reaped r → step L (Poll n task) ≡ (leave L n, Handed r o.buffer)
+step-poll-reaped L n task o there owned r h = step-poll L n task o there owned ∙ ap (poll_at L n task o) h
+
+step-drop : (L : Ledger) (n : ℕ) (o : Operation) → slice_get L.ops n ≡ Some o → is_owned o ≡ true → step L (Drop n) ≡ (drop_at (with_op L n with_drop) n o.place, Dropped)
+unfolding step
+step-drop L n o there owned =
+    ap (λ x. answered (refused_if (not (passes is_owned x)) NoOp None) L (Drop n)) there
+    ∙ ap (λ b. answered (refused_if (not b) NoOp None) L (Drop n)) owned
+    ∙ ap (drop_step L n) there
+
+drop-waiting : (L : Ledger) (n : ℕ) (p : Place) → is_waiting p ≡ true → drop_at L n p ≡ push L (Cancel n)
+drop-waiting L n InQueue h = refl
+drop-waiting L n InFlight h = refl
+drop-waiting L n (InDone outcome) h = refl
+drop-waiting L n (Reaped outcome) h = cc
+drop-waiting L n Gone h = cc
+
+pub step-drop-waiting : (L : Ledger) (n : ℕ) (o : Operation) → slice_get L.ops n ≡ Some o → is_owned o ≡ true → is_waiting o.place ≡ true → step L (Drop n) ≡ (push (with_op L n with_drop) (Cancel n), Dropped)
+step-drop-waiting L n o there owned h = step-drop L n o there owned ∙ ap (λ M. (M, Dropped)) (drop-waiting (with_op L n with_drop) n o.place h)
+
+pub step-drop-reaped : (L : Ledger) (n : ℕ) (o : Operation) → slice_get L.ops n ≡ Some o → is_owned o ≡ true → (r : Outcome) → o.place ≡ Reaped r → step L (Drop n) ≡ (leave (with_op L n with_drop) n, Dropped)
+step-drop-reaped L n o there owned r h = step-drop L n o there owned ∙ ap (λ p. (drop_at (with_op L n with_drop) n p, Dropped)) h
+
+pub step-cancel : (L : Ledger) (n : ℕ) (o : Operation) → slice_get L.ops n ≡ Some o → is_owned o ≡ true → step L (Asks n) ≡ (push L (Cancel n), Asked)
+unfolding step
+step-cancel L n o there owned =
+    ap (λ x. answered (refused_if (not (passes is_owned x)) NoOp None) L (Asks n)) there
+    ∙ ap (λ b. answered (refused_if (not b) NoOp None) L (Asks n)) owned
 
 pub step-submit : (L : Ledger) (r : Request Buffer) → lacks_handle L (named r) ≡ false → nat_le most_live (length (live_ops L)) ≡ false → step L (Submit r) ≡ (submit_step L r, Submitted (length L.ops))
 unfolding step
@@ -82,21 +108,21 @@ below-test n k h = grind (arith, nat_tests)
 pub past-test : (n k : ℕ) → n ≤ k → nat_le n k ≡ true
 past-test n k h = grind (arith, nat_tests)
 
-pub step-exec : (L : Ledger) (place n : ℕ) (told : Told) (o : Operation) → place < length L.flying → slice_get L.flying place ≡ Some (Op n) → slice_get L.ops n ≡ Some o → is_allowed L.world (call_of o.request) told ≡ true → step L (Exec place told) ≡ exec_step L place told (Some (Op n))
+pub step-exec : (L : Ledger) (place n : ℕ) (told : Told) (o : Operation) → place < length L.flying → slice_get L.flying place ≡ Some (Op n) → slice_get L.ops n ≡ Some o → is_allowed L.world o.canceled (call_of o.request) told ≡ true → step L (Exec place told) ≡ exec_step L place told (Some (Op n))
 unfolding step
 step-exec L place n told o within there which allows =
     ap (λ b. answered (refused_if b NotFlying (refused_if (not (passes (λ item. allowed L item told) (slice_get L.flying place))) BadOutcome None)) L (Exec place told)) (below-test (length L.flying) place within)
     ∙ ap (λ x. answered (refused_if (not (passes (λ item. allowed L item told) x)) BadOutcome None) L (Exec place told)) there
-    ∙ ap (λ x. answered (refused_if (not (passes (λ operation. is_allowed L.world (call_of operation.request) told) x)) BadOutcome None) L (Exec place told)) which
+    ∙ ap (λ x. answered (refused_if (not (passes (λ operation. is_allowed L.world operation.canceled (call_of operation.request) told) x)) BadOutcome None) L (Exec place told)) which
     ∙ ap (λ b. answered (refused_if (not b) BadOutcome None) L (Exec place told)) allows
     ∙ ap (exec_step L place told) there
 
 pub cause-flying : (L : Ledger) (place : ℕ) (told : Told) → length L.flying ≤ place → cause L (Exec place told) ≡ Some NotFlying
 cause-flying L place told h = ap (λ b. refused_if b NotFlying (refused_if (not (passes (λ item. allowed L item told) (slice_get L.flying place))) BadOutcome None)) (past-test (length L.flying) place h)
 
-pub cause-outcome : (L : Ledger) (place n : ℕ) (told : Told) (o : Operation) → place < length L.flying → slice_get L.flying place ≡ Some (Op n) → slice_get L.ops n ≡ Some o → is_allowed L.world (call_of o.request) told ≡ false → cause L (Exec place told) ≡ Some BadOutcome
+pub cause-outcome : (L : Ledger) (place n : ℕ) (told : Told) (o : Operation) → place < length L.flying → slice_get L.flying place ≡ Some (Op n) → slice_get L.ops n ≡ Some o → is_allowed L.world o.canceled (call_of o.request) told ≡ false → cause L (Exec place told) ≡ Some BadOutcome
 cause-outcome L place n told o within there which forbids =
     ap (λ b. refused_if b NotFlying (refused_if (not (passes (λ item. allowed L item told) (slice_get L.flying place))) BadOutcome None)) (below-test (length L.flying) place within)
     ∙ ap (λ x. refused_if (not (passes (λ item. allowed L item told) x)) BadOutcome None) there
-    ∙ ap (λ x. refused_if (not (passes (λ operation. is_allowed L.world (call_of operation.request) told) x)) BadOutcome None) which
+    ∙ ap (λ x. refused_if (not (passes (λ operation. is_allowed L.world operation.canceled (call_of operation.request) told) x)) BadOutcome None) which
     ∙ ap (λ b. refused_if (not b) BadOutcome None) forbids

@@ -1,6 +1,6 @@
 -- What a submission answers, of a driver that stands for a ledger.
-use Rattle.std.proofs.Common.{◌≡◌, ℕ, suc, ◌+◌, ◌<◌, Bool, true, false, List, [], ◌∷◌, ◌++◌, length, Some, None, refl, sym, ◌∙◌, ap, subst, arith, length-append}
-use Rattle.std.specs.Prelude.{slice_get, nat_le, nat_lt, IsTrue, ◌==◌, if◌then◌else◌}
+use Rattle.std.proofs.Common.{◌≡◌, ℕ, suc, ◌+◌, ◌<◌, ◌≤◌, Bool, true, false, List, [], ◌∷◌, ◌++◌, length, Some, None, refl, sym, ◌∙◌, ap, subst, arith, length-append}
+use Rattle.std.specs.Prelude.{slice_get, nat_le, nat_lt, IsTrue, ◌==◌, ◌&&◌, not, if◌then◌else◌}
 use Rattle.std.specs.Ordering.{nat_cmp}
 use Rattle.std.specs.FinMap.{FinMap, get, insert, len}
 use Rattle.std.proofs.lemmas.Bool.Decides.{nat_tests}
@@ -12,12 +12,13 @@ use Rattle.ring_core.specs.Request.{named, call_of, plain_request}
 use Rattle.ring_core.specs.declared.request.Request.{Request}
 use Rattle.ring_core.specs.declared.request.Request.TheVariants.{Recv}
 use Rattle.ring_core.specs.declared.entry.Body.{Body}
-use Rattle.ring_core.specs.declared.entry.Body.TheVariants.{Call as Calls}
+use Rattle.ring_core.specs.declared.entry.Body.TheVariants.{Call as Calls, Cancel as Cancels}
 use Rattle.ring_core.specs.declared.entry.Entry.{Entry}
 use Rattle.ring_core.specs.declared.ledger.Event.TheVariants.{Submit}
 use Rattle.ring_core.specs.declared.ledger.Reply.TheVariants.{Submitted}
-use Rattle.ring_core.specs.Ledger.{Ledger, Queued, Req, Operation, InFlight, live_ops, new_operation, user_holds}
-use Rattle.ring_core.specs.Queue.{take_one, take_each, take_all, make_room, append, push, at_place}
+use Rattle.ring_core.specs.Lists.{numbers_where}
+use Rattle.ring_core.specs.Ledger.{Ledger, Queued, Req, Cancel, Operation, InFlight, is_live, is_owned, live_ops, new_operation, user_holds}
+use Rattle.ring_core.specs.Queue.{take_one, take_each, take_all, make_room, append, push, at_place, with_cancel}
 use Rattle.ring_core.specs.Refusal.{most_live}
 use Rattle.ring_core.specs.Step.{submit_step, with_new_op}
 use Rattle.ring_core.specs.Run.{ledger}
@@ -25,23 +26,28 @@ use Rattle.uring_driver.specs.declared.op.SubmitFault.{SubmitFault}
 use Rattle.uring_driver.specs.declared.op.SubmitFault.TheVariants.{Full, RingFault, Busy, OutOfMemory}
 use Rattle.uring_driver.specs.declared.slot.Slot.{Slot}
 use Rattle.uring_driver.specs.declared.driver.IoUringDriver.{IoUringDriver}
-use Rattle.uring_driver.specs.Driver.{ring_in, is_among, holds_all}
-use Rattle.uring_driver.specs.Roomy.{IsSameButRoom, with_spare, room_made}
-use Rattle.uring_driver.specs.Lists.{queued_of, queued_in}
+use Rattle.uring_driver.specs.Driver.{ring_in, room_in, pending, whole_ring, is_among, holds_all}
+use Rattle.ring_core.specs.declared.request.Call.{Call}
+use Rattle.uring_driver.specs.declared.op.Op.{Op}
+use Rattle.uring_driver.specs.Op.{call_for}
+use Rattle.uring_driver.specs.Outbox.{with_spare, room_made, PendingMoves}
+use Rattle.uring_driver.specs.Lists.{queued_of, queued_in, is_call}
 use Rattle.uring_driver.specs.Stands.{Means, Stands, Answers}
-use Rattle.uring_driver.specs.Submitted.{WhyRefused, Unprepared}
-use Rattle.uring_driver.proofs.Lists.{amended-append, map-get}
+use Rattle.uring_driver.specs.Submitted.{IsSameRing, WhyRefused, Unprepared}
+use Rattle.uring_driver.proofs.Lists.{amended-append, amended-fixed, map-get}
+use Rattle.uring_driver.proofs.Counts.{where-more, where-within, owned-lives}
 use Rattle.uring_driver.proofs.Kept.{call-queued}
 use Rattle.uring_driver.proofs.Handles.{lacks-none}
 use Rattle.uring_driver.proofs.Starting.{stands-same}
 use Rattle.uring_driver.proofs.Steps.{reached-more, step-submit}
 use Rattle.uring_driver.proofs.Submitting.{means-pushed}
-use Rattle.uring_driver.proofs.Taking.{means-room, means-view}
-use Rattle.uring_driver.proofs.Turns.{length-take_each, world-take_each}
+use Rattle.uring_driver.proofs.Taking.{means-room, means-view, owned-room}
+use Rattle.uring_driver.proofs.Turns.{length-take_each, room-length, room-world, room-capacity}
 
 -- An entry names an operation that there is.
 abbrev IsKnown : ℕ → Queued → Type 0
 IsKnown count (Req n) = n < count
+IsKnown count (Cancel n) = Unit {0}
 
 abbrev AllKnown : ℕ → List Queued → Type 0
 AllKnown count [] = Unit {0}
@@ -51,47 +57,40 @@ if-new_op : (b : Bool) (L M : Ledger) (o : Operation) → (if b then with_new_op
 if-new_op true L M o = refl
 if-new_op false L M o = refl
 
-take_one-new_op : (L : Ledger) (o : Operation) (q : Queued) → IsKnown (length L.ops) q → take_one (with_new_op L o) q ≡ with_new_op (take_one L q) o
-take_one-new_op L o (Req n) h = ap (λ ops. record (take_one L (Req n)) { ops = ops }) (amended-append L.ops (o ∷ []) n (at_place InFlight) h)
+-- Taking leaves an operation that isn't in the queue and has no cancel that does anything.
+module _ (o : Operation) (fixed : with_cancel o ≡ o) where
+  take_one-new_op : (L : Ledger) (q : Queued) → IsKnown (length L.ops) q → take_one (with_new_op L o) q ≡ with_new_op (take_one L q) o
+  take_one-new_op L (Req n) h = ap (λ ops. record (take_one L (Req n)) { ops = ops }) (amended-append L.ops (o ∷ []) n (at_place InFlight) h)
+  take_one-new_op L (Cancel n) h = ap (λ ops. record L { ops = ops }) (amended-fixed L.ops o n with_cancel fixed)
 
-take_each-new_op : (L : Ledger) (o : Operation) (qs : List Queued) → AllKnown (length L.ops) qs → take_each (with_new_op L o) qs ≡ with_new_op (take_each L qs) o
-take_each-new_op L o [] h = refl
-take_each-new_op L o (q ∷ qs) h =
-    ap (λ M. take_each M qs) (take_one-new_op L o q h.0)
-    ∙ take_each-new_op (take_one L q) o qs (subst (λ k. AllKnown k qs) (sym (length-take_each L (q ∷ []))) h.1)
+  take_each-new_op : (L : Ledger) (qs : List Queued) → AllKnown (length L.ops) qs → take_each (with_new_op L o) qs ≡ with_new_op (take_each L qs) o
+  take_each-new_op L [] h = refl
+  take_each-new_op L (q ∷ qs) h =
+      ap (λ M. take_each M qs) (take_one-new_op L q h.0)
+      ∙ take_each-new_op (take_one L q) qs (subst (λ k. AllKnown k qs) (sym (length-take_each L (q ∷ []))) h.1)
 
--- A push after the operation was appended is the operation appended after room was made, then the entry.
-push-new_op : (L : Ledger) (o : Operation) (q : Queued) → AllKnown (length L.ops) L.queue → push (with_new_op L o) q ≡ append (with_new_op (make_room L) o) q
-push-new_op L o q h =
-    ap (λ M. append (if length L.queue == L.capacity then M else with_new_op L o) q) (take_each-new_op (record L { queue = [] }) o L.queue h)
-    ∙ ap (λ M. append M q) (if-new_op (length L.queue == L.capacity) L (take_all L) o)
+  -- A push after the operation was appended is the operation appended after room was made, then the entry.
+  push-new_op : (L : Ledger) (q : Queued) → AllKnown (length L.ops) L.queue → push (with_new_op L o) q ≡ append (with_new_op (make_room L) o) q
+  push-new_op L q h =
+      ap (λ M. append (if length L.queue == L.capacity then M else with_new_op L o) q) (take_each-new_op (record L { queue = [] }) L.queue h)
+      ∙ ap (λ M. append M q) (if-new_op (length L.queue == L.capacity) L (take_all L) o)
 
-req-number : (e : Entry) (b : Body) (n : ℕ) → queued_in e b ≡ Req n → e.serial ≡ n
-req-number e (Calls call) n h = (let q : Req e.serial ≡ Req n = h in cc)
+req-call : (e : Entry) (b : Body) (n : ℕ) → queued_in e b ≡ Req n → (e.serial ≡ n) × (is_call b ≡ true)
+req-call e (Calls call) n h = (let q : Req e.serial ≡ Req n = h in (cc, refl))
+req-call e (Cancels key) n h = (let f : ⊥ = cc in absurd f)
 
 -- What is queued was given before.
 queue-numbers : {B : Type 0} (buffer : B → Buffer) (v : RingView) (slots : FinMap nat_cmp (Slot B)) (L : Ledger) → Means buffer v slots L → (i n : ℕ) → slice_get L.queue i ≡ Some (Req n) → n < length L.ops
 queue-numbers buffer v slots L old i n h =
     let g = map-get queued_of v.queue i (Req n) (ap (λ xs. slice_get xs i) (sym old.in_lists.queue) ∙ h) in
-    let at = (call-queued buffer slots L.ops g.0 g.0.body (old.in_lists.in_queue i g.0 g.1)).1 in
-    slice_get_within L.ops n at.operation (ap (slice_get L.ops) (sym (req-number g.0 g.0.body n (sym g.2))) ∙ at.there)
+    let r = req-call g.0 g.0.body n (sym g.2) in
+    let at = (call-queued buffer slots L.ops g.0 g.0.body (old.in_lists.in_queue i g.0 g.1) r.1).1 in
+    slice_get_within L.ops n at.operation (ap (slice_get L.ops) (sym r.0) ∙ at.there)
 
 all-known : (count : ℕ) (qs : List Queued) → ((i n : ℕ) → slice_get qs i ≡ Some (Req n) → n < count) → AllKnown count qs
 all-known count [] h = tt
 all-known count (Req n ∷ qs) h = (h 0 n refl, all-known count qs (λ i m g. h (suc i) m g))
-
--- Making room keeps how many operations there are, the handles and the capacity.
-room-length : (L : Ledger) (b : Bool) → length (if b then take_all L else L).ops ≡ length L.ops
-room-length L true = length-take_each (record L { queue = [] }) L.queue
-room-length L false = refl
-
-room-world : (L : Ledger) (b : Bool) → (if b then take_all L else L).world ≡ L.world
-room-world L true = world-take_each (record L { queue = [] }) L.queue
-room-world L false = refl
-
-room-capacity : (v : RingView) (b : Bool) → (if b then entered v else v).capacity ≡ v.capacity
-room-capacity v true = refl
-room-capacity v false = refl
+all-known count (Cancel n ∷ qs) h = (tt, all-known count qs (λ i m g. h (suc i) m g))
 
 is-room : (n : ℕ) → n < 4294967232 → nat_le most_live n ≡ false
 is-room n h = grind (arith, nat_tests)
@@ -100,37 +99,45 @@ named-plain : {B : Type 0} (buffer : B → Buffer) (r : Request B) → named (pl
 named-plain buffer (Recv fd buf) = refl
 
 module _ {R B : Type 0} (view : R → RingView) (buffer : B → Buffer) where
-  pub stands-submits : (d new : IoUringDriver R B) (L : Ledger) (request : Request B) (key spare : ℕ) (mid : RingView) → Stands view buffer d L → IsTrue (holds_all d (named request)) → len d.slots.values < 4294967232 → get d.slots.values key ≡ None → key < 4294967232 →
+  pub stands-submits : (d new : IoUringDriver R B) (L : Ledger) (request : Request B) (key spare spare' : ℕ) (mid : RingView) → Stands view buffer d L → IsTrue (holds_all d (named request)) → len d.slots.values < 4294967232 → get d.slots.values key ≡ None → key < 4294967232 →
       new.slots.values ≡ insert d.slots.values key (record { serial = d.given; request = request; life = Fresh }) →
-      mid ≡ with_spare (room_made (view (ring_in d))) spare → view (ring_in new) ≡ pushed mid (record { word = key; serial = d.given; body = Calls (call_of (plain_request buffer request)) }) →
+      mid ≡ with_spare (room_made (whole_ring view d)) spare → length mid.queue < mid.capacity → whole_ring view new ≡ with_spare (pushed mid (record { word = key; serial = d.given; body = Calls (call_of (plain_request buffer request)) })) spare' → len d.slots.values + 1 ≤ room_in new →
       new.given ≡ d.given + 1 → new.first ≡ d.first → new.held ≡ d.held → (number : ℕ) → number ≡ d.given →
       Answers view buffer L (Submit (plain_request buffer request)) (Submitted number) new
-  stands-submits d new L request key spare mid old user few free below put room ring given first held number is =
+  stands-submits d new L request key spare spare' mid old user few free below put made has_room ring more given first held number is =
       let r = plain_request buffer request in
-      let v = view (ring_in d) in
+      let v = whole_ring view d in
       let entry : Entry = record { word = key; serial = d.given; body = Calls (call_of r) } in
       let user' = lacks-none d L (named r) old.handles (ap (holds_all d) (named-plain buffer request) ∙ user) in
       let s = step-submit L r user' (is-room (length (live_ops L)) (subst (λ n. n < 4294967232) old.means.in_slots.counted few)) in
       let M = make_room L in
       let order : submit_step L r ≡ append (with_new_op M (new_operation r)) (Req d.given) =
-      push-new_op L (new_operation r) (Req (length L.ops)) (all-known (length L.ops) L.queue (queue-numbers buffer v d.slots.values L old.means)) ∙ ap (λ n. append (with_new_op M (new_operation r)) (Req n)) (sym old.numbered) in
+      push-new_op (new_operation r) refl L (Req (length L.ops)) (all-known (length L.ops) L.queue (queue-numbers buffer v d.slots.values L old.means)) ∙ ap (λ n. append (with_new_op M (new_operation r)) (Req n)) (sym old.numbered) in
       let e = s ∙ ap (λ K. (K, Submitted (length L.ops))) order in
-      let full = length L.queue == L.capacity in
-      let long : length M.ops ≡ length L.ops = room-length L full in
+      let long : length M.ops ≡ length L.ops = room-length L in
       let roomy = means-room buffer v d.slots.values L old.means in
-      let m : Means buffer mid d.slots.values M = subst (λ x. Means buffer x d.slots.values M) (sym room) (means-view buffer (room_made v) (with_spare (room_made v) spare) d.slots.values M refl refl refl refl refl roomy) in
+      let m : Means buffer mid d.slots.values M = subst (λ x. Means buffer x d.slots.values M) (sym made) (means-view buffer (room_made v) (with_spare (room_made v) spare) d.slots.values M refl refl refl refl refl roomy) in
       let p = means-pushed buffer mid d.slots.values M d.given key request m (old.numbered ∙ sym long) free below in
-      let capacity : (view (ring_in new)).capacity ≡ v.capacity = ap (λ x. x.capacity) ring ∙ ap (λ x. x.capacity) room ∙ room-capacity v (length v.queue == v.capacity) in
+      let capacity : (view (ring_in new)).capacity ≡ v.capacity = ap (λ x. x.capacity) ring ∙ ap (λ x. x.capacity) made ∙ room-capacity v in
       record {
         reply_is = ap (λ x. x.1) s ∙ ap (λ x. Submitted x) (sym (is ∙ old.numbered));
         stands = record {
           events = old.events ++ Submit r ∷ [];
           reached = reached-more L (view (ring_in new)).capacity old.events (Submit r) (old.reached ∙ ap (λ x. ledger x old.events) (sym capacity));
           numbered = given ∙ ap (λ n. n + 1) (old.numbered ∙ sym long) ∙ sym (length-append M.ops (new_operation r ∷ [])) ∙ ap (λ x. length x.0.ops) (sym e);
-          handles = λ h. ap (λ k. is_among k new.held h) first ∙ ap (λ k. is_among d.first k h) held ∙ old.handles h ∙ ap (λ w. nat_lt h (length w)) (sym (room-world L full)) ∙ ap (λ x. user_holds x.0 h) (sym e);
-          means = subst (λ K. Means buffer (view (ring_in new)) new.slots.values K) (sym (ap (λ x. x.0) e))
+          handles = λ h. ap (λ k. is_among k new.held h) first ∙ ap (λ k. is_among d.first k h) held ∙ old.handles h ∙ ap (λ w. nat_lt h (length w)) (sym (room-world L)) ∙ ap (λ x. user_holds x.0 h) (sym e);
+          room = (
+              let a = where-more is_owned M.ops (new_operation r) refl in
+              let b = owned-room buffer v d.slots.values L old.means in
+              let c = where-within is_owned is_live L.ops owned-lives in
+              let k = old.means.in_slots.counted in
+              let f = ap (λ x. length (numbers_where is_owned 0 x.0.ops)) e in
+              omega (arith, a, b, c, k, f, more));
+          fits = (let a = ap (λ x. length x.queue) ring in let b = length-append mid.queue (entry ∷ []) in let k = ap (λ x. x.capacity) ring in omega (arith, a, b, k, has_room));
+          means = subst (λ K. Means buffer (whole_ring view new) new.slots.values K) (sym (ap (λ x. x.0) e))
               (subst (λ x. Means buffer x new.slots.values (append (with_new_op M (new_operation r)) (Req d.given))) (sym ring)
-              (subst (λ x. Means buffer (pushed mid entry) x (append (with_new_op M (new_operation r)) (Req d.given))) (sym put) p));
+              (subst (λ x. Means buffer (with_spare (pushed mid entry) spare') x (append (with_new_op M (new_operation r)) (Req d.given))) (sym put)
+              (means-view buffer (pushed mid entry) (with_spare (pushed mid entry) spare') (insert d.slots.values key (record { serial = d.given; request = request; life = Fresh })) (append (with_new_op M (new_operation r)) (Req d.given)) refl refl refl refl refl p)));
         };
       }
 
@@ -139,11 +146,18 @@ module _ {R B : Type 0} (view : R → RingView) (buffer : B → Buffer) where
   why-refused d new steady Full same values h = same ∙ ap (λ r. record d { ring = r; slots = new.slots }) h.1 ∙ ap (λ s. record d { slots = s }) h.2
   why-refused d new steady RingFault same values h = (h.1, h.2)
   why-refused d new steady Busy same values h = (h.1, h.2)
-  why-refused d new steady OutOfMemory same values h = λ L old. stands-same view buffer d new L _ h.1 values (ap (λ x. x.given) same) (ap (λ x. x.first) same) (ap (λ x. x.held) same) old
+  why-refused d new steady OutOfMemory same values h = λ L old. stands-same view buffer d new L _ h.1.ring h.1.due h.1.room values (ap (λ x. x.given) same) (ap (λ x. x.first) same) (ap (λ x. x.held) same) old
 
   -- Where memory ran out the ring has other room at most.
-  pub same-room : (d new : IoUringDriver R B) (steady : Bool) (why : SubmitFault) → Unprepared view steady d.ring new.ring d.slots new.slots why → why ≡ OutOfMemory → IsSameButRoom (view (ring_in d)) (view (ring_in new))
+  pub same-room : (d new : IoUringDriver R B) (steady : Bool) (why : SubmitFault) → Unprepared view steady d.ring new.ring d.slots new.slots why → why ≡ OutOfMemory → IsSameRing view d new
   same-room d new steady Full h e = (let f : ⊥ = cc in absurd f)
   same-room d new steady RingFault h e = (let f : ⊥ = cc in absurd f)
   same-room d new steady Busy h e = (let f : ⊥ = cc in absurd f)
-  same-room d new steady OutOfMemory h e = h.1
+  same-room d new steady OutOfMemory h e = record { ring = h.1.ring; due = h.1.due }
+
+-- The entry that joined is that of the new token's call.
+pub entry-is : {B : Type 0} (buffer : B → Buffer) (request : Request B) (old new : List Entry) (op : Op) (key number : ℕ) (call : Call) → op ≡ record { number = number; key = key } → call ≡ call_of (plain_request buffer request) →
+    PendingMoves old new (record { word = key; serial = number; body = Calls call } ∷ []) → PendingMoves old new (call_for op (call_of (plain_request buffer request)) ∷ [])
+entry-is buffer request old new op key number call is calls moves =
+    subst (λ o. PendingMoves old new (call_for o (call_of (plain_request buffer request)) ∷ [])) (sym is)
+    (subst (λ c. PendingMoves old new (record { word = key; serial = number; body = Calls c } ∷ [])) calls moves)

@@ -1,5 +1,5 @@
 -- What a new operation and its entry do to a ring and slots that mean a ledger.
-use Rattle.std.proofs.Common.{◌≡◌, ◌≢◌, ◌⊎◌, inl, inr, ℕ, ◌+◌, ◌<◌, List, [], ◌∷◌, ◌++◌, length, Some, None, refl, sym, ◌∙◌, ap, subst, arith}
+use Rattle.std.proofs.Common.{◌≡◌, ◌≢◌, ◌⊎◌, inl, inr, ℕ, ◌+◌, ◌<◌, true, List, [], ◌∷◌, ◌++◌, length, Some, None, refl, sym, ◌∙◌, ap, subst, arith}
 use Rattle.std.specs.Prelude.{slice_get}
 use Rattle.std.specs.Ordering.{nat_cmp}
 use Rattle.std.specs.FinMap.{FinMap, get, insert}
@@ -11,18 +11,19 @@ use Rattle.ring_core.specs.Ring.{RingView, pushed}
 use Rattle.ring_core.specs.Request.{call_of, plain_request}
 use Rattle.ring_core.specs.declared.entry.Entry.{Entry}
 use Rattle.ring_core.specs.declared.entry.Completion.{Completion}
+use Rattle.ring_core.specs.declared.entry.Flight.{Flight}
 use Rattle.ring_core.specs.declared.request.Request.{Request}
-use Rattle.ring_core.specs.declared.entry.Body.TheVariants.{Call as Calls}
-use Rattle.ring_core.specs.Ledger.{Ledger, Req, Operation, Place, InQueue, InFlight, InDone, new_operation}
+use Rattle.ring_core.specs.declared.entry.Body.TheVariants.{Call as Calls, Cancel as Cancels}
+use Rattle.ring_core.specs.Ledger.{Ledger, Req, Operation, Place, InQueue, InFlight, InDone, is_live, new_operation}
 use Rattle.ring_core.specs.Queue.{append}
 use Rattle.ring_core.specs.Step.{with_new_op}
 use Rattle.uring_driver.specs.declared.slot.Slot.{Slot}
 use Rattle.uring_driver.specs.Slots.{SlotFor, SlotsStand}
-use Rattle.uring_driver.specs.Lists.{EntryFor, CompletionFor, IsAt, QueuedFor, ListsStand, queued_of}
+use Rattle.uring_driver.specs.Lists.{EntryFor, CompletionFor, IsAt, IsFlown, QueuedFor, CancelsMean, ListsStand, is_call, queued_of}
 use Rattle.uring_driver.specs.Stands.{Means}
 use Rattle.uring_driver.proofs.Lists.{some, same-or-not, get-pushed, get-front, get-last}
 use Rattle.uring_driver.proofs.Maps.{put-same, put-other, len-new}
-use Rattle.uring_driver.proofs.Counts.{live-more}
+use Rattle.uring_driver.proofs.Counts.{where-more}
 use Rattle.uring_driver.proofs.Kept.{queued-kept, call-queued}
 use Rattle.uring_driver.proofs.Flights.{with-own}
 
@@ -57,6 +58,9 @@ module _ {B : Type 0} (buffer : B → Buffer) (w : RingView) (slots : FinMap nat
   at-kept : (n : ℕ) (p : Place) → IsAt M.ops n p → IsAt ops' n p
   at-kept n p a = record { operation = a.operation; there = get-front M.ops (new ∷ []) n a.operation a.there; stays = a.stays }
 
+  flown-kept : (x : Flight) → IsFlown M.ops x → IsFlown ops' x
+  flown-kept x a = record { operation = a.operation; there = get-front M.ops (new ∷ []) x.entry.serial a.operation a.there; stays = a.stays; marked = a.marked }
+
   entry-kept : (x : Entry) → EntryFor buffer slots x → EntryFor buffer (insert slots key t) x
   entry-kept x E = record { slot = E.slot; there = kept x.word E.slot E.there; serial = E.serial; call = E.call }
 
@@ -64,10 +68,10 @@ module _ {B : Type 0} (buffer : B → Buffer) (w : RingView) (slots : FinMap nat
   completion-kept c C = record { slot = C.slot; there = kept c.word C.slot C.there; serial = C.serial }
 
   slot-kept : (u : Slot B) → SlotFor buffer M.ops u → SlotFor buffer ops' u
-  slot-kept u m = record { operation = m.operation; there = get-front M.ops (new ∷ []) u.serial m.operation m.there; live = m.live; request = m.request; life = m.life; fresh = m.fresh }
+  slot-kept u m = record { operation = m.operation; there = get-front M.ops (new ∷ []) u.serial m.operation m.there; live = m.live; request = m.request; life = m.life; fresh = m.fresh; uncanceled = m.uncanceled }
 
   new-slot : SlotFor buffer ops' t
-  new-slot = record { operation = new; there = there-new; live = refl; request = sym (with-own (plain_request buffer request)); life = refl; fresh = λ _. refl }
+  new-slot = record { operation = new; there = there-new; live = refl; request = sym (with-own (plain_request buffer request)); life = refl; fresh = λ _. refl; uncanceled = λ _. refl }
 
   -- Each slot is the new one, or was there.
   which : (k : ℕ) (u : Slot B) → get (insert slots key t) k ≡ Some u → ((k ≡ key) × (t ≡ u)) ⊎ (get slots k ≡ Some u)
@@ -96,16 +100,35 @@ module _ {B : Type 0} (buffer : B → Buffer) (w : RingView) (slots : FinMap nat
       | inl a ↦ (let m = old.in_slots.each n o a l in record { key = m.key; slot = m.slot; there = kept m.key m.slot m.there; serial = m.serial })
       | inr a ↦ record { key = key; slot = t; there = put-same slots key t; serial = numbered ∙ sym a.0 }
     ];
-    counted = len-new slots key t free ∙ ap (λ n. n + 1) old.in_slots.counted ∙ sym (live-more M.ops new refl);
+    counted = len-new slots key t free ∙ ap (λ n. n + 1) old.in_slots.counted ∙ sym (where-more is_live M.ops new refl);
     below = λ k u h. elim (which k u h) [
       | inl q ↦ subst (λ x. x < 4294967232) (sym q.0) below
       | inr q ↦ old.in_slots.below k u q
     ];
   }
 
-  -- The number of an entry that is queued is another.
-  queued-other : (i : ℕ) (x : Entry) → slice_get w.queue i ≡ Some x → x.serial ≢ given
-  queued-other i x h = (let m = (call-queued buffer slots M.ops x x.body (old.in_lists.in_queue i x h)).1 in other x.serial m.operation m.there)
+  -- The number of a call that is queued is another.
+  queued-other : (i : ℕ) (x : Entry) → slice_get w.queue i ≡ Some x → is_call x.body ≡ true → x.serial ≢ given
+  queued-other i x h q = (let m = (call-queued buffer slots M.ops x x.body (old.in_lists.in_queue i x h) q).1 in other x.serial m.operation m.there)
+
+  no-cancel : (x : Entry) (k : ℕ) → x ≡ e → x.body ≡ Cancels k → ⊥
+  no-cancel x k h b = (let z = sym (ap (λ y. y.body) h) ∙ b in cc)
+
+  -- The cancels that stood there stand before it.
+  cancels-stay : CancelsMean (w.queue ++ e ∷ []) w.flying
+  cancels-stay = record {
+    before = λ i j x c k h l b less q. elim (get-pushed w.queue e j c l) [
+      | inl d ↦ elim (get-pushed w.queue e i x h) [
+        | inl a ↦ old.in_lists.cancels.before i j x c k a d b less q
+        | inr a ↦ absurd (let z = slice_get_within w.queue j c d in let y = a.0 in omega (arith, z, y, less))
+      ]
+      | inr d ↦ absurd (no-cancel c k d.1 b)
+    ];
+    flown = λ i j f c k h l b. elim (get-pushed w.queue e j c l) [
+      | inl d ↦ old.in_lists.cancels.flown i j f c k h d b
+      | inr d ↦ absurd (no-cancel c k d.1 b)
+    ];
+  }
 
   lists-pushed : ListsStand buffer (insert slots key t) (pushed w e) (append (with_new_op M new) (Req given))
   lists-pushed = (let l = old.in_lists in record {
@@ -113,24 +136,25 @@ module _ {B : Type 0} (buffer : B → Buffer) (w : RingView) (slots : FinMap nat
     flying = l.flying;
     done = l.done;
     in_queue = λ i x h. elim (get-pushed w.queue e i x h) [
-      | inl a ↦ queued-kept buffer slots (insert slots key t) M.ops ops' x x.body (λ m. (entry-kept x m.0, at-kept x.serial InQueue m.1)) (l.in_queue i x a)
+      | inl a ↦ queued-kept buffer slots (insert slots key t) M.ops ops' x x.body (λ _ m. (entry-kept x m.0, at-kept x.serial InQueue m.1)) (l.in_queue i x a)
       | inr a ↦ subst (λ y. QueuedFor buffer (insert slots key t) ops' y y.body) (sym a.1)
           (record { slot = t; there = put-same slots key t; serial = refl; call = refl }, record { operation = new; there = there-new; stays = refl })
     ];
-    in_flight = λ i x h. (let m = l.in_flight i x h in (entry-kept x.entry m.0, at-kept x.entry.serial InFlight m.1));
+    in_flight = λ i x h. (let m = l.in_flight i x h in (entry-kept x.entry m.0, flown-kept x m.1));
     in_done = λ i c h. (let m = l.in_done i c h in (completion-kept c m.0, at-kept c.serial (InDone c.outcome) m.1));
-    queue_once = λ i j x y h k q. elim (get-pushed w.queue e i x h) [
+    queue_once = λ i j x y h k b c q. elim (get-pushed w.queue e i x h) [
       | inl a ↦ elim (get-pushed w.queue e j y k) [
-        | inl f ↦ l.queue_once i j x y a f q
-        | inr f ↦ absurd (queued-other i x a (q ∙ ap (λ z. z.serial) f.1))
+        | inl f ↦ l.queue_once i j x y a f b c q
+        | inr f ↦ absurd (queued-other i x a b (q ∙ ap (λ z. z.serial) f.1))
       ]
       | inr a ↦ elim (get-pushed w.queue e j y k) [
-        | inl f ↦ absurd (queued-other j y f (sym q ∙ ap (λ z. z.serial) a.1))
+        | inl f ↦ absurd (queued-other j y f c (sym q ∙ ap (λ z. z.serial) a.1))
         | inr f ↦ a.0 ∙ sym f.0
       ]
     ];
     flight_once = l.flight_once;
     done_once = l.done_once;
+    cancels = cancels-stay;
   })
 
   pub means-pushed : Means buffer (pushed w (record { word = key; serial = given; body = Calls (call_of (plain_request buffer request)) })) (insert slots key (record { serial = given; request = request; life = Fresh })) (append (with_new_op M (new_operation (plain_request buffer request))) (Req given))

@@ -1,41 +1,87 @@
 -- Completions treated one by one, and a turn.
-use Rattle.std.proofs.Common.{◌≡◌, inl, inr, ℕ, Bool, List, [], ◌∷◌, ◌++◌, length, Option, Some, None, refl, sym, ◌∙◌, ap, subst, arith, append_assoc, append-nil}
-use Rattle.std.specs.Prelude.{slice_get, nat_lt, IsTrue}
+use Rattle.std.proofs.Common.{◌≡◌, ◌≤◌, inl, inr, ℕ, Bool, true, false, List, [], ◌∷◌, ◌++◌, length, Option, Some, None, refl, sym, ◌∙◌, ap, subst, arith, append_assoc, append-nil}
+use Rattle.std.specs.Prelude.{slice_get, nat_lt, ◌&&◌, ◌==◌, if◌then◌else◌, not, IsTrue}
 use Rattle.std.specs.Ordering.{nat_cmp}
 use Rattle.std.specs.FinMap.{FinMap}
 use Rattle.rent_buf.specs.Buffer.{Buffer}
-use Rattle.ring_core.specs.Ring.{RingView}
-use Rattle.ring_core.specs.Lists.{amended}
+use Rattle.ring_core.specs.Ring.{RingView, entered}
+use Rattle.ring_core.specs.Lists.{amended, numbers_where}
 use Rattle.ring_core.specs.declared.ledger.Event.TheVariants.{Turn}
 use Rattle.ring_core.specs.declared.ledger.Reply.TheVariants.{Turned as TurnReply}
-use Rattle.ring_core.specs.Ledger.{Ledger, Queued, Req, Item, Op, Operation, InFlight}
-use Rattle.ring_core.specs.Queue.{take_one, take_each, take_all, at_place}
-use Rattle.ring_core.specs.Turn.{with_reap, reap_one, reap_each, ops_in, task_woken, tasks_woken}
+use Rattle.ring_core.specs.Ledger.{Ledger, Queued, Req, Cancel, Item, Op, Operation, Place, InQueue, InFlight, InDone, Reaped, Gone, is_kept, is_owned}
+use Rattle.ring_core.specs.Queue.{take_one, take_each, take_all, make_room, at_place, with_op, with_cancel}
+use Rattle.ring_core.specs.Turn.{with_reap, reaped_place, reap_if, reap_op, reap_one, reap_each, ops_in, task_woken, tasks_woken}
 use Rattle.ring_core.specs.Run.{ledger}
 use Rattle.ring_core.proofs.Amended.{get-amended-same, get-amended-other, get-amended-none, length-amended}
 use Rattle.uring_driver.specs.declared.op.Stop.{Stop}
 use Rattle.uring_driver.specs.declared.slot.Slot.{Slot}
 use Rattle.uring_driver.specs.declared.driver.IoUringDriver.{IoUringDriver}
-use Rattle.uring_driver.specs.Driver.{ring_in, is_among}
+use Rattle.uring_driver.specs.Driver.{ring_in, room_in, pending, whole_ring, is_among}
+use Rattle.uring_driver.specs.Outbox.{room_made}
 use Rattle.uring_driver.specs.Stands.{Means, Stands, Answers}
 use Rattle.uring_driver.specs.Reap.{TookOff, TreatsOne, ReapsAll}
 use Rattle.uring_driver.specs.Turned.{TurnsFor}
 use Rattle.uring_driver.specs.declared.op.Turned.{Turned}
 use Rattle.uring_driver.specs.declared.op.Stop.TheVariants.{Busy}
-use Rattle.uring_driver.proofs.Lists.{same-or-not}
+use Rattle.uring_driver.proofs.Lists.{same-or-not, amended-absent, amended-like}
+use Rattle.uring_driver.proofs.Counts.{where-all}
+use Rattle.uring_driver.proofs.Taking.{owned-taken}
 use Rattle.uring_driver.proofs.Steps.{step-turn, reached-more}
 
--- A reap keeps the tasks of operations.
-task-kept : (ops : List Operation) (n m : ℕ) (x : Option Operation) → slice_get ops m ≡ x → task_woken (slice_get (amended ops n with_reap) m) ≡ task_woken x
-task-kept ops n m None h = ap task_woken (get-amended-none with_reap ops n m h)
+-- What a reap does to its operation: a dropped one leaves, another is reaped.
+abbrev reap_by : Bool → Operation → Operation
+reap_by true o = at_place Gone o
+reap_by false o = with_reap o
+
+abbrev pub reap_change : Operation → Operation
+reap_change o = reap_by o.dropped o
+
+reap-if : (L : Ledger) (n : ℕ) (o : Operation) (b : Bool) → slice_get L.ops n ≡ Some o → o.dropped ≡ b → reap_if b L n ≡ with_op L n reap_change
+reap-if L n o true h d = ap (λ ops. record L { ops = ops }) (amended-like L.ops n (at_place Gone) reap_change o h (sym (ap (λ b. reap_by b o) d)))
+reap-if L n o false h d = ap (λ ops. record L { ops = ops }) (amended-like L.ops n with_reap reap_change o h (sym (ap (λ b. reap_by b o) d)))
+
+reap-looked : (L : Ledger) (n : ℕ) (x : Option Operation) → slice_get L.ops n ≡ x → reap_op L n x ≡ with_op L n reap_change
+reap-looked L n None h = ap (λ ops. record L { ops = ops }) (sym (amended-absent L.ops n reap_change h))
+reap-looked L n (Some o) h = reap-if L n o o.dropped h refl
+
+-- A completion changes its operation, and nothing else.
+pub reap-one : (L : Ledger) (n : ℕ) → reap_one L (Op n) ≡ with_op L n reap_change
+reap-one L n = reap-looked L n (slice_get L.ops n) refl
+
+-- A reap keeps the tasks of operations, and to whom they belong.
+task-by : (b : Bool) (o : Operation) → task_woken (Some (reap_by b o)) ≡ task_woken (Some o)
+task-by true o = refl
+task-by false o = refl
+
+and-false : (b : Bool) → (b && false) ≡ false
+and-false true = refl
+and-false false = refl
+
+kept-reaped : (p : Place) → is_kept (reaped_place p) ≡ is_kept p
+kept-reaped InQueue = refl
+kept-reaped InFlight = refl
+kept-reaped (InDone r) = refl
+kept-reaped (Reaped r) = refl
+kept-reaped Gone = refl
+
+owned-by : (b : Bool) (o : Operation) → o.dropped ≡ b → is_owned (reap_by b o) ≡ is_owned o
+owned-by true o d = sym (ap (λ x. is_kept o.place && not x) d ∙ and-false (is_kept o.place))
+owned-by false o d = ap (λ x. x && not o.dropped) (kept-reaped o.place)
+
+owned-reap_each : (L : Ledger) (items : List Item) → length (numbers_where is_owned 0 (reap_each L items).ops) ≡ length (numbers_where is_owned 0 L.ops)
+owned-reap_each L [] = refl
+owned-reap_each L (Op n ∷ items) = owned-reap_each (reap_one L (Op n)) items ∙ ap (λ K. length (numbers_where is_owned 0 K.ops)) (reap-one L n) ∙ where-all is_owned reap_change L.ops n (λ o. owned-by o.dropped o refl)
+
+task-kept : (ops : List Operation) (n m : ℕ) (x : Option Operation) → slice_get ops m ≡ x → task_woken (slice_get (amended ops n reap_change) m) ≡ task_woken x
+task-kept ops n m None h = ap task_woken (get-amended-none reap_change ops n m h)
 task-kept ops n m (Some o) h = elim (same-or-not m n) [
-  | inl e ↦ ap (λ k. task_woken (slice_get (amended ops n with_reap) k)) e ∙ ap task_woken (get-amended-same with_reap ops n o (ap (slice_get ops) (sym e) ∙ h))
-  | inr e ↦ ap task_woken (get-amended-other with_reap ops n m e ∙ h)
+  | inl e ↦ ap (λ k. task_woken (slice_get (amended ops n reap_change) k)) e ∙ ap task_woken (get-amended-same reap_change ops n o (ap (slice_get ops) (sym e) ∙ h)) ∙ task-by o.dropped o
+  | inr e ↦ ap task_woken (get-amended-other reap_change ops n m e ∙ h)
 ]
 
-tasks-kept : (numbers : List ℕ) (ops : List Operation) (n : ℕ) → tasks_woken (amended ops n with_reap) numbers ≡ tasks_woken ops numbers
+tasks-kept : (numbers : List ℕ) (ops : List Operation) (n : ℕ) → tasks_woken (amended ops n reap_change) numbers ≡ tasks_woken ops numbers
 tasks-kept [] ops n = refl
-tasks-kept (m ∷ numbers) ops n = ap (λ x. x ++ tasks_woken (amended ops n with_reap) numbers) (task-kept ops n m (slice_get ops m) refl) ∙ ap (λ x. task_woken (slice_get ops m) ++ x) (tasks-kept numbers ops n)
+tasks-kept (m ∷ numbers) ops n = ap (λ x. x ++ tasks_woken (amended ops n reap_change) numbers) (task-kept ops n m (slice_get ops m) refl) ∙ ap (λ x. task_woken (slice_get ops m) ++ x) (tasks-kept numbers ops n)
 
 -- A ledger whose completions were all reaped.
 abbrev pub reaped_out : Ledger → Ledger
@@ -43,18 +89,18 @@ reaped_out L = reap_each (record L { done = [] }) L.done
 
 -- What is left after one completion was treated ends as the whole does.
 module _ {B : Type 0} (buffer : B → Buffer) (M : Ledger) (v : RingView) (slots : FinMap nat_cmp (Slot B)) (r r' w w' : List ℕ) (one : TreatsOne buffer M v slots r r' w w') where
-  abbrev pub after_one : Ledger
-  after_one = reap_one (record M { done = one.rest }) (Op one.number)
+  pub means-one : Means buffer v slots (with_op (record M { done = one.rest }) one.number reap_change)
+  means-one = subst (λ K. Means buffer v slots K) (reap-one (record M { done = one.rest }) one.number) one.means
 
-  pub all-same : reaped_out (reap_one (record M { done = one.rest }) (Op one.number)) ≡ reaped_out M
-  all-same = sym (ap (λ d. reap_each (record M { done = [] }) d) one.first)
+  pub all-same : reaped_out (with_op (record M { done = one.rest }) one.number reap_change) ≡ reaped_out M
+  all-same = ap (λ K. reap_each K one.rest) (sym (reap-one (record M { done = [] }) one.number)) ∙ sym (ap (λ d. reap_each (record M { done = [] }) d) one.first)
 
   pub numbers-same : r' ++ ops_in one.rest ≡ r ++ ops_in M.done
   numbers-same = ap (λ x. x ++ ops_in one.rest) one.named ∙ append_assoc r (one.number ∷ []) (ops_in one.rest) ∙ ap (λ d. r ++ ops_in d) (sym one.first)
 
-  pub woken-same : w' ++ tasks_woken (amended M.ops one.number with_reap) (ops_in one.rest) ≡ w ++ tasks_woken M.ops (ops_in M.done)
+  pub woken-same : w' ++ tasks_woken (amended M.ops one.number reap_change) (ops_in one.rest) ≡ w ++ tasks_woken M.ops (ops_in M.done)
   woken-same =
-      ap (λ x. x ++ tasks_woken (amended M.ops one.number with_reap) (ops_in one.rest)) one.woke
+      ap (λ x. x ++ tasks_woken (amended M.ops one.number reap_change) (ops_in one.rest)) one.woke
       ∙ ap (λ x. (w ++ task_woken (slice_get M.ops one.number)) ++ x) (tasks-kept (ops_in one.rest) M.ops one.number)
       ∙ append_assoc w (task_woken (slice_get M.ops one.number)) (tasks_woken M.ops (ops_in one.rest))
       ∙ ap (λ d. w ++ tasks_woken M.ops (ops_in d)) (sym one.first)
@@ -85,9 +131,11 @@ took-on a b c f g = record {
 -- Taking and reaping keep how many operations there are, and the handles.
 length-take_one : (L : Ledger) (q : Queued) → length (take_one L q).ops ≡ length L.ops
 length-take_one L (Req n) = length-amended (at_place InFlight) L.ops n
+length-take_one L (Cancel n) = length-amended with_cancel L.ops n
 
 world-take_one : (L : Ledger) (q : Queued) → (take_one L q).world ≡ L.world
 world-take_one L (Req n) = refl
+world-take_one L (Cancel n) = refl
 
 pub length-take_each : (L : Ledger) (qs : List Queued) → length (take_each L qs).ops ≡ length L.ops
 length-take_each L [] = refl
@@ -98,10 +146,10 @@ world-take_each L [] = refl
 world-take_each L (q ∷ qs) = world-take_each (take_one L q) qs ∙ world-take_one L q
 
 length-reap_one : (L : Ledger) (item : Item) → length (reap_one L item).ops ≡ length L.ops
-length-reap_one L (Op n) = length-amended with_reap L.ops n
+length-reap_one L (Op n) = ap (λ K. length K.ops) (reap-one L n) ∙ length-amended reap_change L.ops n
 
 world-reap_one : (L : Ledger) (item : Item) → (reap_one L item).world ≡ L.world
-world-reap_one L (Op n) = refl
+world-reap_one L (Op n) = ap (λ K. K.world) (reap-one L n)
 
 length-reap_each : (L : Ledger) (items : List Item) → length (reap_each L items).ops ≡ length L.ops
 length-reap_each L [] = refl
@@ -113,23 +161,46 @@ world-reap_each L (item ∷ items) = world-reap_each (reap_one L item) items ∙
 
 capacity-take_one : (L : Ledger) (q : Queued) → (take_one L q).capacity ≡ L.capacity
 capacity-take_one L (Req n) = refl
+capacity-take_one L (Cancel n) = refl
 
 pub capacity-take_each : (L : Ledger) (qs : List Queued) → (take_each L qs).capacity ≡ L.capacity
 capacity-take_each L [] = refl
 capacity-take_each L (q ∷ qs) = capacity-take_each (take_one L q) qs ∙ capacity-take_one L q
 
 capacity-reap_one : (L : Ledger) (item : Item) → (reap_one L item).capacity ≡ L.capacity
-capacity-reap_one L (Op n) = refl
+capacity-reap_one L (Op n) = ap (λ K. K.capacity) (reap-one L n)
 
 capacity-reap_each : (L : Ledger) (items : List Item) → (reap_each L items).capacity ≡ L.capacity
 capacity-reap_each L [] = refl
 capacity-reap_each L (item ∷ items) = capacity-reap_each (reap_one L item) items ∙ capacity-reap_one L item
 
+-- Making room keeps how many operations there are, the handles and the capacity.
+room-length-by : (L : Ledger) (b : Bool) → length (if b then take_all L else L).ops ≡ length L.ops
+room-length-by L true = length-take_each (record L { queue = [] }) L.queue
+room-length-by L false = refl
+
+room-world-by : (L : Ledger) (b : Bool) → (if b then take_all L else L).world ≡ L.world
+room-world-by L true = world-take_each (record L { queue = [] }) L.queue
+room-world-by L false = refl
+
+pub room-length : (L : Ledger) → length (make_room L).ops ≡ length L.ops
+room-length L = room-length-by L (length L.queue == L.capacity)
+
+pub room-world : (L : Ledger) → (make_room L).world ≡ L.world
+room-world L = room-world-by L (length L.queue == L.capacity)
+
+room-capacity-by : (v : RingView) (b : Bool) → (if b then entered v else v).capacity ≡ v.capacity
+room-capacity-by v true = refl
+room-capacity-by v false = refl
+
+pub room-capacity : (v : RingView) → (room_made v).capacity ≡ v.capacity
+room-capacity v = room-capacity-by v (length v.queue == v.capacity)
+
 module _ {R B : Type 0} (view : R → RingView) (buffer : B → Buffer) where
   -- A turn of which all was treated.
-  pub stands-turns : (d new : IoUringDriver R B) (L : Ledger) (reaped0 reaped closed woke0 woke : List ℕ) (stop : Option Stop) → Stands view buffer d L → ReapsAll buffer (take_all L) (view (ring_in new)) new.slots.values reaped0 reaped woke0 woke stop →
-      reaped0 ≡ [] → woke0 ≡ [] → closed ≡ [] → new.given ≡ d.given → new.first ≡ d.first → new.held ≡ d.held → Answers view buffer L Turn (TurnReply reaped closed woke) new
-  stands-turns d new L reaped0 reaped closed woke0 woke stop old all r0 w0 c0 given first held =
+  pub stands-turns : (d new : IoUringDriver R B) (L : Ledger) (reaped0 reaped closed woke0 woke : List ℕ) (stop : Option Stop) → Stands view buffer d L → ReapsAll buffer (take_all L) (whole_ring view new) new.slots.values reaped0 reaped woke0 woke stop →
+      reaped0 ≡ [] → woke0 ≡ [] → closed ≡ [] → room_in new ≡ room_in d → pending view new ≡ [] → new.given ≡ d.given → new.first ≡ d.first → new.held ≡ d.held → Answers view buffer L Turn (TurnReply reaped closed woke) new
+  stands-turns d new L reaped0 reaped closed woke0 woke stop old all r0 w0 c0 room none given first held =
       let M = take_all L in
       let K = reap_each (record M { done = [] }) M.done in
       let rs : reaped ≡ ops_in M.done = all.named ∙ ap (λ x. x ++ ops_in M.done) r0 in
@@ -144,16 +215,18 @@ module _ {R B : Type 0} (view : R → RingView) (buffer : B → Buffer) where
           reached = sym (ap (λ x. x.0) e) ∙ reached-more L (view (ring_in new)).capacity old.events Turn (old.reached ∙ ap (λ x. ledger x old.events) (old.means.capacity ∙ sym (capacity-reap_each (record M { done = [] }) M.done ∙ capacity-take_each (record L { queue = [] }) L.queue) ∙ sym all.means.capacity));
           numbered = given ∙ old.numbered ∙ sym long;
           handles = λ h. ap (λ k. is_among k new.held h) first ∙ ap (λ k. is_among d.first k h) held ∙ old.handles h ∙ ap (λ xs. nat_lt h (length xs)) (sym world);
+          room = (let a = owned-reap_each (record M { done = [] }) M.done in let b = owned-taken buffer (whole_ring view d) d.slots.values L old.means in let c = ap (λ x. length (numbers_where is_owned 0 x.0.ops)) e in let r = old.room in omega (arith, a, b, c, r, room));
+          fits = (let n = ap length none in omega (arith, n));
           means = all.means;
         });
       }
 
   -- What a turn answers where all was treated: the machine's reply.
-  pub turns-none : (d new : IoUringDriver R B) (steady : Bool) (L : Ledger) (turned : Turned) (reaped0 reaped woke0 woke : List ℕ) (bad : Option Stop) → Stands view buffer d L → ReapsAll buffer (take_all L) (view (ring_in new)) new.slots.values reaped0 reaped woke0 woke bad →
-      reaped0 ≡ [] → woke0 ≡ [] → turned.reaped ≡ reaped → turned.closed ≡ [] → turned.woken ≡ woke → turned.stop ≡ bad → new.given ≡ d.given → new.first ≡ d.first → new.held ≡ d.held → TurnsFor view buffer steady L d new turned turned.stop
-  turns-none d new steady L turned reaped0 reaped woke0 woke bad old all r0 w0 r c w s given first held =
+  pub turns-none : (d new : IoUringDriver R B) (steady : Bool) (L : Ledger) (turned : Turned) (reaped0 reaped woke0 woke : List ℕ) (bad : Option Stop) → Stands view buffer d L → ReapsAll buffer (take_all L) (whole_ring view new) new.slots.values reaped0 reaped woke0 woke bad →
+      reaped0 ≡ [] → woke0 ≡ [] → turned.reaped ≡ reaped → turned.closed ≡ [] → turned.woken ≡ woke → turned.stop ≡ bad → room_in new ≡ room_in d → pending view new ≡ [] → new.given ≡ d.given → new.first ≡ d.first → new.held ≡ d.held → TurnsFor view buffer steady L d new turned turned.stop
+  turns-none d new steady L turned reaped0 reaped woke0 woke bad old all r0 w0 r c w s room none given first held =
       subst (λ x. TurnsFor view buffer steady L d new turned x) (sym (s ∙ all.no_stop))
-      (stands-turns d new L reaped0 turned.reaped turned.closed woke0 turned.woken bad old (record { no_stop = all.no_stop; means = all.means; named = r ∙ all.named; woken_are = w ∙ all.woken_are }) r0 w0 c given first held)
+      (stands-turns d new L reaped0 turned.reaped turned.closed woke0 turned.woken bad old (record { no_stop = all.no_stop; means = all.means; named = r ∙ all.named; woken_are = w ∙ all.woken_are }) r0 w0 c room none given first held)
 
   -- One that was busy, over a ring that may be.
   pub turns-busy : (d new : IoUringDriver R B) (steady : Bool) (L : Ledger) (turned : Turned) → turned.stop ≡ Some Busy → (IsTrue steady → ⊥) → TurnsFor view buffer steady L d new turned turned.stop

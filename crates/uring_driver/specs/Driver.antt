@@ -1,11 +1,30 @@
 -- What the readers of a driver show. Cited by `IoUringDriver` and by whoever holds one.
-use Rattle.std.specs.Prelude.{ℕ, ◌≡◌, ◌+◌, ◌-◌, ◌⊎◌, ◌==◌, if◌then◌else◌, Bool, true, ◌&&◌, nat_lt, nat_le, List, [], ◌∷◌}
+use Rattle.std.specs.Prelude.{ℕ, ◌≡◌, ◌+◌, ◌-◌, ◌⊎◌, ◌==◌, if◌then◌else◌, Bool, true, ◌&&◌, nat_lt, nat_le, List, [], ◌∷◌, ◌++◌}
 use Rattle.std.specs.FinMap as map
+use Rattle.ring_core.specs.declared.entry.Entry.{Entry}
+use Rattle.ring_core.specs.Ring.{RingView}
 use Rattle.uring_driver.specs.declared.driver.IoUringDriver.{IoUringDriver}
+use Rattle.uring_driver.specs.Outbox.{pending_ring}
 
 -- The driver's ring.
 abbrev pub ring_in : {R B : Type 0} → IoUringDriver R B → R
-ring_in driver = driver.ring.0
+ring_in driver = driver.ring.ring
+
+-- The entries that a failed or busy enter kept out of the ring, oldest first.
+abbrev pub due_in : {R B : Type 0} → IoUringDriver R B → List Entry
+due_in driver = driver.ring.due
+
+-- For how many entries memory is reserved, beyond those that are due.
+abbrev pub room_in : {R B : Type 0} → IoUringDriver R B → ℕ
+room_in driver = driver.ring.room
+
+-- What is pending: the ring's queue, then what is due.
+abbrev pub pending : {R B : Type 0} → (R → RingView) → IoUringDriver R B → List Entry
+pending view driver = (view (ring_in driver)).queue ++ due_in driver
+
+-- The driver's ring, with what is due behind its queue.
+abbrev pub whole_ring : {R B : Type 0} → (R → RingView) → IoUringDriver R B → RingView
+whole_ring view driver = pending_ring view driver.ring
 
 -- How many slots are live.
 abbrev pub live_slots : {R B : Type 0} → IoUringDriver R B → ℕ

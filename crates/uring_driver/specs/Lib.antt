@@ -1,7 +1,8 @@
-pub mod Op
-pub mod Roomy
-pub mod Driver
+pub mod Pending
+pub mod Outbox
 pub mod Slot
+pub mod Driver
+pub mod Op
 pub mod Slots
 pub mod Lists
 pub mod Stands
@@ -10,3 +11,5 @@ pub mod PollOp
 pub mod Executed
 pub mod Reap
 pub mod Turned
+pub mod Begun
+pub mod Parked

@@ -1,25 +1,31 @@
 -- What the lists of a ring mean in the ledger. Its entries are read by serials there; the ring itself compares words alone. Cited by `Stands`.
-use Rattle.std.specs.Prelude.{ℕ, ◌≡◌, Bool, true, false, nat_le, List, [], ◌∷◌, map, Some, slice_get}
+use Rattle.std.specs.Prelude.{ℕ, ◌≡◌, ◌<◌, Bool, true, false, nat_le, List, [], ◌∷◌, map, Some, slice_get}
 use Rattle.std.specs.Ordering.{nat_cmp}
 use Rattle.std.specs.FinMap as finite
 use Rattle.rent_buf.specs.Buffer.{Buffer}
 use Rattle.ring_core.specs.declared.entry.Body.{Body}
-use Rattle.ring_core.specs.declared.entry.Body.TheVariants.{Call as Calls}
+use Rattle.ring_core.specs.declared.entry.Body.TheVariants.{Call as Calls, Cancel as Cancels}
 use Rattle.ring_core.specs.declared.entry.Entry.{Entry}
 use Rattle.ring_core.specs.declared.entry.Flight.{Flight}
 use Rattle.ring_core.specs.declared.entry.Completion.{Completion}
 use Rattle.ring_core.specs.Request.{call_of, plain_request}
 use Rattle.ring_core.specs.Ring.{RingView}
-use Rattle.ring_core.specs.Ledger.{Ledger, Queued, Req, Item, Op, Operation, Place, InQueue, InFlight, InDone}
+use Rattle.ring_core.specs.Ledger.{Ledger, Queued, Req, Cancel, Item, Op, Operation, Place, InQueue, InFlight, InDone}
 use Rattle.uring_driver.specs.declared.slot.Slot.{Slot}
 
 -- What an entry with a body means in the queue.
 abbrev pub queued_in : Entry → Body → Queued
 queued_in entry (Calls call) = Req entry.serial
+queued_in entry (Cancels key) = Cancel entry.serial
 
 -- What an entry means in the queue.
 abbrev pub queued_of : Entry → Queued
 queued_of entry = queued_in entry entry.body
+
+-- A body is that of a call.
+abbrev pub is_call : Body → Bool
+is_call (Calls call) = true
+is_call (Cancels key) = false
 
 -- What an entry in flight means.
 abbrev pub item_of : Flight → Item
@@ -53,6 +59,13 @@ pub record IsAt (ops : List Operation) (number : ℕ) (place : Place) : Type 0 w
   pub there : slice_get ops number ≡ Some operation
   pub stays : operation.place ≡ place
 
+-- An entry in flight is marked exactly where its operation's cancel was taken.
+pub record IsFlown (ops : List Operation) (flight : Flight) : Type 0 where
+  pub operation : Operation
+  pub there : slice_get ops flight.entry.serial ≡ Some operation
+  pub stays : operation.place ≡ InFlight
+  pub marked : flight.marked ≡ operation.canceled
+
 -- An entry's word is the key of the slot that has its serial, and it asks for that slot's request.
 pub record EntryFor {B : Type 0} (buffer : B → Buffer) (slots : finite.FinMap nat_cmp (Slot B)) (entry : Entry) : Type 0 where
   pub slot : Slot B
@@ -66,19 +79,36 @@ pub record CompletionFor {B : Type 0} (slots : finite.FinMap nat_cmp (Slot B)) (
   pub there : finite.get slots completion.word ≡ Some slot
   pub serial : slot.serial ≡ completion.serial
 
--- What stands in the queue, by its body: a call is that of an operation that is queued.
+-- What stands in the queue, by its body: a call is that of an operation that is queued, and the word of a cancel is reserved.
 abbrev pub QueuedFor : {B : Type 0} → (B → Buffer) → finite.FinMap nat_cmp (Slot B) → List Operation → Entry → Body → Type 0
 QueuedFor buffer slots ops entry (Calls call) = EntryFor buffer slots entry × IsAt ops entry.serial InQueue
+QueuedFor buffer slots ops entry (Cancels key) = entry.word ≡ 18446744073709551615
+
+-- An entry has a cancel's key exactly where it has the cancel's number.
+pub record Meets (entry : Entry) (key number : ℕ) : Type 0 where
+  pub by_word : entry.word ≡ key → entry.serial ≡ number
+  pub by_serial : entry.serial ≡ number → entry.word ≡ key
+
+-- A cancel in the queue names a key and means a number: these are the same of each call before it in the queue, and of all that
+-- is in flight. So the ring, which compares keys, marks what the ledger marks, however keys were used again.
+pub record CancelsMean (queue : List Entry) (flying : List Flight) : Type 0 where
+  pub before : (i j : ℕ) (entry cancel : Entry) (key : ℕ) → slice_get queue i ≡ Some entry → slice_get queue j ≡ Some cancel → cancel.body ≡ Cancels key → i < j → is_call entry.body ≡ true → Meets entry key cancel.serial
+  pub flown : (i j : ℕ) (flight : Flight) (cancel : Entry) (key : ℕ) → slice_get flying i ≡ Some flight → slice_get queue j ≡ Some cancel → cancel.body ≡ Cancels key → Meets flight.entry key cancel.serial
+
+-- No call stands twice in a queue.
+abbrev pub OnceQueued : List Entry → Type 0
+OnceQueued queue = (i j : ℕ) (x y : Entry) → slice_get queue i ≡ Some x → slice_get queue j ≡ Some y → is_call x.body ≡ true → is_call y.body ≡ true → x.serial ≡ y.serial → i ≡ j
 
 -- The three lists of a ring, read by serials, are those of the ledger; each word in them is the key of the slot of that serial;
--- an operation's completion has its outcome; and no operation stands twice in a list.
+-- an operation's completion has its outcome; no operation stands twice in a list; and each cancel means its operation.
 pub record ListsStand {B : Type 0} (buffer : B → Buffer) (slots : finite.FinMap nat_cmp (Slot B)) (view : RingView) (L : Ledger) : Type 0 where
   pub queue : L.queue ≡ map queued_of view.queue
   pub flying : L.flying ≡ map item_of view.flying
   pub done : L.done ≡ map done_item_of (kept view.done)
   pub in_queue : (i : ℕ) (entry : Entry) → slice_get view.queue i ≡ Some entry → QueuedFor buffer slots L.ops entry entry.body
-  pub in_flight : (i : ℕ) (flight : Flight) → slice_get view.flying i ≡ Some flight → EntryFor buffer slots flight.entry × IsAt L.ops flight.entry.serial InFlight
+  pub in_flight : (i : ℕ) (flight : Flight) → slice_get view.flying i ≡ Some flight → EntryFor buffer slots flight.entry × IsFlown L.ops flight
   pub in_done : (i : ℕ) (completion : Completion) → slice_get (kept view.done) i ≡ Some completion → CompletionFor slots completion × IsAt L.ops completion.serial (InDone completion.outcome)
-  pub queue_once : Once (λ entry. entry.serial) view.queue
+  pub queue_once : OnceQueued view.queue
   pub flight_once : Once (λ flight. flight.entry.serial) view.flying
   pub done_once : Once (λ completion. completion.serial) (kept view.done)
+  pub cancels : CancelsMean view.queue view.flying

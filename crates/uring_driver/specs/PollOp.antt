@@ -1,5 +1,5 @@
 -- What a poll answers.
-use Rattle.std.specs.Prelude.{ℕ, ◌≡◌, ◌≢◌, ◌↔◌, Option, Some, None, slice_get}
+use Rattle.std.specs.Prelude.{ℕ, ◌≡◌, Option, Some, None, slice_get}
 use Rattle.rent_buf.specs.Buffer.{Buffer}
 use Rattle.ring_core.specs.declared.ledger.Event.TheVariants.{Poll}
 use Rattle.ring_core.specs.declared.ledger.Reply.TheVariants.{Pending as Waits, Handed}
@@ -10,7 +10,7 @@ use Rattle.uring_driver.specs.declared.op.Op.{Op}
 use Rattle.uring_driver.specs.declared.op.PollOp.{PollOp}
 use Rattle.uring_driver.specs.declared.op.PollOp.TheVariants.{Pending, Ready}
 use Rattle.uring_driver.specs.declared.driver.IoUringDriver.{IoUringDriver}
-use Rattle.uring_driver.specs.Op.{number_of, Holds, KeepsTokens}
+use Rattle.uring_driver.specs.Op.{number_of, KeepsTokens, DropsToken}
 use Rattle.uring_driver.specs.Stands.{Answers}
 
 -- A poll answers what the machine does. What is ready has its outcome and its buffer.
@@ -21,7 +21,7 @@ PollsFor view buffer L op task new (Ready done) = Answers view buffer L (Poll (n
 -- A poll that is pending hands its token back, and keeps all. One that is ready keeps all but this one.
 abbrev pub PollsTokens : {R B : Type 0} → IoUringDriver R B → IoUringDriver R B → Op → PollOp B → Type 0
 PollsTokens old new op (Pending back) = (back ≡ op) × KeepsTokens old new
-PollsTokens old new op (Ready done) = (other : Op) → Holds new other ↔ (Holds old other × (other ≢ op))
+PollsTokens old new op (Ready done) = DropsToken old new op
 
 -- The answer is Pending.
 abbrev pub IsPending : {B : Type 0} → PollOp B → Type 0

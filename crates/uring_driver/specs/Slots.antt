@@ -4,7 +4,7 @@ use Rattle.std.specs.Ordering.{nat_cmp}
 use Rattle.std.specs.FinMap as map
 use Rattle.rent_buf.specs.Buffer.{Buffer}
 use Rattle.op_slots.specs.declared.lifecycle.Lifecycle.{Lifecycle}
-use Rattle.op_slots.specs.declared.lifecycle.Lifecycle.TheVariants.{Submitted, Waiting, Completed}
+use Rattle.op_slots.specs.declared.lifecycle.Lifecycle.TheVariants.{Submitted, Waiting, Ignored, Completed}
 use Rattle.ring_core.specs.declared.request.Outcome.{Outcome}
 use Rattle.ring_core.specs.Lists.{numbers_where}
 use Rattle.ring_core.specs.Request.{plain_request, with_buffer, buffer_of}
@@ -17,12 +17,21 @@ waiting None = Submitted
 waiting (Some task) = Waiting task
 
 -- A slot's life, by the place of its operation and the task that waits for it. One that is gone has no slot.
-abbrev pub life_at : Place → Option ℕ → Lifecycle Outcome
-life_at InQueue task = waiting task
-life_at InFlight task = waiting task
-life_at (InDone outcome) task = waiting task
-life_at (Reaped outcome) task = Completed outcome
-life_at Gone task = Submitted
+abbrev pub owned_life : Place → Option ℕ → Lifecycle Outcome
+owned_life InQueue task = waiting task
+owned_life InFlight task = waiting task
+owned_life (InDone outcome) task = waiting task
+owned_life (Reaped outcome) task = Completed outcome
+owned_life Gone task = Submitted
+
+-- A slot's life, by whether its operation was dropped: it is ignored from the drop on.
+abbrev pub life_of : Bool → Place → Option ℕ → Lifecycle Outcome
+life_of true place task = Ignored
+life_of false place task = owned_life place task
+
+-- The life of an operation's slot.
+abbrev pub life_at : Operation → Lifecycle Outcome
+life_at operation = life_of operation.dropped operation.place operation.task
 
 -- An operation is queued or in flight: it wasn't executed.
 abbrev pub is_early : Place → Bool
@@ -31,14 +40,15 @@ is_early InFlight = true
 is_early _ = false
 
 -- A slot holds an operation that isn't gone: its number, its request with its buffer, and its stage of life.
--- Until the operation is executed its buffer is the one that was submitted.
+-- Until the operation is executed its buffer is the one that was submitted, and while it is queued no cancel of it was taken.
 pub record SlotFor {B : Type 0} (buffer : B → Buffer) (ops : List Operation) (slot : Slot B) : Type 0 where
   pub operation : Operation
   pub there : slice_get ops slot.serial ≡ Some operation
   pub live : is_live operation ≡ true
   pub request : plain_request buffer slot.request ≡ with_buffer operation.request operation.buffer
-  pub life : slot.life ≡ life_at operation.place operation.task
+  pub life : slot.life ≡ life_at operation
   pub fresh : is_early operation.place ≡ true → operation.buffer ≡ buffer_of operation.request
+  pub uncanceled : operation.place ≡ InQueue → operation.canceled ≡ false
 
 -- A live slot has a number.
 pub record HasSlot {B : Type 0} (slots : map.FinMap nat_cmp (Slot B)) (number : ℕ) : Type 0 where

@@ -1,17 +1,18 @@
 -- When a driver stands for a ledger. Each call of the driver cites it, before and after, and so does whoever holds a driver.
-use Rattle.std.specs.Prelude.{ℕ, ◌≡◌, List, length}
+use Rattle.std.specs.Prelude.{ℕ, ◌≡◌, ◌≤◌, List, length}
 use Rattle.std.specs.Ordering.{nat_cmp}
 use Rattle.std.specs.FinMap as map
 use Rattle.rent_buf.specs.Buffer.{Buffer}
 use Rattle.ring_core.specs.declared.ledger.Event.{Event}
 use Rattle.ring_core.specs.declared.ledger.Reply.{Reply}
-use Rattle.ring_core.specs.Ledger.{Ledger, user_holds}
+use Rattle.ring_core.specs.Lists.{numbers_where}
+use Rattle.ring_core.specs.Ledger.{Ledger, is_owned, user_holds}
 use Rattle.ring_core.specs.Step.{step}
 use Rattle.ring_core.specs.Run.{ledger}
 use Rattle.ring_core.specs.Ring.{RingView}
 use Rattle.uring_driver.specs.declared.slot.Slot.{Slot}
 use Rattle.uring_driver.specs.declared.driver.IoUringDriver.{IoUringDriver}
-use Rattle.uring_driver.specs.Driver.{ring_in, given_by, holds_handle}
+use Rattle.uring_driver.specs.Driver.{ring_in, room_in, pending, whole_ring, given_by, holds_handle}
 use Rattle.uring_driver.specs.Slots.{SlotsStand}
 use Rattle.uring_driver.specs.Lists.{ListsStand}
 
@@ -23,13 +24,16 @@ pub record Means {B : Type 0} (buffer : B → Buffer) (view : RingView) (slots :
   pub in_lists : ListsStand buffer slots view L
 
 -- A driver stands for a ledger that some events led to, from the empty one of its ring's capacity. `view` reads its ring, and
--- `buffer` its buffers. The next operation has the next number, and the user holds the ledger's handles.
+-- `buffer` its buffers. Its ring's queue, followed by what is due, is the ledger's queue, and fits the ring's. The next operation
+-- has the next number, and the user holds the ledger's handles. For each operation that its user may drop room is reserved.
 pub record Stands {R B : Type 0} (view : R → RingView) (buffer : B → Buffer) (driver : IoUringDriver R B) (L : Ledger) : Type 0 where
   pub events : List Event
   pub reached : L ≡ ledger (view (ring_in driver)).capacity events
   pub numbered : given_by driver ≡ length L.ops
   pub handles : (h : ℕ) → holds_handle driver h ≡ user_holds L h
-  pub means : Means buffer (view (ring_in driver)) driver.slots.values L
+  pub room : length (numbers_where is_owned 0 L.ops) ≤ room_in driver
+  pub fits : length (pending view driver) ≤ (view (ring_in driver)).capacity
+  pub means : Means buffer (whole_ring view driver) driver.slots.values L
 
 -- A call's answer is the machine's reply to its event, and the driver stands for the machine's next ledger.
 pub record Answers {R B : Type 0} (view : R → RingView) (buffer : B → Buffer) (L : Ledger) (event : Event) (reply : Reply) (new : IoUringDriver R B) : Type 0 where

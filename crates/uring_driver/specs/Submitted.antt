@@ -1,5 +1,5 @@
 -- What a submission answers.
-use Rattle.std.specs.Prelude.{ℕ, ◌≡◌, ◌+◌, ◌<◌, ◌⊎◌, Bool, IsTrue, Result, Ok, Err, length}
+use Rattle.std.specs.Prelude.{ℕ, ◌≡◌, ◌+◌, ◌<◌, ◌≤◌, ◌⊎◌, Bool, IsTrue, List, [], ◌∷◌, Result, Ok, Err, length}
 use Rattle.std.specs.FinMap as map
 use Rattle.rent_buf.specs.Buffer.{Buffer}
 use Rattle.op_slots.specs.Slots.{Slots}
@@ -7,7 +7,8 @@ use Rattle.ring_core.specs.declared.request.Request.{Request}
 use Rattle.ring_core.specs.declared.ledger.Event.TheVariants.{Submit}
 use Rattle.ring_core.specs.declared.ledger.Reply.TheVariants.{Submitted as Given}
 use Rattle.ring_core.specs.Counts.{Rose}
-use Rattle.ring_core.specs.Request.{plain_request}
+use Rattle.ring_core.specs.declared.entry.Entry.{Entry}
+use Rattle.ring_core.specs.Request.{call_of, plain_request}
 use Rattle.ring_core.specs.Ledger.{Ledger}
 use Rattle.ring_core.specs.Ring.{RingView}
 use Rattle.uring_driver.specs.declared.op.Op.{Op as Token}
@@ -18,9 +19,10 @@ use Rattle.uring_driver.specs.declared.op.SubmitFault.{SubmitFault}
 use Rattle.uring_driver.specs.declared.op.SubmitFault.TheVariants.{Full, RingFault, Busy, OutOfMemory}
 use Rattle.uring_driver.specs.declared.slot.Slot.{Slot}
 use Rattle.uring_driver.specs.declared.driver.IoUringDriver.{IoUringDriver}
-use Rattle.uring_driver.specs.Driver.{ring_in}
-use Rattle.uring_driver.specs.Op.{number_of, Holds}
-use Rattle.uring_driver.specs.Roomy.{IsSameButRoom}
+use Rattle.uring_driver.specs.Driver.{ring_in, due_in, pending}
+use Rattle.uring_driver.specs.Op.{number_of, Holds, call_for}
+use Rattle.uring_driver.specs.Pending.{Pending}
+use Rattle.uring_driver.specs.Outbox.{IsSameButRoom, PendingMoves}
 use Rattle.uring_driver.specs.Stands.{Stands, Answers}
 
 -- A submission got the machine's next number.
@@ -38,6 +40,11 @@ pub record AddsTo {R B : Type 0} (old new : IoUringDriver R B) (op : Token) : Ty
 abbrev pub AddsToken : {R B : Type 0} → IoUringDriver R B → IoUringDriver R B → Submitted → Type 0
 AddsToken old new (Op op) = AddsTo old new op
 
+-- The new entry joined what is pending, after a prefix of it was entered; a refused submission joined nothing.
+abbrev pub SubmitMoves : {R B : Type 0} → (R → RingView) → (B → Buffer) → Request B → IoUringDriver R B → IoUringDriver R B → Result Submitted (SubmitError B) → Type 0
+SubmitMoves view buffer request old new (Ok (Op op)) = PendingMoves (pending view old) (pending view new) (call_for op (call_of (plain_request buffer request)) ∷ [])
+SubmitMoves view buffer request old new (Err refused) = PendingMoves (pending view old) (pending view new) []
+
 -- The submission was refused as Full.
 abbrev pub IsFullError : {B : Type 0} → Result Submitted (SubmitError B) → Type 0
 IsFullError (Ok submitted) = ⊥
@@ -50,8 +57,8 @@ pub record SameSlots {R B : Type 0} (old new : IoUringDriver R B) : Type 0 where
   pub first : new.first ≡ old.first
   pub held : new.held ≡ old.held
 
--- Why a submission was refused, and what it left of the ring. Full: the ring is the same. A fault of the ring: that count rose,
--- and a prefix of the queue may have been taken; a steady ring has none. OutOfMemory: the driver stands for what it stood for.
+-- Why a submission was refused, and what it left of the ring. Full: the driver is the same. A fault of the ring: that count rose,
+-- and a prefix of what is pending may have been entered; a steady ring has none. OutOfMemory: the driver stands for what it stood for.
 abbrev pub WhyRefused : {R B : Type 0} → (R → RingView) → (B → Buffer) → Bool → IoUringDriver R B → IoUringDriver R B → SubmitFault → Type 0
 WhyRefused view buffer steady old new Full = new ≡ old
 WhyRefused view buffer steady old new RingFault = Rose (view (ring_in old)).faults (view (ring_in new)).faults × (IsTrue steady → ⊥)
@@ -64,16 +71,28 @@ pub record SubmitRefused {R B : Type 0} (view : R → RingView) (buffer : B → 
   pub same : SameSlots old new
   pub why : WhyRefused view buffer steady old new refused.why
 
--- The memory of a submission is taken, and its queue has room.
-pub record IsPrepared {B : Type 0} (view : RingView) (room : ℕ) (slots : Slots (Slot B)) : Type 0 where
+-- Two drivers have the same ring, but for reserved memory, and the same due entries.
+pub record IsSameRing {R B : Type 0} (view : R → RingView) (old new : IoUringDriver R B) : Type 0 where
+  pub ring : IsSameButRoom (view (ring_in old)) (view (ring_in new))
+  pub due : due_in new ≡ due_in old
+
+-- The memory of a submission is taken, with that of one cancel for each slot and for the new one; nothing is due, and the queue has room.
+pub record IsPrepared {B : Type 0} (view : RingView) (due : List Entry) (room : ℕ) (slots : Slots (Slot B)) : Type 0 where
   pub few : map.len slots.values < 4294967232
   pub slot : 0 < slots.room
-  pub spare : 0 < room
+  pub spare : map.len slots.values + 2 ≤ room
+  pub none_due : due ≡ []
   pub queue : length view.queue < view.capacity
 
+-- Memory was reserved at most.
+pub record OnlyReserved {R : Type 0} (view : R → RingView) (old new : Pending R) : Type 0 where
+  pub ring : IsSameButRoom (view old.ring) (view new.ring)
+  pub due : new.due ≡ old.due
+  pub room : old.room ≤ new.room
+
 -- Why a submission can't be made. Nothing changed but reserved memory, and at a fault of the ring what it took.
-abbrev pub Unprepared : {R : Type 0} {B : Type 0} → (R → RingView) → Bool → R × ℕ → R × ℕ → Slots (Slot B) → Slots (Slot B) → SubmitFault → Type 0
+abbrev pub Unprepared : {R : Type 0} {B : Type 0} → (R → RingView) → Bool → Pending R → Pending R → Slots (Slot B) → Slots (Slot B) → SubmitFault → Type 0
 Unprepared view steady old new slots slots' Full = (map.len slots.values ≡ 4294967232) × (new ≡ old) × (slots' ≡ slots)
-Unprepared view steady old new slots slots' RingFault = (map.len slots.values < 4294967232) × Rose (view old.0).faults (view new.0).faults × (IsTrue steady → ⊥)
-Unprepared view steady old new slots slots' Busy = (map.len slots.values < 4294967232) × Rose (view old.0).busies (view new.0).busies × (IsTrue steady → ⊥)
-Unprepared view steady old new slots slots' OutOfMemory = (map.len slots.values < 4294967232) × IsSameButRoom (view old.0) (view new.0)
+Unprepared view steady old new slots slots' RingFault = (map.len slots.values < 4294967232) × Rose (view old.ring).faults (view new.ring).faults × (IsTrue steady → ⊥)
+Unprepared view steady old new slots slots' Busy = (map.len slots.values < 4294967232) × Rose (view old.ring).busies (view new.ring).busies × (IsTrue steady → ⊥)
+Unprepared view steady old new slots slots' OutOfMemory = (map.len slots.values < 4294967232) × OnlyReserved view old new

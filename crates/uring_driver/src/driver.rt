@@ -1,27 +1,27 @@
 //! The completion driver.
-ghost use Rattle.std.specs.Prelude.{◌≡◌, ◌≤◌, ◌<◌, ◌+◌, ◌^◌, ◌↔◌, ◌++◌, ◌||◌, ◌==◌, ℕ, [], Some, IsTrue, IfOk, IfErr, OnOk, OnErr, option_to_list, length, vec_len, vec_capacity};
+ghost use Rattle.std.specs.Prelude.{◌≡◌, ◌≤◌, ◌<◌, ◌+◌, ◌^◌, ◌↔◌, ◌++◌, ◌||◌, ◌==◌, nat_lt, ℕ, [], ◌∷◌, Some, IsTrue, IfOk, IfErr, OnOk, OnErr, option_to_list, length, vec_len, vec_capacity};
 ghost use Rattle.std.specs.FinMap as map;
 ghost use Rattle.ring_core.specs.Request.{named};
 ghost use Rattle.ring_core.specs.Ledger.{Ledger, empty};
-ghost use Rattle.ring_core.specs.declared.ledger.Event.TheVariants.{Give, Feed};
-ghost use Rattle.ring_core.specs.declared.ledger.Reply.TheVariants.{Handle, Fed};
-ghost use Rattle.uring_driver.specs.Op.{number_of, Holds, HoldsNone, KeepsTokens};
-ghost use Rattle.uring_driver.specs.Roomy.{IsIdle, IsSameButRoom, with_spare, room_made};
+ghost use Rattle.ring_core.specs.declared.ledger.Event.TheVariants.{Give, Feed, Drop, Cancel};
+ghost use Rattle.ring_core.specs.declared.ledger.Reply.TheVariants.{Handle, Fed, Dropped, Asked};
+ghost use Rattle.uring_driver.specs.Op.{number_of, cancel_for, Holds, HoldsNone, KeepsTokens, DropsToken};
+ghost use Rattle.uring_driver.specs.Outbox.{IsIdle, TakesFront, PendingMoves, PendingMovesBy, KeepsPending, with_spare, room_made, pending_ring};
 ghost use Rattle.uring_driver.specs.Slot.{KeepsNumbers};
-ghost use Rattle.uring_driver.specs.Driver.{ring_in, live_slots, given_by, handles_of, holds_handle, holds_all, first_with, IsNextHandle};
+ghost use Rattle.uring_driver.specs.Driver.{ring_in, due_in, pending, live_slots, given_by, handles_of, holds_handle, holds_all, first_with, IsNextHandle};
 ghost use Rattle.uring_driver.specs.Stands.{Means, Stands, Answers};
-ghost use Rattle.uring_driver.specs.Submitted.{SubmitsFor, AddsToken, IsFullError, SubmitRefused, IsPrepared, Unprepared};
+ghost use Rattle.uring_driver.specs.Submitted.{SubmitsFor, SubmitMoves, AddsToken, IsFullError, IsSameRing, SubmitRefused, IsPrepared, Unprepared};
 ghost use Rattle.uring_driver.specs.PollOp.{PollsFor, PollsTokens, IsPending, IsUnreaped};
 ghost use Rattle.uring_driver.specs.Executed.{ExecutesFor};
 ghost use Rattle.uring_driver.specs.Reap.{TakesOff, EndsAt, ReapsOne, ReapsAll};
-ghost use Rattle.uring_driver.specs.Turned.{StopsFor, TurnsFor};
+ghost use Rattle.uring_driver.specs.Begun.{HasRoom, HasBegun, CannotBegin, EndsTurn, HasTreated, why_stopped};
 
 use crate::op::{Done, Executed, Op, PollOp, Stop, SubmitError, SubmitFault, Submitted, Turned};
-use crate::slot::{Slot, complete_slot, fill_slot, is_numbered, poll_slot, take_done};
-use crate::uring::Roomy;
+use crate::outbox::Outbox;
+use crate::slot::{Slot, complete_slot, drop_slot, fill_slot, is_numbered, poll_slot, take_done};
 use op_slots::slab::MAX_LIVE;
-use op_slots::{AfterPoll, Lifecycle, Slab};
-use rent_buf::{ByteList, IoBufMut, NumList, OutOfMemory};
+use op_slots::{AfterDrop, AfterPoll, Lifecycle, Slab};
+use rent_buf::{IoBufMut, NumList, OutOfMemory};
 use ring_core::{
     Body, EnterError, Entry, ExecRefusal, FIRST_RESERVED, HandleKind, MemRing, Request, Ring,
     SharedFd, Told, WorldError,
@@ -31,11 +31,11 @@ use std::alloc::Global;
 // How many entries the queue of a new driver holds.
 const ENTRIES: u32 = 1024;
 
-/// A driver over a ring. Each operation has a slot from its submission to its last poll, which holds its request with its
-/// buffer; the slot's key is the data word of its entry. (monoio's `IoUringDriver`)
+/// A driver over a ring. Each operation has a slot from its submission to its last poll, or to the reap of one that was dropped.
+/// The slot holds its request with its buffer, and the slot's key is the data word of its entry. (monoio's `IoUringDriver`)
 #[derive(Drop)]
 pub struct IoUringDriver<R: Ring, B: IoBufMut> {
-    ring: Roomy<R>,
+    ring: Outbox<R>,
     slots: Slab<Slot<B>>,
     // How many operations were given.
     given: u64,
@@ -52,10 +52,11 @@ impl<R: Ring, B: IoBufMut + Drop> IoUringDriver<R, B> {
         ensures stands { IfOk result (λ driver. (R.view ring).world ≡ [] → Stands R.view B.buffer driver (empty (R.view ring).capacity)) }
         ensures ring { IfOk result (λ driver. ring_in driver ≡ ring) }
         ensures none { IfOk result (λ driver. (live_slots driver ≡ 0) × (given_by driver ≡ 0) × HoldsNone driver) }
+        ensures due { IfOk result (λ driver. due_in driver ≡ []) }
         ensures err { IfErr result (λ e. e.1 ≡ ring) }
     {
         Ok(IoUringDriver {
-            ring: Roomy::new(ring),
+            ring: Outbox::new(alloc, ring),
             slots: Slab::new(alloc),
             given: 0,
             first: 0,
@@ -71,7 +72,8 @@ impl<R: Ring, B: IoBufMut + Drop> IoUringDriver<R, B> {
         self.ring.ring()
     }
 
-    /// How many operations are in flight or wait for their poll. (monoio's `num_operations`)
+    /// How many operations are in flight or wait for their poll, those with them that were dropped and aren't reaped.
+    /// (monoio's `num_operations`)
     pub fn num_operations(&self) -> usize
         ensures { result ≡ live_slots self.now }
     {
@@ -99,16 +101,16 @@ impl<R: Ring, B: IoBufMut + Drop> IoUringDriver<R, B> {
         h >= self.first && h - self.first < self.held
     }
 
-    /// The token is that of an operation of this driver that isn't handed back. (own)
+    /// The token is that of an operation of this driver that is neither handed back nor dropped. (own)
     pub fn holds(&self, op: &Op) -> bool
         ensures { IsTrue result ↔ Holds self.now op.now }
     {
         is_numbered(self.slots.peek(op.key()), op.number())
     }
 
-    /// Submits a request of handles that the user holds, and gives the new operation's token. A queue at capacity is
-    /// entered first. The memory that it needs is taken before anything changes. Fewer than `2^62` were given before.
-    /// (monoio's `submit_with_data`)
+    /// Submits a request of handles that the user holds, and gives the new operation's token. What is due goes in first, and a
+    /// queue at capacity is entered. The memory that it needs, and that of one cancel, is taken before anything changes. Fewer
+    /// than `2^62` were given before. (monoio's `submit_with_data`)
     pub fn submit_with(&mut self, request: Request<B>) -> Result<Submitted, SubmitError<B>>
         requires held { IsTrue (holds_all self.old (named request)) }
         requires counter { given_by self.old < 2 ^ 62 }
@@ -117,11 +119,14 @@ impl<R: Ring, B: IoBufMut + Drop> IoUringDriver<R, B> {
             SubmitsFor R.view B.buffer L request self.new submitted) }
         ensures token { IfOk result (λ submitted. AddsToken self.old self.new submitted) }
 
+        // Nothing passes what is pending. Over a steady ring nothing becomes due.
+        ensures pending { IsTrue R.tells → SubmitMoves R.view B.buffer request self.old self.new result }
+        ensures none_due { IsTrue R.steady → due_in self.old ≡ [] → due_in self.new ≡ [] }
+
         // It is Full exactly where all slots are live; a fault of the ring comes only where that count rose.
         ensures full { IsFullError result ↔ (live_slots self.old ≡ 4294967232) }
         ensures err { IfErr result (SubmitRefused R.view B.buffer R.steady request self.old self.new) }
-        ensures memory { IfErr result (λ refused. refused.why ≡ SubmitFault.OutOfMemory →
-            IsSameButRoom (R.view (ring_in self.old)) (R.view (ring_in self.new))) }
+        ensures memory { IfErr result (λ refused. refused.why ≡ SubmitFault.OutOfMemory → IsSameRing R.view self.old self.new) }
     {
         match prepare(&mut self.ring, &mut self.slots) {
             Ok(()) => {}
@@ -139,7 +144,7 @@ impl<R: Ring, B: IoBufMut + Drop> IoUringDriver<R, B> {
             Err(_) => unreachable!(),
         };
         self.given += 1;
-        self.ring.push(Entry {
+        self.ring.join(Entry {
             word: key as u64,
             serial,
             body: Body::Call(call),
@@ -156,6 +161,7 @@ impl<R: Ring, B: IoBufMut + Drop> IoUringDriver<R, B> {
         ensures pending { (L : Ledger) → Stands R.view B.buffer self.old L → (IsPending result ↔ IsUnreaped L (number_of op)) }
         ensures tokens { PollsTokens self.old self.new op result }
         ensures ring { ring_in self.new ≡ ring_in self.old }
+        ensures due { due_in self.new ≡ due_in self.old }
         ensures given { given_by self.new ≡ given_by self.old }
     {
         match poll_slot(&mut self.slots, op.key(), task) {
@@ -164,38 +170,112 @@ impl<R: Ring, B: IoBufMut + Drop> IoUringDriver<R, B> {
         }
     }
 
-    /// Enters what is queued, and treats the completions that stand, in order. (monoio's `submit`)
+    /// Gives an operation of this driver up. It takes no memory. (monoio's `drop_op`)
     ///
-    /// Memory is taken once, for as many numbers as stand and are queued; none is taken where there are none.
-    pub fn submit(&mut self) -> Turned
-        // Over each ring that tells its lists the answer is the machine's, and no completion is bad.
-        ensures turns { IsTrue R.tells → (L : Ledger) → Stands R.view B.buffer self.old L →
-            TurnsFor R.view B.buffer R.steady L self.old self.new result result.stop }
-        ensures stops { StopsFor R.view self.old self.new result result.stop }
-        ensures tokens { KeepsTokens self.old self.new }
+    /// One that isn't reaped keeps its slot, with its buffer, until its reap, which names it; its cancel joins what is pending.
+    pub fn drop_op(&mut self, op: Op)
+        requires { Holds self.old op }
+        ensures answers { IsTrue R.steady → (L : Ledger) → Stands R.view B.buffer self.old L →
+            Answers R.view B.buffer L (Drop (number_of op)) Dropped self.new }
+        ensures tokens { DropsToken self.old self.new op }
+        ensures pending { IsTrue R.tells → PendingMovesBy (pending R.view self.old) (pending R.view self.new) (cancel_for op) }
+        ensures none_due { IsTrue R.steady → due_in self.old ≡ [] → due_in self.new ≡ [] }
         ensures given { given_by self.new ≡ given_by self.old }
     {
-        let Some(count) = self.ring.waiting() else {
-            return stopped(self.alloc, Stop::OutOfMemory);
-        };
-        let Ok(mut reaped) = with_room(self.alloc, count) else {
-            return stopped(self.alloc, Stop::OutOfMemory);
-        };
-        let Ok(mut woken) = with_room(self.alloc, count) else {
-            return stopped(self.alloc, Stop::OutOfMemory);
-        };
-        let (ring, slots) = (&mut self.ring, &mut self.slots);
-        match ring.enter() {
-            Ok(_) => {
-                let bad = reap_all(ring, slots, count, &mut reaped, &mut woken);
-                turned(self.alloc, reaped, woken, bad)
+        let number = op.number();
+        let key = op.spend();
+        match drop_slot(&mut self.slots, key) {
+            AfterDrop::Free => {
+                let _ = self.slots.remove(key);
             }
-            Err(EnterError::Busy) => {
-                let bad = reap_all(ring, slots, count, &mut reaped, &mut woken);
-                turned(self.alloc, reaped, woken, Some(bad.unwrap_or(Stop::Busy)))
-            }
-            Err(EnterError::Fault) => stopped(self.alloc, Stop::RingFault),
+            AfterDrop::Left => self.ring.cancel(number, key),
         }
+    }
+
+    /// Asks for the cancel of an operation of this driver: it joins what is pending. (monoio's `cancel_op`)
+    pub fn cancel_op(&mut self, op: &Op) -> Result<(), OutOfMemory>
+        requires { Holds self.old op.now }
+        ensures answers { OnOk result (IsTrue R.steady → (L : Ledger) → Stands R.view B.buffer self.old L →
+            Answers R.view B.buffer L (Cancel (number_of op.now)) Asked self.new) }
+        ensures tokens { KeepsTokens self.old self.new }
+        ensures pending { OnOk result (IsTrue R.tells → PendingMoves (pending R.view self.old) (pending R.view self.new) (cancel_for op.now ∷ [])) }
+        ensures none_due { IsTrue R.steady → due_in self.old ≡ [] → due_in self.new ≡ [] }
+        ensures given { given_by self.new ≡ given_by self.old }
+
+        ensures err { OnErr result ((L : Ledger) → Stands R.view B.buffer self.old L → Stands R.view B.buffer self.new L) }
+        ensures memory { OnErr result (IsSameRing R.view self.old self.new) }
+    {
+        self.ring.make_spare(self.slots.len() + 1)?;
+        self.ring.cancel(op.number(), op.key());
+        Ok(())
+    }
+
+    // Begins a turn: takes memory once, for as many numbers as stand, are queued and are due, and enters what is due and what
+    // is queued. None is taken where there are none. A ring that is busy doesn't end the turn.
+    pub(crate) fn begin(&mut self) -> Result<Begun, Stop>
+        ensures ok { IfOk result (HasBegun R.view R.tells R.steady self.old self.new) }
+        ensures err { IfErr result (CannotBegin R.view R.tells R.steady self.old self.new) }
+    {
+        let Some(count) = self.ring.waiting() else {
+            return Err(Stop::OutOfMemory);
+        };
+        let Ok(reaped) = with_room(self.alloc, count) else {
+            return Err(Stop::OutOfMemory);
+        };
+        let Ok(woken) = with_room(self.alloc, count) else {
+            return Err(Stop::OutOfMemory);
+        };
+        let busy = match self.ring.enter() {
+            Ok(_) => false,
+            Err(EnterError::Busy) => true,
+            Err(EnterError::Fault) => return Err(Stop::RingFault),
+        };
+        Ok(Begun {
+            count,
+            reaped,
+            woken,
+            busy,
+        })
+    }
+
+    // A turn that was begun needn't wait: a completion stands, or the ring was busy.
+    pub(crate) fn is_ready(&self, begun: &Begun) -> bool
+        ensures { result ≡ (begun.now.busy || nat_lt 0 (length (R.view (ring_in self.now)).done)) }
+    {
+        begun.busy || self.ring.has_standing()
+    }
+
+    // Ends a turn: treats the completions that stand, in order.
+    pub(crate) fn end(&mut self, begun: Begun) -> Turned
+        requires { HasRoom R.view self.old begun }
+        ensures meets { EndsTurn R.view B.buffer R.tells R.steady self.old begun self.new result }
+        ensures treated { HasTreated result.stop }
+    {
+        let Begun {
+            count,
+            mut reaped,
+            mut woken,
+            busy,
+        } = begun;
+        let (ring, slots) = (&mut self.ring, &mut self.slots);
+        let bad = reap_all(ring, slots, count, &mut reaped, &mut woken);
+        turned(self.alloc, reaped, woken, stop_of(busy, bad))
+    }
+
+    // What allocates its memory.
+    pub(crate) fn alloc(&self) -> Global {
+        self.alloc
+    }
+
+    // Ends a turn that can't begin.
+    pub(crate) fn stop(&self, stop: Stop) -> Turned
+        ensures reaped { result.reaped ≡ [] }
+        ensures closed { result.closed ≡ [] }
+        ensures woken { result.woken ≡ [] }
+        ensures stop { result.stop ≡ Some stop }
+    {
+        let none = Vec::new(self.alloc);
+        turned(self.alloc, none, Vec::new(self.alloc), Some(stop))
     }
 }
 
@@ -204,6 +284,7 @@ impl<B: IoBufMut + Drop> IoUringDriver<MemRing, B> {
     pub fn new(alloc: Global) -> Result<Self, OutOfMemory>
         ensures stands { IfOk result (λ driver. Stands (λ r. r) B.buffer driver (empty 1024)) }
         ensures tokens { IfOk result (λ driver. HoldsNone driver) }
+        ensures due { IfOk result (λ driver. due_in driver ≡ []) }
     {
         IoUringDriver::new_with_entries(alloc, ENTRIES)
     }
@@ -213,6 +294,7 @@ impl<B: IoBufMut + Drop> IoUringDriver<MemRing, B> {
         requires { 1 ≤ entries }
         ensures stands { IfOk result (λ driver. Stands (λ r. r) B.buffer driver (empty entries)) }
         ensures tokens { IfOk result (λ driver. HoldsNone driver) }
+        ensures due { IfOk result (λ driver. due_in driver ≡ []) }
     {
         match IoUringDriver::over(alloc, MemRing::new(alloc, entries)) {
             Ok(driver) => Ok(driver),
@@ -230,6 +312,8 @@ impl<B: IoBufMut + Drop> IoUringDriver<MemRing, B> {
             (h : ℕ) → holds_handle self.new h ≡ (holds_handle self.old h || h == fd)) }
         ensures err { OnErr result (self.new ≡ self.old) }
         ensures tokens { KeepsTokens self.old self.new }
+        ensures pending { pending (λ r. r) self.new ≡ pending (λ r. r) self.old }
+        ensures due { due_in self.new ≡ due_in self.old }
         ensures given { given_by self.new ≡ given_by self.old }
     {
         let h = self.ring.give(kind)?;
@@ -245,23 +329,30 @@ impl<B: IoBufMut + Drop> IoUringDriver<MemRing, B> {
             Answers (λ r. r) B.buffer L (Feed h bytes.now) Fed self.new) }
         ensures err { OnErr result (self.new ≡ self.old) }
         ensures tokens { KeepsTokens self.old self.new }
+        ensures pending { pending (λ r. r) self.new ≡ pending (λ r. r) self.old }
+        ensures due { due_in self.new ≡ due_in self.old }
         ensures given { given_by self.new ≡ given_by self.old }
     {
         self.ring.feed(h, bytes)?;
         Ok(())
     }
 
-    /// Executes what is in flight at a place with what is told: it becomes the last completion. (own)
+    /// Executes what is in flight at a place with what is told: it becomes the last completion. The bytes that come go from
+    /// the handle's input into the operation's buffer; an error leaves the buffer as it was submitted. A read takes no
+    /// memory, so for it `OutOfMemory` doesn't come. (own)
     pub fn execute(&mut self, place: usize, told: Told) -> Result<Executed, ExecRefusal>
         ensures answers { (L : Ledger) → Stands (λ r. r) B.buffer self.old L → ExecutesFor B.buffer L place told self.new result }
         ensures err { OnErr result (self.new ≡ self.old) }
         ensures tokens { KeepsTokens self.old self.new }
+        ensures pending { pending (λ r. r) self.new ≡ pending (λ r. r) self.old }
+        ensures due { due_in self.new ≡ due_in self.old }
         ensures given { given_by self.new ≡ given_by self.old }
     {
-        let mut got = ByteList::from_vec(Vec::new(self.alloc));
-        match self.ring.finish_at(place, told, &[], &mut got) {
-            Ok(completion) => {
-                fill_slot(&mut self.slots, completion.word as usize, got.as_slice());
+        match self.ring.admits(place, told) {
+            Ok(entry) => {
+                let key = entry.word as usize;
+                fill_slot(&mut self.slots, key, told, self.ring.coming(place, told));
+                let completion = self.ring.finish(place, told, &[]);
                 Ok(Executed::Op(completion.serial))
             }
             Err(why) => Err(why),
@@ -276,24 +367,39 @@ fn first_of(first: u64, held: u64, h: u64) -> u64
     if held == 0 { h } else { first }
 }
 
-// Takes the memory of a submission, and makes room in the queue. No slot changes.
+// Takes the memory of a submission, and of one cancel for each slot, and makes way for its entry. No slot changes.
 fn prepare<R: Ring, B: Drop>(
-    ring: &mut Roomy<R>,
+    ring: &mut Outbox<R>,
     slots: &mut Slab<Slot<B>>,
 ) -> Result<(), SubmitFault>
     ensures slots { slots.new.values ≡ slots.old.values }
-    ensures ok { OnOk result (IsPrepared (R.view ring.new.0) ring.new.1 slots.new) }
-    ensures told { OnOk result (IsTrue R.tells →
-        R.view ring.new.0 ≡ with_spare (room_made (R.view ring.old.0)) (R.view ring.new.0).spare) }
+    ensures ok { OnOk result (IsPrepared (R.view ring.new.ring) ring.new.due ring.new.room slots.new) }
+    ensures told { OnOk result (IsTrue R.tells → length (R.view ring.old.ring).queue + length ring.old.due ≤ (R.view ring.old.ring).capacity →
+        pending_ring R.view ring.new ≡ with_spare (room_made (pending_ring R.view ring.old)) (R.view ring.new.ring).spare) }
+    ensures takes { IsTrue R.tells → TakesFront (pending_ring R.view ring.old) (pending_ring R.view ring.new) }
     ensures err { IfErr result (Unprepared R.view R.steady ring.old ring.new slots.old slots.new) }
 {
-    if slots.len() >= MAX_LIVE {
+    let live = slots.len();
+    if live >= MAX_LIVE {
         return Err(SubmitFault::Full);
     }
-    if slots.reserve_one().is_err() || ring.make_spare().is_err() {
+    if slots.reserve_one().is_err() || ring.make_spare(live + 2).is_err() {
         return Err(SubmitFault::OutOfMemory);
     }
-    ring.make_room()
+    match ring.make_way() {
+        Ok(()) => Ok(()),
+        Err(EnterError::Fault) => Err(SubmitFault::RingFault),
+        Err(EnterError::Busy) => Err(SubmitFault::Busy),
+    }
+}
+
+// A turn that was begun: the most completions that stand, lists with room for the numbers that it may name, and whether the
+// ring was busy.
+pub(crate) struct Begun {
+    count: usize,
+    reaped: Vec<u64>,
+    woken: Vec<u64>,
+    busy: bool,
 }
 
 // What became of the first completion.
@@ -310,7 +416,7 @@ enum Reap {
 
 // Takes the first completion off, and treats it.
 fn reap_one<R: Ring, B: Drop + IoBufMut>(
-    ring: &mut Roomy<R>,
+    ring: &mut Outbox<R>,
     slots: &mut Slab<Slot<B>>,
     reaped: &mut Vec<u64>,
     woken: &mut Vec<u64>,
@@ -320,9 +426,10 @@ fn reap_one<R: Ring, B: Drop + IoBufMut>(
     ensures reaped_room { (vec_len reaped.new ≤ vec_len reaped.old + 1) × (vec_capacity reaped.old ≤ vec_capacity reaped.new) }
     ensures woken_room { (vec_len woken.new ≤ vec_len woken.old + 1) × (vec_capacity woken.old ≤ vec_capacity woken.new) }
     ensures numbers { KeepsNumbers slots.old.values slots.new.values }
-    ensures ring { TakesOff (R.view ring.old.0) (R.view ring.new.0) slots.new.values result }
-    ensures treats { IsTrue R.tells → (L : Ledger) → Means B.buffer (R.view ring.old.0) slots.old.values L →
-        ReapsOne B.buffer L (R.view ring.new.0) slots.new.values reaped.old.items reaped.new.items woken.old.items woken.new.items result }
+    ensures ring { TakesOff (R.view ring.old.ring) (R.view ring.new.ring) slots.new.values result }
+    ensures same { KeepsPending R.view R.tells ring.old ring.new }
+    ensures treats { IsTrue R.tells → (L : Ledger) → Means B.buffer (pending_ring R.view ring.old) slots.old.values L →
+        ReapsOne B.buffer L (pending_ring R.view ring.new) slots.new.values reaped.old.items reaped.new.items woken.old.items woken.new.items result }
 {
     let Some(completion) = ring.next() else {
         return Reap::End;
@@ -357,7 +464,7 @@ fn note(woken: &mut Vec<u64>, task: Option<u64>)
 // Treats the completions that stand, in order, at most `count` of them. It ends early at a completion that names no slot in
 // flight.
 fn reap_all<R: Ring, B: Drop + IoBufMut>(
-    ring: &mut Roomy<R>,
+    ring: &mut Outbox<R>,
     slots: &mut Slab<Slot<B>>,
     count: usize,
     reaped: &mut Vec<u64>,
@@ -365,11 +472,12 @@ fn reap_all<R: Ring, B: Drop + IoBufMut>(
 ) -> Option<Stop>
     requires reaped_room { vec_len reaped.old + count ≤ vec_capacity reaped.old }
     requires woken_room { vec_len woken.old + count ≤ vec_capacity woken.old }
-    requires all { length (R.view ring.old.0).done ≤ count }
+    requires all { length (R.view ring.old.ring).done ≤ count }
     ensures numbers { KeepsNumbers slots.old.values slots.new.values }
-    ensures ring { EndsAt (R.view ring.old.0) (R.view ring.new.0) slots.new.values result }
-    ensures treats { IsTrue R.tells → (L : Ledger) → Means B.buffer (R.view ring.old.0) slots.old.values L →
-        ReapsAll B.buffer L (R.view ring.new.0) slots.new.values reaped.old.items reaped.new.items woken.old.items woken.new.items result }
+    ensures ring { EndsAt (R.view ring.old.ring) (R.view ring.new.ring) slots.new.values result }
+    ensures same { KeepsPending R.view R.tells ring.old ring.new }
+    ensures treats { IsTrue R.tells → (L : Ledger) → Means B.buffer (pending_ring R.view ring.old) slots.old.values L →
+        ReapsAll B.buffer L (pending_ring R.view ring.new) slots.new.values reaped.old.items reaped.new.items woken.old.items woken.new.items result }
 {
     for i in 0..count {
         match reap_one(ring, slots, reaped, woken) {
@@ -397,14 +505,15 @@ fn turned(alloc: Global, reaped: Vec<u64>, woken: Vec<u64>, stop: Option<Stop>) 
     }
 }
 
-// What a turn did that stopped before it treated anything.
-fn stopped(alloc: Global, stop: Stop) -> Turned
-    ensures reaped { result.reaped ≡ [] }
-    ensures closed { result.closed ≡ [] }
-    ensures woken { result.woken ≡ [] }
-    ensures stop { result.stop ≡ Some stop }
+// Why a turn stopped that treated what stood: a bad completion, or else that the ring was busy.
+fn stop_of(busy: bool, bad: Option<Stop>) -> Option<Stop>
+    ensures { result ≡ why_stopped busy bad }
 {
-    turned(alloc, Vec::new(alloc), Vec::new(alloc), Some(stop))
+    if busy {
+        Some(bad.unwrap_or(Stop::Busy))
+    } else {
+        bad
+    }
 }
 
 // An empty list with room for `count` numbers. It takes no memory for none.

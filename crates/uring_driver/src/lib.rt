@@ -3,11 +3,13 @@
 
 pub mod driver;
 pub mod op;
+mod outbox;
+pub mod parking;
 mod slot;
-mod uring;
 
 pub use driver::IoUringDriver;
 pub use op::{Done, Executed, Op, PollOp, Stop, SubmitError, SubmitFault, Submitted, Turned};
+pub use parking::{Driver, Parked};
 
 #[cfg(test)]
 mod tests;

@@ -7,7 +7,7 @@ use ring_core::{Outcome, Request};
 use thiserror::Error;
 
 /// Names one operation of the driver that gave it. It can't be made, copied or dropped outside: `poll_op` spends it where
-/// it is `Ready`, and `forget` spends it with no driver. (monoio's `Op`, which holds its driver too)
+/// it is `Ready`, `drop_op` always, and `forget` spends it with no driver. (monoio's `Op`, which holds its driver too)
 #[derive(Debug)]
 pub struct Op {
     number: u64,
@@ -63,10 +63,10 @@ pub enum SubmitFault {
     /// 4294967232 operations are in flight or wait for their poll.
     #[error("Full")]
     Full,
-    /// The queue was full, and the ring failed to take it: its count of faults rose.
+    /// The queue was full, or an entry was due, and the ring failed to take it: its count of faults rose.
     #[error("RingFault")]
     RingFault,
-    /// The queue was full, and the ring was busy: its count of busies rose.
+    /// The queue was full, or an entry was due, and the ring was busy: its count of busies rose.
     #[error("Busy")]
     Busy,
     /// Memory ran out.

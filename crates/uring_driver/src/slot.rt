@@ -1,14 +1,15 @@
 //! What a slot of the driver holds, and what its calls do to one slot.
-ghost use Rattle.std.specs.Prelude.{◌≡◌, ◌≤◌, true, false, length, IsSome, IfSome, IfNone, option_copied};
+ghost use Rattle.std.specs.Prelude.{◌≡◌, ◌≤◌, ℕ, true, false, length, IsSome, IfSome, IfNone, option_copied};
 ghost use Rattle.std.specs.FinMap as map;
-ghost use Rattle.op_slots.specs.Lifecycle.{IsCompleted};
+ghost use Rattle.op_slots.specs.Lifecycle.{IsCompleted, IsIgnored};
 ghost use Rattle.ring_core.specs.Request.{plain_request};
-ghost use Rattle.uring_driver.specs.Slot.{has_number, flies_in, filled, room_of, PollsSlot, CompletesSlot, KeepsNumbers, FillsSlot};
+ghost use Rattle.ring_core.specs.declared.request.Told.TheVariants.{Count};
+ghost use Rattle.uring_driver.specs.Slot.{has_number, flies_in, filled, filled_by, room_of, PollsSlot, DropsSlot, CompletesSlot, KeepsNumbers, FillsSlot};
 
 use crate::op::Done;
-use op_slots::{AfterComplete, AfterPoll, Lifecycle, Slab};
+use op_slots::{AfterComplete, AfterDrop, AfterPoll, Lifecycle, Slab};
 use rent_buf::IoBufMut;
-use ring_core::{Completion, Outcome, Request};
+use ring_core::{Completion, Outcome, Request, Told};
 
 /// What a slot holds: an operation's number, its request with its buffer, and how far it is. (own; monoio's slot is a
 /// `Lifecycle` alone)
@@ -22,12 +23,15 @@ pub struct Slot<B> {
     pub life: Lifecycle<Outcome>,
 }
 
-/// The slot that was looked up holds this number.
+/// The slot that was looked up holds this number, and its operation wasn't dropped.
 pub fn is_numbered<B>(slot: Option<&Slot<B>>, number: u64) -> bool
     ensures { result ≡ has_number (option_copied slot.entry) number }
 {
     match slot {
-        Some(slot) => slot.serial == number,
+        Some(slot) => match &slot.life {
+            Lifecycle::Ignored => false,
+            _ => slot.serial == number,
+        },
         None => false,
     }
 }
@@ -47,11 +51,22 @@ fn is_flying<B>(slot: Option<&Slot<B>>) -> bool
 
 /// Asks a live slot for its result.
 pub fn poll_slot<B: Drop>(slots: &mut Slab<Slot<B>>, key: usize, task: u64) -> AfterPoll
-    requires { IsSome (map.get slots.old.values key) }
+    requires live { IsSome (map.get slots.old.values key) }
+    requires owned { IfSome (map.get slots.old.values key) (λ s. ¬ IsIgnored s.life) }
     ensures { PollsSlot slots.old.values key task slots.new.values result }
 {
     let slot = slots.value_mut(key);
     slot.life.poll(task)
+}
+
+/// Gives a live slot up: where it isn't completed it is ignored from then on.
+pub fn drop_slot<B: Drop>(slots: &mut Slab<Slot<B>>, key: usize) -> AfterDrop
+    requires live { IsSome (map.get slots.old.values key) }
+    requires owned { IfSome (map.get slots.old.values key) (λ s. ¬ IsIgnored s.life) }
+    ensures { DropsSlot slots.old.values key slots.new.values result }
+{
+    let slot = slots.value_mut(key);
+    slot.life.drop_owner()
 }
 
 /// Frees a completed slot.
@@ -77,8 +92,8 @@ pub fn take_done<B: Drop>(slots: &mut Slab<Slot<B>>, key: usize) -> Done<B>
     }
 }
 
-/// Completes the slot that a completion names, and answers its number and the task to wake. Where that is no slot in
-/// flight nothing changes.
+/// Completes the slot that a completion names, or frees it where its operation was dropped, and answers its number and the task
+/// to wake. Where that is no slot in flight nothing changes.
 pub fn complete_slot<B: Drop>(
     slots: &mut Slab<Slot<B>>,
     completion: &Completion,
@@ -97,12 +112,32 @@ pub fn complete_slot<B: Drop>(
     match slot.life.complete(completion.outcome) {
         AfterComplete::Kept => Some((serial, None)),
         AfterComplete::Wake(task) => Some((serial, Some(task))),
+        AfterComplete::Free => {
+            let _ = slots.remove(key);
+            Some((serial, None))
+        }
     }
 }
 
-/// Stores the bytes that came in the buffer of a live slot, where they fit.
-pub fn fill_slot<B: IoBufMut + Drop>(slots: &mut Slab<Slot<B>>, key: usize, bytes: &[u8])
-    ensures fills { FillsSlot B.buffer slots.old.values key bytes.now slots.new.values }
+/// Stores the bytes of what was told in the buffer of a live slot, where they fit. An error leaves the buffer.
+pub fn fill_slot<B: IoBufMut + Drop>(
+    slots: &mut Slab<Slot<B>>,
+    key: usize,
+    told: Told,
+    bytes: &[u8],
+)
+    ensures fills { FillsSlot B.buffer slots.old.values key told bytes.now slots.new.values }
+    ensures numbers { KeepsNumbers slots.old.values slots.new.values }
+{
+    match told {
+        Told::Count(_) => store_in(slots, key, bytes),
+        Told::Fail(_) => {}
+    }
+}
+
+// Stores bytes in the buffer of a live slot, where they fit.
+fn store_in<B: IoBufMut + Drop>(slots: &mut Slab<Slot<B>>, key: usize, bytes: &[u8])
+    ensures fills { (k : ℕ) → FillsSlot B.buffer slots.old.values key (Count k) bytes.now slots.new.values }
     ensures numbers { KeepsNumbers slots.old.values slots.new.values }
 {
     if slots.peek(key).is_none() {

@@ -1,20 +1,27 @@
-// That the calls succeed where memory is at hand, and one read and two through a driver.
+// That the calls succeed where memory is at hand, and reads, drops and cancels through a driver.
 use super::*;
 use rent_buf::{Buf, BufSpec, ByteList, IoBuf, IoBufMut, Kind};
-use ring_core::{HandleKind, MemRing, Outcome, Request, Ring, SharedFd, Told};
+use ring_core::{ExecRefusal, HandleKind, MemRing, Outcome, Request, Ring, SharedFd, Told};
+use std::alloc::Global;
 use std::process::Abort;
 use std::test::Fail;
 
 // A read into an empty vector of four bytes.
-fn read(rt: &HostRuntime, fd: SharedFd) -> Result<Request<Buf>, Fail> {
-    let bytes = ByteList::from_vec(Vec::new(rt.alloc()));
+pub(crate) fn read(alloc: Global, fd: SharedFd) -> Result<Request<Buf>, Fail> {
+    read_over(alloc, fd, b"")
+}
+
+// A read into a vector of four bytes, in which some stand already.
+fn read_over(alloc: Global, fd: SharedFd, stand: &[u8]) -> Result<Request<Buf>, Fail> {
+    let mut bytes = ByteList::from_vec(Vec::new(alloc));
+    bytes.append(stand)?;
     let spec = BufSpec::new(Kind::Vector, 4, 0, 4, bytes).ok_or("within its bounds")?;
     let buf = spec.build()?;
     Ok(Request::Recv { fd, buf })
 }
 
 // A new stream.
-fn give(rt: &impl Abort, driver: &mut IoUringDriver<MemRing, Buf>) -> SharedFd {
+pub(crate) fn give(rt: &impl Abort, driver: &mut IoUringDriver<MemRing, Buf>) -> SharedFd {
     assert!(rt; driver.handles() < 1 << 62);
     driver
         .give(HandleKind::Stream)
@@ -22,7 +29,7 @@ fn give(rt: &impl Abort, driver: &mut IoUringDriver<MemRing, Buf>) -> SharedFd {
 }
 
 // A submission that succeeds.
-fn submit<R: Ring, B: IoBufMut + Drop>(
+pub(crate) fn submit<R: Ring, B: IoBufMut + Drop>(
     rt: &impl Abort,
     driver: &mut IoUringDriver<R, B>,
     request: Request<B>,
@@ -37,7 +44,7 @@ fn submit<R: Ring, B: IoBufMut + Drop>(
 }
 
 // A poll that is pending.
-fn pending<R: Ring, B: IoBufMut + Drop>(
+pub(crate) fn pending<R: Ring, B: IoBufMut + Drop>(
     rt: &impl Abort,
     driver: &mut IoUringDriver<R, B>,
     op: Op,
@@ -51,7 +58,7 @@ fn pending<R: Ring, B: IoBufMut + Drop>(
 }
 
 // A poll that is ready: its outcome and the bytes in its buffer.
-fn ready<R: Ring, B: IoBufMut + Drop>(
+pub(crate) fn ready<R: Ring, B: IoBufMut + Drop>(
     rt: &impl Abort,
     driver: &mut IoUringDriver<R, B>,
     op: Op,
@@ -72,6 +79,18 @@ fn ready<R: Ring, B: IoBufMut + Drop>(
     }
 }
 
+// A token is given up.
+fn give_up<R: Ring, B: IoBufMut + Drop>(rt: &impl Abort, driver: &mut IoUringDriver<R, B>, op: Op) {
+    assert!(rt; driver.holds(&op));
+    driver.drop_op(op);
+}
+
+// A cancel is asked for.
+fn cancel<R: Ring, B: IoBufMut + Drop>(rt: &impl Abort, driver: &mut IoUringDriver<R, B>, op: &Op) {
+    assert!(rt; driver.holds(op));
+    assert!(rt; driver.cancel_op(op).is_ok());
+}
+
 // A turn, and what it names.
 fn turn<R: Ring, B: IoBufMut + Drop>(
     rt: &impl Abort,
@@ -87,7 +106,12 @@ fn turn<R: Ring, B: IoBufMut + Drop>(
 }
 
 // Bytes arrive at a handle.
-fn feed(rt: &impl Abort, driver: &mut IoUringDriver<MemRing, Buf>, fd: SharedFd, bytes: &[u8]) {
+pub(crate) fn feed(
+    rt: &impl Abort,
+    driver: &mut IoUringDriver<MemRing, Buf>,
+    fd: SharedFd,
+    bytes: &[u8],
+) {
     assert!(rt; driver.user_holds(fd.number()));
     assert!(rt; driver.feed(fd.number(), bytes).is_ok());
 }
@@ -96,7 +120,7 @@ fn feed(rt: &impl Abort, driver: &mut IoUringDriver<MemRing, Buf>, fd: SharedFd,
 fn one_read(rt: HostRuntime) -> Result<(), Fail> {
     let mut driver: IoUringDriver<MemRing, Buf> = IoUringDriver::new(rt.alloc())?;
     let fd = give(&rt, &mut driver);
-    let request = read(&rt, fd)?;
+    let request = read(rt.alloc(), fd)?;
     let op = submit(&rt, &mut driver, request);
     assert_eq!(rt;
         (op.number(), driver.given(), driver.num_operations()),
@@ -118,7 +142,7 @@ fn one_read(rt: HostRuntime) -> Result<(), Fail> {
 fn two_reads_in_the_order_of_their_executions(rt: HostRuntime) -> Result<(), Fail> {
     let mut driver: IoUringDriver<MemRing, Buf> = IoUringDriver::new_with_entries(rt.alloc(), 1)?;
     let fd = give(&rt, &mut driver);
-    let (one, two) = (read(&rt, fd)?, read(&rt, fd)?);
+    let (one, two) = (read(rt.alloc(), fd)?, read(rt.alloc(), fd)?);
     let first = submit(&rt, &mut driver, one);
     let second = submit(&rt, &mut driver, two);
     assert_eq!(rt; driver.ring().queued(), 1);
@@ -129,6 +153,87 @@ fn two_reads_in_the_order_of_their_executions(rt: HostRuntime) -> Result<(), Fai
     turn(&rt, &mut driver, &[1, 0], &[]);
     ready(&rt, &mut driver, first, Outcome::Count(2), b"bc");
     ready(&rt, &mut driver, second, Outcome::Count(1), b"a");
+    Ok(())
+}
+
+// The cancel of a read that is done is taken when its key has the next holder.
+#[test]
+fn a_late_cancel_never_meets_the_next_holder(rt: HostRuntime) -> Result<(), Fail> {
+    let mut driver: IoUringDriver<MemRing, Buf> = IoUringDriver::new_with_entries(rt.alloc(), 8)?;
+    let fd = give(&rt, &mut driver);
+    feed(&rt, &mut driver, fd, b"a");
+    let (one, two) = (read(rt.alloc(), fd)?, read(rt.alloc(), fd)?);
+    let first = submit(&rt, &mut driver, one);
+    turn(&rt, &mut driver, &[], &[]);
+    assert_eq!(rt; driver.execute(0, Told::Count(1)), Ok(Executed::Op(0)));
+    turn(&rt, &mut driver, &[0], &[]);
+    cancel(&rt, &mut driver, &first);
+    ready(&rt, &mut driver, first, Outcome::Count(1), b"a");
+    let second = submit(&rt, &mut driver, two);
+    turn(&rt, &mut driver, &[], &[]);
+    let canceled = driver.execute(0, Told::Fail(125));
+    assert_eq!(rt; canceled, Err(ExecRefusal::BadOutcome));
+    feed(&rt, &mut driver, fd, b"b");
+    assert_eq!(rt; driver.execute(0, Told::Count(1)), Ok(Executed::Op(1)));
+    turn(&rt, &mut driver, &[1], &[]);
+    ready(&rt, &mut driver, second, Outcome::Count(1), b"b");
+    Ok(())
+}
+
+// A queue of one entry: the drop enters the read, and then its cancel stands in the queue. The slot, with its buffer, lives
+// until the reap, which names the read and wakes nobody.
+#[test]
+fn a_drop_over_a_full_queue(rt: HostRuntime) -> Result<(), Fail> {
+    let mut driver: IoUringDriver<MemRing, Buf> = IoUringDriver::new_with_entries(rt.alloc(), 1)?;
+    let fd = give(&rt, &mut driver);
+    let (one, two) = (read(rt.alloc(), fd)?, read(rt.alloc(), fd)?);
+    let first = submit(&rt, &mut driver, one);
+    let second = submit(&rt, &mut driver, two);
+    let second = pending(&rt, &mut driver, second, 9);
+    give_up(&rt, &mut driver, second);
+    assert_eq!(rt; (driver.num_operations(), driver.ring().queued()), (2, 1));
+    turn(&rt, &mut driver, &[], &[]);
+    assert_eq!(rt; driver.execute(1, Told::Fail(125)), Ok(Executed::Op(1)));
+    assert_eq!(rt; driver.num_operations(), 2);
+    turn(&rt, &mut driver, &[1], &[]);
+    assert_eq!(rt; driver.num_operations(), 1);
+    give_up(&rt, &mut driver, first);
+    assert_eq!(rt; driver.num_operations(), 1);
+    Ok(())
+}
+
+// What is reaped is given up at once.
+#[test]
+fn a_drop_after_the_reap(rt: HostRuntime) -> Result<(), Fail> {
+    let mut driver: IoUringDriver<MemRing, Buf> = IoUringDriver::new_with_entries(rt.alloc(), 4)?;
+    let fd = give(&rt, &mut driver);
+    let request = read(rt.alloc(), fd)?;
+    let op = submit(&rt, &mut driver, request);
+    turn(&rt, &mut driver, &[], &[]);
+    assert_eq!(rt; driver.execute(0, Told::Fail(104)), Ok(Executed::Op(0)));
+    turn(&rt, &mut driver, &[0], &[]);
+    give_up(&rt, &mut driver, op);
+    assert_eq!(rt; (driver.num_operations(), driver.ring().queued()), (0, 0));
+    Ok(())
+}
+
+// An error stores nothing: the submitted buffer comes back, with the bytes that stood in it.
+#[test]
+fn an_error_hands_back_the_submitted_buffer(rt: HostRuntime) -> Result<(), Fail> {
+    let mut driver: IoUringDriver<MemRing, Buf> = IoUringDriver::new_with_entries(rt.alloc(), 4)?;
+    let fd = give(&rt, &mut driver);
+    let request = read_over(rt.alloc(), fd, b"01")?;
+    let op = submit(&rt, &mut driver, request);
+    turn(&rt, &mut driver, &[], &[]);
+    assert_eq!(rt;
+        driver.execute(0, Told::Fail(125)),
+        Err(ExecRefusal::BadOutcome)
+    );
+    cancel(&rt, &mut driver, &op);
+    turn(&rt, &mut driver, &[], &[]);
+    assert_eq!(rt; driver.execute(0, Told::Fail(125)), Ok(Executed::Op(0)));
+    turn(&rt, &mut driver, &[0], &[]);
+    ready(&rt, &mut driver, op, Outcome::Fail(125), b"01");
     Ok(())
 }
 

@@ -1,6 +1,6 @@
 use super::*;
-use crate::entry::FIRST_RESERVED;
-use crate::request::{Outcome, Request};
+use crate::entry::{CANCEL_WORD, FIRST_RESERVED};
+use crate::request::{Call, Request};
 use crate::shared_fd::SharedFd;
 use crate::world::{HandleKind, WorldError};
 use rent_buf::Rent;
@@ -13,6 +13,19 @@ fn read_entry(word: u64, serial: u64, ask: u32) -> Entry {
         serial,
         body: Body::Call(Call::In { h: 0, ask }),
     }
+}
+
+// A ring with one handle on which `abc` stands, whose queue of these entries was entered.
+fn entered_ring(rt: &HostRuntime, entries: [Entry; 3]) -> Result<MemRing, Fail> {
+    let mut ring = MemRing::new(rt.alloc(), 3);
+    let h = ring.world().give(HandleKind::Stream)?;
+    ring.world().feed(h, b"abc")?;
+    for entry in entries {
+        ring.reserve(1)?;
+        let _ = ring.push_reserved(entry);
+    }
+    let _ = ring.enter()?;
+    Ok(ring)
 }
 
 // Pushes an entry and enters it, through the bound alone.
@@ -101,5 +114,104 @@ fn an_error_prints_its_name(rt: HostRuntime) -> Result<(), Fail> {
         format!(in rt.alloc(); "{}", WorldError::OutOfMemory)?.as_str(),
         "OutOfMemory"
     );
+    Ok(())
+}
+
+// A read; its serial is the word of the next one.
+const FIVE: Entry = Entry {
+    word: 5,
+    serial: 6,
+    body: Body::Call(Call::In { h: 0, ask: 1 }),
+};
+
+// Another read; its serial is the word of the first one.
+const SIX: Entry = Entry {
+    word: 6,
+    serial: 5,
+    body: Body::Call(Call::In { h: 0, ask: 1 }),
+};
+
+// The cancel of the first read's word.
+const CANCEL_FIVE: Entry = Entry {
+    word: CANCEL_WORD,
+    serial: 9,
+    body: Body::Cancel(5),
+};
+
+// The cancel of a word that no read has.
+const CANCEL_SEVEN: Entry = Entry {
+    word: CANCEL_WORD,
+    serial: 9,
+    body: Body::Cancel(7),
+};
+
+// What a cancel marks: the entries that are entered, and whether the first and the second read are marked.
+#[rattlefmt::skip]
+const CANCELS: [(&str, [Entry; 3], bool, bool); 5] = [
+    ("its word, and no serial", [FIVE, SIX, CANCEL_FIVE], true, false),
+    ("each that has its word", [FIVE, FIVE, CANCEL_FIVE], true, true),
+    ("no other word", [FIVE, SIX, CANCEL_SEVEN], false, false),
+    ("nothing that is taken later", [CANCEL_FIVE, FIVE, SIX], false, false),
+    ("what was taken before it", [FIVE, CANCEL_FIVE, FIVE], true, false),
+];
+
+#[test]
+fn a_cancel_marks_what_has_its_word_and_is_done(rt: HostRuntime) -> Result<(), Fail> {
+    for (name, entries, first, second) in CANCELS {
+        let mut ring = entered_ring(&rt, entries)?;
+        let done = Completion {
+            word: CANCEL_WORD,
+            serial: 9,
+            outcome: Outcome::Count(0),
+        };
+        assert_eq!(rt; ring.next(), Some(done), "in the row {name:?}");
+        assert_eq!(rt; ring.next(), None, "in the row {name:?}");
+        for (place, marked) in [(1, second), (0, first)] {
+            let mut got = ByteList::from_vec(Vec::new(rt.alloc()));
+            let finished = ring.finish_at(place, Told::Fail(125), &[], &mut got);
+            assert_eq!(rt; finished.is_ok(), marked, "at {place} in the row {name:?}");
+        }
+    }
+    Ok(())
+}
+
+// Which errors may be told: whether a cancel was taken, the error, and whether it is allowed.
+#[rattlefmt::skip]
+const ERRORS: [(bool, u16, bool); 9] = [
+    (false, 0, false),
+    (false, 1, true),
+    (false, 125, false),
+    (false, 4095, true),
+    (false, 4096, false),
+    (true, 0, false),
+    (true, 124, true),
+    (true, 125, true),
+    (true, 4096, false),
+];
+
+#[test]
+fn an_error_is_allowed_by_its_number_and_moves_nothing(rt: HostRuntime) -> Result<(), Fail> {
+    for (canceled, e, allowed) in ERRORS {
+        let cancel = if canceled { CANCEL_FIVE } else { CANCEL_SEVEN };
+        let entries = [read_entry(5, 0, 3), SIX, cancel];
+        let mut ring = entered_ring(&rt, entries)?;
+        let mut got = ByteList::from_vec(Vec::new(rt.alloc()));
+        let finished = ring.finish_at(0, Told::Fail(e), &[], &mut got);
+        let want = if allowed {
+            Ok(Completion {
+                word: 5,
+                serial: 0,
+                outcome: Outcome::Fail(e),
+            })
+        } else {
+            Err(ExecRefusal::BadOutcome)
+        };
+        assert_eq!(rt; finished, want, "the error {e}");
+        assert!(rt; got.as_slice().is_empty(), "the error {e}");
+        let whole = ring
+            .world()
+            .allows(false, Call::In { h: 0, ask: 3 }, Told::Count(3));
+        assert!(rt; whole, "the error {e}");
+    }
     Ok(())
 }

@@ -1,6 +1,6 @@
 // Reading a line into an event.
-ghost use Rattle.std.specs.Prelude.{◌≡◌, IfOk, MatchOption, Some, None};
-ghost use Rattle.session_run.specs.TextReads.{words, words_behind, event_of, feed_of, submit_of, poll_of, exec_of, give_of, turn_of, request_of, buffer_of, told_of, number_field, bytes_end, kind_field, handle_kind_of};
+ghost use Rattle.std.specs.Prelude.{◌≡◌, ◌^◌, IfOk, MatchOption, Some, None, option_and_then};
+ghost use Rattle.session_run.specs.TextReads.{words, words_behind, event_of, feed_of, submit_of, poll_of, numbered_of, exec_of, give_of, turn_of, request_of, buffer_of, told_of, told_below, number_field, bytes_end, kind_field, handle_kind_of, buffer_kind_of};
 
 use crate::text::cut::{first_word, is_word, next_word};
 use crate::text::hex::read_bytes;
@@ -32,6 +32,12 @@ pub(crate) fn event_of_line(alloc: Global, line: &[u8]) -> Result<Option<Event>,
     }
     if is_word(word, b"give") {
         return Ok(give_event(rest));
+    }
+    if is_word(word, b"drop") {
+        return Ok(drop_event(rest));
+    }
+    if is_word(word, b"cancel") {
+        return Ok(cancel_event(rest));
     }
     Ok(None)
 }
@@ -86,6 +92,26 @@ fn poll_event(rest: &[u8]) -> Option<Event>
     let (task, rest) = next_number(rest)?;
     match next_word(rest) {
         None => Some(Event::Poll(n, task)),
+        Some(_) => None,
+    }
+}
+
+fn drop_event(rest: &[u8]) -> Option<Event>
+    ensures { result ≡ numbered_of Event.Drop (words_behind rest.now) }
+{
+    let (n, rest) = next_number(rest)?;
+    match next_word(rest) {
+        None => Some(Event::Drop(n)),
+        Some(_) => None,
+    }
+}
+
+fn cancel_event(rest: &[u8]) -> Option<Event>
+    ensures { result ≡ numbered_of Event.Cancel (words_behind rest.now) }
+{
+    let (n, rest) = next_number(rest)?;
+    match next_word(rest) {
+        None => Some(Event::Cancel(n)),
         Some(_) => None,
     }
 }
@@ -146,15 +172,37 @@ fn read_told(rest: &[u8]) -> Option<Told>
     ensures { result ≡ told_of (words_behind rest.now) }
 {
     let (word, rest) = next_word(rest)?;
-    if !is_word(word, b"ok") {
-        return None;
+    if is_word(word, b"ok") {
+        return read_count(rest);
     }
+    if is_word(word, b"err") {
+        return read_error(rest);
+    }
+    None
+}
+
+fn read_count(rest: &[u8]) -> Option<Told>
+    ensures { result ≡ option_and_then (told_below (2 ^ 32) Told.Count) (number_field (words_behind rest.now)) }
+{
     let (k, rest) = next_number(rest)?;
     if k > u32::MAX as u64 {
         return None;
     }
     match next_word(rest) {
         None => Some(Told::Count(k as u32)),
+        Some(_) => None,
+    }
+}
+
+fn read_error(rest: &[u8]) -> Option<Told>
+    ensures { result ≡ option_and_then (told_below (2 ^ 16) Told.Fail) (number_field (words_behind rest.now)) }
+{
+    let (e, rest) = next_number(rest)?;
+    if e > u16::MAX as u64 {
+        return None;
+    }
+    match next_word(rest) {
+        None => Some(Told::Fail(e as u16)),
         Some(_) => None,
     }
 }
@@ -169,17 +217,29 @@ fn handle_kind(word: &[u8]) -> Option<HandleKind>
     }
 }
 
+fn buffer_kind(word: &[u8]) -> Option<Kind>
+    ensures { result ≡ buffer_kind_of word.now }
+{
+    if is_word(word, b"v") {
+        return Some(Kind::Vector);
+    }
+    if is_word(word, b"g") {
+        return Some(Kind::Grown);
+    }
+    if is_word(word, b"b") {
+        return Some(Kind::Fixed);
+    }
+    None
+}
+
 // The words of a line.
 
 fn next_buffer_kind(rest: &[u8]) -> Option<(Kind, &[u8])>
     ensures { MatchOption result (kind_field (words_behind rest.now) ≡ None) (λ cut. kind_field (words_behind rest.now) ≡ Some (cut.0, words_behind cut.1.now)) }
 {
     let (word, rest) = next_word(rest)?;
-    if is_word(word, b"v") {
-        Some((Kind::Vector, rest))
-    } else {
-        None
-    }
+    let kind = buffer_kind(word)?;
+    Some((kind, rest))
 }
 
 fn next_number(rest: &[u8]) -> Option<(u64, &[u8])>

@@ -5,7 +5,7 @@ use std::test::Fail;
 
 // Lines that stand for no event: what is wrong, and the line.
 #[rattlefmt::skip]
-const WRONG: [(&str, &[u8]); 46] = [
+const WRONG: [(&str, &[u8]); 55] = [
     ("an empty line", b"\n"),
     ("upper-case hex", b"feed 0 6A"),
     ("odd hex", b"feed 0 616"),
@@ -33,7 +33,8 @@ const WRONG: [(&str, &[u8]); 46] = [
     ("a word's front", b"tur"),
     ("a word and more", b"turns"),
     ("unknown handle", b"give streams"),
-    ("unknown buffer", b"submit recv 0 b 4 0 4 -"),
+    ("unknown buffer", b"submit recv 0 w 4 0 4 -"),
+    ("a fixed buffer that is not full", b"submit recv 0 b 4 0 4 616263"),
     ("unknown request", b"submit send 0 v 4 0 4 -"),
     ("no kind", b"give"),
     ("no number", b"poll 0"),
@@ -49,8 +50,16 @@ const WRONG: [(&str, &[u8]); 46] = [
     ("plus sign", b"poll +0 7"),
     ("minus sign", b"poll -0 7"),
     ("empty number", b"poll  7"),
-    ("a drop", b"drop 0"),
-    ("a failed execution", b"exec 0 err 1"),
+    ("no number of a drop", b"drop"),
+    ("one word behind a drop", b"drop 0 7"),
+    ("leading zero of a cancel", b"cancel 01"),
+    ("one word behind a cancel", b"cancel 0 0"),
+    ("a word's plural", b"drops 0"),
+    ("one past u16", b"exec 0 err 65536"),
+    ("leading zero of an error", b"exec 0 err 0125"),
+    ("no error", b"exec 0 err"),
+    ("one word behind an error", b"exec 0 err 1 1"),
+    ("unknown outcome", b"exec 0 fail 1"),
     ("a request under a cancel handle", b"under 0 recv 0 v 4 0 4 -"),
 ];
 
@@ -75,9 +84,19 @@ exec 0 ok 2
 feed 18446744073709551615 000f109aff
 submit recv 1 v 18446744073709551615 0 0 -
 submit recv 10 v 8 1 7 616263
+submit recv 0 g 8 1 7 616263
+submit recv 0 b 3 1 2 616263
 exec 12 ok 4294967295
 poll 18446744073709551615 0
 feed 3 -
+drop 0
+cancel 18446744073709551615
+drop 18446744073709551615
+cancel 10
+exec 0 err 125
+exec 0 err 0
+exec 3 err 4096
+exec 3 err 65535
 ";
 
 #[test]
@@ -126,42 +145,52 @@ fn text_of(alloc: Global, reply: &Reply) -> Result<Vec<u8>, OutOfMemory> {
     Ok(out)
 }
 
+// A reply's text is this.
+fn is_text(alloc: Global, reply: &Reply, want: &[u8]) -> Result<bool, OutOfMemory> {
+    let text = text_of(alloc, reply)?;
+    Ok(text.as_slice() == want)
+}
+
 #[test]
 fn reply_texts(rt: HostRuntime) -> Result<(), Fail> {
     let alloc = rt.alloc();
-    assert_eq!(rt;
-        text_of(alloc, &Reply::Handle(3))?.as_slice(),
-        b"handle 3".as_slice()
-    );
-    assert_eq!(rt; text_of(alloc, &Reply::Fed)?.as_slice(), b"fed".as_slice());
-    assert_eq!(rt;
-        text_of(alloc, &Reply::Submitted(10))?.as_slice(),
-        b"op 10".as_slice()
-    );
-    assert_eq!(rt;
-        text_of(alloc, &Reply::Pending)?.as_slice(),
-        b"pending".as_slice()
-    );
+    assert!(rt; is_text(alloc, &Reply::Handle(3), b"handle 3")?);
+    assert!(rt; is_text(alloc, &Reply::Fed, b"fed")?);
+    assert!(rt; is_text(alloc, &Reply::Submitted(10), b"op 10")?);
+    assert!(rt; is_text(alloc, &Reply::Pending, b"pending")?);
+    assert!(rt; is_text(alloc, &Reply::Dropped, b"dropped")?);
+    assert!(rt; is_text(alloc, &Reply::Asked, b"asked")?);
+    assert!(rt; is_text(alloc, &Reply::ExecutedOp(5), b"executed op 5")?);
+    Ok(())
+}
+
+#[test]
+fn handed_texts(rt: HostRuntime) -> Result<(), Fail> {
+    let alloc = rt.alloc();
     let bytes = ByteList::from_vec(Vec::from_slice(alloc, b"ab")?);
     let buffer = BufSpec::new(Kind::Vector, 4, 0, 4, bytes).ok_or("no buffer")?;
     let handed = Reply::Handed(Outcome::Count(2), HeldBuf::One(buffer));
-    assert_eq!(rt;
-        text_of(alloc, &handed)?.as_slice(),
-        b"ready ok 2 v 4 0 4 6162".as_slice()
-    );
-    let (reaped, closed, woken) = (
-        numbers(alloc, &[0, 12])?,
-        numbers(alloc, &[])?,
-        numbers(alloc, &[7])?,
-    );
-    assert_eq!(rt;
-        text_of(alloc, &Reply::Turned(reaped, closed, woken))?.as_slice(),
-        b"turned 0,12 - 7".as_slice()
-    );
-    assert_eq!(rt;
-        text_of(alloc, &Reply::ExecutedOp(5))?.as_slice(),
-        b"executed op 5".as_slice()
-    );
+    assert!(rt; is_text(alloc, &handed, b"ready ok 2 v 4 0 4 6162")?);
+    let bytes = ByteList::from_vec(Vec::new(alloc));
+    let buffer = BufSpec::new(Kind::Grown, 4, 0, 4, bytes).ok_or("no buffer")?;
+    let handed = Reply::Handed(Outcome::Fail(125), HeldBuf::One(buffer));
+    assert!(rt; is_text(alloc, &handed, b"ready err 125 g 4 0 4 -")?);
+    Ok(())
+}
+
+#[test]
+fn turned_texts(rt: HostRuntime) -> Result<(), Fail> {
+    let alloc = rt.alloc();
+    let reaped = numbers(alloc, &[0, 12])?;
+    let closed = numbers(alloc, &[])?;
+    let woken = numbers(alloc, &[7])?;
+    let turned = Reply::Turned(reaped, closed, woken);
+    assert!(rt; is_text(alloc, &turned, b"turned 0,12 - 7")?);
+    Ok(())
+}
+
+#[test]
+fn refused_texts(rt: HostRuntime) -> Result<(), Fail> {
     for (refusal, want) in [
         (Refusal::NoOp, b"refused NoOp".as_slice()),
         (Refusal::NoHandle, b"refused NoHandle".as_slice()),
@@ -169,7 +198,10 @@ fn reply_texts(rt: HostRuntime) -> Result<(), Fail> {
         (Refusal::NotFlying, b"refused NotFlying".as_slice()),
         (Refusal::BadOutcome, b"refused BadOutcome".as_slice()),
     ] {
-        assert_eq!(rt; text_of(alloc, &Reply::Refused(refusal))?.as_slice(), want);
+        assert!(rt;
+            is_text(rt.alloc(), &Reply::Refused(refusal), want)?,
+            "at {want:?}"
+        );
     }
     Ok(())
 }

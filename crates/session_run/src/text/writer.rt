@@ -51,6 +51,8 @@ fn put_event(event: &Event, out: &mut Vec<u8>) -> Result<(), OutOfMemory>
         Event::Feed(h, bytes) => put_feed(*h, bytes.as_slice(), out),
         Event::Submit(request) => put_submit(request, out),
         Event::Poll(n, task) => put_poll(*n, *task, out),
+        Event::Drop(n) => put_counted(b"drop ", *n, out),
+        Event::Cancel(n) => put_counted(b"cancel ", *n, out),
         Event::Turn => put(b"turn", out),
         Event::Exec(place, told) => put_exec(*place, *told, out),
     }
@@ -110,6 +112,10 @@ fn put_exec(place: usize, told: Told, out: &mut Vec<u8>) -> Result<(), OutOfMemo
             put(b" ok ", out)?;
             put_number(k as u64, out)
         }
+        Told::Fail(e) => {
+            put(b" err ", out)?;
+            put_number(e as u64, out)
+        }
     }
 }
 
@@ -131,6 +137,8 @@ fn put_buffer_kind(kind: Kind, out: &mut Vec<u8>) -> Result<(), OutOfMemory>
 {
     match kind {
         Kind::Vector => put(b"v", out),
+        Kind::Grown => put(b"g", out),
+        Kind::Fixed => put(b"b", out),
     }
 }
 
@@ -152,6 +160,8 @@ fn put_reply(reply: &Reply, out: &mut Vec<u8>) -> Result<(), OutOfMemory>
         Reply::Submitted(n) => put_counted(b"op ", *n, out),
         Reply::Pending => put(b"pending", out),
         Reply::Handed(outcome, held) => put_ready(*outcome, held, out),
+        Reply::Dropped => put(b"dropped", out),
+        Reply::Asked => put(b"asked", out),
         Reply::Turned(reaped, closed, woken) => {
             put_turned(reaped.as_slice(), closed.as_slice(), woken.as_slice(), out)
         }
@@ -174,6 +184,7 @@ fn put_ready(outcome: Outcome, held: &HeldBuf, out: &mut Vec<u8>) -> Result<(), 
 {
     match outcome {
         Outcome::Count(k) => put_counted(b"ready ok ", k as u64, out)?,
+        Outcome::Fail(e) => put_counted(b"ready err ", e as u64, out)?,
     }
     put_byte(b' ', out)?;
     match held {

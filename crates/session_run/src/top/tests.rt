@@ -6,7 +6,7 @@ use std::test::Fail;
 
 // Runs of the program: a name, the capacity's word, the lines, the status, and the replies, separated by `;`.
 #[rattlefmt::skip]
-const ROWS: [(&str, &str, &str, Status, &str); 12] = [
+const ROWS: [(&str, &str, &str, Status, &str); 15] = [
     ("one read", "1",
      "give stream;submit recv 0 v 4 0 4 -;poll 0 7;feed 0 6162;turn;exec 0 ok 2;poll 0 7;turn;poll 0 7;poll 0 7", Status::Done,
      "handle 0;op 0;pending;fed;turned - - -;executed op 0;pending;turned 0 - 7;ready ok 2 v 4 0 4 6162;refused NoOp;"),
@@ -26,7 +26,19 @@ const ROWS: [(&str, &str, &str, Status, &str); 12] = [
     ("outcomes that aren't allowed", "4",
      "give stream;submit recv 0 v 2 0 2 -;turn;feed 0 61;exec 0 ok 2;exec 0 ok 0;exec 0 ok 1", Status::Done,
      "handle 0;op 0;turned - - -;fed;refused BadOutcome;refused BadOutcome;executed op 0;"),
-    ("an event that isn't built", "4", "drop 0", Status::BadLine, "line 1;"),
+    ("a late cancel, and the slot used again", "8",
+     "give stream;feed 0 61;submit recv 0 v 1 0 1 -;turn;exec 0 ok 1;turn;cancel 0;poll 0 1;submit recv 0 v 1 0 1 -;turn;exec 0 err 125;feed 0 62;exec 0 ok 1;turn;poll 1 2",
+     Status::Done,
+     "handle 0;fed;op 0;turned - - -;executed op 0;turned 0 - -;asked;ready ok 1 v 1 0 1 61;op 1;turned - - -;refused BadOutcome;fed;executed op 1;turned 1 - -;ready ok 1 v 1 0 1 62;"),
+    ("a drop over a full queue", "1",
+     "give stream;submit recv 0 v 1 0 1 -;submit recv 0 v 1 0 1 -;drop 1;turn;exec 1 err 125;turn", Status::Done,
+     "handle 0;op 0;op 1;dropped;turned - - -;executed op 1;turned 1 - -;"),
+    ("errors", "4",
+     "give stream;submit recv 0 v 2 0 2 6162;cancel 0;turn;exec 0 err 0;exec 0 err 4096;exec 0 err 4095;turn;poll 0 1", Status::Done,
+     "handle 0;op 0;asked;turned - - -;refused BadOutcome;refused BadOutcome;executed op 0;turned 0 - -;ready err 4095 v 2 0 2 6162;"),
+    ("nothing after a drop", "4",
+     "drop 0;cancel 0;give stream;submit recv 0 v 1 0 1 -;drop 0;drop 0;cancel 0;poll 0 1", Status::Done,
+     "refused NoOp;refused NoOp;handle 0;op 0;dropped;refused NoOp;refused NoOp;refused NoOp;"),
     ("an empty line", "4", "give stream;;", Status::BadLine, "line 2;"),
 ];
 
@@ -57,7 +69,7 @@ fn failing(alloc: Global, call: Option<u64>) -> Result<NumList, AllocError> {
 }
 
 // Runs the top call over memory, and gives its status and what was written.
-fn run_top<R: Threads + Wait + Net + Clock + Sync>(
+fn run_top<R: Threads + Wait + Clock + Sync>(
     rt: &R,
     alloc: Global,
     words: &[String],
@@ -91,7 +103,7 @@ const FAULTS: [(&str, Option<u64>, Option<u64>, Status, &str); 6] = [
     ("give stream;", Some(1), None, Status::ReadFault, ""),
     ("give stream;", None, Some(0), Status::WriteFault, ""),
     ("give stream;", None, Some(1), Status::WriteFault, "handle 0;"),
-    ("drop 0;", None, Some(0), Status::WriteFault, ""),
+    ("drop;", None, Some(0), Status::WriteFault, ""),
     ("give stream;submit recv 0 v 18446744073709551615 0 0 -;", None, None, Status::OutOfMemory, ""),
 ];
 
@@ -104,6 +116,42 @@ fn faults(rt: HostRuntime) -> Result<(), Fail> {
         let wanted = lines_of(rt.alloc(), output)?;
         assert_eq!(rt; ended, status, "for {input:?}");
         assert_eq!(rt; sink.taken(), wanted.as_slice(), "for {input:?}");
+    }
+    Ok(())
+}
+
+// Words of `wake`, a write that fails, the status, and what was written.
+#[rattlefmt::skip]
+const WAKES: [(&str, Option<u64>, Status, &str); 9] = [
+    ("wake 2 3", None, Status::Done, "drained 6;"),
+    ("wake 0 3", None, Status::Done, "drained 0;"),
+    ("wake 3 0", None, Status::Done, "drained 0;"),
+    ("wake 64 2", None, Status::Done, "drained 128;"),
+    ("wake 65 1", None, Status::BadWords, ""),
+    ("wake 1 100001", None, Status::BadWords, ""),
+    ("wake 01 1", None, Status::BadWords, ""),
+    ("wake 2", None, Status::BadWords, ""),
+    ("wake 2 3", Some(0), Status::WriteFault, ""),
+];
+
+// Words with one space between them.
+fn split_words(alloc: Global, text: &str) -> Result<Vec<String>, AllocError> {
+    let mut words = Vec::new(alloc);
+    for word in text.split(' ') {
+        words.push(String::from_str(alloc, word)?)?;
+    }
+    Ok(words)
+}
+
+#[test]
+fn wakers_are_drained_and_counted(rt: HostRuntime) -> Result<(), Fail> {
+    for (text, failing_write, status, output) in WAKES {
+        let words = split_words(rt.alloc(), text)?;
+        let source = MemSource::new(lines_of(rt.alloc(), "")?, failing(rt.alloc(), None)?);
+        let (ended, sink) = run_top(&rt, rt.alloc(), words.as_slice(), source, failing_write)?;
+        let wanted = lines_of(rt.alloc(), output)?;
+        assert_eq!(rt; ended, status, "for {text:?}");
+        assert_eq!(rt; sink.taken(), wanted.as_slice(), "for {text:?}");
     }
     Ok(())
 }

@@ -1,5 +1,5 @@
 -- Each law is a lemma over plain events.
-use Rattle.ring_core.proofs.HeadlineLaws.{one-reply-each, refused-exactly, pending-until-reaped, reaped-or-not, hands-back-own, handed-once, refused-where-gone, first-poll-hands, given-once, executed-once, reaped-once, one-own, given-in-order}
+use Rattle.ring_core.proofs.HeadlineLaws.{one-reply-each, refused-exactly, pending-until-reaped, reaped-or-not, hands-back-own, handed-once, dropped-once, refused-where-gone, first-poll-hands, reap-names, kept-until-reaped, canceled-where-asked, given-once, executed-once, reaped-once, one-own, given-in-order}
 use Rattle.ring_core.proofs.headline.headline.Goals as goal
 
 pub returns-clause-one_each : goal.returns-clause-one_each
@@ -20,11 +20,23 @@ returns-clause-handed c = hands-back-own
 pub returns-clause-once : goal.returns-clause-once
 returns-clause-once c = handed-once
 
+pub returns-clause-dropped : goal.returns-clause-dropped
+returns-clause-dropped c = dropped-once
+
 pub returns-clause-gone : goal.returns-clause-gone
 returns-clause-gone c = refused-where-gone
 
 pub returns-clause-first : goal.returns-clause-first
 returns-clause-first c = first-poll-hands
+
+pub returns-clause-names : goal.returns-clause-names
+returns-clause-names c = reap-names
+
+pub returns-clause-kept : goal.returns-clause-kept
+returns-clause-kept c = kept-until-reaped
+
+pub returns-clause-canceled : goal.returns-clause-canceled
+returns-clause-canceled c = canceled-where-asked
 
 pub returns-clause-given : goal.returns-clause-given
 returns-clause-given c = given-once

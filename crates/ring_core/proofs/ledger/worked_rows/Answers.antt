@@ -21,3 +21,15 @@ returns-clause-refused_in_order c = refl
 pub returns-clause-refused_outcomes : goal.returns-clause-refused_outcomes
 unfolding step
 returns-clause-refused_outcomes c = refl
+
+pub returns-clause-late_cancel : goal.returns-clause-late_cancel
+unfolding step
+returns-clause-late_cancel c = refl
+
+pub returns-clause-full_queue : goal.returns-clause-full_queue
+unfolding step
+returns-clause-full_queue c = refl
+
+pub returns-clause-errors : goal.returns-clause-errors
+unfolding step
+returns-clause-errors c = refl

@@ -1,16 +1,24 @@
 use Rattle.session_run.specs.declared.top.Status.TheVariants.{Done, WriteFault, OutOfMemory}
-use Rattle.session_run.proofs.Commands.{reads-run, same-capacity}
-use Rattle.session_run.proofs.Writing.{ends-as}
+use Rattle.session_run.proofs.Commands.{reads-nothing}
+use Rattle.session_run.proofs.Endings.{run-ends, wake-ends}
 use Rattle.session_run.proofs.top.top.Goals as goal
 
 pub returns-in-Some-clause-done : goal.returns-in-Some-clause-done
 returns-in-Some-clause-done g c = λ capacity run is.
-    (ends-as g.S.ByteSource.tells g.K.ByteSink.tells _ capacity _ _ _ _ Done (same-capacity _ _ _ (reads-run _ c.in-Some.command c.in-Some.ensures) run) is c.run_command.ensures.ends).0
+    (run-ends g.S.ByteSource.tells g.K.ByteSink.tells _ c.in-Some.command capacity _ _ _ _ Done c.in-Some.ensures run is c.run_command.ensures.ends).0
 
 pub returns-in-Some-clause-front : goal.returns-in-Some-clause-front
 returns-in-Some-clause-front g c = λ capacity run is.
-    (ends-as g.S.ByteSource.tells g.K.ByteSink.tells _ capacity _ _ _ _ WriteFault (same-capacity _ _ _ (reads-run _ c.in-Some.command c.in-Some.ensures) run) is c.run_command.ensures.ends).1
+    (run-ends g.S.ByteSource.tells g.K.ByteSink.tells _ c.in-Some.command capacity _ _ _ _ WriteFault c.in-Some.ensures run is c.run_command.ensures.ends).1
 
 pub returns-in-Some-clause-some : goal.returns-in-Some-clause-some
 returns-in-Some-clause-some g c = λ capacity run is.
-    ends-as g.S.ByteSource.tells g.K.ByteSink.tells _ capacity _ _ _ _ OutOfMemory (same-capacity _ _ _ (reads-run _ c.in-Some.command c.in-Some.ensures) run) is c.run_command.ensures.ends
+    run-ends g.S.ByteSource.tells g.K.ByteSink.tells _ c.in-Some.command capacity _ _ _ _ OutOfMemory c.in-Some.ensures run is c.run_command.ensures.ends
+
+pub returns-in-Some-clause-wakes : goal.returns-in-Some-clause-wakes
+returns-in-Some-clause-wakes g c = λ senders count wake.
+    wake-ends g.S.ByteSource.tells g.K.ByteSink.tells _ c.in-Some.command senders count _ _ _ _ c.in-Some.ensures wake c.run_command.ensures.ends
+
+pub returns-in-Some-clause-unread : goal.returns-in-Some-clause-unread
+returns-in-Some-clause-unread g c = λ senders count wake.
+    c.run_command.ensures.unread (reads-nothing _ c.in-Some.command senders count c.in-Some.ensures wake)

@@ -1,10 +1,10 @@
-use Rattle.std.proofs.Common.{refl}
-use Rattle.uring_driver.proofs.Tokens.{keeps-put}
-use Rattle.uring_driver.proofs.Filling.{filled-in}
+use Rattle.std.proofs.Common.{sym, subst}
+use Rattle.uring_driver.specs.Slot.{FillsSlot}
+use Rattle.uring_driver.proofs.Filling.{filled-none}
 use Rattle.uring_driver.proofs.slot.fill_slot.Goals as goal
 
-pub returns-clause-fills : goal.returns-clause-fills
-returns-clause-fills g c = filled-in g.B.IoBufMut.buffer c.args.slots.now.values c.args.key c.args.bytes.now c.value_mut-slot.result.now c.fill.new.request c.value_mut-slot.ensures.value c.fill.ensures
+pub returns-in-Count-clause-fills : goal.returns-in-Count-clause-fills
+returns-in-Count-clause-fills g c = subst (λ t. FillsSlot g.B.IoBufMut.buffer c.args.slots.now.values c.args.key t c.args.bytes.now c.store_in.new.slots.values) (sym c.in-Count.is) (c.store_in.ensures.fills c.in-Count.field-0)
 
-pub returns-clause-numbers : goal.returns-clause-numbers
-returns-clause-numbers g c = keeps-put c.args.slots.now.values c.args.key c.value_mut-slot.result.now _ c.value_mut-slot.ensures.value refl
+pub returns-in-Fail-clause-fills : goal.returns-in-Fail-clause-fills
+returns-in-Fail-clause-fills g c = subst (λ t. FillsSlot g.B.IoBufMut.buffer c.args.slots.now.values c.args.key t c.args.bytes.now c.args.slots.now.values) (sym c.in-Fail.is) (filled-none g.B.IoBufMut.buffer c.args.slots.now.values c.args.key c.args.bytes.now c.in-Fail.field-0)

@@ -7,7 +7,7 @@ returns-then-not-user_holds c = λ L stands. answers-refused c.args.self.now _ L
     (cause-feed L c.args.h c.args.bytes.now (sym (stands.driver.handles c.args.h) ∙ sym c.user_holds.ensures ∙ c.if-not-user_holds.true)) refl refl
 
 pub returns-in-Ok : goal.returns-in-Ok
-returns-in-Ok c = λ L stands. answers-kept c.args.self.now _ L _ _ stands refl (c.in-Ok.ensures.answers L stands.driver) c.in-Ok.ensures.tokens c.in-Ok.ensures.given
+returns-in-Ok c = λ L stands. answers-kept c.args.self.now _ L _ _ stands refl (c.in-Ok.ensures.answers L stands.driver) (λ none. c.in-Ok.ensures.due ∙ none) c.in-Ok.ensures.tokens c.in-Ok.ensures.given
 
 pub returns-in-Err : goal.returns-in-Err
 returns-in-Err c = λ L stands. stands-same c.args.self.now _ L stands c.in-Err.ensures.err refl

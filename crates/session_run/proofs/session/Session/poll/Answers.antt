@@ -5,14 +5,14 @@ use Rattle.ring_core.specs.Request.{buffer_of, plain_request}
 use Rattle.ring_core.specs.declared.ledger.Event.TheVariants.{Poll}
 use Rattle.ring_core.specs.declared.ledger.Reply.TheVariants.{Pending, Handed}
 use Rattle.uring_driver.specs.Stands.{Answers}
-use Rattle.session_run.specs.Token.{token_at}
-use Rattle.session_run.proofs.Tokens.{emptied-none, token_at-emptied, put-taken}
+use Rattle.session_run.specs.Token.{token_at, by_number}
+use Rattle.session_run.proofs.KeptTokens.{emptied-none, token_at-emptied, put-taken}
 use Rattle.session_run.proofs.Steps.{answers-kept, answers-refused, answers-taken, cause-poll, no_token-lacks}
 use Rattle.session_run.proofs.session.Session.poll.Goals as goal
 
 pub returns-in-None : goal.returns-in-None
 returns-in-None c = λ L stands.
-    let items = c.args.self.now.tokens.items in
+    let items = by_number c.args.self.now.tokens in
     let none : token_at items c.args.n ≡ None = sym c.in-None.ensures.value in
     answers-refused c.args.self.now _ L _ _ stands (cause-poll L c.args.n c.args.task (no_token-lacks c.args.self.now L c.args.n stands none _ refl)) refl (c.in-None.ensures.rest ∙ emptied-none items c.args.n none)
 
@@ -21,16 +21,16 @@ poll_op-requires c = c.holds.ensures.0 c.if-not-holds.false
 
 pub returns-in-Pending : goal.returns-in-Pending
 returns-in-Pending c = λ L stands.
-    let items = c.args.self.now.tokens.items in
+    let items = by_number c.args.self.now.tokens in
     let there = sym c.in-Some.ensures.value in
     let emptied = ap (λ x. token_at x c.args.n) c.in-Some.ensures.rest ∙ token_at-emptied items c.args.n in
-    let back = ap (λ o. amended c.take_token.new.tokens.items c.args.n (λ token. Some o)) c.in-Pending.ensures.tokens.0 in
+    let back = ap (λ o. amended (by_number c.take.new.self) c.args.n (λ token. Some o)) c.in-Pending.ensures.tokens.0 in
     answers-kept c.args.self.now _ L _ _ stands
-    (c.put_token.ensures emptied ∙ back ∙ ap (λ x. amended x c.args.n (λ token. Some c.in-Some.op)) c.in-Some.ensures.rest ∙ put-taken items c.args.n c.in-Some.op there)
-    (subst (λ n. Answers (λ r. r) built L (Poll n c.args.task) Pending c.poll_op.new.self) ((stands.tokens c.args.n c.in-Some.op).0 there).1 (c.in-Pending.ensures.answers L stands.driver)) c.in-Pending.ensures.tokens.1 c.poll_op.ensures.given
+    (c.put.ensures emptied ∙ back ∙ ap (λ x. amended x c.args.n (λ token. Some c.in-Some.op)) c.in-Some.ensures.rest ∙ put-taken items c.args.n c.in-Some.op there)
+    (subst (λ n. Answers (λ r. r) built L (Poll n c.args.task) Pending c.poll_op.new.self) ((stands.tokens c.args.n c.in-Some.op).0 there).1 (c.in-Pending.ensures.answers L stands.driver)) (λ none. c.poll_op.ensures.due ∙ none) c.in-Pending.ensures.tokens.1 c.poll_op.ensures.given
 
 pub returns-in-Ready : goal.returns-in-Ready
 returns-in-Ready c = λ L stands.
     let there = sym c.in-Some.ensures.value in
-    rw c.held_of.ensures (answers-taken c.args.self.now _ L c.args.n c.in-Some.op _ _ stands there c.in-Some.ensures.rest c.in-Ready.ensures.tokens c.poll_op.ensures.given
+    rw c.held_of.ensures (answers-taken c.args.self.now _ L c.args.n c.in-Some.op _ _ stands there c.in-Some.ensures.rest c.in-Ready.ensures.tokens (λ none. c.poll_op.ensures.due ∙ none) c.poll_op.ensures.given
     (subst (λ n. Answers (λ r. r) built L (Poll n c.args.task) (Handed c.in-Ready.done.outcome (buffer_of (plain_request built c.in-Ready.done.request))) c.poll_op.new.self) ((stands.tokens c.args.n c.in-Some.op).0 there).1 (c.in-Ready.ensures.answers L stands.driver)))

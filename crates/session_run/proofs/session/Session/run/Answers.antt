@@ -1,7 +1,7 @@
 use Rattle.std.proofs.Common.{◌+◌, sym, subst, add-one, arith}
 use Rattle.ring_core.specs.Ledger.{empty}
-use Rattle.ring_core.specs.Headline.{RefusedExactly, PendingUntilReaped, HandsBackOwn, FirstPollHands, HandedOnce}
-use Rattle.ring_core.proofs.HeadlineLaws.{refused-exactly, pending-until-reaped, hands-back-own, first-poll-hands, handed-once}
+use Rattle.ring_core.specs.Headline.{RefusedExactly, PendingUntilReaped, HandsBackOwn, FirstPollHands, HandedOnce, DroppedOnce, ReapNames, CanceledWhereAsked}
+use Rattle.ring_core.proofs.HeadlineLaws.{refused-exactly, pending-until-reaped, hands-back-own, first-poll-hands, handed-once, dropped-once, reap-names, canceled-where-asked}
 use Rattle.session_run.specs.Session.{SessionStands}
 use Rattle.session_run.proofs.Runs.{get-there, after-one_more, replies-one_more, replies-done}
 use Rattle.session_run.proofs.session.Session.run.Goals as goal
@@ -37,3 +37,15 @@ returns-clause-first c =
 pub returns-clause-once : goal.returns-clause-once
 returns-clause-once c =
     subst (λ rs. HandedOnce c.args.events.now rs) (sym (replies-done (empty c.args.capacity) c.args.events.now c.loop-event.event-index _ _ (omega arith) c.loop-event.invariant.all)) (handed-once c.args.capacity c.args.events.now)
+
+pub returns-clause-dropped : goal.returns-clause-dropped
+returns-clause-dropped c =
+    subst (λ rs. DroppedOnce c.args.events.now rs) (sym (replies-done (empty c.args.capacity) c.args.events.now c.loop-event.event-index _ _ (omega arith) c.loop-event.invariant.all)) (dropped-once c.args.capacity c.args.events.now)
+
+pub returns-clause-names : goal.returns-clause-names
+returns-clause-names c =
+    subst (λ rs. ReapNames c.args.capacity c.args.events.now rs) (sym (replies-done (empty c.args.capacity) c.args.events.now c.loop-event.event-index _ _ (omega arith) c.loop-event.invariant.all)) (reap-names c.args.capacity c.args.events.now)
+
+pub returns-clause-canceled : goal.returns-clause-canceled
+returns-clause-canceled c =
+    subst (λ rs. CanceledWhereAsked c.args.capacity c.args.events.now rs) (sym (replies-done (empty c.args.capacity) c.args.events.now c.loop-event.event-index _ _ (omega arith) c.loop-event.invariant.all)) (canceled-where-asked c.args.capacity c.args.events.now)

@@ -7,7 +7,7 @@ use Rattle.uring_driver.proofs.driver.IoUringDriver+MemRing+B.give.Goals as goal
 pub returns-clause-answers : goal.returns-clause-answers
 returns-clause-answers g c = λ L stands.
     let d = c.args.self.now in
-    stands-gives g.B.IoBufMut.buffer d _ L stands refl refl c.args.kind c.new.result (c.new.ensures ∙ c.in_ok-h.ensures.number) (ap (λ x. x.0) c.in_ok-h.ensures.ok)
+    stands-gives g.B.IoBufMut.buffer d _ L stands refl (ap (λ x. x.due) c.in_ok-h.ensures.ok) (ap (λ x. x.room) c.in_ok-h.ensures.ok) refl c.args.kind c.new.result (c.new.ensures ∙ c.in_ok-h.ensures.number) (ap (λ x. x.ring) c.in_ok-h.ensures.ok)
     (c.first_of-self.ensures ∙ ap (first_with d.first d.held) (sym c.new.ensures)) refl
 
 pub returns-clause-held : goal.returns-clause-held

@@ -8,7 +8,7 @@ use Rattle.uring_driver.proofs.Starting.{stands-empty}
 use Rattle.uring_driver.proofs.driver.IoUringDriver.over.Goals as goal
 
 pub returns-clause-stands : goal.returns-clause-stands
-returns-clause-stands g c = λ world. stands-empty g.R.Ring.view g.B.IoBufMut.buffer _ c.args.ring (ap (λ x. x.0) c.new.ensures) c.new-2.ensures refl refl refl c.requires world
+returns-clause-stands g c = λ world. stands-empty g.R.Ring.view g.B.IoBufMut.buffer _ c.args.ring c.new.ensures c.new-2.ensures refl refl refl c.requires world
 
 pub returns-clause-none : goal.returns-clause-none
 returns-clause-none g c = (ap len c.new-2.ensures ∙ len-empty nat_cmp (Slot g.row.B.Denot), refl, λ op held. none-held c.new-2.result.values c.new-2.ensures op.key (number_of op) held)

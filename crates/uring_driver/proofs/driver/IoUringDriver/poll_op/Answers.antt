@@ -1,6 +1,12 @@
 use Rattle.std.proofs.Common.{refl}
-use Rattle.uring_driver.proofs.Tokens.{polled-live, polled-completed, polled-numbers, taken-tokens, tokens-kept, poll-pending, poll-taken, poll-unreaped, poll-reaped}
+use Rattle.uring_driver.proofs.Tokens.{held-live, held-owned, polled-live, polled-completed, polled-numbers, taken-tokens, tokens-kept, poll-pending, poll-taken, poll-unreaped, poll-reaped}
 use Rattle.uring_driver.proofs.driver.IoUringDriver.poll_op.Goals as goal
+
+pub poll_slot-requires-clause-live : goal.poll_slot-requires-clause-live
+poll_slot-requires-clause-live g c = held-live {R = g.row.R.Denot} c.args.self.now c.args.op c.key.result c.requires c.key.ensures
+
+pub poll_slot-requires-clause-owned : goal.poll_slot-requires-clause-owned
+poll_slot-requires-clause-owned g c = held-owned {R = g.row.R.Denot} c.args.self.now c.args.op c.key.result c.requires c.key.ensures
 
 pub take_done-requires-clause-live : goal.take_done-requires-clause-live
 take_done-requires-clause-live g c =

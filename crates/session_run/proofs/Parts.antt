@@ -1,0 +1,55 @@
+-- The parts of a session after calls of its driver.
+use Rattle.std.proofs.Common.{◌≡◌, Bool, true, IsTrue, ℕ, [], refl, sym, ◌∙◌, subst}
+use Rattle.std.specs.Prelude.{Result, Ok, Err, OnErr, Option, Some, None}
+use Rattle.rent_buf.specs.Buf.{built}
+use Rattle.rent_buf.specs.declared.spec.Buf.{Buf}
+use Rattle.ring_core.specs.Ring.{RingView}
+use Rattle.ring_core.specs.Ledger.{Ledger}
+use Rattle.ring_core.specs.declared.ledger.Event.TheVariants.{Turn, Exec}
+use Rattle.ring_core.specs.declared.request.Told.{Told}
+use Rattle.ring_core.specs.declared.mem_ring.ExecRefusal.{ExecRefusal}
+use Rattle.ring_core.specs.Step.{step}
+use Rattle.uring_driver.specs.declared.driver.IoUringDriver.{IoUringDriver}
+use Rattle.uring_driver.specs.declared.op.Executed.{Executed}
+use Rattle.uring_driver.specs.declared.op.Executed.TheVariants.{Op as ExecutedNumber}
+use Rattle.uring_driver.specs.declared.op.Turned.{Turned}
+use Rattle.uring_driver.specs.declared.op.Stop.{Stop}
+use Rattle.uring_driver.specs.Driver.{due_in, given_by}
+use Rattle.uring_driver.specs.Op.{KeepsTokens}
+use Rattle.uring_driver.specs.Executed.{ExecutesFor}
+use Rattle.uring_driver.specs.Turned.{TurnsFor}
+use Rattle.uring_driver.specs.Stands.{Stands}
+use Rattle.session_run.specs.declared.tokens.Tokens.{Tokens}
+use Rattle.session_run.specs.Token.{by_number}
+use Rattle.session_run.specs.Session.{PartsStand, AreParts}
+use Rattle.session_run.proofs.KeptTokens.{are_held-kept}
+use Rattle.session_run.proofs.Steps.{stopped-same}
+
+-- What stands for a ledger is a driver and tokens of a session.
+pub parts_of_some : (engine : IoUringDriver RingView Buf) (kept : Tokens) (L : Ledger) → PartsStand engine kept L → AreParts engine kept
+parts_of_some engine kept L stand = record { ledger = L; stand = stand }
+
+-- A driver that holds the tokens that it held stays that of a session, where it stands for some ledger and nothing is due in it.
+parts-moved : (old new : IoUringDriver RingView Buf) (kept : Tokens) (L M : Ledger) → PartsStand old kept L → Stands (λ r. r) built new M → (due_in old ≡ [] → due_in new ≡ []) → KeepsTokens old new → given_by new ≡ given_by old → AreParts new kept
+parts-moved old new kept L M stand driver due tokens given = record {
+  ledger = M;
+  stand = record {
+    driver = driver;
+    none_due = due stand.none_due;
+    numbered = stand.numbered ∙ sym given;
+    tokens = are_held-kept (by_number kept) old new stand.tokens tokens;
+  };
+}
+
+-- An execution leaves the parts of a session.
+pub parts_executed : (old new : IoUringDriver RingView Buf) (kept : Tokens) (place : ℕ) (told : Told) (result : Result Executed ExecRefusal) → AreParts old kept → ((L : Ledger) → Stands (λ r. r) built old L → ExecutesFor built L place told new result) → OnErr result (new ≡ old) → due_in new ≡ due_in old → KeepsTokens old new → given_by new ≡ given_by old → AreParts new kept
+parts_executed old new kept place told (Ok (ExecutedNumber n)) parts answers err due tokens given =
+    parts-moved old new kept parts.ledger (step parts.ledger (Exec place told)).0 parts.stand (answers parts.ledger parts.stand.driver).stands (λ none. due ∙ none) tokens given
+parts_executed old new kept place told (Err why) parts answers err due tokens given = subst (λ d. AreParts d kept) (sym err) parts
+
+-- So does a turn over the ring in memory.
+pub parts_turned : (old new : IoUringDriver RingView Buf) (kept : Tokens) (turned : Turned) (stop : Option Stop) → AreParts old kept → ((L : Ledger) → Stands (λ r. r) built old L → TurnsFor (λ r. r) built true L old new turned stop) → (due_in old ≡ [] → due_in new ≡ []) → KeepsTokens old new → given_by new ≡ given_by old → AreParts new kept
+parts_turned old new kept turned None parts turns due tokens given =
+    parts-moved old new kept parts.ledger (step parts.ledger Turn).0 parts.stand (turns parts.ledger parts.stand.driver).stands due tokens given
+parts_turned old new kept turned (Some stop) parts turns due tokens given =
+    subst (λ d. AreParts d kept) (sym (stopped-same parts.ledger old new turned stop (turns parts.ledger parts.stand.driver))) parts

@@ -1,0 +1,21 @@
+use Rattle.std.proofs.Common.{refl, subst}
+use Rattle.rent_buf.specs.Buf.{built}
+use Rattle.ring_core.specs.declared.ledger.Event.TheVariants.{Cancel}
+use Rattle.ring_core.specs.declared.ledger.Reply.TheVariants.{Asked}
+use Rattle.uring_driver.specs.Stands.{Answers}
+use Rattle.session_run.proofs.Steps.{answers-kept, answers-refused, stands-kept, cause-cancel, no_token-lacks}
+use Rattle.session_run.proofs.session.Session.cancel.Goals as goal
+
+pub returns-in-None : goal.returns-in-None
+returns-in-None c = λ L stands. answers-refused c.args.self.now _ L _ _ stands (cause-cancel L c.args.n (no_token-lacks c.args.self.now L c.args.n stands c.in-None.ensures _ refl)) refl refl
+
+pub cancel_op-requires : goal.cancel_op-requires
+cancel_op-requires c = c.holds.ensures.0 c.if-not-holds.false
+
+pub returns-in-Ok : goal.returns-in-Ok
+returns-in-Ok c = λ L stands. answers-kept c.args.self.now _ L _ _ stands refl
+    (subst (λ n. Answers (λ r. r) built L (Cancel n) Asked c.cancel_op.new.self) ((stands.tokens c.args.n c.in-Some.op.now).0 c.in-Some.ensures).1 (c.in-Ok.ensures.answers refl L stands.driver))
+    (c.cancel_op.ensures.none_due refl) c.cancel_op.ensures.tokens c.cancel_op.ensures.given
+
+pub returns-in-Err : goal.returns-in-Err
+returns-in-Err c = λ L stands. stands-kept c.args.self.now _ L L stands refl (c.in-Err.ensures.err L stands.driver) (c.cancel_op.ensures.none_due refl) c.cancel_op.ensures.tokens c.cancel_op.ensures.given

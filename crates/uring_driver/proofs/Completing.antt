@@ -1,0 +1,71 @@
+-- What completing a slot does, by its life before.
+use Rattle.std.proofs.Common.{◌≡◌, ℕ, true, Option, Some, None, refl, sym, ◌∙◌, ap, subst}
+use Rattle.std.specs.Ordering.{nat_cmp}
+use Rattle.std.specs.FinMap.{FinMap, get, insert, remove}
+use Rattle.op_slots.specs.Lifecycle.{after_complete}
+use Rattle.op_slots.specs.declared.lifecycle.AfterComplete.TheVariants.{Kept, Wake, Free}
+use Rattle.op_slots.specs.declared.lifecycle.Lifecycle.{Lifecycle}
+use Rattle.op_slots.specs.declared.lifecycle.Lifecycle.TheVariants.{Submitted, Waiting, Ignored, Completed}
+use Rattle.ring_core.specs.declared.request.Outcome.{Outcome}
+use Rattle.ring_core.specs.declared.entry.Completion.{Completion}
+use Rattle.uring_driver.specs.declared.slot.Slot.{Slot}
+use Rattle.uring_driver.specs.Slot.{with_life, task_in, slots_completed, IsCompletedIn, CompletesSlot}
+use Rattle.uring_driver.proofs.Lists.{some}
+
+task-kept : (l : Lifecycle Outcome) → after_complete l ≡ Kept → task_in l ≡ None
+task-kept Submitted h = refl
+task-kept (Waiting t) h = (let f : ⊥ = cc in absurd f)
+task-kept Ignored h = refl
+task-kept (Completed r) h = refl
+
+task-wake : (l : Lifecycle Outcome) (task : ℕ) → after_complete l ≡ Wake task → task_in l ≡ Some task
+task-wake Submitted task h = (let f : ⊥ = cc in absurd f)
+task-wake (Waiting t) task h = (let e : t ≡ task = cc in ap (λ x. Some x) e)
+task-wake Ignored task h = (let f : ⊥ = cc in absurd f)
+task-wake (Completed r) task h = (let f : ⊥ = cc in absurd f)
+
+task-free : (l : Lifecycle Outcome) → after_complete l ≡ Free → task_in l ≡ None
+task-free Submitted h = refl
+task-free (Waiting t) h = (let f : ⊥ = cc in absurd f)
+task-free Ignored h = refl
+task-free (Completed r) h = refl
+
+slots-kept : {B : Type 0} (l : Lifecycle Outcome) (m : FinMap nat_cmp (Slot B)) (k : ℕ) (x : Slot B) → after_complete l ≡ Kept → slots_completed l m k x ≡ insert m k x
+slots-kept Submitted m k x h = refl
+slots-kept (Waiting t) m k x h = refl
+slots-kept Ignored m k x h = (let f : ⊥ = cc in absurd f)
+slots-kept (Completed r) m k x h = refl
+
+slots-wake : {B : Type 0} (l : Lifecycle Outcome) (m : FinMap nat_cmp (Slot B)) (k : ℕ) (x : Slot B) (task : ℕ) → after_complete l ≡ Wake task → slots_completed l m k x ≡ insert m k x
+slots-wake Submitted m k x task h = refl
+slots-wake (Waiting t) m k x task h = refl
+slots-wake Ignored m k x task h = (let f : ⊥ = cc in absurd f)
+slots-wake (Completed r) m k x task h = refl
+
+slots-free : {B : Type 0} (l : Lifecycle Outcome) (m : FinMap nat_cmp (Slot B)) (k : ℕ) (x : Slot B) → after_complete l ≡ Free → slots_completed l m k x ≡ remove (insert m k x) k
+slots-free Submitted m k x h = (let f : ⊥ = cc in absurd f)
+slots-free (Waiting t) m k x h = (let f : ⊥ = cc in absurd f)
+slots-free Ignored m k x h = refl
+slots-free (Completed r) m k x h = (let f : ⊥ = cc in absurd f)
+
+module _ {B : Type 0} (m : FinMap nat_cmp (Slot B)) (c : Completion) (s : Slot B) (life : Lifecycle Outcome) (there : get m c.word ≡ Some s) (completed : life ≡ Completed c.outcome) where
+  completed-as : (new : FinMap nat_cmp (Slot B)) (result : Option (ℕ × Option ℕ)) → IsCompletedIn m c new result s → CompletesSlot m c new result
+  completed-as new result h u at flies = subst (λ x. IsCompletedIn m c new result x) (some s u (get m c.word) there at) h
+
+  pub completes-kept : after_complete s.life ≡ Kept → CompletesSlot m c (insert m c.word (record s { life = life })) (Some (s.serial, None))
+  completes-kept h = completed-as (insert m c.word (record s { life = life })) (Some (s.serial, None)) (record {
+    slots = ap (λ l. insert m c.word (with_life s l)) completed ∙ sym (slots-kept s.life m c.word (with_life s (Completed c.outcome)) h);
+    answer = ap (λ t. Some (s.serial, t)) (sym (task-kept s.life h));
+  })
+
+  pub completes-wake : (task : ℕ) → after_complete s.life ≡ Wake task → CompletesSlot m c (insert m c.word (record s { life = life })) (Some (s.serial, Some task))
+  completes-wake task h = completed-as (insert m c.word (record s { life = life })) (Some (s.serial, Some task)) (record {
+    slots = ap (λ l. insert m c.word (with_life s l)) completed ∙ sym (slots-wake s.life m c.word (with_life s (Completed c.outcome)) task h);
+    answer = ap (λ t. Some (s.serial, t)) (sym (task-wake s.life task h));
+  })
+
+  pub completes-free : (new : FinMap nat_cmp (Slot B)) → after_complete s.life ≡ Free → new ≡ remove (insert m c.word (record s { life = life })) c.word → CompletesSlot m c new (Some (s.serial, None))
+  completes-free new h gone = completed-as new (Some (s.serial, None)) (record {
+    slots = gone ∙ ap (λ l. remove (insert m c.word (with_life s l)) c.word) completed ∙ sym (slots-free s.life m c.word (with_life s (Completed c.outcome)) h);
+    answer = ap (λ t. Some (s.serial, t)) (sym (task-free s.life h));
+  })

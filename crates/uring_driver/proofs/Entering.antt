@@ -1,0 +1,289 @@
+-- Entering what is pending: prefixes of it are taken, one after another.
+use Rattle.std.proofs.Common.{◌≡◌, ℕ, zero, suc, ◌+◌, ◌-◌, ◌<◌, ◌≤◌, Bool, true, false, List, [], ◌∷◌, ◌++◌, length, take, drop, refl, sym, ◌∙◌, ap, subst, arith, append_assoc, append-nil, length-append, IsTrue, Result, Ok, Err}
+use Rattle.std.specs.Prelude.{min, IsOk, OnOk, OnErr, IfErr, ◌==◌, if◌then◌else◌}
+use Rattle.std.proofs.lemmas.List.{length-drop, drop_at, take_at}
+use Rattle.std.proofs.Math.Seq.{take-add, take-length, drop-length, take-append_seam, drop-append_seam}
+use Rattle.ring_core.specs.Counts.{Rose}
+use Rattle.ring_core.specs.declared.entry.Entry.{Entry}
+use Rattle.ring_core.specs.declared.entry.Flight.{Flight}
+use Rattle.ring_core.specs.declared.entry.Completion.{Completion}
+use Rattle.ring_core.specs.declared.ring.EnterError.{EnterError}
+use Rattle.ring_core.specs.declared.ring.EnterError.TheVariants.{Fault, Busy}
+use Rattle.ring_core.specs.Ring.{RingView, IsLater, TookFront, EntersFor, IsPushed, entered, pushed, with_done, flying_with, flying_after, done_with, done_after}
+use Rattle.uring_driver.specs.Pending.{Pending}
+use Rattle.uring_driver.specs.Outbox.{with_spare, with_due, room_made, pending_ring, TakesFront, Enters, KeptOut, JoinsCancel, PendingMoves, KeepsPending}
+
+-- What is taken in two parts is taken in one.
+flying-joined : (flying : List Flight) (xs ys : List Entry) → flying_after flying (xs ++ ys) ≡ flying_after (flying_after flying xs) ys
+flying-joined flying [] ys = refl
+flying-joined flying (x ∷ xs) ys = flying-joined (flying_with flying x x.body) xs ys
+
+done-joined : (done : List Completion) (xs ys : List Entry) → done_after done (xs ++ ys) ≡ done_after (done_after done xs) ys
+done-joined done [] ys = refl
+done-joined done (x ∷ xs) ys = done-joined (done_with done x x.body) xs ys
+
+drop-more : {A : Type 0} (m n : ℕ) (xs : List A) → drop n (drop m xs) ≡ drop (m + n) xs
+drop-more {A} zero n xs = ap (λ k. drop k xs) (let z : n ≡ 0 + n = omega arith in z)
+drop-more {A} (suc m) zero [] = ap (λ k. drop {A = A} k []) (let z : suc m ≡ suc m + 0 = omega arith in z)
+drop-more {A} (suc m) (suc n) [] = ap (λ k. drop {A = A} k []) (let z : suc (m + suc n) ≡ suc m + suc n = omega arith in z)
+drop-more {A} (suc m) n (x ∷ xs) = drop-more m n xs ∙ ap (λ k. drop k (x ∷ xs)) (let z : suc (m + n) ≡ suc m + n = omega arith in z)
+
+take-front : {A : Type 0} (n : ℕ) (xs ys : List A) → n ≤ length xs → take n (xs ++ ys) ≡ take n xs
+take-front zero xs ys h = refl
+take-front (suc n) [] ys h = absurd (omega (arith, h))
+take-front (suc n) (x ∷ xs) ys h = ap (λ zs. x ∷ zs) (take-front n xs ys (omega (arith, h)))
+
+drop-front : {A : Type 0} (n : ℕ) (xs ys : List A) → n ≤ length xs → drop n (xs ++ ys) ≡ drop n xs ++ ys
+drop-front zero xs ys h = refl
+drop-front (suc n) [] ys h = absurd (omega (arith, h))
+drop-front (suc n) (x ∷ xs) ys h = drop-front n xs ys (omega (arith, h))
+
+-- Nothing is taken.
+pub took-none : (v : RingView) (spare : ℕ) → TakesFront v (with_spare v spare)
+took-none v spare = record { count = 0; took = record { within = omega arith; queue = refl; flying = refl; done = refl; world = refl } }
+
+-- One prefix is taken, then one of what is left.
+pub took-on : (a b c : RingView) → TakesFront a b → TakesFront b c → TakesFront a c
+took-on a b c f g =
+    let m = f.count in
+    let n = g.count in
+    let front : take (m + n) a.queue ≡ take m a.queue ++ take n b.queue = take-add m n a.queue ∙ ap (λ q. take m a.queue ++ take n q) (sym f.took.queue) in
+    record {
+      count = m + n;
+      took = record {
+        within = (let w = g.took.within in let l = ap length f.took.queue ∙ length-drop m a.queue in let x = f.took.within in omega (arith, w, l, x));
+        queue = g.took.queue ∙ ap (drop n) f.took.queue ∙ drop-more m n a.queue;
+        flying = g.took.flying ∙ ap (λ x. flying_after x (take n b.queue)) f.took.flying ∙ sym (flying-joined a.flying (take m a.queue) (take n b.queue)) ∙ ap (flying_after a.flying) (sym front);
+        done = g.took.done ∙ ap (λ x. done_after x (take n b.queue)) f.took.done ∙ sym (done-joined a.done (take m a.queue) (take n b.queue)) ∙ ap (done_after a.done) (sym front);
+        world = g.took.world ∙ f.took.world;
+      };
+    }
+
+-- A prefix of the queue is a prefix of all that is pending.
+took-behind : (n : ℕ) (v w : RingView) (due : List Entry) → TookFront n v w → TakesFront (with_due v due) (with_due w due)
+took-behind n v w due t = record {
+  count = n;
+  took = record {
+    within = (let l = length-append v.queue due in let x = t.within in omega (arith, l, x));
+    queue = ap (λ q. q ++ due) t.queue ∙ sym (drop-front n v.queue due t.within);
+    flying = t.flying ∙ ap (flying_after v.flying) (sym (take-front n v.queue due t.within));
+    done = t.done ∙ ap (done_after v.done) (sym (take-front n v.queue due t.within));
+    world = t.world;
+  };
+}
+
+took-entered : (v : RingView) → TookFront (length v.queue) v (entered v)
+took-entered v = record {
+  within = omega arith;
+  queue = sym (drop-length v.queue);
+  flying = ap (flying_after v.flying) (sym (take-length v.queue));
+  done = ap (done_after v.done) (sym (take-length v.queue));
+  world = refl;
+}
+
+-- Counts that rose at the end rose.
+pub rose-on : (a b c : ℕ) → a ≤ b → Rose b c → Rose a c
+rose-on a b c h r = omega (arith, h, r)
+
+pub later-on : (a b c : RingView) → IsLater a b → IsLater b c → IsLater a c
+later-on a b c f g = record {
+  same_capacity = g.same_capacity ∙ f.same_capacity;
+  more_faults = (let x = f.more_faults in let y = g.more_faults in omega (arith, x, y));
+  more_busies = (let x = f.more_busies in let y = g.more_busies in omega (arith, x, y));
+}
+
+pub later-same : (v : RingView) (spare : ℕ) → IsLater v (with_spare v spare)
+later-same v spare = record { same_capacity = refl; more_faults = omega arith; more_busies = omega arith }
+
+pub kept-on : (steady : Bool) (a b c : RingView) (why : EnterError) → IsLater a b → KeptOut steady b c why → KeptOut steady a c why
+kept-on steady a b c Fault l k = (rose-on a.faults b.faults c.faults l.more_faults k.0, k.1)
+kept-on steady a b c Busy l k = (rose-on a.busies b.busies c.busies l.more_busies k.0, k.1)
+
+module _ {R : Type 0} (view : R → RingView) (tells : Bool) where
+  pub enters-none : (old : Pending R) → Enters view tells old old
+  enters-none old = record { later = later-same (view old.ring) (view old.ring).spare; few_done = omega arith; same_room = refl; told = λ t. took-none (pending_ring view old) (view old.ring).spare }
+
+  pub enters-on : (a b c : Pending R) → Enters view tells a b → Enters view tells b c → Enters view tells a c
+  enters-on a b c f g = record {
+    later = later-on (view a.ring) (view b.ring) (view c.ring) f.later g.later;
+    few_done = (let x = f.few_done in let y = g.few_done in omega (arith, x, y));
+    same_room = g.same_room ∙ f.same_room;
+    told = λ t. took-on (pending_ring view a) (pending_ring view b) (pending_ring view c) (f.told t) (g.told t);
+  }
+
+  -- The ring takes of its queue what it takes.
+  enters-by : (old : Pending R) (ring : R) (result : Result ℕ EnterError) → EntersFor tells (view old.ring) (view ring) result → Enters view tells old (record old { ring = ring })
+  enters-by old ring (Ok n) e = record {
+    later = e.later;
+    few_done = (let a = e.all in let b = ap length e.emptied in let c = e.few_done in omega (arith, a, b, c));
+    same_room = refl;
+    told = λ t. subst (λ w. TakesFront (pending_ring view old) (with_due w old.due)) (sym (e.told t)) (took-behind (length (view old.ring).queue) (view old.ring) (entered (view old.ring)) old.due (took-entered (view old.ring)));
+  }
+  enters-by old ring (Err Fault) e = record {
+    later = e.1.later;
+    few_done = (let a = e.1.rest in let c = e.1.few_done in omega (arith, a, c));
+    same_room = refl;
+    told = λ t. took-behind e.1.count (view old.ring) (view ring) old.due (e.1.told t);
+  }
+  enters-by old ring (Err Busy) e = record {
+    later = e.1.later;
+    few_done = (let a = e.1.rest in let c = e.1.few_done in omega (arith, a, c));
+    same_room = refl;
+    told = λ t. took-behind e.1.count (view old.ring) (view ring) old.due (e.1.told t);
+  }
+
+  pub enters-ring : (old inside : Pending R) (ring : R) (result : Result ℕ EnterError) → inside ≡ old → EntersFor tells (view inside.ring) (view ring) result → Enters view tells old (record inside { ring = ring })
+  enters-ring old inside ring result is e = subst (λ x. Enters view tells x (record inside { ring = ring })) is (enters-by inside ring result e)
+
+-- Why an enter took no more.
+pub kept-out : (tells steady : Bool) (v w : RingView) (result : Result ℕ EnterError) (why : EnterError) → EntersFor tells v w result → (IsTrue steady → IsOk result) → result ≡ Err why → KeptOut steady v w why
+kept-out tells steady v w (Ok n) why e s h = cc
+kept-out tells steady v w (Err Fault) Fault e s h = (e.0, λ t. (let f : false ≡ true = s t in cc))
+kept-out tells steady v w (Err Fault) Busy e s h = (let f : ⊥ = cc in absurd f)
+kept-out tells steady v w (Err Busy) Busy e s h = (e.0, λ t. (let f : false ≡ true = s t in cc))
+kept-out tells steady v w (Err Busy) Fault e s h = (let f : ⊥ = cc in absurd f)
+
+-- The first due entry was pushed: what is pending is the same.
+first-told : (v w : RingView) (e : Entry) (rest due : List Entry) → due ≡ e ∷ rest → w ≡ pushed v e → with_due w rest ≡ with_spare (with_due v due) w.spare
+first-told v w e rest due front h =
+    ap (λ x. with_due x rest) h
+    ∙ ap (λ q. record v { queue = q; spare = v.spare - 1 }) (append_assoc v.queue (e ∷ []) rest)
+    ∙ ap (λ d. record v { queue = v.queue ++ d; spare = v.spare - 1 }) (sym front)
+    ∙ ap (λ s. with_spare (with_due v due) s) (sym (ap (λ x. x.spare) h))
+
+module _ {R : Type 0} (view : R → RingView) (tells : Bool) where
+  pub first-in : (old mid new : Pending R) (e : Entry) → 0 < length old.due → (length (view old.ring).queue < (view old.ring).capacity → mid ≡ old) → mid.due ≡ e ∷ new.due → IsPushed tells e (view mid.ring) (view new.ring) →
+      length (view old.ring).queue + length old.due ≤ (view old.ring).capacity →
+      (length (view new.ring).queue + length new.due ≡ length (view old.ring).queue + length old.due) × (IsTrue tells → pending_ring view new ≡ with_spare (pending_ring view old) (view new.ring).spare)
+  first-in old mid new e some same front push fits =
+      let is : mid ≡ old = same (omega (arith, some, fits)) in
+      let due : old.due ≡ e ∷ new.due = sym (ap (λ x. x.due) is) ∙ front in (
+        (let a = push.one_more in let b = ap (λ x. length (view x.ring).queue) is in let c = ap length due in omega (arith, a, b, c)),
+        λ t. first-told (view old.ring) (view new.ring) e new.due old.due due (push.told t ∙ ap (λ x. pushed (view x.ring) e) is),
+      )
+
+  -- What is pending stays, one push after another.
+  pub same-pending : (a b c : Pending R) → pending_ring view b ≡ with_spare (pending_ring view a) (view b.ring).spare → pending_ring view c ≡ with_spare (pending_ring view b) (view c.ring).spare → pending_ring view c ≡ with_spare (pending_ring view a) (view c.ring).spare
+  same-pending a b c f g = g ∙ ap (λ x. with_spare x (view c.ring).spare) f
+
+room-spare : (v : RingView) (spare : ℕ) (b : Bool) → (if b then entered (with_spare v spare) else with_spare v spare) ≡ with_spare (if b then entered v else v) spare
+room-spare v spare true = refl
+room-spare v spare false = refl
+
+none-behind : (v : RingView) (due : List Entry) → due ≡ [] → with_due v due ≡ v
+none-behind v due h = ap (with_due v) h ∙ ap (λ q. record v { queue = q }) (append-nil v.queue)
+
+module _ {R : Type 0} (view : R → RingView) where
+  -- Room is made behind what was due.
+  pub room-behind : (old mid new : Pending R) → mid.due ≡ [] → new.due ≡ mid.due → pending_ring view mid ≡ with_spare (pending_ring view old) (view mid.ring).spare → view new.ring ≡ room_made (view mid.ring) →
+      pending_ring view new ≡ with_spare (room_made (pending_ring view old)) (view new.ring).spare
+  room-behind old mid new none same pend room =
+      let P = pending_ring view old in
+      let b = length P.queue == P.capacity in
+      let is : view new.ring ≡ with_spare (room_made P) (view mid.ring).spare = room ∙ ap room_made (sym (none-behind (view mid.ring) mid.due none) ∙ pend) ∙ room-spare P (view mid.ring).spare b in
+      none-behind (view new.ring) new.due (same ∙ none) ∙ is ∙ ap (with_spare (room_made P)) (sym (ap (λ x. x.spare) is))
+
+-- Of an answer that is Ok, or that isn't.
+pub on-ok : {T E P Q : Type 0} (result : Result T E) → OnOk result P → (P → Q) → OnOk result Q
+on-ok (Ok x) h f = f h
+on-ok (Err e) h f = tt
+
+pub on-err : {T E P : Type 0} (result : Result T E) → P → OnErr result P
+on-err (Ok x) p = tt
+on-err (Err e) p = p
+
+pub if-err : {T E : Type 0} {P Q : E → Type 0} (result : Result T E) → IfErr result P → ((e : E) → P e → Q e) → IfErr result Q
+if-err (Ok x) h f = tt
+if-err (Err e) h f = f e h
+
+module _ {R : Type 0} (view : R → RingView) (tells : Bool) where
+  -- What is pending fits the queue.
+  abbrev pub Fits : Pending R → Type 0
+  Fits p = length (view p.ring).queue + length p.due ≤ (view p.ring).capacity
+
+  -- What is pending is the same.
+  abbrev pub IsStill : Pending R → Pending R → Type 0
+  IsStill a b = (length (view b.ring).queue + length b.due ≡ length (view a.ring).queue + length a.due) × (IsTrue tells → pending_ring view b ≡ with_spare (pending_ring view a) (view b.ring).spare)
+
+  pub still-on : (a b c : Pending R) → IsLater (view a.ring) (view b.ring) → (Fits a → IsStill a b) → (Fits b → IsStill b c) → Fits a → IsStill a c
+  still-on a b c later f g fits =
+      let x = f fits in
+      let y = g (let n = x.0 in let l = later.same_capacity in omega (arith, n, l, fits)) in
+      (y.0 ∙ x.0, λ t. same-pending view tells a b c (x.1 t) (y.1 t))
+
+  -- Where no room was reserved nothing joins.
+  pub joins-none : (steady : Bool) (old : Pending R) (entry : Entry) → old.room ≡ 0 → JoinsCancel view tells steady old old entry
+  joins-none steady old entry h = record {
+    later = later-same (view old.ring) (view old.ring).spare;
+    none = λ z. refl;
+    room = λ some. absurd (omega (arith, h, some));
+    told = λ some t. absurd (omega (arith, h, some));
+    exact = λ some s f. absurd (omega (arith, h, some));
+  }
+
+  module _ (steady : Bool) (old mid new : Pending R) (entry : Entry) (steady_tells : IsTrue steady → IsTrue tells) (enters : Enters view tells old mid)
+      (told : IsTrue tells → pending_ring view new ≡ with_spare (pushed (pending_ring view mid) entry) (view new.ring).spare) (later : IsLater (view mid.ring) (view new.ring))
+      (due : mid.due ≡ [] → length (view mid.ring).queue < (view mid.ring).capacity → new.due ≡ []) where
+    exactly : (result : Result Unit EnterError) → OnOk result (mid.due ≡ []) → OnOk result (length (view mid.ring).queue < (view mid.ring).capacity) →
+        OnOk result (IsTrue tells → Fits old → pending_ring view mid ≡ with_spare (room_made (pending_ring view old)) (view mid.ring).spare) → IfErr result (KeptOut steady (view old.ring) (view mid.ring)) →
+        IsTrue steady → Fits old → (pending_ring view new ≡ with_spare (pushed (room_made (pending_ring view old)) entry) (view new.ring).spare) × Fits new
+    exactly (Ok u) none room pend kept s fits =
+        let t = steady_tells s in
+        let n : length (view new.ring).queue + length new.due ≡ length (view mid.ring).queue + length mid.due + 1 =
+        sym (length-append (view new.ring).queue new.due) ∙ ap (λ x. length x.queue) (told t) ∙ length-append ((view mid.ring).queue ++ mid.due) (entry ∷ []) ∙ ap (λ k. k + 1) (length-append (view mid.ring).queue mid.due) in
+        (told t ∙ ap (λ v. with_spare (pushed v entry) (view new.ring).spare) (pend t fits), (let z = ap length none in let c = later.same_capacity in omega (arith, n, z, room, c)))
+    exactly (Err Fault) none room pend kept s fits = absurd (kept.1 s)
+    exactly (Err Busy) none room pend kept s fits = absurd (kept.1 s)
+
+    pub joins : (result : Result Unit EnterError) → OnOk result (mid.due ≡ []) → OnOk result (length (view mid.ring).queue < (view mid.ring).capacity) →
+        OnOk result (IsTrue tells → Fits old → pending_ring view mid ≡ with_spare (room_made (pending_ring view old)) (view mid.ring).spare) → IfErr result (KeptOut steady (view old.ring) (view mid.ring)) →
+        new.room + 1 ≡ mid.room → 0 < old.room → JoinsCancel view tells steady old new entry
+    joins result none room pend kept less some = record {
+      later = later-on (view old.ring) (view mid.ring) (view new.ring) enters.later later;
+      none = λ z. absurd (omega (arith, z, some));
+      room = λ h. less ∙ enters.same_room;
+      told = λ h t. (pending_ring view mid, enters.told t, told t);
+      exact = λ h s fits. exactly result none room pend kept s fits;
+    }
+
+    -- Over a steady ring nothing is due.
+    pub joins-steady : (result : Result Unit EnterError) → OnOk result (mid.due ≡ []) → OnOk result (length (view mid.ring).queue < (view mid.ring).capacity) → IfErr result (KeptOut steady (view old.ring) (view mid.ring)) → IsTrue steady → new.due ≡ []
+    joins-steady (Ok u) none room kept s = due none room
+    joins-steady (Err Fault) none room kept s = absurd (kept.1 s)
+    joins-steady (Err Busy) none room kept s = absurd (kept.1 s)
+
+-- Nothing joined what is pending.
+pub moves-none : (xs ys : List Entry) → ys ≡ xs → PendingMoves xs ys []
+moves-none xs ys h = record { count = 0; within = omega arith; moved = h ∙ sym (append-nil xs) }
+
+pub moves-front : (v w : RingView) (ys : List Entry) → TakesFront v w → ys ≡ w.queue → PendingMoves v.queue ys []
+moves-front v w ys t h = record { count = t.count; within = t.took.within; moved = h ∙ t.took.queue ∙ sym (append-nil (drop t.count v.queue)) }
+
+-- An entry joined it.
+pub moves-join : (v mid w : RingView) (e : Entry) (spare : ℕ) → TakesFront v mid → w ≡ with_spare (pushed mid e) spare → PendingMoves v.queue w.queue (e ∷ [])
+moves-join v mid w e spare t h = record { count = t.count; within = t.took.within; moved = ap (λ x. x.queue) h ∙ ap (λ q. q ++ e ∷ []) t.took.queue }
+
+-- Nothing is pending.
+pub none-pending : (queue due : List Entry) → queue ≡ [] → due ≡ [] → queue ++ due ≡ []
+none-pending queue due q d = ap (λ x. x ++ due) q ∙ d
+
+-- What is due is counted behind the queue.
+pub later-behind : (v w : RingView) (due due' : List Entry) → IsLater v w → IsLater (with_due v due) (with_due w due')
+later-behind v w due due' l = record { same_capacity = l.same_capacity; more_faults = l.more_faults; more_busies = l.more_busies }
+
+pub fits-split : (queue due : List Entry) (capacity : ℕ) → length (queue ++ due) ≤ capacity → length queue + length due ≤ capacity
+fits-split queue due capacity h = (let l = length-append queue due in omega (arith, l, h))
+
+pub fits-joined : (queue due : List Entry) (capacity : ℕ) → length queue + length due ≤ capacity → length (queue ++ due) ≤ capacity
+fits-joined queue due capacity h = (let l = length-append queue due in omega (arith, l, h))
+
+-- What is pending is the same where the ring keeps its queue.
+pub still-pending : {R : Type 0} (view : R → RingView) (tells : Bool) (old new : Pending R) → KeepsPending view tells old new → IsTrue tells → (pending_ring view new).queue ≡ (pending_ring view old).queue
+still-pending view tells old new k t = ap (λ q. q ++ new.due) (k.queue t) ∙ ap (λ xs. (view old.ring).queue ++ xs) k.due
+
+pub keeps-pending : {R : Type 0} (view : R → RingView) (tells : Bool) (a b c : Pending R) → KeepsPending view tells a b → KeepsPending view tells b c → KeepsPending view tells a c
+keeps-pending view tells a b c f g = record { due = g.due ∙ f.due; room = g.room ∙ f.room; queue = λ t. g.queue t ∙ f.queue t }
+
+-- A completion is taken off, behind which all that is pending stays.
+pub taken-behind : {R : Type 0} (view : R → RingView) (old new : Pending R) (rest : List Completion) → view new.ring ≡ with_done (view old.ring) rest → new.due ≡ old.due → pending_ring view new ≡ with_done (pending_ring view old) rest
+taken-behind view old new rest ring due = ap (λ v. with_due v new.due) ring ∙ ap (λ xs. with_due (with_done (view old.ring) rest) xs) due

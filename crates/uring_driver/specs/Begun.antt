@@ -1,0 +1,59 @@
+-- How a turn begins, and how its end makes it whole. Cited by `begin` and `end` of the driver, and by no public clause.
+use Rattle.std.specs.Prelude.{◌≡◌, ◌+◌, ◌≤◌, Bool, true, false, IsTrue, [], length, Option, Some, None, ⊤, vec_len, vec_capacity}
+use Rattle.std.specs.Option.{unwrap_or}
+use Rattle.rent_buf.specs.Buffer.{Buffer}
+use Rattle.ring_core.specs.Counts.{Rose}
+use Rattle.ring_core.specs.Ring.{RingView}
+use Rattle.uring_driver.specs.declared.op.Stop.{Stop}
+use Rattle.uring_driver.specs.declared.op.Stop.TheVariants.{RingFault, Busy, BadCompletion, OutOfMemory}
+use Rattle.uring_driver.specs.declared.op.Turned.{Turned}
+use Rattle.uring_driver.specs.declared.driver.IoUringDriver.{IoUringDriver}
+use Rattle.uring_driver.specs.declared.driver.Begun.{Begun}
+use Rattle.uring_driver.specs.Driver.{ring_in}
+use Rattle.uring_driver.specs.Pending.{Pending}
+use Rattle.uring_driver.specs.Outbox.{Enters}
+use Rattle.uring_driver.specs.Submitted.{SameSlots}
+use Rattle.uring_driver.specs.Turned.{TurnMeets}
+
+-- What the enter of a turn that goes on did: all that was pending was taken, or the ring was busy, which a steady one never is.
+abbrev pub EnteredFor : {R : Type 0} → (R → RingView) → Bool → Bool → Pending R → Pending R → Bool → Type 0
+EnteredFor view tells steady old new false = Enters view tells old new × ((view new.ring).queue ≡ []) × (new.due ≡ [])
+EnteredFor view tells steady old new true = Enters view tells old new × Rose (view old.ring).busies (view new.ring).busies × (IsTrue steady → ⊥)
+
+-- A turn has room for the numbers of all completions that stand.
+pub record HasRoom {R B : Type 0} (view : R → RingView) (driver : IoUringDriver R B) (begun : Begun) : Type 0 where
+  pub reaped : vec_len begun.reaped + begun.count ≤ vec_capacity begun.reaped
+  pub woken : vec_len begun.woken + begun.count ≤ vec_capacity begun.woken
+  pub all : length (view (ring_in driver)).done ≤ begun.count
+
+-- A turn was begun: the driver has entered its ring, and nothing is treated yet.
+pub record HasBegun {R B : Type 0} (view : R → RingView) (tells steady : Bool) (old new : IoUringDriver R B) (begun : Begun) : Type 0 where
+  pub same : SameSlots old new
+  pub entered : EnteredFor view tells steady old.ring new.ring begun.busy
+  pub none_reaped : begun.reaped.items ≡ []
+  pub none_woken : begun.woken.items ≡ []
+  pub room : HasRoom view new begun
+
+-- Why a turn can't begin: the ring failed, which a steady one never does, or memory ran out and nothing changed.
+abbrev pub CannotBegin : {R B : Type 0} → (R → RingView) → Bool → Bool → IoUringDriver R B → IoUringDriver R B → Stop → Type 0
+CannotBegin view tells steady old new RingFault = Rose (view (ring_in old)).faults (view (ring_in new)).faults × SameSlots old new × Enters view tells old.ring new.ring × (IsTrue steady → ⊥)
+CannotBegin view tells steady old new OutOfMemory = new ≡ old
+CannotBegin view tells steady old new Busy = ⊥
+CannotBegin view tells steady old new (BadCompletion word) = ⊥
+
+-- The end of a turn: with what was begun before it makes a whole turn.
+abbrev pub EndsTurn : {R B : Type 0} → (R → RingView) → (B → Buffer) → Bool → Bool → IoUringDriver R B → Begun → IoUringDriver R B → Turned → Type 0
+EndsTurn {R} {B} view buffer tells steady mid begun new turned = (old : IoUringDriver R B) → HasBegun view tells steady old mid begun → TurnMeets view buffer tells steady old new turned
+
+-- Why a turn stopped that treated what stood: a bad completion, or else that the ring was busy.
+abbrev pub why_stopped : Bool → Option Stop → Option Stop
+why_stopped false bad = bad
+why_stopped true bad = Some (unwrap_or bad Busy)
+
+-- A turn went on to treat what stood.
+abbrev pub HasTreated : Option Stop → Type 0
+HasTreated None = ⊤
+HasTreated (Some RingFault) = ⊥
+HasTreated (Some Busy) = ⊤
+HasTreated (Some (BadCompletion word)) = ⊤
+HasTreated (Some OutOfMemory) = ⊥
