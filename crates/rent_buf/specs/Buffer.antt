@@ -45,6 +45,10 @@ want_of b = min (room b) most_asked
 abbrev pub shown : Buffer → List ℕ
 shown b = drop b.begin (take b.end b.bytes)
 
+-- The bytes that a request sends of the buffer: those that its range shows, cut to the most that one request asks for.
+abbrev pub sent_of : Buffer → List ℕ
+sent_of b = take most_asked (shown b)
+
 -- The bytes of a buffer of a kind after s was stored from a place on: each keeps what stood before, then has s. A Vector ends there. The others keep what stood behind.
 abbrev pub written : Kind → List ℕ → ℕ → List ℕ → List ℕ
 written Vector bytes at s = take at bytes ++ s

@@ -1,5 +1,5 @@
 -- Bytes whose number stays, as a buffer.
-use Rattle.std.specs.Prelude.{ℕ, ◌≡◌, ◌+◌, ◌-◌, ◌≤◌, List, ◌++◌, length, take, drop}
+use Rattle.std.specs.Prelude.{ℕ, ◌≡◌, ◌+◌, List, ◌++◌, length, take, drop}
 use Rattle.std.proofs.Common.{ap, sym, ◌∙◌, zero-add, arith, length-take, length-append, length-drop}
 use Rattle.rent_buf.specs.Buffer.{Buffer, whole_of, overwritten}
 use Rattle.rent_buf.specs.declared.spec.Kind.TheVariants.{Fixed}

@@ -3,6 +3,10 @@ pub mod Buffer
 pub mod Fixed
 pub mod Grow
 pub mod Lends
+pub mod Parts
+pub mod PartsSpec
+pub mod Ranges
 pub mod Rent
 pub mod Slice
 pub mod SliceMut
+pub mod VecWrapper

@@ -1,5 +1,5 @@
 // Lists of bytes and of numbers, which a contract sees as lists.
-ghost use Rattle.std.specs.Prelude.{◌≡◌, ◌≤◌, [], ◌∷◌, ◌++◌, ◌↔◌, nat_eq, length, IsTrue, IfOk, OnOk, OnErr};
+ghost use Rattle.std.specs.Prelude.{◌≡◌, ◌≤◌, [], ◌∷◌, ◌++◌, ◌↔◌, nat_eq, length, take, IsTrue, IfOk, OnOk, OnErr};
 ghost use Rattle.std.specs.Cmp.Lexicographic.{pointwise, nat_list_eq_equiv};
 ghost use Rattle.std.specs.Cmp.{partial_equiv_from_equiv};
 
@@ -83,6 +83,13 @@ impl ByteList {
     {
         self.items.extend_from_slice(bytes)?;
         Ok(())
+    }
+
+    /// Keeps the first `len` bytes, or all where there are fewer (own). It takes no memory.
+    pub fn truncate(&mut self, len: usize)
+        ensures { self.new ≡ take len self.old }
+    {
+        self.items.truncate(len);
     }
 
     /// A list of the same bytes in memory of its own (own), or `OutOfMemory`.

@@ -51,6 +51,26 @@ impl Rent {
         }
     }
 
+    // The bytes of a vector, with no further room.
+    pub(crate) fn full(v: Vec<u8>) -> Rent
+        ensures { result ≡ record { bytes = v.items; total = length v.items } }
+    {
+        let total = v.len();
+        Rent { items: v, total }
+    }
+
+    // A copy with the same room, or `OutOfMemory`.
+    pub(crate) fn try_clone(&self) -> Result<Rent, OutOfMemory>
+        ensures { IfOk result (λ copy. copy ≡ self.now) }
+    {
+        let mut items = Vec::with_capacity(*self.items.allocator(), self.total)?;
+        items.extend_from_slice(self.items.as_slice())?;
+        Ok(Rent {
+            items,
+            total: self.total,
+        })
+    }
+
     /// The vector of the bytes (own).
     pub fn into_vec(self) -> Vec<u8>
         ensures { result.items ≡ self.bytes }

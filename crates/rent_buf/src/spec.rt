@@ -9,6 +9,7 @@ use crate::fixed::FixedVec;
 use crate::grow::Grow;
 use crate::io_buf::{IoBuf, IoBufMut};
 use crate::lists::ByteList;
+use crate::parts_spec::PartsSpec;
 use crate::rent::Rent;
 use crate::slice::SliceMut;
 use std::marker::Model;
@@ -311,4 +312,6 @@ impl IoBufMut for Buf {
 pub enum HeldBuf {
     /// One buffer.
     One(BufSpec),
+    /// The parts of a vector of buffers.
+    Parts(PartsSpec),
 }

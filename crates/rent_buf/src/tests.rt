@@ -6,6 +6,7 @@ use super::*;
 use std::alloc::Global;
 
 mod kinds;
+mod parts;
 mod readers;
 
 // Fills a range of a buffer as a buffer of its own, and gives the buffer back.

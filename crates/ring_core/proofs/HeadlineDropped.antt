@@ -8,7 +8,7 @@ use Rattle.ring_core.specs.Ledger.{Ledger, Operation, Place, InQueue, InFlight, 
 use Rattle.ring_core.specs.Queue.{with_op, at_place, make_room, push}
 use Rattle.ring_core.specs.Step.{with_drop, drop_at}
 use Rattle.ring_core.specs.Run.{replies}
-use Rattle.ring_core.specs.Headline.{IsDropped}
+use Rattle.ring_core.specs.Moments.{IsDropped}
 use Rattle.ring_core.proofs.HeadlineLists.{get-amended}
 use Rattle.ring_core.proofs.HeadlineTaking.{in_queue, in_flight, in_done}
 use Rattle.ring_core.proofs.HeadlineListed.{changed-cases, listed-make_room, listed-appended, listed-changed}

@@ -5,7 +5,7 @@ use Rattle.rent_buf.specs.declared.spec.HeldBuf.{HeldBuf}
 use Rattle.ring_core.specs.declared.request.Told.{Told}
 use Rattle.ring_core.specs.declared.request.Told.TheVariants.{Fail}
 use Rattle.ring_core.specs.declared.ledger.Event.{Event}
-use Rattle.ring_core.specs.declared.ledger.Event.TheVariants.{Give, Feed, Submit, Poll, Drop, Cancel, Turn, Exec}
+use Rattle.ring_core.specs.declared.ledger.Event.TheVariants.{Give, Feed, End, Look, Submit, Poll, Drop, Cancel, Turn, Exec}
 use Rattle.ring_core.specs.declared.ledger.Refusal.{Refusal}
 use Rattle.ring_core.specs.declared.ledger.Refusal.TheVariants.{NotFlying, BadOutcome}
 use Rattle.ring_core.specs.declared.ledger.Reply.TheVariants.{Turned}
@@ -17,7 +17,8 @@ use Rattle.ring_core.specs.Turn.{ops_in, tasks_woken, exec_step}
 use Rattle.ring_core.specs.Refusal.{cause, refused_if, allowed}
 use Rattle.ring_core.specs.Step.{step, row, answered, poll_at, poll_step, drop_step}
 use Rattle.ring_core.specs.Run.{replies, ledger_before, IsReaped}
-use Rattle.ring_core.specs.Headline.{NamesReaped, ReapNames, KeptUntilReaped, CanceledWhereAsked}
+use Rattle.ring_core.specs.Moments.{NamesReaped}
+use Rattle.ring_core.specs.Headline.{ReapNames, KeptUntilReaped, CanceledWhereAsked}
 use Rattle.ring_core.proofs.HeadlineLists.{below-or-not, same-cases, listed}
 use Rattle.ring_core.proofs.HeadlineTaking.{in_done, done_mark, take-done}
 use Rattle.ring_core.proofs.HeadlineListed.{flying-there}
@@ -68,6 +69,8 @@ exec-no-turn L place told (Some (Op n)) reaped closed woken h = cc
 turn-row : (L : Ledger) (e : Event) (reaped closed woken : List ℕ) → (row L e).1 ≡ Turned reaped closed woken → e ≡ Turn
 turn-row L (Give kind) reaped closed woken h = cc
 turn-row L (Feed x bytes) reaped closed woken h = cc
+turn-row L (End x) reaped closed woken h = cc
+turn-row L (Look x) reaped closed woken h = cc
 turn-row L (Submit request) reaped closed woken h = cc
 turn-row L (Poll n task) reaped closed woken h = absurd (poll-step-no-turn L n task (slice_get L.ops n) reaped closed woken h)
 turn-row L (Drop n) reaped closed woken h = absurd (drop-no-turn L n (slice_get L.ops n) reaped closed woken h)

@@ -1,6 +1,7 @@
 -- One more event passes the history of an operation on.
 use Rattle.std.proofs.Common.{◌≡◌, inl, inr, ℕ, suc, Bool, true, false, List, Option, Some, None, option_map, slice_get, refl, sym, ◌∙◌, ap, subst, arith}
 use Rattle.rent_buf.specs.Buffer.{Buffer}
+use Rattle.rent_buf.specs.Parts.{Parts}
 use Rattle.rent_buf.specs.declared.spec.HeldBuf.{HeldBuf}
 use Rattle.ring_core.specs.declared.request.Request.{Request}
 use Rattle.ring_core.specs.declared.request.Outcome.{Outcome}
@@ -10,7 +11,7 @@ use Rattle.ring_core.specs.declared.ledger.Reply.{Reply}
 use Rattle.ring_core.specs.declared.ledger.Reply.TheVariants.{ExecutedOp}
 use Rattle.ring_core.specs.Ledger.{Operation, Place, InQueue, InFlight, InDone, Reaped, Gone, empty, is_kept}
 use Rattle.ring_core.specs.Run.{replies, IsGiven}
-use Rattle.ring_core.specs.Headline.{IsReapedBefore, IsHandedBefore, IsDroppedBefore}
+use Rattle.ring_core.specs.Moments.{IsReapedBefore, IsHandedBefore, IsDroppedBefore}
 use Rattle.ring_core.proofs.HeadlineLists.{same-or-not, below-or-not}
 use Rattle.ring_core.proofs.HeadlineTaking.{taken_place, with_take, Took}
 use Rattle.ring_core.proofs.HeadlineReaping.{place_after, ended_place, with_end}
@@ -40,7 +41,7 @@ module _ (capacity : ℕ) (events : List Event) (k : ℕ) (e : Event) (r : Reply
   calm-drops n calm x = calm.drops_none (let q = sym here ∙ x.event in cc) (let q = sym reply ∙ x.reply in cc)
 
   -- One event more keeps each part of a history.
-  pub given-next : (n : ℕ) (request : Request Buffer) → Given capacity events k n request → Given capacity events (suc k) n request
+  pub given-next : (n : ℕ) (request : Request Buffer Parts) → Given capacity events k n request → Given capacity events (suc k) n request
   given-next n request g = record { at = g.at; before = (let b = g.before in omega arith); event = g.event; reply = g.reply }
 
   stands-next : (n : ℕ) (outcome : Outcome) (buffer : HeldBuf) → (e ≡ Turn → ⊥) → Stands capacity events k n outcome buffer → Stands capacity events (suc k) n outcome buffer

@@ -2,6 +2,7 @@
 use Rattle.std.proofs.Common.{◌≡◌, ◌≢◌, ◌⊎◌, inl, inr, ℕ, ◌+◌, ◌<◌, ◌≤◌, Bool, true, false, List, [], ◌∷◌, ◌++◌, length, remove, Option, Some, None, option_map, slice_get, refl, sym, ◌∙◌, ap, arith, if◌then◌else◌, ◌==◌}
 use Rattle.std.proofs.lemmas.Option.{slice_get_past}
 use Rattle.rent_buf.specs.Buffer.{Buffer}
+use Rattle.rent_buf.specs.Parts.{Parts}
 use Rattle.ring_core.specs.declared.request.Request.{Request}
 use Rattle.ring_core.specs.declared.request.Outcome.{Outcome}
 use Rattle.ring_core.specs.declared.world.HandleState.{HandleState}
@@ -71,7 +72,7 @@ pub length-make_room : (L : Ledger) → length (make_room L).ops ≡ length L.op
 length-make_room L = length-room (length L.queue == L.capacity) L
 
 -- Submitting makes room, then joins the operation and its request.
-pub submit-joined : (L : Ledger) (request : Request Buffer) → Listed L → submit_step L request ≡ joined (make_room L) (new_operation request)
+pub submit-joined : (L : Ledger) (request : Request Buffer Parts) → Listed L → submit_step L request ≡ joined (make_room L) (new_operation request)
 submit-joined L request h =
     ap (λ M. append M (Req (length L.ops))) (room-new_op (length L.queue == L.capacity) L (new_operation request) refl h)
     ∙ ap (λ n. append (with_new_op (make_room L) (new_operation request)) (Req n)) (sym (length-make_room L))

@@ -1,6 +1,7 @@
 -- The history of an operation before the event at k: what gave, executed, reaped, handed over or dropped it, by what the ledger keeps of it.
 use Rattle.std.proofs.Common.{◌≡◌, ℕ, ◌<◌, Bool, true, false, List, Option, Some, None, slice_get}
 use Rattle.rent_buf.specs.Buffer.{Buffer}
+use Rattle.rent_buf.specs.Parts.{Parts}
 use Rattle.rent_buf.specs.declared.spec.HeldBuf.{HeldBuf}
 use Rattle.ring_core.specs.declared.request.Request.{Request}
 use Rattle.ring_core.specs.declared.request.Told.{Told}
@@ -11,7 +12,7 @@ use Rattle.ring_core.specs.declared.ledger.Reply.{Reply}
 use Rattle.ring_core.specs.declared.ledger.Reply.TheVariants.{Submitted, Handed, Dropped, ExecutedOp}
 use Rattle.ring_core.specs.Ledger.{Operation, Place, InQueue, InFlight, InDone, Reaped, Gone, empty, is_kept}
 use Rattle.ring_core.specs.Run.{replies, IsGiven, IsExecuted, IsFirstTurn, IsOwn}
-use Rattle.ring_core.specs.Headline.{IsHanded, IsDropped, IsReapedBefore, IsHandedBefore, IsDroppedBefore}
+use Rattle.ring_core.specs.Moments.{IsHanded, IsDropped, IsReapedBefore, IsHandedBefore, IsDroppedBefore}
 
 -- Nothing before k is so.
 abbrev pub NotBefore : (ℕ → Type 0) → ℕ → Type 0
@@ -30,7 +31,7 @@ abbrev pub Drops : ℕ → List Event → ℕ → ℕ → Type 0
 Drops capacity events n j = IsDropped events (replies (empty capacity) events) n j
 
 -- n was given before k, with this request.
-pub record Given (capacity : ℕ) (events : List Event) (k n : ℕ) (request : Request Buffer) : Type 0 where
+pub record Given (capacity : ℕ) (events : List Event) (k n : ℕ) (request : Request Buffer Parts) : Type 0 where
   pub at : ℕ
   pub before : at < k
   pub event : slice_get events at ≡ Some (Submit request)
@@ -70,7 +71,7 @@ Owned capacity events k n false true = NotBefore (Hands capacity events n) k × 
 Owned capacity events k n false false = IsHandedBefore events (replies (empty capacity) events) n k
 
 -- The history of an operation, read from what the ledger keeps of it.
-pub record Had (capacity : ℕ) (events : List Event) (k n : ℕ) (request : Request Buffer) (buffer : HeldBuf) (dropped : Bool) (place : Place) : Type 0 where
+pub record Had (capacity : ℕ) (events : List Event) (k n : ℕ) (request : Request Buffer Parts) (buffer : HeldBuf) (dropped : Bool) (place : Place) : Type 0 where
   pub given : Given capacity events k n request
   pub placed : Placed capacity events k n buffer place
   pub owned : Owned capacity events k n dropped (is_kept place)

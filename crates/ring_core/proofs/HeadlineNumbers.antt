@@ -3,7 +3,7 @@ use Rattle.std.proofs.Common.{◌≡◌, ℕ, zero, suc, ◌+◌, cond, List, []
 use Rattle.std.proofs.lemmas.List.Sums.{sum_by-cons}
 use Rattle.ring_core.specs.declared.request.Told.{Told}
 use Rattle.ring_core.specs.declared.ledger.Event.{Event}
-use Rattle.ring_core.specs.declared.ledger.Event.TheVariants.{Give, Feed, Submit, Poll, Drop, Cancel, Turn, Exec}
+use Rattle.ring_core.specs.declared.ledger.Event.TheVariants.{Give, Feed, End, Look, Submit, Poll, Drop, Cancel, Turn, Exec}
 use Rattle.ring_core.specs.declared.ledger.Refusal.{Refusal}
 use Rattle.ring_core.specs.declared.ledger.Reply.{Reply}
 use Rattle.ring_core.specs.declared.ledger.Reply.TheVariants.{Submitted}
@@ -62,6 +62,8 @@ numbers-exec L place told (Some (Op n)) = record { count = length-exec_op (compl
 numbers-row : (L : Ledger) (e : Event) → Numbers L (row L e)
 numbers-row L (Give kind) = record { count = omega arith; number = λ m q. cc }
 numbers-row L (Feed h bytes) = record { count = omega arith; number = λ m q. cc }
+numbers-row L (End h) = record { count = omega arith; number = λ m q. cc }
+numbers-row L (Look h) = record { count = omega arith; number = λ m q. cc }
 numbers-row L (Submit request) = record {
   count = length-make_room (with_new_op L (new_operation request)) ∙ length-append L.ops (new_operation request ∷ []) ∙ omega arith;
   number = λ m q. cc;

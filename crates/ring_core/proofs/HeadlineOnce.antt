@@ -2,7 +2,7 @@
 use Rattle.std.proofs.Common.{◌≡◌, ◌⊎◌, inl, inr, ℕ, ◌<◌, ◌≤◌, Bool, true, false, not, ◌&&◌, List, Option, Some, None, slice_get, refl, sym, ◌∙◌, ap, subst, arith}
 use Rattle.ring_core.specs.declared.request.Told.{Told}
 use Rattle.ring_core.specs.declared.ledger.Event.{Event}
-use Rattle.ring_core.specs.declared.ledger.Event.TheVariants.{Give, Feed, Submit, Poll, Drop, Cancel, Turn, Exec}
+use Rattle.ring_core.specs.declared.ledger.Event.TheVariants.{Give, Feed, End, Look, Submit, Poll, Drop, Cancel, Turn, Exec}
 use Rattle.ring_core.specs.declared.ledger.Refusal.{Refusal}
 use Rattle.ring_core.specs.declared.ledger.Refusal.TheVariants.{NoOp}
 use Rattle.ring_core.specs.declared.ledger.Reply.TheVariants.{Refused}
@@ -10,7 +10,8 @@ use Rattle.ring_core.specs.Ledger.{Ledger, Operation, InFlight, empty, is_kept, 
 use Rattle.ring_core.specs.Lists.{passes}
 use Rattle.ring_core.specs.Refusal.{cause, lacks_op, refused_if}
 use Rattle.ring_core.specs.Run.{replies, ledger_before, IsExecuted}
-use Rattle.ring_core.specs.Headline.{operation_of, IsAbout, IsReapedBefore, HandedOnce, DroppedOnce, IsGivenBefore, IsHandedBefore, IsDroppedBefore, RefusedWhereGone, FirstPollHands}
+use Rattle.ring_core.specs.Moments.{operation_of, IsAbout, IsReapedBefore, IsGivenBefore, IsHandedBefore, IsDroppedBefore}
+use Rattle.ring_core.specs.Headline.{HandedOnce, DroppedOnce, RefusedWhereGone, FirstPollHands}
 use Rattle.ring_core.proofs.HeadlineListed.{flying-there}
 use Rattle.ring_core.proofs.HeadlineReplies.{reply-at, step-refused, step-caused}
 use Rattle.ring_core.proofs.HeadlineMoments.{NotBefore, Given, Hands, Drops, Owned, History}
@@ -21,6 +22,8 @@ use Rattle.ring_core.proofs.HeadlinePolls.{traced, answer, reaped-once}
 cause-about : (L : Ledger) (e : Event) (n : ℕ) → operation_of e ≡ Some n → cause L e ≡ refused_if (lacks_op L n) NoOp None
 cause-about L (Give kind) n h = (let f : ⊥ = cc in absurd f)
 cause-about L (Feed x bytes) n h = (let f : ⊥ = cc in absurd f)
+cause-about L (End x) n h = (let f : ⊥ = cc in absurd f)
+cause-about L (Look x) n h = (let f : ⊥ = cc in absurd f)
 cause-about L (Submit request) n h = (let f : ⊥ = cc in absurd f)
 cause-about L (Poll m task) n h = ap (λ k. refused_if (lacks_op L k) NoOp None) (let e : m ≡ n = cc in e)
 cause-about L (Drop m) n h = ap (λ k. refused_if (lacks_op L k) NoOp None) (let e : m ≡ n = cc in e)

@@ -8,7 +8,8 @@ use Rattle.ring_core.specs.Ledger.{Ledger, Operation, Place, InQueue, InFlight, 
 use Rattle.ring_core.specs.Turn.{effect_of, held}
 use Rattle.ring_core.specs.Step.{poll_at, poll_step}
 use Rattle.ring_core.specs.Run.{replies, ledger_before, IsGiven, IsReaped}
-use Rattle.ring_core.specs.Headline.{IsPolled, IsReapedBefore, PendingUntilReaped, ReapedOrNot, HandsOwn, HandsBackOwn, GivenOnce, ExecutedOnce, ReapedOnce, OneOwn}
+use Rattle.ring_core.specs.Moments.{IsPolled, IsReapedBefore, HandsOwn}
+use Rattle.ring_core.specs.Headline.{PendingUntilReaped, ReapedOrNot, HandsBackOwn, GivenOnce, ExecutedOnce, ReapedOnce, OneOwn}
 use Rattle.ring_core.proofs.HeadlineListed.{flying-there}
 use Rattle.ring_core.proofs.HeadlineLists.{same-or-not, below-or-above}
 use Rattle.ring_core.proofs.HeadlineReplies.{reply-at, step-row, OwnedAt, found}

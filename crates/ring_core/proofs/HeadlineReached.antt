@@ -3,7 +3,7 @@ use Rattle.std.proofs.Common.{◌≡◌, ℕ, zero, suc, ◌≤◌, inl, inr, Li
 use Rattle.std.proofs.lemmas.Option.{slice_get_cases}
 use Rattle.ring_core.specs.declared.request.Told.{Told}
 use Rattle.ring_core.specs.declared.ledger.Event.{Event}
-use Rattle.ring_core.specs.declared.ledger.Event.TheVariants.{Give, Feed, Submit, Poll, Drop, Cancel, Turn, Exec}
+use Rattle.ring_core.specs.declared.ledger.Event.TheVariants.{Give, Feed, End, Look, Submit, Poll, Drop, Cancel, Turn, Exec}
 use Rattle.ring_core.specs.declared.ledger.Refusal.{Refusal}
 use Rattle.ring_core.specs.declared.ledger.Reply.TheVariants.{Dropped, Asked, Refused}
 use Rattle.ring_core.specs.Ledger.{Ledger, Operation, InFlight, Op, empty}
@@ -64,6 +64,8 @@ module _ (capacity : ℕ) (events : List Event) (k : ℕ) (trace : Trace capacit
       slice_get (replies (empty capacity) events) k ≡ Some (row (ledger_before capacity events k) e).1 → Trace capacity events (suc k) (row (ledger_before capacity events k) e).0
   row-next (Give kind) here unrefused reply = trace-world capacity events k (ledger_before capacity events k) trace (Give kind) _ here reply (λ n. record { gives_none = λ q. cc; executes_none = λ q. cc; hands_none = λ t outcome buffer p q. cc; drops_none = λ p q. cc }) (λ q. cc) _
   row-next (Feed h bytes) here unrefused reply = trace-world capacity events k (ledger_before capacity events k) trace (Feed h bytes) _ here reply (λ n. record { gives_none = λ q. cc; executes_none = λ q. cc; hands_none = λ t outcome buffer p q. cc; drops_none = λ p q. cc }) (λ q. cc) _
+  row-next (End h) here unrefused reply = trace-world capacity events k (ledger_before capacity events k) trace (End h) _ here reply (λ n. record { gives_none = λ q. cc; executes_none = λ q. cc; hands_none = λ t outcome buffer p q. cc; drops_none = λ p q. cc }) (λ q. cc) _
+  row-next (Look h) here unrefused reply = trace-world capacity events k (ledger_before capacity events k) trace (Look h) _ here reply (λ n. record { gives_none = λ q. cc; executes_none = λ q. cc; hands_none = λ t outcome buffer p q. cc; drops_none = λ p q. cc }) (λ q. cc) _
   row-next (Submit request) here unrefused reply = trace-submit capacity events k (ledger_before capacity events k) trace request here reply
   row-next (Poll n task) here unrefused reply = poll-next n task here unrefused reply
   row-next (Drop n) here unrefused reply = drop-next n here unrefused reply

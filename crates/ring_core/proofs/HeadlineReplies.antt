@@ -3,7 +3,7 @@ use Rattle.std.proofs.Common.{◌≡◌, ℕ, zero, suc, Bool, true, false, not,
 use Rattle.std.specs.Prelude.{nat_le}
 use Rattle.ring_core.specs.declared.request.Told.{Told}
 use Rattle.ring_core.specs.declared.ledger.Event.{Event}
-use Rattle.ring_core.specs.declared.ledger.Event.TheVariants.{Give, Feed, Submit, Poll, Drop, Cancel, Turn, Exec}
+use Rattle.ring_core.specs.declared.ledger.Event.TheVariants.{Give, Feed, End, Look, Submit, Poll, Drop, Cancel, Turn, Exec}
 use Rattle.ring_core.specs.declared.ledger.Reply.{Reply}
 use Rattle.ring_core.specs.declared.ledger.Reply.TheVariants.{Dropped, ExecutedOp, Refused}
 use Rattle.ring_core.specs.declared.ledger.Refusal.{Refusal}
@@ -113,6 +113,8 @@ place-answers L n task o Gone c h = cc
 row-answers : (L : Ledger) (e : Event) (c : Refusal) → cause L e ≡ None → (row L e).1 ≡ Refused c → ⊥
 row-answers L (Give kind) c h r = cc
 row-answers L (Feed x bytes) c h r = cc
+row-answers L (End x) c h r = cc
+row-answers L (Look x) c h r = cc
 row-answers L (Submit request) c h r = cc
 row-answers L (Poll n task) c h r = (let f = found L n h in let a = ap (λ x. (poll_step L n task x).1) f.there in place-answers L n task f.operation f.operation.place c (sym a ∙ r))
 row-answers L (Drop n) c h r = (let f = found L n h in let a : (row L (Drop n)).1 ≡ Dropped = dropped-row L n f in cc)

@@ -1,6 +1,7 @@
 -- Every ledger that events lead to has lists that hold what its places say, a history of each number, and cancels that were asked for.
 use Rattle.std.proofs.Common.{◌≡◌, inl, inr, ℕ, suc, true, false, List, length, Some, option_map, slice_get, refl, sym, ◌∙◌, ap, subst, arith}
 use Rattle.rent_buf.specs.Buffer.{Buffer}
+use Rattle.rent_buf.specs.Parts.{Parts}
 use Rattle.ring_core.specs.declared.world.HandleState.{HandleState}
 use Rattle.ring_core.specs.declared.request.Request.{Request}
 use Rattle.ring_core.specs.declared.request.Told.{Told}
@@ -15,7 +16,7 @@ use Rattle.ring_core.specs.Queue.{with_op, at_place, take_all, make_room}
 use Rattle.ring_core.specs.Turn.{turn_step, effect_of, with_result, with_effect, complete_at}
 use Rattle.ring_core.specs.Step.{submit_step, with_task, poll_at}
 use Rattle.ring_core.specs.Run.{replies, ledger_before, IsExecuted}
-use Rattle.ring_core.specs.Headline.{IsHanded, IsCanceledBefore}
+use Rattle.ring_core.specs.Moments.{IsHanded, IsCanceledBefore}
 use Rattle.ring_core.proofs.HeadlineTaking.{in_queue, in_flight, in_done, Listed, take_all-ops, listed-take_all}
 use Rattle.ring_core.proofs.HeadlineReaping.{reap_all-ops, listed-reap_all}
 use Rattle.ring_core.proofs.HeadlineListed.{changed-cases, joined-cases, joined, submit-joined, length-make_room, make_room-ops, listed-make_room, listed-joined, listed-changed, listed-executed}
@@ -72,7 +73,7 @@ module _ (capacity : ℕ) (events : List Event) (k : ℕ) (L : Ledger) (trace : 
     | inr took ↦ history-taken capacity events k n (slice_get L.ops n) (slice_get (make_room L).ops n) took (trace.history n)
   ]
 
-  module _ (request : Request Buffer) (here : slice_get events k ≡ Some (Submit request)) (reply : slice_get (replies (empty capacity) events) k ≡ Some (Submitted (length L.ops))) where
+  module _ (request : Request Buffer Parts) (here : slice_get events k ≡ Some (Submit request)) (reply : slice_get (replies (empty capacity) events) k ≡ Some (Submitted (length L.ops))) where
     -- A new operation has its history.
     history-new : (n : ℕ) → n ≡ length L.ops → Unknown capacity events k n → History capacity events (suc k) n (Some (new_operation request))
     history-new n e h = record {

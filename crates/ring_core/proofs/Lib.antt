@@ -1,5 +1,6 @@
 pub mod Amended
 pub mod Marked
+pub mod Joined
 pub mod Tallying
 pub mod HeadlineLists
 pub mod HeadlineTaking

@@ -1,19 +1,20 @@
 -- The laws of whole runs: what the replies to any events keep, at every capacity. `headline` states them, and a session's run cites them.
-use Rattle.std.specs.Prelude.{ℕ, ◌≡◌, ◌<◌, ◌≤◌, ◌⊎◌, ◌↔◌, Bool, true, false, List, length, take, count_by, Option, Some, None, slice_get}
+use Rattle.std.specs.Prelude.{ℕ, ◌≡◌, ◌<◌, ◌≤◌, ◌⊎◌, ◌↔◌, Bool, true, false, List, length, take, count_by, Some, slice_get}
 use Rattle.rent_buf.specs.declared.spec.HeldBuf.{HeldBuf}
 use Rattle.ring_core.specs.declared.request.Told.{Told}
 use Rattle.ring_core.specs.declared.request.Told.TheVariants.{Fail}
 use Rattle.ring_core.specs.declared.request.Outcome.{Outcome}
 use Rattle.ring_core.specs.declared.ledger.Event.{Event}
-use Rattle.ring_core.specs.declared.ledger.Event.TheVariants.{Poll, Drop, Cancel}
+use Rattle.ring_core.specs.declared.ledger.Event.TheVariants.{Poll}
 use Rattle.ring_core.specs.declared.ledger.Refusal.{Refusal}
 use Rattle.ring_core.specs.declared.ledger.Refusal.TheVariants.{NoOp}
 use Rattle.ring_core.specs.declared.ledger.Reply.{Reply}
-use Rattle.ring_core.specs.declared.ledger.Reply.TheVariants.{Submitted, Pending, Handed, Dropped, Asked, Turned, Refused}
+use Rattle.ring_core.specs.declared.ledger.Reply.TheVariants.{Submitted, Pending, Refused}
 use Rattle.ring_core.specs.Outcome.{canceled_error}
 use Rattle.ring_core.specs.Ledger.{Operation, Gone}
 use Rattle.ring_core.specs.Refusal.{cause}
 use Rattle.ring_core.specs.Run.{ledger_before, IsGiven, IsExecuted, IsReaped, IsOwn}
+use Rattle.ring_core.specs.Moments.{IsPolled, IsReapedBefore, HandsOwn, IsHanded, IsDropped, IsAbout, IsGivenBefore, IsHandedBefore, IsDroppedBefore, NamesReaped, IsCanceledBefore}
 
 -- There are as many replies as events.
 abbrev pub OneReplyEach : List Event → List Reply → Type 0
@@ -29,18 +30,6 @@ pub record HasCause (capacity : ℕ) (events : List Event) (i : ℕ) (refusal : 
 abbrev pub RefusedExactly : ℕ → List Event → List Reply → Type 0
 RefusedExactly capacity events replies = (i : ℕ) (refusal : Refusal) → (slice_get replies i ≡ Some (Refused refusal)) ↔ HasCause capacity events i refusal
 
--- The event at i is a Poll of n that isn't refused.
-pub record IsPolled (capacity : ℕ) (events : List Event) (n i : ℕ) : Type 0 where
-  pub task : ℕ
-  pub event : slice_get events i ≡ Some (Poll n task)
-  pub unrefused : cause (ledger_before capacity events i) (Poll n task) ≡ None
-
--- An event before the event at i reaps n.
-pub record IsReapedBefore (capacity : ℕ) (events : List Event) (n i : ℕ) : Type 0 where
-  pub reap : ℕ
-  pub before : reap < i
-  pub reaped : IsReaped capacity events n reap
-
 -- An unrefused Poll is answered Pending exactly where no event before it reaps its operation.
 abbrev pub PendingUntilReaped : ℕ → List Event → List Reply → Type 0
 PendingUntilReaped capacity events replies = (n i : ℕ) → IsPolled capacity events n i → (slice_get replies i ≡ Some Pending) ↔ (IsReapedBefore capacity events n i → ⊥)
@@ -49,49 +38,9 @@ PendingUntilReaped capacity events replies = (n i : ℕ) → IsPolled capacity e
 abbrev pub ReapedOrNot : ℕ → List Event → Type 0
 ReapedOrNot capacity events = (n i : ℕ) → IsPolled capacity events n i → IsReapedBefore capacity events n i ⊎ (IsReapedBefore capacity events n i → ⊥)
 
--- The reply at i hands back the own outcome and the own buffer of n, which was given, then executed, before the event at i.
-pub record HandsOwn (capacity : ℕ) (events : List Event) (replies : List Reply) (n i : ℕ) : Type 0 where
-  pub outcome : Outcome
-  pub buffer : HeldBuf
-  pub reply : slice_get replies i ≡ Some (Handed outcome buffer)
-  pub own : IsOwn capacity events n outcome buffer
-  pub given_first : own.given < own.exec
-  pub executed_before : own.exec < i
-
 -- An unrefused Poll that isn't answered Pending hands back its operation's own outcome and own buffer.
 abbrev pub HandsBackOwn : ℕ → List Event → List Reply → Type 0
 HandsBackOwn capacity events replies = (n i : ℕ) → IsPolled capacity events n i → (slice_get replies i ≡ Some Pending → ⊥) → HandsOwn capacity events replies n i
-
--- The event at i is a Poll of n, and the reply hands n over.
-pub record IsHanded (events : List Event) (replies : List Reply) (n i : ℕ) : Type 0 where
-  pub task : ℕ
-  pub outcome : Outcome
-  pub buffer : HeldBuf
-  pub event : slice_get events i ≡ Some (Poll n task)
-  pub reply : slice_get replies i ≡ Some (Handed outcome buffer)
-
--- The event at i is a Drop of n, and isn't refused.
-pub record IsDropped (events : List Event) (replies : List Reply) (n i : ℕ) : Type 0 where
-  pub event : slice_get events i ≡ Some (Drop n)
-  pub reply : slice_get replies i ≡ Some Dropped
-
--- The event at i is a Cancel of n, and isn't refused.
-pub record IsAsked (events : List Event) (replies : List Reply) (n i : ℕ) : Type 0 where
-  pub event : slice_get events i ≡ Some (Cancel n)
-  pub reply : slice_get replies i ≡ Some Asked
-
--- The operation that an event is about: a Poll, a Drop or a Cancel of it.
-abbrev pub operation_of : Event → Option ℕ
-operation_of (Poll n task) = Some n
-operation_of (Drop n) = Some n
-operation_of (Cancel n) = Some n
-operation_of _ = None
-
--- The event at i is about n.
-pub record IsAbout (events : List Event) (n i : ℕ) : Type 0 where
-  pub event : Event
-  pub there : slice_get events i ≡ Some event
-  pub about : operation_of event ≡ Some n
 
 -- After an operation was handed over, each Poll, Drop and Cancel of it is refused: it isn't there.
 abbrev pub HandedOnce : List Event → List Reply → Type 0
@@ -100,24 +49,6 @@ HandedOnce events replies = (n i j : ℕ) → IsHanded events replies n i → i 
 -- After an operation was dropped, each Poll, Drop and Cancel of it is refused: it isn't its user's.
 abbrev pub DroppedOnce : List Event → List Reply → Type 0
 DroppedOnce events replies = (n i j : ℕ) → IsDropped events replies n i → i < j → IsAbout events n j → slice_get replies j ≡ Some (Refused NoOp)
-
--- An event before the event at i gave n.
-pub record IsGivenBefore (capacity : ℕ) (events : List Event) (n i : ℕ) : Type 0 where
-  pub given : ℕ
-  pub before : given < i
-  pub is_given : IsGiven capacity events n given
-
--- The reply to an event before the event at i handed n over.
-pub record IsHandedBefore (events : List Event) (replies : List Reply) (n i : ℕ) : Type 0 where
-  pub hand : ℕ
-  pub before : hand < i
-  pub is_handed : IsHanded events replies n hand
-
--- An event before the event at i dropped n.
-pub record IsDroppedBefore (events : List Event) (replies : List Reply) (n i : ℕ) : Type 0 where
-  pub drop : ℕ
-  pub before : drop < i
-  pub is_dropped : IsDropped events replies n drop
 
 -- A Poll, a Drop or a Cancel is refused as NoOp exactly where its operation wasn't given before, or was handed over or dropped before.
 abbrev pub RefusedWhereGone : ℕ → List Event → List Reply → Type 0
@@ -133,15 +64,6 @@ FirstPollHands capacity events replies =
     (IsDroppedBefore events replies n j → ⊥) →
     HandsOwn capacity events replies n j
 
--- The reply at i is that of a Turn, and names n at a place of its first list.
-pub record NamesReaped (replies : List Reply) (n i : ℕ) : Type 0 where
-  pub reaped : List ℕ
-  pub closed : List ℕ
-  pub woken : List ℕ
-  pub place : ℕ
-  pub reply : slice_get replies i ≡ Some (Turned reaped closed woken)
-  pub named : slice_get reaped place ≡ Some n
-
 -- A Turn names exactly the operations that it reaps, also those that were dropped.
 abbrev pub ReapNames : ℕ → List Event → List Reply → Type 0
 ReapNames capacity events replies = (n i : ℕ) → IsReaped capacity events n i ↔ NamesReaped replies n i
@@ -151,12 +73,6 @@ abbrev pub KeptUntilReaped : ℕ → List Event → Type 0
 KeptUntilReaped capacity events =
     (n i : ℕ) (operation : Operation) → i ≤ length events → slice_get (ledger_before capacity events i).ops n ≡ Some operation → operation.place ≡ Gone →
     IsReapedBefore capacity events n i
-
--- A Cancel of n or a Drop of n came before the event at i, and wasn't refused.
-pub record IsCanceledBefore (events : List Event) (replies : List Reply) (n i : ℕ) : Type 0 where
-  pub ask : ℕ
-  pub before : ask < i
-  pub asked : IsAsked events replies n ask ⊎ IsDropped events replies n ask
 
 -- An operation ends with the error of a cancel only where its own cancel was asked for, or it was dropped, before.
 abbrev pub CanceledWhereAsked : ℕ → List Event → List Reply → Type 0

@@ -1,6 +1,7 @@
 -- The ledger: what the machine keeps. Operations and handles stand by number, the first at 0.
 use Rattle.std.specs.Prelude.{ℕ, Bool, true, false, not, ◌&&◌, nat_lt, List, [], length, Option, None}
 use Rattle.rent_buf.specs.Buffer.{Buffer}
+use Rattle.rent_buf.specs.Parts.{Parts}
 use Rattle.rent_buf.specs.declared.spec.HeldBuf.{HeldBuf}
 use Rattle.ring_core.specs.declared.request.Request.{Request}
 use Rattle.ring_core.specs.declared.request.Outcome.{Outcome}
@@ -28,7 +29,7 @@ pub data Place : Type 0 where
 -- An operation: the request that was submitted, its buffer as it is now, the task that waits for it, whether its cancel was taken,
 -- whether it was dropped, and its place.
 pub record Operation : Type 0 where
-  pub request : Request Buffer
+  pub request : Request Buffer Parts
   pub buffer : HeldBuf
   pub task : Option ℕ
   pub canceled : Bool
@@ -49,7 +50,7 @@ abbrev pub empty : ℕ → Ledger
 empty capacity = record { capacity = capacity; queue = []; flying = []; done = []; ops = []; world = [] }
 
 -- A new operation of a request.
-abbrev pub new_operation : Request Buffer → Operation
+abbrev pub new_operation : Request Buffer Parts → Operation
 new_operation request = record { request = request; buffer = buffer_of request; task = None; canceled = false; dropped = false; place = InQueue }
 
 -- A place other than Gone.

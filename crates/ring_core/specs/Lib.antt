@@ -9,8 +9,11 @@ pub mod Refusal
 pub mod Turn
 pub mod Step
 pub mod Run
+pub mod Moments
 pub mod Headline
 pub mod Rows
+pub mod OutcomeRows
+pub mod BufferRows
 pub mod Counts
 pub mod Ring
 pub mod Flights

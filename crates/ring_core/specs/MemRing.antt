@@ -13,7 +13,7 @@ use Rattle.ring_core.specs.declared.mem_ring.ExecRefusal.{ExecRefusal}
 use Rattle.ring_core.specs.declared.mem_ring.ExecRefusal.TheVariants.{NotFlying, BadOutcome, OutOfMemory}
 use Rattle.ring_core.specs.Lists.{passes}
 use Rattle.ring_core.specs.Outcome.{is_allowed}
-use Rattle.ring_core.specs.Effect.{Effect, unmoved, effect}
+use Rattle.ring_core.specs.Effect.{Effect, unmoved, effect, call_sends}
 use Rattle.ring_core.specs.Ring.{RingView}
 
 -- The ring in memory with no entries.
@@ -52,6 +52,20 @@ coming_to world told (Some flight) = (body_effect world flight.entry.body [] tol
 abbrev pub coming_at : RingView → ℕ → Told → List ℕ
 coming_at view place told = coming_to view.world told (slice_get view.flying place)
 
+-- How many bytes the body of an entry in flight sends with what is told; None where it sends nothing.
+abbrev pub body_sends : Body → Told → Option ℕ
+body_sends (Calls call) told = call_sends call told
+body_sends (Cancels key) told = None
+
+-- How many bytes what was looked up in flight sends.
+abbrev pub sends_in : Told → Option Flight → Option ℕ
+sends_in told None = None
+sends_in told (Some flight) = body_sends flight.entry.body told
+
+-- How many bytes what is in flight at a place sends with what is told.
+abbrev pub sends_at : RingView → ℕ → Told → Option ℕ
+sends_at view place told = sends_in told (slice_get view.flying place)
+
 -- The completion of an entry with an outcome.
 abbrev pub completion_of : Entry → Outcome → Completion
 completion_of entry outcome = record { word = entry.word; serial = entry.serial; outcome = outcome }
@@ -78,6 +92,10 @@ pub record IsForbidden (old : RingView) (place : ℕ) (told : Told) : Type 0 whe
   pub flight : Flight
   pub there : slice_get old.flying place ≡ Some flight
   pub forbids : is_allowed_body old.world flight.marked flight.entry.body told ≡ false
+
+-- An entry in flight became a completion of this outcome, and nothing moved.
+abbrev pub completed : RingView → ℕ → Entry → Outcome → RingView
+completed view place entry outcome = finished view place entry (unmoved view.world outcome)
 
 -- What the test before an execution answers: one case for each answer, and no two of them can hold at once. It never wants memory.
 abbrev pub AdmitsFor : RingView → ℕ → Told → Result Entry ExecRefusal → Type 0

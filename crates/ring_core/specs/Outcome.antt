@@ -2,19 +2,28 @@
 use Rattle.std.specs.Prelude.{ℕ, Bool, ◌&&◌, ◌||◌, ◌==◌, nat_le, if◌then◌else◌, List, length, slice_get}
 use Rattle.ring_core.specs.declared.world.HandleState.{HandleState}
 use Rattle.ring_core.specs.declared.request.Call.{Call}
-use Rattle.ring_core.specs.declared.request.Call.TheVariants.{In}
+use Rattle.ring_core.specs.declared.request.Call.TheVariants.{In, Out}
 use Rattle.ring_core.specs.declared.request.Told.{Told}
 use Rattle.ring_core.specs.declared.request.Told.TheVariants.{Count, Fail}
 use Rattle.ring_core.specs.Lists.{passes}
-use Rattle.ring_core.specs.World.{gives_bytes}
+use Rattle.ring_core.specs.World.{gives_bytes, takes_bytes}
 
--- Bytes in: at most the want and the input; 0 only where the want is 0.
+-- No more bytes come: the input is empty, and its end is marked.
+abbrev pub is_spent : HandleState → Bool
+is_spent handle = handle.ended && length handle.input == 0
+
+-- Bytes in: at most the want and the input; 0 only where the want is 0, or the input is empty and ended.
 abbrev pub may_read : ℕ → ℕ → HandleState → Bool
-may_read want k handle = nat_le k want && nat_le k (length handle.input) && (nat_le 1 k || want == 0)
+may_read want k handle = nat_le k want && nat_le k (length handle.input) && (nat_le 1 k || want == 0 || is_spent handle)
+
+-- Bytes out: at most all that are offered; 0 only where there are none.
+abbrev pub may_send : ℕ → ℕ → Bool
+may_send offered k = nat_le k offered && (nat_le 1 k || offered == 0)
 
 -- The counts of each call: on a handle that isn't in the world there is none.
 abbrev pub may_count : List HandleState → Call → ℕ → Bool
 may_count world (In h want) k = passes (λ handle. gives_bytes handle.kind && may_read want k handle) (slice_get world h)
+may_count world (Out h offered) k = passes (λ handle. takes_bytes handle.kind && may_send offered k) (slice_get world h)
 
 -- The error of a canceled operation.
 abbrev pub canceled_error : ℕ

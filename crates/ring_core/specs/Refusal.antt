@@ -1,11 +1,12 @@
 -- Which events are refused, and with which name: a test for each name, over the events that may get it.
 use Rattle.std.specs.Prelude.{ℕ, Bool, true, false, not, ◌||◌, nat_le, List, [], ◌∷◌, length, Option, Some, None, slice_get}
 use Rattle.ring_core.specs.declared.ledger.Event.{Event}
-use Rattle.ring_core.specs.declared.ledger.Event.TheVariants.{Feed, Submit, Poll, Drop, Cancel, Exec}
+use Rattle.ring_core.specs.declared.ledger.Event.TheVariants.{Feed, End, Look, Submit, Poll, Drop, Cancel, Exec}
 use Rattle.ring_core.specs.declared.ledger.Refusal.{Refusal}
-use Rattle.ring_core.specs.declared.ledger.Refusal.TheVariants.{NoOp, NoHandle, Full, NotFlying, BadOutcome}
+use Rattle.ring_core.specs.declared.ledger.Refusal.TheVariants.{NoOp, NoHandle, Full, NotFlying, BadOutcome, BadHandleEvent}
 use Rattle.ring_core.specs.declared.request.Told.{Told}
 use Rattle.ring_core.specs.Lists.{passes}
+use Rattle.ring_core.specs.World.{is_ended_at}
 use Rattle.ring_core.specs.Request.{named, call_of}
 use Rattle.ring_core.specs.Outcome.{is_allowed}
 use Rattle.ring_core.specs.Ledger.{Ledger, Item, Op, is_owned, live_ops, user_holds}
@@ -37,6 +38,8 @@ has_no_op L _ = false
 -- NoHandle: the user doesn't hold a handle that the event names.
 abbrev pub has_no_handle : Ledger → Event → Bool
 has_no_handle L (Feed h bytes) = lacks_handle L (h ∷ [])
+has_no_handle L (End h) = lacks_handle L (h ∷ [])
+has_no_handle L (Look h) = lacks_handle L (h ∷ [])
 has_no_handle L (Submit request) = lacks_handle L (named request)
 has_no_handle L _ = false
 
@@ -55,6 +58,12 @@ abbrev pub has_bad_outcome : Ledger → Event → Bool
 has_bad_outcome L (Exec place told) = not (passes (λ item. allowed L item told) (slice_get L.flying place))
 has_bad_outcome L _ = false
 
+-- BadHandleEvent: what arrives at the handle has ended.
+abbrev pub has_bad_handle_event : Ledger → Event → Bool
+has_bad_handle_event L (Feed h bytes) = is_ended_at L.world h
+has_bad_handle_event L (End h) = is_ended_at L.world h
+has_bad_handle_event L _ = false
+
 -- A name where its test passes, else the next one.
 abbrev pub refused_if : Bool → Refusal → Option Refusal → Option Refusal
 refused_if true refusal next = Some refusal
@@ -67,4 +76,5 @@ cause L event =
     refused_if (has_no_handle L event) NoHandle (
     refused_if (is_full L event) Full (
     refused_if (is_not_flying L event) NotFlying (
-    refused_if (has_bad_outcome L event) BadOutcome None))))
+    refused_if (has_bad_outcome L event) BadOutcome (
+    refused_if (has_bad_handle_event L event) BadHandleEvent None)))))

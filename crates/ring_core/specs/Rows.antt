@@ -1,4 +1,4 @@
--- Worked runs of the machine: a capacity, the events, and their replies.
+-- Worked runs of the machine on operations: a capacity, the events, and their replies.
 use Rattle.std.specs.Prelude.{ℕ, ◌≡◌, List, [], ◌∷◌}
 use Rattle.rent_buf.specs.Buffer.{Buffer}
 use Rattle.rent_buf.specs.declared.spec.Kind.TheVariants.{Vector}
@@ -43,46 +43,6 @@ OneRead =
     Handed (Outcome.Count 2) (One (vector 4 0 4 (97 ∷ 98 ∷ []))) ∷
     Refused NoOp ∷ [])
 
--- A short read into a vector cuts what stood there.
-abbrev pub ShortRead : Type 0
-ShortRead =
-    replies (empty 4) (
-    Give Stream ∷
-    Feed 0 (97 ∷ 98 ∷ []) ∷
-    Submit (Recv 0 (vector 4 0 4 (48 ∷ 49 ∷ 50 ∷ 51 ∷ []))) ∷
-    Turn ∷
-    Exec 0 (Count 2) ∷
-    Turn ∷
-    Poll 0 1 ∷ [])
-    ≡ (
-    Handle 0 ∷
-    Fed ∷
-    Submitted 0 ∷
-    Turned [] [] [] ∷
-    ExecutedOp 0 ∷
-    Turned (0 ∷ []) [] [] ∷
-    Handed (Outcome.Count 2) (One (vector 4 0 4 (97 ∷ 98 ∷ []))) ∷ [])
-
--- A read into a range keeps what stands before it.
-abbrev pub RangeRead : Type 0
-RangeRead =
-    replies (empty 4) (
-    Give Stream ∷
-    Feed 0 (97 ∷ 98 ∷ 99 ∷ 100 ∷ 101 ∷ []) ∷
-    Submit (Recv 0 (vector 10 1 8 (48 ∷ 49 ∷ 50 ∷ 51 ∷ []))) ∷
-    Turn ∷
-    Exec 0 (Count 5) ∷
-    Turn ∷
-    Poll 0 1 ∷ [])
-    ≡ (
-    Handle 0 ∷
-    Fed ∷
-    Submitted 0 ∷
-    Turned [] [] [] ∷
-    ExecutedOp 0 ∷
-    Turned (0 ∷ []) [] [] ∷
-    Handed (Outcome.Count 5) (One (vector 10 1 8 (48 ∷ 97 ∷ 98 ∷ 99 ∷ 100 ∷ 101 ∷ []))) ∷ [])
-
 -- Events that name what isn't there.
 abbrev pub RefusedInOrder : Type 0
 RefusedInOrder =
@@ -94,26 +54,6 @@ RefusedInOrder =
     Refused NoHandle ∷
     Refused NotFlying ∷
     Refused NoOp ∷ [])
-
--- A count above the input, a count of 0 that isn't allowed, and one that is.
-abbrev pub RefusedOutcomes : Type 0
-RefusedOutcomes =
-    replies (empty 4) (
-    Give Stream ∷
-    Submit (Recv 0 (vector 2 0 2 [])) ∷
-    Turn ∷
-    Feed 0 (97 ∷ []) ∷
-    Exec 0 (Count 2) ∷
-    Exec 0 (Count 0) ∷
-    Exec 0 (Count 1) ∷ [])
-    ≡ (
-    Handle 0 ∷
-    Submitted 0 ∷
-    Turned [] [] [] ∷
-    Fed ∷
-    Refused BadOutcome ∷
-    Refused BadOutcome ∷
-    ExecutedOp 0 ∷ [])
 
 -- A cancel that is taken late marks nothing: neither its own operation, which is done, nor the next one.
 abbrev pub LateCancel : Type 0
@@ -172,29 +112,3 @@ FullQueue =
     ExecutedOp 1 ∷
     Turned (1 ∷ []) [] [] ∷
     Refused NoOp ∷ [])
-
--- Errors: 0 and 4096 aren't any, that of a cancel wants one, and another hands back the submitted buffer.
-abbrev pub Errors : Type 0
-Errors =
-    replies (empty 4) (
-    Give Stream ∷
-    Feed 0 (97 ∷ []) ∷
-    Submit (Recv 0 (vector 2 0 2 (48 ∷ 49 ∷ []))) ∷
-    Turn ∷
-    Exec 0 (Fail 0) ∷
-    Exec 0 (Fail 4096) ∷
-    Exec 0 (Fail 125) ∷
-    Exec 0 (Fail 104) ∷
-    Turn ∷
-    Poll 0 1 ∷ [])
-    ≡ (
-    Handle 0 ∷
-    Fed ∷
-    Submitted 0 ∷
-    Turned [] [] [] ∷
-    Refused BadOutcome ∷
-    Refused BadOutcome ∷
-    Refused BadOutcome ∷
-    ExecutedOp 0 ∷
-    Turned (0 ∷ []) [] [] ∷
-    Handed (Outcome.Fail 104) (One (vector 2 0 2 (48 ∷ 49 ∷ []))) ∷ [])

@@ -1,6 +1,7 @@
 -- The ledger after events, the replies, and the moments of an operation.
 use Rattle.std.specs.Prelude.{ℕ, ◌≡◌, ◌<◌, ◌≤◌, List, [], ◌∷◌, take, Some, None, slice_get}
 use Rattle.rent_buf.specs.Buffer.{Buffer}
+use Rattle.rent_buf.specs.Parts.{Parts}
 use Rattle.rent_buf.specs.declared.spec.HeldBuf.{HeldBuf}
 use Rattle.ring_core.specs.declared.request.Request.{Request}
 use Rattle.ring_core.specs.declared.request.Told.{Told}
@@ -35,7 +36,7 @@ ledger_before capacity events i = ledger capacity (take i events)
 
 -- The event at i got the reply Submitted n.
 pub record IsGiven (capacity : ℕ) (events : List Event) (n i : ℕ) : Type 0 where
-  pub request : Request Buffer
+  pub request : Request Buffer Parts
   pub event : slice_get events i ≡ Some (Submit request)
   pub reply : slice_get (replies (empty capacity) events) i ≡ Some (Submitted n)
 

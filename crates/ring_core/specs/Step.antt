@@ -1,16 +1,17 @@
 -- The step of the machine: the next ledger and the reply, for each event.
 use Rattle.std.specs.Prelude.{ℕ, true, [], ◌∷◌, ◌++◌, length, Option, Some, None, slice_get}
 use Rattle.rent_buf.specs.Buffer.{Buffer}
+use Rattle.rent_buf.specs.Parts.{Parts}
 use Rattle.ring_core.specs.declared.request.Request.{Request}
 use Rattle.ring_core.specs.declared.world.HandleState.{HandleState}
 use Rattle.ring_core.specs.declared.ledger.Event.{Event}
-use Rattle.ring_core.specs.declared.ledger.Event.TheVariants.{Give, Feed, Submit, Poll, Drop, Cancel, Turn, Exec}
+use Rattle.ring_core.specs.declared.ledger.Event.TheVariants.{Give, Feed, End, Look, Submit, Poll, Drop, Cancel, Turn, Exec}
 use Rattle.ring_core.specs.declared.ledger.Refusal.{Refusal}
 use Rattle.ring_core.specs.declared.ledger.Refusal.TheVariants.{NoOp}
 use Rattle.ring_core.specs.declared.ledger.Reply.{Reply}
-use Rattle.ring_core.specs.declared.ledger.Reply.TheVariants.{Handle, Fed, Submitted, Pending, Handed, Dropped, Asked, Refused}
+use Rattle.ring_core.specs.declared.ledger.Reply.TheVariants.{Handle, Fed, Ended, Output, Submitted, Pending, Handed, Dropped, Asked, Refused}
 use Rattle.ring_core.specs.Lists.{amended}
-use Rattle.ring_core.specs.World.{fresh, with_input}
+use Rattle.ring_core.specs.World.{fresh, with_input, with_end, output_at}
 use Rattle.ring_core.specs.Ledger.{Ledger, Operation, Place, Reaped, Queued, Req, new_operation}
 use Rattle.ring_core.specs.Queue.{with_op, push, leave}
 use Rattle.ring_core.specs.Turn.{turn_step, exec_step}
@@ -29,7 +30,7 @@ abbrev pub with_new_op : Ledger → Operation → Ledger
 with_new_op L operation = record L { ops = L.ops ++ operation ∷ [] }
 
 -- Submit: the next number, and a push of its request.
-abbrev pub submit_step : Ledger → Request Buffer → Ledger
+abbrev pub submit_step : Ledger → Request Buffer Parts → Ledger
 submit_step L request = push (with_new_op L (new_operation request)) (Req (length L.ops))
 
 -- An operation that a task waits for.
@@ -64,6 +65,8 @@ drop_step L n (Some operation) = (drop_at (with_op L n with_drop) n operation.pl
 abbrev pub row : Ledger → Event → Ledger × Reply
 row L (Give kind) = (give_step L (fresh kind), Handle (length L.world))
 row L (Feed h bytes) = (with_handle L h (with_input bytes), Fed)
+row L (End h) = (with_handle L h with_end, Ended)
+row L (Look h) = (L, Output (output_at L.world h))
 row L (Submit request) = (submit_step L request, Submitted (length L.ops))
 row L (Poll n task) = poll_step L n task (slice_get L.ops n)
 row L (Drop n) = drop_step L n (slice_get L.ops n)

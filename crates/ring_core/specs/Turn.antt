@@ -1,10 +1,11 @@
 -- The steps of Turn and Exec.
 use Rattle.std.specs.Prelude.{ℕ, Bool, true, false, List, [], ◌∷◌, ◌++◌, remove, option_to_list, Option, Some, None, slice_get}
 use Rattle.rent_buf.specs.Buffer.{Buffer, stored}
+use Rattle.rent_buf.specs.Parts.{Parts, parts_stored}
 use Rattle.rent_buf.specs.declared.spec.HeldBuf.{HeldBuf}
 use Rattle.rent_buf.specs.declared.spec.HeldBuf.TheVariants.{One}
 use Rattle.ring_core.specs.declared.request.Request.{Request}
-use Rattle.ring_core.specs.declared.request.Request.TheVariants.{Recv}
+use Rattle.ring_core.specs.declared.request.Request.TheVariants.{Recv, ReadVec, Send, WriteVec}
 use Rattle.ring_core.specs.declared.request.Told.{Told}
 use Rattle.ring_core.specs.declared.request.Told.TheVariants.{Count, Fail}
 use Rattle.ring_core.specs.declared.ledger.Refusal.TheVariants.{NotFlying}
@@ -71,13 +72,20 @@ reap_all L = (reap_each (record L { done = [] }) L.done, Turned (ops_in L.done) 
 abbrev pub turn_step : Ledger → Ledger × Reply
 turn_step L = reap_all (take_all L)
 
--- The buffer of an operation after its outcome: after a count, that of a reading request has the bytes that came; after an error it is the submitted one.
-abbrev pub held : Request Buffer → Told → List ℕ → HeldBuf
-held (Recv fd buf) (Count k) got = One (stored buf got)
+-- The buffer of an operation after a count: that of a reading request has the bytes that came, that of another is the submitted one.
+abbrev pub held_after : Request Buffer Parts → List ℕ → HeldBuf
+held_after (Recv fd buf) got = One (stored buf got)
+held_after (ReadVec fd parts) got = HeldBuf.Parts (parts_stored parts got)
+held_after (Send fd buf) got = One buf
+held_after (WriteVec fd parts) got = HeldBuf.Parts parts
+
+-- The buffer of an operation after its outcome: after an error it is the submitted one.
+abbrev pub held : Request Buffer Parts → Told → List ℕ → HeldBuf
+held request (Count k) got = held_after request got
 held request (Fail e) got = buffer_of request
 
 -- The effect of executing a request.
-abbrev pub effect_of : Ledger → Request Buffer → Told → Effect
+abbrev pub effect_of : Ledger → Request Buffer Parts → Told → Effect
 effect_of L request told = effect L.world (call_of request) (sent_of request) told
 
 -- An executed operation has its buffer and its outcome.

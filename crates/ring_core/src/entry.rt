@@ -1,5 +1,9 @@
 //! The entries of a ring, and its completions.
-use crate::request::{Call, Outcome};
+ghost use Rattle.std.specs.Prelude.{◌≡◌, Option, Some, None};
+ghost use Rattle.ring_core.specs.Effect.{count_told};
+ghost use Rattle.ring_core.specs.MemRing.{body_sends};
+
+use crate::request::{Call, Outcome, Told};
 
 /// The first of the data words that are reserved: they reach no slot. (own)
 pub const FIRST_RESERVED: u64 = 18446744073709551612;
@@ -14,6 +18,19 @@ pub enum Body {
     Call(Call),
     /// The cancel of what has this data word.
     Cancel(u64),
+}
+
+impl Body {
+    /// How many bytes it sends with what is told; None where it sends nothing: it reads, failed, or is a cancel. (own)
+    pub fn sends(&self, told: Told) -> Option<u32>
+        ensures { result ≡ body_sends self.now told }
+    {
+        match self {
+            Body::Call(Call::In { .. }) => None,
+            Body::Call(Call::Out { .. }) => told.count(),
+            Body::Cancel(_) => None,
+        }
+    }
 }
 
 /// A submission. The ring compares data words alone, and never serials. (io_uring's submission queue entry)

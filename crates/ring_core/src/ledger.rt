@@ -1,9 +1,11 @@
 //! The events of the machine, its replies and its refusals. What a step makes of an event is `step` of `specs/Step.antt`.
-ghost use Rattle.ring_core.specs.Rows.{OneRead, ShortRead, RangeRead, RefusedInOrder, RefusedOutcomes, LateCancel, FullQueue, Errors};
+ghost use Rattle.ring_core.specs.Rows.{OneRead, RefusedInOrder, LateCancel, FullQueue};
+ghost use Rattle.ring_core.specs.OutcomeRows.{RefusedOutcomes, Errors, ReadAtTheEnd};
+ghost use Rattle.ring_core.specs.BufferRows.{ShortRead, GrownRead, FixedRead, RangeRead, PartsRead, ShortSend, PartsSend};
 
 use crate::request::{Outcome, Request, Told};
 use crate::world::HandleKind;
-use rent_buf::{BufSpec, ByteList, HeldBuf, NumList};
+use rent_buf::{BufSpec, ByteList, HeldBuf, NumList, PartsSpec};
 
 /// What a user or an executor does.
 #[derive(Debug, Drop)]
@@ -12,8 +14,12 @@ pub enum Event {
     Give(HandleKind),
     /// Bytes arrive at a handle.
     Feed(u64, ByteList),
+    /// The end of what arrives at a handle: no more bytes do.
+    End(u64),
+    /// Looks at what was sent to a handle.
+    Look(u64),
     /// Submits a request.
-    Submit(Request<BufSpec>),
+    Submit(Request<BufSpec, PartsSpec>),
     /// Polls an operation for a task.
     Poll(u64, u64),
     /// Gives an operation up.
@@ -39,6 +45,8 @@ pub enum Refusal {
     NotFlying,
     /// The outcome isn't allowed.
     BadOutcome,
+    /// What arrives at the handle has ended.
+    BadHandleEvent,
 }
 
 /// What the machine answers to an event.
@@ -48,6 +56,10 @@ pub enum Reply {
     Handle(u64),
     /// The bytes arrived.
     Fed,
+    /// The end is marked.
+    Ended,
+    /// The bytes that were sent to the handle.
+    Output(ByteList),
     /// The number of a new operation.
     Submitted(u64),
     /// The operation isn't reaped.
@@ -68,12 +80,23 @@ pub enum Reply {
 
 /// Worked runs of the machine, computed from its definitions. (own)
 pub fn worked_rows()
+    // Operations.
     ensures one_read { OneRead }
-    ensures short_read { ShortRead }
-    ensures range_read { RangeRead }
     ensures refused_in_order { RefusedInOrder }
-    ensures refused_outcomes { RefusedOutcomes }
     ensures late_cancel { LateCancel }
     ensures full_queue { FullQueue }
+
+    // Outcomes.
+    ensures refused_outcomes { RefusedOutcomes }
     ensures errors { Errors }
+    ensures read_at_the_end { ReadAtTheEnd }
+
+    // Buffers and bytes.
+    ensures short_read { ShortRead }
+    ensures grown_read { GrownRead }
+    ensures fixed_read { FixedRead }
+    ensures range_read { RangeRead }
+    ensures parts_read { PartsRead }
+    ensures short_send { ShortSend }
+    ensures parts_send { PartsSend }
 {}

@@ -20,4 +20,4 @@ pub use mem_ring::{ExecRefusal, MemRing};
 pub use request::{CANCELED, Call, LAST_ERROR, MOST_ASKED, Outcome, Request, Told};
 pub use ring::{EnterError, Push, Ring};
 pub use shared_fd::SharedFd;
-pub use world::{HandleKind, HandleState, World, WorldError};
+pub use world::{HandleKind, HandleState, Look, World, WorldError};

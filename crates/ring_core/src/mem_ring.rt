@@ -1,18 +1,21 @@
 //! The ring in memory.
 ghost use Rattle.std.specs.Prelude.{◌≡◌, ◌<◌, ◌≤◌, ◌+◌, [], length, true, slice_get, option_copied};
 ghost use Rattle.std.specs.VecDeque.{deque_len, deque_capacity};
-ghost use Rattle.std.specs.Prelude.{IfSome};
+ghost use Rattle.std.specs.Prelude.{IfSome, IfOk, OnErr, List, ℕ, None, Some};
+ghost use Rattle.std.specs.List.{concat};
+ghost use Rattle.ring_core.specs.declared.request.Told.TheVariants.{Count as Counts};
 ghost use Rattle.std.specs.Borrow.{sem};
 ghost use Rattle.ring_core.specs.Ring.{flying_with, flying_after, done_with, done_after};
-ghost use Rattle.ring_core.specs.MemRing.{fresh_ring, entry_at, is_allowed_body, admits_at, coming_at, completion_of, AdmitsFor, IsFinished, FinishesFor};
+ghost use Rattle.ring_core.specs.MemRing.{fresh_ring, entry_at, is_allowed_body, admits_at, coming_at, sends_at, completion_of, completed, AdmitsFor, IsFinished, FinishesFor};
 ghost use Rattle.ring_core.specs.Lends.{lends_world};
+ghost use Rattle.ring_core.specs.World.{output_at};
 
 use crate::entry::{Body, Completion, Entry, Flight};
 use crate::flights::Flights;
-use crate::request::{Outcome, Told};
+use crate::request::{Call, Outcome, Told};
 use crate::ring::{EnterError, Push, Ring};
-use crate::world::World;
-use rent_buf::{ByteList, OutOfMemory};
+use crate::world::{Look, World};
+use rent_buf::{ByteList, IoVecBuf, OutOfMemory};
 use std::alloc::Global;
 use std::collections::VecDeque;
 use std::marker::Model;
@@ -90,6 +93,21 @@ impl MemRing {
         &mut self.world
     }
 
+    /// The number of the ring's handles. (own)
+    pub fn handles(&self) -> u64
+        ensures { result ≡ length self.now.world }
+    {
+        self.world.count()
+    }
+
+    /// What was sent to a handle of the ring, copied once. (own)
+    pub fn look(&self, h: u64) -> Result<Look, OutOfMemory>
+        requires { h < length self.now.world }
+        ensures { IfOk result (λ look. look ≡ Look.Bytes (output_at self.now.world h)) }
+    {
+        self.world.look(h)
+    }
+
     /// The entry at a place of the in-flight list, where what is told is allowed to it; else why it can't be executed. (own)
     pub fn admits(&self, place: usize, told: Told) -> Result<Entry, ExecRefusal>
         ensures { AdmitsFor self.now place told result }
@@ -128,11 +146,12 @@ impl MemRing {
         }
     }
 
-    /// Executes the entry at a place with what is told, which is allowed to it: moves its bytes, so that those that come
-    /// are gone, moves the entry to the end of what is done, and answers its completion. It takes no memory. (own)
-    pub fn finish(&mut self, place: usize, told: Told, sent: &[u8]) -> Completion
-        requires { admits_at self.old place told ≡ true }
-        ensures { IsFinished self.old place told sent.now self.new (coming_at self.old place told) result }
+    /// Executes the entry at a place with what is told, which is allowed to it and sends nothing: the bytes that come are
+    /// gone, and the entry becomes the last completion, which is answered. It takes no memory. (own)
+    pub fn finish(&mut self, place: usize, told: Told) -> Completion
+        requires allowed { admits_at self.old place told ≡ true }
+        requires quiet { sends_at self.old place told ≡ None }
+        ensures { (sent : List ℕ) → IsFinished self.old place told sent self.new (coming_at self.old place told) result }
     {
         let Some(flight) = self.flying.get(place) else {
             unreachable!()
@@ -140,15 +159,70 @@ impl MemRing {
         let Body::Call(call) = flight.entry.body else {
             unreachable!()
         };
-        let outcome = self.world.execute(flight.marked, call, told, sent);
-        let completion = completion_for(flight.entry, outcome);
+        let outcome = self.world.execute(flight.marked, call, told);
+        self.complete(place, flight.entry, outcome)
+    }
+
+    /// Executes the entry at a place with a count of bytes to send, which is allowed to it: the first so many of `sent` join
+    /// the handle's output, and the entry becomes the last completion. Where memory runs out, nothing has changed. (own)
+    pub fn finish_send(
+        &mut self,
+        place: usize,
+        count: u32,
+        sent: &[u8],
+    ) -> Result<Completion, OutOfMemory>
+        requires allowed { admits_at self.old place (Counts count) ≡ true }
+        requires sends { sends_at self.old place (Counts count) ≡ Some count }
+        ensures ok { IfOk result (λ completion. IsFinished self.old place (Counts count) sent.now self.new [] completion) }
+        ensures err { OnErr result (self.new ≡ self.old) }
+    {
+        let Some(flight) = self.flying.get(place) else {
+            unreachable!()
+        };
+        let Body::Call(Call::Out { h, ask: _ }) = flight.entry.body else {
+            unreachable!()
+        };
+        self.world.send(h, count, sent)?;
+        Ok(self.complete(place, flight.entry, Outcome::Count(count)))
+    }
+
+    /// As `finish_send`, of the bytes of parts, one behind the other. (own)
+    pub fn finish_send_parts<V: IoVecBuf>(
+        &mut self,
+        place: usize,
+        count: u32,
+        parts: &V,
+    ) -> Result<Completion, OutOfMemory>
+        requires allowed { admits_at self.old place (Counts count) ≡ true }
+        requires sends { sends_at self.old place (Counts count) ≡ Some count }
+        ensures ok { IfOk result (λ completion. IsFinished self.old place (Counts count) (concat (V.parts parts.now)) self.new [] completion) }
+        ensures err { OnErr result (self.new ≡ self.old) }
+    {
+        let Some(flight) = self.flying.get(place) else {
+            unreachable!()
+        };
+        let Body::Call(Call::Out { h, ask: _ }) = flight.entry.body else {
+            unreachable!()
+        };
+        self.world.send_parts(h, count, parts)?;
+        Ok(self.complete(place, flight.entry, Outcome::Count(count)))
+    }
+
+    // The entry at a place becomes the last completion.
+    fn complete(&mut self, place: usize, entry: Entry, outcome: Outcome) -> Completion
+        requires { place < length self.old.flying }
+        ensures ring { self.new ≡ completed self.old place entry outcome }
+        ensures answer { result ≡ completion_of entry outcome }
+    {
+        let completion = completion_for(entry, outcome);
         self.flying.remove(place);
         self.done.push_back_reserved(completion);
         completion
     }
 
-    /// Executes the entry at a place of the in-flight list with what is told: moves its bytes, puts those that came into
-    /// the empty `got`, moves the entry to the end of what is done, and answers its completion.
+    /// Executes the entry at a place of the in-flight list with what is told: moves its bytes, of which `sent` has those that
+    /// it sends, puts those that came into the empty `got`, moves the entry to the end of what is done, and answers its
+    /// completion.
     pub fn finish_at(
         &mut self,
         place: usize,
@@ -159,12 +233,18 @@ impl MemRing {
         requires { got.old ≡ [] }
         ensures { FinishesFor self.old place told sent.now self.new got.new result }
     {
-        match self.admits(place, told) {
-            Ok(_) => {}
+        let entry = match self.admits(place, told) {
+            Ok(entry) => entry,
             Err(why) => return Err(why),
+        };
+        if let Some(count) = entry.body.sends(told) {
+            return match self.finish_send(place, count, sent) {
+                Ok(completion) => Ok(completion),
+                Err(_) => Err(ExecRefusal::OutOfMemory),
+            };
         }
         match got.append(self.coming(place, told)) {
-            Ok(()) => Ok(self.finish(place, told, sent)),
+            Ok(()) => Ok(self.finish(place, told)),
             Err(_) => Err(ExecRefusal::OutOfMemory),
         }
     }

@@ -1,6 +1,5 @@
 -- Which tokens a session keeps after each call of its driver.
 use Rattle.std.proofs.Common.{◌≡◌, ◌≢◌, ◌≤◌, ℕ, zero, suc, List, [], ◌∷◌, ◌++◌, length, Option, None, Some, ◌⊎◌, inl, inr, refl, sym, ◌∙◌, ap, subst, arith}
-use Rattle.std.specs.Prelude.{◌↔◌}
 use Rattle.rent_buf.specs.declared.spec.Buf.{Buf}
 use Rattle.ring_core.specs.Ring.{RingView}
 use Rattle.ring_core.specs.Lists.{amended}

@@ -4,10 +4,13 @@ mod TextHex
 mod TextWrites
 mod TextFields
 mod TextSpaces
+mod TextParts
+mod TextRequests
 mod TextEvents
 mod TextLinesRead
 mod Commands
 mod KeptTokens
+mod Refusals
 mod Steps
 mod Runs
 mod Writing

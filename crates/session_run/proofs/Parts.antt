@@ -1,5 +1,5 @@
 -- The parts of a session after calls of its driver.
-use Rattle.std.proofs.Common.{◌≡◌, Bool, true, IsTrue, ℕ, [], refl, sym, ◌∙◌, subst}
+use Rattle.std.proofs.Common.{◌≡◌, true, ℕ, [], sym, ◌∙◌, subst}
 use Rattle.std.specs.Prelude.{Result, Ok, Err, OnErr, Option, Some, None}
 use Rattle.rent_buf.specs.Buf.{built}
 use Rattle.rent_buf.specs.declared.spec.Buf.{Buf}

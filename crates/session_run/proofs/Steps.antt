@@ -1,18 +1,20 @@
 -- What each step of a session's driver makes of the session.
-use Rattle.std.proofs.Common.{◌≡◌, ◌≢◌, ◌≤◌, ℕ, ◌+◌, Bool, true, false, not, ◌||◌, ◌&&◌, List, [], ◌∷◌, ◌++◌, length, Option, None, Some, length-append, refl, sym, ◌∙◌, ap, subst, arith}
-use Rattle.std.specs.Prelude.{slice_get, nat_le, ◌↔◌, Result, Ok, Err}
-use Rattle.std.proofs.lemmas.Bool.Decides.{nat_tests}
-use Rattle.rent_buf.specs.Buffer.{Buffer}
+use Rattle.std.proofs.Common.{◌≡◌, ℕ, ◌+◌, Bool, true, false, List, [], ◌∷◌, ◌++◌, length, None, Some, length-append, refl, sym, ◌∙◌, ap, subst}
+use Rattle.std.specs.Prelude.{Result, Ok, Err}
+use Rattle.rent_buf.specs.Parts.{Parts}
 use Rattle.rent_buf.specs.Buf.{built}
 use Rattle.rent_buf.specs.declared.spec.Buf.{Buf}
-use Rattle.ring_core.specs.Lists.{amended, passes}
+use Rattle.ring_core.specs.Lists.{amended}
 use Rattle.ring_core.specs.Ring.{RingView}
-use Rattle.ring_core.specs.Ledger.{Ledger, Operation, Place, InQueue, InFlight, InDone, Reaped, Gone, is_live, is_owned, live_ops, user_holds}
+use Rattle.ring_core.specs.Ledger.{Ledger}
 use Rattle.ring_core.specs.Request.{named, plain_request}
-use Rattle.ring_core.specs.Refusal.{cause, refused_if, most_live, lacks_handle}
+use Rattle.ring_core.specs.Refusal.{cause}
 use Rattle.ring_core.specs.declared.ledger.Event.{Event}
-use Rattle.ring_core.specs.declared.ledger.Event.TheVariants.{Feed, Submit, Poll, Drop, Cancel, Exec}
+use Rattle.ring_core.specs.declared.ledger.Event.TheVariants.{Look, Submit, Exec}
 use Rattle.ring_core.specs.declared.request.Told.{Told}
+use Rattle.ring_core.specs.declared.world.Look.{Look as Shown}
+use Rattle.ring_core.specs.declared.world.Look.TheVariants.{Bytes}
+use Rattle.uring_driver.specs.Handles.{LooksFor}
 use Rattle.ring_core.specs.declared.mem_ring.ExecRefusal.{ExecRefusal}
 use Rattle.rent_buf.specs.declared.fault.OutOfMemory.{OutOfMemory as NoMemory}
 use Rattle.uring_driver.specs.declared.op.Executed.{Executed}
@@ -20,18 +22,16 @@ use Rattle.uring_driver.specs.declared.op.Executed.TheVariants.{Op as ExecutedNu
 use Rattle.uring_driver.specs.Executed.{ExecutesFor}
 use Rattle.session_run.specs.Executed.{reply_to, AnswersRefusal}
 use Rattle.ring_core.specs.declared.ledger.Refusal.{Refusal}
-use Rattle.ring_core.specs.declared.ledger.Refusal.TheVariants.{NoOp, NoHandle, Full, NotFlying, BadOutcome}
+use Rattle.ring_core.specs.declared.ledger.Refusal.TheVariants.{NotFlying, BadOutcome}
 use Rattle.ring_core.specs.declared.ledger.Reply.{Reply}
-use Rattle.ring_core.specs.declared.ledger.Reply.TheVariants.{Refused, ExecutedOp, Submitted as Given}
+use Rattle.ring_core.specs.declared.ledger.Reply.TheVariants.{Refused, ExecutedOp, Output, Submitted as Given}
 use Rattle.ring_core.proofs.Amended.{length-amended}
 use Rattle.ring_core.proofs.HeadlineReplies.{step-refused}
 use Rattle.uring_driver.specs.declared.op.Op.{Op}
 use Rattle.uring_driver.specs.declared.driver.IoUringDriver.{IoUringDriver}
-use Rattle.uring_driver.specs.Driver.{due_in, given_by, holds_handle, holds_all, live_slots}
-use Rattle.uring_driver.specs.Op.{Holds, number_of, KeepsTokens, DropsToken}
-use Rattle.uring_driver.specs.declared.slot.Slot.{Slot}
-use Rattle.uring_driver.specs.Slot.{is_owned_life, number_if, serial_of, number_at}
-use Rattle.uring_driver.specs.Slots.{waiting, life_of, life_at}
+use Rattle.uring_driver.specs.Driver.{due_in, given_by}
+use Rattle.uring_driver.specs.Op.{number_of, KeepsTokens, DropsToken}
+use Rattle.uring_driver.specs.Slot.{number_at}
 use Rattle.ring_core.specs.Step.{step}
 use Rattle.uring_driver.specs.Submitted.{AddsTo, AddsToken, SubmitsFor, SameSlots, WhyRefused, SubmitRefused}
 use Rattle.uring_driver.specs.declared.op.Submitted.{Submitted}
@@ -101,103 +101,15 @@ stands-refused old new L SubmitFault.Busy refused stands = absurd (refused.1 ref
 stands-refused old new L SubmitFault.OutOfMemory refused stands = refused L stands
 
 -- So does the session.
-pub stands-unsubmitted : (old new : Session) (L : Ledger) (request : Request Buf) (refused : SubmitError Buf) → SessionStands old L → by_number new.tokens ≡ by_number old.tokens → (due_in old.driver ≡ [] → due_in new.driver ≡ []) → SubmitRefused (λ r. r) built true request old.driver new.driver refused → SessionStands new L
+pub stands-unsubmitted : (old new : Session) (L : Ledger) (request : Request Buf Parts) (refused : SubmitError Buf) → SessionStands old L → by_number new.tokens ≡ by_number old.tokens → (due_in old.driver ≡ [] → due_in new.driver ≡ []) → SubmitRefused (λ r. r) built true request old.driver new.driver refused → SessionStands new L
 stands-unsubmitted old new L request refused stands tokens due why =
     stands-kept old new L L stands tokens (stands-refused old.driver new.driver L refused.why why.why stands.driver) due (kept-same_slots old.driver new.driver why.same) why.same.given
 
--- A feed of a handle that the user doesn't hold is refused.
-pub cause-feed : (L : Ledger) (h : ℕ) (bytes : List ℕ) → user_holds L h ≡ false → cause L (Feed h bytes) ≡ Some NoHandle
-cause-feed L h bytes absent = ap (λ held. refused_if (not held || false) NoHandle None) absent
-
--- The test of an order.
-pub nat_le-true : (a b : ℕ) → a ≤ b → nat_le a b ≡ true
-nat_le-true a b order = grind (arith, nat_tests)
-
--- Where each of two holds, both do.
-not-and : (a b : Bool) → (not a || not b) ≡ not (a && b)
-not-and true b = refl
-not-and false b = refl
-
--- The user lacks one of some handles where the driver doesn't hold all of them.
-pub lacks_handle-holds_all : (driver : IoUringDriver RingView Buf) (L : Ledger) → ((h : ℕ) → holds_handle driver h ≡ user_holds L h) → (handles : List ℕ) → lacks_handle L handles ≡ not (holds_all driver handles)
-lacks_handle-holds_all driver L same [] = refl
-lacks_handle-holds_all driver L same (h ∷ handles) =
-    ap (λ b. not b || lacks_handle L handles) (sym (same h))
-    ∙ ap (λ b. not (holds_handle driver h) || b) (lacks_handle-holds_all driver L same handles)
-    ∙ not-and (holds_handle driver h) (holds_all driver handles)
-
--- A submission that names a handle which the user doesn't hold is refused.
-pub cause-submit_handle : (session : Session) (L : Ledger) (request : Request Buffer) → SessionStands session L → holds_all session.driver (named request) ≡ false → cause L (Submit request) ≡ Some NoHandle
-cause-submit_handle session L request stands absent =
-    ap (λ lacks. refused_if lacks NoHandle (refused_if (nat_le most_live (length (live_ops L))) Full None))
-    (lacks_handle-holds_all session.driver L stands.driver.handles (named request) ∙ ap not absent)
-
--- Another one is refused as Full where as many operations as there may be are live.
-pub cause-submit_full : (session : Session) (L : Ledger) (request : Request Buffer) (live : ℕ) → SessionStands session L → holds_all session.driver (named request) ≡ true → live ≡ live_slots session.driver → most_live ≤ live → cause L (Submit request) ≡ Some Full
-cause-submit_full session L request live stands held count full =
-    ap (λ lacks. refused_if lacks NoHandle (refused_if (nat_le most_live (length (live_ops L))) Full None))
-    (lacks_handle-holds_all session.driver L stands.driver.handles (named request) ∙ ap not held)
-    ∙ ap (λ b. refused_if b Full None) (ap (λ k. nat_le most_live k) (sym stands.driver.means.in_slots.counted ∙ sym count) ∙ nat_le-true most_live live full)
-
--- A poll, a drop or a cancel of what isn't its user's is refused.
-pub cause-poll : (L : Ledger) (n task : ℕ) → passes is_owned (slice_get L.ops n) ≡ false → cause L (Poll n task) ≡ Some NoOp
-cause-poll L n task absent = ap (λ owned. refused_if (not owned) NoOp None) absent
-
-pub cause-drop : (L : Ledger) (n : ℕ) → passes is_owned (slice_get L.ops n) ≡ false → cause L (Drop n) ≡ Some NoOp
-cause-drop L n absent = ap (λ owned. refused_if (not owned) NoOp None) absent
-
-pub cause-cancel : (L : Ledger) (n : ℕ) → passes is_owned (slice_get L.ops n) ≡ false → cause L (Cancel n) ≡ Some NoOp
-cause-cancel L n absent = ap (λ owned. refused_if (not owned) NoOp None) absent
-
--- What isn't true is false.
-false-unless : (b : Bool) → (b ≡ true → ⊥) → b ≡ false
-false-unless true never = absurd (never refl)
-false-unless false never = refl
-
--- Both parts of what holds hold.
-and-parts : (a b : Bool) → (a && b) ≡ true → (a ≡ true) × (b ≡ true)
-and-parts true true is = (refl, refl)
-and-parts true false is = absurd (let never : ◌≡◌ {A = Bool} false true = is in cc)
-and-parts false b is = absurd (let never : ◌≡◌ {A = Bool} false true = is in cc)
-
--- The slot of an operation that wasn't dropped is its user's.
-owned-waiting : (task : Option ℕ) → is_owned_life (waiting task) ≡ true
-owned-waiting None = refl
-owned-waiting (Some task) = refl
-
-owned-undropped : (was_dropped : Bool) (place : Place) (task : Option ℕ) → not was_dropped ≡ true → is_owned_life (life_of was_dropped place task) ≡ true
-owned-undropped true place task is = absurd (let never : ◌≡◌ {A = Bool} false true = is in cc)
-owned-undropped false InQueue task is = owned-waiting task
-owned-undropped false InFlight task is = owned-waiting task
-owned-undropped false (InDone outcome) task is = owned-waiting task
-owned-undropped false (Reaped outcome) task is = refl
-owned-undropped false Gone task is = refl
-
--- The slot of an operation that is its user's has its number.
-serial_of-owned : (slot : Slot Buf) (operation : Operation) (n : ℕ) → slot.serial ≡ n → slot.life ≡ life_at operation → not operation.dropped ≡ true → serial_of (Some slot) ≡ Some n
-serial_of-owned slot operation n serial life undropped =
-    ap (λ b. number_if b slot.serial) (ap is_owned_life life ∙ owned-undropped operation.dropped operation.place operation.task undropped) ∙ ap (λ k. Some k) serial
-
--- What stands at one number is one.
-one-there : (ops : List Operation) (k n : ℕ) (x y : Operation) → k ≡ n → slice_get ops k ≡ Some x → slice_get ops n ≡ Some y → x ≡ y
-one-there ops k n x y same first second = (let both : Some x ≡ Some y = sym first ∙ ap (slice_get ops) same ∙ second in cc)
-
--- The driver holds a token of each operation that is its user's.
-holds-owned : (session : Session) (L : Ledger) (n : ℕ) (operation : Operation) → SessionStands session L → slice_get L.ops n ≡ Some operation → is_owned operation ≡ true → (op : Op) × Holds session.driver op × (number_of op ≡ n)
-holds-owned session L n operation stands is owned =
-    let parts = and-parts (is_live operation) (not operation.dropped) owned in
-    let slot = stands.driver.means.in_slots.each n operation is parts.0 in
-    let for = stands.driver.means.in_slots.holds slot.key slot.slot slot.there in
-    let same : for.operation ≡ operation = one-there L.ops slot.slot.serial n for.operation operation slot.serial for.there is in
-    (record { number = n; key = slot.key }, ap serial_of slot.there ∙ serial_of-owned slot.slot operation n slot.serial (for.life ∙ ap life_at same) parts.1, refl)
-
--- An operation whose token isn't kept isn't its user's.
-pub no_token-lacks : (session : Session) (L : Ledger) (n : ℕ) → SessionStands session L → token_at (by_number session.tokens) n ≡ None → (found : Option Operation) → slice_get L.ops n ≡ found → passes is_owned found ≡ false
-no_token-lacks session L n stands none None is = refl
-no_token-lacks session L n stands none (Some operation) is = false-unless (is_owned operation) (λ owned.
-    let op = holds-owned session L n operation stands is owned in
-    let there : token_at (by_number session.tokens) n ≡ Some op.0 = (stands.tokens n op.0).1 (op.1, op.2) in
-    (let both : ◌≡◌ {A = Option Op} None (Some op.0) = sym none ∙ there in cc))
+-- What a look shows is the session's answer, which stays as it is.
+pub answers-looked : (session : Session) (L : Ledger) (h : ℕ) (shown : Shown) (bytes : List ℕ) → SessionStands session L → shown ≡ Bytes bytes → LooksFor L h shown → SessionAnswers L (Look h) (Output bytes) session
+answers-looked session L h shown bytes stands is looks =
+    let same = subst (λ s. LooksFor L h s) is looks in
+    record { reply_is = ap (λ next. next.1) same; stands = subst (λ next. SessionStands session next.0) (sym same) stands }
 
 -- An operation that is handed over or dropped leaves with its token.
 pub answers-taken : (old new : Session) (L : Ledger) (n : ℕ) (op : Op) (event : Event) (reply : Reply) → SessionStands old L → token_at (by_number old.tokens) n ≡ Some op → by_number new.tokens ≡ amended (by_number old.tokens) n (λ token. None) → DropsToken old.driver new.driver op → (due_in old.driver ≡ [] → due_in new.driver ≡ []) → given_by new.driver ≡ given_by old.driver → Answers (λ r. r) built L event reply new.driver → SessionAnswers L event reply new
@@ -228,7 +140,7 @@ answers-added old new L op event reply stands tokens adds due answers = record {
 }
 
 -- So does what a submission gave.
-pub answers-submitted : (old new : Session) (L : Ledger) (request : Request Buf) (submitted : Submitted) (op : Op) → submitted ≡ Submitted.Op op → SessionStands old L → by_number new.tokens ≡ by_number old.tokens ++ Some op ∷ [] → AddsToken old.driver new.driver submitted → (due_in old.driver ≡ [] → due_in new.driver ≡ []) → SubmitsFor (λ r. r) built L request new.driver submitted → SessionAnswers L (Submit (plain_request built request)) (Given (number_of op)) new
+pub answers-submitted : (old new : Session) (L : Ledger) (request : Request Buf Parts) (submitted : Submitted) (op : Op) → submitted ≡ Submitted.Op op → SessionStands old L → by_number new.tokens ≡ by_number old.tokens ++ Some op ∷ [] → AddsToken old.driver new.driver submitted → (due_in old.driver ≡ [] → due_in new.driver ≡ []) → SubmitsFor (λ r. r) built L request new.driver submitted → SessionAnswers L (Submit (plain_request built request)) (Given (number_of op)) new
 answers-submitted old new L request submitted op is stands tokens adds due answers =
     answers-added old new L op _ _ stands tokens (subst (λ s. AddsToken old.driver new.driver s) is adds) due (subst (λ s. SubmitsFor (λ r. r) built L request new.driver s) is answers)
 

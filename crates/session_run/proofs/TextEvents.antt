@@ -1,34 +1,36 @@
 -- A line is read as an event exactly where it is its text.
 use Rattle.std.proofs.Common.{◌≡◌, ◌∙◌, ℕ, ◌^◌, ◌<◌, List, [], ◌∷◌, refl, ap, sym, subst, arith, inl, inr}
-use Rattle.std.specs.Prelude.{Bool, true, false, ◌⊎◌, if◌then◌else◌, nat_lt, Option, Some, None, option_and_then, option_map, bytes_eq, codes, decimal}
+use Rattle.std.specs.Prelude.{true, nat_lt, Option, Some, None, option_and_then, option_map, bytes_eq, codes, decimal}
 use Rattle.std.proofs.lemmas.Bool.{ltb-true, lt-ltb}
 use Rattle.std.proofs.lemmas.Slice.Eq.{bytes_eq-Decides}
 use Rattle.rent_buf.specs.Buffer.{Buffer}
-use Rattle.rent_buf.specs.declared.spec.Kind.{Kind}
-use Rattle.rent_buf.specs.declared.spec.Kind.TheVariants.{Vector, Grown, Fixed}
+use Rattle.rent_buf.specs.Parts.{Parts}
 use Rattle.ring_core.specs.declared.ledger.Event.{Event}
-use Rattle.ring_core.specs.declared.ledger.Event.TheVariants.{Give, Feed, Submit, Poll, Drop, Cancel, Turn, Exec}
+use Rattle.ring_core.specs.declared.ledger.Event.TheVariants.{Give, Feed, End, Look, Submit, Poll, Drop, Cancel, Turn, Exec}
 use Rattle.ring_core.specs.declared.request.Request.{Request}
-use Rattle.ring_core.specs.declared.request.Request.TheVariants.{Recv}
 use Rattle.ring_core.specs.declared.request.Told.{Told}
 use Rattle.ring_core.specs.declared.request.Told.TheVariants.{Count, Fail}
 use Rattle.ring_core.specs.declared.world.HandleKind.{HandleKind}
 use Rattle.ring_core.specs.declared.world.HandleKind.TheVariants.{Stream}
-use Rattle.session_run.specs.TextEvent.{AreBytes, IsBuffer, IsEvent, IsRequest, IsTold, StandsFor, buffer_kind_word, buffer_words, event_text, event_words, handle_kind_word, request_words, told_words}
+use Rattle.session_run.specs.TextEvent.{IsEvent, IsTold, StandsFor, event_text, event_words, handle_kind_word, request_words, told_words}
 use Rattle.session_run.specs.TextLines.{IsWrong}
-use Rattle.session_run.specs.TextReads.{words, number_field, bytes_end, at_end, handle_kind_of, kind_field, bounded, buffer_of, recv_of, request_of, told_below, told_of, give_of, feed_of, submit_of, poll_of, numbered_of, exec_of, turn_of, event_by, event_of}
+use Rattle.session_run.specs.TextReads.{words, number_field, bytes_end, at_end, handle_kind_of}
+use Rattle.session_run.specs.TextEventReads.{request_of, told_below, told_of, give_of, feed_of, submit_of, poll_of, numbered_of, exec_of, turn_of, event_by, event_of}
 use Rattle.session_run.specs.TextWords.{spaced, bytes_word}
-use Rattle.session_run.proofs.TextFields.{and_then-Some, map-Some, if-Some, some_same, at_end-Some, number_field-Some, bytes_end-Some, handle_kind_of-Some, buffer_of-words, buffer_read}
+use Rattle.session_run.proofs.TextFields.{and_then-Some, map-Some, if-Some, either-Some, some_same, at_end-Some, number_field-Some, bytes_end-Some, handle_kind_of-Some}
 use Rattle.session_run.proofs.TextHex.{bytes_of-bytes_word}
 use Rattle.session_run.proofs.TextNumbers.{number_of-decimal}
-use Rattle.session_run.proofs.TextSpaces.{AreSolid, is_solid, solid_decimal, solid_bytes, words-spaced, spaced-words}
+use Rattle.session_run.proofs.TextRequests.{request_of-words, request_read, solid_request}
+use Rattle.session_run.proofs.TextSpaces.{solid_decimal, solid_bytes, words-spaced, spaced-words}
 
 -- What an event's words are read as.
 pub event_of-event_words : (event : Event) → IsEvent event → event_of (event_words event) ≡ Some event
 unfolding event_by
 event_of-event_words (Give Stream) h = refl
 event_of-event_words (Feed n bytes) h = rw (number_of-decimal n h.0, bytes_of-bytes_word bytes h.1) refl
-event_of-event_words (Submit (Recv n buffer)) h = rw (number_of-decimal n h.0, buffer_of-words buffer h.1) refl
+event_of-event_words (Submit request) h = ap (λ (o : Option (Request Buffer Parts)). option_map Submit o) (request_of-words request h)
+event_of-event_words (End n) h = rw (number_of-decimal n h) refl
+event_of-event_words (Look n) h = rw (number_of-decimal n h) refl
 event_of-event_words (Poll n task) h = rw (number_of-decimal n h.0, number_of-decimal task h.1) refl
 event_of-event_words (Drop n) h = rw (number_of-decimal n h) refl
 event_of-event_words (Cancel n) h = rw (number_of-decimal n h) refl
@@ -69,11 +71,6 @@ poll_read more event is =
     let second = number_field-Some n.0.1 task.0.1 task.0.0 task.1 in
     subst (λ (e : Event). Spells (codes "poll" ∷ more) e) end.1 (ap (λ (l : List (List ℕ)). codes "poll" ∷ l) (first.0 ∙ ap (λ (l : List (List ℕ)). decimal n.0.0 ∷ l) (second.0 ∙ ap (λ (l : List (List ℕ)). decimal task.0.0 ∷ l) end.0)), (first.1, second.1))
 
--- One of two answers.
-either-Some : {A : Type 0} (b : Bool) (o p : Option A) (value : A) → (if b then o else p) ≡ Some value → ((b ≡ true) × (o ≡ Some value)) ⊎ (p ≡ Some value)
-either-Some true o p value is = inl (refl, is)
-either-Some false o p value is = inr is
-
 -- An event of one number.
 numbered_read : (word : List ℕ) (make : ℕ → Event) (more : List (List ℕ)) (event : Event) → ((n : ℕ) → n < 2 ^ 64 → Spells (word ∷ decimal n ∷ []) (make n)) → numbered_of make more ≡ Some event → Spells (word ∷ more) event
 numbered_read word make more event spelt is =
@@ -88,6 +85,12 @@ drop_read more event is = numbered_read (codes "drop") Drop more event (λ n sma
 
 cancel_read : (more : List (List ℕ)) (event : Event) → numbered_of Cancel more ≡ Some event → Spells (codes "cancel" ∷ more) event
 cancel_read more event is = numbered_read (codes "cancel") Cancel more event (λ n small. (refl, small)) is
+
+end_read : (more : List (List ℕ)) (event : Event) → numbered_of End more ≡ Some event → Spells (codes "end" ∷ more) event
+end_read more event is = numbered_read (codes "end") End more event (λ n small. (refl, small)) is
+
+look_read : (more : List (List ℕ)) (event : Event) → numbered_of Look more ≡ Some event → Spells (codes "look" ∷ more) event
+look_read more event is = numbered_read (codes "look") Look more event (λ n small. (refl, small)) is
 
 -- What an executor tells, by the words behind its first one.
 abbrev Tells : List (List ℕ) → Told → Type 0
@@ -130,24 +133,6 @@ exec_read more event is =
     let rest = told_read place.0.1 told.0 told.1 in
     subst (λ (e : Event). Spells (codes "exec" ∷ more) e) told.2 (ap (λ (l : List (List ℕ)). codes "exec" ∷ l) (number.0 ∙ ap (λ (l : List (List ℕ)). decimal place.0.0 ∷ l) rest.0), (number.1, rest.1))
 
--- The words of a request.
-recv_read : (more : List (List ℕ)) (request : Request Buffer) → recv_of more ≡ Some request → (codes "recv" ∷ more ≡ request_words request) × IsRequest request
-recv_read more request is =
-    let h = and_then-Some (λ (h : ℕ × List (List ℕ)). option_map (λ (buffer : Buffer). Recv h.0 buffer) (buffer_of h.1)) (number_field more) request is in
-    let b = map-Some (λ (buffer : Buffer). Recv h.0.0 buffer) (buffer_of h.0.1) request h.2 in
-    let number = number_field-Some more h.0.1 h.0.0 h.1 in
-    let buffer = buffer_read h.0.1 b.0 b.1 in
-    subst (λ (r : Request Buffer). (codes "recv" ∷ more ≡ request_words r) × IsRequest r) b.2
-    (ap (λ (l : List (List ℕ)). codes "recv" ∷ l) (number.0 ∙ ap (λ (l : List (List ℕ)). decimal h.0.0 ∷ l) buffer.0), (number.1, buffer.1))
-
-request_read : (all : List (List ℕ)) (request : Request Buffer) → request_of all ≡ Some request → (all ≡ request_words request) × IsRequest request
-request_read [] request is = absurd (cc)
-request_read (word ∷ more) request is =
-    let recv = if-Some (bytes_eq word (codes "recv")) (recv_of more) request is in
-    let first : word ≡ codes "recv" = (bytes_eq-Decides word (codes "recv")).0 recv.0 in
-    let rest = recv_read more request recv.1 in
-    (ap (λ (w : List ℕ). w ∷ more) first ∙ rest.0, rest.1)
-
 submit_read : (more : List (List ℕ)) (event : Event) → submit_of more ≡ Some event → Spells (codes "submit" ∷ more) event
 submit_read more event is =
     let r = map-Some Submit (request_of more) event is in
@@ -174,9 +159,15 @@ event_by-Some word more event is =
                 | inl it ↦ under word (codes "give") more event it.0 (give_read more event it.1)
                 | inr is ↦ elim (either-Some (bytes_eq word (codes "drop")) (numbered_of Drop more) _ event is) [
                   | inl it ↦ under word (codes "drop") more event it.0 (drop_read more event it.1)
-                  | inr is ↦
-                      let it = if-Some (bytes_eq word (codes "cancel")) (numbered_of Cancel more) event is in
-                      under word (codes "cancel") more event it.0 (cancel_read more event it.1)
+                  | inr is ↦ elim (either-Some (bytes_eq word (codes "cancel")) (numbered_of Cancel more) _ event is) [
+                    | inl it ↦ under word (codes "cancel") more event it.0 (cancel_read more event it.1)
+                    | inr is ↦ elim (either-Some (bytes_eq word (codes "end")) (numbered_of End more) _ event is) [
+                      | inl it ↦ under word (codes "end") more event it.0 (end_read more event it.1)
+                      | inr is ↦
+                          let it = if-Some (bytes_eq word (codes "look")) (numbered_of Look more) event is in
+                          under word (codes "look") more event it.0 (look_read more event it.1)
+                    ]
+                  ]
                 ]
               ]
             ]
@@ -189,21 +180,13 @@ event_of-Some : (all : List (List ℕ)) (event : Event) → event_of all ≡ Som
 event_of-Some [] event is = absurd (cc)
 event_of-Some (word ∷ more) event is = event_by-Some word more event is
 
-solid_kind : (kind : Kind) → is_solid (buffer_kind_word kind) ≡ true
-solid_kind Vector = refl
-solid_kind Grown = refl
-solid_kind Fixed = refl
-
-solid_buffer : (b : Buffer) → IsBuffer b → AreSolid (buffer_words b)
-solid_buffer b h =
-    let bounds = h.bounds in
-    (solid_kind b.kind, (solid_decimal b.total h.fits, (solid_decimal b.begin (omega (arith, h.fits, bounds.ordered, bounds.inside)), (solid_decimal b.end (omega (arith, h.fits, bounds.inside)), (solid_bytes b.bytes, tt)))))
-
 -- The words of an event's text.
 words-event_text : (event : Event) → IsEvent event → words (event_text event) ≡ event_words event
 words-event_text (Give Stream) h = refl
 words-event_text (Feed n bytes) h = words-spaced (codes "feed") (decimal n ∷ bytes_word bytes ∷ []) (refl, (solid_decimal n h.0, (solid_bytes bytes, tt)))
-words-event_text (Submit (Recv n buffer)) h = words-spaced (codes "submit") (codes "recv" ∷ decimal n ∷ buffer_words buffer) (refl, (refl, (solid_decimal n h.0, solid_buffer buffer h.1)))
+words-event_text (End n) h = words-spaced (codes "end") (decimal n ∷ []) (refl, (solid_decimal n h, tt))
+words-event_text (Look n) h = words-spaced (codes "look") (decimal n ∷ []) (refl, (solid_decimal n h, tt))
+words-event_text (Submit request) h = words-spaced (codes "submit") (request_words request) (refl, solid_request request h)
 words-event_text (Poll n task) h = words-spaced (codes "poll") (decimal n ∷ decimal task ∷ []) (refl, (solid_decimal n h.0, (solid_decimal task h.1, tt)))
 words-event_text (Drop n) h = words-spaced (codes "drop") (decimal n ∷ []) (refl, (solid_decimal n h, tt))
 words-event_text (Cancel n) h = words-spaced (codes "cancel") (decimal n ∷ []) (refl, (solid_decimal n h, tt))

@@ -27,10 +27,15 @@ pub if-Some : {A : Type 0} (b : Bool) (o : Option A) (y : A) → (if b then o el
 if-Some true o y is = (refl, is)
 if-Some false o y is = absurd (cc)
 
+-- One of two answers.
+pub either-Some : {A : Type 0} (b : Bool) (o p : Option A) (value : A) → (if b then o else p) ≡ Some value → ((b ≡ true) × (o ≡ Some value)) ⊎ (p ≡ Some value)
+either-Some true o p value is = inl (refl, is)
+either-Some false o p value is = inr is
+
 pub some_same : {A : Type 0} (x y : A) → Some x ≡ Some y → x ≡ y
 some_same x y is = cc
 
-and-true : (a b : Bool) → (a && b) ≡ true → (a ≡ true) × (b ≡ true)
+pub and-true : (a b : Bool) → (a && b) ≡ true → (a ≡ true) × (b ≡ true)
 and-true true true is = (refl, refl)
 and-true true false is = absurd (cc)
 and-true false b is = absurd (cc)

@@ -51,14 +51,14 @@ or-true : (b : Bool) → (b || true) ≡ true
 or-true true = refl
 or-true false = refl
 
--- Bytes in front of bytes that were read.
-abbrev pub onto : List ℕ → Option (List ℕ) → Option (List ℕ)
+-- What was read so far, in front of what is read behind it.
+abbrev pub onto : {A : Type 0} → List A → Option (List A) → Option (List A)
 onto front None = None
-onto front (Some bytes) = Some (front ++ bytes)
+onto front (Some more) = Some (front ++ more)
 
-pub onto-nothing : (o : Option (List ℕ)) → onto [] o ≡ o
+pub onto-nothing : {A : Type 0} (o : Option (List A)) → onto [] o ≡ o
 onto-nothing None = refl
-onto-nothing (Some bytes) = refl
+onto-nothing (Some more) = refl
 
 -- A pair of digits is one byte.
 onto-pair : (front : List ℕ) (high low : ℕ) (o : Option (List ℕ)) → (high ≡ 16 → ⊥) → (low ≡ 16 → ⊥) → onto front (pair_onto high low o) ≡ onto (front ++ (high * 16 + low) ∷ []) o

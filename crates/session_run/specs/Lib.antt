@@ -7,6 +7,7 @@ pub mod TextReply
 pub mod TextLines
 pub mod TextWrites
 pub mod TextReads
+pub mod TextEventReads
 pub mod Token
 pub mod Session
 pub mod Executed

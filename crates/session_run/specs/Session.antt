@@ -3,7 +3,7 @@ use Rattle.std.specs.Prelude.{ℕ, ◌≡◌, ◌↔◌, List, [], length, Optio
 use Rattle.rent_buf.specs.Buf.{built}
 use Rattle.rent_buf.specs.declared.fault.OutOfMemory.{OutOfMemory}
 use Rattle.ring_core.specs.declared.ledger.Event.{Event}
-use Rattle.ring_core.specs.declared.ledger.Event.TheVariants.{Poll, Drop}
+use Rattle.ring_core.specs.declared.ledger.Event.TheVariants.{End, Poll, Drop}
 use Rattle.ring_core.specs.declared.ledger.Reply.{Reply}
 use Rattle.ring_core.specs.Ring.{RingView}
 use Rattle.ring_core.specs.Ledger.{Ledger}
@@ -57,8 +57,9 @@ abbrev pub StepsFor : Ledger → Event → Session → Result Reply OutOfMemory 
 StepsFor L event new (Ok reply) = SessionAnswers L event reply new
 StepsFor L event new (Err refused) = SessionStands new L
 
--- The event is a poll or a drop.
-abbrev pub IsPollOrDrop : Event → Type 0
-IsPollOrDrop (Poll n task) = Unit {0}
-IsPollOrDrop (Drop n) = Unit {0}
-IsPollOrDrop _ = ⊥
+-- The event takes no memory: it is an end, a poll or a drop.
+abbrev pub TakesNoMemory : Event → Type 0
+TakesNoMemory (End h) = Unit {0}
+TakesNoMemory (Poll n task) = Unit {0}
+TakesNoMemory (Drop n) = Unit {0}
+TakesNoMemory _ = ⊥

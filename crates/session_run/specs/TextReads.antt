@@ -1,16 +1,12 @@
--- What the readers of a line answer, word by word. Only contracts of private functions cite these: `event_of-stands` and
--- `stands-event_of` (proofs/TextEvents.antt) prove that a line is read as an event exactly where it stands for it.
+-- What the readers of a line's words answer: numbers, bytes, buffers and parts. Only contracts of private functions cite these:
+-- `event_of-stands` and `stands-event_of` (proofs/TextEvents.antt) prove that a line is read as an event exactly where it
+-- stands for it.
 use Rattle.std.specs.Prelude.{ℕ, Bool, true, ◌+◌, ◌-◌, ◌*◌, ◌^◌, ◌==◌, ◌&&◌, ◌||◌, nat_lt, nat_le, if◌then◌else◌, List, [], ◌∷◌, length, codes, bytes_eq, decimal, Option, Some, None, option_and_then, option_map}
 use Rattle.std.specs.Str.Parse.{digits_value}
 use Rattle.rent_buf.specs.Buffer.{Buffer}
+use Rattle.rent_buf.specs.Parts.{Parts, rooms_of}
 use Rattle.rent_buf.specs.declared.spec.Kind.{Kind}
 use Rattle.rent_buf.specs.declared.spec.Kind.TheVariants.{Vector, Grown, Fixed}
-use Rattle.ring_core.specs.declared.ledger.Event.{Event}
-use Rattle.ring_core.specs.declared.ledger.Event.TheVariants.{Give, Feed, Submit, Poll, Drop, Cancel, Turn, Exec}
-use Rattle.ring_core.specs.declared.request.Request.{Request}
-use Rattle.ring_core.specs.declared.request.Request.TheVariants.{Recv}
-use Rattle.ring_core.specs.declared.request.Told.{Told}
-use Rattle.ring_core.specs.declared.request.Told.TheVariants.{Count, Fail}
 use Rattle.ring_core.specs.declared.world.HandleKind.{HandleKind}
 use Rattle.ring_core.specs.declared.world.HandleKind.TheVariants.{Stream}
 use Rattle.session_run.specs.TextLines.{onto_first}
@@ -103,64 +99,31 @@ buffer_of words =
     bounded (record { kind = kind.0; bytes = bytes; total = total.0; begin = begin.0; end = end.0 }))
     (bytes_end end.1)) (number_field begin.1)) (number_field total.1)) (number_field kind.1)) (kind_field words)
 
--- The request that the words behind its name write.
-abbrev pub recv_of : List (List ℕ) → Option (Request Buffer)
-recv_of words = option_and_then (λ h. option_map (λ buffer. Recv h.0 buffer) (buffer_of h.1)) (number_field words)
+-- A part in front of parts that were read.
+abbrev pub part_onto : Option ℕ → Option (List ℕ) → Option Parts → Option Parts
+part_onto room bytes more =
+    option_and_then (λ total. option_and_then (λ bytes. option_map (λ parts. record { bytes = bytes; total = total } ∷ parts) more) bytes) room
 
--- The request that words write.
-abbrev pub request_of : List (List ℕ) → Option (Request Buffer)
-request_of [] = None
-request_of (word ∷ words) = if bytes_eq word (codes "recv") then recv_of words else None
+-- The parts that all the words write, two for each part: its room and its bytes.
+unfoldable pub parts_end : List (List ℕ) → Option Parts
+parts_end [] = Some []
+parts_end (room ∷ []) = None
+parts_end (room ∷ bytes ∷ words) = part_onto (number_of room) (bytes_of bytes) (parts_end words)
 
--- What an executor tells, by a number below a bound, where no further word stands.
-abbrev pub told_below : ℕ → (ℕ → Told) → ℕ × List (List ℕ) → Option Told
-told_below bound make n = if nat_lt n.0 bound then at_end (make n.0) n.1 else None
+-- Each part has room for its bytes.
+abbrev pub all_fit : Parts → Bool
+all_fit [] = true
+all_fit (part ∷ parts) = nat_le (length part.bytes) part.total && all_fit parts
 
--- What an executor tells, by words.
-abbrev pub told_of : List (List ℕ) → Option Told
-told_of [] = None
-told_of (word ∷ words) =
-    if bytes_eq word (codes "ok") then option_and_then (told_below (2 ^ 32) Count) (number_field words)
-    else if bytes_eq word (codes "err") then option_and_then (told_below (2 ^ 16) Fail) (number_field words)
-    else None
+-- The parts, where there are so many and their bounds hold.
+abbrev pub counted : ℕ → Parts → Option Parts
+counted count parts = if count == length parts && all_fit parts && nat_lt (rooms_of parts) (2 ^ 64) then Some parts else None
 
--- The events by the words behind their first one.
-abbrev pub turn_of : List (List ℕ) → Option Event
-turn_of words = at_end Turn words
+-- The parts that the words behind `p` write: their number, then their rooms and bytes.
+abbrev pub counted_of : List (List ℕ) → Option Parts
+counted_of words = option_and_then (λ count. option_and_then (counted count.0) (parts_end count.1)) (number_field words)
 
-abbrev pub give_of : List (List ℕ) → Option Event
-give_of [] = None
-give_of (word ∷ words) = option_and_then (λ kind. at_end (Give kind) words) (handle_kind_of word)
-
-abbrev pub feed_of : List (List ℕ) → Option Event
-feed_of words = option_and_then (λ h. option_map (λ bytes. Feed h.0 bytes) (bytes_end h.1)) (number_field words)
-
-abbrev pub submit_of : List (List ℕ) → Option Event
-submit_of words = option_map Submit (request_of words)
-
-abbrev pub poll_of : List (List ℕ) → Option Event
-poll_of words = option_and_then (λ n. option_and_then (λ task. at_end (Poll n.0 task.0) task.1) (number_field n.1)) (number_field words)
-
-abbrev pub numbered_of : (ℕ → Event) → List (List ℕ) → Option Event
-numbered_of make words = option_and_then (λ n. at_end (make n.0) n.1) (number_field words)
-
-abbrev pub exec_of : List (List ℕ) → Option Event
-exec_of words = option_and_then (λ place. option_map (λ told. Exec place.0 told) (told_of place.1)) (number_field words)
-
--- The event by its first word and those behind it.
-unfoldable pub event_by : List ℕ → List (List ℕ) → Option Event
-event_by word words =
-    if bytes_eq word (codes "turn") then turn_of words
-    else if bytes_eq word (codes "exec") then exec_of words
-    else if bytes_eq word (codes "poll") then poll_of words
-    else if bytes_eq word (codes "feed") then feed_of words
-    else if bytes_eq word (codes "submit") then submit_of words
-    else if bytes_eq word (codes "give") then give_of words
-    else if bytes_eq word (codes "drop") then numbered_of Drop words
-    else if bytes_eq word (codes "cancel") then numbered_of Cancel words
-    else None
-
--- The event that words write.
-abbrev pub event_of : List (List ℕ) → Option Event
-event_of [] = None
-event_of (word ∷ words) = event_by word words
+-- The parts that words write.
+abbrev pub parts_of : List (List ℕ) → Option Parts
+parts_of [] = None
+parts_of (word ∷ words) = if bytes_eq word (codes "p") then counted_of words else None

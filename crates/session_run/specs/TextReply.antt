@@ -1,15 +1,15 @@
 -- The texts of replies.
 use Rattle.std.specs.Prelude.{ℕ, List, [], ◌∷◌, codes, decimal}
 use Rattle.rent_buf.specs.declared.spec.HeldBuf.{HeldBuf}
-use Rattle.rent_buf.specs.declared.spec.HeldBuf.TheVariants.{One}
+use Rattle.rent_buf.specs.declared.spec.HeldBuf.TheVariants.{One, Parts}
 use Rattle.ring_core.specs.declared.ledger.Refusal.{Refusal}
-use Rattle.ring_core.specs.declared.ledger.Refusal.TheVariants.{NoOp, NoHandle, Full, NotFlying, BadOutcome}
+use Rattle.ring_core.specs.declared.ledger.Refusal.TheVariants.{NoOp, NoHandle, Full, NotFlying, BadOutcome, BadHandleEvent}
 use Rattle.ring_core.specs.declared.ledger.Reply.{Reply}
-use Rattle.ring_core.specs.declared.ledger.Reply.TheVariants.{Handle, Fed, Submitted, Pending, Handed, Dropped, Asked, Turned, ExecutedOp, Refused}
+use Rattle.ring_core.specs.declared.ledger.Reply.TheVariants.{Handle, Fed, Ended, Output, Submitted, Pending, Handed, Dropped, Asked, Turned, ExecutedOp, Refused}
 use Rattle.ring_core.specs.declared.request.Outcome.{Outcome}
 use Rattle.ring_core.specs.declared.request.Outcome.TheVariants.{Count, Fail}
-use Rattle.session_run.specs.TextEvent.{buffer_words}
-use Rattle.session_run.specs.TextWords.{spaced, numbers_word}
+use Rattle.session_run.specs.TextEvent.{buffer_words, parts_words}
+use Rattle.session_run.specs.TextWords.{spaced, bytes_word, numbers_word}
 
 -- The word of a refusal.
 abbrev pub refusal_word : Refusal → List ℕ
@@ -18,10 +18,12 @@ refusal_word NoHandle = codes "NoHandle"
 refusal_word Full = codes "Full"
 refusal_word NotFlying = codes "NotFlying"
 refusal_word BadOutcome = codes "BadOutcome"
+refusal_word BadHandleEvent = codes "BadHandleEvent"
 
 -- The words of what was handed back.
 abbrev pub held_words : HeldBuf → List (List ℕ)
 held_words (One buffer) = buffer_words buffer
+held_words (Parts parts) = parts_words parts
 
 -- The words of an outcome, and of what was handed back with it.
 abbrev pub ready_words : Outcome → HeldBuf → List (List ℕ)
@@ -32,6 +34,8 @@ ready_words (Fail e) held = codes "err" ∷ decimal e ∷ held_words held
 abbrev pub reply_words : Reply → List (List ℕ)
 reply_words (Handle h) = codes "handle" ∷ decimal h ∷ []
 reply_words Fed = codes "fed" ∷ []
+reply_words Ended = codes "ended" ∷ []
+reply_words (Output bytes) = codes "output" ∷ bytes_word bytes ∷ []
 reply_words (Submitted n) = codes "op" ∷ decimal n ∷ []
 reply_words Pending = codes "pending" ∷ []
 reply_words (Handed outcome held) = codes "ready" ∷ ready_words outcome held

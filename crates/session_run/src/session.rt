@@ -5,15 +5,17 @@ ghost use Rattle.ring_core.specs.Request.{named, buffer_of, plain_request};
 ghost use Rattle.ring_core.specs.Ledger.{Ledger, empty};
 ghost use Rattle.ring_core.specs.Run.{ledger, replies};
 ghost use Rattle.ring_core.specs.Headline.{OneReplyEach, RefusedExactly, PendingUntilReaped, HandsBackOwn, FirstPollHands, HandedOnce, DroppedOnce, ReapNames, CanceledWhereAsked};
-ghost use Rattle.ring_core.specs.declared.ledger.Event.TheVariants.{Give, Feed, Submit, Poll, Drop, Cancel, Turn, Exec};
+ghost use Rattle.ring_core.specs.declared.ledger.Event.TheVariants.{Give, Feed, End, Submit, Poll, Drop, Cancel, Turn, Exec};
 ghost use Rattle.uring_driver.specs.Driver.{holds_all, given_by};
-ghost use Rattle.session_run.specs.Session.{AreParts, PartsStand, SessionStands, SessionAnswers, StepsFor, IsPollOrDrop, driver_in};
+ghost use Rattle.session_run.specs.Session.{AreParts, PartsStand, SessionStands, SessionAnswers, StepsFor, TakesNoMemory, driver_in};
 ghost use Rattle.session_run.specs.Executed.{reply_to, AnswersRefusal};
 
 use crate::tokens::Tokens;
 use op_slots::slab::MAX_LIVE;
-use rent_buf::{Buf, BufSpec, HeldBuf, OutOfMemory};
-use ring_core::{Event, ExecRefusal, HandleKind, MemRing, Refusal, Reply, Request, Told};
+use rent_buf::{Buf, BufSpec, ByteList, HeldBuf, OutOfMemory, PartsSpec, VecBuf};
+use ring_core::{
+    Event, ExecRefusal, HandleKind, Look, MemRing, Refusal, Reply, Request, Told, WorldError,
+};
 use std::alloc::{AllocError, Global};
 use thiserror::Error;
 use uring_driver::{Driver, Executed, IoUringDriver, Op, PollOp, Submitted};
@@ -95,14 +97,16 @@ impl Session {
     }
 
     /// One step of the machine: does what the event says on the driver, and answers what the machine replies. Where memory
-    /// runs out nothing has happened; a poll and a drop never answer that.
+    /// runs out nothing has happened; a poll, a drop and an end never answer that.
     pub fn step(&mut self, event: &Event) -> Result<Reply, OutOfMemory>
         ensures answers { (L : Ledger) → SessionStands self.old L → StepsFor L event.now self.new result }
-        ensures memory { IsPollOrDrop event.now → IsOk result }
+        ensures memory { TakesNoMemory event.now → IsOk result }
     {
         match event {
             Event::Give(kind) => self.give(*kind),
             Event::Feed(h, bytes) => self.feed(*h, bytes.as_slice()),
+            Event::End(h) => Ok(self.end(*h)),
+            Event::Look(h) => self.look(*h),
             Event::Submit(request) => self.submit(request),
             Event::Poll(n, task) => Ok(self.poll(*n, *task)),
             Event::Drop(n) => Ok(self.give_up(*n)),
@@ -173,12 +177,37 @@ impl Session {
         }
         match self.driver.feed(h, bytes) {
             Ok(()) => Ok(Reply::Fed),
-            Err(_) => Err(OutOfMemory),
+            Err(WorldError::BadHandleEvent) => Ok(Reply::Refused(Refusal::BadHandleEvent)),
+            Err(WorldError::OutOfMemory) => Err(OutOfMemory),
         }
     }
 
-    // A request is submitted, its buffer built of the event's.
-    fn submit(&mut self, request: &Request<BufSpec>) -> Result<Reply, OutOfMemory>
+    // What arrives at a handle ends.
+    fn end(&mut self, h: u64) -> Reply
+        ensures { (L : Ledger) → SessionStands self.old L → SessionAnswers L (End h) result self.new }
+    {
+        if !self.driver.user_holds(h) {
+            return Reply::Refused(Refusal::NoHandle);
+        }
+        match self.driver.end(h) {
+            Ok(()) => Reply::Ended,
+            Err(_) => Reply::Refused(Refusal::BadHandleEvent),
+        }
+    }
+
+    // What was sent to a handle is looked at.
+    fn look(&self, h: u64) -> Result<Reply, OutOfMemory>
+        ensures { (L : Ledger) → SessionStands self.now L → StepsFor L (Event.Look h) self.now result }
+    {
+        if !self.driver.user_holds(h) {
+            return Ok(Reply::Refused(Refusal::NoHandle));
+        }
+        let look = self.driver.look(h)?;
+        Ok(Reply::Output(shown_by(look)))
+    }
+
+    // A request is submitted, its buffer, or its parts, built of the event's.
+    fn submit(&mut self, request: &Request<BufSpec, PartsSpec>) -> Result<Reply, OutOfMemory>
         ensures { (L : Ledger) → SessionStands self.old L → StepsFor L (Submit request.now) self.new result }
     {
         if !self.holds_named(request) {
@@ -200,16 +229,19 @@ impl Session {
     }
 
     // The user holds each handle that a request names.
-    fn holds_named(&self, request: &Request<BufSpec>) -> bool
+    fn holds_named(&self, request: &Request<BufSpec, PartsSpec>) -> bool
         ensures { result ≡ holds_all self.now.driver (named request.now) }
     {
         match request {
             Request::Recv { fd, buf: _ } => self.driver.user_holds(fd.number()),
+            Request::ReadVec { fd, parts: _ } => self.driver.user_holds(fd.number()),
+            Request::Send { fd, buf: _ } => self.driver.user_holds(fd.number()),
+            Request::WriteVec { fd, parts: _ } => self.driver.user_holds(fd.number()),
         }
     }
 
     // A request of handles that the user holds is submitted, and its token kept.
-    fn submit_built(&mut self, request: Request<Buf>) -> Result<Reply, OutOfMemory>
+    fn submit_built(&mut self, request: Request<Buf, VecBuf>) -> Result<Reply, OutOfMemory>
         requires held { IsTrue (holds_all self.old.driver (named request)) }
         requires counter { given_by self.old.driver < 2 ^ 62 }
         requires room { vec_len self.old.tokens.ops < vec_capacity self.old.tokens.ops }
@@ -305,6 +337,15 @@ impl Session {
     }
 }
 
+// The bytes that a look shows.
+fn shown_by(look: Look) -> ByteList
+    ensures { look ≡ Look.Bytes result }
+{
+    match look {
+        Look::Bytes(bytes) => bytes,
+    }
+}
+
 // The reply to what was executed.
 fn executed_reply(executed: Executed) -> Reply
     ensures { result ≡ reply_to executed }
@@ -325,8 +366,8 @@ fn refused_execution(why: ExecRefusal) -> Result<Reply, OutOfMemory>
     }
 }
 
-// A request of an event, with its buffer built.
-fn build_request(request: &Request<BufSpec>) -> Result<Request<Buf>, OutOfMemory>
+// A request of an event, with its buffer, or its parts, built.
+fn build_request(request: &Request<BufSpec, PartsSpec>) -> Result<Request<Buf, VecBuf>, OutOfMemory>
     ensures plain { IfOk result (λ own. plain_request built own ≡ request.now) }
     ensures names { IfOk result (λ own. named own ≡ named request.now) }
 {
@@ -334,6 +375,18 @@ fn build_request(request: &Request<BufSpec>) -> Result<Request<Buf>, OutOfMemory
         Request::Recv { fd, buf } => {
             let buf = buf.try_clone()?.build()?;
             Ok(Request::Recv { fd: *fd, buf })
+        }
+        Request::ReadVec { fd, parts } => {
+            let parts = parts.try_clone()?.build()?;
+            Ok(Request::ReadVec { fd: *fd, parts })
+        }
+        Request::Send { fd, buf } => {
+            let buf = buf.try_clone()?.build()?;
+            Ok(Request::Send { fd: *fd, buf })
+        }
+        Request::WriteVec { fd, parts } => {
+            let parts = parts.try_clone()?.build()?;
+            Ok(Request::WriteVec { fd: *fd, parts })
         }
     }
 }
@@ -347,12 +400,15 @@ fn token_of(submitted: Submitted) -> Op
     }
 }
 
-// The buffer of a request as plain data.
-fn held_of(request: Request<Buf>) -> HeldBuf
+// The buffer of a request, or its parts, as plain data.
+fn held_of(request: Request<Buf, VecBuf>) -> HeldBuf
     ensures { result ≡ buffer_of (plain_request built request) }
 {
     match request {
         Request::Recv { fd: _, buf } => HeldBuf::One(buf.into_spec()),
+        Request::ReadVec { fd: _, parts } => HeldBuf::Parts(parts.into_spec()),
+        Request::Send { fd: _, buf } => HeldBuf::One(buf.into_spec()),
+        Request::WriteVec { fd: _, parts } => HeldBuf::Parts(parts.into_spec()),
     }
 }
 

@@ -1,7 +1,7 @@
 -- What a drop and a cancel do to a driver that stands for a ledger.
-use Rattle.std.proofs.Common.{◌≡◌, ◌≢◌, ◌⊎◌, inl, inr, ℕ, ◌+◌, ◌≤◌, ◌<◌, Bool, true, false, List, [], ◌∷◌, ◌++◌, length, Option, Some, None, refl, sym, ◌∙◌, ap, subst, arith, length-append, append-nil, IsTrue}
-use Rattle.std.specs.Prelude.{nat_lt, ◌&&◌, not, drop}
-use Rattle.std.specs.FinMap.{FinMap, get, insert, remove, len}
+use Rattle.std.proofs.Common.{◌≡◌, ℕ, ◌+◌, ◌≤◌, ◌<◌, Bool, true, false, [], ◌∷◌, ◌++◌, length, Option, Some, None, refl, sym, ◌∙◌, ap, subst, arith}
+use Rattle.std.specs.Prelude.{nat_lt, ◌&&◌}
+use Rattle.std.specs.FinMap.{get, insert, remove, len}
 use Rattle.rent_buf.specs.Buffer.{Buffer}
 use Rattle.op_slots.specs.declared.lifecycle.Lifecycle.{Lifecycle}
 use Rattle.op_slots.specs.declared.lifecycle.Lifecycle.TheVariants.{Submitted, Waiting, Ignored, Completed}
@@ -10,11 +10,10 @@ use Rattle.op_slots.specs.Lifecycle.{dropped, after_drop}
 use Rattle.ring_core.specs.Ring.{RingView, pushed}
 use Rattle.ring_core.specs.Lists.{amended, numbers_where}
 use Rattle.ring_core.specs.declared.request.Outcome.{Outcome}
-use Rattle.ring_core.specs.declared.entry.Entry.{Entry}
 use Rattle.ring_core.specs.declared.ledger.Event.TheVariants.{Drop, Cancel as Asks}
 use Rattle.ring_core.specs.declared.ledger.Reply.TheVariants.{Dropped, Asked}
 use Rattle.ring_core.specs.Ledger.{Ledger, Cancel, Operation, Place, InQueue, InFlight, InDone, Reaped, Gone, is_live, is_kept, is_owned, user_holds}
-use Rattle.ring_core.specs.Queue.{with_op, at_place, make_room, append, push}
+use Rattle.ring_core.specs.Queue.{with_op, at_place, make_room, push}
 use Rattle.ring_core.specs.Run.{ledger}
 use Rattle.ring_core.specs.Step.{with_drop}
 use Rattle.ring_core.proofs.Amended.{get-amended-same, length-amended}
@@ -26,12 +25,13 @@ use Rattle.uring_driver.specs.Slot.{with_life, is_owned_life}
 use Rattle.uring_driver.specs.Slots.{SlotFor, waiting, owned_life}
 use Rattle.uring_driver.specs.Stands.{Means, Stands, Answers}
 use Rattle.uring_driver.proofs.Lists.{amended-twice}
-use Rattle.uring_driver.proofs.Maps.{put-same, remove-put}
+use Rattle.uring_driver.proofs.Maps.{put-same}
 use Rattle.uring_driver.proofs.Counts.{where-less, where-within, owned-lives}
 use Rattle.uring_driver.proofs.Steps.{is_waiting, reached-more, step-drop-waiting, step-drop-reaped, step-cancel}
 use Rattle.uring_driver.proofs.Owned.{Owned, owned-slot}
 use Rattle.uring_driver.proofs.Changing.{means-changed, means-freed, means-canceled}
-use Rattle.uring_driver.proofs.Taking.{means-view, means-room, owned-room}
+use Rattle.uring_driver.proofs.Heads.{means-view}
+use Rattle.uring_driver.proofs.Taking.{means-room, owned-room}
 use Rattle.uring_driver.proofs.Turns.{room-length, room-world, room-capacity}
 
 wait-left : (t : Option ℕ) → after_drop (waiting t) ≡ Left
@@ -88,6 +88,7 @@ module _ {R B : Type 0} (view : R → RingView) (buffer : B → Buffer) (d new :
       there = get-amended-same with_drop L.ops s.serial my.fit.operation my.fit.there;
       live = my.fit.live;
       request = my.fit.request;
+      held = my.fit.held;
       life = left-ignored s.life left;
       fresh = my.fit.fresh;
       uncanceled = my.fit.uncanceled;

@@ -1,14 +1,13 @@
 -- What the calls that drop and cancel answer, by their tokens.
-use Rattle.std.proofs.Common.{◌≡◌, ◌≢◌, ◌⊎◌, inl, inr, ℕ, zero, suc, ◌+◌, ◌≤◌, ◌<◌, Bool, true, false, List, [], ◌∷◌, ◌++◌, Option, Some, None, refl, sym, ◌∙◌, ap, subst, arith, IsTrue}
+use Rattle.std.proofs.Common.{◌≡◌, ◌≢◌, inl, inr, ℕ, zero, suc, ◌+◌, ◌≤◌, ◌<◌, Bool, true, [], ◌∷◌, ◌++◌, Some, refl, sym, ◌∙◌, ap, subst, arith, IsTrue}
 use Rattle.std.specs.Prelude.{◌↔◌}
 use Rattle.std.specs.Ordering.{nat_cmp}
-use Rattle.std.specs.FinMap.{FinMap, get, insert, remove, len}
+use Rattle.std.specs.FinMap.{FinMap, insert, remove, len}
 use Rattle.rent_buf.specs.Buffer.{Buffer}
 use Rattle.op_slots.specs.declared.lifecycle.AfterDrop.{AfterDrop}
 use Rattle.op_slots.specs.declared.lifecycle.AfterDrop.TheVariants.{Left, Free}
-use Rattle.op_slots.specs.Lifecycle.{dropped, after_drop}
+use Rattle.op_slots.specs.Lifecycle.{dropped}
 use Rattle.ring_core.specs.Ring.{RingView, pushed}
-use Rattle.ring_core.specs.declared.entry.Entry.{Entry}
 use Rattle.ring_core.specs.declared.ledger.Event.TheVariants.{Drop, Cancel as Asks}
 use Rattle.ring_core.specs.declared.ledger.Reply.TheVariants.{Dropped, Asked}
 use Rattle.ring_core.specs.Ledger.{Ledger}
@@ -16,7 +15,7 @@ use Rattle.uring_driver.specs.declared.slot.Slot.{Slot}
 use Rattle.uring_driver.specs.declared.op.Op.{Op}
 use Rattle.uring_driver.specs.declared.driver.IoUringDriver.{IoUringDriver}
 use Rattle.uring_driver.specs.Pending.{Pending}
-use Rattle.uring_driver.specs.Driver.{ring_in, due_in, room_in, pending, whole_ring}
+use Rattle.uring_driver.specs.Driver.{ring_in, due_in, room_in, whole_ring}
 use Rattle.uring_driver.specs.Op.{Holds, number_of, cancel_for}
 use Rattle.uring_driver.specs.Outbox.{with_spare, room_made, pending_ring, cancel_entry, JoinsCancel, PendingMoves, PendingMovesBy}
 use Rattle.uring_driver.specs.Slot.{with_life, number_at, number_if, serial_of, is_owned_life, DropsSlot}

@@ -11,9 +11,9 @@ use Rattle.uring_driver.specs.declared.op.Stop.{Stop}
 use Rattle.uring_driver.specs.declared.op.Stop.TheVariants.{RingFault, Busy, BadCompletion, OutOfMemory}
 use Rattle.uring_driver.specs.declared.op.Turned.{Turned}
 use Rattle.uring_driver.specs.declared.driver.IoUringDriver.{IoUringDriver}
-use Rattle.uring_driver.specs.declared.driver.Begun.{Begun}
+use Rattle.uring_driver.specs.declared.turn.Begun.{Begun}
 use Rattle.uring_driver.specs.Driver.{ring_in, due_in, pending, whole_ring}
-use Rattle.uring_driver.specs.Outbox.{pending_ring, Enters, PendingMoves, KeepsPending}
+use Rattle.uring_driver.specs.Outbox.{Enters, KeepsPending}
 use Rattle.uring_driver.specs.Slot.{KeepsNumbers}
 use Rattle.uring_driver.specs.Stands.{Means, Stands}
 use Rattle.uring_driver.specs.Reap.{EndsAt, ReapsAll}

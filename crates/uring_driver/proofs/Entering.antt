@@ -1,8 +1,8 @@
 -- Entering what is pending: prefixes of it are taken, one after another.
 use Rattle.std.proofs.Common.{◌≡◌, ℕ, zero, suc, ◌+◌, ◌-◌, ◌<◌, ◌≤◌, Bool, true, false, List, [], ◌∷◌, ◌++◌, length, take, drop, refl, sym, ◌∙◌, ap, subst, arith, append_assoc, append-nil, length-append, IsTrue, Result, Ok, Err}
-use Rattle.std.specs.Prelude.{min, IsOk, OnOk, OnErr, IfErr, ◌==◌, if◌then◌else◌}
-use Rattle.std.proofs.lemmas.List.{length-drop, drop_at, take_at}
-use Rattle.std.proofs.Math.Seq.{take-add, take-length, drop-length, take-append_seam, drop-append_seam}
+use Rattle.std.specs.Prelude.{IsOk, OnOk, OnErr, IfErr, ◌==◌, if◌then◌else◌}
+use Rattle.std.proofs.lemmas.List.{length-drop}
+use Rattle.std.proofs.Math.Seq.{take-add, take-length, drop-length}
 use Rattle.ring_core.specs.Counts.{Rose}
 use Rattle.ring_core.specs.declared.entry.Entry.{Entry}
 use Rattle.ring_core.specs.declared.entry.Flight.{Flight}

@@ -10,7 +10,7 @@ use Rattle.ring_core.specs.Lists.{amended}
 use Rattle.ring_core.specs.MemRing.{IsFinished, body_effect}
 use Rattle.ring_core.specs.Outcome.{is_allowed}
 use Rattle.ring_core.specs.Effect.{Effect, effect}
-use Rattle.ring_core.specs.Request.{call_of, sent_of, with_buffer}
+use Rattle.ring_core.specs.Request.{call_of, sent_of, with_buffer, buffer_of}
 use Rattle.ring_core.specs.declared.entry.Entry.{Entry}
 use Rattle.ring_core.specs.declared.entry.Flight.{Flight}
 use Rattle.ring_core.specs.declared.entry.Completion.{Completion}
@@ -22,20 +22,21 @@ use Rattle.ring_core.proofs.Amended.{get-amended-same, get-amended-other}
 use Rattle.uring_driver.specs.declared.slot.Slot.{Slot}
 use Rattle.uring_driver.specs.Slot.{room_of, filled_by, IsFilled, FillsSlot}
 use Rattle.uring_driver.specs.Slots.{SlotFor, SlotsStand, life_of}
-use Rattle.uring_driver.specs.Lists.{EntryFor, CompletionFor, IsAt, IsFlown, CancelsMean, ListsStand, queued_of, item_of, done_item_of, is_reserved, kept as unreserved}
+use Rattle.uring_driver.specs.Lists.{EntryFor, CompletionFor, IsAt, IsFlown, ListsStand, queued_of, item_of, done_item_of, is_reserved, kept as unreserved}
 use Rattle.uring_driver.specs.Stands.{Means}
 use Rattle.uring_driver.proofs.Lists.{some, skip, skip-not, skip-one, get-removed, map-removed, get-pushed}
 use Rattle.uring_driver.proofs.Maps.{put-same}
 use Rattle.uring_driver.proofs.Slots.{slots-replaced, other-slot}
-use Rattle.uring_driver.proofs.Kept.{queued-kept, kept-pushed, not-reserved, flown-at}
-use Rattle.uring_driver.proofs.Flights.{o, s, slot-there, n-is, there-s, which, flies, request-is, life-is, allows-is, effect-is, here, filled-held, got-fits}
+use Rattle.uring_driver.proofs.Kept.{queued-kept, kept-pushed, not-reserved}
+use Rattle.uring_driver.proofs.Flights.{o, s, slot-there, n-is, there-s, which, flies, request-is, life-is, allows-is, here, filled-held, filled-back, got-fits}
 
 done-life : (b : Bool) (r : Outcome) (t : Option ℕ) → life_of b InFlight t ≡ life_of b (InDone r) t
 done-life true r t = refl
 done-life false r t = refl
 
-module _ {B : Type 0} (buffer : B → Buffer) (v : RingView) (slots slots' : FinMap nat_cmp (Slot B)) (L : Ledger) (place : ℕ) (told : Told) (v' : RingView) (got : List ℕ) (c : Completion)
-    (old : Means buffer v slots L) (fin : IsFinished v place told [] v' got c) (fills : FillsSlot buffer slots c.word told got slots') where
+module _ {B : Type 0} (buffer : B → Buffer) (v : RingView) (slots slots' : FinMap nat_cmp (Slot B)) (L : Ledger) (place : ℕ) (told : Told) (sent : List ℕ) (v' : RingView) (got : List ℕ) (c : Completion)
+    (old : Means buffer v slots L) (fin : IsFinished v place told sent v' got c) (fills : FillsSlot buffer slots c.word told got slots')
+    (eff : body_effect v.world fin.flight.entry.body sent told ≡ effect L.world (call_of (o buffer v slots L place fin.flight old fin.there).request) (sent_of (o buffer v slots L place fin.flight old fin.there).request) told) where
   abbrev n : ℕ
   n = fin.flight.entry.serial
 
@@ -56,9 +57,6 @@ module _ {B : Type 0} (buffer : B → Buffer) (v : RingView) (slots slots' : Fin
 
   abbrev L' : Ledger
   L' = with_effect (complete_at L place (Op n)) n told result
-
-  eff : body_effect v.world fin.flight.entry.body [] told ≡ result
-  eff = effect-is buffer v slots L place fin.flight old fin.there told
 
   word : c.word ≡ fin.flight.entry.word
   word = ap (λ x. x.word) fin.answer
@@ -91,6 +89,7 @@ module _ {B : Type 0} (buffer : B → Buffer) (v : RingView) (slots slots' : Fin
     there = ap (slice_get (amended L.ops slot.serial f)) stored-is.serial ∙ get-amended-same f L.ops slot.serial op (there-s buffer v slots L place fin.flight old fin.there);
     live = refl;
     request = stored-is.request ∙ ap (λ r. filled_by told r got) (request-is buffer v slots L place fin.flight old fin.there) ∙ filled-held op.request told got ∙ ap (λ x. with_buffer op.request (held op.request told x)) got-is;
+    held = ap buffer_of stored-is.request ∙ ap (λ r. buffer_of (filled_by told r got)) (request-is buffer v slots L place fin.flight old fin.there) ∙ filled-back op.request told got ∙ ap (held op.request told) got-is;
     life = stored-is.life ∙ life-is buffer v slots L place fin.flight old fin.there ∙ done-life op.dropped result.outcome op.task;
     fresh = λ h. (let z : false ≡ true = h in cc);
     uncanceled = λ h. cc;

@@ -8,6 +8,9 @@ pub mod Slots
 mod Kept
 pub mod Steps
 mod Changing
+mod Heads
+mod TakingCalls
+mod TakingCancels
 mod Taking
 mod Reaping
 mod Turns
@@ -19,6 +22,7 @@ mod Executing
 mod Executions
 mod Filling
 mod Handles
+mod Arrivals
 mod Starting
 mod Submitting
 mod Submits

@@ -1,8 +1,8 @@
 -- Which slot has which number, after a change of one slot.
-use Rattle.std.proofs.Common.{◌≡◌, ◌≢◌, inl, inr, ℕ, Bool, true, false, Option, Some, None, refl, sym, ◌∙◌, ap, subst, arith, IsTrue}
+use Rattle.std.proofs.Common.{◌≡◌, inl, inr, ℕ, Bool, true, false, Option, Some, None, refl, sym, ◌∙◌, ap, subst, arith, IsTrue}
 use Rattle.std.specs.Prelude.{◌↔◌, ◌==◌, ◌&&◌}
 use Rattle.std.specs.Ordering.{nat_cmp}
-use Rattle.std.specs.FinMap.{FinMap, get, insert, remove, empty, get-empty}
+use Rattle.std.specs.FinMap.{FinMap, get, insert, remove}
 use Rattle.std.proofs.lemmas.Bool.Decides.{nat_tests}
 use Rattle.op_slots.specs.Lifecycle.{IsIgnored, after_complete}
 use Rattle.op_slots.specs.declared.lifecycle.AfterComplete.TheVariants.{Kept, Wake, Free}

@@ -1,8 +1,8 @@
 -- What the slot of a token says of its operation.
-use Rattle.std.proofs.Common.{◌≡◌, ℕ, Bool, true, false, Option, Some, None, refl, sym, ◌∙◌, ap, subst}
+use Rattle.std.proofs.Common.{◌≡◌, ℕ, Bool, true, false, Option, refl, sym, ◌∙◌, ap}
 use Rattle.std.specs.Prelude.{◌&&◌, not}
 use Rattle.rent_buf.specs.Buffer.{Buffer}
-use Rattle.ring_core.specs.Ledger.{Ledger, Operation, Place, is_kept, is_owned}
+use Rattle.ring_core.specs.Ledger.{Ledger, Place, is_kept, is_owned}
 use Rattle.uring_driver.specs.declared.slot.Slot.{Slot}
 use Rattle.uring_driver.specs.Slot.{is_owned_life}
 use Rattle.uring_driver.specs.Slots.{SlotFor, life_of, owned_life}

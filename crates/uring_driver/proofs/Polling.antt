@@ -1,18 +1,14 @@
 -- What a poll of a live slot does to a driver that stands for a ledger, and to its tokens.
-use Rattle.std.proofs.Common.{◌≡◌, ◌≤◌, ℕ, true, false, [], ◌∷◌, ◌++◌, Option, Some, None, refl, sym, ◌∙◌, ap, subst, length, arith}
+use Rattle.std.proofs.Common.{◌≡◌, ◌≤◌, ℕ, true, [], ◌∷◌, ◌++◌, Option, Some, None, refl, sym, ◌∙◌, ap, subst, length, arith}
 use Rattle.std.specs.FinMap.{get, insert, remove}
 use Rattle.rent_buf.specs.Buffer.{Buffer}
-use Rattle.rent_buf.specs.declared.spec.HeldBuf.{HeldBuf}
-use Rattle.rent_buf.specs.declared.spec.HeldBuf.TheVariants.{One}
 use Rattle.op_slots.specs.declared.lifecycle.Lifecycle.{Lifecycle}
 use Rattle.op_slots.specs.declared.lifecycle.Lifecycle.TheVariants.{Submitted, Waiting, Ignored, Completed}
 use Rattle.op_slots.specs.declared.lifecycle.AfterPoll.TheVariants.{Pending as Waits, Take}
 use Rattle.op_slots.specs.Lifecycle.{after_poll, polled, IsCompleted}
 use Rattle.ring_core.specs.Ring.{RingView}
 use Rattle.ring_core.specs.Lists.{amended, numbers_where}
-use Rattle.ring_core.specs.Request.{plain_request, with_buffer, buffer_of}
-use Rattle.ring_core.specs.declared.request.Request.{Request}
-use Rattle.ring_core.specs.declared.request.Request.TheVariants.{Recv}
+use Rattle.ring_core.specs.Request.{plain_request, buffer_of}
 use Rattle.ring_core.specs.declared.request.Outcome.{Outcome}
 use Rattle.ring_core.specs.declared.ledger.Event.TheVariants.{Poll}
 use Rattle.ring_core.specs.declared.ledger.Reply.TheVariants.{Pending, Handed}
@@ -64,9 +60,6 @@ unreaped-place (InDone r) h = tt
 unreaped-place (Reaped r) h = (let f : ⊥ = cc in absurd f)
 unreaped-place Gone h = (let f : ⊥ = cc in absurd f)
 
-with-buffer : (r : Request Buffer) (b : HeldBuf) → buffer_of (with_buffer r b) ≡ b
-with-buffer (Recv fd old) (One b) = refl
-
 pub polled-take : (l : Lifecycle Outcome) (task : ℕ) → after_poll l ≡ Take → polled l task ≡ l
 polled-take Submitted task e = cc
 polled-take (Waiting t) task e = cc
@@ -112,6 +105,7 @@ module _ {R B : Type 0} (view : R → RingView) (buffer : B → Buffer) (d new :
         there = get-amended-same (with_task task) L.ops s.serial o my.fit.there;
         live = my.fit.live;
         request = my.fit.request;
+        held = my.fit.held;
         life = ap (λ l. polled l task) my.life ∙ life-waits o.place o.task task w ∙ sym (ap (λ b. life_of b o.place (Some task)) my.not_dropped);
         fresh = my.fit.fresh;
         uncanceled = my.fit.uncanceled;
@@ -143,7 +137,7 @@ module _ {R B : Type 0} (view : R → RingView) (buffer : B → Buffer) (d new :
       let o = my.fit.operation in
       let w = take-reaped o.place o.task r my.fit.live (sym my.life ∙ life) in
       let e = step-poll-reaped L s.serial task o my.fit.there my.owned r w in
-      let buf : o.buffer ≡ buffer_of (plain_request buffer s.request) = sym (ap buffer_of my.fit.request ∙ with-buffer o.request o.buffer) in
+      let buf : o.buffer ≡ buffer_of (plain_request buffer s.request) = sym my.fit.held in
       record {
         reply_is = ap (λ x. x.1) e ∙ ap (λ x. Handed r x) buf;
         stands = record {

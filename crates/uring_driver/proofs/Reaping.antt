@@ -1,11 +1,11 @@
 -- What treating one completion does to a ring and slots that mean a ledger.
 use Rattle.std.proofs.Common.{◌≡◌, ◌≢◌, ℕ, suc, ◌≤◌, ◌<◌, Bool, true, false, List, [], ◌∷◌, ◌++◌, map, Option, Some, None, refl, sym, ◌∙◌, ap, subst, arith}
-use Rattle.std.specs.Prelude.{slice_get, option_to_list, ◌&&◌, not}
+use Rattle.std.specs.Prelude.{slice_get, option_to_list}
 use Rattle.std.specs.Ordering.{nat_cmp}
 use Rattle.std.proofs.lemmas.Bool.Decides.{nat_tests}
 use Rattle.std.specs.FinMap.{FinMap, get, insert, remove}
 use Rattle.rent_buf.specs.Buffer.{Buffer}
-use Rattle.op_slots.specs.declared.lifecycle.Lifecycle.TheVariants.{Submitted, Waiting, Ignored, Completed}
+use Rattle.op_slots.specs.declared.lifecycle.Lifecycle.TheVariants.{Completed}
 use Rattle.ring_core.specs.Ring.{RingView, with_done}
 use Rattle.ring_core.specs.Lists.{amended}
 use Rattle.ring_core.specs.declared.entry.Completion.{Completion}
@@ -16,7 +16,7 @@ use Rattle.ring_core.specs.Turn.{reap_one, reap_op, reap_if, reaped_place, with_
 use Rattle.ring_core.proofs.Amended.{get-amended-same, get-amended-other}
 use Rattle.uring_driver.specs.declared.slot.Slot.{Slot}
 use Rattle.uring_driver.specs.Slot.{with_life, is_flying, task_in, slots_completed, CompletesSlot}
-use Rattle.uring_driver.specs.Slots.{SlotFor, SlotsStand, waiting, life_of, life_at, is_early}
+use Rattle.uring_driver.specs.Slots.{SlotFor, SlotsStand, waiting, life_of, is_early}
 use Rattle.uring_driver.specs.Lists.{CompletionFor, IsAt, ListsStand, is_reserved, kept, kept_unless, done_item_of}
 use Rattle.uring_driver.specs.Stands.{Means}
 use Rattle.uring_driver.specs.Reap.{TreatsOne}
@@ -138,6 +138,7 @@ module _ {B : Type 0} (buffer : B → Buffer) (v : RingView) (slots : FinMap nat
       there = get-amended-same with_reap L.ops s.serial o mine.there;
       live = ap (λ p. is_kept (reaped_place p)) stands-done;
       request = mine.request;
+      held = mine.held;
       life = sym (ap (λ b. life_of b (reaped_place o.place) o.task) owned ∙ ap (λ p. life_of false (reaped_place p) o.task) stands-done);
       fresh = λ h. absurd (not-early h);
       uncanceled = λ h. absurd (not-queued h);

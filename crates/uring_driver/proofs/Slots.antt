@@ -15,7 +15,7 @@ use Rattle.uring_driver.proofs.Maps.{put-same, put-other, len-put, gone-same, go
 
 -- A slot of another number means what it meant.
 slot-other : {B : Type 0} (buffer : B → Buffer) (ops : List Operation) (n : ℕ) (f : Operation → Operation) (t : Slot B) → t.serial ≢ n → SlotFor buffer ops t → SlotFor buffer (amended ops n f) t
-slot-other buffer ops n f t other m = record { operation = m.operation; there = get-amended-other f ops n t.serial other ∙ m.there; live = m.live; request = m.request; life = m.life; fresh = m.fresh; uncanceled = m.uncanceled }
+slot-other buffer ops n f t other m = record { operation = m.operation; there = get-amended-other f ops n t.serial other ∙ m.there; live = m.live; request = m.request; held = m.held; life = m.life; fresh = m.fresh; uncanceled = m.uncanceled }
 
 -- One operation was changed, and its slot still fits it.
 module _ {B : Type 0} (buffer : B → Buffer) (slots : FinMap nat_cmp (Slot B)) (ops : List Operation) (n : ℕ) (f : Operation → Operation) (o : Operation)

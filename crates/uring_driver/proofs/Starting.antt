@@ -1,6 +1,6 @@
 -- A fresh driver, a new handle, and bytes that arrive.
-use Rattle.std.proofs.Common.{◌≡◌, ◌≤◌, ℕ, ◌+◌, List, [], ◌∷◌, ◌++◌, length, Option, Some, None, refl, sym, ◌∙◌, ap, subst, arith, length-append}
-use Rattle.std.specs.Prelude.{nat_lt, IsTrue}
+use Rattle.std.proofs.Common.{◌≡◌, ◌≤◌, ℕ, true, false, ◌+◌, List, [], ◌∷◌, ◌++◌, length, Option, Some, None, refl, sym, ◌∙◌, ap, subst, arith, length-append}
+use Rattle.std.specs.Prelude.{nat_lt, IsTrue, IfOk, Result, Ok, Err}
 use Rattle.std.specs.Ordering.{nat_cmp}
 use Rattle.std.specs.FinMap as finite
 use Rattle.rent_buf.specs.Buffer.{Buffer}
@@ -8,23 +8,30 @@ use Rattle.ring_core.specs.Ring.{RingView}
 use Rattle.ring_core.specs.MemRing.{fresh_ring}
 use Rattle.ring_core.specs.Lends.{with_world}
 use Rattle.ring_core.specs.Lists.{amended, numbers_where}
-use Rattle.ring_core.specs.World.{fresh, with_input}
+use Rattle.ring_core.specs.World.{fresh, with_input, with_end, is_ended_at, output_at}
 use Rattle.ring_core.specs.declared.world.HandleKind.{HandleKind}
 use Rattle.ring_core.specs.declared.world.HandleState.{HandleState}
-use Rattle.ring_core.specs.declared.ledger.Event.TheVariants.{Give, Feed}
-use Rattle.ring_core.specs.declared.ledger.Reply.TheVariants.{Handle, Fed}
+use Rattle.ring_core.specs.declared.world.Look.{Look}
+use Rattle.ring_core.specs.declared.world.Look.TheVariants.{Bytes}
+use Rattle.ring_core.specs.declared.world.WorldError.{WorldError}
+use Rattle.ring_core.specs.declared.world.WorldError.TheVariants.{BadHandleEvent, OutOfMemory}
+use Rattle.ring_core.specs.declared.ledger.Event.{Event}
+use Rattle.ring_core.specs.declared.ledger.Event.TheVariants.{Give, Feed, End}
+use Rattle.ring_core.specs.declared.ledger.Reply.{Reply}
+use Rattle.ring_core.specs.declared.ledger.Reply.TheVariants.{Handle, Fed, Ended, Output}
 use Rattle.ring_core.specs.Ledger.{Ledger, empty, is_owned, user_holds}
-use Rattle.ring_core.specs.Step.{give_step, with_handle}
+use Rattle.ring_core.specs.Step.{step, give_step, with_handle}
 use Rattle.ring_core.specs.Run.{ledger}
 use Rattle.ring_core.proofs.Amended.{length-amended}
 use Rattle.uring_driver.specs.declared.slot.Slot.{Slot}
 use Rattle.uring_driver.specs.declared.driver.IoUringDriver.{IoUringDriver}
 use Rattle.uring_driver.specs.Driver.{ring_in, due_in, room_in, pending, whole_ring, is_among, first_with, holds_handle}
 use Rattle.uring_driver.specs.Outbox.{IsIdle, with_spare, with_due, pending_ring}
+use Rattle.uring_driver.specs.Handles.{RefusedAt, RefusedFor, LooksFor}
 use Rattle.uring_driver.specs.Stands.{Means, Stands, Answers}
 use Rattle.uring_driver.proofs.Handles.{none-among, one-more}
-use Rattle.uring_driver.proofs.Steps.{reached-more, step-give, step-feed}
-use Rattle.uring_driver.proofs.Taking.{means-view}
+use Rattle.uring_driver.proofs.Steps.{reached-more, step-give, step-feed, step-end, step-look, cause-feed, cause-end}
+use Rattle.uring_driver.proofs.Heads.{means-view}
 
 none-there : {B : Type 0} (k : ℕ) (s : Slot B) → finite.get (finite.empty {X = Slot B} {R = nat_cmp}) k ≡ Some s → ⊥
 none-there {B} k s h = (let z : ◌≡◌ {A = Option (Slot B)} None (Some s) = sym (finite.get-empty {X = Slot B} nat_cmp k) ∙ h in cc)
@@ -121,25 +128,53 @@ module _ {B : Type 0} (buffer : B → Buffer) (d new : IoUringDriver RingView B)
         };
       }
 
-  -- Bytes arrive at a handle of the user.
-  pub stands-feeds : (h : ℕ) (bytes : List ℕ) → IsTrue (holds_handle d h) → ring_in new ≡ with_world (ring_in d) (amended (ring_in d).world h (with_input bytes)) → new.first ≡ d.first → new.held ≡ d.held →
-      Answers (λ r. r) buffer L (Feed h bytes) Fed new
-  stands-feeds h bytes user ring first held =
+  -- What stands on a handle changes: the step of the machine is this change.
+  stands-changes : (event : Event) (reply : Reply) (h : ℕ) (change : HandleState → HandleState) → step L event ≡ (with_handle L h change, reply) → ring_in new ≡ with_world (ring_in d) (amended (ring_in d).world h change) → new.first ≡ d.first → new.held ≡ d.held →
+      Answers (λ r. r) buffer L event reply new
+  stands-changes event reply h change e ring first held =
       let m = old.means in
-      let e = step-feed L h bytes (sym (old.handles h) ∙ user) in
       record {
         reply_is = ap (λ y. y.1) e;
         stands = record {
-          events = old.events ++ Feed h bytes ∷ [];
-          reached = reached-more L (ring_in new).capacity old.events (Feed h bytes) (old.reached ∙ ap (λ x. ledger x.capacity old.events) (sym ring));
+          events = old.events ++ event ∷ [];
+          reached = reached-more L (ring_in new).capacity old.events event (old.reached ∙ ap (λ x. ledger x.capacity old.events) (sym ring));
           numbered = given ∙ old.numbered ∙ ap (λ x. length x.0.ops) (sym e);
-          handles = λ k. ap (λ n. is_among n new.held k) first ∙ ap (λ n. is_among d.first n k) held ∙ old.handles k ∙ ap (nat_lt k) (sym (length-amended (with_input bytes) L.world h)) ∙ ap (λ x. user_holds x.0 k) (sym e);
+          handles = λ k. ap (λ n. is_among n new.held k) first ∙ ap (λ n. is_among d.first n k) held ∙ old.handles k ∙ ap (nat_lt k) (sym (length-amended change L.world h)) ∙ ap (λ x. user_holds x.0 k) (sym e);
           room = (let b = ap (λ x. length (numbers_where is_owned 0 x.0.ops)) e in let r = old.room in omega (arith, b, r, room));
-          fits = fits-still (amended (ring_in d).world h (with_input bytes)) ring;
+          fits = fits-still (amended (ring_in d).world h change) ring;
           means = subst (λ K. Means buffer (whole_ring (λ r. r) new) new.slots.values K) (sym (ap (λ y. y.0) e))
-              (subst (λ r. Means buffer (with_due r (due_in new)) new.slots.values (with_handle L h (with_input bytes))) (sym ring)
-              (subst (λ xs. Means buffer (with_due (with_world (ring_in d) (amended (ring_in d).world h (with_input bytes))) xs) new.slots.values (with_handle L h (with_input bytes))) (sym due)
-              (subst (λ s. Means buffer (with_due (with_world (ring_in d) (amended (ring_in d).world h (with_input bytes))) (due_in d)) s.values (with_handle L h (with_input bytes))) (sym slots)
-              (means-world buffer (whole_ring (λ r. r) d) d.slots.values L (amended (ring_in d).world h (with_input bytes)) (amended L.world h (with_input bytes)) (ap (λ w. amended w h (with_input bytes)) m.world) m))));
+              (subst (λ r. Means buffer (with_due r (due_in new)) new.slots.values (with_handle L h change)) (sym ring)
+              (subst (λ xs. Means buffer (with_due (with_world (ring_in d) (amended (ring_in d).world h change)) xs) new.slots.values (with_handle L h change)) (sym due)
+              (subst (λ s. Means buffer (with_due (with_world (ring_in d) (amended (ring_in d).world h change)) (due_in d)) s.values (with_handle L h change)) (sym slots)
+              (means-world buffer (whole_ring (λ r. r) d) d.slots.values L (amended (ring_in d).world h change) (amended L.world h change) (ap (λ w. amended w h change) m.world) m))));
         };
       }
+
+  -- Bytes arrive at a handle of the user.
+  pub stands-feeds : (h : ℕ) (bytes : List ℕ) → IsTrue (holds_handle d h) → is_ended_at (ring_in d).world h ≡ false → ring_in new ≡ with_world (ring_in d) (amended (ring_in d).world h (with_input bytes)) → new.first ≡ d.first → new.held ≡ d.held →
+      Answers (λ r. r) buffer L (Feed h bytes) Fed new
+  stands-feeds h bytes user live ring first held = stands-changes (Feed h bytes) Fed h (with_input bytes) (step-feed L h bytes (sym (old.handles h) ∙ user) (ap (λ w. is_ended_at w h) (sym old.means.world) ∙ live)) ring first held
+
+  -- The end of what arrives at a handle of the user.
+  pub stands-ends : (h : ℕ) → IsTrue (holds_handle d h) → is_ended_at (ring_in d).world h ≡ false → ring_in new ≡ with_world (ring_in d) (amended (ring_in d).world h with_end) → new.first ≡ d.first → new.held ≡ d.held →
+      Answers (λ r. r) buffer L (End h) Ended new
+  stands-ends h user live ring first held = stands-changes (End h) Ended h with_end (step-end L h (sym (old.handles h) ∙ user) (ap (λ w. is_ended_at w h) (sym old.means.world) ∙ live)) ring first held
+
+module _ {B : Type 0} (buffer : B → Buffer) (d : IoUringDriver RingView B) (L : Ledger) (old : Stands (λ r. r) buffer d L) (h : ℕ) (user : IsTrue (holds_handle d h)) where
+  -- What didn't arrive has its cause.
+  pub refuses-feed : (bytes : List ℕ) (why : WorldError) → RefusedAt (ring_in d).world h why → RefusedFor L (Feed h bytes) why
+  refuses-feed bytes BadHandleEvent at = cause-feed L h bytes true (sym (old.handles h) ∙ user) (ap (λ w. is_ended_at w h) (sym old.means.world) ∙ at)
+  refuses-feed bytes OutOfMemory at = cause-feed L h bytes false (sym (old.handles h) ∙ user) (ap (λ w. is_ended_at w h) (sym old.means.world) ∙ at)
+
+  pub refuses-end : (why : WorldError) → RefusedAt (ring_in d).world h why → RefusedFor L (End h) why
+  refuses-end BadHandleEvent at = cause-end L h true (sym (old.handles h) ∙ user) (ap (λ w. is_ended_at w h) (sym old.means.world) ∙ at)
+  refuses-end OutOfMemory at = cause-end L h false (sym (old.handles h) ∙ user) (ap (λ w. is_ended_at w h) (sym old.means.world) ∙ at)
+
+  -- A look shows what the machine replies.
+  pub looks : (look : Look) → look ≡ Bytes (output_at (ring_in d).world h) → LooksFor L h look
+  looks look is = subst (λ x. LooksFor L h x) (sym is) (step-look L h (sym (old.handles h) ∙ user) ∙ ap (λ w. (L, Output (output_at w h))) (sym old.means.world))
+
+pub looks-if : {B : Type 0} (buffer : B → Buffer) (d : IoUringDriver RingView B) (h : ℕ) → IsTrue (holds_handle d h) → {E : Type 0} (result : Result Look E) → IfOk result (λ look. look ≡ Bytes (output_at (ring_in d).world h)) →
+    IfOk result (λ look. (L : Ledger) → Stands (λ r. r) buffer d L → LooksFor L h look)
+looks-if buffer d h user (Ok look) is = λ L old. looks buffer d L old h user look is
+looks-if buffer d h user (Err e) is = tt

@@ -1,20 +1,22 @@
 -- What a step of the machine is, where the event isn't refused.
-use Rattle.std.proofs.Common.{◌≡◌, ◌<◌, ◌≤◌, ℕ, Bool, true, false, List, [], ◌∷◌, ◌++◌, length, None, Some, refl, ◌∙◌, ap, arith, not, ◌||◌}
+use Rattle.std.proofs.Common.{◌≡◌, ◌<◌, ◌≤◌, ℕ, Bool, true, false, List, [], ◌∷◌, ◌++◌, length, Option, None, Some, refl, ◌∙◌, ap, arith, not, ◌||◌}
 use Rattle.std.specs.Prelude.{slice_get, nat_le}
 use Rattle.std.proofs.lemmas.Bool.Decides.{nat_tests}
 use Rattle.rent_buf.specs.Buffer.{Buffer}
+use Rattle.rent_buf.specs.Parts.{Parts}
 use Rattle.ring_core.specs.declared.request.Request.{Request}
 use Rattle.ring_core.specs.declared.request.Told.{Told}
 use Rattle.ring_core.specs.declared.request.Outcome.{Outcome}
 use Rattle.ring_core.specs.declared.world.HandleKind.{HandleKind}
 use Rattle.ring_core.specs.declared.ledger.Event.{Event}
-use Rattle.ring_core.specs.declared.ledger.Event.TheVariants.{Give, Feed, Submit, Poll, Drop, Cancel as Asks, Turn, Exec}
-use Rattle.ring_core.specs.declared.ledger.Reply.TheVariants.{Handle, Fed, Submitted, Pending, Handed, Dropped, Asked}
-use Rattle.ring_core.specs.declared.ledger.Refusal.TheVariants.{NoOp, NoHandle, Full, NotFlying, BadOutcome}
+use Rattle.ring_core.specs.declared.ledger.Event.TheVariants.{Give, Feed, End, Look, Submit, Poll, Drop, Cancel as Asks, Turn, Exec}
+use Rattle.ring_core.specs.declared.ledger.Reply.TheVariants.{Handle, Fed, Ended, Output, Submitted, Pending, Handed, Dropped, Asked}
+use Rattle.ring_core.specs.declared.ledger.Refusal.{Refusal}
+use Rattle.ring_core.specs.declared.ledger.Refusal.TheVariants.{NoOp, NoHandle, Full, NotFlying, BadOutcome, BadHandleEvent}
 use Rattle.ring_core.specs.Lists.{passes}
 use Rattle.ring_core.specs.Outcome.{is_allowed}
 use Rattle.ring_core.specs.Request.{named, call_of}
-use Rattle.ring_core.specs.World.{fresh, with_input}
+use Rattle.ring_core.specs.World.{fresh, with_input, with_end, is_ended_at, output_at}
 use Rattle.ring_core.specs.Ledger.{Ledger, Operation, Place, InQueue, InFlight, InDone, Reaped, Gone, Cancel, Op, is_owned, live_ops, user_holds, empty}
 use Rattle.ring_core.specs.Queue.{with_op, push, leave}
 use Rattle.ring_core.specs.Refusal.{cause, refused_if, lacks_handle, allowed, most_live}
@@ -84,7 +86,7 @@ step-cancel L n o there owned =
     ap (λ x. answered (refused_if (not (passes is_owned x)) NoOp None) L (Asks n)) there
     ∙ ap (λ b. answered (refused_if (not b) NoOp None) L (Asks n)) owned
 
-pub step-submit : (L : Ledger) (r : Request Buffer) → lacks_handle L (named r) ≡ false → nat_le most_live (length (live_ops L)) ≡ false → step L (Submit r) ≡ (submit_step L r, Submitted (length L.ops))
+pub step-submit : (L : Ledger) (r : Request Buffer Parts) → lacks_handle L (named r) ≡ false → nat_le most_live (length (live_ops L)) ≡ false → step L (Submit r) ≡ (submit_step L r, Submitted (length L.ops))
 unfolding step
 step-submit L r user room =
     ap (λ b. answered (refused_if b NoHandle (refused_if (nat_le most_live (length (live_ops L))) Full None)) L (Submit r)) user
@@ -98,9 +100,27 @@ pub step-give : (L : Ledger) (kind : HandleKind) → step L (Give kind) ≡ (giv
 unfolding step
 step-give L kind = refl
 
-pub step-feed : (L : Ledger) (h : ℕ) (bytes : List ℕ) → user_holds L h ≡ true → step L (Feed h bytes) ≡ (with_handle L h (with_input bytes), Fed)
+-- What arrives at a handle, as bytes or as their end, is refused exactly where its end is marked.
+abbrev arrival-cause : Bool → Bool → Option Refusal
+arrival-cause user ended = refused_if (not user || false) NoHandle (refused_if ended BadHandleEvent None)
+
+pub cause-feed : (L : Ledger) (h : ℕ) (bytes : List ℕ) (ended : Bool) → user_holds L h ≡ true → is_ended_at L.world h ≡ ended → cause L (Feed h bytes) ≡ refused_if ended BadHandleEvent None
+cause-feed L h bytes ended user at = ap (λ b. arrival-cause b (is_ended_at L.world h)) user ∙ ap (λ b. refused_if b BadHandleEvent None) at
+
+pub cause-end : (L : Ledger) (h : ℕ) (ended : Bool) → user_holds L h ≡ true → is_ended_at L.world h ≡ ended → cause L (End h) ≡ refused_if ended BadHandleEvent None
+cause-end L h ended user at = ap (λ b. arrival-cause b (is_ended_at L.world h)) user ∙ ap (λ b. refused_if b BadHandleEvent None) at
+
+pub step-feed : (L : Ledger) (h : ℕ) (bytes : List ℕ) → user_holds L h ≡ true → is_ended_at L.world h ≡ false → step L (Feed h bytes) ≡ (with_handle L h (with_input bytes), Fed)
 unfolding step
-step-feed L h bytes user = ap (λ b. answered (refused_if (not b || false) NoHandle None) L (Feed h bytes)) user
+step-feed L h bytes user live = ap (λ why. answered why L (Feed h bytes)) (cause-feed L h bytes false user live)
+
+pub step-end : (L : Ledger) (h : ℕ) → user_holds L h ≡ true → is_ended_at L.world h ≡ false → step L (End h) ≡ (with_handle L h with_end, Ended)
+unfolding step
+step-end L h user live = ap (λ why. answered why L (End h)) (cause-end L h false user live)
+
+pub step-look : (L : Ledger) (h : ℕ) → user_holds L h ≡ true → step L (Look h) ≡ (L, Output (output_at L.world h))
+unfolding step
+step-look L h user = ap (λ b. answered (refused_if (not b || false) NoHandle None) L (Look h)) user
 
 below-test : (n k : ℕ) → k < n → nat_le n k ≡ false
 below-test n k h = grind (arith, nat_tests)

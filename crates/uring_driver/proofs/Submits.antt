@@ -1,16 +1,17 @@
 -- What a submission answers, of a driver that stands for a ledger.
 use Rattle.std.proofs.Common.{◌≡◌, ℕ, suc, ◌+◌, ◌<◌, ◌≤◌, Bool, true, false, List, [], ◌∷◌, ◌++◌, length, Some, None, refl, sym, ◌∙◌, ap, subst, arith, length-append}
-use Rattle.std.specs.Prelude.{slice_get, nat_le, nat_lt, IsTrue, ◌==◌, ◌&&◌, not, if◌then◌else◌}
+use Rattle.std.specs.Prelude.{slice_get, nat_le, nat_lt, IsTrue, ◌==◌, if◌then◌else◌}
 use Rattle.std.specs.Ordering.{nat_cmp}
 use Rattle.std.specs.FinMap.{FinMap, get, insert, len}
 use Rattle.std.proofs.lemmas.Bool.Decides.{nat_tests}
 use Rattle.std.proofs.lemmas.Option.{slice_get_within}
 use Rattle.rent_buf.specs.Buffer.{Buffer}
+use Rattle.rent_buf.specs.Parts.{Parts}
 use Rattle.op_slots.specs.declared.lifecycle.Lifecycle.TheVariants.{Submitted as Fresh}
-use Rattle.ring_core.specs.Ring.{RingView, entered, pushed}
+use Rattle.ring_core.specs.Ring.{RingView, pushed}
 use Rattle.ring_core.specs.Request.{named, call_of, plain_request}
 use Rattle.ring_core.specs.declared.request.Request.{Request}
-use Rattle.ring_core.specs.declared.request.Request.TheVariants.{Recv}
+use Rattle.ring_core.specs.declared.request.Request.TheVariants.{Recv, ReadVec, Send, WriteVec}
 use Rattle.ring_core.specs.declared.entry.Body.{Body}
 use Rattle.ring_core.specs.declared.entry.Body.TheVariants.{Call as Calls, Cancel as Cancels}
 use Rattle.ring_core.specs.declared.entry.Entry.{Entry}
@@ -26,7 +27,7 @@ use Rattle.uring_driver.specs.declared.op.SubmitFault.{SubmitFault}
 use Rattle.uring_driver.specs.declared.op.SubmitFault.TheVariants.{Full, RingFault, Busy, OutOfMemory}
 use Rattle.uring_driver.specs.declared.slot.Slot.{Slot}
 use Rattle.uring_driver.specs.declared.driver.IoUringDriver.{IoUringDriver}
-use Rattle.uring_driver.specs.Driver.{ring_in, room_in, pending, whole_ring, is_among, holds_all}
+use Rattle.uring_driver.specs.Driver.{ring_in, room_in, whole_ring, is_among, holds_all}
 use Rattle.ring_core.specs.declared.request.Call.{Call}
 use Rattle.uring_driver.specs.declared.op.Op.{Op}
 use Rattle.uring_driver.specs.Op.{call_for}
@@ -41,7 +42,8 @@ use Rattle.uring_driver.proofs.Handles.{lacks-none}
 use Rattle.uring_driver.proofs.Starting.{stands-same}
 use Rattle.uring_driver.proofs.Steps.{reached-more, step-submit}
 use Rattle.uring_driver.proofs.Submitting.{means-pushed}
-use Rattle.uring_driver.proofs.Taking.{means-room, means-view, owned-room}
+use Rattle.uring_driver.proofs.Heads.{means-view}
+use Rattle.uring_driver.proofs.Taking.{means-room, owned-room}
 use Rattle.uring_driver.proofs.Turns.{length-take_each, room-length, room-world, room-capacity}
 
 -- An entry names an operation that there is.
@@ -95,11 +97,14 @@ all-known count (Cancel n ∷ qs) h = (tt, all-known count qs (λ i m g. h (suc 
 is-room : (n : ℕ) → n < 4294967232 → nat_le most_live n ≡ false
 is-room n h = grind (arith, nat_tests)
 
-named-plain : {B : Type 0} (buffer : B → Buffer) (r : Request B) → named (plain_request buffer r) ≡ named r
+named-plain : {B : Type 0} (buffer : B → Buffer) (r : Request B Parts) → named (plain_request buffer r) ≡ named r
 named-plain buffer (Recv fd buf) = refl
+named-plain buffer (ReadVec fd parts) = refl
+named-plain buffer (Send fd buf) = refl
+named-plain buffer (WriteVec fd parts) = refl
 
 module _ {R B : Type 0} (view : R → RingView) (buffer : B → Buffer) where
-  pub stands-submits : (d new : IoUringDriver R B) (L : Ledger) (request : Request B) (key spare spare' : ℕ) (mid : RingView) → Stands view buffer d L → IsTrue (holds_all d (named request)) → len d.slots.values < 4294967232 → get d.slots.values key ≡ None → key < 4294967232 →
+  pub stands-submits : (d new : IoUringDriver R B) (L : Ledger) (request : Request B Parts) (key spare spare' : ℕ) (mid : RingView) → Stands view buffer d L → IsTrue (holds_all d (named request)) → len d.slots.values < 4294967232 → get d.slots.values key ≡ None → key < 4294967232 →
       new.slots.values ≡ insert d.slots.values key (record { serial = d.given; request = request; life = Fresh }) →
       mid ≡ with_spare (room_made (whole_ring view d)) spare → length mid.queue < mid.capacity → whole_ring view new ≡ with_spare (pushed mid (record { word = key; serial = d.given; body = Calls (call_of (plain_request buffer request)) })) spare' → len d.slots.values + 1 ≤ room_in new →
       new.given ≡ d.given + 1 → new.first ≡ d.first → new.held ≡ d.held → (number : ℕ) → number ≡ d.given →
@@ -156,7 +161,7 @@ module _ {R B : Type 0} (view : R → RingView) (buffer : B → Buffer) where
   same-room d new steady OutOfMemory h e = record { ring = h.1.ring; due = h.1.due }
 
 -- The entry that joined is that of the new token's call.
-pub entry-is : {B : Type 0} (buffer : B → Buffer) (request : Request B) (old new : List Entry) (op : Op) (key number : ℕ) (call : Call) → op ≡ record { number = number; key = key } → call ≡ call_of (plain_request buffer request) →
+pub entry-is : {B : Type 0} (buffer : B → Buffer) (request : Request B Parts) (old new : List Entry) (op : Op) (key number : ℕ) (call : Call) → op ≡ record { number = number; key = key } → call ≡ call_of (plain_request buffer request) →
     PendingMoves old new (record { word = key; serial = number; body = Calls call } ∷ []) → PendingMoves old new (call_for op (call_of (plain_request buffer request)) ∷ [])
 entry-is buffer request old new op key number call is calls moves =
     subst (λ o. PendingMoves old new (call_for o (call_of (plain_request buffer request)) ∷ [])) (sym is)

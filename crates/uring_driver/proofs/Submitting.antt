@@ -6,6 +6,7 @@ use Rattle.std.specs.FinMap.{FinMap, get, insert}
 use Rattle.std.proofs.lemmas.List.{map-append}
 use Rattle.std.proofs.lemmas.Option.{slice_get_within}
 use Rattle.rent_buf.specs.Buffer.{Buffer}
+use Rattle.rent_buf.specs.Parts.{Parts}
 use Rattle.op_slots.specs.declared.lifecycle.Lifecycle.TheVariants.{Submitted as Fresh}
 use Rattle.ring_core.specs.Ring.{RingView, pushed}
 use Rattle.ring_core.specs.Request.{call_of, plain_request}
@@ -14,7 +15,7 @@ use Rattle.ring_core.specs.declared.entry.Completion.{Completion}
 use Rattle.ring_core.specs.declared.entry.Flight.{Flight}
 use Rattle.ring_core.specs.declared.request.Request.{Request}
 use Rattle.ring_core.specs.declared.entry.Body.TheVariants.{Call as Calls, Cancel as Cancels}
-use Rattle.ring_core.specs.Ledger.{Ledger, Req, Operation, Place, InQueue, InFlight, InDone, is_live, new_operation}
+use Rattle.ring_core.specs.Ledger.{Ledger, Req, Operation, Place, InQueue, InDone, is_live, new_operation}
 use Rattle.ring_core.specs.Queue.{append}
 use Rattle.ring_core.specs.Step.{with_new_op}
 use Rattle.uring_driver.specs.declared.slot.Slot.{Slot}
@@ -27,7 +28,7 @@ use Rattle.uring_driver.proofs.Counts.{where-more}
 use Rattle.uring_driver.proofs.Kept.{queued-kept, call-queued}
 use Rattle.uring_driver.proofs.Flights.{with-own}
 
-module _ {B : Type 0} (buffer : B → Buffer) (w : RingView) (slots : FinMap nat_cmp (Slot B)) (M : Ledger) (given key : ℕ) (request : Request B)
+module _ {B : Type 0} (buffer : B → Buffer) (w : RingView) (slots : FinMap nat_cmp (Slot B)) (M : Ledger) (given key : ℕ) (request : Request B Parts)
     (old : Means buffer w slots M) (numbered : given ≡ length M.ops) (free : get slots key ≡ None) (below : key < 4294967232) where
   abbrev t : Slot B
   t = record { serial = given; request = request; life = Fresh }
@@ -68,10 +69,10 @@ module _ {B : Type 0} (buffer : B → Buffer) (w : RingView) (slots : FinMap nat
   completion-kept c C = record { slot = C.slot; there = kept c.word C.slot C.there; serial = C.serial }
 
   slot-kept : (u : Slot B) → SlotFor buffer M.ops u → SlotFor buffer ops' u
-  slot-kept u m = record { operation = m.operation; there = get-front M.ops (new ∷ []) u.serial m.operation m.there; live = m.live; request = m.request; life = m.life; fresh = m.fresh; uncanceled = m.uncanceled }
+  slot-kept u m = record { operation = m.operation; there = get-front M.ops (new ∷ []) u.serial m.operation m.there; live = m.live; request = m.request; held = m.held; life = m.life; fresh = m.fresh; uncanceled = m.uncanceled }
 
   new-slot : SlotFor buffer ops' t
-  new-slot = record { operation = new; there = there-new; live = refl; request = sym (with-own (plain_request buffer request)); life = refl; fresh = λ _. refl; uncanceled = λ _. refl }
+  new-slot = record { operation = new; there = there-new; live = refl; request = sym (with-own (plain_request buffer request)); held = refl; life = refl; fresh = λ _. refl; uncanceled = λ _. refl }
 
   -- Each slot is the new one, or was there.
   which : (k : ℕ) (u : Slot B) → get (insert slots key t) k ≡ Some u → ((k ≡ key) × (t ≡ u)) ⊎ (get slots k ≡ Some u)

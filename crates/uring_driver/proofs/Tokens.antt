@@ -1,9 +1,10 @@
 -- Tokens after each call: which slot has which number.
-use Rattle.std.proofs.Common.{◌≡◌, ◌≢◌, inl, inr, ℕ, ◌+◌, true, false, Option, Some, None, refl, sym, ◌∙◌, ap, subst, IsTrue}
+use Rattle.std.proofs.Common.{◌≡◌, ◌≢◌, inl, inr, ℕ, ◌+◌, true, Option, Some, None, refl, sym, ◌∙◌, ap, subst}
 use Rattle.std.specs.Prelude.{◌↔◌, IsSome, IfSome}
 use Rattle.std.specs.Ordering.{nat_cmp}
 use Rattle.std.specs.FinMap.{FinMap, get, insert, remove, empty, get-empty}
 use Rattle.rent_buf.specs.Buffer.{Buffer}
+use Rattle.rent_buf.specs.Parts.{Parts}
 use Rattle.op_slots.specs.declared.lifecycle.AfterPoll.{AfterPoll}
 use Rattle.op_slots.specs.declared.lifecycle.AfterPoll.TheVariants.{Pending as Waits, Take}
 use Rattle.op_slots.specs.declared.lifecycle.Lifecycle.{Lifecycle}
@@ -112,7 +113,7 @@ module _ {R B : Type 0} (d : IoUringDriver R B) (op : Op) (key task : ℕ) (mid 
         (stands-waits view buffer d new L key task p.slot old p.there polled-mine ring given first held (sym p.answers ∙ w) (slots ∙ p.slots))
 
     -- One that is ready too: its outcome, and its buffer.
-    pub poll-taken : (at : ℕ) (outcome : Outcome) (request : Request B) → at ≡ op.key → answer ≡ Take → IfSome (get mid at) (λ s. (s.request ≡ request) × (s.life ≡ Completed outcome)) → new.slots.values ≡ remove mid at →
+    pub poll-taken : (at : ℕ) (outcome : Outcome) (request : Request B Parts) → at ≡ op.key → answer ≡ Take → IfSome (get mid at) (λ s. (s.request ≡ request) × (s.life ≡ Completed outcome)) → new.slots.values ≡ remove mid at →
         Answers view buffer L (Poll (number_of op) task) (Handed outcome (buffer_of (plain_request buffer request))) new
     poll-taken at outcome request l w done gone =
         let same_key : at ≡ key = l ∙ sym k in
@@ -126,7 +127,7 @@ module _ {R B : Type 0} (d : IoUringDriver R B) (op : Op) (key task : ℕ) (mid 
     pub poll-unreaped : answer ≡ Waits → IsUnreaped L (number_of op)
     poll-unreaped w = subst (λ n. IsUnreaped L n) polled-serial (waits-unreaped view buffer d new L key task p.slot old p.there polled-mine ring given first held (sym p.answers ∙ w))
 
-    pub poll-reaped : (at : ℕ) (outcome : Outcome) (request : Request B) → at ≡ op.key → answer ≡ Take → IfSome (get mid at) (λ s. (s.request ≡ request) × (s.life ≡ Completed outcome)) → IsUnreaped L (number_of op) → ⊥
+    pub poll-reaped : (at : ℕ) (outcome : Outcome) (request : Request B Parts) → at ≡ op.key → answer ≡ Take → IfSome (get mid at) (λ s. (s.request ≡ request) × (s.life ≡ Completed outcome)) → IsUnreaped L (number_of op) → ⊥
     poll-reaped at outcome request l w done unreaped =
         let told = subst (λ (o : Option (Slot B)). IfSome o (λ s. (s.request ≡ request) × (s.life ≡ Completed outcome))) (ap (get mid) (l ∙ sym k) ∙ polled-slot) done in
         let life : p.slot.life ≡ Completed outcome = sym (polled-take p.slot.life task (sym p.answers ∙ w)) ∙ told.1 in

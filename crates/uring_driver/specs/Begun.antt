@@ -1,4 +1,4 @@
--- How a turn begins, and how its end makes it whole. Cited by `begin` and `end` of the driver, and by no public clause.
+-- How a turn begins, and how its end makes it whole. Cited by `begin_turn` and `end_turn` of the driver, and by no public clause.
 use Rattle.std.specs.Prelude.{◌≡◌, ◌+◌, ◌≤◌, Bool, true, false, IsTrue, [], length, Option, Some, None, ⊤, vec_len, vec_capacity}
 use Rattle.std.specs.Option.{unwrap_or}
 use Rattle.rent_buf.specs.Buffer.{Buffer}
@@ -8,7 +8,7 @@ use Rattle.uring_driver.specs.declared.op.Stop.{Stop}
 use Rattle.uring_driver.specs.declared.op.Stop.TheVariants.{RingFault, Busy, BadCompletion, OutOfMemory}
 use Rattle.uring_driver.specs.declared.op.Turned.{Turned}
 use Rattle.uring_driver.specs.declared.driver.IoUringDriver.{IoUringDriver}
-use Rattle.uring_driver.specs.declared.driver.Begun.{Begun}
+use Rattle.uring_driver.specs.declared.turn.Begun.{Begun}
 use Rattle.uring_driver.specs.Driver.{ring_in}
 use Rattle.uring_driver.specs.Pending.{Pending}
 use Rattle.uring_driver.specs.Outbox.{Enters}

@@ -8,6 +8,7 @@ pub mod Lists
 pub mod Stands
 pub mod Submitted
 pub mod PollOp
+pub mod Handles
 pub mod Executed
 pub mod Reap
 pub mod Turned

@@ -1,10 +1,13 @@
 -- The ring as the driver uses it: what is pending, and what entering it and joining it do. Cited by `Outbox`, and by the driver's calls.
-use Rattle.std.specs.Prelude.{ℕ, ◌≡◌, ◌+◌, ◌<◌, ◌≤◌, ◌==◌, ◌⊎◌, if◌then◌else◌, Bool, IsTrue, List, [], ◌∷◌, ◌++◌, length, drop, map}
+use Rattle.std.specs.Prelude.{ℕ, ◌≡◌, ◌+◌, ◌<◌, ◌≤◌, ◌==◌, ◌⊎◌, if◌then◌else◌, Bool, IsTrue, List, [], ◌∷◌, ◌++◌, length, drop}
 use Rattle.ring_core.specs.Counts.{Rose}
 use Rattle.ring_core.specs.declared.entry.Body.TheVariants.{Cancel as Cancels}
 use Rattle.ring_core.specs.declared.entry.Entry.{Entry}
 use Rattle.ring_core.specs.declared.ring.EnterError.{EnterError}
 use Rattle.ring_core.specs.declared.ring.EnterError.TheVariants.{Fault, Busy}
+use Rattle.ring_core.specs.declared.world.HandleState.{HandleState}
+use Rattle.ring_core.specs.Lists.{amended}
+use Rattle.ring_core.specs.Lends.{with_world}
 use Rattle.ring_core.specs.Ring.{RingView, IsLater, TookFront, entered, pushed}
 use Rattle.uring_driver.specs.Pending.{Pending}
 
@@ -37,6 +40,10 @@ pending_ring view out = with_due (view out.ring) out.due
 -- The cancel of the operation of a number, which names the key of its slot.
 abbrev pub cancel_entry : ℕ → ℕ → Entry
 cancel_entry number key = record { word = 18446744073709551615; serial = number; body = Cancels key }
+
+-- An outbox over a ring in memory with what stands on a handle changed.
+abbrev pub with_change : Pending RingView → ℕ → (HandleState → HandleState) → Pending RingView
+with_change out h change = record out { ring = with_world out.ring (amended out.ring.world h change) }
 
 -- A prefix of what is pending was taken, of some length.
 pub record TakesFront (old new : RingView) : Type 0 where

@@ -8,8 +8,8 @@ use Rattle.ring_core.specs.Ledger.{Ledger, Item, Op}
 use Rattle.ring_core.specs.Turn.{reap_one, reap_each, ops_in, task_woken, tasks_woken}
 use Rattle.uring_driver.specs.declared.op.Stop.{Stop}
 use Rattle.uring_driver.specs.declared.op.Stop.TheVariants.{RingFault, Busy, BadCompletion, OutOfMemory}
-use Rattle.uring_driver.specs.declared.driver.Reap.{Reap}
-use Rattle.uring_driver.specs.declared.driver.Reap.TheVariants.{End, Stray, Reserved, Reaped}
+use Rattle.uring_driver.specs.declared.turn.Reap.{Reap}
+use Rattle.uring_driver.specs.declared.turn.Reap.TheVariants.{End, Stray, Reserved, Reaped}
 use Rattle.uring_driver.specs.declared.slot.Slot.{Slot}
 use Rattle.uring_driver.specs.Slot.{flies_in}
 use Rattle.uring_driver.specs.Lists.{is_reserved}

@@ -1,15 +1,17 @@
 -- What each call of the driver does to one slot. Cited by the functions that change a slot.
-use Rattle.std.specs.Prelude.{ℕ, ◌≡◌, ◌≤◌, ◌==◌, ◌&&◌, Bool, true, false, List, Option, Some, None, length}
+use Rattle.std.specs.Prelude.{ℕ, ◌≡◌, ◌≤◌, ◌==◌, ◌&&◌, Bool, true, false, List, [], Option, Some, None, length}
 use Rattle.std.specs.Ordering.{nat_cmp}
 use Rattle.std.specs.FinMap as map
-use Rattle.rent_buf.specs.Buffer.{Buffer, room, stored}
+use Rattle.std.specs.List.{concat}
+use Rattle.rent_buf.specs.Buffer.{Buffer, room, shown, stored}
+use Rattle.rent_buf.specs.Parts.{Parts, bytes_of, rooms_of, parts_stored}
 use Rattle.op_slots.specs.Lifecycle.{polled, after_poll, dropped, after_drop}
 use Rattle.op_slots.specs.declared.lifecycle.AfterDrop.{AfterDrop}
 use Rattle.op_slots.specs.declared.lifecycle.AfterPoll.{AfterPoll}
 use Rattle.op_slots.specs.declared.lifecycle.Lifecycle.{Lifecycle}
 use Rattle.op_slots.specs.declared.lifecycle.Lifecycle.TheVariants.{Submitted, Waiting, Ignored, Completed}
 use Rattle.ring_core.specs.declared.request.Request.{Request}
-use Rattle.ring_core.specs.declared.request.Request.TheVariants.{Recv}
+use Rattle.ring_core.specs.declared.request.Request.TheVariants.{Recv, ReadVec, Send, WriteVec}
 use Rattle.ring_core.specs.declared.request.Outcome.{Outcome}
 use Rattle.ring_core.specs.declared.request.Told.{Told}
 use Rattle.ring_core.specs.declared.request.Told.TheVariants.{Count, Fail}
@@ -96,16 +98,34 @@ pub record IsCompletedIn {B : Type 0} (old : map.FinMap nat_cmp (Slot B)) (compl
 abbrev pub CompletesSlot : {B : Type 0} → map.FinMap nat_cmp (Slot B) → Completion → map.FinMap nat_cmp (Slot B) → Option (ℕ × Option ℕ) → Type 0
 CompletesSlot {B} old completion new result = (slot : Slot B) → map.get old completion.word ≡ Some slot → is_flying slot.life ≡ true → IsCompletedIn old completion new result slot
 
--- The room of the range of a request's buffer.
-abbrev pub room_of : Request Buffer → ℕ
+-- How many bytes fit what a request holds: the room of its buffer's range, or of its parts. Nothing comes to a sending one.
+abbrev pub room_of : Request Buffer Parts → ℕ
 room_of (Recv fd buf) = room buf
+room_of (ReadVec fd parts) = rooms_of parts
+room_of (Send fd buf) = 0
+room_of (WriteVec fd parts) = 0
 
--- A request with bytes stored in its buffer.
-abbrev pub filled : Request Buffer → List ℕ → Request Buffer
+-- A request with bytes stored in its buffer, or in its parts. A sending one stays.
+abbrev pub filled : Request Buffer Parts → List ℕ → Request Buffer Parts
 filled (Recv fd buf) bytes = Recv fd (stored buf bytes)
+filled (ReadVec fd parts) bytes = ReadVec fd (parts_stored parts bytes)
+filled (Send fd buf) bytes = Send fd buf
+filled (WriteVec fd parts) bytes = WriteVec fd parts
 
--- A request after what was told: a count's bytes are stored in its buffer, and an error leaves it.
-abbrev pub filled_by : Told → Request Buffer → List ℕ → Request Buffer
+-- The bytes that a sending request shows: it sends the first of them. A reading one shows none.
+abbrev pub shown_by : Request Buffer Parts → List ℕ
+shown_by (Recv fd buf) = []
+shown_by (ReadVec fd parts) = []
+shown_by (Send fd buf) = shown buf
+shown_by (WriteVec fd parts) = concat (bytes_of parts)
+
+-- The bytes that the slot that was looked up lends to the ring.
+abbrev pub shown_in : {B : Type 0} → (B → Buffer) → Option (Slot B) → List ℕ
+shown_in buffer None = []
+shown_in buffer (Some slot) = shown_by (plain_request buffer slot.request)
+
+-- A request after what was told: a count's bytes are stored in it, and an error leaves it.
+abbrev pub filled_by : Told → Request Buffer Parts → List ℕ → Request Buffer Parts
 filled_by (Count k) request bytes = filled request bytes
 filled_by (Fail e) request bytes = request
 

@@ -39,13 +39,15 @@ is_early InQueue = true
 is_early InFlight = true
 is_early _ = false
 
--- A slot holds an operation that isn't gone: its number, its request with its buffer, and its stage of life.
+-- A slot holds an operation that isn't gone: its number, its request with its buffer, and its stage of life. What its request
+-- hands back is the operation's buffer, or its parts.
 -- Until the operation is executed its buffer is the one that was submitted, and while it is queued no cancel of it was taken.
 pub record SlotFor {B : Type 0} (buffer : B → Buffer) (ops : List Operation) (slot : Slot B) : Type 0 where
   pub operation : Operation
   pub there : slice_get ops slot.serial ≡ Some operation
   pub live : is_live operation ≡ true
   pub request : plain_request buffer slot.request ≡ with_buffer operation.request operation.buffer
+  pub held : buffer_of (plain_request buffer slot.request) ≡ operation.buffer
   pub life : slot.life ≡ life_at operation
   pub fresh : is_early operation.place ≡ true → operation.buffer ≡ buffer_of operation.request
   pub uncanceled : operation.place ≡ InQueue → operation.canceled ≡ false

@@ -2,6 +2,7 @@
 use Rattle.std.specs.Prelude.{ℕ, ◌≡◌, ◌+◌, ◌<◌, ◌≤◌, ◌⊎◌, Bool, IsTrue, List, [], ◌∷◌, Result, Ok, Err, length}
 use Rattle.std.specs.FinMap as map
 use Rattle.rent_buf.specs.Buffer.{Buffer}
+use Rattle.rent_buf.specs.Parts.{Parts}
 use Rattle.op_slots.specs.Slots.{Slots}
 use Rattle.ring_core.specs.declared.request.Request.{Request}
 use Rattle.ring_core.specs.declared.ledger.Event.TheVariants.{Submit}
@@ -26,7 +27,7 @@ use Rattle.uring_driver.specs.Outbox.{IsSameButRoom, PendingMoves}
 use Rattle.uring_driver.specs.Stands.{Stands, Answers}
 
 -- A submission got the machine's next number.
-abbrev pub SubmitsFor : {R B : Type 0} → (R → RingView) → (B → Buffer) → Ledger → Request B → IoUringDriver R B → Submitted → Type 0
+abbrev pub SubmitsFor : {R B : Type 0} → (R → RingView) → (B → Buffer) → Ledger → Request B Parts → IoUringDriver R B → Submitted → Type 0
 SubmitsFor view buffer L request new (Op op) = Answers view buffer L (Submit (plain_request buffer request)) (Given (number_of op)) new
 
 -- The driver holds the new token beside those that it held, and no other.
@@ -41,7 +42,7 @@ abbrev pub AddsToken : {R B : Type 0} → IoUringDriver R B → IoUringDriver R 
 AddsToken old new (Op op) = AddsTo old new op
 
 -- The new entry joined what is pending, after a prefix of it was entered; a refused submission joined nothing.
-abbrev pub SubmitMoves : {R B : Type 0} → (R → RingView) → (B → Buffer) → Request B → IoUringDriver R B → IoUringDriver R B → Result Submitted (SubmitError B) → Type 0
+abbrev pub SubmitMoves : {R B : Type 0} → (R → RingView) → (B → Buffer) → Request B Parts → IoUringDriver R B → IoUringDriver R B → Result Submitted (SubmitError B) → Type 0
 SubmitMoves view buffer request old new (Ok (Op op)) = PendingMoves (pending view old) (pending view new) (call_for op (call_of (plain_request buffer request)) ∷ [])
 SubmitMoves view buffer request old new (Err refused) = PendingMoves (pending view old) (pending view new) []
 
@@ -66,7 +67,7 @@ WhyRefused view buffer steady old new Busy = Rose (view (ring_in old)).busies (v
 WhyRefused view buffer steady old new OutOfMemory = (L : Ledger) → Stands view buffer old L → Stands view buffer new L
 
 -- A refused submission hands its request back, and leaves slots and counts.
-pub record SubmitRefused {R B : Type 0} (view : R → RingView) (buffer : B → Buffer) (steady : Bool) (request : Request B) (old new : IoUringDriver R B) (refused : SubmitError B) : Type 0 where
+pub record SubmitRefused {R B : Type 0} (view : R → RingView) (buffer : B → Buffer) (steady : Bool) (request : Request B Parts) (old new : IoUringDriver R B) (refused : SubmitError B) : Type 0 where
   pub back : refused.request ≡ request
   pub same : SameSlots old new
   pub why : WhyRefused view buffer steady old new refused.why

@@ -1,29 +1,31 @@
 //! The completion driver.
-ghost use Rattle.std.specs.Prelude.{◌≡◌, ◌≤◌, ◌<◌, ◌+◌, ◌^◌, ◌↔◌, ◌++◌, ◌||◌, ◌==◌, nat_lt, ℕ, [], ◌∷◌, Some, IsTrue, IfOk, IfErr, OnOk, OnErr, option_to_list, length, vec_len, vec_capacity};
-ghost use Rattle.std.specs.FinMap as map;
+ghost use Rattle.std.specs.Prelude.{◌≡◌, ◌≤◌, ◌<◌, ◌+◌, ◌^◌, ◌↔◌, ◌||◌, ◌==◌, nat_lt, ℕ, [], ◌∷◌, true, Some, IsTrue, IfOk, IfErr, OnOk, OnErr, length, option_copied};
 ghost use Rattle.ring_core.specs.Request.{named};
 ghost use Rattle.ring_core.specs.Ledger.{Ledger, empty};
-ghost use Rattle.ring_core.specs.declared.ledger.Event.TheVariants.{Give, Feed, Drop, Cancel};
-ghost use Rattle.ring_core.specs.declared.ledger.Reply.TheVariants.{Handle, Fed, Dropped, Asked};
+ghost use Rattle.ring_core.specs.MemRing.{admits_at, sends_at, IsFinished};
+ghost use Rattle.ring_core.specs.declared.request.Told.TheVariants.{Count as Counts};
+ghost use Rattle.ring_core.specs.declared.ledger.Event.TheVariants.{Give, Drop, Cancel};
+ghost use Rattle.ring_core.specs.declared.ledger.Reply.TheVariants.{Handle, Dropped, Asked};
 ghost use Rattle.uring_driver.specs.Op.{number_of, cancel_for, Holds, HoldsNone, KeepsTokens, DropsToken};
-ghost use Rattle.uring_driver.specs.Outbox.{IsIdle, TakesFront, PendingMoves, PendingMovesBy, KeepsPending, with_spare, room_made, pending_ring};
-ghost use Rattle.uring_driver.specs.Slot.{KeepsNumbers};
+ghost use Rattle.uring_driver.specs.Outbox.{IsIdle, TakesFront, PendingMoves, PendingMovesBy, with_spare, room_made, pending_ring};
+ghost use Rattle.uring_driver.specs.Slot.{shown_in};
 ghost use Rattle.uring_driver.specs.Driver.{ring_in, due_in, pending, live_slots, given_by, handles_of, holds_handle, holds_all, first_with, IsNextHandle};
-ghost use Rattle.uring_driver.specs.Stands.{Means, Stands, Answers};
+ghost use Rattle.uring_driver.specs.Stands.{Stands, Answers};
 ghost use Rattle.uring_driver.specs.Submitted.{SubmitsFor, SubmitMoves, AddsToken, IsFullError, IsSameRing, SubmitRefused, IsPrepared, Unprepared};
 ghost use Rattle.uring_driver.specs.PollOp.{PollsFor, PollsTokens, IsPending, IsUnreaped};
+ghost use Rattle.uring_driver.specs.Handles.{FeedsFor, EndsFor, LooksFor};
 ghost use Rattle.uring_driver.specs.Executed.{ExecutesFor};
-ghost use Rattle.uring_driver.specs.Reap.{TakesOff, EndsAt, ReapsOne, ReapsAll};
-ghost use Rattle.uring_driver.specs.Begun.{HasRoom, HasBegun, CannotBegin, EndsTurn, HasTreated, why_stopped};
+ghost use Rattle.uring_driver.specs.Begun.{HasRoom, HasBegun, CannotBegin, EndsTurn, HasTreated};
 
-use crate::op::{Done, Executed, Op, PollOp, Stop, SubmitError, SubmitFault, Submitted, Turned};
+use crate::op::{Executed, Op, PollOp, Stop, SubmitError, SubmitFault, Submitted, Turned};
 use crate::outbox::Outbox;
-use crate::slot::{Slot, complete_slot, drop_slot, fill_slot, is_numbered, poll_slot, take_done};
+use crate::slot::{Slot, drop_slot, fill_slot, is_numbered, poll_slot, take_done};
+use crate::turn::{Begun, reap_all, stop_of, turned, with_room};
 use op_slots::slab::MAX_LIVE;
 use op_slots::{AfterDrop, AfterPoll, Lifecycle, Slab};
-use rent_buf::{IoBufMut, NumList, OutOfMemory};
+use rent_buf::{IoBufMut, OutOfMemory, VecBuf};
 use ring_core::{
-    Body, EnterError, Entry, ExecRefusal, FIRST_RESERVED, HandleKind, MemRing, Request, Ring,
+    Body, Completion, EnterError, Entry, ExecRefusal, HandleKind, Look, MemRing, Request, Ring,
     SharedFd, Told, WorldError,
 };
 use std::alloc::Global;
@@ -32,7 +34,8 @@ use std::alloc::Global;
 const ENTRIES: u32 = 1024;
 
 /// A driver over a ring. Each operation has a slot from its submission to its last poll, or to the reap of one that was dropped.
-/// The slot holds its request with its buffer, and the slot's key is the data word of its entry. (monoio's `IoUringDriver`)
+/// The slot holds its request with its buffer or its parts, and the slot's key is the data word of its entry. (monoio's
+/// `IoUringDriver`)
 #[derive(Drop)]
 pub struct IoUringDriver<R: Ring, B: IoBufMut> {
     ring: Outbox<R>,
@@ -111,7 +114,7 @@ impl<R: Ring, B: IoBufMut + Drop> IoUringDriver<R, B> {
     /// Submits a request of handles that the user holds, and gives the new operation's token. What is due goes in first, and a
     /// queue at capacity is entered. The memory that it needs, and that of one cancel, is taken before anything changes. Fewer
     /// than `2^62` were given before. (monoio's `submit_with_data`)
-    pub fn submit_with(&mut self, request: Request<B>) -> Result<Submitted, SubmitError<B>>
+    pub fn submit_with(&mut self, request: Request<B, VecBuf>) -> Result<Submitted, SubmitError<B>>
         requires held { IsTrue (holds_all self.old (named request)) }
         requires counter { given_by self.old < 2 ^ 62 }
         // The answer is the machine's, over each ring that tells its lists.
@@ -212,7 +215,7 @@ impl<R: Ring, B: IoBufMut + Drop> IoUringDriver<R, B> {
 
     // Begins a turn: takes memory once, for as many numbers as stand, are queued and are due, and enters what is due and what
     // is queued. None is taken where there are none. A ring that is busy doesn't end the turn.
-    pub(crate) fn begin(&mut self) -> Result<Begun, Stop>
+    pub(crate) fn begin_turn(&mut self) -> Result<Begun, Stop>
         ensures ok { IfOk result (HasBegun R.view R.tells R.steady self.old self.new) }
         ensures err { IfErr result (CannotBegin R.view R.tells R.steady self.old self.new) }
     {
@@ -246,7 +249,7 @@ impl<R: Ring, B: IoBufMut + Drop> IoUringDriver<R, B> {
     }
 
     // Ends a turn: treats the completions that stand, in order.
-    pub(crate) fn end(&mut self, begun: Begun) -> Turned
+    pub(crate) fn end_turn(&mut self, begun: Begun) -> Turned
         requires { HasRoom R.view self.old begun }
         ensures meets { EndsTurn R.view B.buffer R.tells R.steady self.old begun self.new result }
         ensures treated { HasTreated result.stop }
@@ -322,24 +325,52 @@ impl<B: IoBufMut + Drop> IoUringDriver<MemRing, B> {
         Ok(SharedFd::new(h))
     }
 
-    /// Bytes arrive at a handle that the user holds: they join its input's end. (own)
+    /// Bytes arrive at a handle that the user holds: they join its input's end. `BadHandleEvent` comes exactly where its end is
+    /// marked. (own)
     pub fn feed(&mut self, h: u64, bytes: &[u8]) -> Result<(), WorldError>
         requires { IsTrue (holds_handle self.old h) }
-        ensures answers { OnOk result ((L : Ledger) → Stands (λ r. r) B.buffer self.old L →
-            Answers (λ r. r) B.buffer L (Feed h bytes.now) Fed self.new) }
+        ensures answers { (L : Ledger) → Stands (λ r. r) B.buffer self.old L → FeedsFor B.buffer L h bytes.now self.new result }
         ensures err { OnErr result (self.new ≡ self.old) }
         ensures tokens { KeepsTokens self.old self.new }
         ensures pending { pending (λ r. r) self.new ≡ pending (λ r. r) self.old }
         ensures due { due_in self.new ≡ due_in self.old }
         ensures given { given_by self.new ≡ given_by self.old }
     {
-        self.ring.feed(h, bytes)?;
-        Ok(())
+        match self.ring.feed(h, bytes) {
+            Ok(()) => Ok(()),
+            Err(why) => Err(why),
+        }
+    }
+
+    /// The end of what arrives at a handle that the user holds. `BadHandleEvent` comes exactly where it is marked already. It
+    /// takes no memory, so `OutOfMemory` doesn't come. (own)
+    pub fn end(&mut self, h: u64) -> Result<(), WorldError>
+        requires { IsTrue (holds_handle self.old h) }
+        ensures answers { (L : Ledger) → Stands (λ r. r) B.buffer self.old L → EndsFor B.buffer L h self.new result }
+        ensures memory { IfErr result (λ why. why ≡ WorldError.BadHandleEvent) }
+        ensures err { OnErr result (self.new ≡ self.old) }
+        ensures tokens { KeepsTokens self.old self.new }
+        ensures pending { pending (λ r. r) self.new ≡ pending (λ r. r) self.old }
+        ensures due { due_in self.new ≡ due_in self.old }
+        ensures given { given_by self.new ≡ given_by self.old }
+    {
+        match self.ring.end(h) {
+            Ok(()) => Ok(()),
+            Err(why) => Err(why),
+        }
+    }
+
+    /// What was sent to a handle that the user holds, copied once. (own)
+    pub fn look(&self, h: u64) -> Result<Look, OutOfMemory>
+        requires { IsTrue (holds_handle self.now h) }
+        ensures { IfOk result (λ look. (L : Ledger) → Stands (λ r. r) B.buffer self.now L → LooksFor L h look) }
+    {
+        self.ring.look(self.alloc, h)
     }
 
     /// Executes what is in flight at a place with what is told: it becomes the last completion. The bytes that come go from
-    /// the handle's input into the operation's buffer; an error leaves the buffer as it was submitted. A read takes no
-    /// memory, so for it `OutOfMemory` doesn't come. (own)
+    /// the handle's input into the operation's buffer, and those that are sent are copied from the buffer to the handle's
+    /// output; an error leaves the buffer as it was submitted. Only a send takes memory. (own)
     pub fn execute(&mut self, place: usize, told: Told) -> Result<Executed, ExecRefusal>
         ensures answers { (L : Ledger) → Stands (λ r. r) B.buffer self.old L → ExecutesFor B.buffer L place told self.new result }
         ensures err { OnErr result (self.new ≡ self.old) }
@@ -348,15 +379,20 @@ impl<B: IoBufMut + Drop> IoUringDriver<MemRing, B> {
         ensures due { due_in self.new ≡ due_in self.old }
         ensures given { given_by self.new ≡ given_by self.old }
     {
-        match self.ring.admits(place, told) {
-            Ok(entry) => {
-                let key = entry.word as usize;
-                fill_slot(&mut self.slots, key, told, self.ring.coming(place, told));
-                let completion = self.ring.finish(place, told, &[]);
-                Ok(Executed::Op(completion.serial))
-            }
-            Err(why) => Err(why),
+        let entry = match self.ring.admits(place, told) {
+            Ok(entry) => entry,
+            Err(why) => return Err(why),
+        };
+        let key = entry.word as usize;
+        if let Some(count) = entry.body.sends(told) {
+            return match send_from(&mut self.ring, self.slots.peek(key), place, count) {
+                Ok(completion) => Ok(Executed::Op(completion.serial)),
+                Err(_) => Err(ExecRefusal::OutOfMemory),
+            };
         }
+        fill_slot(&mut self.slots, key, told, self.ring.coming(place, told));
+        let completion = self.ring.finish(place, told);
+        Ok(Executed::Op(completion.serial))
     }
 }
 
@@ -393,135 +429,30 @@ fn prepare<R: Ring, B: Drop>(
     }
 }
 
-// A turn that was begun: the most completions that stand, lists with room for the numbers that it may name, and whether the
-// ring was busy.
-pub(crate) struct Begun {
-    count: usize,
-    reaped: Vec<u64>,
-    woken: Vec<u64>,
-    busy: bool,
-}
-
-// What became of the first completion.
-enum Reap {
-    // None stands.
-    End,
-    // It names no slot in flight.
-    Stray(u64),
-    // Its word is reserved.
-    Reserved,
-    // It was treated.
-    Reaped,
-}
-
-// Takes the first completion off, and treats it.
-fn reap_one<R: Ring, B: Drop + IoBufMut>(
-    ring: &mut Outbox<R>,
-    slots: &mut Slab<Slot<B>>,
-    reaped: &mut Vec<u64>,
-    woken: &mut Vec<u64>,
-) -> Reap
-    requires reaped_room { vec_len reaped.old < vec_capacity reaped.old }
-    requires woken_room { vec_len woken.old < vec_capacity woken.old }
-    ensures reaped_room { (vec_len reaped.new ≤ vec_len reaped.old + 1) × (vec_capacity reaped.old ≤ vec_capacity reaped.new) }
-    ensures woken_room { (vec_len woken.new ≤ vec_len woken.old + 1) × (vec_capacity woken.old ≤ vec_capacity woken.new) }
-    ensures numbers { KeepsNumbers slots.old.values slots.new.values }
-    ensures ring { TakesOff (R.view ring.old.ring) (R.view ring.new.ring) slots.new.values result }
-    ensures same { KeepsPending R.view R.tells ring.old ring.new }
-    ensures treats { IsTrue R.tells → (L : Ledger) → Means B.buffer (pending_ring R.view ring.old) slots.old.values L →
-        ReapsOne B.buffer L (pending_ring R.view ring.new) slots.new.values reaped.old.items reaped.new.items woken.old.items woken.new.items result }
+// Executes what is in flight at a place with a count of bytes to send, which the slot that was looked up lends.
+fn send_from<B: IoBufMut>(
+    ring: &mut Outbox<MemRing>,
+    slot: Option<&Slot<B>>,
+    place: usize,
+    count: u32,
+) -> Result<Completion, OutOfMemory>
+    requires allowed { admits_at ring.old.ring place (Counts count) ≡ true }
+    requires sends { sends_at ring.old.ring place (Counts count) ≡ Some count }
+    ensures ok { IfOk result (λ completion. IsFinished ring.old.ring place (Counts count) (shown_in B.buffer (option_copied slot.entry)) ring.new.ring [] completion) }
+    ensures due { ring.new.due ≡ ring.old.due }
+    ensures room { ring.new.room ≡ ring.old.room }
+    ensures err { OnErr result (ring.new ≡ ring.old) }
 {
-    let Some(completion) = ring.next() else {
-        return Reap::End;
+    let Some(slot) = slot else {
+        return ring.finish_send(place, count, &[]);
     };
-    if completion.word >= FIRST_RESERVED {
-        return Reap::Reserved;
-    }
-    match complete_slot(slots, &completion) {
-        None => Reap::Stray(completion.word),
-        Some((serial, task)) => {
-            let _ = reaped.push(serial);
-            note(woken, task);
-            Reap::Reaped
+    match &slot.request {
+        Request::Recv { .. } => ring.finish_send(place, count, &[]),
+        Request::ReadVec { .. } => ring.finish_send(place, count, &[]),
+        Request::Send { fd: _, buf } => {
+            let _ = buf.bytes_total();
+            ring.finish_send(place, count, buf.bytes())
         }
+        Request::WriteVec { fd: _, parts } => ring.finish_send_parts(place, count, parts),
     }
-}
-
-// A task that is to be woken is noted.
-fn note(woken: &mut Vec<u64>, task: Option<u64>)
-    requires { vec_len woken.old < vec_capacity woken.old }
-    ensures items { woken.new.items ≡ woken.old.items ++ option_to_list task }
-    ensures room { (vec_len woken.new ≤ vec_len woken.old + 1) × (vec_capacity woken.old ≤ vec_capacity woken.new) }
-{
-    match task {
-        None => {}
-        Some(task) => {
-            let _ = woken.push(task);
-        }
-    }
-}
-
-// Treats the completions that stand, in order, at most `count` of them. It ends early at a completion that names no slot in
-// flight.
-fn reap_all<R: Ring, B: Drop + IoBufMut>(
-    ring: &mut Outbox<R>,
-    slots: &mut Slab<Slot<B>>,
-    count: usize,
-    reaped: &mut Vec<u64>,
-    woken: &mut Vec<u64>,
-) -> Option<Stop>
-    requires reaped_room { vec_len reaped.old + count ≤ vec_capacity reaped.old }
-    requires woken_room { vec_len woken.old + count ≤ vec_capacity woken.old }
-    requires all { length (R.view ring.old.ring).done ≤ count }
-    ensures numbers { KeepsNumbers slots.old.values slots.new.values }
-    ensures ring { EndsAt (R.view ring.old.ring) (R.view ring.new.ring) slots.new.values result }
-    ensures same { KeepsPending R.view R.tells ring.old ring.new }
-    ensures treats { IsTrue R.tells → (L : Ledger) → Means B.buffer (pending_ring R.view ring.old) slots.old.values L →
-        ReapsAll B.buffer L (pending_ring R.view ring.new) slots.new.values reaped.old.items reaped.new.items woken.old.items woken.new.items result }
-{
-    for i in 0..count {
-        match reap_one(ring, slots, reaped, woken) {
-            Reap::End => return None,
-            Reap::Stray(word) => return Some(Stop::BadCompletion(word)),
-            Reap::Reserved => {}
-            Reap::Reaped => {}
-        }
-    }
-    None
-}
-
-// What a turn did, by its lists.
-fn turned(alloc: Global, reaped: Vec<u64>, woken: Vec<u64>, stop: Option<Stop>) -> Turned
-    ensures reaped { result.reaped ≡ reaped.items }
-    ensures closed { result.closed ≡ [] }
-    ensures woken { result.woken ≡ woken.items }
-    ensures stop { result.stop ≡ stop }
-{
-    Turned {
-        reaped: NumList::from_vec(reaped),
-        closed: NumList::from_vec(Vec::new(alloc)),
-        woken: NumList::from_vec(woken),
-        stop,
-    }
-}
-
-// Why a turn stopped that treated what stood: a bad completion, or else that the ring was busy.
-fn stop_of(busy: bool, bad: Option<Stop>) -> Option<Stop>
-    ensures { result ≡ why_stopped busy bad }
-{
-    if busy {
-        Some(bad.unwrap_or(Stop::Busy))
-    } else {
-        bad
-    }
-}
-
-// An empty list with room for `count` numbers. It takes no memory for none.
-fn with_room(alloc: Global, count: usize) -> Result<Vec<u64>, OutOfMemory>
-    ensures items { IfOk result (λ list. list.items ≡ []) }
-    ensures room { IfOk result (λ list. vec_len list + count ≤ vec_capacity list) }
-{
-    let mut list = Vec::new(alloc);
-    list.reserve(count)?;
-    Ok(list)
 }

@@ -6,6 +6,7 @@ pub mod op;
 mod outbox;
 pub mod parking;
 mod slot;
+mod turn;
 
 pub use driver::IoUringDriver;
 pub use op::{Done, Executed, Op, PollOp, Stop, SubmitError, SubmitFault, Submitted, Turned};

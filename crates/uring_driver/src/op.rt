@@ -2,7 +2,7 @@
 ghost use Rattle.std.specs.Prelude.{◌≡◌};
 ghost use Rattle.uring_driver.specs.Op.{number_of};
 
-use rent_buf::NumList;
+use rent_buf::{NumList, VecBuf};
 use ring_core::{Outcome, Request};
 use thiserror::Error;
 
@@ -79,8 +79,8 @@ pub enum SubmitFault {
 pub struct SubmitError<B> {
     /// Why.
     pub why: SubmitFault,
-    /// The request as it was handed in, with its buffer.
-    pub request: Request<B>,
+    /// The request as it was handed in, with its buffer or its parts.
+    pub request: Request<B, VecBuf>,
 }
 
 /// What an operation ended with.
@@ -88,8 +88,8 @@ pub struct SubmitError<B> {
 pub struct Done<B> {
     /// How it ended.
     pub outcome: Outcome,
-    /// The request as it was submitted, with its buffer, in which the bytes of a read stand.
-    pub request: Request<B>,
+    /// The request as it was submitted, with its buffer or its parts, in which the bytes of a read stand.
+    pub request: Request<B, VecBuf>,
 }
 
 /// What a poll answers. (std's `Poll`)

@@ -1,16 +1,18 @@
 //! The ring as the driver uses it: with room that is reserved in it, and with the entries that it kept out behind it.
-ghost use Rattle.std.specs.Prelude.{◌≡◌, ◌≤◌, ◌<◌, ◌+◌, ◌^◌, ◌++◌, [], ◌∷◌, length, nat_lt, true, IsTrue, IsOk, IfSome, IfNone, IfOk, IfErr, OnOk, OnErr};
+ghost use Rattle.std.specs.Prelude.{◌≡◌, ◌≤◌, ◌<◌, ◌+◌, ◌^◌, ◌++◌, List, [], ◌∷◌, ℕ, length, nat_lt, true, false, Some, None, IsTrue, IsOk, IfSome, IfNone, IfOk, IfErr, OnOk, OnErr};
+ghost use Rattle.std.specs.List.{concat};
 ghost use Rattle.ring_core.specs.Ring.{IsLater, NextFor, entered, pushed};
-ghost use Rattle.ring_core.specs.Lists.{amended};
-ghost use Rattle.ring_core.specs.World.{fresh, with_input};
+ghost use Rattle.ring_core.specs.World.{fresh, is_ended_at, output_at, with_input, with_end, FeedsFor, EndsFor};
 ghost use Rattle.ring_core.specs.Lends.{with_world};
-ghost use Rattle.ring_core.specs.MemRing.{admits_at, coming_at, AdmitsFor, IsFinished};
-ghost use Rattle.uring_driver.specs.Outbox.{with_spare, room_made, pending_ring, cancel_entry, Enters, KeptOut, JoinsCancel};
+ghost use Rattle.ring_core.specs.MemRing.{admits_at, coming_at, sends_at, AdmitsFor, IsFinished};
+ghost use Rattle.ring_core.specs.declared.request.Told.TheVariants.{Count as Counts};
+ghost use Rattle.uring_driver.specs.Outbox.{with_spare, room_made, pending_ring, cancel_entry, with_change, Enters, KeptOut, JoinsCancel};
+ghost use Rattle.uring_driver.specs.Handles.{RefusedAt};
 
-use rent_buf::OutOfMemory;
+use rent_buf::{ByteList, IoVecBuf, OutOfMemory};
 use ring_core::{
-    Body, CANCEL_WORD, Completion, EnterError, Entry, ExecRefusal, HandleKind, MemRing, Push, Ring,
-    Told, World, WorldError,
+    Body, CANCEL_WORD, Completion, EnterError, Entry, ExecRefusal, HandleKind, Look, MemRing, Push,
+    Ring, Told, World, WorldError,
 };
 use std::alloc::Global;
 use std::collections::VecDeque;
@@ -236,10 +238,39 @@ impl Outbox<MemRing> {
 
     /// Bytes join the input of a handle of the ring's world; where there is no such handle, nothing changes.
     pub fn feed(&mut self, h: u64, bytes: &[u8]) -> Result<(), WorldError>
-        ensures ok { OnOk result (self.new ≡ record self.old { ring = with_world self.old.ring (amended self.old.ring.world h (with_input bytes.now)) }) }
+        ensures live { OnOk result (is_ended_at self.old.ring.world h ≡ false) }
+        ensures ok { OnOk result (self.new ≡ with_change self.old h (with_input bytes.now)) }
+        ensures why { IfErr result (λ why. RefusedAt self.old.ring.world h why) }
         ensures err { OnErr result (self.new ≡ self.old) }
     {
-        feed_at(self.ring.world(), h, bytes)
+        match feed_at(self.ring.world(), h, bytes) {
+            Ok(()) => Ok(()),
+            Err(why) => Err(why),
+        }
+    }
+
+    /// Marks the end of a handle of the ring's world; where there is no such handle, nothing changes. It takes no memory.
+    pub fn end(&mut self, h: u64) -> Result<(), WorldError>
+        ensures live { OnOk result (is_ended_at self.old.ring.world h ≡ false) }
+        ensures ok { OnOk result (self.new ≡ with_change self.old h with_end) }
+        ensures why { IfErr result (λ why. RefusedAt self.old.ring.world h why) }
+        ensures memory { IfErr result (λ why. why ≡ WorldError.BadHandleEvent) }
+        ensures err { OnErr result (self.new ≡ self.old) }
+    {
+        match end_at(self.ring.world(), h) {
+            Ok(()) => Ok(()),
+            Err(why) => Err(why),
+        }
+    }
+
+    /// What was sent to a handle of the ring's world, copied once; where there is no such handle, that is nothing.
+    pub fn look(&self, alloc: Global, h: u64) -> Result<Look, OutOfMemory>
+        ensures { IfOk result (λ look. look ≡ Look.Bytes (output_at self.now.ring.world h)) }
+    {
+        if h >= self.ring.handles() {
+            return Ok(Look::Bytes(ByteList::new(alloc)));
+        }
+        self.ring.look(h)
     }
 
     /// The entry that is in flight at a place, where what is told is allowed to it.
@@ -257,14 +288,49 @@ impl Outbox<MemRing> {
         self.ring.coming(place, told)
     }
 
-    /// Executes what is in flight at a place. It takes no memory.
-    pub fn finish(&mut self, place: usize, told: Told, sent: &[u8]) -> Completion
-        requires { admits_at self.old.ring place told ≡ true }
-        ensures finishes { IsFinished self.old.ring place told sent.now self.new.ring (coming_at self.old.ring place told) result }
+    /// Executes what is in flight at a place and sends nothing. It takes no memory.
+    pub fn finish(&mut self, place: usize, told: Told) -> Completion
+        requires allowed { admits_at self.old.ring place told ≡ true }
+        requires quiet { sends_at self.old.ring place told ≡ None }
+        ensures finishes { (sent : List ℕ) → IsFinished self.old.ring place told sent self.new.ring (coming_at self.old.ring place told) result }
         ensures due { self.new.due ≡ self.old.due }
         ensures room { self.new.room ≡ self.old.room }
     {
-        self.ring.finish(place, told, sent)
+        self.ring.finish(place, told)
+    }
+
+    /// Executes what is in flight at a place with a count of bytes to send, the first so many of `sent`.
+    pub fn finish_send(
+        &mut self,
+        place: usize,
+        count: u32,
+        sent: &[u8],
+    ) -> Result<Completion, OutOfMemory>
+        requires allowed { admits_at self.old.ring place (Counts count) ≡ true }
+        requires sends { sends_at self.old.ring place (Counts count) ≡ Some count }
+        ensures ok { IfOk result (λ completion. IsFinished self.old.ring place (Counts count) sent.now self.new.ring [] completion) }
+        ensures due { self.new.due ≡ self.old.due }
+        ensures room { self.new.room ≡ self.old.room }
+        ensures err { OnErr result (self.new ≡ self.old) }
+    {
+        self.ring.finish_send(place, count, sent)
+    }
+
+    /// As `finish_send`, of the bytes of parts, one behind the other.
+    pub fn finish_send_parts<V: IoVecBuf>(
+        &mut self,
+        place: usize,
+        count: u32,
+        parts: &V,
+    ) -> Result<Completion, OutOfMemory>
+        requires allowed { admits_at self.old.ring place (Counts count) ≡ true }
+        requires sends { sends_at self.old.ring place (Counts count) ≡ Some count }
+        ensures ok { IfOk result (λ completion. IsFinished self.old.ring place (Counts count) (concat (V.parts parts.now)) self.new.ring [] completion) }
+        ensures due { self.new.due ≡ self.old.due }
+        ensures room { self.new.room ≡ self.old.room }
+        ensures err { OnErr result (self.new ≡ self.old) }
+    {
+        self.ring.finish_send_parts(place, count, parts)
     }
 }
 
@@ -285,11 +351,20 @@ fn flush<R: Ring>(out: &mut Outbox<R>) -> Result<(), EnterError>
 
 // Bytes join the input of a handle; where there is no such handle, nothing changes.
 fn feed_at(world: &mut World, h: u64, bytes: &[u8]) -> Result<(), WorldError>
-    ensures ok { OnOk result (world.new ≡ amended world.old h (with_input bytes.now)) }
-    ensures err { OnErr result (world.new ≡ world.old) }
+    ensures { FeedsFor bytes.now world.old h world.new result }
 {
     if h >= world.count() {
         return Ok(());
     }
     world.feed(h, bytes)
+}
+
+// The end of a handle is marked; where there is no such handle, nothing changes.
+fn end_at(world: &mut World, h: u64) -> Result<(), WorldError>
+    ensures { EndsFor world.old h world.new result }
+{
+    if h >= world.count() {
+        return Ok(());
+    }
+    world.end(h)
 }

@@ -83,8 +83,8 @@ impl<R: Ring, B: IoBufMut + Drop> Driver for IoUringDriver<R, B> {
     /// Memory is taken once, for as many numbers as stand and are queued; none is taken where there are none. After Busy
     /// what stood is treated. (monoio's `submit`)
     fn submit(&mut self) -> Turned {
-        match self.begin() {
-            Ok(begun) => self.end(begun),
+        match self.begin_turn() {
+            Ok(begun) => self.end_turn(begun),
             Err(stop) => self.stop(stop),
         }
     }
@@ -126,11 +126,11 @@ fn park_for<R: Ring, B: IoBufMut + Drop, P: Ledger, D: Ledger, T: Wait + Clock>(
     ensures order { IsInOrder result.remote.first × IsInOrder result.remote.again }
     ensures drains { DrainsFor result.turned.stop result.remote }
 {
-    match driver.begin() {
+    match driver.begin_turn() {
         Ok(begun) => {
             let ready = driver.is_ready(&begun);
             let remote = sleeper.park(rt, limit, ready);
-            let turned = driver.end(begun);
+            let turned = driver.end_turn(begun);
             Parked { remote, turned }
         }
         Err(stop) => {

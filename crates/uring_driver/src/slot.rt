@@ -8,17 +8,17 @@ ghost use Rattle.uring_driver.specs.Slot.{has_number, flies_in, filled, filled_b
 
 use crate::op::Done;
 use op_slots::{AfterComplete, AfterDrop, AfterPoll, Lifecycle, Slab};
-use rent_buf::IoBufMut;
+use rent_buf::{IoBufMut, IoVecBufMut, VecBuf};
 use ring_core::{Completion, Outcome, Request, Told};
 
-/// What a slot holds: an operation's number, its request with its buffer, and how far it is. (own; monoio's slot is a
-/// `Lifecycle` alone)
+/// What a slot holds: an operation's number, its request with its buffer or its parts, and how far it is. (own; monoio's slot
+/// is a `Lifecycle` alone)
 #[derive(Drop)]
 pub struct Slot<B> {
     /// The operation's number.
     pub serial: u64,
-    /// Its request, with its buffer.
-    pub request: Request<B>,
+    /// Its request, with its buffer or its parts.
+    pub request: Request<B, VecBuf>,
     /// How far it is.
     pub life: Lifecycle<Outcome>,
 }
@@ -119,7 +119,7 @@ pub fn complete_slot<B: Drop>(
     }
 }
 
-/// Stores the bytes of what was told in the buffer of a live slot, where they fit. An error leaves the buffer.
+/// Stores the bytes of what was told in the buffer or the parts of a live slot, where they fit. An error leaves them.
 pub fn fill_slot<B: IoBufMut + Drop>(
     slots: &mut Slab<Slot<B>>,
     key: usize,
@@ -135,7 +135,7 @@ pub fn fill_slot<B: IoBufMut + Drop>(
     }
 }
 
-// Stores bytes in the buffer of a live slot, where they fit.
+// Stores bytes in the buffer or the parts of a live slot, where they fit.
 fn store_in<B: IoBufMut + Drop>(slots: &mut Slab<Slot<B>>, key: usize, bytes: &[u8])
     ensures fills { (k : ℕ) → FillsSlot B.buffer slots.old.values key (Count k) bytes.now slots.new.values }
     ensures numbers { KeepsNumbers slots.old.values slots.new.values }
@@ -147,8 +147,9 @@ fn store_in<B: IoBufMut + Drop>(slots: &mut Slab<Slot<B>>, key: usize, bytes: &[
     fill(&mut slot.request, bytes);
 }
 
-// Stores bytes at the begin of the range of a request's buffer, where they fit.
-fn fill<B: IoBufMut>(request: &mut Request<B>, bytes: &[u8])
+// Stores bytes in what a reading request holds, where they fit: at the begin of its buffer's range, or in its parts from the
+// first one on. A sending one stays.
+fn fill<B: IoBufMut>(request: &mut Request<B, VecBuf>, bytes: &[u8])
     ensures { length bytes.now ≤ room_of (plain_request B.buffer request.old) →
         plain_request B.buffer request.new ≡ filled (plain_request B.buffer request.old) bytes.now }
 {
@@ -158,5 +159,12 @@ fn fill<B: IoBufMut>(request: &mut Request<B>, bytes: &[u8])
                 buf.store(0, bytes);
             }
         }
+        Request::ReadVec { fd: _, parts } => {
+            if bytes.len() <= parts.total_room() {
+                parts.store_front(bytes);
+            }
+        }
+        Request::Send { .. } => {}
+        Request::WriteVec { .. } => {}
     }
 }

@@ -1,23 +1,50 @@
-// That the calls succeed where memory is at hand, and reads, drops and cancels through a driver.
+// That the calls succeed where memory is at hand, and reads, sends, ends, drops and cancels through a driver.
+ghost use Rattle.std.specs.Prelude.{◌≡◌, [], ◌∷◌};
+ghost use Rattle.ring_core.specs.Request.{named};
+
 use super::*;
-use rent_buf::{Buf, BufSpec, ByteList, IoBuf, IoBufMut, Kind};
-use ring_core::{ExecRefusal, HandleKind, MemRing, Outcome, Request, Ring, SharedFd, Told};
+use rent_buf::{
+    Buf, BufSpec, ByteList, IoBuf, IoBufMut, IoVecBuf, Kind, OutOfMemory, PartsSpec, VecBuf,
+};
+use ring_core::{
+    ExecRefusal, HandleKind, Look, MemRing, Outcome, Request, Ring, SharedFd, Told, WorldError,
+};
 use std::alloc::Global;
 use std::process::Abort;
 use std::test::Fail;
 
 // A read into an empty vector of four bytes.
-pub(crate) fn read(alloc: Global, fd: SharedFd) -> Result<Request<Buf>, Fail> {
+pub(crate) fn read(alloc: Global, fd: SharedFd) -> Result<Request<Buf, VecBuf>, Fail> {
     read_over(alloc, fd, b"")
 }
 
 // A read into a vector of four bytes, in which some stand already.
-fn read_over(alloc: Global, fd: SharedFd, stand: &[u8]) -> Result<Request<Buf>, Fail> {
-    let mut bytes = ByteList::from_vec(Vec::new(alloc));
-    bytes.append(stand)?;
-    let spec = BufSpec::new(Kind::Vector, 4, 0, 4, bytes).ok_or("within its bounds")?;
-    let buf = spec.build()?;
+fn read_over(alloc: Global, fd: SharedFd, stand: &[u8]) -> Result<Request<Buf, VecBuf>, Fail> {
+    let buf = buffer(alloc, stand)?;
     Ok(Request::Recv { fd, buf })
+}
+
+// A vector of four bytes, in which some stand already.
+fn buffer(alloc: Global, stand: &[u8]) -> Result<Buf, Fail> {
+    let spec = BufSpec::new(Kind::Vector, 4, 0, 4, list(alloc, stand)?).ok_or("within its bounds")?;
+    let buf = spec.build()?;
+    Ok(buf)
+}
+
+// Two parts, with room for two bytes and for four, in which some stand already.
+fn two_parts(alloc: Global, first: &[u8], second: &[u8]) -> Result<VecBuf, Fail> {
+    let mut pairs = Vec::new(alloc);
+    pairs.push((2, list(alloc, first)?))?;
+    pairs.push((4, list(alloc, second)?))?;
+    let parts = PartsSpec::new(pairs).ok_or("within their bounds")?.build()?;
+    Ok(parts)
+}
+
+// These bytes as a list.
+fn list(alloc: Global, bytes: &[u8]) -> Result<ByteList, OutOfMemory> {
+    let mut list = ByteList::new(alloc);
+    list.append(bytes)?;
+    Ok(list)
 }
 
 // A new stream.
@@ -28,16 +55,27 @@ pub(crate) fn give(rt: &impl Abort, driver: &mut IoUringDriver<MemRing, Buf>) ->
         .expect(rt, "memory is at hand")
 }
 
+// The handle of a request.
+fn handle_in<B>(request: &Request<B, VecBuf>) -> u64
+    ensures { named request.now ≡ result ∷ [] }
+{
+    match request {
+        Request::Recv { fd, buf: _ } => fd.number(),
+        Request::ReadVec { fd, parts: _ } => fd.number(),
+        Request::Send { fd, buf: _ } => fd.number(),
+        Request::WriteVec { fd, parts: _ } => fd.number(),
+    }
+}
+
 // A submission that succeeds.
 pub(crate) fn submit<R: Ring, B: IoBufMut + Drop>(
     rt: &impl Abort,
     driver: &mut IoUringDriver<R, B>,
-    request: Request<B>,
+    request: Request<B, VecBuf>,
 ) -> Op {
-    let Request::Recv { fd, buf } = request;
-    assert!(rt; driver.user_holds(fd.number()));
+    assert!(rt; driver.user_holds(handle_in(&request)));
     assert!(rt; driver.given() < 1 << 62);
-    match driver.submit_with(Request::Recv { fd, buf }) {
+    match driver.submit_with(request) {
         Ok(Submitted::Op(op)) => op,
         Err(refused) => panic!(rt; "refused: {:?}", refused.why),
     }
@@ -57,13 +95,13 @@ pub(crate) fn pending<R: Ring, B: IoBufMut + Drop>(
     }
 }
 
-// A poll that is ready: its outcome and the bytes in its buffer.
-pub(crate) fn ready<R: Ring, B: IoBufMut + Drop>(
+// A poll that is ready: its outcome, and what its request holds, one buffer or each part.
+fn ready_with<R: Ring, B: IoBufMut + Drop>(
     rt: &impl Abort,
     driver: &mut IoUringDriver<R, B>,
     op: Op,
     outcome: Outcome,
-    bytes: &[u8],
+    held: &[&str],
 ) {
     assert!(rt; driver.holds(&op));
     match driver.poll_op(op, 0) {
@@ -73,10 +111,45 @@ pub(crate) fn ready<R: Ring, B: IoBufMut + Drop>(
         }
         PollOp::Ready(done) => {
             assert_eq!(rt; done.outcome, outcome);
-            let Request::Recv { fd: _, buf } = done.request;
-            assert_eq!(rt; buf.bytes(), bytes);
+            holds_bytes(rt, &done.request, held);
         }
     }
+}
+
+// A request holds these bytes, in one buffer or in parts.
+fn holds_bytes<B: IoBuf>(rt: &impl Abort, request: &Request<B, VecBuf>, held: &[&str]) {
+    match request {
+        Request::Recv { fd: _, buf } => buffer_has(rt, buf, held),
+        Request::Send { fd: _, buf } => buffer_has(rt, buf, held),
+        Request::ReadVec { fd: _, parts } => parts_have(rt, parts, held),
+        Request::WriteVec { fd: _, parts } => parts_have(rt, parts, held),
+    }
+}
+
+// A buffer shows these bytes.
+fn buffer_has<B: IoBuf>(rt: &impl Abort, buf: &B, held: &[&str]) {
+    assert_eq!(rt; held.len(), 1);
+    assert_eq!(rt; buf.bytes(), held[0].as_bytes());
+}
+
+// Each part shows its bytes.
+fn parts_have(rt: &impl Abort, parts: &VecBuf, held: &[&str]) {
+    assert_eq!(rt; parts.parts_len(), held.len());
+    for i in 0..held.len() {
+        assert!(rt; i < parts.parts_len());
+        assert_eq!(rt; parts.part(i), held[i].as_bytes());
+    }
+}
+
+// A poll that is ready: its outcome and the bytes in its buffer.
+pub(crate) fn ready<R: Ring, B: IoBufMut + Drop>(
+    rt: &impl Abort,
+    driver: &mut IoUringDriver<R, B>,
+    op: Op,
+    outcome: Outcome,
+    bytes: &str,
+) {
+    ready_with(rt, driver, op, outcome, &[bytes]);
 }
 
 // A token is given up.
@@ -116,6 +189,23 @@ pub(crate) fn feed(
     assert!(rt; driver.feed(fd.number(), bytes).is_ok());
 }
 
+// What was sent to a handle.
+fn sent(rt: &impl Abort, driver: &mut IoUringDriver<MemRing, Buf>, fd: SharedFd, bytes: &str) {
+    assert!(rt; driver.user_holds(fd.number()));
+    let Look::Bytes(list) = driver.look(fd.number()).expect(rt, "memory is at hand");
+    assert_eq!(rt; list.as_slice(), bytes.as_bytes());
+}
+
+// The end of what arrives at a handle.
+fn end(
+    rt: &impl Abort,
+    driver: &mut IoUringDriver<MemRing, Buf>,
+    fd: SharedFd,
+) -> Result<(), WorldError> {
+    assert!(rt; driver.user_holds(fd.number()));
+    driver.end(fd.number())
+}
+
 #[test]
 fn one_read(rt: HostRuntime) -> Result<(), Fail> {
     let mut driver: IoUringDriver<MemRing, Buf> = IoUringDriver::new(rt.alloc())?;
@@ -132,7 +222,7 @@ fn one_read(rt: HostRuntime) -> Result<(), Fail> {
     assert_eq!(rt; driver.execute(0, Told::Count(2)), Ok(Executed::Op(0)));
     let op = pending(&rt, &mut driver, op, 8);
     turn(&rt, &mut driver, &[0], &[8]);
-    ready(&rt, &mut driver, op, Outcome::Count(2), b"ab");
+    ready(&rt, &mut driver, op, Outcome::Count(2), "ab");
     assert_eq!(rt; (driver.given(), driver.num_operations()), (1, 0));
     Ok(())
 }
@@ -151,8 +241,8 @@ fn two_reads_in_the_order_of_their_executions(rt: HostRuntime) -> Result<(), Fai
     assert_eq!(rt; driver.execute(1, Told::Count(1)), Ok(Executed::Op(1)));
     assert_eq!(rt; driver.execute(0, Told::Count(2)), Ok(Executed::Op(0)));
     turn(&rt, &mut driver, &[1, 0], &[]);
-    ready(&rt, &mut driver, first, Outcome::Count(2), b"bc");
-    ready(&rt, &mut driver, second, Outcome::Count(1), b"a");
+    ready(&rt, &mut driver, first, Outcome::Count(2), "bc");
+    ready(&rt, &mut driver, second, Outcome::Count(1), "a");
     Ok(())
 }
 
@@ -168,7 +258,7 @@ fn a_late_cancel_never_meets_the_next_holder(rt: HostRuntime) -> Result<(), Fail
     assert_eq!(rt; driver.execute(0, Told::Count(1)), Ok(Executed::Op(0)));
     turn(&rt, &mut driver, &[0], &[]);
     cancel(&rt, &mut driver, &first);
-    ready(&rt, &mut driver, first, Outcome::Count(1), b"a");
+    ready(&rt, &mut driver, first, Outcome::Count(1), "a");
     let second = submit(&rt, &mut driver, two);
     turn(&rt, &mut driver, &[], &[]);
     let canceled = driver.execute(0, Told::Fail(125));
@@ -176,7 +266,7 @@ fn a_late_cancel_never_meets_the_next_holder(rt: HostRuntime) -> Result<(), Fail
     feed(&rt, &mut driver, fd, b"b");
     assert_eq!(rt; driver.execute(0, Told::Count(1)), Ok(Executed::Op(1)));
     turn(&rt, &mut driver, &[1], &[]);
-    ready(&rt, &mut driver, second, Outcome::Count(1), b"b");
+    ready(&rt, &mut driver, second, Outcome::Count(1), "b");
     Ok(())
 }
 
@@ -233,7 +323,7 @@ fn an_error_hands_back_the_submitted_buffer(rt: HostRuntime) -> Result<(), Fail>
     turn(&rt, &mut driver, &[], &[]);
     assert_eq!(rt; driver.execute(0, Told::Fail(125)), Ok(Executed::Op(0)));
     turn(&rt, &mut driver, &[0], &[]);
-    ready(&rt, &mut driver, op, Outcome::Fail(125), b"01");
+    ready(&rt, &mut driver, op, Outcome::Fail(125), "01");
     Ok(())
 }
 
@@ -248,5 +338,98 @@ fn over_a_ring_with_handles(rt: HostRuntime) -> Result<(), Fail> {
     let fd = give(&rt, &mut driver);
     assert_eq!(rt; fd.number(), 1);
     assert!(rt; !driver.user_holds(0) && driver.user_holds(1) && !driver.user_holds(2));
+    Ok(())
+}
+
+// A send with a short count: so many of its first bytes are sent, and its buffer comes back whole.
+#[test]
+fn a_send_of_fewer_bytes(rt: HostRuntime) -> Result<(), Fail> {
+    let mut driver: IoUringDriver<MemRing, Buf> = IoUringDriver::new_with_entries(rt.alloc(), 4)?;
+    let fd = give(&rt, &mut driver);
+    let (one, two) = (buffer(rt.alloc(), b"abc")?, buffer(rt.alloc(), b"xyz")?);
+    let first = submit(&rt, &mut driver, Request::Send { fd, buf: one });
+    let second = submit(&rt, &mut driver, Request::Send { fd, buf: two });
+    turn(&rt, &mut driver, &[], &[]);
+    assert_eq!(rt;
+        driver.execute(0, Told::Count(0)),
+        Err(ExecRefusal::BadOutcome)
+    );
+    assert_eq!(rt; driver.execute(1, Told::Count(1)), Ok(Executed::Op(1)));
+    sent(&rt, &mut driver, fd, "x");
+    assert_eq!(rt; driver.execute(0, Told::Count(2)), Ok(Executed::Op(0)));
+    sent(&rt, &mut driver, fd, "xab");
+    turn(&rt, &mut driver, &[1, 0], &[]);
+    ready(&rt, &mut driver, first, Outcome::Count(2), "abc");
+    ready(&rt, &mut driver, second, Outcome::Count(1), "xyz");
+    Ok(())
+}
+
+// A failed send sends nothing.
+#[test]
+fn a_send_that_fails(rt: HostRuntime) -> Result<(), Fail> {
+    let mut driver: IoUringDriver<MemRing, Buf> = IoUringDriver::new_with_entries(rt.alloc(), 4)?;
+    let fd = give(&rt, &mut driver);
+    let buf = buffer(rt.alloc(), b"abc")?;
+    let op = submit(&rt, &mut driver, Request::Send { fd, buf });
+    turn(&rt, &mut driver, &[], &[]);
+    assert_eq!(rt; driver.execute(0, Told::Fail(32)), Ok(Executed::Op(0)));
+    sent(&rt, &mut driver, fd, "");
+    turn(&rt, &mut driver, &[0], &[]);
+    ready(&rt, &mut driver, op, Outcome::Fail(32), "abc");
+    Ok(())
+}
+
+// A write of two parts ends within the second one.
+#[test]
+fn a_write_of_parts(rt: HostRuntime) -> Result<(), Fail> {
+    let mut driver: IoUringDriver<MemRing, Buf> = IoUringDriver::new_with_entries(rt.alloc(), 4)?;
+    let fd = give(&rt, &mut driver);
+    let parts = two_parts(rt.alloc(), b"ab", b"cd")?;
+    let op = submit(&rt, &mut driver, Request::WriteVec { fd, parts });
+    turn(&rt, &mut driver, &[], &[]);
+    assert_eq!(rt; driver.execute(0, Told::Count(3)), Ok(Executed::Op(0)));
+    sent(&rt, &mut driver, fd, "abc");
+    turn(&rt, &mut driver, &[0], &[]);
+    ready_with(&rt, &mut driver, op, Outcome::Count(3), &["ab", "cd"]);
+    Ok(())
+}
+
+// A read fills the first part, and then some of the second one.
+#[test]
+fn a_read_into_parts(rt: HostRuntime) -> Result<(), Fail> {
+    let mut driver: IoUringDriver<MemRing, Buf> = IoUringDriver::new_with_entries(rt.alloc(), 4)?;
+    let fd = give(&rt, &mut driver);
+    let parts = two_parts(rt.alloc(), b"01", b"2345")?;
+    feed(&rt, &mut driver, fd, b"abcdef");
+    let op = submit(&rt, &mut driver, Request::ReadVec { fd, parts });
+    turn(&rt, &mut driver, &[], &[]);
+    assert_eq!(rt; driver.execute(0, Told::Count(3)), Ok(Executed::Op(0)));
+    turn(&rt, &mut driver, &[0], &[]);
+    ready_with(&rt, &mut driver, op, Outcome::Count(3), &["ab", "c"]);
+    Ok(())
+}
+
+// Nothing arrives after the end, and a read of nothing is allowed then.
+#[test]
+fn a_read_past_the_end(rt: HostRuntime) -> Result<(), Fail> {
+    let mut driver: IoUringDriver<MemRing, Buf> = IoUringDriver::new_with_entries(rt.alloc(), 4)?;
+    let fd = give(&rt, &mut driver);
+    let request = read(rt.alloc(), fd)?;
+    let op = submit(&rt, &mut driver, request);
+    turn(&rt, &mut driver, &[], &[]);
+    assert_eq!(rt;
+        driver.execute(0, Told::Count(0)),
+        Err(ExecRefusal::BadOutcome)
+    );
+    assert_eq!(rt; end(&rt, &mut driver, fd), Ok(()));
+    assert_eq!(rt; end(&rt, &mut driver, fd), Err(WorldError::BadHandleEvent));
+    assert!(rt; driver.user_holds(fd.number()));
+    assert_eq!(rt;
+        driver.feed(fd.number(), b"a"),
+        Err(WorldError::BadHandleEvent)
+    );
+    assert_eq!(rt; driver.execute(0, Told::Count(0)), Ok(Executed::Op(0)));
+    turn(&rt, &mut driver, &[0], &[]);
+    ready(&rt, &mut driver, op, Outcome::Count(0), "");
     Ok(())
 }

@@ -1,4 +1,6 @@
 // What a store leaves, by the kind of the buffer.
+ghost use Rattle.std.specs.Prelude.{◌≡◌, IfOk};
+
 use crate::*;
 use std::alloc::Global;
 
@@ -6,11 +8,21 @@ fn vec_of(alloc: Global, text: &str) -> Result<Vec<u8>, OutOfMemory> {
     Ok(Vec::from_slice(alloc, text.as_bytes())?)
 }
 
+// The spec of what was built of a spec is that spec.
+fn rebuilt(spec: BufSpec) -> Result<BufSpec, OutOfMemory>
+    ensures { IfOk result (λ again. again ≡ spec) }
+{
+    Ok(spec.build()?.into_spec())
+}
+
 // What the row shows; the kind, the total and the bytes of a buffer, and its range; where a store
 // begins in the range, and what is stored; and the bytes then.
 #[rattlefmt::skip]
-const KINDS: [(&str, (Kind, usize, &str), (usize, usize), (usize, &str), &str); 7] = [
+const KINDS: [(&str, (Kind, usize, &str), (usize, usize), (usize, &str), &str); 10] = [
     ("a vector ends with what was stored", (Kind::Vector, 10, "01234567"), (1, 8), (1, "x"), "01x"),
+    ("a vector is shorter after a short store", (Kind::Vector, 4, "0123"), (0, 4), (0, "ab"), "ab"),
+    ("a grown one is as long", (Kind::Grown, 4, "0123"), (0, 4), (0, "ab"), "ab23"),
+    ("a fixed one is as long", (Kind::Fixed, 4, "0123"), (0, 4), (0, "ab"), "ab23"),
     ("a longer tail is kept", (Kind::Grown, 10, "01234567"), (1, 8), (1, "x"), "01x34567"),
     ("a shorter tail goes", (Kind::Grown, 10, "0123"), (1, 8), (2, "abc"), "012abc"),
     ("an empty store keeps the tail", (Kind::Grown, 10, "0123"), (1, 8), (1, ""), "0123"),
@@ -26,7 +38,7 @@ fn stores_by_kind(rt: HostRuntime) -> Result<(), OutOfMemory> {
         let Some(spec) = BufSpec::new(kind, total, begin, end, list) else {
             return Err(OutOfMemory);
         };
-        let mut buf = spec.build()?;
+        let mut buf = rebuilt(spec)?.build()?;
         let room = buf.bytes_total();
         assert!(rt; at <= buf.bytes_init() && at <= room && bytes.len() <= room - at);
         buf.store(at, bytes.as_bytes());

@@ -8,7 +8,7 @@ use std::rc::Rc;
 use std::sync::Arc;
 
 // A buffer of any type holds this text, and its second and third byte are a range of it.
-fn holds<B: IoBuf + Drop>(rt: &impl Abort, buf: B, text: &str) {
+pub(super) fn holds<B: IoBuf + Drop>(rt: &impl Abort, buf: B, text: &str) {
     let want = text.as_bytes();
     assert_eq!(rt; (buf.bytes(), buf.bytes_init()), (want, want.len()));
     assert!(rt; want.len() >= 3 && !buf.slice_fits(2, 1) && !buf.slice_fits(3, usize::MAX));

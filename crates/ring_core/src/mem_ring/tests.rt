@@ -2,8 +2,8 @@ use super::*;
 use crate::entry::{CANCEL_WORD, FIRST_RESERVED};
 use crate::request::{Call, Request};
 use crate::shared_fd::SharedFd;
-use crate::world::{HandleKind, WorldError};
-use rent_buf::Rent;
+use crate::world::{HandleKind, Look, World, WorldError};
+use rent_buf::{Rent, VecBuf};
 use std::test::Fail;
 
 // A read of the handle 0.
@@ -12,6 +12,15 @@ fn read_entry(word: u64, serial: u64, ask: u32) -> Entry {
         word,
         serial,
         body: Body::Call(Call::In { h: 0, ask }),
+    }
+}
+
+// A send to the handle 0.
+fn send_entry(word: u64, serial: u64, ask: u32) -> Entry {
+    Entry {
+        word,
+        serial,
+        body: Body::Call(Call::Out { h: 0, ask }),
     }
 }
 
@@ -71,6 +80,55 @@ fn an_entry_is_queued_entered_finished_and_taken_off(rt: HostRuntime) -> Result<
     assert_eq!(rt; ring.standing(), 1);
     assert_eq!(rt; ring.next(), Some(completion));
     assert_eq!(rt; ring.next(), None);
+    Ok(())
+}
+
+#[test]
+fn a_send_moves_what_is_counted(rt: HostRuntime) -> Result<(), Fail> {
+    let mut ring = MemRing::new(rt.alloc(), 1);
+    let _ = ring.world().give(HandleKind::Stream)?;
+    assert!(rt; submit(&mut ring, send_entry(5, 7, 5))?);
+
+    for refused in [6, 0] {
+        let mut got = ByteList::new(rt.alloc());
+        assert_eq!(rt;
+            ring.finish_at(0, Told::Count(refused), b"hello", &mut got),
+            Err(ExecRefusal::BadOutcome)
+        );
+    }
+    let mut got = ByteList::new(rt.alloc());
+    let sent = ring.finish_at(0, Told::Count(3), b"hello", &mut got);
+    assert_eq!(rt; sent.is_ok(), true);
+    assert_eq!(rt; got.len(), 0);
+    assert!(rt; ring.handles() > 0);
+    let Look::Bytes(shown) = ring.look(0)?;
+    assert_eq!(rt; shown.as_slice(), b"hel".as_slice());
+    Ok(())
+}
+
+#[test]
+fn nothing_arrives_after_the_end(rt: HostRuntime) -> Result<(), Fail> {
+    let mut world = World::new(rt.alloc());
+    let h = world.give(HandleKind::Stream)?;
+    assert_eq!(rt; world.end(h), Ok(()));
+    assert!(rt; h < world.count());
+    assert_eq!(rt; world.end(h), Err(WorldError::BadHandleEvent));
+    assert!(rt; h < world.count());
+    assert_eq!(rt; world.feed(h, b"a"), Err(WorldError::BadHandleEvent));
+
+    // What is sent to it goes on.
+    let mut lists = Vec::new(rt.alloc());
+    for bytes in [b"x".as_slice(), b"", b"yz"] {
+        let mut list = Vec::new(rt.alloc());
+        list.extend_from_slice(bytes)?;
+        lists.push(list)?;
+    }
+    let parts = VecBuf::from_parts(lists).map_err(|_| OutOfMemory)?;
+    world.send_parts(h, 2, &parts)?;
+    world.send(h, 1, b"!?")?;
+    assert!(rt; h < world.count());
+    let Look::Bytes(shown) = world.look(h)?;
+    assert_eq!(rt; shown.as_slice(), b"xy!".as_slice());
     Ok(())
 }
 

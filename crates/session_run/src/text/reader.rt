@@ -1,16 +1,18 @@
 // Reading a line into an event.
-ghost use Rattle.std.specs.Prelude.{◌≡◌, ◌^◌, IfOk, MatchOption, Some, None, option_and_then};
-ghost use Rattle.session_run.specs.TextReads.{words, words_behind, event_of, feed_of, submit_of, poll_of, numbered_of, exec_of, give_of, turn_of, request_of, buffer_of, told_of, told_below, number_field, bytes_end, kind_field, handle_kind_of, buffer_kind_of};
+ghost use Rattle.std.specs.Prelude.{◌≡◌, ◌^◌, IfOk, MatchOption, Some, None, option_and_then, option_map};
+ghost use Rattle.rent_buf.specs.Parts.{parts_of_pairs};
+ghost use Rattle.session_run.specs.TextReads.{words, words_behind, buffer_of, parts_of, counted_of, parts_end, number_field, bytes_end, kind_field, handle_kind_of, buffer_kind_of};
+ghost use Rattle.session_run.specs.TextEventReads.{event_of, feed_of, submit_of, poll_of, numbered_of, exec_of, give_of, turn_of, with_handle, request_of, request_by, told_of, told_below};
 
 use crate::text::cut::{first_word, is_word, next_word};
 use crate::text::hex::read_bytes;
 use crate::text::number::read_number;
-use rent_buf::{BufSpec, ByteList, Kind, OutOfMemory};
+use rent_buf::{BufSpec, ByteList, Kind, OutOfMemory, PartsSpec};
 use ring_core::{Event, HandleKind, Request, SharedFd, Told};
 use std::alloc::Global;
 
 /// The event that a line stands for.
-#[tactic(auto, unfolding(crate::specs::TextReads::event_by))]
+#[tactic(auto, unfolding(crate::specs::TextEventReads::event_by))]
 pub(crate) fn event_of_line(alloc: Global, line: &[u8]) -> Result<Option<Event>, OutOfMemory>
     ensures { IfOk result (λ event. event ≡ event_of (words line.now)) }
 {
@@ -38,6 +40,12 @@ pub(crate) fn event_of_line(alloc: Global, line: &[u8]) -> Result<Option<Event>,
     }
     if is_word(word, b"cancel") {
         return Ok(cancel_event(rest));
+    }
+    if is_word(word, b"end") {
+        return Ok(end_event(rest));
+    }
+    if is_word(word, b"look") {
+        return Ok(look_event(rest));
     }
     Ok(None)
 }
@@ -116,6 +124,26 @@ fn cancel_event(rest: &[u8]) -> Option<Event>
     }
 }
 
+fn end_event(rest: &[u8]) -> Option<Event>
+    ensures { result ≡ numbered_of Event.End (words_behind rest.now) }
+{
+    let (h, rest) = next_number(rest)?;
+    match next_word(rest) {
+        None => Some(Event::End(h)),
+        Some(_) => None,
+    }
+}
+
+fn look_event(rest: &[u8]) -> Option<Event>
+    ensures { result ≡ numbered_of Event.Look (words_behind rest.now) }
+{
+    let (h, rest) = next_number(rest)?;
+    match next_word(rest) {
+        None => Some(Event::Look(h)),
+        Some(_) => None,
+    }
+}
+
 fn exec_event(rest: &[u8]) -> Option<Event>
     ensures { result ≡ exec_of (words_behind rest.now) }
 {
@@ -126,23 +154,68 @@ fn exec_event(rest: &[u8]) -> Option<Event>
 
 // The parts of an event.
 
-fn read_request(alloc: Global, rest: &[u8]) -> Result<Option<Request<BufSpec>>, OutOfMemory>
+fn read_request(
+    alloc: Global,
+    rest: &[u8],
+) -> Result<Option<Request<BufSpec, PartsSpec>>, OutOfMemory>
     ensures { IfOk result (λ request. request ≡ request_of (words_behind rest.now)) }
 {
-    let Some((word, rest)) = next_word(rest) else {
-        return Ok(None);
-    };
-    if !is_word(word, b"recv") {
-        return Ok(None);
+    match next_word(rest) {
+        Some((word, rest)) => request_of_name(alloc, word, rest),
+        None => Ok(None),
     }
+}
+
+// The request of a name, by the words behind it.
+fn request_of_name(
+    alloc: Global,
+    word: &[u8],
+    rest: &[u8],
+) -> Result<Option<Request<BufSpec, PartsSpec>>, OutOfMemory>
+    ensures { IfOk result (λ request. request ≡ request_by word.now (words_behind rest.now)) }
+{
+    if is_word(word, b"recv") {
+        let found = handle_and_buffer(alloc, rest)?;
+        return Ok(found.map(|(fd, buf)| Request::Recv { fd, buf }));
+    }
+    if is_word(word, b"readv") {
+        let found = handle_and_parts(alloc, rest)?;
+        return Ok(found.map(|(fd, parts)| Request::ReadVec { fd, parts }));
+    }
+    if is_word(word, b"send") {
+        let found = handle_and_buffer(alloc, rest)?;
+        return Ok(found.map(|(fd, buf)| Request::Send { fd, buf }));
+    }
+    if is_word(word, b"writev") {
+        let found = handle_and_parts(alloc, rest)?;
+        return Ok(found.map(|(fd, parts)| Request::WriteVec { fd, parts }));
+    }
+    Ok(None)
+}
+
+fn handle_and_buffer(alloc: Global, rest: &[u8]) -> Result<Option<(SharedFd, BufSpec)>, OutOfMemory>
+    ensures { IfOk result (λ found. found ≡ with_handle buffer_of (words_behind rest.now)) }
+{
     let Some((h, rest)) = next_number(rest) else {
         return Ok(None);
     };
     match read_buffer(alloc, rest)? {
-        Some(buf) => Ok(Some(Request::Recv {
-            fd: SharedFd::new(h),
-            buf,
-        })),
+        Some(buf) => Ok(Some((SharedFd::new(h), buf))),
+        None => Ok(None),
+    }
+}
+
+fn handle_and_parts(
+    alloc: Global,
+    rest: &[u8],
+) -> Result<Option<(SharedFd, PartsSpec)>, OutOfMemory>
+    ensures { IfOk result (λ found. found ≡ with_handle parts_of (words_behind rest.now)) }
+{
+    let Some((h, rest)) = next_number(rest) else {
+        return Ok(None);
+    };
+    match read_parts(alloc, rest)? {
+        Some(parts) => Ok(Some((SharedFd::new(h), parts))),
         None => Ok(None),
     }
 }
@@ -166,6 +239,50 @@ fn read_buffer(alloc: Global, rest: &[u8]) -> Result<Option<BufSpec>, OutOfMemor
         Some(bytes) => Ok(BufSpec::new(kind, total as usize, begin as usize, end as usize, bytes)),
         None => Ok(None),
     }
+}
+
+fn read_parts(alloc: Global, rest: &[u8]) -> Result<Option<PartsSpec>, OutOfMemory>
+    ensures { IfOk result (λ parts. parts ≡ parts_of (words_behind rest.now)) }
+{
+    match next_word(rest) {
+        Some((word, rest)) if is_word(word, b"p") => read_counted(alloc, rest),
+        _ => Ok(None),
+    }
+}
+
+// Nothing is reserved by the number that is written: the pairs are read first, and counted.
+fn read_counted(alloc: Global, rest: &[u8]) -> Result<Option<PartsSpec>, OutOfMemory>
+    ensures { IfOk result (λ parts. parts ≡ counted_of (words_behind rest.now)) }
+{
+    let Some((count, rest)) = next_number(rest) else {
+        return Ok(None);
+    };
+    match read_rooms(alloc, rest)? {
+        Some(pairs) if pairs.len() as u64 == count => Ok(PartsSpec::new(pairs)),
+        _ => Ok(None),
+    }
+}
+
+// The rooms and bytes up to the end of the line.
+fn read_rooms(alloc: Global, rest: &[u8]) -> Result<Option<Vec<(usize, ByteList)>>, OutOfMemory>
+    ensures { IfOk result (λ pairs. option_map (λ pairs. parts_of_pairs pairs.items) pairs ≡ parts_end (words_behind rest.now)) }
+{
+    let mut pairs = Vec::new(alloc);
+    let mut rest = rest;
+    while let Some((room, behind)) = next_word(rest) {
+        let Some((bytes, behind)) = next_word(behind) else {
+            return Ok(None);
+        };
+        let Some(room) = read_number(room) else {
+            return Ok(None);
+        };
+        let Some(bytes) = read_bytes(alloc, bytes)? else {
+            return Ok(None);
+        };
+        pairs.push((room as usize, bytes))?;
+        rest = behind;
+    }
+    Ok(Some(pairs))
 }
 
 fn read_told(rest: &[u8]) -> Option<Told>

@@ -1,11 +1,11 @@
 use super::*;
-use rent_buf::{BufSpec, ByteList, HeldBuf, Kind, NumList};
+use rent_buf::{BufSpec, ByteList, HeldBuf, Kind, NumList, PartsSpec};
 use ring_core::{Outcome, Refusal, Reply};
 use std::test::Fail;
 
 // Lines that stand for no event: what is wrong, and the line.
 #[rattlefmt::skip]
-const WRONG: [(&str, &[u8]); 55] = [
+const WRONG: [(&str, &[u8]); 79] = [
     ("an empty line", b"\n"),
     ("upper-case hex", b"feed 0 6A"),
     ("odd hex", b"feed 0 616"),
@@ -28,14 +28,14 @@ const WRONG: [(&str, &[u8]); 55] = [
     ("begin behind the end", b"submit recv 0 v 4 2 1 616263"),
     ("begin behind the bytes", b"submit recv 0 v 4 2 4 61"),
     ("end behind the total", b"submit recv 0 v 4 0 5 -"),
-    ("unknown word", b"look 0"),
+    ("unknown word", b"looks 0"),
     ("upper-case word", b"Turn"),
     ("a word's front", b"tur"),
     ("a word and more", b"turns"),
     ("unknown handle", b"give streams"),
     ("unknown buffer", b"submit recv 0 w 4 0 4 -"),
     ("a fixed buffer that is not full", b"submit recv 0 b 4 0 4 616263"),
-    ("unknown request", b"submit send 0 v 4 0 4 -"),
+    ("unknown request", b"submit write 0 v 4 0 4 -"),
     ("no kind", b"give"),
     ("no number", b"poll 0"),
     ("no bytes", b"feed 0"),
@@ -61,6 +61,30 @@ const WRONG: [(&str, &[u8]); 55] = [
     ("one word behind an error", b"exec 0 err 1 1"),
     ("unknown outcome", b"exec 0 fail 1"),
     ("a request under a cancel handle", b"under 0 recv 0 v 4 0 4 -"),
+    ("parts in the place of a buffer to read into", b"submit recv 0 p 1 4 -"),
+    ("parts in the place of a buffer to send", b"submit send 0 p 1 4 -"),
+    ("a buffer in the place of parts to read into", b"submit readv 0 v 4 0 4 -"),
+    ("a buffer in the place of parts to send", b"submit writev 0 v 4 0 4 -"),
+    ("a buffer to send that breaks a bound", b"submit send 0 v 4 0 5 -"),
+    ("no parts", b"submit readv 0"),
+    ("no number of parts", b"submit readv 0 p"),
+    ("a leading zero of the parts' number", b"submit readv 0 p 01 4 -"),
+    ("a part without its pair", b"submit readv 0 p 1"),
+    ("a part without its bytes", b"submit readv 0 p 1 4"),
+    ("a pair too many", b"submit readv 0 p 1 4 - 4 -"),
+    ("a pair too few", b"submit readv 0 p 2 4 -"),
+    ("a pair behind no parts", b"submit readv 0 p 0 4 -"),
+    ("half a pair too many", b"submit readv 0 p 1 4 - 4"),
+    ("a trailing space behind parts", b"submit readv 0 p 1 4 - "),
+    ("a leading zero of a room", b"submit readv 0 p 1 04 -"),
+    ("a part's odd hex", b"submit readv 0 p 1 4 616"),
+    ("a part's bytes that pass its room", b"submit writev 0 p 2 4 61 1 6162"),
+    ("rooms whose sum passes the type", b"submit readv 0 p 2 18446744073709551615 - 1 -"),
+    ("a room that passes the type", b"submit readv 0 p 1 18446744073709551616 -"),
+    ("half of the greatest number of parts, and no pair", b"submit readv 0 p 9223372036854775808"),
+    ("the greatest number of parts, and one pair", b"submit readv 0 p 18446744073709551615 4 -"),
+    ("no number of an end", b"end"),
+    ("one word behind a look", b"look 0 0"),
 ];
 
 #[test]
@@ -86,6 +110,15 @@ submit recv 1 v 18446744073709551615 0 0 -
 submit recv 10 v 8 1 7 616263
 submit recv 0 g 8 1 7 616263
 submit recv 0 b 3 1 2 616263
+submit send 0 v 8192 3 5 68656c6c6f
+submit send 18446744073709551615 g 8 1 7 616263
+submit send 1 b 3 1 2 616263
+submit readv 0 p 3 2 - 3 - 4 7a
+submit writev 10 p 2 2 6162 0 -
+submit readv 18446744073709551615 p 0
+submit writev 0 p 1 18446744073709551615 00ff
+end 0
+look 18446744073709551615
 exec 12 ok 4294967295
 poll 18446744073709551615 0
 feed 3 -
@@ -156,6 +189,7 @@ fn reply_texts(rt: HostRuntime) -> Result<(), Fail> {
     let alloc = rt.alloc();
     assert!(rt; is_text(alloc, &Reply::Handle(3), b"handle 3")?);
     assert!(rt; is_text(alloc, &Reply::Fed, b"fed")?);
+    assert!(rt; is_text(alloc, &Reply::Ended, b"ended")?);
     assert!(rt; is_text(alloc, &Reply::Submitted(10), b"op 10")?);
     assert!(rt; is_text(alloc, &Reply::Pending, b"pending")?);
     assert!(rt; is_text(alloc, &Reply::Dropped, b"dropped")?);
@@ -178,6 +212,42 @@ fn handed_texts(rt: HostRuntime) -> Result<(), Fail> {
     Ok(())
 }
 
+// Parts of rooms and bytes.
+fn parts(alloc: Global, pairs: &[(usize, &[u8])]) -> Result<Option<PartsSpec>, AllocError> {
+    let mut listed = Vec::new(alloc);
+    for (room, bytes) in pairs {
+        listed.push((*room, ByteList::from_vec(Vec::from_slice(alloc, *bytes)?)))?;
+    }
+    Ok(PartsSpec::new(listed))
+}
+
+#[test]
+fn handed_parts_texts(rt: HostRuntime) -> Result<(), Fail> {
+    let alloc = rt.alloc();
+    let pairs = [
+        (2, b"ab".as_slice()),
+        (3, b"".as_slice()),
+        (4, b"z".as_slice()),
+    ];
+    let three = parts(alloc, pairs.as_slice())?.ok_or("no parts")?;
+    let handed = Reply::Handed(Outcome::Count(4), HeldBuf::Parts(three));
+    assert!(rt; is_text(alloc, &handed, b"ready ok 4 p 3 2 6162 3 - 4 7a")?);
+    let none = parts(alloc, [].as_slice())?.ok_or("no parts")?;
+    let handed = Reply::Handed(Outcome::Fail(104), HeldBuf::Parts(none));
+    assert!(rt; is_text(alloc, &handed, b"ready err 104 p 0")?);
+    Ok(())
+}
+
+#[test]
+fn output_texts(rt: HostRuntime) -> Result<(), Fail> {
+    let alloc = rt.alloc();
+    let bytes = ByteList::from_vec(Vec::from_slice(alloc, b"hello")?);
+    assert!(rt; is_text(alloc, &Reply::Output(bytes), b"output 68656c6c6f")?);
+    let none = ByteList::from_vec(Vec::new(alloc));
+    assert!(rt; is_text(alloc, &Reply::Output(none), b"output -")?);
+    Ok(())
+}
+
 #[test]
 fn turned_texts(rt: HostRuntime) -> Result<(), Fail> {
     let alloc = rt.alloc();
@@ -197,6 +267,10 @@ fn refused_texts(rt: HostRuntime) -> Result<(), Fail> {
         (Refusal::Full, b"refused Full".as_slice()),
         (Refusal::NotFlying, b"refused NotFlying".as_slice()),
         (Refusal::BadOutcome, b"refused BadOutcome".as_slice()),
+        (
+            Refusal::BadHandleEvent,
+            b"refused BadHandleEvent".as_slice(),
+        ),
     ] {
         assert!(rt;
             is_text(rt.alloc(), &Reply::Refused(refusal), want)?,

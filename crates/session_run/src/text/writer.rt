@@ -1,13 +1,13 @@
 // Writing an event or a reply as text.
 ghost use Rattle.std.specs.Prelude.{◌≡◌, ◌∷◌, ◌++◌, [], OnOk, OnErr, decimal};
 ghost use Rattle.session_run.specs.TextWrites.{Starts};
-ghost use Rattle.session_run.specs.TextEvent.{event_text, buffer_kind_word, buffer_words};
-ghost use Rattle.session_run.specs.TextReply.{reply_text};
-ghost use Rattle.session_run.specs.TextWords.{spaced, numbers_word};
+ghost use Rattle.session_run.specs.TextEvent.{event_text, buffer_kind_word, buffer_words, parts_words, request_words};
+ghost use Rattle.session_run.specs.TextReply.{held_words, reply_text};
+ghost use Rattle.session_run.specs.TextWords.{spaced, bytes_word, numbers_word};
 
 use crate::text::hex::put_bytes;
 use crate::text::number::put_number;
-use rent_buf::{BufSpec, HeldBuf, Kind, NumList, OutOfMemory};
+use rent_buf::{BufSpec, HeldBuf, Kind, NumList, OutOfMemory, PartsSpec};
 use ring_core::{Event, HandleKind, Outcome, Refusal, Reply, Request, Told};
 
 /// Appends the text of an event, with no newline. Where memory runs out, `out` is as it was. (own)
@@ -49,6 +49,8 @@ fn put_event(event: &Event, out: &mut Vec<u8>) -> Result<(), OutOfMemory>
     match event {
         Event::Give(kind) => put_give(*kind, out),
         Event::Feed(h, bytes) => put_feed(*h, bytes.as_slice(), out),
+        Event::End(h) => put_counted(b"end ", *h, out),
+        Event::Look(h) => put_counted(b"look ", *h, out),
         Event::Submit(request) => put_submit(request, out),
         Event::Poll(n, task) => put_poll(*n, *task, out),
         Event::Drop(n) => put_counted(b"drop ", *n, out),
@@ -77,16 +79,38 @@ fn put_feed(h: u64, bytes: &[u8], out: &mut Vec<u8>) -> Result<(), OutOfMemory>
     put_bytes(bytes, out)
 }
 
-fn put_submit(request: &Request<BufSpec>, out: &mut Vec<u8>) -> Result<(), OutOfMemory>
+fn put_submit(request: &Request<BufSpec, PartsSpec>, out: &mut Vec<u8>) -> Result<(), OutOfMemory>
     ensures ok { OnOk result (out.new.items ≡ out.old.items ++ event_text (Event.Submit request.now)) }
+    ensures err { OnErr result (Starts out.old.items out.new.items) }
+{
+    put(b"submit ", out)?;
+    put_request(request, out)
+}
+
+fn put_request(request: &Request<BufSpec, PartsSpec>, out: &mut Vec<u8>) -> Result<(), OutOfMemory>
+    ensures ok { OnOk result (out.new.items ≡ out.old.items ++ spaced (request_words request.now)) }
     ensures err { OnErr result (Starts out.old.items out.new.items) }
 {
     match request {
         Request::Recv { fd, buf } => {
-            put(b"submit recv ", out)?;
-            put_number(fd.number(), out)?;
+            put_counted(b"recv ", fd.number(), out)?;
             put_byte(b' ', out)?;
             put_buffer(buf, out)
+        }
+        Request::ReadVec { fd, parts } => {
+            put_counted(b"readv ", fd.number(), out)?;
+            put_byte(b' ', out)?;
+            put_parts(parts, out)
+        }
+        Request::Send { fd, buf } => {
+            put_counted(b"send ", fd.number(), out)?;
+            put_byte(b' ', out)?;
+            put_buffer(buf, out)
+        }
+        Request::WriteVec { fd, parts } => {
+            put_counted(b"writev ", fd.number(), out)?;
+            put_byte(b' ', out)?;
+            put_parts(parts, out)
         }
     }
 }
@@ -142,12 +166,32 @@ fn put_buffer_kind(kind: Kind, out: &mut Vec<u8>) -> Result<(), OutOfMemory>
     }
 }
 
+fn put_parts(parts: &PartsSpec, out: &mut Vec<u8>) -> Result<(), OutOfMemory>
+    ensures ok { OnOk result (out.new.items ≡ out.old.items ++ spaced (parts_words parts.now)) }
+    ensures err { OnErr result (Starts out.old.items out.new.items) }
+{
+    put_counted(b"p ", parts.len() as u64, out)?;
+    for i in 0..parts.len() {
+        put_next_number(parts.room(i) as u64, out)?;
+        put_next_bytes(parts.bytes(i), out)?;
+    }
+    Ok(())
+}
+
 fn put_next_number(number: u64, out: &mut Vec<u8>) -> Result<(), OutOfMemory>
     ensures ok { OnOk result (out.new.items ≡ out.old.items ++ 32 ∷ decimal number) }
     ensures err { OnErr result (Starts out.old.items out.new.items) }
 {
     put_byte(b' ', out)?;
     put_number(number, out)
+}
+
+fn put_next_bytes(bytes: &[u8], out: &mut Vec<u8>) -> Result<(), OutOfMemory>
+    ensures ok { OnOk result (out.new.items ≡ out.old.items ++ 32 ∷ bytes_word bytes.now) }
+    ensures err { OnErr result (Starts out.old.items out.new.items) }
+{
+    put_byte(b' ', out)?;
+    put_bytes(bytes, out)
 }
 
 fn put_reply(reply: &Reply, out: &mut Vec<u8>) -> Result<(), OutOfMemory>
@@ -157,6 +201,8 @@ fn put_reply(reply: &Reply, out: &mut Vec<u8>) -> Result<(), OutOfMemory>
     match reply {
         Reply::Handle(h) => put_counted(b"handle ", *h, out),
         Reply::Fed => put(b"fed", out),
+        Reply::Ended => put(b"ended", out),
+        Reply::Output(bytes) => put_output(bytes.as_slice(), out),
         Reply::Submitted(n) => put_counted(b"op ", *n, out),
         Reply::Pending => put(b"pending", out),
         Reply::Handed(outcome, held) => put_ready(*outcome, held, out),
@@ -187,9 +233,25 @@ fn put_ready(outcome: Outcome, held: &HeldBuf, out: &mut Vec<u8>) -> Result<(), 
         Outcome::Fail(e) => put_counted(b"ready err ", e as u64, out)?,
     }
     put_byte(b' ', out)?;
+    put_held(held, out)
+}
+
+fn put_held(held: &HeldBuf, out: &mut Vec<u8>) -> Result<(), OutOfMemory>
+    ensures ok { OnOk result (out.new.items ≡ out.old.items ++ spaced (held_words held.now)) }
+    ensures err { OnErr result (Starts out.old.items out.new.items) }
+{
     match held {
         HeldBuf::One(buf) => put_buffer(buf, out),
+        HeldBuf::Parts(parts) => put_parts(parts, out),
     }
+}
+
+fn put_output(bytes: &[u8], out: &mut Vec<u8>) -> Result<(), OutOfMemory>
+    ensures ok { OnOk result (out.new.items ≡ out.old.items ++ reply_text (Reply.Output bytes.now)) }
+    ensures err { OnErr result (Starts out.old.items out.new.items) }
+{
+    put(b"output", out)?;
+    put_next_bytes(bytes, out)
 }
 
 fn put_turned(
@@ -220,6 +282,7 @@ fn put_refused(refusal: Refusal, out: &mut Vec<u8>) -> Result<(), OutOfMemory>
         Refusal::Full => put(b"Full", out),
         Refusal::NotFlying => put(b"NotFlying", out),
         Refusal::BadOutcome => put(b"BadOutcome", out),
+        Refusal::BadHandleEvent => put(b"BadHandleEvent", out),
     }
 }
 

@@ -111,7 +111,7 @@ fn park_over_a_completion<P: Ledger, D: Ledger, R: Wait + Clock + Abort>(
     let parked = driver.park(rt, &mut sleeper);
     drained(rt, &parked, &[]);
     treated(rt, &parked, &[0], &[8]);
-    ready(rt, &mut driver, op, Outcome::Count(1), b"a");
+    ready(rt, &mut driver, op, Outcome::Count(1), "a");
     Ok(())
 }
 

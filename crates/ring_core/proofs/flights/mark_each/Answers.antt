@@ -1,4 +1,4 @@
-use Rattle.std.proofs.Common.{◌≡◌, ◌<◌, ◌∙◌, length, map, arith}
+use Rattle.std.proofs.Common.{◌∙◌, arith}
 use Rattle.ring_core.specs.Ring.{marked_by}
 use Rattle.ring_core.proofs.Marked.{mapped_front-all, mapped_front-set}
 use Rattle.ring_core.proofs.flights.mark_each.Goals as goal

@@ -1,6 +1,6 @@
 use Rattle.std.proofs.Common.{◌≡◌, ◌%◌, ◌∙◌, ap, suc, length, arith}
 use Rattle.ring_core.specs.Lists.{amended}
-use Rattle.ring_core.proofs.Amended.{amended-at, amended-past}
+use Rattle.ring_core.proofs.Amended.{amended-at}
 use Rattle.ring_core.proofs.tallies.count_word.Goals as goal
 
 pub returns-clause-items : goal.returns-clause-items

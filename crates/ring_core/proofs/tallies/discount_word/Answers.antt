@@ -1,7 +1,7 @@
 use Rattle.std.proofs.Common.{◌≡◌, ◌%◌, ◌∙◌, ap, length, arith}
 use Rattle.ring_core.specs.Lists.{amended}
 use Rattle.ring_core.specs.Flights.{less_one}
-use Rattle.ring_core.proofs.Amended.{amended-at, amended-past}
+use Rattle.ring_core.proofs.Amended.{amended-at}
 use Rattle.ring_core.proofs.tallies.discount_word.Goals as goal
 
 pub returns-clause-items : goal.returns-clause-items

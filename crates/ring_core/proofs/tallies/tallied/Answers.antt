@@ -1,4 +1,4 @@
-use Rattle.std.proofs.Common.{◌≡◌, ◌+◌, take, length-take-le, sym, subst, arith}
+use Rattle.std.proofs.Common.{◌+◌, take, length-take-le, sym, subst, arith}
 use Rattle.ring_core.specs.Flights.{AreTallied}
 use Rattle.ring_core.proofs.Tallying.{tallied-more, tally-room}
 use Rattle.ring_core.proofs.tallies.tallied.Goals as goal

@@ -1,4 +1,4 @@
-use Rattle.std.proofs.Common.{◌≡◌, ◌∙◌, sym, subst, arith}
+use Rattle.std.proofs.Common.{◌∙◌, sym, subst, arith}
 use Rattle.ring_core.specs.Flights.{AreTallied}
 use Rattle.ring_core.proofs.Tallying.{tallied-marked}
 use Rattle.ring_core.proofs.flights.Flights.mark.Goals as goal

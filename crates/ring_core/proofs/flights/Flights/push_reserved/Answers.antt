@@ -1,4 +1,4 @@
-use Rattle.std.proofs.Common.{◌≡◌, [], ◌∷◌, ◌++◌, false, length, sym, subst, arith}
+use Rattle.std.proofs.Common.{[], ◌∷◌, ◌++◌, false, sym, subst, arith}
 use Rattle.ring_core.specs.Flights.{AreTallied}
 use Rattle.ring_core.proofs.Tallying.{tallied-counted, tally-room}
 use Rattle.ring_core.proofs.flights.Flights.push_reserved.Goals as goal

@@ -3,7 +3,8 @@ use Rattle.rent_buf.specs.Buf.{built}
 use Rattle.ring_core.specs.declared.ledger.Event.TheVariants.{Cancel}
 use Rattle.ring_core.specs.declared.ledger.Reply.TheVariants.{Asked}
 use Rattle.uring_driver.specs.Stands.{Answers}
-use Rattle.session_run.proofs.Steps.{answers-kept, answers-refused, stands-kept, cause-cancel, no_token-lacks}
+use Rattle.session_run.proofs.Refusals.{cause-cancel, no_token-lacks}
+use Rattle.session_run.proofs.Steps.{answers-kept, answers-refused, stands-kept}
 use Rattle.session_run.proofs.session.Session.cancel.Goals as goal
 
 pub returns-in-None : goal.returns-in-None

@@ -1,5 +1,8 @@
-use Rattle.std.proofs.Common.{refl, sym, ◌∙◌}
-use Rattle.session_run.proofs.Steps.{answers-kept, answers-refused, stands-same, cause-feed}
+use Rattle.std.proofs.Common.{refl, sym, subst, ◌∙◌}
+use Rattle.ring_core.specs.declared.ledger.Event.TheVariants.{Feed}
+use Rattle.uring_driver.specs.Handles.{RefusedFor}
+use Rattle.session_run.proofs.Refusals.{cause-feed}
+use Rattle.session_run.proofs.Steps.{answers-kept, answers-refused, stands-same}
 use Rattle.session_run.proofs.session.Session.feed.Goals as goal
 
 pub returns-then-not-user_holds : goal.returns-then-not-user_holds
@@ -9,5 +12,9 @@ returns-then-not-user_holds c = λ L stands. answers-refused c.args.self.now _ L
 pub returns-in-Ok : goal.returns-in-Ok
 returns-in-Ok c = λ L stands. answers-kept c.args.self.now _ L _ _ stands refl (c.in-Ok.ensures.answers L stands.driver) (λ none. c.in-Ok.ensures.due ∙ none) c.in-Ok.ensures.tokens c.in-Ok.ensures.given
 
-pub returns-in-Err : goal.returns-in-Err
-returns-in-Err c = λ L stands. stands-same c.args.self.now _ L stands c.in-Err.ensures.err refl
+pub returns-in-Err-BadHandleEvent : goal.returns-in-Err-BadHandleEvent
+returns-in-Err-BadHandleEvent c = λ L stands. answers-refused c.args.self.now _ L _ _ stands
+    (subst (λ why. RefusedFor L (Feed c.args.h c.args.bytes.now) why) c.in-Err-BadHandleEvent.field-0-is (c.in-Err-BadHandleEvent.ensures.answers L stands.driver)) c.in-Err-BadHandleEvent.ensures.err refl
+
+pub returns-in-Err-OutOfMemory : goal.returns-in-Err-OutOfMemory
+returns-in-Err-OutOfMemory c = λ L stands. stands-same c.args.self.now _ L stands c.in-Err-OutOfMemory.ensures.err refl

@@ -5,7 +5,8 @@ use Rattle.ring_core.specs.declared.ledger.Reply.TheVariants.{Dropped}
 use Rattle.uring_driver.specs.Stands.{Answers}
 use Rattle.session_run.specs.Token.{token_at, by_number}
 use Rattle.session_run.proofs.KeptTokens.{emptied-none}
-use Rattle.session_run.proofs.Steps.{answers-refused, answers-taken, cause-drop, no_token-lacks}
+use Rattle.session_run.proofs.Refusals.{cause-drop, no_token-lacks}
+use Rattle.session_run.proofs.Steps.{answers-refused, answers-taken}
 use Rattle.session_run.proofs.session.Session.give_up.Goals as goal
 
 pub returns-in-None : goal.returns-in-None

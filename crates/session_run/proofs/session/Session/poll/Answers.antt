@@ -7,7 +7,8 @@ use Rattle.ring_core.specs.declared.ledger.Reply.TheVariants.{Pending, Handed}
 use Rattle.uring_driver.specs.Stands.{Answers}
 use Rattle.session_run.specs.Token.{token_at, by_number}
 use Rattle.session_run.proofs.KeptTokens.{emptied-none, token_at-emptied, put-taken}
-use Rattle.session_run.proofs.Steps.{answers-kept, answers-refused, answers-taken, cause-poll, no_token-lacks}
+use Rattle.session_run.proofs.Refusals.{cause-poll, no_token-lacks}
+use Rattle.session_run.proofs.Steps.{answers-kept, answers-refused, answers-taken}
 use Rattle.session_run.proofs.session.Session.poll.Goals as goal
 
 pub returns-in-None : goal.returns-in-None

@@ -2,7 +2,8 @@ use Rattle.std.proofs.Common.{refl, sym, subst, ap, ◌∙◌}
 use Rattle.ring_core.specs.declared.ledger.Event.TheVariants.{Submit}
 use Rattle.uring_driver.specs.Driver.{holds_all}
 use Rattle.session_run.specs.Session.{StepsFor}
-use Rattle.session_run.proofs.Steps.{answers-refused, stands-same, cause-submit_handle, cause-submit_full}
+use Rattle.session_run.proofs.Refusals.{cause-submit_handle, cause-submit_full}
+use Rattle.session_run.proofs.Steps.{answers-refused, stands-same}
 use Rattle.session_run.proofs.session.Session.submit.Goals as goal
 
 pub returns-then-not-holds_named : goal.returns-then-not-holds_named

@@ -1,7 +1,11 @@
 use Rattle.std.proofs.Common.{refl, ap}
-use Rattle.uring_driver.proofs.Starting.{stands-feeds}
+use Rattle.uring_driver.proofs.Starting.{stands-feeds, refuses-feed}
 use Rattle.uring_driver.proofs.driver.IoUringDriver+MemRing+B.feed.Goals as goal
 
-pub returns-clause-answers : goal.returns-clause-answers
-returns-clause-answers g c = λ L stands.
-    stands-feeds g.B.IoBufMut.buffer c.args.self.now _ L stands refl (ap (λ x. x.due) c.in_ok-feed.ensures.ok) (ap (λ x. x.room) c.in_ok-feed.ensures.ok) refl c.args.h c.args.bytes.now c.requires (ap (λ x. x.ring) c.in_ok-feed.ensures.ok) refl refl
+pub returns-in-Ok-clause-answers : goal.returns-in-Ok-clause-answers
+returns-in-Ok-clause-answers g c = λ L stands.
+    let changed = c.in-Ok.ensures.ok in
+    stands-feeds g.B.IoBufMut.buffer c.args.self.now _ L stands refl (ap (λ x. x.due) changed) (ap (λ x. x.room) changed) refl c.args.h c.args.bytes.now c.requires c.in-Ok.ensures.live (ap (λ x. x.ring) changed) refl refl
+
+pub returns-in-Err-clause-answers : goal.returns-in-Err-clause-answers
+returns-in-Err-clause-answers g c = λ L stands. refuses-feed g.B.IoBufMut.buffer c.args.self.now L stands c.args.h c.requires c.args.bytes.now c.in-Err.why c.in-Err.ensures.why

@@ -1,5 +1,4 @@
 use Rattle.std.proofs.Common.{◌+◌, ◌≤◌, refl, subst}
-use Rattle.uring_driver.specs.Outbox.{pending_ring}
 use Rattle.uring_driver.proofs.Entering.{on-err}
 use Rattle.uring_driver.proofs.Drops.{cancel-asks, cancel-joins}
 use Rattle.uring_driver.proofs.Starting.{stands-same}

@@ -1,0 +1,85 @@
+-- Worked runs of the machine on outcomes: which are allowed, and what an end changes.
+use Rattle.std.specs.Prelude.{◌≡◌, [], ◌∷◌}
+use Rattle.rent_buf.specs.declared.spec.HeldBuf.TheVariants.{One}
+use Rattle.ring_core.specs.declared.world.HandleKind.TheVariants.{Stream}
+use Rattle.ring_core.specs.declared.request.Request.TheVariants.{Recv}
+use Rattle.ring_core.specs.declared.request.Told.TheVariants.{Count, Fail}
+use Rattle.ring_core.specs.declared.request.Outcome.{Outcome}
+use Rattle.ring_core.specs.declared.ledger.Event.TheVariants.{Give, Feed, End, Submit, Poll, Turn, Exec}
+use Rattle.ring_core.specs.declared.ledger.Refusal.TheVariants.{BadOutcome, BadHandleEvent}
+use Rattle.ring_core.specs.declared.ledger.Reply.TheVariants.{Handle, Fed, Ended, Submitted, Handed, Turned, ExecutedOp, Refused}
+use Rattle.ring_core.specs.Ledger.{empty}
+use Rattle.ring_core.specs.Run.{replies}
+use Rattle.ring_core.specs.Rows.{vector}
+
+-- A count above the input, a count of 0 that isn't allowed, and one that is.
+abbrev pub RefusedOutcomes : Type 0
+RefusedOutcomes =
+    replies (empty 4) (
+    Give Stream ∷
+    Submit (Recv 0 (vector 2 0 2 [])) ∷
+    Turn ∷
+    Feed 0 (97 ∷ []) ∷
+    Exec 0 (Count 2) ∷
+    Exec 0 (Count 0) ∷
+    Exec 0 (Count 1) ∷ [])
+    ≡ (
+    Handle 0 ∷
+    Submitted 0 ∷
+    Turned [] [] [] ∷
+    Fed ∷
+    Refused BadOutcome ∷
+    Refused BadOutcome ∷
+    ExecutedOp 0 ∷ [])
+
+-- Errors: 0 and 4096 aren't any, that of a cancel wants one, and another hands back the submitted buffer.
+abbrev pub Errors : Type 0
+Errors =
+    replies (empty 4) (
+    Give Stream ∷
+    Feed 0 (97 ∷ []) ∷
+    Submit (Recv 0 (vector 2 0 2 (48 ∷ 49 ∷ []))) ∷
+    Turn ∷
+    Exec 0 (Fail 0) ∷
+    Exec 0 (Fail 4096) ∷
+    Exec 0 (Fail 125) ∷
+    Exec 0 (Fail 104) ∷
+    Turn ∷
+    Poll 0 1 ∷ [])
+    ≡ (
+    Handle 0 ∷
+    Fed ∷
+    Submitted 0 ∷
+    Turned [] [] [] ∷
+    Refused BadOutcome ∷
+    Refused BadOutcome ∷
+    Refused BadOutcome ∷
+    ExecutedOp 0 ∷
+    Turned (0 ∷ []) [] [] ∷
+    Handed (Outcome.Fail 104) (One (vector 2 0 2 (48 ∷ 49 ∷ []))) ∷ [])
+
+-- A count of 0 is allowed once the input has ended; then nothing arrives, and no second end.
+abbrev pub ReadAtTheEnd : Type 0
+ReadAtTheEnd =
+    replies (empty 4) (
+    Give Stream ∷
+    Submit (Recv 0 (vector 4 0 4 (48 ∷ []))) ∷
+    Turn ∷
+    Exec 0 (Count 0) ∷
+    End 0 ∷
+    Exec 0 (Count 0) ∷
+    Turn ∷
+    Poll 0 1 ∷
+    End 0 ∷
+    Feed 0 (97 ∷ []) ∷ [])
+    ≡ (
+    Handle 0 ∷
+    Submitted 0 ∷
+    Turned [] [] [] ∷
+    Refused BadOutcome ∷
+    Ended ∷
+    ExecutedOp 0 ∷
+    Turned (0 ∷ []) [] [] ∷
+    Handed (Outcome.Count 0) (One (vector 4 0 4 [])) ∷
+    Refused BadHandleEvent ∷
+    Refused BadHandleEvent ∷ [])

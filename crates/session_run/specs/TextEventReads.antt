@@ -1,0 +1,85 @@
+-- What the readers of a line's requests and events answer. Only contracts of private functions cite these: `event_of-stands` and
+-- `stands-event_of` (proofs/TextEvents.antt) prove that a line is read as an event exactly where it stands for it.
+use Rattle.std.specs.Prelude.{ℕ, ◌^◌, nat_lt, if◌then◌else◌, List, [], ◌∷◌, codes, bytes_eq, Option, None, option_and_then, option_map}
+use Rattle.rent_buf.specs.Buffer.{Buffer}
+use Rattle.rent_buf.specs.Parts.{Parts}
+use Rattle.ring_core.specs.declared.ledger.Event.{Event}
+use Rattle.ring_core.specs.declared.ledger.Event.TheVariants.{Give, Feed, End, Look, Submit, Poll, Drop, Cancel, Turn, Exec}
+use Rattle.ring_core.specs.declared.request.Request.{Request}
+use Rattle.ring_core.specs.declared.request.Request.TheVariants.{Recv, ReadVec, Send, WriteVec}
+use Rattle.ring_core.specs.declared.request.Told.{Told}
+use Rattle.ring_core.specs.declared.request.Told.TheVariants.{Count, Fail}
+use Rattle.session_run.specs.TextReads.{number_field, bytes_end, at_end, handle_kind_of, buffer_of, parts_of}
+
+-- The handle that the first word writes, with what the further words write.
+abbrev pub with_handle : {A : Type 0} → (List (List ℕ) → Option A) → List (List ℕ) → Option (ℕ × A)
+with_handle read words = option_and_then (λ h. option_map (λ found. (h.0, found)) (read h.1)) (number_field words)
+
+-- The request of this name that the words behind it write.
+abbrev pub request_by : List ℕ → List (List ℕ) → Option (Request Buffer Parts)
+request_by word words =
+    if bytes_eq word (codes "recv") then option_map (λ found. Recv found.0 found.1) (with_handle buffer_of words)
+    else if bytes_eq word (codes "readv") then option_map (λ found. ReadVec found.0 found.1) (with_handle parts_of words)
+    else if bytes_eq word (codes "send") then option_map (λ found. Send found.0 found.1) (with_handle buffer_of words)
+    else if bytes_eq word (codes "writev") then option_map (λ found. WriteVec found.0 found.1) (with_handle parts_of words)
+    else None
+
+-- The request that words write.
+abbrev pub request_of : List (List ℕ) → Option (Request Buffer Parts)
+request_of [] = None
+request_of (word ∷ words) = request_by word words
+
+-- What an executor tells, by a number below a bound, where no further word stands.
+abbrev pub told_below : ℕ → (ℕ → Told) → ℕ × List (List ℕ) → Option Told
+told_below bound make n = if nat_lt n.0 bound then at_end (make n.0) n.1 else None
+
+-- What an executor tells, by words.
+abbrev pub told_of : List (List ℕ) → Option Told
+told_of [] = None
+told_of (word ∷ words) =
+    if bytes_eq word (codes "ok") then option_and_then (told_below (2 ^ 32) Count) (number_field words)
+    else if bytes_eq word (codes "err") then option_and_then (told_below (2 ^ 16) Fail) (number_field words)
+    else None
+
+-- The events by the words behind their first one.
+abbrev pub turn_of : List (List ℕ) → Option Event
+turn_of words = at_end Turn words
+
+abbrev pub give_of : List (List ℕ) → Option Event
+give_of [] = None
+give_of (word ∷ words) = option_and_then (λ kind. at_end (Give kind) words) (handle_kind_of word)
+
+abbrev pub feed_of : List (List ℕ) → Option Event
+feed_of words = option_and_then (λ h. option_map (λ bytes. Feed h.0 bytes) (bytes_end h.1)) (number_field words)
+
+abbrev pub submit_of : List (List ℕ) → Option Event
+submit_of words = option_map Submit (request_of words)
+
+abbrev pub poll_of : List (List ℕ) → Option Event
+poll_of words = option_and_then (λ n. option_and_then (λ task. at_end (Poll n.0 task.0) task.1) (number_field n.1)) (number_field words)
+
+abbrev pub numbered_of : (ℕ → Event) → List (List ℕ) → Option Event
+numbered_of make words = option_and_then (λ n. at_end (make n.0) n.1) (number_field words)
+
+abbrev pub exec_of : List (List ℕ) → Option Event
+exec_of words = option_and_then (λ place. option_map (λ told. Exec place.0 told) (told_of place.1)) (number_field words)
+
+-- The event by its first word and those behind it.
+unfoldable pub event_by : List ℕ → List (List ℕ) → Option Event
+event_by word words =
+    if bytes_eq word (codes "turn") then turn_of words
+    else if bytes_eq word (codes "exec") then exec_of words
+    else if bytes_eq word (codes "poll") then poll_of words
+    else if bytes_eq word (codes "feed") then feed_of words
+    else if bytes_eq word (codes "submit") then submit_of words
+    else if bytes_eq word (codes "give") then give_of words
+    else if bytes_eq word (codes "drop") then numbered_of Drop words
+    else if bytes_eq word (codes "cancel") then numbered_of Cancel words
+    else if bytes_eq word (codes "end") then numbered_of End words
+    else if bytes_eq word (codes "look") then numbered_of Look words
+    else None
+
+-- The event that words write.
+abbrev pub event_of : List (List ℕ) → Option Event
+event_of [] = None
+event_of (word ∷ words) = event_by word words

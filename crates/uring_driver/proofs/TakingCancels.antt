@@ -1,0 +1,153 @@
+-- What taking a cancel off the queue does to a ring and slots that mean a ledger.
+use Rattle.std.proofs.Common.{◌≡◌, ◌≢◌, inl, inr, ℕ, suc, Bool, true, false, List, [], ◌∷◌, ◌++◌, map, Option, Some, None, refl, sym, ◌∙◌, ap, subst, arith}
+use Rattle.std.specs.Prelude.{slice_get, ◌==◌, ◌||◌}
+use Rattle.std.specs.Ordering.{nat_cmp}
+use Rattle.std.specs.FinMap.{FinMap}
+use Rattle.std.proofs.lemmas.Bool.Decides.{nat_tests}
+use Rattle.rent_buf.specs.Buffer.{Buffer}
+use Rattle.ring_core.specs.Ring.{RingView, marked_by}
+use Rattle.ring_core.specs.Lists.{amended}
+use Rattle.ring_core.specs.declared.request.Outcome.TheVariants.{Count as Counted}
+use Rattle.ring_core.specs.declared.entry.Body.TheVariants.{Cancel as Cancels}
+use Rattle.ring_core.specs.declared.entry.Entry.{Entry}
+use Rattle.ring_core.specs.declared.entry.Flight.{Flight}
+use Rattle.ring_core.specs.declared.entry.Completion.{Completion}
+use Rattle.ring_core.specs.Ledger.{Ledger, Cancel, Op, Operation, Place, InQueue, InFlight, InDone, Reaped, Gone, is_live, is_owned}
+use Rattle.ring_core.specs.Queue.{take_one, canceled_at, with_cancel}
+use Rattle.ring_core.proofs.Amended.{get-amended-same, get-amended-other}
+use Rattle.uring_driver.specs.declared.slot.Slot.{Slot}
+use Rattle.uring_driver.specs.Slots.{SlotFor, SlotsStand}
+use Rattle.uring_driver.specs.Lists.{EntryFor, IsAt, IsFlown, Meets, ListsStand, Once, queued_of, item_of, done_item_of, kept}
+use Rattle.uring_driver.specs.Stands.{Means}
+use Rattle.uring_driver.proofs.Lists.{same-or-not, map-get, amended-absent}
+use Rattle.uring_driver.proofs.Kept.{cancel-queued, queued-kept, kept-reserved, cancel-reserved}
+use Rattle.uring_driver.proofs.Slots.{slots-amended}
+use Rattle.uring_driver.proofs.Heads.{at-head, behind-head, cancels-left}
+
+or-true : (b : Bool) → (b || true) ≡ true
+or-true true = refl
+or-true false = refl
+
+or-false : (b : Bool) → (b || false) ≡ b
+or-false true = refl
+or-false false = refl
+
+equal-test : (a b : ℕ) → a ≡ b → (a == b) ≡ true
+equal-test a b h = grind (arith, nat_tests)
+
+differ-test : (a b : ℕ) → a ≢ b → (a == b) ≡ false
+differ-test a b h = grind (arith, nat_tests)
+
+-- The taking of a cancel changes whether it was taken, and nothing else.
+cancel-same : (p : Place) (o : Operation) → canceled_at p o ≡ record o { canceled = (canceled_at p o).canceled }
+cancel-same InQueue o = refl
+cancel-same InFlight o = refl
+cancel-same (InDone r) o = refl
+cancel-same (Reaped r) o = refl
+cancel-same Gone o = refl
+
+pub cancel-owned : (o : Operation) → is_owned (with_cancel o) ≡ is_owned o
+cancel-owned o = ap is_owned (cancel-same o.place o)
+
+cancel-live : (o : Operation) → is_live (with_cancel o) ≡ is_live o
+cancel-live o = ap is_live (cancel-same o.place o)
+
+same-flying : (key : ℕ) (fs : List Flight) → map item_of (map (marked_by key) fs) ≡ map item_of fs
+same-flying key [] = refl
+same-flying key (f ∷ fs) = ap (λ xs. Op f.entry.serial ∷ xs) (same-flying key fs)
+
+-- A cancel is taken: what is in flight with its key is marked, and it leaves a completion that isn't kept.
+module _ {B : Type 0} (buffer : B → Buffer) (v : RingView) (slots : FinMap nat_cmp (Slot B)) (L : Ledger) (e : Entry) (rest : List Entry)
+    (old : Means buffer v slots L) (first : v.queue ≡ e ∷ rest) (key : ℕ) (body : e.body ≡ Cancels key) where
+  at_head : slice_get v.queue 0 ≡ Some e
+  at_head = at-head v e rest first
+
+  later : (i : ℕ) (x : Entry) → slice_get rest i ≡ Some x → slice_get v.queue (suc i) ≡ Some x
+  later = behind-head v e rest first
+
+  abbrev marked_ops : List Operation
+  marked_ops = amended L.ops e.serial with_cancel
+
+  abbrev answer : Completion
+  answer = record { word = e.word; serial = e.serial; outcome = Counted 0 }
+
+  same-kept : kept (v.done ++ answer ∷ []) ≡ kept v.done
+  same-kept = kept-reserved v.done answer (cancel-reserved e.word (cancel-queued buffer slots L.ops e e.body (old.in_lists.in_queue 0 e at_head) key body))
+
+  -- An operation stays where it was.
+  stays-at : (m : ℕ) (p : Place) → IsAt L.ops m p → IsAt marked_ops m p
+  stays-at m p a = elim (same-or-not m e.serial) [
+    | inl q ↦ record {
+      operation = with_cancel a.operation;
+      there = ap (slice_get marked_ops) q ∙ get-amended-same with_cancel L.ops e.serial a.operation (ap (slice_get L.ops) (sym q) ∙ a.there);
+      stays = ap (λ x. x.place) (cancel-same a.operation.place a.operation) ∙ a.stays;
+    }
+    | inr q ↦ record { operation = a.operation; there = get-amended-other with_cancel L.ops e.serial m q ∙ a.there; stays = a.stays }
+  ]
+
+  -- The central step: the ring compares words alone, and marks just the entry of the number that the cancel was pushed for.
+  flown-marked : (i : ℕ) (f : Flight) → slice_get v.flying i ≡ Some f → IsFlown marked_ops (marked_by key f)
+  flown-marked i f h =
+      let a = (old.in_lists.in_flight i f h).1 in
+      let meets = old.in_lists.cancels.flown i 0 f e key h at_head body in
+      elim (same-or-not f.entry.serial e.serial) [
+        | inl q ↦ record {
+          operation = with_cancel a.operation;
+          there = ap (slice_get marked_ops) q ∙ get-amended-same with_cancel L.ops e.serial a.operation (ap (slice_get L.ops) (sym q) ∙ a.there);
+          stays = ap (λ x. x.place) (cancel-same a.operation.place a.operation) ∙ a.stays;
+          marked = ap (λ b. f.marked || b) (equal-test f.entry.word key (meets.by_serial q)) ∙ or-true f.marked ∙ sym (ap (λ p. (canceled_at p a.operation).canceled) a.stays);
+        }
+        | inr q ↦ record {
+          operation = a.operation;
+          there = get-amended-other with_cancel L.ops e.serial f.entry.serial q ∙ a.there;
+          stays = a.stays;
+          marked = ap (λ b. f.marked || b) (differ-test f.entry.word key (λ w. q (meets.by_word w))) ∙ or-false f.marked ∙ a.marked;
+        }
+      ]
+
+  marked-fits : (t : Slot B) → t.serial ≡ e.serial → SlotFor buffer L.ops t → SlotFor buffer marked_ops t
+  marked-fits t q m = record {
+    operation = record m.operation { canceled = (canceled_at m.operation.place m.operation).canceled };
+    there = ap (slice_get (amended L.ops e.serial with_cancel)) q ∙ get-amended-same with_cancel L.ops e.serial m.operation (ap (slice_get L.ops) (sym q) ∙ m.there) ∙ ap (λ x. Some x) (cancel-same m.operation.place m.operation);
+    live = m.live;
+    request = m.request;
+    held = m.held;
+    life = m.life;
+    fresh = m.fresh;
+    uncanceled = λ z. ap (λ p. (canceled_at p m.operation).canceled) z ∙ m.uncanceled z;
+  }
+
+  slots-marked : (x : Option Operation) → slice_get L.ops e.serial ≡ x → SlotsStand buffer slots marked_ops
+  slots-marked None h = subst (λ ops. SlotsStand buffer slots ops) (sym (amended-absent L.ops e.serial with_cancel h)) old.in_slots
+  slots-marked (Some o) h = slots-amended buffer slots L.ops e.serial with_cancel o old.in_slots h (cancel-live o) marked-fits
+
+  lists-cancel : ListsStand buffer slots (record v { queue = rest; flying = map (marked_by key) v.flying; done = v.done ++ answer ∷ [] }) (take_one (record L { queue = map queued_of rest }) (Cancel e.serial))
+  lists-cancel = record {
+    queue = refl;
+    flying = old.in_lists.flying ∙ sym (same-flying key v.flying);
+    done = old.in_lists.done ∙ ap (map done_item_of) (sym same-kept);
+    in_queue = λ i x h. queued-kept buffer slots slots L.ops marked_ops x x.body (λ c a. (a.0, stays-at x.serial InQueue a.1)) (old.in_lists.in_queue (suc i) x (later i x h));
+    in_flight = λ i f h. (
+        let g = map-get (marked_by key) v.flying i f h in
+        subst (λ y. EntryFor buffer slots y.entry × IsFlown marked_ops y) (sym g.2) ((old.in_lists.in_flight i g.0 g.1).0, flown-marked i g.0 g.1));
+    in_done = λ i c h. (
+        let a = old.in_lists.in_done i c (ap (λ xs. slice_get xs i) (sym same-kept) ∙ h) in
+        (a.0, stays-at c.serial (InDone c.outcome) a.1));
+    queue_once = λ i j x y h k a b q. (let z = old.in_lists.queue_once (suc i) (suc j) x y (later i x h) (later j y k) a b q in cc);
+    flight_once = λ i j x y h k q. (
+        let a = map-get (marked_by key) v.flying i x h in
+        let b = map-get (marked_by key) v.flying j y k in
+        old.in_lists.flight_once i j a.0 b.0 a.1 b.1 (ap (λ z. z.entry.serial) (sym a.2) ∙ q ∙ ap (λ z. z.entry.serial) b.2));
+    done_once = subst (λ xs. Once (λ (c : Completion). c.serial) xs) (sym same-kept) old.in_lists.done_once;
+    cancels = cancels-left v e rest first old.in_lists.cancels (map (marked_by key) v.flying) (λ i j f c k h l b. (
+        let g = map-get (marked_by key) v.flying i f h in
+        subst (λ y. Meets y.entry k c.serial) (sym g.2) (old.in_lists.cancels.flown i (suc j) g.0 c k g.1 (later j c l) b)));
+  }
+
+  pub means-cancel : Means buffer (record v { queue = rest; flying = map (marked_by key) v.flying; done = v.done ++ answer ∷ [] }) slots (take_one (record L { queue = map queued_of rest }) (Cancel e.serial))
+  means-cancel = record {
+    capacity = old.capacity;
+    world = old.world;
+    in_slots = slots-marked (slice_get L.ops e.serial) refl;
+    in_lists = lists-cancel;
+  }

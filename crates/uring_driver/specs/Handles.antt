@@ -1,0 +1,43 @@
+-- What the calls on handles answer. Cited by `feed`, `end` and `look` of the driver, and of its outbox.
+use Rattle.std.specs.Prelude.{ℕ, ◌≡◌, true, false, List, Some, None, Result, Ok, Err}
+use Rattle.rent_buf.specs.Buffer.{Buffer}
+use Rattle.ring_core.specs.declared.world.HandleState.{HandleState}
+use Rattle.ring_core.specs.declared.world.Look.{Look}
+use Rattle.ring_core.specs.declared.world.Look.TheVariants.{Bytes}
+use Rattle.ring_core.specs.declared.world.WorldError.{WorldError}
+use Rattle.ring_core.specs.declared.world.WorldError.TheVariants.{BadHandleEvent, OutOfMemory}
+use Rattle.ring_core.specs.declared.ledger.Event.{Event}
+use Rattle.ring_core.specs.declared.ledger.Event.TheVariants.{Feed, End, Look as Looks}
+use Rattle.ring_core.specs.declared.ledger.Reply.TheVariants.{Fed, Ended, Output}
+use Rattle.ring_core.specs.declared.ledger.Refusal.TheVariants.{BadHandleEvent as HasEnded}
+use Rattle.ring_core.specs.World.{is_ended_at}
+use Rattle.ring_core.specs.Refusal.{cause}
+use Rattle.ring_core.specs.Ledger.{Ledger}
+use Rattle.ring_core.specs.Step.{step}
+use Rattle.ring_core.specs.Ring.{RingView}
+use Rattle.uring_driver.specs.declared.driver.IoUringDriver.{IoUringDriver}
+use Rattle.uring_driver.specs.Stands.{Answers}
+
+-- Why nothing arrived at a handle: its end is marked; or it isn't, and memory ran out.
+abbrev pub RefusedAt : List HandleState → ℕ → WorldError → Type 0
+RefusedAt world h BadHandleEvent = is_ended_at world h ≡ true
+RefusedAt world h OutOfMemory = is_ended_at world h ≡ false
+
+-- Why a call on a handle was refused: by the machine's cause. For want of memory there is none.
+abbrev pub RefusedFor : Ledger → Event → WorldError → Type 0
+RefusedFor L event BadHandleEvent = cause L event ≡ Some HasEnded
+RefusedFor L event OutOfMemory = cause L event ≡ None
+
+-- Bytes that arrive are answered as the machine answers them.
+abbrev pub FeedsFor : {B : Type 0} → (B → Buffer) → Ledger → ℕ → List ℕ → IoUringDriver RingView B → Result Unit WorldError → Type 0
+FeedsFor buffer L h bytes new (Ok done) = Answers (λ r. r) buffer L (Feed h bytes) Fed new
+FeedsFor buffer L h bytes new (Err why) = RefusedFor L (Feed h bytes) why
+
+-- The end of what arrives is answered as the machine answers it.
+abbrev pub EndsFor : {B : Type 0} → (B → Buffer) → Ledger → ℕ → IoUringDriver RingView B → Result Unit WorldError → Type 0
+EndsFor buffer L h new (Ok done) = Answers (λ r. r) buffer L (End h) Ended new
+EndsFor buffer L h new (Err why) = RefusedFor L (End h) why
+
+-- A look shows what the machine replies, which stays as it is.
+abbrev pub LooksFor : Ledger → ℕ → Look → Type 0
+LooksFor L h (Bytes bytes) = step L (Looks h) ≡ (L, Output bytes)
