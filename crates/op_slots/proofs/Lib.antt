@@ -1,3 +1,9 @@
+pub mod Pages
+pub mod Entries
 pub mod Places
-pub mod Free
+pub mod AllPlaces
+pub mod Searching
+pub mod Kept
+pub mod Inserting
+pub mod Removing
 pub mod Lent

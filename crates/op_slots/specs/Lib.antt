@@ -1,5 +1,10 @@
+pub mod Pages
 pub mod Slots
+pub mod Page
+pub mod Entry
+pub mod LendsPlace
 pub mod Places
+pub mod NoPlace
 pub mod InsertError
 pub mod Slab
 pub mod Ref

@@ -6,9 +6,9 @@ use Rattle.std.specs.FinMap as map
 use Rattle.std.proofs.Common.{ap, ◌∙◌}
 use mir.Syntax.{named}
 use Rattle.op_slots.specs.Slots.{Slots, IsLive, with_value}
-use Rattle.op_slots.specs.declared.slab.slot.Ref.{Ref}
+use Rattle.op_slots.specs.declared.slab.ref_mut.Ref.{Ref}
 use Rattle.op_slots.specs.contracts.slab.Slab.{the_row}
-use Rattle.op_slots.specs.contracts.slab.slot.Ref as slot
+use Rattle.op_slots.specs.contracts.slab.ref_mut.Ref as slot
 
 module _ {T : Type 0} where
   -- the reference to the slab
@@ -25,7 +25,8 @@ module _ {T : Type 0} where
 
   -- a key that was given a value is live
   pub live_with_value : (slots : Slots T) (key : ℕ) (value : T) → IsLive (with_value slots key value) key
-  live_with_value slots key value = ap is_some (map.get-insert nat_cmp_total slots.values key value key) ∙ ap (λ b. is_some (cond b (Some value) (map.get slots.values key))) ((eq_by_cmp_equiv nat_cmp_total).refl key)
+  live_with_value slots key value = ap is_some (map.get-insert nat_cmp_total slots.values key value key)
+      ∙ ap (λ b. is_some (cond b (Some value) (map.get slots.values key))) ((eq_by_cmp_equiv nat_cmp_total).refl key)
 
   -- the slot, once this is its value
   abbrev pub with_slot_value : Ref T → T → Ref T

@@ -1,36 +1,45 @@
-// A finite map that chooses the keys of its values.
-ghost use Rattle.std.specs.Prelude.{◌≡◌, ◌+◌, ◌<◌, ◌≤◌, [], ◌∷◌, ◌++◌, ◌⊎◌, ◌↔◌, length, vec_len, vec_capacity, IfOk, OnOk, OnErr, IfErr, IsErrOf, OnSome, IfSome, IfNone, IsSome, None, Some, option_copied, slice_set};
+//! A finite map that chooses the keys of its values, which lie on pages of doubling size.
+ghost use Rattle.std.specs.Prelude.{◌≡◌, ◌+◌, ◌<◌, ◌≤◌, ◌%◌, ◌↔◌, max, vec_len, IfOk, OnOk, OnErr, IfErr, IsErrOf, OnSome, IfSome, IfNone, IsSome, IsTrue, None, Some, option_copied};
 ghost use Rattle.std.specs.Borrow.{sem};
 ghost use Rattle.std.specs.FinMap as map;
-ghost use Rattle.std.specs.Option.Follows.{option_follows_value};
-ghost use Rattle.op_slots.specs.Slots.{IsLive, AreKeysBelow};
+ghost use Rattle.op_slots.specs.Pages.{page_of as page_by_rule};
+ghost use Rattle.op_slots.specs.Slots.{IsLive, AreKeysBelow, AreOnPages, MakesPage, GivesBackPage};
 ghost use Rattle.op_slots.specs.InsertError.{IsRefused};
-ghost use Rattle.op_slots.specs.Places.{at};
+ghost use Rattle.op_slots.specs.Page.{at};
+ghost use Rattle.op_slots.specs.Places.{HasMemoryAt, HasAt, TakesFrom, PutsOn, DropsLast};
 ghost use Rattle.op_slots.specs.Slab.{LendsValue};
 ghost use Rattle.op_slots.specs.Ref.{slab_lent, slots_lent, key_lent, RestsIfNotLive};
 
-mod slot;
+mod page;
+mod pages;
+mod ref_mut;
+mod search;
 
-pub use slot::Ref;
+use page::Page;
+use pages::first_key;
+pub use pages::{NUM_PAGES, PAGE_INITIAL_SIZE, page_of};
+pub use ref_mut::Ref;
+use search::{NoPlace, make_place};
 use std::alloc::Global;
 use std::marker::Model;
 use thiserror::Error;
 
 /// How many keys can be live, and the first number that is never a key.
 ///
-/// From monoio's `Slab`, whose 26 pages have so many slots.
+/// From monoio's `Slab`, whose 26 pages have so many places.
 pub const MAX_LIVE: usize = 4294967232;
 
-/// Memory ran out, and nothing changed.
+/// After so many removals the last page is given back, where it is empty and isn't page 0.
 ///
-/// (own)
+/// monoio: `COMPACT_INTERVAL`.
+pub const COMPACT_INTERVAL: usize = 2048;
+
+/// Memory ran out, and nothing changed. Not in monoio.
 #[derive(Clone, Copy, Debug, PartialEq, Eq, Error)]
 #[error("OutOfMemory")]
 pub struct OutOfMemory;
 
-/// Why a value was not put into a slab, with that value. The slab is as it was.
-///
-/// (own)
+/// Why a value was not put into a slab, with that value. The slab is as it was. Not in monoio.
 #[derive(Debug, Drop)]
 pub enum InsertError<T> {
     /// `MAX_LIVE` keys are live.
@@ -39,18 +48,25 @@ pub enum InsertError<T> {
     OutOfMemory(T),
 }
 
-/// Values at keys that the slab chooses, each below `MAX_LIVE`. A clause sees the map from keys to values, and the room for more values.
+/// Values at keys that the slab chooses, each below `MAX_LIVE`. A clause sees the map from keys to values, the room for more values,
+/// the number of pages, and how many values were taken out since the last page was looked at.
 ///
-/// Ports monoio's `Slab`. The places of removed values are used again, the latest first.
-#[derive(Drop)]
+/// A key lies on the page that `page_of` says. Page i has `64 << i` places, and its first key is `(64 << i) - 64`. Of a page the
+/// place that was emptied last is used first, else the first that was never used. A page gets memory as its places are used.
+///
+/// monoio: `Slab`.
+#[derive(Debug, Drop)]
 pub struct Slab<T> {
-    places: Vec<Option<T>>,
-    // The empty places. Its memory suffices for all of them, so that a removal takes none.
-    free: Vec<usize>,
+    pages: Vec<Page<T>>,
+    // How many keys are live.
+    live: usize,
+    // The page that the last value was put on, or 0 if the pages were looked at since.
+    first: usize,
+    // How many values were taken out since then.
+    removals: usize,
 }
 
 impl<T> Model for Slab<T> {
-    ghost use Rattle.std.specs.Prelude.{vec_len, vec_capacity};
     ghost use Rattle.op_slots.specs.Slots.{Slots, slots_code};
     ghost use Rattle.op_slots.specs.Places.{AreKept, slots_of};
 
@@ -58,44 +74,67 @@ impl<T> Model for Slab<T> {
 
     ghost coded = { slots_code T.code };
 
-    ghost view = { λ s. slots_of s.places.items (vec_len s.places) (vec_len s.free) (vec_capacity s.places) (vec_capacity s.free) };
+    ghost view = { λ s. slots_of s.pages.items s.removals };
 
-    ghost invariant = { λ s. AreKept s.places.items s.free.items (vec_capacity s.free) };
+    ghost invariant = { λ s. AreKept s.pages.items s.live s.first s.removals };
 }
 
 impl<T: Drop> Slab<T> {
     /// An empty slab, whose memory comes from `alloc`. Takes none yet.
     ///
-    /// Ports monoio's `Slab::new`.
+    /// monoio: `Slab::new`.
     pub fn new(alloc: Global) -> Self
         ensures { result.values ≡ map.empty }
     {
         Slab {
-            places: Vec::new(alloc),
-            free: Vec::new(alloc),
+            pages: Vec::new(alloc),
+            live: 0,
+            first: 0,
+            removals: 0,
         }
     }
 
     /// How many keys are live.
     ///
-    /// Ports monoio's `Slab::len`.
+    /// monoio: `Slab::len`.
     pub fn len(&self) -> usize
         ensures count { result ≡ map.len self.now.values }
         ensures bound { result ≤ MAX_LIVE }
         ensures keys { AreKeysBelow self.now }
+        ensures pages { AreOnPages self.now }
     {
-        self.places.len() - self.free.len()
+        self.live
     }
 
-    /// The value at a key, and None exactly where the key isn't live.
-    ///
-    /// (own)
+    /// How many pages there are: page 0 and those behind it. A new slab has none. Not in monoio.
+    pub fn page_count(&self) -> usize
+        ensures { result ≡ self.now.pages }
+    {
+        self.pages.len()
+    }
+
+    /// No key is live. Not in monoio.
+    pub fn is_empty(&self) -> bool
+        ensures { IsTrue result ↔ (map.len self.now.values ≡ 0) }
+    {
+        self.len() == 0
+    }
+
+    /// The key is live. Not in monoio.
+    pub fn contains(&self, key: usize) -> bool
+        ensures { IsTrue result ↔ IsLive self.now key }
+    {
+        self.peek(key).is_some()
+    }
+
+    /// The value at a key, and None exactly where the key isn't live. Not in monoio.
     pub fn peek(&self, key: usize) -> Option<&T>
         ensures value { option_copied result ≡ map.get self.now.values key }
         ensures below { OnSome result (key < MAX_LIVE) }
     {
-        if key < self.places.len() {
-            self.places[key].as_ref()
+        let page = page_of(key);
+        if page < self.pages.len() {
+            self.pages[page].get(key - first_key(page))
         } else {
             None
         }
@@ -109,21 +148,22 @@ impl<T: Drop> Slab<T> {
         self.peek(key).unwrap()
     }
 
-    /// The value at a live key, to be changed. All else stays, the room too.
-    ///
-    /// (own)
+    /// The value at a live key, to be changed. All else stays, the room too. Not in monoio.
     pub fn value_mut(&mut self, key: usize) -> &mut T
         requires { IsLive self.old key }
         ensures* writes_back { sem 𝓛 (LendsValue T.row self.entry key result) }
         ensures value { map.get self.old.values key ≡ Some result.now }
         ensures below { key < MAX_LIVE }
     {
-        held(&mut self.places[key])
+        let page = page_of(key);
+        let place = key - first_key(page);
+        self.pages[page].value_mut(place)
     }
 
     /// Puts a value at a key that wasn't live, and answers the key.
     ///
-    /// Ports monoio's `Slab::insert`.
+    /// monoio: `Slab::insert`.
+    #[inline]
     pub fn insert(&mut self, val: T) -> Result<usize, InsertError<T>>
         ensures fresh { IfOk result (λ key. map.get self.old.values key ≡ None) }
         ensures below { IfOk result (λ key. key < MAX_LIVE) }
@@ -132,44 +172,47 @@ impl<T: Drop> Slab<T> {
         ensures full { IsErrOf result (InsertError.Full val) ↔ (map.len self.old.values ≡ MAX_LIVE) }
         ensures refused { IfErr result (IsRefused self.old val) }
         ensures err { OnErr result (self.new ≡ self.old) }
+
+        // The key lies on one of the pages, or on a new one behind a full one.
+        ensures pages { IfOk result (λ key. self.new.pages ≡ max self.old.pages (page_by_rule key + 1)) }
+        ensures made { MakesPage self.old self.new }
+        ensures removals { self.new.removals ≡ self.old.removals }
     {
-        match self.free.pop() {
-            Some(key) => {
-                put_at(&mut self.places, key, val);
-                return Ok(key);
+        match make_place(&mut self.pages, self.first) {
+            Ok(page) => {
+                let place = put_on(&mut self.pages, page, val);
+                self.live += 1;
+                self.first = page;
+                Ok(first_key(page) + place)
             }
-            None => {}
+            Err(NoPlace::Full) => Err(InsertError::Full(val)),
+            Err(NoPlace::OutOfMemory) => Err(InsertError::OutOfMemory(val)),
         }
-        let key = self.places.len();
-        if key >= MAX_LIVE {
-            return Err(InsertError::Full(val));
-        }
-        match add_memory(&mut self.places, &mut self.free) {
-            Err(_) => return Err(InsertError::OutOfMemory(val)),
-            Ok(()) => {}
-        }
-        self.places.push_reserved(Some(val));
-        Ok(key)
     }
 
-    /// Takes the memory for one more value. The next `insert` doesn't answer `OutOfMemory`, if no call has changed the slab since.
-    ///
-    /// (own)
+    /// Takes the memory for one more value. The next `insert` doesn't answer `OutOfMemory`, if no call has changed the slab since. It
+    /// is also an error where `MAX_LIVE` keys are live. Not in monoio.
     pub fn reserve_one(&mut self) -> Result<(), OutOfMemory>
         ensures values { self.new.values ≡ self.old.values }
         ensures ok { OnOk result (0 < self.new.room) }
         ensures missing { OnErr result (self.old.room ≡ 0) }
         ensures err { OnErr result (self.new ≡ self.old) }
+
+        ensures made { MakesPage self.old self.new }
+        ensures removals { self.new.removals ≡ self.old.removals }
     {
-        if !self.free.is_empty() {
-            return Ok(());
+        match make_place(&mut self.pages, self.first) {
+            Ok(page) => {
+                self.first = page;
+                Ok(())
+            }
+            Err(_) => Err(OutOfMemory),
         }
-        add_memory(&mut self.places, &mut self.free)
     }
 
     /// Lends the slot of a key, and answers None exactly where the key isn't live.
     ///
-    /// Ports monoio's `Slab::get`.
+    /// monoio: `Slab::get`.
     pub fn get(&mut self, key: usize) -> Option<Ref<'_, T>>
         ensures found { IsSome result ↔ IsLive self.old key }
         ensures below { OnSome result (key < MAX_LIVE) }
@@ -186,82 +229,79 @@ impl<T: Drop> Slab<T> {
         }
     }
 
-    /// Takes out the value at a key, and answers None exactly where the key isn't live.
+    /// Takes out the value at a key, and answers None exactly where the key isn't live. Each 2048th removal gives the last page back,
+    /// if no key of it is live and it isn't page 0.
     ///
-    /// Ports monoio's `Slab::remove`.
+    /// monoio: `Slab::remove`.
     pub fn remove(&mut self, key: usize) -> Option<T>
         ensures value { result ≡ map.get self.old.values key }
         ensures new { self.new.values ≡ map.remove self.old.values key }
         ensures none { IfNone result (self.new ≡ self.old) }
         ensures below { OnSome result (key < MAX_LIVE) }
+
+        ensures counted { OnSome result (self.new.removals ≡ (self.old.removals + 1) % COMPACT_INTERVAL) }
+        ensures given { OnSome result (GivesBackPage self.old self.new → self.new.pages + 1 ≡ self.old.pages) }
+        ensures kept { OnSome result (¬ GivesBackPage self.old self.new → self.new.pages ≡ self.old.pages) }
     {
-        if key >= self.places.len() {
+        let page = page_of(key);
+        if page >= self.pages.len() {
             return None;
         }
-        match take_at(&mut self.places, key) {
+        let place = key - first_key(page);
+        match take_from(&mut self.pages, page, place) {
+            None => None,
             Some(value) => {
-                self.free.push_reserved(key);
+                self.live -= 1;
+                self.removals += 1;
+                if self.removals < COMPACT_INTERVAL {
+                    return Some(value);
+                }
+                self.removals = 0;
+                self.first = 0;
+                give_back(&mut self.pages);
                 Some(value)
             }
-            None => None,
         }
     }
 }
 
-fn held<T>(place: &mut Option<T>) -> &mut T
-    requires { IsSome place.old }
-    ensures* lends { sem 𝓛 (option_follows_value T.row place.entry result) }
-    ensures value { place.old ≡ Some result.now }
+// Puts a value on a page that has an empty place with memory, and answers the place.
+fn put_on<T: Drop>(pages: &mut Vec<Page<T>>, page: usize, val: T) -> usize
+    requires { HasMemoryAt pages.old.items page }
+    ensures { PutsOn pages.old.items page result val pages.new.items }
 {
-    match place {
-        Some(value) => value,
-        None => unreachable!(),
+    pages[page].put(val)
+}
+
+// Takes the value out of a place of a page, and answers None where there is none.
+fn take_from<T: Drop>(pages: &mut Vec<Page<T>>, page: usize, place: usize) -> Option<T>
+    requires { page < vec_len pages.old }
+    ensures some { IfSome result (λ value. TakesFrom pages.old.items page place value pages.new.items) }
+    ensures none { IfNone result (HasAt pages.old.items page place None) }
+    ensures same { IfNone result (pages.new.items ≡ pages.old.items) }
+{
+    if pages[page].get(place).is_none() {
+        return None;
     }
+    Some(pages[page].take(place))
 }
 
-// Takes the memory for one more place, where none is free, and for a list of them all.
-fn add_memory<T: Drop>(
-    places: &mut Vec<Option<T>>,
-    free: &mut Vec<usize>,
-) -> Result<(), OutOfMemory>
-    requires none_free { free.old.items ≡ [] }
-    requires bound { vec_len places.old ≤ MAX_LIVE }
-    ensures places { places.new.items ≡ places.old.items }
-    ensures places_len { vec_len places.new ≡ vec_len places.old }
-    ensures free { free.new.items ≡ free.old.items }
-    ensures free_len { vec_len free.new ≡ vec_len free.old }
-    ensures places_grow { vec_capacity places.old ≤ vec_capacity places.new }
-    ensures free_grow { vec_capacity free.old ≤ vec_capacity free.new }
-    ensures places_room { OnOk result (vec_len places.old < vec_capacity places.new) }
-    ensures free_room { OnOk result (vec_len places.old < vec_capacity free.new) }
-    ensures err { OnErr result ((vec_capacity places.new ≤ vec_len places.old) ⊎ (vec_capacity free.new ≤ vec_len places.old)) }
+// Gives the last page back, if all its places are empty and it isn't page 0.
+#[cold]
+fn give_back<T: Drop>(pages: &mut Vec<Page<T>>)
+    ensures { DropsLast pages.old.items pages.new.items }
 {
-    if places.reserve(1).is_err() {
-        return Err(OutOfMemory);
+    let count = pages.len();
+    if count <= 1 {
+        return;
     }
-    if free.reserve(places.len() + 1).is_err() {
-        return Err(OutOfMemory);
+    if !pages[count - 1].is_empty() {
+        return;
     }
-    Ok(())
+    let _ = pages.pop();
 }
 
-fn put_at<T: Drop>(places: &mut Vec<Option<T>>, key: usize, val: T)
-    requires { key < length places.old.items }
-    ensures items { places.new.items ≡ slice_set places.old.items key (Some val) }
-    ensures capacity { vec_capacity places.new ≡ vec_capacity places.old }
-{
-    places[key] = Some(val);
-}
-
-fn take_at<T: Drop>(places: &mut Vec<Option<T>>, key: usize) -> Option<T>
-    requires { key < length places.old.items }
-    ensures value { result ≡ at places.old.items key }
-    ensures items { places.new.items ≡ slice_set places.old.items key None }
-    ensures len { vec_len places.new ≡ vec_len places.old }
-    ensures capacity { vec_capacity places.new ≡ vec_capacity places.old }
-{
-    places[key].take()
-}
-
+#[cfg(test)]
+mod speed;
 #[cfg(test)]
 mod tests;

@@ -18,5 +18,6 @@ pub eq_behind : (xs ys : Parts) (i : ℕ) → i < length xs → i < length ys �
 eq_behind xs ys i in_xs in_ys is = eq_from xs ys i true in_xs in_ys is
 
 -- a part that is not equal decides
-pub eq_apart : (xs ys : Parts) (i : ℕ) → i < length xs → i < length ys → part_eq (part_at xs i) (part_at ys i) ≡ false → parts_eq (drop i xs) (drop i ys) ≡ false
+pub eq_apart : (xs ys : Parts) (i : ℕ) → i < length xs → i < length ys → part_eq (part_at xs i) (part_at ys i) ≡ false
+    → parts_eq (drop i xs) (drop i ys) ≡ false
 eq_apart xs ys i in_xs in_ys is = eq_from xs ys i false in_xs in_ys is

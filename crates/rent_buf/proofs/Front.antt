@@ -11,9 +11,11 @@ use Rattle.rent_buf.specs.Parts.{Parts, part_at, part_put, parts_stored, last_st
 pub drop-part : (parts : Parts) (i : ℕ) → i < length parts → drop i parts ≡ part_at parts i ∷ drop (i + 1) parts
 drop-part parts i there = rw add-one (drop-cons parts i (record { bytes = []; total = 0 }) there)
 
+-- a part whose room is greater than what is left is the last that is stored in
 last : (part : Rented) (parts : Parts) (s : List ℕ) → length s < part.total → parts_stored (part ∷ parts) s ≡ last_stored part parts s
 last part parts s less = rw (lt-leb part.total (length s) less) refl
 
+-- where something is left, that part gets it
 last-some : (part : Rented) (parts : Parts) (s : List ℕ) → 0 < length s → last_stored part parts s ≡ record part { bytes = s } ∷ parts
 last-some part parts [] some = absurd (omega arith)
 last-some part parts (byte ∷ s) some = refl
@@ -25,5 +27,6 @@ stored-last parts i s there less some =
     let part : Rented = record (part_at parts i) { bytes = s } in
     let split : slice_set parts i part ≡ take i parts ++ part ∷ drop (suc i) parts = set_split parts i part there in
     ap (λ (l : Parts). take i parts ++ parts_stored l s) (drop-part parts i there)
-    ∙ ap (λ (l : Parts). take i parts ++ l) (last (part_at parts i) (drop (i + 1) parts) s less ∙ last-some (part_at parts i) (drop (i + 1) parts) s some)
+    ∙ ap (λ (l : Parts). take i parts ++ l)
+    (last (part_at parts i) (drop (i + 1) parts) s less ∙ last-some (part_at parts i) (drop (i + 1) parts) s some)
     ∙ ap (λ (n : ℕ). take i parts ++ part ∷ drop n parts) (add-one i) ∙ sym split

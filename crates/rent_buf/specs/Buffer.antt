@@ -1,7 +1,7 @@
 -- A buffer as a value, and what storing bytes in it makes of it. Each crate that moves bytes cites it.
 use Rattle.std.specs.Prelude.{ℕ, ◌≡◌, ◌+◌, ◌-◌, ◌≤◌, List, ◌++◌, length, take, drop, min}
-use Rattle.rent_buf.specs.declared.spec.Kind.{Kind}
-use Rattle.rent_buf.specs.declared.spec.Kind.TheVariants.{Vector, Grown, Fixed}
+use Rattle.rent_buf.specs.declared.kind.Kind.{Kind}
+use Rattle.rent_buf.specs.declared.kind.Kind.TheVariants.{Vector, Grown, Fixed}
 
 -- A buffer is its kind, its bytes, a total and a range.
 pub record Buffer : Type 0 where
@@ -49,7 +49,8 @@ shown b = drop b.begin (take b.end b.bytes)
 abbrev pub sent_of : Buffer → List ℕ
 sent_of b = take most_asked (shown b)
 
--- The bytes of a buffer of a kind after s was stored from a place on: each keeps what stood before, then has s. A Vector ends there. The others keep what stood behind.
+-- The bytes of a buffer of a kind after s was stored at an offset: each keeps what was before, then has s. A Vector ends there. The
+-- others keep what was behind.
 abbrev pub written : Kind → List ℕ → ℕ → List ℕ → List ℕ
 written Vector bytes at s = take at bytes ++ s
 written Grown bytes at s = take at bytes ++ s ++ drop (at + length s) bytes

@@ -2,7 +2,7 @@
 use Rattle.std.specs.Prelude.{ℕ, ◌≡◌, ◌+◌, List, ◌++◌, length, take, drop}
 use Rattle.std.proofs.Common.{ap, sym, ◌∙◌, zero-add, arith, length-take, length-append, length-drop}
 use Rattle.rent_buf.specs.Buffer.{Buffer, whole_of, overwritten}
-use Rattle.rent_buf.specs.declared.spec.Kind.TheVariants.{Fixed}
+use Rattle.rent_buf.specs.declared.kind.Kind.TheVariants.{Fixed}
 
 -- Such bytes are a Fixed buffer: its total is their number, and its range is the whole of it.
 abbrev pub buffer_of_fixed : List ℕ → Buffer
@@ -24,7 +24,8 @@ length-overwritten b at w =
     omega arith
 
 -- Other bytes in place of as many are written over the buffer.
-pub overwritten_of_fixed : (bytes : List ℕ) (at : ℕ) (w : List ℕ) → buffer_of_fixed (with_bytes_of_fixed bytes at w) ≡ overwritten (buffer_of_fixed bytes) (0 + at) w
+pub overwritten_of_fixed : (bytes : List ℕ) (at : ℕ) (w : List ℕ)
+    → buffer_of_fixed (with_bytes_of_fixed bytes at w) ≡ overwritten (buffer_of_fixed bytes) (0 + at) w
 overwritten_of_fixed bytes at w =
     ap (λ n. whole_of Fixed (with_bytes_of_fixed bytes at w) n) (length-overwritten (buffer_of_fixed bytes) at w)
     ∙ ap (λ n. overwritten (buffer_of_fixed bytes) n w) (sym (zero-add at))

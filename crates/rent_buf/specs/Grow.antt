@@ -2,7 +2,7 @@
 use Rattle.std.specs.Prelude.{ℕ, List}
 use Rattle.rent_buf.specs.Buffer.{Buffer, whole_of, overwritten}
 use Rattle.rent_buf.specs.Rent.{Rented}
-use Rattle.rent_buf.specs.declared.spec.Kind.TheVariants.{Grown}
+use Rattle.rent_buf.specs.declared.kind.Kind.TheVariants.{Grown}
 
 -- Such a vector is a Grown buffer whose range is the whole total.
 abbrev pub buffer_of_grow : Rented → Buffer

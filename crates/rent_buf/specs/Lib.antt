@@ -2,6 +2,7 @@ pub mod Buf
 pub mod Buffer
 pub mod Fixed
 pub mod Grow
+pub mod Held
 pub mod Lends
 pub mod Parts
 pub mod PartsSpec

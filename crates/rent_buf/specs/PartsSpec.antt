@@ -5,8 +5,8 @@ use Rattle.std.specs.Cmp.Lexicographic.{pointwise, lists_equiv, nat_list_eq_equi
 use Rattle.std.specs.Ordering.{on, eq_of_both}
 use Rattle.rent_buf.specs.Rent.{Rented}
 use Rattle.rent_buf.specs.Parts.{Parts, parts_of_pairs}
-use Rattle.rent_buf.specs.declared.parts_spec.Listed.{Listed}
-use Rattle.rent_buf.specs.declared.parts_spec.Listed.TheVariants.{Pairs, Rents}
+use Rattle.rent_buf.specs.declared.plain_parts.Listed.{Listed}
+use Rattle.rent_buf.specs.declared.plain_parts.Listed.TheVariants.{Pairs, Rents}
 
 -- The parts that are listed, in either form.
 abbrev pub parts_in : Listed → Parts
@@ -22,4 +22,5 @@ abbrev pub parts_eq : Parts → Parts → Bool
 parts_eq = pointwise part_eq
 
 pub parts_eq_equiv : IsEquivalence parts_eq
-parts_eq_equiv = lists_equiv (and_equiv (on_equiv (λ (part : Rented). part.total) nat_eq_equiv) (on_equiv (λ (part : Rented). part.bytes) nat_list_eq_equiv))
+parts_eq_equiv = lists_equiv (and_equiv (on_equiv (λ (part : Rented). part.total) nat_eq_equiv)
+    (on_equiv (λ (part : Rented). part.bytes) nat_list_eq_equiv))

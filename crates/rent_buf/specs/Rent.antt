@@ -1,7 +1,7 @@
 -- A vector with a stated total, as a value and as a buffer.
 use Rattle.std.specs.Prelude.{ℕ, List}
 use Rattle.rent_buf.specs.Buffer.{Buffer, whole_of, overwritten}
-use Rattle.rent_buf.specs.declared.spec.Kind.TheVariants.{Vector}
+use Rattle.rent_buf.specs.declared.kind.Kind.TheVariants.{Vector}
 
 -- A vector with a stated total is its bytes and its total.
 pub record Rented : Type 0 where

@@ -1,8 +1,9 @@
-// What a buffer is to code that reads it, and to code that fills it.
+//! What a buffer is to code that reads it, and to code that fills it.
 ghost use Rattle.std.specs.Prelude.{◌≡◌, ◌+◌, ◌≤◌, ◌↔◌, List, ℕ, length, slice_range, IsTrue};
 ghost use Rattle.std.specs.Arc.{arc_value};
 ghost use Rattle.std.specs.Borrow.{Lends, Array, sem, u8 as byte};
 ghost use Rattle.rent_buf.specs.Buffer.{Buffer, BufferBounds, IsRange, room, shown, put, overwritten};
+ghost use Rattle.rent_buf.specs.Parts.{Parts};
 ghost use Rattle.rent_buf.specs.Slice.{IsWithin};
 ghost use Rattle.rent_buf.specs.SliceMut.{sliced};
 
@@ -12,20 +13,20 @@ use std::marker::Model;
 use std::rc::Rc;
 use std::sync::Arc;
 
-/// A buffer whose initialised bytes can be read (`IoBuf` of the Rust). No call takes memory.
+/// A buffer whose initialised bytes can be read (monoio: `IoBuf`). No call takes memory.
 pub trait IoBuf: Sized {
     /// The initialised bytes.
     ghost content: { Self → List ℕ };
 
-    /// The initialised bytes (`read_ptr` of the Rust).
+    /// The initialised bytes (monoio: `read_ptr`).
     fn bytes(&self) -> &[u8]
         ensures { result.now ≡ content self.now };
 
-    /// The number of the initialised bytes (`bytes_init` of the Rust).
+    /// The number of the initialised bytes (monoio: `bytes_init`).
     fn bytes_init(&self) -> usize
         ensures { result ≡ length (content self.now) };
 
-    /// The initialised bytes from `begin` to `end` as a buffer (`slice` of the Rust).
+    /// The initialised bytes from `begin` to `end` as a buffer (monoio: `slice`).
     final fn slice(self, begin: usize, end: usize) -> Slice<Self>
         requires { IsWithin (content self) begin end }
         ensures { result ≡ record { inner = self; begin = begin; end = end } }
@@ -33,7 +34,7 @@ pub trait IoBuf: Sized {
         Slice::new(self, begin, end)
     }
 
-    /// The initialised bytes from `begin` to `end` as a buffer (`slice_unchecked` of the Rust),
+    /// The initialised bytes from `begin` to `end` as a buffer (monoio: `slice_unchecked`),
     /// with the condition of `slice`.
     final fn slice_unchecked(self, begin: usize, end: usize) -> Slice<Self>
         requires { IsWithin (content self) begin end }
@@ -42,7 +43,7 @@ pub trait IoBuf: Sized {
         Slice::new_unchecked(self, begin, end)
     }
 
-    /// Whether `slice` may be called so (own): `begin <= end` and `end <= bytes_init()`.
+    /// Whether `slice` may be called so (not in monoio): `begin <= end` and `end <= bytes_init()`.
     final fn slice_fits(&self, begin: usize, end: usize) -> bool
         ensures { IsTrue result ↔ IsWithin (content self.now) begin end }
     {
@@ -50,11 +51,11 @@ pub trait IoBuf: Sized {
     }
 }
 
-/// A buffer that can be filled (`IoBufMut` of the Rust). No call takes memory.
+/// A buffer that can be filled (monoio: `IoBufMut`). No call takes memory.
 ///
-/// A contract sees a buffer of any type as a value, `buffer`, and the ranges of the buffers that
-/// it was cut from, `under`, the outermost first. So what generic code did to a slice is known of
-/// the buffer that comes out of it.
+/// A contract sees a buffer of any type as a value, `buffer`, the ranges of the buffers that it was
+/// cut from, `under`, the outermost first, and the parts that lie beside its bytes, `beside`. So what
+/// generic code did to a slice is known of the buffer that comes out of it.
 pub trait IoBufMut: IoBuf {
     /// The buffer as a value.
     ghost buffer: { Self → Buffer };
@@ -62,10 +63,18 @@ pub trait IoBufMut: IoBuf {
     /// The ranges of the buffers that it was cut from, the outermost first.
     ghost under: { Self → List (ℕ × ℕ) };
 
-    /// The buffer with other bytes in place of as many, from a place of its range on.
-    ghost with_bytes: { Self → ℕ → List ℕ → Self };
+    /// The parts that lie beside its bytes: those behind the first one of a vector of buffers.
+    ghost beside: { Self → Parts };
 
-    /// The room of its range, in bytes (`bytes_total` of the Rust). It is at least `bytes_init`.
+    /// Does nothing, and tells a caller the buffer's bounds (not in monoio).
+    fn keeps_bounds(&self)
+        ensures bounds { BufferBounds (buffer self.now) }
+        ensures content { Self.content self.now ≡ shown (buffer self.now) }
+    {
+        let _ = self.bytes_total();
+    }
+
+    /// The room of its range, in bytes (monoio: `bytes_total`). It is at least `bytes_init`.
     fn bytes_total(&self) -> usize
         ensures total { result ≡ room (buffer self.now) }
 
@@ -73,68 +82,78 @@ pub trait IoBufMut: IoBuf {
         ensures bounds { BufferBounds (buffer self.now) }
         ensures content { Self.content self.now ≡ shown (buffer self.now) };
 
-    /// Stores bytes from `at` on, counted from the begin of the range (own; it stands for
-    /// `write_ptr` and `set_init` of the Rust). How many bytes there are afterwards follows the
-    /// kind.
+    /// Stores bytes at offset `at`, counted from the start of the range (monoio: `write_ptr` and
+    /// `set_init`). How many bytes there are afterwards follows the kind.
     fn store(&mut self, at: usize, bytes: &[u8])
         requires starts { at ≤ length (shown (buffer self.old)) }
         requires ends { at + length bytes.now ≤ room (buffer self.old) }
         ensures put { buffer self.new ≡ put (buffer self.old) ((buffer self.old).begin + at) bytes.now }
         ensures under { under self.new ≡ under self.old }
+        ensures beside { beside self.new ≡ beside self.old }
         ensures bounds { BufferBounds (buffer self.new) };
 
-    /// Lends the initialised bytes from `begin` to `end` of the range (own). Their number can't
-    /// change.
-    fn range_mut(&mut self, begin: usize, end: usize) -> &mut [u8]
-        requires ordered { begin ≤ end }
-        requires inside { end ≤ length (shown (buffer self.old)) }
-        ensures* lends { sem 𝓛 (Lends Self.row (Array byte 0) self.entry result (with_bytes self.old begin)) }
-        ensures value { result.now ≡ slice_range (shown (buffer self.old)) begin end };
-
-    /// Lends the initialised bytes (own). Their number can't change.
-    fn bytes_mut(&mut self) -> &mut [u8]
-        ensures* lends { sem 𝓛 (Lends Self.row (Array byte 0) self.entry result (with_bytes self.old 0)) }
-        ensures value { result.now ≡ Self.content self.old }
-    {
-        let _ = self.bytes_total();
-        let end = self.bytes_init();
-        self.range_mut(0, end)
-    }
-
-    /// The range from `begin` to `end` as a buffer (`slice_mut` of the Rust).
+    /// The range from `begin` to `end` as a buffer (monoio: `slice_mut`).
     final fn slice_mut(self, begin: usize, end: usize) -> SliceMut<Self>
         requires { IsRange (buffer self) begin end }
-        ensures { result ≡ sliced (buffer self) (under self) begin end }
+        ensures { result ≡ sliced (buffer self) (under self) (beside self) begin end }
     {
         SliceMut::new(self, begin, end)
     }
 
-    /// The range from `begin` to `end` as a buffer (`slice_mut_unchecked` of the Rust), with the
+    /// The range from `begin` to `end` as a buffer (monoio: `slice_mut_unchecked`), with the
     /// condition of `slice_mut`.
     final fn slice_mut_unchecked(self, begin: usize, end: usize) -> SliceMut<Self>
         requires { IsRange (buffer self) begin end }
-        ensures { result ≡ sliced (buffer self) (under self) begin end }
+        ensures { result ≡ sliced (buffer self) (under self) (beside self) begin end }
     {
         SliceMut::new_unchecked(self, begin, end)
     }
 
-    /// Whether `slice_mut` may be called so (own): `begin <= end`, `begin <= bytes_init()` and
-    /// `end <= bytes_total()`.
+    /// Whether `slice_mut` may be called so (not in monoio): `begin <= end`, `begin <= bytes_init()`
+    /// and `end <= bytes_total()`.
     final fn slice_mut_fits(&self, begin: usize, end: usize) -> bool
         ensures { IsTrue result ↔ IsRange (buffer self.now) begin end }
     {
         let (init, total) = (self.bytes_init(), self.bytes_total());
         begin <= end && begin <= init && end <= total
     }
-
-    /// Other bytes are written over as many of the buffer's bytes, from that place of its range on.
-    ghost with_bytes_buffer: { (b : Self) (at : ℕ) (w : List ℕ) → buffer (with_bytes b at w) ≡ overwritten (buffer b) ((buffer b).begin + at) w };
-
-    /// Other bytes leave the ranges under the buffer.
-    ghost with_bytes_under: { (b : Self) (at : ℕ) (w : List ℕ) → under (with_bytes b at w) ≡ under b };
 }
 
-/// Bytes that last as long as the program (own; the Rust takes a `&'static [u8]` itself).
+/// A buffer that lends its initialised bytes to be changed (not in monoio, which hands out a
+/// pointer). Boxed slices and boxed arrays lend theirs by `as_mut_slice` and `as_mut` alone.
+pub trait LendBytes: IoBufMut {
+    /// The buffer with other bytes in place of as many, from a place of its range on.
+    ghost with_bytes: { Self → ℕ → List ℕ → Self };
+
+    /// Lends the initialised bytes from `begin` to `end` of the range. Their number can't change.
+    fn range_mut(&mut self, begin: usize, end: usize) -> &mut [u8]
+        requires ordered { begin ≤ end }
+        requires inside { end ≤ length (shown (Self.buffer self.old)) }
+        ensures* lends { sem 𝓛 (Lends Self.row (Array byte 0) self.entry result (with_bytes self.old begin)) }
+        ensures value { result.now ≡ slice_range (shown (Self.buffer self.old)) begin end };
+
+    /// Lends the initialised bytes. Their number can't change.
+    fn bytes_mut(&mut self) -> &mut [u8]
+        ensures* lends { sem 𝓛 (Lends Self.row (Array byte 0) self.entry result (with_bytes self.old 0)) }
+        ensures value { result.now ≡ Self.content self.old }
+    {
+        self.keeps_bounds();
+        let end = self.bytes_init();
+        self.range_mut(0, end)
+    }
+
+    /// Other bytes are written over as many of the buffer's bytes, from that place of its range on.
+    ghost with_bytes_buffer: { (b : Self) (at : ℕ) (w : List ℕ)
+        → Self.buffer (with_bytes b at w) ≡ overwritten (Self.buffer b) ((Self.buffer b).begin + at) w };
+
+    /// Other bytes leave the ranges under the buffer.
+    ghost with_bytes_under: { (b : Self) (at : ℕ) (w : List ℕ) → Self.under (with_bytes b at w) ≡ Self.under b };
+
+    /// Other bytes leave the parts beside the buffer.
+    ghost with_bytes_beside: { (b : Self) (at : ℕ) (w : List ℕ) → Self.beside (with_bytes b at w) ≡ Self.beside b };
+}
+
+/// Bytes that last as long as the program (monoio: `&'static [u8]` itself).
 #[derive(Debug, Drop)]
 pub struct StaticBytes {
     bytes: &'static [u8],
@@ -149,7 +168,7 @@ impl Model for StaticBytes {
 }
 
 impl StaticBytes {
-    /// These bytes as a buffer (own).
+    /// These bytes as a buffer (not in monoio).
     pub fn new(b: &'static [u8]) -> StaticBytes
         ensures { result ≡ b.now }
     {
@@ -169,8 +188,7 @@ impl IoBuf for StaticBytes {
     }
 }
 
-/// A text that lasts as long as the program, as its bytes (own; the Rust takes a `&'static str`
-/// itself).
+/// A text that lasts as long as the program, as its bytes (monoio: `&'static str` itself).
 #[derive(Debug, Drop)]
 pub struct StaticStr {
     text: &'static str,
@@ -185,7 +203,7 @@ impl Model for StaticStr {
 }
 
 impl StaticStr {
-    /// The bytes of this text as a buffer (own).
+    /// The bytes of this text as a buffer (not in monoio).
     pub fn new(s: &'static str) -> StaticStr
         ensures { result ≡ s.now }
     {
@@ -268,3 +286,6 @@ impl<T: IoBuf> IoBuf for Arc<T> {
         inner.bytes_init()
     }
 }
+
+#[cfg(test)]
+mod tests;

@@ -1,10 +1,11 @@
-// What a vector of buffers is to code that reads it, and to code that fills it.
+//! What a vector of buffers is to code that reads it, and to code that fills it.
 ghost use Rattle.std.specs.Prelude.{◌≡◌, ◌+◌, ◌^◌, ◌<◌, ◌≤◌, ◌↔◌, [], List, ℕ, length, slice_range, slice_index_or, vec_len, vec_capacity, refl, IsTrue, IsOk, IfOk, IfErr};
 ghost use Rattle.std.specs.Borrow.{Lends, Array, sem, u8 as byte};
 ghost use Rattle.rent_buf.specs.Parts.{Parts, IsParts, bytes_of, rooms_of, part_at, part_put, part_overwritten, parts_stored, parts_of_lists, items_of};
 
 use crate::fault::OutOfMemory;
-use crate::io_buf::{IoBuf, IoBufMut};
+use crate::io_buf::{IoBuf, IoBufMut, LendBytes};
+use crate::plain_parts::PartsSpec;
 use crate::rent::Rent;
 use std::marker::Model;
 use thiserror::Error;
@@ -20,31 +21,36 @@ pub enum PartsError {
     OutOfMemory,
 }
 
-/// A vector of buffers whose initialised bytes can be read (`IoVecBuf` of the Rust). No call takes
+/// A vector of buffers whose initialised bytes can be read (monoio: `IoVecBuf`). No call takes
 /// memory.
 pub trait IoVecBuf: Sized {
     /// The initialised bytes of each part.
     ghost parts: { Self → List (List ℕ) };
 
-    /// How many parts there are (`read_iovec_len` of the Rust).
+    /// How many parts there are (monoio: `read_iovec_len`).
     fn parts_len(&self) -> usize
         ensures { result ≡ length (parts self.now) };
 
-    /// The initialised bytes of a part (`read_iovec_ptr` of the Rust).
+    /// The initialised bytes of a part (monoio: `read_iovec_ptr`).
     fn part(&self, i: usize) -> &[u8]
         requires { i < length (parts self.now) }
         ensures { result.now ≡ slice_index_or (parts self.now) i [] };
 }
 
-/// A vector of buffers that can be filled (`IoVecBufMut` of the Rust). No call takes memory.
+/// A vector of buffers that can be filled (monoio: `IoVecBufMut`). No call takes memory.
 pub trait IoVecBufMut: IoVecBuf {
     /// The parts, each with its room.
     ghost held: { Self → Parts };
 
-    /// The parts with other bytes in one of them in place of as many, from a place on.
-    ghost with_part: { Self → ℕ → ℕ → List ℕ → Self };
+    /// Does nothing, and tells a caller the parts' bounds (not in monoio).
+    fn keeps_bounds(&self)
+        ensures bounds { IsParts (held self.now) }
+        ensures parts { Self.parts self.now ≡ bytes_of (held self.now) }
+    {
+        let _ = self.total_room();
+    }
 
-    /// The sum of the rooms, in bytes (`total_room` of the Rust's `VecBuf`).
+    /// The sum of the rooms, in bytes (monoio: `VecBuf`'s `total_room`).
     fn total_room(&self) -> usize
         ensures total { result ≡ rooms_of (held self.now) }
 
@@ -52,12 +58,12 @@ pub trait IoVecBufMut: IoVecBuf {
         ensures bounds { IsParts (held self.now) }
         ensures parts { Self.parts self.now ≡ bytes_of (held self.now) };
 
-    /// How many bytes a part has room for (own).
+    /// How many bytes a part has room for (monoio: `write_iovec_ptr`'s lengths).
     fn room(&self, i: usize) -> usize
         requires { i < length (Self.parts self.now) }
         ensures { result ≡ (part_at (held self.now) i).total };
 
-    /// Stores bytes in a part from a place on (own). They are its last bytes then.
+    /// Stores bytes in a part at offset `at` (not in monoio). They are its last bytes then.
     fn store_part(&mut self, i: usize, at: usize, bytes: &[u8])
         requires is_there { i < length (Self.parts self.old) }
         requires starts { at ≤ length (slice_index_or (Self.parts self.old) i []) }
@@ -66,32 +72,14 @@ pub trait IoVecBufMut: IoVecBuf {
         ensures bounds { IsParts (held self.new) }
         ensures parts { Self.parts self.new ≡ bytes_of (held self.new) };
 
-    /// Lends the initialised bytes of a part from `begin` to `end` (own). Their number can't change.
-    fn part_range_mut(&mut self, i: usize, begin: usize, end: usize) -> &mut [u8]
-        requires is_there { i < length (Self.parts self.old) }
-        requires ordered { begin ≤ end }
-        requires inside { end ≤ length (slice_index_or (Self.parts self.old) i []) }
-        ensures* lends { sem 𝓛 (Lends Self.row (Array byte 0) self.entry result (with_part self.old i begin)) }
-        ensures value { result.now ≡ slice_range (slice_index_or (Self.parts self.old) i []) begin end };
-
-    /// Lends the initialised bytes of a part (own). Their number can't change.
-    fn part_mut(&mut self, i: usize) -> &mut [u8]
-        requires { i < length (Self.parts self.old) }
-        ensures* lends { sem 𝓛 (Lends Self.row (Array byte 0) self.entry result (with_part self.old i 0)) }
-        ensures value { result.now ≡ slice_index_or (Self.parts self.old) i [] }
-    {
-        let end = self.part(i).len();
-        self.part_range_mut(i, 0, end)
-    }
-
-    /// Stores bytes in the parts, from the first one on (`set_init` of the Rust). A part whose room
-    /// is at most what is left is filled. The first one whose room is greater gets the rest, if
-    /// there is any, and those behind it stay.
+    /// Stores bytes in the parts, from the first one on (monoio: `set_init`). A part whose room is at
+    /// most what is left is filled. The first one whose room is greater gets the rest, if there is
+    /// any, and those behind it stay.
     fn store_front(&mut self, bytes: &[u8])
         requires { length bytes.now ≤ rooms_of (held self.old) }
         ensures { held self.new ≡ parts_stored (held self.old) bytes.now }
     {
-        let _ = self.total_room();
+        self.keeps_bounds();
         let mut rest = bytes;
         for i in 0..self.parts_len() {
             let room = self.room(i);
@@ -107,12 +95,37 @@ pub trait IoVecBufMut: IoVecBuf {
             rest = behind;
         }
     }
-
-    /// Other bytes are written over as many of the part's bytes, from that place on.
-    ghost with_part_held: { (b : Self) (i at : ℕ) (w : List ℕ) → held (with_part b i at w) ≡ part_overwritten (held b) i at w };
 }
 
-/// Vectors with rooms of their own, one behind the other (`VecBuf` of the Rust). A contract sees it
+/// A vector of buffers that lends the bytes of a part to be changed (not in monoio, which hands out
+/// pointers).
+pub trait LendParts: IoVecBufMut {
+    /// The parts with other bytes in one of them in place of as many, from a place on.
+    ghost with_part: { Self → ℕ → ℕ → List ℕ → Self };
+
+    /// Lends the initialised bytes of a part from `begin` to `end`. Their number can't change.
+    fn part_range_mut(&mut self, i: usize, begin: usize, end: usize) -> &mut [u8]
+        requires is_there { i < length (Self.parts self.old) }
+        requires ordered { begin ≤ end }
+        requires inside { end ≤ length (slice_index_or (Self.parts self.old) i []) }
+        ensures* lends { sem 𝓛 (Lends Self.row (Array byte 0) self.entry result (with_part self.old i begin)) }
+        ensures value { result.now ≡ slice_range (slice_index_or (Self.parts self.old) i []) begin end };
+
+    /// Lends the initialised bytes of a part. Their number can't change.
+    fn part_mut(&mut self, i: usize) -> &mut [u8]
+        requires { i < length (Self.parts self.old) }
+        ensures* lends { sem 𝓛 (Lends Self.row (Array byte 0) self.entry result (with_part self.old i 0)) }
+        ensures value { result.now ≡ slice_index_or (Self.parts self.old) i [] }
+    {
+        let end = self.part(i).len();
+        self.part_range_mut(i, 0, end)
+    }
+
+    /// Other bytes are written over as many of the part's bytes, from that place on.
+    ghost with_part_held: { (b : Self) (i at : ℕ) (w : List ℕ) → Self.held (with_part b i at w) ≡ part_overwritten (Self.held b) i at w };
+}
+
+/// Vectors with rooms of their own, one behind the other (monoio: `VecBuf`). A contract sees it
 /// as parts.
 #[derive(Debug, Drop)]
 pub struct VecBuf {
@@ -138,20 +151,12 @@ impl VecBuf {
         VecBuf { parts }
     }
 
-    // The parts as rents.
-    pub(crate) fn into_rents(self) -> Vec<Rent>
-        ensures rents { result.items ≡ self }
-        ensures bounds { IsParts self }
-    {
-        let VecBuf { parts } = self;
-        parts
-    }
-
-    /// Vectors as parts, whose rooms are their lengths (`From<Vec<Vec<u8>>>` of the Rust). Where it
+    /// Vectors as parts, whose rooms are their lengths (monoio: `From<Vec<Vec<u8>>>`). Where it
     /// is refused, the same vectors come back.
     pub fn from_parts(parts: Vec<Vec<u8>>) -> Result<VecBuf, (PartsError, Vec<Vec<u8>>)>
         ensures ok { IfOk result (λ v. v ≡ parts_of_lists (items_of parts.items)) }
-        ensures long { IfErr result (λ refused. (refused.0 ≡ PartsError.TooLong) ↔ (2 ^ 64 ≤ rooms_of (parts_of_lists (items_of parts.items)))) }
+        ensures long { IfErr result (λ refused. (refused.0 ≡ PartsError.TooLong)
+            ↔ (2 ^ 64 ≤ rooms_of (parts_of_lists (items_of parts.items)))) }
         ensures fits { IsOk result → rooms_of (parts_of_lists (items_of parts.items)) < 2 ^ 64 }
         ensures err { IfErr result (λ refused. refused.1.items ≡ parts.items) }
     {
@@ -166,7 +171,7 @@ impl VecBuf {
         }
     }
 
-    /// The vectors of the parts' bytes (`From<VecBuf>` of the Rust). Where memory runs out, the
+    /// The vectors of the parts' bytes (monoio: `From<VecBuf>`). If memory runs out, the
     /// same parts come back.
     pub fn into_parts(self) -> Result<Vec<Vec<u8>>, (OutOfMemory, VecBuf)>
         ensures ok { IfOk result (λ lists. items_of lists.items ≡ bytes_of self) }
@@ -181,7 +186,15 @@ impl VecBuf {
         }
     }
 
-    /// A copy of all parts, each with its room (own), or `OutOfMemory`.
+    /// The parts as plain data (not in monoio). It takes no memory.
+    pub fn into_spec(self) -> PartsSpec
+        ensures { result ≡ self }
+    {
+        let VecBuf { parts } = self;
+        PartsSpec::from_rents(parts)
+    }
+
+    /// A copy of all parts, each with its room (not in monoio), or `OutOfMemory`.
     pub fn try_clone(&self) -> Result<VecBuf, OutOfMemory>
         ensures { IfOk result (λ copy. copy ≡ self.now) }
     {
@@ -258,7 +271,10 @@ impl IoVecBuf for VecBuf {
 impl IoVecBufMut for VecBuf {
     ghost held = { λ v. v };
 
-    ghost with_part = { part_overwritten };
+    fn keeps_bounds(&self) {
+        // A read brings the type's bounds into the proof.
+        let _parts = &self.parts;
+    }
 
     fn total_room(&self) -> usize {
         let mut sum = 0;
@@ -275,6 +291,10 @@ impl IoVecBufMut for VecBuf {
     fn store_part(&mut self, i: usize, at: usize, bytes: &[u8]) {
         self.parts[i].store(at, bytes);
     }
+}
+
+impl LendParts for VecBuf {
+    ghost with_part = { part_overwritten };
 
     fn part_range_mut(&mut self, i: usize, begin: usize, end: usize) -> &mut [u8] {
         let part = &mut self.parts[i];
@@ -283,3 +303,6 @@ impl IoVecBufMut for VecBuf {
 
     ghost with_part_held = { λ v i at w. refl };
 }
+
+#[cfg(test)]
+mod tests;

@@ -1,4 +1,4 @@
-// Lists of bytes and of numbers, which a contract sees as lists.
+//! Lists of bytes and of numbers, which a contract sees as lists.
 ghost use Rattle.std.specs.Prelude.{◌≡◌, ◌≤◌, [], ◌∷◌, ◌++◌, ◌↔◌, nat_eq, length, take, IsTrue, IfOk, OnOk, OnErr};
 ghost use Rattle.std.specs.Cmp.Lexicographic.{pointwise, nat_list_eq_equiv};
 ghost use Rattle.std.specs.Cmp.{partial_equiv_from_equiv};
@@ -6,8 +6,9 @@ ghost use Rattle.std.specs.Cmp.{partial_equiv_from_equiv};
 use crate::fault::OutOfMemory;
 use std::alloc::Global;
 use std::marker::Model;
+use std::ops::DerefSlice;
 
-/// A list of bytes (own). It owns a vector, which keeps its allocator.
+/// A list of bytes (not in monoio). It owns a vector, which keeps its allocator.
 #[derive(Debug, Drop)]
 pub struct ByteList {
     items: Vec<u8>,
@@ -22,7 +23,7 @@ impl Model for ByteList {
 }
 
 impl ByteList {
-    /// No bytes (own). It takes no memory before the first byte.
+    /// No bytes (not in monoio). It takes no memory before the first byte.
     pub fn new(alloc: Global) -> Self
         ensures { result ≡ [] }
     {
@@ -31,14 +32,14 @@ impl ByteList {
         }
     }
 
-    /// The bytes of a vector, in its memory (own).
+    /// The bytes of a vector, in its memory (not in monoio).
     pub fn from_vec(v: Vec<u8>) -> Self
         ensures { result ≡ v.items }
     {
         ByteList { items: v }
     }
 
-    /// The vector of the bytes, in the list's memory (own).
+    /// The vector of the bytes, in the list's memory (not in monoio).
     pub fn into_vec(self) -> Vec<u8>
         ensures { result.items ≡ self }
     {
@@ -46,28 +47,29 @@ impl ByteList {
         items
     }
 
-    /// The bytes (own).
+    /// The bytes (not in monoio).
     pub fn as_slice(&self) -> &[u8]
         ensures { result.now ≡ self.now }
     {
         self.items.as_slice()
     }
 
-    /// The number of bytes (own).
+    /// The number of bytes (not in monoio).
     pub fn len(&self) -> usize
         ensures { result ≡ length self.now }
     {
         self.items.len()
     }
 
-    /// Whether there is no byte (own).
+    /// Whether there is no byte (not in monoio).
     pub fn is_empty(&self) -> bool
         ensures { IsTrue result ↔ (self.now ≡ []) }
     {
         self.items.is_empty()
     }
 
-    /// Adds a byte at the end (own). Where memory runs out, the list stays, and the byte is given up.
+    /// Adds a byte at the end (not in monoio). If memory runs out, the list stays, and the byte is
+    /// dropped.
     pub fn push(&mut self, byte: u8) -> Result<(), OutOfMemory>
         ensures ok { OnOk result (self.new ≡ self.old ++ byte ∷ []) }
         ensures err { OnErr result (self.new ≡ self.old) }
@@ -76,7 +78,7 @@ impl ByteList {
         Ok(())
     }
 
-    /// Adds bytes at the end (own). Where memory runs out, the list stays.
+    /// Adds bytes at the end (not in monoio). If memory runs out, the list stays.
     pub fn append(&mut self, bytes: &[u8]) -> Result<(), OutOfMemory>
         ensures ok { OnOk result (self.new ≡ self.old ++ bytes.now) }
         ensures err { OnErr result (self.new ≡ self.old) }
@@ -85,14 +87,14 @@ impl ByteList {
         Ok(())
     }
 
-    /// Keeps the first `len` bytes, or all where there are fewer (own). It takes no memory.
+    /// Keeps the first `len` bytes, or all where there are fewer (not in monoio). It takes no memory.
     pub fn truncate(&mut self, len: usize)
         ensures { self.new ≡ take len self.old }
     {
         self.items.truncate(len);
     }
 
-    /// A list of the same bytes in memory of its own (own), or `OutOfMemory`.
+    /// A list of the same bytes in memory of its own (not in monoio), or `OutOfMemory`.
     pub fn try_clone(&self) -> Result<Self, OutOfMemory>
         ensures { IfOk result (λ copy. copy ≡ self.now) }
     {
@@ -110,6 +112,18 @@ impl ByteList {
     }
 }
 
+impl DerefSlice for ByteList {
+    type Elem = u8;
+
+    ghost deref_gives = { λ l bytes. bytes ≡ l };
+
+    fn deref(&self) -> &[u8]
+        ensures { result.now ≡ self.now }
+    {
+        self.items.as_slice()
+    }
+}
+
 impl PartialEq for ByteList {
     ghost eq = { pointwise nat_eq };
 
@@ -124,7 +138,7 @@ impl Eq for ByteList {
     ghost laws = { nat_list_eq_equiv };
 }
 
-/// A list of numbers (own). It owns a vector, which keeps its allocator.
+/// A list of numbers (not in monoio). It owns a vector, which keeps its allocator.
 #[derive(Debug, Drop)]
 pub struct NumList {
     items: Vec<u64>,
@@ -139,7 +153,7 @@ impl Model for NumList {
 }
 
 impl NumList {
-    /// No numbers (own). It takes no memory before the first number.
+    /// No numbers (not in monoio). It takes no memory before the first number.
     pub fn new(alloc: Global) -> Self
         ensures { result ≡ [] }
     {
@@ -148,14 +162,14 @@ impl NumList {
         }
     }
 
-    /// The numbers of a vector, in its memory (own).
+    /// The numbers of a vector, in its memory (not in monoio).
     pub fn from_vec(v: Vec<u64>) -> Self
         ensures { result ≡ v.items }
     {
         NumList { items: v }
     }
 
-    /// The vector of the numbers, in the list's memory (own).
+    /// The vector of the numbers, in the list's memory (not in monoio).
     pub fn into_vec(self) -> Vec<u64>
         ensures { result.items ≡ self }
     {
@@ -163,28 +177,29 @@ impl NumList {
         items
     }
 
-    /// The numbers (own).
+    /// The numbers (not in monoio).
     pub fn as_slice(&self) -> &[u64]
         ensures { result.now ≡ self.now }
     {
         self.items.as_slice()
     }
 
-    /// How many numbers there are (own).
+    /// How many numbers there are (not in monoio).
     pub fn len(&self) -> usize
         ensures { result ≡ length self.now }
     {
         self.items.len()
     }
 
-    /// Whether there is no number (own).
+    /// Whether there is no number (not in monoio).
     pub fn is_empty(&self) -> bool
         ensures { IsTrue result ↔ (self.now ≡ []) }
     {
         self.items.is_empty()
     }
 
-    /// Adds a number at the end (own). Where memory runs out, the list stays, and the number is given up.
+    /// Adds a number at the end (not in monoio). If memory runs out, the list stays, and the number
+    /// is dropped.
     pub fn push(&mut self, number: u64) -> Result<(), OutOfMemory>
         ensures ok { OnOk result (self.new ≡ self.old ++ number ∷ []) }
         ensures err { OnErr result (self.new ≡ self.old) }
@@ -193,7 +208,7 @@ impl NumList {
         Ok(())
     }
 
-    /// A list of the same numbers in memory of its own (own), or `OutOfMemory`.
+    /// A list of the same numbers in memory of its own (not in monoio), or `OutOfMemory`.
     pub fn try_clone(&self) -> Result<Self, OutOfMemory>
         ensures { IfOk result (λ copy. copy ≡ self.now) }
     {
@@ -215,3 +230,6 @@ impl PartialEq for NumList {
 impl Eq for NumList {
     ghost laws = { nat_list_eq_equiv };
 }
+
+#[cfg(test)]
+mod tests;

@@ -1,15 +1,15 @@
-// The ranges of a vector of buffers that are left to move.
-ghost use Rattle.std.specs.Prelude.{◌≡◌, ◌+◌, ◌^◌, ◌<◌, ◌≤◌, [], ◌∷◌, ◌++◌, length, drop, map, sum_by, slice_index_or, ◌↔◌, IfOk, IsTrue, OnOk};
+//! The ranges of a vector of buffers that are left to move.
+ghost use Rattle.std.specs.Prelude.{◌≡◌, ◌+◌, ◌-◌, ◌^◌, ◌<◌, ◌≤◌, [], ◌∷◌, ◌++◌, length, drop, map, sum_by, slice_index_or, ◌↔◌, IfOk, IsTrue, OnOk};
 ghost use Rattle.rent_buf.specs.Parts.{rooms_of};
-ghost use Rattle.rent_buf.specs.Ranges.{places, ranges_of};
+ghost use Rattle.rent_buf.specs.Ranges.{places, ranges_of, consumed};
 
 use crate::fault::OutOfMemory;
 use crate::io_vec_buf::{IoVecBuf, IoVecBufMut};
 use std::alloc::Global;
 use std::marker::Model;
 
-/// Ranges of the parts of a vector of buffers, from which what was moved is taken away (`IoVecMeta`
-/// of the Rust).
+/// Ranges of the parts of a vector of buffers, from which what was moved is taken away (monoio:
+/// `IoVecMeta`).
 #[derive(Debug, Drop)]
 pub struct Ranges {
     ranges: Vec<(usize, usize, usize)>,
@@ -26,11 +26,12 @@ impl Model for Ranges {
 
     ghost view = { λ r. record { ranges = drop r.first r.ranges.items; len = r.len } };
 
-    ghost invariant = { λ r. (r.first ≤ length r.ranges.items) × AreRanges r.ranges.items × (r.left ≡ length (places (drop r.first r.ranges.items))) };
+    ghost invariant = { λ r. (r.first ≤ length r.ranges.items) × AreRanges r.ranges.items
+        × (r.left ≡ length (places (drop r.first r.ranges.items))) };
 }
 
 impl Ranges {
-    /// Whether `of_read` may be called so (own): the sum of the parts' lengths fits `usize`.
+    /// Whether `of_read` may be called so (not in monoio): the sum of the parts' lengths fits `usize`.
     pub fn read_fits<T: IoVecBuf>(buf: &T) -> bool
         ensures { IsTrue result ↔ (sum_by length (T.parts buf.now) < 2 ^ 64) }
     {
@@ -44,10 +45,11 @@ impl Ranges {
         true
     }
 
-    /// The bytes of each part as a range (`read_vec_meta` of the Rust), or `OutOfMemory`.
+    /// The bytes of each part as a range (monoio: `read_vec_meta`), or `OutOfMemory`.
     pub fn of_read<T: IoVecBuf>(alloc: Global, buf: &T) -> Result<Ranges, OutOfMemory>
         requires { sum_by length (T.parts buf.now) < 2 ^ 64 }
-        ensures { IfOk result (λ r. r ≡ record { ranges = ranges_of 0 (map length (T.parts buf.now)); len = sum_by length (T.parts buf.now) }) }
+        ensures { IfOk result (λ r. r ≡
+            record { ranges = ranges_of 0 (map length (T.parts buf.now)); len = sum_by length (T.parts buf.now) }) }
     {
         let mut ranges = Ranges::none(alloc);
         for i in 0..buf.parts_len() {
@@ -57,12 +59,13 @@ impl Ranges {
         Ok(ranges)
     }
 
-    /// The room of each part as a range (`write_vec_meta` of the Rust), or `OutOfMemory`.
+    /// The room of each part as a range (monoio: `write_vec_meta`), or `OutOfMemory`.
     pub fn of_write<T: IoVecBufMut>(alloc: Global, buf: &T) -> Result<Ranges, OutOfMemory>
         requires { rooms_of (T.held buf.now) < 2 ^ 64 }
-        ensures { IfOk result (λ r. r ≡ record { ranges = ranges_of 0 (map (λ part. part.total) (T.held buf.now)); len = rooms_of (T.held buf.now) }) }
+        ensures { IfOk result (λ r. r ≡
+            record { ranges = ranges_of 0 (map (λ part. part.total) (T.held buf.now)); len = rooms_of (T.held buf.now) }) }
     {
-        let _ = buf.total_room();
+        buf.keeps_bounds();
         let mut ranges = Ranges::none(alloc);
         for i in 0..buf.parts_len() {
             let len = buf.room(i);
@@ -71,7 +74,7 @@ impl Ranges {
         Ok(ranges)
     }
 
-    /// The one range of a buffer of so many bytes (own), or `OutOfMemory`.
+    /// The one range of a buffer of so many bytes (not in monoio), or `OutOfMemory`.
     pub fn of_bytes(alloc: Global, len: usize) -> Result<Ranges, OutOfMemory>
         ensures { IfOk result (λ r. r ≡ record { ranges = (0, 0, len) ∷ []; len = len }) }
     {
@@ -80,28 +83,29 @@ impl Ranges {
         Ok(ranges)
     }
 
-    /// How many bytes there were when the ranges were made (`len` of the Rust).
+    /// How many bytes there were when the ranges were made (monoio: `len`).
     pub fn len(&self) -> usize
         ensures { result ≡ self.now.len }
     {
         self.len
     }
 
-    /// How many bytes are left (own).
+    /// How many bytes are left (not in monoio).
     pub fn left(&self) -> usize
         ensures { result ≡ length (places self.now.ranges) }
     {
         self.left
     }
 
-    /// How many ranges are left (own).
+    /// How many ranges are left (not in monoio).
     pub fn parts_left(&self) -> usize
         ensures { result ≡ length self.now.ranges }
     {
         self.ranges.len() - self.first
     }
 
-    /// A range that is left (own): its part's number, and where it begins and ends in that part.
+    /// A range that is left (not in monoio): its part's number, and where it begins and ends in
+    /// that part.
     pub fn range(&self, i: usize) -> (usize, usize, usize)
         requires { i < length self.now.ranges }
         ensures { result ≡ slice_index_or self.now.ranges i (0, 0, 0) }
@@ -109,9 +113,10 @@ impl Ranges {
         self.ranges[self.first + i]
     }
 
-    /// Takes the first bytes away (`consume` of the Rust).
+    /// Takes the first bytes away (monoio: `consume`).
     pub fn consume(&mut self, n: usize)
         requires { n ≤ length (places self.old.ranges) }
+        ensures ranges { self.new.ranges ≡ consumed self.old.ranges n }
         ensures places { places self.new.ranges ≡ drop n (places self.old.ranges) }
         ensures len { self.new.len ≡ self.old.len }
     {
@@ -151,6 +156,7 @@ impl Ranges {
         requires some { 0 < most }
         requires within { most ≤ length (places self.old.ranges) }
         ensures most { result ≤ most }
+        ensures ranges { consumed self.old.ranges most ≡ consumed self.new.ranges (most - result) }
         ensures places { places self.new.ranges ≡ drop result (places self.old.ranges) }
         ensures len { self.new.len ≡ self.old.len }
         ensures less { length self.new.ranges < length self.old.ranges + result }
@@ -167,3 +173,6 @@ impl Ranges {
         count
     }
 }
+
+#[cfg(test)]
+mod tests;

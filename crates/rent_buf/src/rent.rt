@@ -1,16 +1,17 @@
-// A vector with a stated total.
-ghost use Rattle.std.specs.Prelude.{◌≡◌, ◌≤◌, [], length, refl, IfOk, IfErr};
+//! A vector with a stated total.
+ghost use Rattle.std.specs.Prelude.{◌≡◌, ◌≤◌, ◌↔◌, [], length, refl, IfOk, IfErr, IsTrue};
 ghost use Rattle.std.proofs.Common.{ap, sym, zero-add};
 ghost use Rattle.rent_buf.specs.Buffer.{overwritten};
 ghost use Rattle.rent_buf.specs.Rent.{buffer_of_rent, with_bytes_of_rent};
 
 use crate::fault::OutOfMemory;
-use crate::io_buf::{IoBuf, IoBufMut};
+use crate::io_buf::{IoBuf, IoBufMut, LendBytes};
 use std::alloc::Global;
 use std::marker::Model;
+use std::ops::DerefSlice;
 
-/// A vector with a stated total (own; the Rust takes a vector's capacity for its total). The total
-/// is reserved when it is made, so a store takes no memory.
+/// A vector with a stated total (monoio: `Vec<u8>`, whose total is its capacity). The total is
+/// reserved when it is made, so a store takes no memory.
 #[derive(Debug, Drop)]
 pub struct Rent {
     items: Vec<u8>,
@@ -29,7 +30,7 @@ impl Model for Rent {
 }
 
 impl Rent {
-    /// No bytes, with room for `total` (own), or `OutOfMemory`.
+    /// No bytes, with room for `total` (not in monoio), or `OutOfMemory`.
     pub fn with_total(alloc: Global, total: usize) -> Result<Rent, OutOfMemory>
         ensures { IfOk result (λ r. r ≡ record { bytes = []; total = total }) }
     {
@@ -37,8 +38,8 @@ impl Rent {
         Ok(Rent { items, total })
     }
 
-    /// The bytes of a vector, with room for `total` (own). Where memory runs out, the same vector
-    /// comes back.
+    /// The bytes of a vector, with room for `total` (not in monoio). If memory runs out, the same
+    /// vector comes back.
     pub fn from_vec(v: Vec<u8>, total: usize) -> Result<Rent, (OutOfMemory, Vec<u8>)>
         requires { length v.items ≤ total }
         ensures ok { IfOk result (λ r. r ≡ record { bytes = v.items; total = total }) }
@@ -71,7 +72,35 @@ impl Rent {
         })
     }
 
-    /// The vector of the bytes (own).
+    /// The bytes (not in monoio).
+    pub fn as_slice(&self) -> &[u8]
+        ensures { result.now ≡ self.now.bytes }
+    {
+        self.items.as_slice()
+    }
+
+    /// The number of the bytes (not in monoio).
+    pub fn len(&self) -> usize
+        ensures { result ≡ length self.now.bytes }
+    {
+        self.items.len()
+    }
+
+    /// Whether there is no byte (not in monoio).
+    pub fn is_empty(&self) -> bool
+        ensures { IsTrue result ↔ (self.now.bytes ≡ []) }
+    {
+        self.items.is_empty()
+    }
+
+    /// The most bytes that it holds (not in monoio).
+    pub fn total(&self) -> usize
+        ensures { result ≡ self.now.total }
+    {
+        self.total
+    }
+
+    /// The vector of the bytes (not in monoio).
     pub fn into_vec(self) -> Vec<u8>
         ensures { result.items ≡ self.bytes }
     {
@@ -79,11 +108,23 @@ impl Rent {
         items
     }
 
-    /// Gives the bytes up, and keeps the room (own).
+    /// Removes all bytes; the total stays reserved (not in monoio).
     pub fn clear(&mut self)
         ensures { self.new ≡ record self.old { bytes = [] } }
     {
         self.items.clear();
+    }
+}
+
+impl DerefSlice for Rent {
+    type Elem = u8;
+
+    ghost deref_gives = { λ r bytes. bytes ≡ r.bytes };
+
+    fn deref(&self) -> &[u8]
+        ensures { result.now ≡ self.now.bytes }
+    {
+        self.items.as_slice()
     }
 }
 
@@ -104,7 +145,12 @@ impl IoBufMut for Rent {
 
     ghost under = { λ _. [] };
 
-    ghost with_bytes = { with_bytes_of_rent };
+    ghost beside = { λ _. [] };
+
+    fn keeps_bounds(&self) {
+        // A read brings the type's bounds into the proof.
+        let _total = self.total;
+    }
 
     fn bytes_total(&self) -> usize {
         self.total
@@ -115,6 +161,10 @@ impl IoBufMut for Rent {
         // The room was reserved.
         let _ = self.items.extend_from_slice(bytes);
     }
+}
+
+impl LendBytes for Rent {
+    ghost with_bytes = { with_bytes_of_rent };
 
     fn range_mut(&mut self, begin: usize, end: usize) -> &mut [u8] {
         self.items.slice_mut(begin..end)
@@ -123,4 +173,9 @@ impl IoBufMut for Rent {
     ghost with_bytes_buffer = { λ r at w. ap (λ n. overwritten (buffer_of_rent r) n w) (sym (zero-add at)) };
 
     ghost with_bytes_under = { λ r at w. refl };
+
+    ghost with_bytes_beside = { λ r at w. refl };
 }
+
+#[cfg(test)]
+mod tests;

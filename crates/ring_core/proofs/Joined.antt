@@ -1,5 +1,5 @@
 -- Lists that are joined, one list after the other.
-use Rattle.std.proofs.Common.{◌≡◌, ℕ, zero, suc, ◌+◌, ◌-◌, ◌<◌, List, [], ◌∷◌, ◌++◌, length, refl, sym, ◌∙◌, ap, arith}
+use Rattle.std.proofs.Common.{◌≡◌, ℕ, zero, suc, ◌+◌, ◌-◌, ◌<◌, ◌≤◌, List, [], ◌∷◌, ◌++◌, length, refl, sym, ◌∙◌, ap, arith}
 use Rattle.std.specs.Prelude.{slice_index_or, take}
 use Rattle.std.specs.List.{concat}
 use Rattle.std.proofs.lemmas.List.{append-nil, append_assoc, length-append}
@@ -26,3 +26,16 @@ take-joined (suc n) [] ys =
 take-joined (suc n) (x ∷ xs) ys =
     let less : n - length xs ≡ suc n - suc (length xs) = omega arith in
     ap (λ zs. x ∷ zs) (take-joined n xs ys ∙ ap (λ m. take n xs ++ take m ys) less)
+
+-- The first n of all lists are among the first lists, where these have so many.
+pub take-first-joined : (n : ℕ) (xs : List (List ℕ)) (i : ℕ) → n ≤ length (concat (take i xs)) → take n (concat (take i xs)) ≡ take n (concat xs)
+take-first-joined n [] zero few = refl
+take-first-joined n [] (suc i) few = refl
+take-first-joined n (x ∷ xs) zero few =
+    let none : n ≡ 0 = omega arith in
+    ap (λ m. take m []) none ∙ sym (ap (λ m. take m (concat (x ∷ xs))) none)
+take-first-joined n (x ∷ xs) (suc i) few =
+    let both = length-append x (concat (take i xs)) in
+    take-joined n x (concat (take i xs))
+    ∙ ap (λ ys. take n x ++ ys) (take-first-joined (n - length x) xs i (omega (arith, both, few)))
+    ∙ sym (take-joined n x (concat xs))

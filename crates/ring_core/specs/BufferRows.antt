@@ -1,10 +1,10 @@
 -- Worked runs of the machine on bytes: what a read leaves in each kind of buffer, and what a send leaves on its handle.
 use Rattle.std.specs.Prelude.{ℕ, ◌≡◌, List, [], ◌∷◌}
 use Rattle.rent_buf.specs.Rent.{Rented}
-use Rattle.rent_buf.specs.declared.spec.Kind.{Kind}
-use Rattle.rent_buf.specs.declared.spec.Kind.TheVariants.{Vector, Grown, Fixed}
-use Rattle.rent_buf.specs.declared.spec.HeldBuf.{HeldBuf}
-use Rattle.rent_buf.specs.declared.spec.HeldBuf.TheVariants.{One}
+use Rattle.rent_buf.specs.declared.kind.Kind.{Kind}
+use Rattle.rent_buf.specs.declared.kind.Kind.TheVariants.{Vector, Grown, Fixed}
+use Rattle.rent_buf.specs.declared.held.Held.{Held}
+use Rattle.rent_buf.specs.declared.held.Held.TheVariants.{One}
 use Rattle.ring_core.specs.declared.world.HandleKind.TheVariants.{Stream}
 use Rattle.ring_core.specs.declared.request.Request.TheVariants.{Recv, ReadVec, Send, WriteVec}
 use Rattle.ring_core.specs.declared.request.Told.TheVariants.{Count}
@@ -44,10 +44,11 @@ ShortReadInto kind bytes =
 abbrev pub ShortRead : Type 0
 ShortRead = ShortReadInto Vector (97 ∷ 98 ∷ [])
 
--- Into a grown vector, and into bytes of a fixed number, it keeps the longer tail.
+-- A short read into a grown vector keeps the longer tail.
 abbrev pub GrownRead : Type 0
 GrownRead = ShortReadInto Grown (97 ∷ 98 ∷ 50 ∷ 51 ∷ [])
 
+-- A short read into bytes of a fixed number keeps the longer tail.
 abbrev pub FixedRead : Type 0
 FixedRead = ShortReadInto Fixed (97 ∷ 98 ∷ 50 ∷ 51 ∷ [])
 
@@ -89,9 +90,9 @@ PartsRead =
     Turned [] [] [] ∷
     ExecutedOp 0 ∷
     Turned (0 ∷ []) [] [] ∷
-    Handed (Outcome.Count 4) (HeldBuf.Parts (part 2 (97 ∷ 98 ∷ []) ∷ part 3 (99 ∷ 100 ∷ []) ∷ part 4 (122 ∷ []) ∷ [])) ∷ [])
+    Handed (Outcome.Count 4) (Held.Parts (part 2 (97 ∷ 98 ∷ []) ∷ part 3 (99 ∷ 100 ∷ []) ∷ part 4 (122 ∷ []) ∷ [])) ∷ [])
 
--- A send of five bytes: six are refused; of three the first stand on the handle, and the buffer comes back as it was.
+-- A send of five bytes: six are refused; the first of three are sent, and the buffer comes back as it was.
 abbrev pub ShortSend : Type 0
 ShortSend =
     replies (empty 4) (
@@ -130,5 +131,5 @@ PartsSend =
     Turned [] [] [] ∷
     ExecutedOp 0 ∷
     Turned (0 ∷ []) [] [] ∷
-    Handed (Outcome.Count 3) (HeldBuf.Parts (part 3 (97 ∷ 98 ∷ []) ∷ part 0 [] ∷ part 2 (99 ∷ []) ∷ [])) ∷
+    Handed (Outcome.Count 3) (Held.Parts (part 3 (97 ∷ 98 ∷ []) ∷ part 0 [] ∷ part 2 (99 ∷ []) ∷ [])) ∷
     Output (97 ∷ 98 ∷ 99 ∷ []) ∷ [])

@@ -31,8 +31,10 @@ without_front k handle = record handle { input = drop k handle.input }
 
 -- What a count leaves, by the row of the call; `sent` are the bytes to send.
 abbrev pub count_effect : List HandleState → Call → List ℕ → ℕ → Effect
-count_effect world (In h want) sent k = record { world = amended world h (without_front k); got = take k (input_at world h); outcome = Outcome.Count k }
-count_effect world (Out h offered) sent k = record { world = amended world h (with_output (take k sent)); got = []; outcome = Outcome.Count k }
+count_effect world (In h want) sent k =
+    record { world = amended world h (without_front k); got = take k (input_at world h); outcome = Outcome.Count k }
+count_effect world (Out h offered) sent k =
+    record { world = amended world h (with_output (take k sent)); got = []; outcome = Outcome.Count k }
 
 -- Nothing moves.
 abbrev pub unmoved : List HandleState → Outcome → Effect

@@ -1,26 +1,34 @@
--- What is in flight, in order, and how many of it have a data word of one class. Cited by `Flights`.
-use Rattle.std.specs.Prelude.{ℕ, ◌+◌, ◌-◌, ◌≡◌, ◌<◌, ◌%◌, ◌==◌, Bool, true, false, List, [], ◌∷◌, length, get_or}
+-- What is in flight, in order, and where each data word is found among it. Cited by `Flights`.
+use Rattle.std.specs.Prelude.{ℕ, ◌-◌, ◌^◌, ◌≡◌, ◌≢◌, ◌<◌, ◌≤◌, Bool, true, List, length, map, get_or, slice_get, Some}
 use Rattle.ring_core.specs.declared.entry.Flight.{Flight}
+use Rattle.ring_core.specs.Ranks.{Ranked, kept_first}
 
 -- What is in flight, and for how many entries in flight there is memory.
 pub record InFlight : Type 0 where
   pub flights : List Flight
   pub room : ℕ
 
--- 1 where a test passes, else 0.
-abbrev pub one_if : Bool → ℕ
-one_if true = 1
-one_if false = 0
+-- The link of a data word that several had at once.
+abbrev pub several : ℕ
+several = 2 ^ 64 - 1
 
--- How many in flight have a data word of a class: a word's class is its remainder by the number of classes.
-abbrev pub tally : ℕ → ℕ → List Flight → ℕ
-tally classes class [] = 0
-tally classes class (flight ∷ flights) = one_if (flight.entry.word % classes == class) + tally classes class flights
+-- The data words on the slots.
+abbrev pub words_of : List Flight → List ℕ
+words_of flights = map (λ flight. flight.entry.word) flights
 
--- A number less one, where it isn't 0.
-abbrev pub less_one : ℕ → ℕ
-less_one n = n - 1
+-- The link of each data word that is kept on a slot names that slot, unless several had the word at once. Greater words have no link.
+abbrev pub AreLinked : List ℕ → List Bool → List ℕ → Type 0
+AreLinked links flags words = (slot word : ℕ) → slice_get flags slot ≡ Some true → slice_get words slot ≡ Some word → word < length links →
+    get_or links word 0 ≢ slot → get_or links word 0 ≡ several
 
--- Each class has its tally.
-abbrev pub AreTallied : List ℕ → List Flight → Type 0
-AreTallied tallies flights = (class : ℕ) → class < length tallies → get_or tallies class 0 ≡ tally (length tallies) class flights
+-- By numbers: each slot has what stands on it, so many are kept, and there is memory for all.
+pub record AreStored (slots live room capacity : ℕ) (ranks : Ranked) : Type 0 where
+  pub together : slots ≡ length ranks.flags
+  pub count : live ≡ kept_first (length ranks.flags) ranks.flags
+  pub memory : ranks.room ≤ capacity
+  pub enough : room ≤ ranks.room
+
+-- A slot is kept, and is that of a place: so many kept ones are before it.
+pub record IsSpot (flags : List Bool) (place slot : ℕ) : Type 0 where
+  pub is_kept : slice_get flags slot ≡ Some true
+  pub rank : kept_first slot flags ≡ place

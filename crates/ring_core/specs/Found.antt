@@ -1,13 +1,13 @@
--- Where what has a data word is, among what is in flight.
-use Rattle.std.specs.Prelude.{ℕ, ◌≡◌, ◌<◌, List, map, length}
-use Rattle.ring_core.specs.declared.entry.Flight.{Flight}
-use Rattle.ring_core.specs.declared.flights.Found.{Found}
-use Rattle.ring_core.specs.declared.flights.Found.TheVariants.{Nowhere, Only, Anywhere}
-use Rattle.ring_core.specs.Lists.{amended}
-use Rattle.ring_core.specs.Ring.{marked_by}
+-- What the link of a data word tells. Cited by `Flights`.
+use Rattle.std.specs.Prelude.{ℕ, ◌≡◌, ◌≢◌, ◌<◌, ◌⊎◌, Bool, true, List, length, get_or, slice_get, Option, Some, None}
+use Rattle.ring_core.specs.Flights.{several}
 
--- Nowhere: a cancel of the word marks nothing. Only: it marks at most what is at that place.
-abbrev pub FindsFor : ℕ → List Flight → Found → Type 0
-FindsFor word flights Nowhere = map (marked_by word) flights ≡ flights
-FindsFor word flights (Only place) = (place < length flights) × (map (marked_by word) flights ≡ amended flights place (marked_by word))
-FindsFor word flights Anywhere = Unit {0}
+-- A link names one slot; there is none where the word is beyond the links, or several had it.
+abbrev pub LinkFor : List ℕ → ℕ → Option ℕ → Type 0
+LinkFor links word None = Unit {0}
+LinkFor links word (Some slot) = (word < length links) × (get_or links word 0 ≡ slot) × (slot < several)
+
+-- The next link of a data word: several, or the slot that it gets, where what its link names isn't kept with it.
+abbrev pub NextLinkFor : List Bool → List ℕ → ℕ → ℕ → ℕ → ℕ → Type 0
+NextLinkFor flags words before word slot link =
+    (link ≡ several) ⊎ ((link ≡ slot) × (before ≢ several) × (slice_get flags before ≡ Some true → slice_get words before ≢ Some word))

@@ -1,15 +1,15 @@
--- The ledger: what the machine keeps. Operations and handles stand by number, the first at 0.
+-- The ledger, the state of the machine: operations and handles by number, the first at 0.
 use Rattle.std.specs.Prelude.{ℕ, Bool, true, false, not, ◌&&◌, nat_lt, List, [], length, Option, None}
 use Rattle.rent_buf.specs.Buffer.{Buffer}
 use Rattle.rent_buf.specs.Parts.{Parts}
-use Rattle.rent_buf.specs.declared.spec.HeldBuf.{HeldBuf}
+use Rattle.rent_buf.specs.Held.{HeldBuf}
 use Rattle.ring_core.specs.declared.request.Request.{Request}
 use Rattle.ring_core.specs.declared.request.Outcome.{Outcome}
 use Rattle.ring_core.specs.declared.world.HandleState.{HandleState}
 use Rattle.ring_core.specs.Lists.{numbers_where}
-use Rattle.ring_core.specs.Request.{buffer_of}
+use Rattle.ring_core.specs.Request.{held_of}
 
--- What stands in the queue: the request of an operation, or a cancel of one.
+-- What is in the queue: the request of an operation, or a cancel of one.
 pub data Queued : Type 0 where
   Req : ℕ → Queued
   Cancel : ℕ → Queued
@@ -36,7 +36,7 @@ pub record Operation : Type 0 where
   pub dropped : Bool
   pub place : Place
 
--- The ledger. What stands on the handles is in `world`.
+-- The ledger. What the handles have is in `world`.
 pub record Ledger : Type 0 where
   pub capacity : ℕ
   pub queue : List Queued
@@ -51,7 +51,8 @@ empty capacity = record { capacity = capacity; queue = []; flying = []; done = [
 
 -- A new operation of a request.
 abbrev pub new_operation : Request Buffer Parts → Operation
-new_operation request = record { request = request; buffer = buffer_of request; task = None; canceled = false; dropped = false; place = InQueue }
+new_operation request =
+    record { request = request; buffer = held_of request; task = None; canceled = false; dropped = false; place = InQueue }
 
 -- A place other than Gone.
 abbrev pub is_kept : Place → Bool
@@ -70,6 +71,6 @@ is_owned operation = is_live operation && not operation.dropped
 abbrev pub live_ops : Ledger → List ℕ
 live_ops L = numbers_where is_live 0 L.ops
 
--- The user holds a handle: each handle that was given is its user's.
+-- The user holds a handle: each handle that was created is its user's.
 abbrev pub user_holds : Ledger → ℕ → Bool
 user_holds L h = nat_lt h (length L.world)

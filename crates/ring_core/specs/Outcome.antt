@@ -1,5 +1,6 @@
 -- Which outcomes a call may have.
 use Rattle.std.specs.Prelude.{ℕ, Bool, ◌&&◌, ◌||◌, ◌==◌, nat_le, if◌then◌else◌, List, length, slice_get}
+use Rattle.ring_core.specs.declared.request.TheConstants.{CANCELED, LAST_ERROR}
 use Rattle.ring_core.specs.declared.world.HandleState.{HandleState}
 use Rattle.ring_core.specs.declared.request.Call.{Call}
 use Rattle.ring_core.specs.declared.request.Call.TheVariants.{In, Out}
@@ -25,19 +26,11 @@ abbrev pub may_count : List HandleState → Call → ℕ → Bool
 may_count world (In h want) k = passes (λ handle. gives_bytes handle.kind && may_read want k handle) (slice_get world h)
 may_count world (Out h offered) k = passes (λ handle. takes_bytes handle.kind && may_send offered k) (slice_get world h)
 
--- The error of a canceled operation.
-abbrev pub canceled_error : ℕ
-canceled_error = 125
-
--- The greatest error number.
-abbrev pub last_error : ℕ
-last_error = 4095
-
--- The error of a cancel comes exactly where the cancel was taken; every other one from 1 to the greatest always may.
+-- The error of a cancel may come exactly when the cancel was taken; every other one from 1 to the greatest always may.
 abbrev pub may_fail : Bool → ℕ → Bool
-may_fail canceled e = if e == canceled_error then canceled else nat_le 1 e && nat_le e last_error
+may_fail canceled e = if e == CANCELED then canceled else nat_le 1 e && nat_le e LAST_ERROR
 
--- The outcome that is told is allowed to a call whose cancel was taken, or wasn't.
+-- A reported outcome is allowed to a call whose cancel was taken, or wasn't.
 abbrev pub is_allowed : List HandleState → Bool → Call → Told → Bool
 is_allowed world canceled call (Count k) = may_count world call k
 is_allowed world canceled call (Fail e) = may_fail canceled e

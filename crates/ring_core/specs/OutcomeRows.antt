@@ -1,6 +1,6 @@
 -- Worked runs of the machine on outcomes: which are allowed, and what an end changes.
 use Rattle.std.specs.Prelude.{◌≡◌, [], ◌∷◌}
-use Rattle.rent_buf.specs.declared.spec.HeldBuf.TheVariants.{One}
+use Rattle.rent_buf.specs.declared.held.Held.TheVariants.{One}
 use Rattle.ring_core.specs.declared.world.HandleKind.TheVariants.{Stream}
 use Rattle.ring_core.specs.declared.request.Request.TheVariants.{Recv}
 use Rattle.ring_core.specs.declared.request.Told.TheVariants.{Count, Fail}

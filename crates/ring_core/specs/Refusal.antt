@@ -1,5 +1,6 @@
--- Which events are refused, and with which name: a test for each name, over the events that may get it.
+-- Which events are refused, and why: a test for each refusal, over the events that may get it.
 use Rattle.std.specs.Prelude.{ℕ, Bool, true, false, not, ◌||◌, nat_le, List, [], ◌∷◌, length, Option, Some, None, slice_get}
+use Rattle.ring_core.specs.declared.ledger.TheConstants.{MOST_LIVE}
 use Rattle.ring_core.specs.declared.ledger.Event.{Event}
 use Rattle.ring_core.specs.declared.ledger.Event.TheVariants.{Feed, End, Look, Submit, Poll, Drop, Cancel, Exec}
 use Rattle.ring_core.specs.declared.ledger.Refusal.{Refusal}
@@ -11,11 +12,7 @@ use Rattle.ring_core.specs.Request.{named, call_of}
 use Rattle.ring_core.specs.Outcome.{is_allowed}
 use Rattle.ring_core.specs.Ledger.{Ledger, Item, Op, is_owned, live_ops, user_holds}
 
--- The most operations that aren't gone.
-abbrev pub most_live : ℕ
-most_live = 4294967232
-
--- An operation was never given, is gone, or was dropped.
+-- An operation was never submitted, is gone, or was dropped.
 abbrev pub lacks_op : Ledger → ℕ → Bool
 lacks_op L n = not (passes is_owned (slice_get L.ops n))
 
@@ -24,11 +21,11 @@ abbrev pub lacks_handle : Ledger → List ℕ → Bool
 lacks_handle L [] = false
 lacks_handle L (h ∷ handles) = not (user_holds L h) || lacks_handle L handles
 
--- An outcome is allowed to an item of `flying`.
+-- A reported outcome is allowed to an item of `flying`.
 abbrev pub allowed : Ledger → Item → Told → Bool
 allowed L (Op n) told = passes (λ operation. is_allowed L.world operation.canceled (call_of operation.request) told) (slice_get L.ops n)
 
--- NoOp: the operation was never given, was handed back, or was dropped.
+-- NoOp: the operation was never submitted, was returned, or was dropped.
 abbrev pub has_no_op : Ledger → Event → Bool
 has_no_op L (Poll n task) = lacks_op L n
 has_no_op L (Drop n) = lacks_op L n
@@ -43,9 +40,9 @@ has_no_handle L (Look h) = lacks_handle L (h ∷ [])
 has_no_handle L (Submit request) = lacks_handle L (named request)
 has_no_handle L _ = false
 
--- Full: as many operations as there may be aren't gone.
+-- Full: as many operations as there may be are live.
 abbrev pub is_full : Ledger → Event → Bool
-is_full L (Submit request) = nat_le most_live (length (live_ops L))
+is_full L (Submit request) = nat_le MOST_LIVE (length (live_ops L))
 is_full L _ = false
 
 -- NotFlying: the place isn't below the length of `flying`.
@@ -64,12 +61,12 @@ has_bad_handle_event L (Feed h bytes) = is_ended_at L.world h
 has_bad_handle_event L (End h) = is_ended_at L.world h
 has_bad_handle_event L _ = false
 
--- A name where its test passes, else the next one.
+-- A refusal where its test passes, else the next one.
 abbrev pub refused_if : Bool → Refusal → Option Refusal → Option Refusal
 refused_if true refusal next = Some refusal
 refused_if false refusal next = next
 
--- The name that an event is refused with: the first whose test passes, in this order; else none.
+-- What an event is refused with: the first refusal whose test passes, in this order; else none.
 abbrev pub cause : Ledger → Event → Option Refusal
 cause L event =
     refused_if (has_no_op L event) NoOp (

@@ -1,13 +1,22 @@
--- What a request names, wants and sends, and its shape without its buffer.
-use Rattle.std.specs.Prelude.{ℕ, List, [], ◌∷◌, length}
-use Rattle.rent_buf.specs.Buffer.{Buffer, want_of, sent_of as sent_of_buffer}
-use Rattle.rent_buf.specs.Parts.{Parts, parts_want, parts_sent}
-use Rattle.rent_buf.specs.declared.spec.HeldBuf.{HeldBuf}
-use Rattle.rent_buf.specs.declared.spec.HeldBuf.TheVariants.{One}
+-- A request: what it names, which way its bytes go, what it holds, and what its call asks for. A further request is a further case
+-- of the first five definitions, and of no other.
+use Rattle.std.specs.Prelude.{ℕ, ◌≡◌, List, [], ◌∷◌, length, min, take}
+use Rattle.std.specs.List.{concat}
+use Rattle.std.specs.Borrow.{Bor}
+use Rattle.rent_buf.specs.Buffer.{Buffer, room, shown, stored}
+use Rattle.rent_buf.specs.Parts.{Parts, rooms_of, bytes_of, parts_stored}
+use Rattle.rent_buf.specs.Held.{HeldBuf, map_held}
+use Rattle.rent_buf.specs.declared.held.Held.{Held}
+use Rattle.rent_buf.specs.declared.held.Held.TheVariants.{One, Parts as InParts}
+use Rattle.ring_core.specs.declared.request.TheConstants.{MOST_ASKED}
 use Rattle.ring_core.specs.declared.request.Request.{Request}
 use Rattle.ring_core.specs.declared.request.Request.TheVariants.{Recv, ReadVec, Send, WriteVec}
+use Rattle.ring_core.specs.declared.request.Way.{Way}
+use Rattle.ring_core.specs.declared.request.Way.TheVariants.{Reads, Sends}
 use Rattle.ring_core.specs.declared.request.Call.{Call}
 use Rattle.ring_core.specs.declared.request.Call.TheVariants.{In, Out}
+use Rattle.ring_core.specs.declared.request.Told.{Told}
+use Rattle.ring_core.specs.declared.request.Told.TheVariants.{Count, Fail}
 
 -- The handles in a request.
 abbrev pub named : {B V : Type 0} → Request B V → List ℕ
@@ -16,47 +25,127 @@ named (ReadVec fd parts) = fd ∷ []
 named (Send fd buf) = fd ∷ []
 named (WriteVec fd parts) = fd ∷ []
 
--- The buffer of a request, or its parts, as they are handed back.
-abbrev pub buffer_of : Request Buffer Parts → HeldBuf
-buffer_of (Recv fd buf) = One buf
-buffer_of (ReadVec fd parts) = HeldBuf.Parts parts
-buffer_of (Send fd buf) = One buf
-buffer_of (WriteVec fd parts) = HeldBuf.Parts parts
+-- Which way a request's bytes go.
+abbrev pub way_of : {B V : Type 0} → Request B V → Way
+way_of (Recv fd buf) = Reads
+way_of (ReadVec fd parts) = Reads
+way_of (Send fd buf) = Sends
+way_of (WriteVec fd parts) = Sends
 
--- The bytes that a request sends.
-abbrev pub sent_of : Request Buffer Parts → List ℕ
-sent_of (Recv fd buf) = []
-sent_of (ReadVec fd parts) = []
-sent_of (Send fd buf) = sent_of_buffer buf
-sent_of (WriteVec fd parts) = parts_sent parts
+-- What a request holds.
+abbrev pub held_of : {B V : Type 0} → Request B V → Held B V
+held_of (Recv fd buf) = One buf
+held_of (ReadVec fd parts) = InParts parts
+held_of (Send fd buf) = One buf
+held_of (WriteVec fd parts) = InParts parts
 
--- The shape of a request, with what it asks for: its want, or how many bytes it sends.
+-- A request with what it holds seen by other values: its buffer by f, its parts by g.
+abbrev pub map_request : {B C V W : Type 0} → (B → C) → (V → W) → Request B V → Request C W
+map_request f g (Recv fd buf) = Recv fd (f buf)
+map_request f g (ReadVec fd parts) = ReadVec fd (g parts)
+map_request f g (Send fd buf) = Send fd (f buf)
+map_request f g (WriteVec fd parts) = WriteVec fd (g parts)
+
+-- How many bytes fit what is held: the room of a buffer's range, or of parts.
+abbrev pub held_room : HeldBuf → ℕ
+held_room (One buf) = room buf
+held_room (InParts parts) = rooms_of parts
+
+-- The bytes that what is held shows: those of a buffer's range, or of all parts, in order.
+abbrev pub held_shown : HeldBuf → List ℕ
+held_shown (One buf) = shown buf
+held_shown (InParts parts) = concat (bytes_of parts)
+
+-- What is held with bytes stored in it: from the start of a buffer's range, or in parts from the first one.
+abbrev pub held_stored : HeldBuf → List ℕ → HeldBuf
+held_stored (One buf) bytes = One (stored buf bytes)
+held_stored (InParts parts) bytes = InParts (parts_stored parts bytes)
+
+-- How many bytes a request asks for into what it holds: its room, cut to the most that one request asks for.
+abbrev pub held_want : HeldBuf → ℕ
+held_want held = min (held_room held) MOST_ASKED
+
+-- The bytes that a request sends of what it holds: those that it shows, cut to the most that one request asks for.
+abbrev pub held_sent : HeldBuf → List ℕ
+held_sent held = take MOST_ASKED (held_shown held)
+
+-- What a request asks a handle for.
 abbrev pub call_of : Request Buffer Parts → Call
-call_of (Recv fd buf) = In fd (want_of buf)
-call_of (ReadVec fd parts) = In fd (parts_want parts)
-call_of (Send fd buf) = Out fd (length (sent_of_buffer buf))
-call_of (WriteVec fd parts) = Out fd (length (parts_sent parts))
+call_of (Recv fd buf) = In fd (held_want (One buf))
+call_of (ReadVec fd parts) = In fd (held_want (InParts parts))
+call_of (Send fd buf) = Out fd (length (held_sent (One buf)))
+call_of (WriteVec fd parts) = Out fd (length (held_sent (InParts parts)))
+
+-- A request without what it holds: its variant, its handles, and all else that it says. With what it holds, this is the request.
+abbrev pub shape_of : {B V : Type 0} → Request B V → Request Unit Unit
+shape_of request = map_request (λ buf. tt) (λ parts. tt) request
 
 -- A request as plain data, its buffer read by a function.
 abbrev pub plain_request : {B : Type 0} → (B → Buffer) → Request B Parts → Request Buffer Parts
-plain_request buffer (Recv fd buf) = Recv fd (buffer buf)
-plain_request buffer (ReadVec fd parts) = ReadVec fd parts
-plain_request buffer (Send fd buf) = Send fd (buffer buf)
-plain_request buffer (WriteVec fd parts) = WriteVec fd parts
+plain_request buffer request = map_request buffer (λ parts. parts) request
 
--- A buffer, unless parts are held.
-abbrev pub one_or : Buffer → HeldBuf → Buffer
-one_or buf (One held) = held
-one_or buf (HeldBuf.Parts held) = buf
+-- How many bytes fit what is held, where they come: nothing comes to what is sent.
+abbrev pub room_if : Way → HeldBuf → ℕ
+room_if Reads held = held_room held
+room_if Sends held = 0
 
--- Parts, unless a buffer is held.
-abbrev pub parts_or : Parts → HeldBuf → Parts
-parts_or parts (One held) = parts
-parts_or parts (HeldBuf.Parts held) = held
+-- How many bytes fit what a request holds.
+abbrev pub room_of : Request Buffer Parts → ℕ
+room_of request = room_if (way_of request) (held_of request)
 
--- A request with another buffer, or other parts, of the same form.
-abbrev pub with_buffer : Request Buffer Parts → HeldBuf → Request Buffer Parts
-with_buffer (Recv fd buf) held = Recv fd (one_or buf held)
-with_buffer (ReadVec fd parts) held = ReadVec fd (parts_or parts held)
-with_buffer (Send fd buf) held = Send fd (one_or buf held)
-with_buffer (WriteVec fd parts) held = WriteVec fd (parts_or parts held)
+-- The bytes that what is held shows, where they are sent: what is read into shows none.
+abbrev pub shown_if : Way → HeldBuf → List ℕ
+shown_if Reads held = []
+shown_if Sends held = held_shown held
+
+-- The bytes that a request shows: it sends the first of them.
+abbrev pub shown_by : Request Buffer Parts → List ℕ
+shown_by request = shown_if (way_of request) (held_of request)
+
+-- The bytes that a request sends: those that it shows, cut to the most that one request asks for.
+abbrev pub sent_of : Request Buffer Parts → List ℕ
+sent_of request = take MOST_ASKED (shown_by request)
+
+-- What is held once bytes came: they are stored where they are read, and what is sent stays.
+abbrev pub stored_if : Way → HeldBuf → List ℕ → HeldBuf
+stored_if Reads held bytes = held_stored held bytes
+stored_if Sends held bytes = held
+
+-- What a request holds after a count, with the bytes that came.
+abbrev pub held_after : Request Buffer Parts → List ℕ → HeldBuf
+held_after request bytes = stored_if (way_of request) (held_of request) bytes
+
+-- What a request holds after what was told: after an error it is what was submitted.
+abbrev pub held : Request Buffer Parts → Told → List ℕ → HeldBuf
+held request (Count k) bytes = held_after request bytes
+held request (Fail e) bytes = held_of request
+
+-- A request is now `now`: its shape stays, and it holds this in place of what it held.
+pub record IsHolding (request : Request Buffer Parts) (held : HeldBuf) (now : Request Buffer Parts) : Type 0 where
+  pub shape : shape_of now ≡ shape_of request
+  pub holds : held_of now ≡ held
+
+-- What a request with a reference to its buffer, or to its parts, refers to.
+abbrev pub request_copied : {B V : Type 0} → Request (Bor B) (Bor V) → Request B V
+request_copied request = map_request (λ buf. buf.now) (λ parts. parts.now) request
+
+-- What is held behind a reference to a buffer, or to parts.
+abbrev pub held_copied : {B V : Type 0} → Held (Bor B) (Bor V) → Held B V
+held_copied held = map_held (λ buf. buf.now) (λ parts. parts.now) held
+
+-- What is held was made of something else: one buffer of one, or parts of parts.
+abbrev pub HeldMade : {B C V W : Type 0} → (B → C → Type 0) → (V → W → Type 0) → Held B V → Held C W → Type 0
+HeldMade one many (One old) (One new) = one old new
+HeldMade one many (InParts old) (InParts new) = many old new
+HeldMade one many (One old) (InParts new) = ⊥
+HeldMade one many (InParts old) (One new) = ⊥
+
+-- A request was made of another one: its shape stays, and what it holds was made of what that one held.
+pub record IsMade {B C V W : Type 0} (one : B → C → Type 0) (many : V → W → Type 0) (old : Request B V) (new : Request C W) : Type 0 where
+  pub shape : shape_of new ≡ shape_of old
+  pub holds : HeldMade one many (held_of old) (held_of new)
+
+-- One of two functions was called with what is held, the first with a buffer, the second with parts, and failed with this error.
+abbrev pub HeldFailed : {B V E : Type 0} → (B → E → Type 0) → (V → E → Type 0) → Held B V → E → Type 0
+HeldFailed one many (One buf) error = one buf error
+HeldFailed one many (InParts parts) error = many parts error

@@ -1,8 +1,8 @@
--- What the ring in memory keeps of its lists and their memory.
+-- The memory that the ring in memory keeps for its lists.
 use Rattle.std.specs.Prelude.{ℕ, ◌+◌, ◌<◌, ◌≤◌}
 
 -- By numbers: what is queued, in flight and done, and what is spare, has its memory in each of the three lists.
-pub record HasRoom (entries queued flying done spare queue_room flying_room done_room : ℕ) : Type 0 where
+pub record RingHasRoom (entries queued flying done spare queue_room flying_room done_room : ℕ) : Type 0 where
   pub some : 0 < entries
   pub within : queued ≤ entries
   pub in_queue : queued + flying + done + spare ≤ queue_room

@@ -1,5 +1,6 @@
 -- A ring as a value, and what its calls do.
-use Rattle.std.specs.Prelude.{ℕ, ◌+◌, ◌-◌, ◌≡◌, ◌≤◌, ◌<◌, Bool, false, ◌||◌, ◌==◌, IsTrue, List, [], ◌∷◌, ◌++◌, take, drop, map, length, Result, Ok, Err, Option, Some, None}
+use Rattle.std.specs.Prelude.{ℕ, ◌+◌, ◌-◌, ◌≡◌, ◌≤◌, ◌<◌, Bool, false, ◌||◌, ◌==◌, IsTrue, List, [], ◌∷◌, ◌++◌, take, drop, map, length}
+use Rattle.std.specs.Prelude.{Result, Ok, Err, Option, Some, None}
 use Rattle.ring_core.specs.declared.entry.Entry.{Entry}
 use Rattle.ring_core.specs.declared.entry.Flight.{Flight}
 use Rattle.ring_core.specs.declared.entry.Completion.{Completion}
@@ -13,9 +14,10 @@ use Rattle.ring_core.specs.declared.ring.EnterError.{EnterError}
 use Rattle.ring_core.specs.declared.ring.EnterError.TheVariants.{Fault, Busy}
 use Rattle.ring_core.specs.Counts.{Rose}
 
--- A ring: its queue, what is in flight, the completions that stand, its handles, for how many pushes it has reserved memory,
--- and how often it failed and was busy. Every ring tells its capacity, its counts, `spare`, and the lengths of `queue` and `done`;
--- where it doesn't tell its lists their contents mean nothing.
+-- A ring: its queue, what is in flight, the completions that are ready, its handles, for how many pushes it has reserved memory,
+-- and how often it failed and was busy. Every ring shows its capacity, its counts, `spare`, and the lengths of `queue` and `done`;
+-- where it doesn't show its lists their contents mean nothing. Only the ring in memory has handles, in `world`: they are here so that
+-- one clause of a driver speaks of every ring.
 pub record RingView : Type 0 where
   pub capacity : ℕ
   pub queue : List Entry
@@ -31,24 +33,24 @@ abbrev pub marked_by : ℕ → Flight → Flight
 marked_by key flight = record flight { marked = flight.marked || flight.entry.word == key }
 
 -- What is in flight after one entry was taken: a call joins the end; a cancel marks what has its key.
-abbrev pub flying_with : List Flight → Entry → Body → List Flight
-flying_with flying entry (Calls call) = flying ++ record { entry = entry; marked = false } ∷ []
-flying_with flying entry (Cancels key) = map (marked_by key) flying
+abbrev pub flying_after_entry : List Flight → Entry → Body → List Flight
+flying_after_entry flying entry (Calls call) = flying ++ record { entry = entry; marked = false } ∷ []
+flying_after_entry flying entry (Cancels key) = map (marked_by key) flying
 
--- The completion that the taking of an entry leaves: a call leaves none; a cancel is done, whatever it marked.
-abbrev pub done_with : List Completion → Entry → Body → List Completion
-done_with done entry (Calls call) = done
-done_with done entry (Cancels key) = done ++ record { word = entry.word; serial = entry.serial; outcome = Counted 0 } ∷ []
+-- The completions after one entry was taken: a call leaves none; a cancel is done, whatever it marked.
+abbrev pub done_after_entry : List Completion → Entry → Body → List Completion
+done_after_entry done entry (Calls call) = done
+done_after_entry done entry (Cancels key) = done ++ record { word = entry.word; serial = entry.serial; outcome = Counted 0 } ∷ []
 
 -- What is in flight after entries were taken, in order.
 abbrev pub flying_after : List Flight → List Entry → List Flight
 flying_after flying [] = flying
-flying_after flying (entry ∷ entries) = flying_after (flying_with flying entry entry.body) entries
+flying_after flying (entry ∷ entries) = flying_after (flying_after_entry flying entry entry.body) entries
 
--- The completions that stand after entries were taken, in order.
+-- The completions after entries were taken, in order.
 abbrev pub done_after : List Completion → List Entry → List Completion
 done_after done [] = done
-done_after done (entry ∷ entries) = done_after (done_with done entry entry.body) entries
+done_after done (entry ∷ entries) = done_after (done_after_entry done entry entry.body) entries
 
 -- A ring after its queue was taken, in order.
 abbrev pub entered : RingView → RingView
@@ -72,7 +74,7 @@ pub record IsLater (old new : RingView) : Type 0 where
   pub more_faults : old.faults ≤ new.faults
   pub more_busies : old.busies ≤ new.busies
 
--- A push of an entry. It is handed back exactly where the queue is at capacity, and then nothing has changed.
+-- An entry was pushed: the queue had room, and has it at its end.
 pub record IsPushed (tells : Bool) (entry : Entry) (old new : RingView) : Type 0 where
   pub had_room : length old.queue < old.capacity
   pub one_more : length new.queue ≡ length old.queue + 1
@@ -81,6 +83,7 @@ pub record IsPushed (tells : Bool) (entry : Entry) (old new : RingView) : Type 0
   pub later : IsLater old new
   pub told : IsTrue tells → new ≡ pushed old entry
 
+-- What a push returns and leaves: the entry comes back exactly when the queue is at capacity, and then nothing has changed.
 abbrev pub PushesFor : Bool → Entry → RingView → RingView → Push → Type 0
 PushesFor tells entry old new Done = IsPushed tells entry old new
 PushesFor tells entry old new (Full back) = (back ≡ entry) × (new ≡ old) × (length old.queue ≡ old.capacity)
@@ -111,12 +114,13 @@ pub record IsCutShort (tells : Bool) (old new : RingView) : Type 0 where
   pub later : IsLater old new
   pub told : IsTrue tells → TookFront count old new
 
+-- What an enter returns and leaves: it took the whole queue, or a count rose and it took a prefix at most.
 abbrev pub EntersFor : Bool → RingView → RingView → Result ℕ EnterError → Type 0
 EntersFor tells old new (Ok n) = IsEntered tells old new n
 EntersFor tells old new (Err Fault) = Rose old.faults new.faults × IsCutShort tells old new
 EntersFor tells old new (Err Busy) = Rose old.busies new.busies × IsCutShort tells old new
 
--- The first completion that stood was taken off.
+-- The oldest completion was removed.
 pub record IsTakenOff (tells : Bool) (old new : RingView) (completion : Completion) : Type 0 where
   pub one_less : length new.done + 1 ≡ length old.done
   pub same_queue : length new.queue ≡ length old.queue
@@ -124,7 +128,7 @@ pub record IsTakenOff (tells : Bool) (old new : RingView) (completion : Completi
   pub later : IsLater old new
   pub told : IsTrue tells → (old.done ≡ completion ∷ new.done) × (new ≡ with_done old new.done)
 
--- None comes exactly where no completion stands, and then nothing has changed.
+-- What `next` returns and leaves: None comes exactly when no completion is ready, and then nothing has changed.
 abbrev pub NextFor : Bool → RingView → RingView → Option Completion → Type 0
 NextFor tells old new None = (new ≡ old) × (old.done ≡ [])
 NextFor tells old new (Some completion) = IsTakenOff tells old new completion

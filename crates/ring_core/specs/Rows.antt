@@ -1,15 +1,16 @@
 -- Worked runs of the machine on operations: a capacity, the events, and their replies.
 use Rattle.std.specs.Prelude.{ℕ, ◌≡◌, List, [], ◌∷◌}
 use Rattle.rent_buf.specs.Buffer.{Buffer}
-use Rattle.rent_buf.specs.declared.spec.Kind.TheVariants.{Vector}
-use Rattle.rent_buf.specs.declared.spec.HeldBuf.TheVariants.{One}
+use Rattle.rent_buf.specs.declared.kind.Kind.TheVariants.{Vector}
+use Rattle.rent_buf.specs.declared.held.Held.TheVariants.{One}
 use Rattle.ring_core.specs.declared.world.HandleKind.TheVariants.{Stream}
 use Rattle.ring_core.specs.declared.request.Request.TheVariants.{Recv}
 use Rattle.ring_core.specs.declared.request.Told.TheVariants.{Count, Fail}
 use Rattle.ring_core.specs.declared.request.Outcome.{Outcome}
 use Rattle.ring_core.specs.declared.ledger.Event.TheVariants.{Give, Feed, Submit, Poll, Drop, Cancel, Turn, Exec}
 use Rattle.ring_core.specs.declared.ledger.Refusal.TheVariants.{NoOp, NoHandle, NotFlying, BadOutcome}
-use Rattle.ring_core.specs.declared.ledger.Reply.TheVariants.{Handle, Fed, Submitted, Pending, Handed, Dropped, Asked, Turned, ExecutedOp, Refused}
+use Rattle.ring_core.specs.declared.ledger.Reply.TheVariants.{Handle, Fed, Submitted, Pending, Handed, Dropped, Asked, Turned, ExecutedOp}
+use Rattle.ring_core.specs.declared.ledger.Reply.TheVariants.{Refused}
 use Rattle.ring_core.specs.Ledger.{empty}
 use Rattle.ring_core.specs.Run.{replies}
 

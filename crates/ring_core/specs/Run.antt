@@ -2,7 +2,7 @@
 use Rattle.std.specs.Prelude.{ℕ, ◌≡◌, ◌<◌, ◌≤◌, List, [], ◌∷◌, take, Some, None, slice_get}
 use Rattle.rent_buf.specs.Buffer.{Buffer}
 use Rattle.rent_buf.specs.Parts.{Parts}
-use Rattle.rent_buf.specs.declared.spec.HeldBuf.{HeldBuf}
+use Rattle.rent_buf.specs.Held.{HeldBuf}
 use Rattle.ring_core.specs.declared.request.Request.{Request}
 use Rattle.ring_core.specs.declared.request.Told.{Told}
 use Rattle.ring_core.specs.declared.request.Outcome.{Outcome}
@@ -13,7 +13,8 @@ use Rattle.ring_core.specs.declared.ledger.Reply.TheVariants.{Submitted}
 use Rattle.ring_core.specs.Effect.{Effect}
 use Rattle.ring_core.specs.Ledger.{Ledger, Op, empty}
 use Rattle.ring_core.specs.Refusal.{cause}
-use Rattle.ring_core.specs.Turn.{effect_of, held}
+use Rattle.ring_core.specs.Turn.{effect_of}
+use Rattle.ring_core.specs.Request.{held}
 use Rattle.ring_core.specs.Step.{step}
 
 -- The ledger after events.
@@ -40,7 +41,7 @@ pub record IsGiven (capacity : ℕ) (events : List Event) (n i : ℕ) : Type 0 w
   pub event : slice_get events i ≡ Some (Submit request)
   pub reply : slice_get (replies (empty capacity) events) i ≡ Some (Submitted n)
 
--- The event at i is the unrefused Exec of a place that holds Op n, and tells this.
+-- The event at i is the unrefused Exec of a place that holds Op n, with this report.
 pub record IsExecuted (capacity : ℕ) (events : List Event) (n i : ℕ) (told : Told) : Type 0 where
   pub place : ℕ
   pub event : slice_get events i ≡ Some (Exec place told)
@@ -60,7 +61,7 @@ pub record IsReaped (capacity : ℕ) (events : List Event) (n i : ℕ) : Type 0 
   pub executed : IsExecuted capacity events n exec told
   pub turn : IsFirstTurn events exec i
 
--- An operation's own outcome and own buffer, read from the events that gave and executed it.
+-- An operation's own outcome and own buffer, read from the events that submitted and executed it.
 pub record IsOwn (capacity : ℕ) (events : List Event) (n : ℕ) (outcome : Outcome) (buffer : HeldBuf) : Type 0 where
   pub given : ℕ
   pub exec : ℕ

@@ -9,7 +9,8 @@ use Rattle.ring_core.specs.declared.ledger.Event.TheVariants.{Give, Feed, End, L
 use Rattle.ring_core.specs.declared.ledger.Refusal.{Refusal}
 use Rattle.ring_core.specs.declared.ledger.Refusal.TheVariants.{NoOp}
 use Rattle.ring_core.specs.declared.ledger.Reply.{Reply}
-use Rattle.ring_core.specs.declared.ledger.Reply.TheVariants.{Handle, Fed, Ended, Output, Submitted, Pending, Handed, Dropped, Asked, Refused}
+use Rattle.ring_core.specs.declared.ledger.Reply.TheVariants.{Handle, Fed, Ended, Output, Submitted, Pending, Handed, Dropped, Asked}
+use Rattle.ring_core.specs.declared.ledger.Reply.TheVariants.{Refused}
 use Rattle.ring_core.specs.Lists.{amended}
 use Rattle.ring_core.specs.World.{fresh, with_input, with_end, output_at}
 use Rattle.ring_core.specs.Ledger.{Ledger, Operation, Place, Reaped, Queued, Req, new_operation}
@@ -17,11 +18,11 @@ use Rattle.ring_core.specs.Queue.{with_op, push, leave}
 use Rattle.ring_core.specs.Turn.{turn_step, exec_step}
 use Rattle.ring_core.specs.Refusal.{cause}
 
--- Give: a new handle of its user.
+-- Give: a new handle.
 abbrev pub give_step : Ledger → HandleState → Ledger
 give_step L handle = record L { world = L.world ++ handle ∷ [] }
 
--- The ledger with what stands on a handle changed.
+-- The ledger with one handle changed.
 abbrev pub with_handle : Ledger → ℕ → (HandleState → HandleState) → Ledger
 with_handle L h change = record L { world = amended L.world h change }
 
@@ -37,7 +38,7 @@ submit_step L request = push (with_new_op L (new_operation request)) (Req (lengt
 abbrev pub with_task : ℕ → Operation → Operation
 with_task task operation = record operation { task = Some task }
 
--- Poll: where the operation is reaped it is handed over and leaves; else its task is this one.
+-- Poll: where the operation is reaped it is returned and leaves; else its task is this one.
 abbrev pub poll_at : Ledger → ℕ → ℕ → Operation → Place → Ledger × Reply
 poll_at L n task operation (Reaped outcome) = (leave L n, Handed outcome operation.buffer)
 poll_at L n task operation _ = (with_op L n (with_task task), Pending)
@@ -61,7 +62,7 @@ abbrev pub drop_step : Ledger → ℕ → Option Operation → Ledger × Reply
 drop_step L n None = (L, Refused NoOp)
 drop_step L n (Some operation) = (drop_at (with_op L n with_drop) n operation.place, Dropped)
 
--- The row of an event that isn't refused.
+-- The rule for an event that isn't refused.
 abbrev pub row : Ledger → Event → Ledger × Reply
 row L (Give kind) = (give_step L (fresh kind), Handle (length L.world))
 row L (Feed h bytes) = (with_handle L h (with_input bytes), Fed)
@@ -74,7 +75,7 @@ row L (Cancel n) = (push L (Queued.Cancel n), Asked)
 row L Turn = turn_step L
 row L (Exec place told) = exec_step L place told (slice_get L.flying place)
 
--- An event with its cause: where there is one, nothing changes and the reply has its name.
+-- An event with its cause: where there is one, nothing changes and the reply carries it.
 abbrev pub answered : Option Refusal → Ledger → Event → Ledger × Reply
 answered (Some refusal) L event = (L, Refused refusal)
 answered None L event = row L event

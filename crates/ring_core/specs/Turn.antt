@@ -1,22 +1,18 @@
 -- The steps of Turn and Exec.
 use Rattle.std.specs.Prelude.{ℕ, Bool, true, false, List, [], ◌∷◌, ◌++◌, remove, option_to_list, Option, Some, None, slice_get}
-use Rattle.rent_buf.specs.Buffer.{Buffer, stored}
-use Rattle.rent_buf.specs.Parts.{Parts, parts_stored}
-use Rattle.rent_buf.specs.declared.spec.HeldBuf.{HeldBuf}
-use Rattle.rent_buf.specs.declared.spec.HeldBuf.TheVariants.{One}
+use Rattle.rent_buf.specs.Buffer.{Buffer}
+use Rattle.rent_buf.specs.Parts.{Parts}
 use Rattle.ring_core.specs.declared.request.Request.{Request}
-use Rattle.ring_core.specs.declared.request.Request.TheVariants.{Recv, ReadVec, Send, WriteVec}
 use Rattle.ring_core.specs.declared.request.Told.{Told}
-use Rattle.ring_core.specs.declared.request.Told.TheVariants.{Count, Fail}
 use Rattle.ring_core.specs.declared.ledger.Refusal.TheVariants.{NotFlying}
 use Rattle.ring_core.specs.declared.ledger.Reply.{Reply}
 use Rattle.ring_core.specs.declared.ledger.Reply.TheVariants.{Turned, ExecutedOp, Refused}
-use Rattle.ring_core.specs.Request.{buffer_of, sent_of, call_of}
+use Rattle.ring_core.specs.Request.{sent_of, call_of, held}
 use Rattle.ring_core.specs.Effect.{Effect, effect}
 use Rattle.ring_core.specs.Ledger.{Ledger, Operation, Place, InDone, Reaped, Item, Op}
 use Rattle.ring_core.specs.Queue.{with_op, take_all, leave}
 
--- The place of what was done is at its user; another place stays.
+-- What was done is reaped; another place stays.
 abbrev pub reaped_place : Place → Place
 reaped_place (InDone outcome) = Reaped outcome
 reaped_place place = place
@@ -64,31 +60,19 @@ abbrev pub tasks_woken : List Operation → List ℕ → List ℕ
 tasks_woken ops [] = []
 tasks_woken ops (n ∷ numbers) = task_woken (slice_get ops n) ++ tasks_woken ops numbers
 
--- All completions that stand are named and reaped. The reply's second list, of handles, is empty: no close is among them.
+-- All that is done is named and reaped. The reply's second list, of handles, is empty: no close is among it.
 abbrev pub reap_all : Ledger → Ledger × Reply
 reap_all L = (reap_each (record L { done = [] }) L.done, Turned (ops_in L.done) [] (tasks_woken L.ops (ops_in L.done)))
 
--- Turn: the queue is taken; then each completion that stood, in order.
+-- Turn: the queue is taken; then all that is done is reaped, in order.
 abbrev pub turn_step : Ledger → Ledger × Reply
 turn_step L = reap_all (take_all L)
-
--- The buffer of an operation after a count: that of a reading request has the bytes that came, that of another is the submitted one.
-abbrev pub held_after : Request Buffer Parts → List ℕ → HeldBuf
-held_after (Recv fd buf) got = One (stored buf got)
-held_after (ReadVec fd parts) got = HeldBuf.Parts (parts_stored parts got)
-held_after (Send fd buf) got = One buf
-held_after (WriteVec fd parts) got = HeldBuf.Parts parts
-
--- The buffer of an operation after its outcome: after an error it is the submitted one.
-abbrev pub held : Request Buffer Parts → Told → List ℕ → HeldBuf
-held request (Count k) got = held_after request got
-held request (Fail e) got = buffer_of request
 
 -- The effect of executing a request.
 abbrev pub effect_of : Ledger → Request Buffer Parts → Told → Effect
 effect_of L request told = effect L.world (call_of request) (sent_of request) told
 
--- An executed operation has its buffer and its outcome.
+-- An executed operation has its outcome, and what its request holds after it.
 abbrev pub with_result : Told → Effect → Operation → Operation
 with_result told result operation = record operation { buffer = held operation.request told result.got; place = InDone result.outcome }
 

@@ -1,5 +1,5 @@
--- What stands on a handle, and what feeding it, ending it and looking at it does.
-use Rattle.std.specs.Prelude.{ℕ, ◌≡◌, Bool, true, false, List, [], ◌++◌, Option, None, Some, slice_get, Result, Ok, Err}
+-- The state of a handle, and what feeding it, ending it and looking at it does.
+use Rattle.std.specs.Prelude.{ℕ, ◌≡◌, Bool, true, false, List, [], ◌++◌, unwrap_or, option_map, slice_get, Result, Ok, Err}
 use Rattle.ring_core.specs.declared.world.HandleKind.{HandleKind}
 use Rattle.ring_core.specs.declared.world.HandleKind.TheVariants.{Stream}
 use Rattle.ring_core.specs.declared.world.HandleState.{HandleState}
@@ -7,7 +7,7 @@ use Rattle.ring_core.specs.declared.world.WorldError.{WorldError}
 use Rattle.ring_core.specs.declared.world.WorldError.TheVariants.{BadHandleEvent, OutOfMemory}
 use Rattle.ring_core.specs.Lists.{amended, passes}
 
--- A new handle of a kind: nothing stands on it, and its end isn't marked.
+-- A new handle of a kind: it has no bytes, and its end isn't marked.
 abbrev pub fresh : HandleKind → HandleState
 fresh kind = record { kind = kind; input = []; ended = false; output = [] }
 
@@ -19,14 +19,9 @@ gives_bytes Stream = true
 abbrev pub takes_bytes : HandleKind → Bool
 takes_bytes Stream = true
 
--- The bytes that stand on a handle that was looked up.
-abbrev pub input_of : Option HandleState → List ℕ
-input_of None = []
-input_of (Some handle) = handle.input
-
--- The bytes that stand on the handle of a number.
+-- The bytes that wait to be read on the handle of a number; none where there is no such handle.
 abbrev pub input_at : List HandleState → ℕ → List ℕ
-input_at world h = input_of (slice_get world h)
+input_at world h = unwrap_or (option_map (λ handle. handle.input) (slice_get world h)) []
 
 -- Bytes join the input's end.
 abbrev pub with_input : List ℕ → HandleState → HandleState
@@ -40,27 +35,24 @@ with_end handle = record handle { ended = true }
 abbrev pub with_output : List ℕ → HandleState → HandleState
 with_output bytes handle = record handle { output = handle.output ++ bytes }
 
--- The bytes that were sent to a handle that was looked up.
-abbrev pub output_of : Option HandleState → List ℕ
-output_of None = []
-output_of (Some handle) = handle.output
-
--- The bytes that were sent to the handle of a number.
+-- The bytes that were sent to the handle of a number; none where there is no such handle.
 abbrev pub output_at : List HandleState → ℕ → List ℕ
-output_at world h = output_of (slice_get world h)
+output_at world h = unwrap_or (option_map (λ handle. handle.output) (slice_get world h)) []
 
 -- The end of the handle of a number is marked.
 abbrev pub is_ended_at : List HandleState → ℕ → Bool
 is_ended_at world h = passes (λ handle. handle.ended) (slice_get world h)
 
--- What feeding a handle answers and leaves: one case for each answer. It is refused exactly where the end is marked, but for want of memory.
-abbrev pub FeedsFor : List ℕ → List HandleState → ℕ → List HandleState → Result Unit WorldError → Type 0
-FeedsFor bytes old h new (Ok done) = (is_ended_at old h ≡ false) × (new ≡ amended old h (with_input bytes))
-FeedsFor bytes old h new (Err BadHandleEvent) = (is_ended_at old h ≡ true) × (new ≡ old)
-FeedsFor bytes old h new (Err OutOfMemory) = (is_ended_at old h ≡ false) × (new ≡ old)
+-- What feeding a handle answers and leaves: one case for each answer. It is refused exactly when the end is marked, else it may
+-- run out of memory.
+abbrev pub WorldFeeds : List ℕ → List HandleState → ℕ → List HandleState → Result Unit WorldError → Type 0
+WorldFeeds bytes old h new (Ok done) = (is_ended_at old h ≡ false) × (new ≡ amended old h (with_input bytes))
+WorldFeeds bytes old h new (Err BadHandleEvent) = (is_ended_at old h ≡ true) × (new ≡ old)
+WorldFeeds bytes old h new (Err OutOfMemory) = (is_ended_at old h ≡ false) × (new ≡ old)
 
--- What ending a handle answers and leaves: one case for each answer. It is refused exactly where the end is marked, and never for want of memory.
-abbrev pub EndsFor : List HandleState → ℕ → List HandleState → Result Unit WorldError → Type 0
-EndsFor old h new (Ok done) = (is_ended_at old h ≡ false) × (new ≡ amended old h with_end)
-EndsFor old h new (Err BadHandleEvent) = (is_ended_at old h ≡ true) × (new ≡ old)
-EndsFor old h new (Err OutOfMemory) = ⊥
+-- What ending a handle answers and leaves: one case for each answer. It is refused exactly when the end is marked, and never
+-- runs out of memory.
+abbrev pub WorldEnds : List HandleState → ℕ → List HandleState → Result Unit WorldError → Type 0
+WorldEnds old h new (Ok done) = (is_ended_at old h ≡ false) × (new ≡ amended old h with_end)
+WorldEnds old h new (Err BadHandleEvent) = (is_ended_at old h ≡ true) × (new ≡ old)
+WorldEnds old h new (Err OutOfMemory) = ⊥

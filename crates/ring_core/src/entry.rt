@@ -1,17 +1,39 @@
 //! The entries of a ring, and its completions.
-ghost use Rattle.std.specs.Prelude.{◌≡◌, Option, Some, None};
-ghost use Rattle.ring_core.specs.Effect.{count_told};
+ghost use Rattle.std.specs.Prelude.{◌≡◌};
+ghost use Rattle.ring_core.specs.Entry.{target, call_entry, cancel_entry};
 ghost use Rattle.ring_core.specs.MemRing.{body_sends};
 
 use crate::request::{Call, Outcome, Told};
 
-/// The first of the data words that are reserved: they reach no slot. (own)
-pub const FIRST_RESERVED: u64 = 18446744073709551612;
+/// The first of the four data words that are reserved: they name no slot. (not in monoio)
+pub const FIRST_RESERVED: u64 = u64::MAX - 3;
 
-/// The data word of a cancel. (own)
-pub const CANCEL_WORD: u64 = 18446744073709551615;
+/// The data word of a cancel: a reserved one. (not in monoio)
+pub const CANCEL_WORD: u64 = u64::MAX;
 
-/// What an entry asks for. (own)
+/// What a data word names. (not in monoio)
+#[derive(Clone, Copy, Debug, PartialEq, Eq)]
+pub enum Target {
+    /// The slot of this key.
+    Slot(usize),
+    /// Nothing: the word is reserved.
+    Reserved(u64),
+}
+
+impl Target {
+    /// What a data word names. Each word is read by this call alone. (not in monoio)
+    pub fn of(word: u64) -> Target
+        ensures { result ≡ target word }
+    {
+        if word < FIRST_RESERVED {
+            Target::Slot(word as usize)
+        } else {
+            Target::Reserved(word)
+        }
+    }
+}
+
+/// What an entry asks for. (not in monoio)
 #[derive(Clone, Copy, Debug, PartialEq, Eq)]
 pub enum Body {
     /// The call of an operation.
@@ -21,7 +43,7 @@ pub enum Body {
 }
 
 impl Body {
-    /// How many bytes it sends with what is told; None where it sends nothing: it reads, failed, or is a cancel. (own)
+    /// How many bytes it sends with this report; None where it sends nothing: it reads, failed, or is a cancel. (not in monoio)
     pub fn sends(&self, told: Told) -> Option<u32>
         ensures { result ≡ body_sends self.now told }
     {
@@ -33,27 +55,52 @@ impl Body {
     }
 }
 
-/// A submission. The ring compares data words alone, and never serials. (io_uring's submission queue entry)
+/// A submission. The ring compares data words alone, and never serials. It is made by `Entry::call` and `Entry::cancel`.
+/// (io_uring: a submission queue entry)
 #[derive(Clone, Copy, Debug, PartialEq, Eq)]
 pub struct Entry {
     /// The data word, which the completion carries back: the key of the operation's slot, or `CANCEL_WORD`.
     pub word: u64,
-    /// The operation's number, for what reads the ring and not for the ring itself.
+    /// The operation's number, for those who read the ring and not for the ring itself.
     pub serial: u64,
-    /// What is asked for.
+    /// What it asks for.
     pub body: Body,
 }
 
-/// An entry that was taken from the queue and isn't finished. (own)
+impl Entry {
+    /// The entry of an operation's call: the key of the operation's slot is its word. (not in monoio)
+    pub fn call(key: usize, serial: u64, call: Call) -> Entry
+        ensures { result ≡ call_entry key serial call }
+    {
+        Entry {
+            word: key as u64,
+            serial,
+            body: Body::Call(call),
+        }
+    }
+
+    /// The entry of a cancel of the operation in the slot of a key. (not in monoio)
+    pub fn cancel(key: usize, serial: u64) -> Entry
+        ensures { result ≡ cancel_entry key serial }
+    {
+        Entry {
+            word: CANCEL_WORD,
+            serial,
+            body: Body::Cancel(key as u64),
+        }
+    }
+}
+
+/// An entry that was taken from the queue and isn't finished. (not in monoio)
 #[derive(Clone, Copy, Debug, PartialEq, Eq)]
 pub struct Flight {
     /// The entry.
     pub entry: Entry,
-    /// A cancel of its data word was taken since.
+    /// A cancel that names its data word was taken since.
     pub marked: bool,
 }
 
-/// A completion. (io_uring's completion queue entry, without its flags)
+/// A completion. (io_uring: a completion queue entry, without its flags)
 #[derive(Clone, Copy, Debug, PartialEq, Eq)]
 pub struct Completion {
     /// The entry's data word.
@@ -62,4 +109,39 @@ pub struct Completion {
     pub serial: u64,
     /// How the entry ended.
     pub outcome: Outcome,
+}
+
+#[cfg(test)]
+mod tests {
+    use super::*;
+
+    // Data words, and what they name.
+    #[rattlefmt::skip]
+    const WORDS: [(u64, Target); 4] = [
+        (0, Target::Slot(0)),
+        (18446744073709551611, Target::Slot(18446744073709551611)),
+        (18446744073709551612, Target::Reserved(18446744073709551612)),
+        (CANCEL_WORD, Target::Reserved(18446744073709551615)),
+    ];
+
+    #[test]
+    fn a_word_below_the_reserved_ones_names_a_slot(rt: HostRuntime) {
+        for (word, target) in WORDS {
+            assert_eq!(rt; Target::of(word), target, "the word {word}");
+        }
+    }
+
+    #[test]
+    fn an_entry_has_the_word_of_its_sort(rt: HostRuntime) {
+        let call = Call::In { h: 3, ask: 4 };
+        let entry = Entry::call(5, 7, call);
+        assert_eq!(rt;
+            (entry.word, entry.serial, entry.body),
+            (5, 7, Body::Call(call))
+        );
+        let cancel = Entry::cancel(5, 7);
+        assert_eq!(rt; (cancel.word, cancel.serial), (CANCEL_WORD, 7));
+        assert_eq!(rt; cancel.body, Body::Cancel(5));
+        assert_eq!(rt; entry.body.sends(Told::Count(1)), None);
+    }
 }

@@ -1,55 +1,56 @@
-//! What is in flight, in order, found by data word.
-ghost use Rattle.std.specs.Prelude.{◌≡◌, ◌<◌, ◌≤◌, ◌+◌, ◌%◌, ◌++◌, [], ◌∷◌, false, map, length, remove, OnOk, OnErr, slice_get, vec_len};
-ghost use Rattle.std.specs.VecDeque.{deque_len, deque_capacity};
+//! What is in flight, in order, found by place and by data word.
+ghost use Rattle.std.specs.Prelude.{◌≡◌, ◌<◌, ◌≤◌, ◌+◌, [], ◌∷◌, ◌++◌, true, false, map, length, replicate, remove, OnOk, OnErr, slice_get, vec_len, vec_capacity};
 ghost use Rattle.ring_core.specs.Lists.{amended};
 ghost use Rattle.ring_core.specs.Ring.{marked_by};
-ghost use Rattle.ring_core.specs.Flights.{AreTallied, tally};
-ghost use Rattle.ring_core.specs.Found.{FindsFor};
+ghost use Rattle.ring_core.specs.Ranks.{kept, kept_first};
+ghost use Rattle.std.specs.Option.{ForSome};
+ghost use Rattle.ring_core.specs.Flights.{AreLinked, IsSpot, words_of};
+ghost use Rattle.ring_core.specs.Found.{LinkFor, NextLinkFor};
 
 use crate::entry::{Entry, Flight};
-use crate::tallies::{
-    class_of, count_word, discount_word, last_ticket, last_tickets, note_ticket, place_of, tallied,
-};
+use crate::ranks::Ranks;
 use rent_buf::OutOfMemory;
 use std::alloc::Global;
-use std::collections::VecDeque;
 use std::marker::Model;
 
-/// What is in flight, in order. A cancel finds its entry by the tally of its data word's class: where the class has one
-/// entry, a search by tickets, which rise along the list, finds its place. (own)
+// A place, and the slot of what is there.
+#[derive(Clone, Copy, Debug)]
+struct Spot {
+    place: usize,
+    slot: usize,
+}
+
+// The link of a data word that several had at once.
+const SEVERAL: usize = usize::MAX;
+
+/// What is in flight, in order. Each entry has a slot, where it stays until it is done; the slot of a place is found by its
+/// rank, and that of a data word by its link. Once all slots are used, what is in flight moves to the first ones: for that at
+/// least half as many entries as there is room for were removed. (not in monoio)
 #[derive(Debug, Drop)]
 pub struct Flights {
     alloc: Global,
-    items: VecDeque<Flight>,
-    // The ticket of each, in the same order, and the next one.
-    tickets: VecDeque<u64>,
-    next: u64,
-    // By class: how many are in flight, and the ticket of the last that joined.
-    tallies: Vec<usize>,
-    last: Vec<u64>,
+    // What stands on each slot, also on those that aren't kept any more.
+    items: Vec<Flight>,
+    ranks: Ranks,
+    live: usize,
+    // By data word: the slot of the one that joined with it last, or `SEVERAL`.
+    links: Vec<usize>,
+    // Where the last look was, so that what was looked at is removed with no second search.
+    looked: Option<Spot>,
     room: usize,
 }
 
 impl Model for Flights {
-    ghost use Rattle.std.specs.Prelude.{◌≡◌, ◌≤◌};
-    ghost use Rattle.std.specs.VecDeque.{deque_len, deque_capacity};
-    ghost use Rattle.ring_core.specs.Flights.{InFlight, AreTallied};
+    ghost use Rattle.std.specs.Prelude.{◌≤◌, vec_len, vec_capacity};
+    ghost use Rattle.ring_core.specs.Ranks.{kept};
+    ghost use Rattle.std.specs.Option.{ForSome};
+    ghost use Rattle.ring_core.specs.Flights.{InFlight, AreLinked, AreStored, IsSpot, words_of};
 
     ghost Value = { InFlight };
 
-    ghost view = { λ f. record { flights = f.items.items; room = f.room } };
+    ghost view = { λ f. record { flights = kept f.ranks.flags f.items.items; room = f.room } };
 
-    ghost invariant = { λ f. AreTallied f.tallies.items f.items.items × (deque_len f.tickets ≡ deque_len f.items) × (f.room ≤ deque_capacity f.items) × (f.room ≤ deque_capacity f.tickets) };
-}
-
-// Where what has a data word is.
-enum Found {
-    // Nothing in flight has it.
-    Nowhere,
-    // What is at this place may have it, and nothing else has.
-    Only(usize),
-    // Any may have it.
-    Anywhere,
+    ghost invariant = { λ f. AreLinked f.links.items f.ranks.flags (words_of f.items.items) × AreStored (vec_len f.items) f.live f.room (vec_capacity f.items) f.ranks × ForSome f.looked (λ spot. IsSpot f.ranks.flags spot.place spot.slot) };
 }
 
 impl Flights {
@@ -59,11 +60,11 @@ impl Flights {
     {
         Flights {
             alloc,
-            items: VecDeque::new(alloc),
-            tickets: VecDeque::new(alloc),
-            next: 0,
-            tallies: Vec::new(alloc),
-            last: Vec::new(alloc),
+            items: Vec::new(alloc),
+            ranks: Ranks::new(alloc),
+            live: 0,
+            links: Vec::new(alloc),
+            looked: None,
             room: 0,
         }
     }
@@ -72,17 +73,30 @@ impl Flights {
     pub fn len(&self) -> usize
         ensures { result ≡ length self.now.flights }
     {
-        self.items.len()
+        self.live
     }
 
     /// What is in flight at a place.
     pub fn get(&self, place: usize) -> Option<Flight>
         ensures { result ≡ slice_get self.now.flights place }
     {
-        match self.items.get(place) {
-            Some(flight) => Some(*flight),
-            None => None,
+        if place >= self.live {
+            return None;
         }
+        Some(self.items[self.ranks.select(place)])
+    }
+
+    /// What is in flight at a place, which `remove` then finds at once.
+    pub fn look(&mut self, place: usize) -> Option<Flight>
+        ensures value { result ≡ slice_get self.old.flights place }
+        ensures same { self.new ≡ self.old }
+    {
+        if place >= self.live {
+            return None;
+        }
+        let slot = self.ranks.select(place);
+        self.looked = Some(Spot { place, slot });
+        Some(self.items[slot])
     }
 
     /// Takes the memory for so many in flight.
@@ -95,7 +109,7 @@ impl Flights {
         if room <= self.room {
             return Ok(());
         }
-        // The room doubles at least, so that what is in flight is tallied anew seldom.
+        // The room doubles at least, so that what is in flight is moved seldom.
         let doubled = self.room.saturating_mul(2);
         self.grow(if room < doubled { doubled } else { room })
     }
@@ -106,16 +120,18 @@ impl Flights {
         ensures ok { OnOk result (self.new ≡ record (self.old) { room = room }) }
         ensures err { OnErr result (self.new ≡ self.old) }
     {
-        let len = self.items.len();
-        if room < len {
+        let slots = room.saturating_add(room / 2).saturating_add(64);
+        if slots < self.items.len() {
             return Err(OutOfMemory);
         }
-        let tallies = tallied(self.alloc, room, &self.items)?;
-        let last = last_tickets(self.alloc, room, &self.items, &self.tickets)?;
-        self.items.reserve(room - len)?;
-        self.tickets.reserve(room - len)?;
-        self.tallies = tallies;
-        self.last = last;
+        let ranks = Ranks::with_room(self.alloc, slots)?;
+        let links = vec![in self.alloc; 0; room.saturating_mul(4)]?;
+        self.items.reserve(slots - self.items.len())?;
+        pack(&mut self.items, &self.ranks);
+        self.looked = None;
+        self.ranks = ranks;
+        self.links = links;
+        register(&self.items, &mut self.ranks, &mut self.links);
         self.room = room;
         Ok(())
     }
@@ -125,25 +141,23 @@ impl Flights {
         requires { length self.old.flights < self.old.room }
         ensures { self.new ≡ record (self.old) { flights = self.old.flights ++ record { entry = entry; marked = false } ∷ [] } }
     {
-        count_word(&mut self.tallies, entry.word);
-        let ticket = self.next;
-        note_ticket(&mut self.last, entry.word, ticket);
-        self.next = ticket.wrapping_add(1);
-        self.tickets.push_back_reserved(ticket);
-        self.items.push_back_reserved(Flight {
+        self.looked = None;
+        make_way(&mut self.items, &mut self.ranks, &mut self.links);
+        self.items.push_reserved(Flight {
             entry,
             marked: false,
         });
+        link(&self.items, &mut self.ranks, &mut self.links);
+        self.live += 1;
     }
 
     /// What is in flight with this data word is marked.
     pub fn mark(&mut self, word: u64)
         ensures { self.new ≡ record (self.old) { flights = map (marked_by word) self.old.flights } }
     {
-        match find(&self.items, &self.tickets, &self.tallies, &self.last, word) {
-            Found::Nowhere => {}
-            Found::Only(place) => mark_at(&mut self.items, place, word),
-            Found::Anywhere => mark_all(&mut self.items, word),
+        match link_of(&self.links, word) {
+            Some(slot) => mark_at(&mut self.items, slot, word),
+            None => mark_all(&mut self.items, word),
         }
     }
 
@@ -152,81 +166,154 @@ impl Flights {
         requires { place < length self.old.flights }
         ensures { self.new ≡ record (self.old) { flights = remove self.old.flights place } }
     {
-        discount_word(&mut self.tallies, self.items[place].entry.word);
-        take_out(&mut self.tickets, place);
-        take_out(&mut self.items, place);
+        let slot = slot_at(&self.ranks, self.looked, place);
+        self.looked = None;
+        self.ranks.release(slot);
+        self.live -= 1;
+        if self.live == 0 {
+            self.items.clear();
+            self.ranks.restart();
+        }
     }
 }
 
-// What is at a place goes.
-fn take_out<T: Drop>(items: &mut VecDeque<T>, place: usize)
-    requires { place < deque_len items.old }
-    ensures items { items.new.items ≡ remove items.old.items place }
-    ensures length { deque_len items.new + 1 ≡ deque_len items.old }
-    ensures capacity { deque_capacity items.new ≡ deque_capacity items.old }
+// The slot of a place, which was looked at last, or is searched.
+fn slot_at(ranks: &Ranks, looked: Option<Spot>, place: usize) -> usize
+    requires some { place < kept_first (length ranks.now.flags) ranks.now.flags }
+    requires looked { ForSome looked (λ spot. IsSpot ranks.now.flags spot.place spot.slot) }
+    ensures { IsSpot ranks.now.flags place result }
 {
-    let _ = items.remove(place);
-}
-
-// Where what has a data word is.
-fn find(
-    items: &VecDeque<Flight>,
-    tickets: &VecDeque<u64>,
-    tallies: &Vec<usize>,
-    last: &Vec<u64>,
-    word: u64,
-) -> Found
-    requires { AreTallied tallies.now.items items.now.items }
-    ensures { FindsFor word items.now.items result }
-{
-    if tallies.is_empty() {
-        return Found::Anywhere;
-    }
-    match tallies[class_of(word, tallies.len())] {
-        0 => Found::Nowhere,
-        1 => only_at(
-            items,
-            place_of(tickets, last_ticket(last, word)),
-            tallies.len(),
-            word,
-        ),
-        _ => Found::Anywhere,
+    match looked {
+        Some(spot) if spot.place == place => spot.slot,
+        _ => ranks.select(place),
     }
 }
 
-// A place, where what stands there is the one entry of a data word's class.
-fn only_at(items: &VecDeque<Flight>, place: usize, classes: usize, word: u64) -> Found
-    requires some { 0 < classes }
-    requires one { tally classes (word % classes) items.now.items ≡ 1 }
-    ensures { FindsFor word items.now.items result }
+// Makes way for one more slot: once all are used, what is kept moves to the first ones.
+fn make_way(items: &mut Vec<Flight>, ranks: &mut Ranks, links: &mut Vec<usize>)
+    requires together { vec_len items.old ≡ length ranks.old.flags }
+    requires room { kept_first (length ranks.old.flags) ranks.old.flags < ranks.old.room }
+    requires linked { AreLinked links.old.items ranks.old.flags (words_of items.old.items) }
+    ensures kept { kept ranks.new.flags items.new.items ≡ kept ranks.old.flags items.old.items }
+    ensures together { vec_len items.new ≡ length ranks.new.flags }
+    ensures way { vec_len items.new < ranks.new.room }
+    ensures room { ranks.new.room ≡ ranks.old.room }
+    ensures capacity { vec_capacity items.new ≡ vec_capacity items.old }
+    ensures linked { AreLinked links.new.items ranks.new.flags (words_of items.new.items) }
 {
-    if place >= items.len() {
-        return Found::Anywhere;
+    if items.len() < ranks.room() {
+        return;
     }
-    if class_of(items[place].entry.word, classes) == class_of(word, classes) {
-        Found::Only(place)
+    pack(items, ranks);
+    ranks.clear();
+    register(items, ranks, links);
+}
+
+// What stands on kept slots moves to the first ones, in order.
+fn pack(items: &mut Vec<Flight>, ranks: &Ranks)
+    requires { vec_len items.old ≡ length ranks.now.flags }
+    ensures items { items.new.items ≡ kept ranks.now.flags items.old.items }
+    ensures capacity { vec_capacity items.new ≡ vec_capacity items.old }
+{
+    let mut count = 0;
+    for slot in 0..items.len() {
+        if !ranks.holds(slot) {
+            continue;
+        }
+        items[count] = items[slot];
+        count += 1;
+    }
+    items.truncate(count);
+}
+
+// Each item has a slot that is kept.
+fn register(items: &Vec<Flight>, ranks: &mut Ranks, links: &mut Vec<usize>)
+    requires none { ranks.old.flags ≡ [] }
+    requires room { vec_len items.now ≤ ranks.old.room }
+    ensures flags { ranks.new.flags ≡ replicate (vec_len items.now) true }
+    ensures room { ranks.new.room ≡ ranks.old.room }
+    ensures linked { AreLinked links.new.items ranks.new.flags (words_of items.now.items) }
+{
+    for _ in 0..items.len() {
+        link(items, ranks, links);
+    }
+}
+
+// The first item that has no slot gets one, and its data word names it.
+fn link(items: &Vec<Flight>, ranks: &mut Ranks, links: &mut Vec<usize>)
+    requires there { length ranks.old.flags < vec_len items.now }
+    requires room { length ranks.old.flags < ranks.old.room }
+    requires linked { AreLinked links.old.items ranks.old.flags (words_of items.now.items) }
+    ensures flags { ranks.new.flags ≡ ranks.old.flags ++ true ∷ [] }
+    ensures room { ranks.new.room ≡ ranks.old.room }
+    ensures linked { AreLinked links.new.items ranks.new.flags (words_of items.now.items) }
+{
+    let slot = ranks.len();
+    set_link(items, ranks, links, slot);
+    ranks.push();
+}
+
+// The data word of the item that gets a slot next names that slot.
+fn set_link(items: &Vec<Flight>, ranks: &Ranks, links: &mut Vec<usize>, slot: usize)
+    requires there { slot < vec_len items.now }
+    requires next { slot ≡ length ranks.now.flags }
+    requires linked { AreLinked links.old.items ranks.now.flags (words_of items.now.items) }
+    ensures { AreLinked links.new.items (ranks.now.flags ++ true ∷ []) (words_of items.now.items) }
+{
+    let word = items[slot].entry.word;
+    if word >= links.len() as u64 {
+        return;
+    }
+    let before = links[word as usize];
+    links[word as usize] = next_link(items, ranks, before, word, slot);
+}
+
+// The link of a data word whose link was another, once it gets a slot: that slot, unless the word is kept on another.
+fn next_link(items: &Vec<Flight>, ranks: &Ranks, before: usize, word: u64, slot: usize) -> usize
+    requires { length ranks.now.flags ≤ vec_len items.now }
+    ensures { NextLinkFor ranks.now.flags (words_of items.now.items) before word slot result }
+{
+    if before == SEVERAL {
+        return SEVERAL;
+    }
+    if ranks.holds(before) && items[before].entry.word == word {
+        SEVERAL
     } else {
-        Found::Anywhere
+        slot
     }
 }
 
-// What is at a place is marked where its data word is this.
-fn mark_at(items: &mut VecDeque<Flight>, place: usize, word: u64)
-    requires { place < deque_len items.old }
-    ensures items { items.new.items ≡ amended items.old.items place (marked_by word) }
-    ensures length { deque_len items.new ≡ deque_len items.old }
-    ensures capacity { deque_capacity items.new ≡ deque_capacity items.old }
+// The one slot on which a data word may be kept; None where it may be kept on any.
+fn link_of(links: &Vec<usize>, word: u64) -> Option<usize>
+    ensures { LinkFor links.now.items word result }
 {
-    items[place] = marked(items[place], word);
+    if word >= links.len() as u64 {
+        return None;
+    }
+    match links[word as usize] {
+        SEVERAL => None,
+        slot => Some(slot),
+    }
 }
 
-// Each is marked where its data word is this.
-fn mark_all(items: &mut VecDeque<Flight>, word: u64)
-    ensures items { items.new.items ≡ map (marked_by word) items.old.items }
-    ensures length { deque_len items.new ≡ deque_len items.old }
-    ensures capacity { deque_capacity items.new ≡ deque_capacity items.old }
+// What stands on a slot is marked where its data word is this. Where there is no such slot, nothing changes.
+fn mark_at(items: &mut Vec<Flight>, slot: usize, word: u64)
+    ensures items { items.new.items ≡ amended items.old.items slot (marked_by word) }
+    ensures length { vec_len items.new ≡ vec_len items.old }
+    ensures capacity { vec_capacity items.new ≡ vec_capacity items.old }
 {
-    mark_each(items.make_contiguous(), word);
+    if slot < items.len() {
+        items[slot] = marked(items[slot], word);
+    }
+}
+
+// What stands on any slot is marked where its data word is this.
+fn mark_all(items: &mut Vec<Flight>, word: u64)
+    ensures items { items.new.items ≡ map (marked_by word) items.old.items }
+    ensures length { vec_len items.new ≡ vec_len items.old }
+    ensures capacity { vec_capacity items.new ≡ vec_capacity items.old }
+{
+    mark_each(items.as_mut_slice(), word);
 }
 
 // Each of these is marked where its data word is this.

@@ -1,5 +1,5 @@
 //! Bytes that wait on a handle.
-ghost use Rattle.std.specs.Prelude.{◌≡◌, ◌≤◌, ◌==◌, [], ◌++◌, length, drop, OnOk, OnErr, vec_len};
+ghost use Rattle.std.specs.Prelude.{◌≡◌, ◌≤◌, ◌==◌, [], ◌++◌, length, take, drop, OnOk, OnErr, vec_len};
 
 use rent_buf::OutOfMemory;
 use std::alloc::Global;
@@ -52,6 +52,14 @@ impl Input {
         ensures { result.now ≡ self.now }
     {
         &self.bytes.as_slice()[self.start..]
+    }
+
+    /// The first `count` bytes that wait.
+    pub fn first(&self, count: usize) -> &[u8]
+        requires { count ≤ length self.now }
+        ensures { result.now ≡ take count self.now }
+    {
+        &self.as_slice()[..count]
     }
 
     /// Adds bytes behind those that wait.

@@ -1,4 +1,5 @@
-//! The events of the machine, its replies and its refusals. What a step makes of an event is `step` of `specs/Step.antt`.
+//! The events of the machine, its replies and its refusals. The machine is the specification, `step` of `specs/Step.antt`; a ledger
+//! is its state.
 ghost use Rattle.ring_core.specs.Rows.{OneRead, RefusedInOrder, LateCancel, FullQueue};
 ghost use Rattle.ring_core.specs.OutcomeRows.{RefusedOutcomes, Errors, ReadAtTheEnd};
 ghost use Rattle.ring_core.specs.BufferRows.{ShortRead, GrownRead, FixedRead, RangeRead, PartsRead, ShortSend, PartsSend};
@@ -7,52 +8,55 @@ use crate::request::{Outcome, Request, Told};
 use crate::world::HandleKind;
 use rent_buf::{BufSpec, ByteList, HeldBuf, NumList, PartsSpec};
 
+/// The most operations that may be live at once: submitted, and neither returned nor reaped after a drop.
+pub const MOST_LIVE: usize = 4294967232;
+
 /// What a user or an executor does.
 #[derive(Debug, Drop)]
 pub enum Event {
-    /// Makes a handle of a kind.
+    /// Creates a handle of this kind.
     Give(HandleKind),
-    /// Bytes arrive at a handle.
+    /// These bytes arrive at the handle of this number.
     Feed(u64, ByteList),
-    /// The end of what arrives at a handle: no more bytes do.
+    /// No more bytes arrive at the handle of this number.
     End(u64),
-    /// Looks at what was sent to a handle.
+    /// Looks at the bytes that were sent to the handle of this number.
     Look(u64),
-    /// Submits a request.
+    /// Submits this request as a new operation.
     Submit(Request<BufSpec, PartsSpec>),
-    /// Polls an operation for a task.
+    /// Polls an operation, by its number, for a task.
     Poll(u64, u64),
-    /// Gives an operation up.
+    /// Drops an operation, by its number: its user wants no outcome.
     Drop(u64),
-    /// Asks for the cancel of an operation.
+    /// Asks for the cancel of an operation, by its number.
     Cancel(u64),
-    /// Enters the queue and reaps what is done.
+    /// Takes the queue, then reaps what is done.
     Turn,
-    /// Executes what stands at a place of the in-flight list.
+    /// Executes what is at this place of the in-flight list, with this report.
     Exec(usize, Told),
 }
 
-/// Why an event changed nothing. Where several hold, the first in this order is given.
+/// Why an event changed nothing. Where several hold, the first in this order is replied.
 #[derive(Clone, Copy, Debug, PartialEq, Eq)]
 pub enum Refusal {
-    /// The operation was never given, was handed back, or was dropped.
+    /// The operation was never submitted, was returned, or was dropped.
     NoOp,
-    /// A named handle isn't its user's.
+    /// The user doesn't hold a handle that the event names.
     NoHandle,
-    /// As many operations as there may be aren't gone.
+    /// `MOST_LIVE` operations are live.
     Full,
     /// The place isn't below the length of the in-flight list.
     NotFlying,
-    /// The outcome isn't allowed.
+    /// The reported outcome isn't allowed to what is at the place.
     BadOutcome,
-    /// What arrives at the handle has ended.
+    /// What arrives at the handle has ended before.
     BadHandleEvent,
 }
 
-/// What the machine answers to an event.
+/// What the machine replies to an event.
 #[derive(Debug, Drop)]
 pub enum Reply {
-    /// The number of a new handle.
+    /// The number of the new handle.
     Handle(u64),
     /// The bytes arrived.
     Fed,
@@ -60,25 +64,25 @@ pub enum Reply {
     Ended,
     /// The bytes that were sent to the handle.
     Output(ByteList),
-    /// The number of a new operation.
+    /// The number of the new operation.
     Submitted(u64),
-    /// The operation isn't reaped.
+    /// The operation isn't reaped yet.
     Pending,
-    /// The operation's outcome, and its buffer.
+    /// The operation's outcome, and its buffer or its parts. The operation is its user's no more.
     Handed(Outcome, HeldBuf),
-    /// The operation is given up.
+    /// The operation is dropped.
     Dropped,
     /// The cancel is asked for.
     Asked,
-    /// The operations that were reaped, the handles whose closes were, and the tasks that were woken.
+    /// The operations that were reaped, the handles whose closes were, and the tasks that were woken, each by number.
     Turned(NumList, NumList, NumList),
-    /// The operation that was executed.
+    /// The number of the operation that was executed.
     ExecutedOp(u64),
-    /// The event was refused.
+    /// The event was refused, and changed nothing.
     Refused(Refusal),
 }
 
-/// Worked runs of the machine, computed from its definitions. (own)
+/// Worked runs of the machine, computed from its definitions: the clauses hold what each replies. (not in monoio)
 pub fn worked_rows()
     // Operations.
     ensures one_read { OneRead }

@@ -1,24 +1,22 @@
 //! The ring in memory.
-ghost use Rattle.std.specs.Prelude.{◌≡◌, ◌<◌, ◌≤◌, ◌+◌, [], length, true, slice_get, option_copied};
+ghost use Rattle.std.specs.Prelude.{◌≡◌, ◌<◌, ◌≤◌, ◌+◌, [], length, true, IfSome};
 ghost use Rattle.std.specs.VecDeque.{deque_len, deque_capacity};
-ghost use Rattle.std.specs.Prelude.{IfSome, IfOk, OnErr, List, ℕ, None, Some};
-ghost use Rattle.std.specs.List.{concat};
-ghost use Rattle.ring_core.specs.declared.request.Told.TheVariants.{Count as Counts};
 ghost use Rattle.std.specs.Borrow.{sem};
-ghost use Rattle.ring_core.specs.Ring.{flying_with, flying_after, done_with, done_after};
-ghost use Rattle.ring_core.specs.MemRing.{fresh_ring, entry_at, is_allowed_body, admits_at, coming_at, sends_at, completion_of, completed, AdmitsFor, IsFinished, FinishesFor};
+ghost use Rattle.ring_core.specs.Ring.{flying_after_entry, flying_after, done_after_entry, done_after};
+ghost use Rattle.ring_core.specs.MemRing.{fresh_ring, entry_at, completion_of, completed, FinishesFor, ExecutesFor};
 ghost use Rattle.ring_core.specs.Lends.{lends_world};
-ghost use Rattle.ring_core.specs.World.{output_at};
 
-use crate::entry::{Body, Completion, Entry, Flight};
+use crate::entry::{Body, Completion, Entry};
 use crate::flights::Flights;
-use crate::request::{Call, Outcome, Told};
+use crate::payloads::{Payloads, append_first};
+use crate::request::{Outcome, Told};
 use crate::ring::{EnterError, Push, Ring};
-use crate::world::{Look, World};
-use rent_buf::{ByteList, IoVecBuf, OutOfMemory};
+use crate::world::{RunError, World};
+use rent_buf::{ByteList, OutOfMemory};
 use std::alloc::Global;
 use std::collections::VecDeque;
 use std::marker::Model;
+use std::mem;
 use thiserror::Error;
 
 /// Why nothing was executed. The ring is as it was.
@@ -50,13 +48,13 @@ impl Model for MemRing {
     ghost use Rattle.std.specs.Prelude.{length};
     ghost use Rattle.std.specs.VecDeque.{deque_len, deque_capacity};
     ghost use Rattle.ring_core.specs.Ring.{RingView};
-    ghost use Rattle.ring_core.specs.Reserved.{HasRoom};
+    ghost use Rattle.ring_core.specs.Reserved.{RingHasRoom};
 
     ghost Value = { RingView };
 
     ghost view = { λ r. record { capacity = r.entries; queue = r.queue.items; flying = r.flying.flights; done = r.done.items; world = r.world; spare = r.spare; faults = 0; busies = 0 } };
 
-    ghost invariant = { λ r. HasRoom r.entries (deque_len r.queue) (length r.flying.flights) (deque_len r.done) r.spare (deque_capacity r.queue) r.flying.room (deque_capacity r.done) };
+    ghost invariant = { λ r. RingHasRoom r.entries (deque_len r.queue) (length r.flying.flights) (deque_len r.done) r.spare (deque_capacity r.queue) r.flying.room (deque_capacity r.done) };
 }
 
 impl MemRing {
@@ -75,6 +73,13 @@ impl MemRing {
         }
     }
 
+    /// The handles of the ring, to look at. (not in monoio)
+    pub fn handles(&self) -> &World
+        ensures { result.now ≡ self.now.world }
+    {
+        &self.world
+    }
+
     /// The entry that is in flight at a place; None exactly where the place isn't below the length of the in-flight list.
     pub fn flying_at(&self, place: usize) -> Option<Entry>
         ensures { result ≡ entry_at self.now.flying place }
@@ -85,7 +90,7 @@ impl MemRing {
         }
     }
 
-    /// The handles of the ring.
+    /// The handles of the ring, mutably.
     pub fn world(&mut self) -> &mut World
         ensures* writes_back { sem 𝓛 (lends_world self.entry result) }
         ensures value { result.now ≡ self.old.world }
@@ -93,119 +98,28 @@ impl MemRing {
         &mut self.world
     }
 
-    /// The number of the ring's handles. (own)
-    pub fn handles(&self) -> u64
-        ensures { result ≡ length self.now.world }
+    /// Executes what is in flight at a place with a reported outcome: its bytes move between its handle and the payload of
+    /// its data word, and it becomes the last completion, which is returned. What comes is stored, what is sent is copied
+    /// once; an error stores nothing. `NotFlying` comes exactly when the place isn't below the length of the in-flight list,
+    /// else `BadOutcome` exactly when the outcome isn't allowed, else `OutOfMemory` only where bytes are sent, or where
+    /// storing those that came takes memory. After an error the ring and the payloads are as they were.
+    /// (not in monoio)
+    pub fn execute<P: Payloads>(
+        &mut self,
+        place: usize,
+        told: Told,
+        payloads: &mut P,
+    ) -> Result<Completion, ExecRefusal>
+        ensures { ExecutesFor P.offered P.stores P.takes_memory self.old place told self.new payloads.old payloads.new result }
     {
-        self.world.count()
-    }
-
-    /// What was sent to a handle of the ring, copied once. (own)
-    pub fn look(&self, h: u64) -> Result<Look, OutOfMemory>
-        requires { h < length self.now.world }
-        ensures { IfOk result (λ look. look ≡ Look.Bytes (output_at self.now.world h)) }
-    {
-        self.world.look(h)
-    }
-
-    /// The entry at a place of the in-flight list, where what is told is allowed to it; else why it can't be executed. (own)
-    pub fn admits(&self, place: usize, told: Told) -> Result<Entry, ExecRefusal>
-        ensures { AdmitsFor self.now place told result }
-    {
-        let Some(flight) = self.flying.get(place) else {
+        let Some(flight) = self.flying.look(place) else {
             return Err(ExecRefusal::NotFlying);
         };
-        if self.allows(flight, told) {
-            Ok(flight.entry)
-        } else {
-            Err(ExecRefusal::BadOutcome)
+        match self.world.execute(&flight, told, payloads) {
+            Ok(outcome) => Ok(self.complete(place, flight.entry, outcome)),
+            Err(RunError::NotAllowed) => Err(ExecRefusal::BadOutcome),
+            Err(RunError::OutOfMemory) => Err(ExecRefusal::OutOfMemory),
         }
-    }
-
-    // What is told is allowed to an entry in flight.
-    fn allows(&self, flight: Flight, told: Told) -> bool
-        ensures { result ≡ is_allowed_body self.now.world flight.marked flight.entry.body told }
-    {
-        match flight.entry.body {
-            Body::Call(call) => self.world.allows(flight.marked, call, told),
-            Body::Cancel(_) => false,
-        }
-    }
-
-    /// The bytes that come to the entry at a place with what is told, which is allowed to it. (own)
-    pub fn coming(&self, place: usize, told: Told) -> &[u8]
-        requires { admits_at self.now place told ≡ true }
-        ensures { result.now ≡ coming_at self.now place told }
-    {
-        let Some(flight) = self.flying.get(place) else {
-            unreachable!()
-        };
-        match flight.entry.body {
-            Body::Call(call) => self.world.coming(flight.marked, call, told),
-            Body::Cancel(_) => unreachable!(),
-        }
-    }
-
-    /// Executes the entry at a place with what is told, which is allowed to it and sends nothing: the bytes that come are
-    /// gone, and the entry becomes the last completion, which is answered. It takes no memory. (own)
-    pub fn finish(&mut self, place: usize, told: Told) -> Completion
-        requires allowed { admits_at self.old place told ≡ true }
-        requires quiet { sends_at self.old place told ≡ None }
-        ensures { (sent : List ℕ) → IsFinished self.old place told sent self.new (coming_at self.old place told) result }
-    {
-        let Some(flight) = self.flying.get(place) else {
-            unreachable!()
-        };
-        let Body::Call(call) = flight.entry.body else {
-            unreachable!()
-        };
-        let outcome = self.world.execute(flight.marked, call, told);
-        self.complete(place, flight.entry, outcome)
-    }
-
-    /// Executes the entry at a place with a count of bytes to send, which is allowed to it: the first so many of `sent` join
-    /// the handle's output, and the entry becomes the last completion. Where memory runs out, nothing has changed. (own)
-    pub fn finish_send(
-        &mut self,
-        place: usize,
-        count: u32,
-        sent: &[u8],
-    ) -> Result<Completion, OutOfMemory>
-        requires allowed { admits_at self.old place (Counts count) ≡ true }
-        requires sends { sends_at self.old place (Counts count) ≡ Some count }
-        ensures ok { IfOk result (λ completion. IsFinished self.old place (Counts count) sent.now self.new [] completion) }
-        ensures err { OnErr result (self.new ≡ self.old) }
-    {
-        let Some(flight) = self.flying.get(place) else {
-            unreachable!()
-        };
-        let Body::Call(Call::Out { h, ask: _ }) = flight.entry.body else {
-            unreachable!()
-        };
-        self.world.send(h, count, sent)?;
-        Ok(self.complete(place, flight.entry, Outcome::Count(count)))
-    }
-
-    /// As `finish_send`, of the bytes of parts, one behind the other. (own)
-    pub fn finish_send_parts<V: IoVecBuf>(
-        &mut self,
-        place: usize,
-        count: u32,
-        parts: &V,
-    ) -> Result<Completion, OutOfMemory>
-        requires allowed { admits_at self.old place (Counts count) ≡ true }
-        requires sends { sends_at self.old place (Counts count) ≡ Some count }
-        ensures ok { IfOk result (λ completion. IsFinished self.old place (Counts count) (concat (V.parts parts.now)) self.new [] completion) }
-        ensures err { OnErr result (self.new ≡ self.old) }
-    {
-        let Some(flight) = self.flying.get(place) else {
-            unreachable!()
-        };
-        let Body::Call(Call::Out { h, ask: _ }) = flight.entry.body else {
-            unreachable!()
-        };
-        self.world.send_parts(h, count, parts)?;
-        Ok(self.complete(place, flight.entry, Outcome::Count(count)))
     }
 
     // The entry at a place becomes the last completion.
@@ -220,9 +134,8 @@ impl MemRing {
         completion
     }
 
-    /// Executes the entry at a place of the in-flight list with what is told: moves its bytes, of which `sent` has those that
-    /// it sends, puts those that came into the empty `got`, moves the entry to the end of what is done, and answers its
-    /// completion.
+    /// The whole execution in one call, for an executor that holds bytes in lists: `execute` with `sent` as the bytes that are
+    /// offered, and those that come put into the empty `got`. Memory runs out only where bytes move.
     pub fn finish_at(
         &mut self,
         place: usize,
@@ -233,20 +146,41 @@ impl MemRing {
         requires { got.old ≡ [] }
         ensures { FinishesFor self.old place told sent.now self.new got.new result }
     {
-        let entry = match self.admits(place, told) {
-            Ok(entry) => entry,
-            Err(why) => return Err(why),
+        let mut lists = SentAndGot {
+            sent,
+            got: mem::replace(got, ByteList::new(self.world.alloc())),
         };
-        if let Some(count) = entry.body.sends(told) {
-            return match self.finish_send(place, count, sent) {
-                Ok(completion) => Ok(completion),
-                Err(_) => Err(ExecRefusal::OutOfMemory),
-            };
+        let answer = self.execute(place, told, &mut lists);
+        *got = lists.got;
+        answer
+    }
+}
+
+// Bytes to send, and bytes that came: those of any data word.
+#[derive(Drop)]
+struct SentAndGot<'a> {
+    sent: &'a [u8],
+    got: ByteList,
+}
+
+impl Payloads for SentAndGot<'_> {
+    ghost use Rattle.std.specs.Prelude.{◌≡◌, ◌++◌, nat_le};
+
+    ghost offered = { λ lists word. lists.sent.now };
+
+    ghost stores = { λ before word bytes after. after.got ≡ before.got ++ bytes };
+
+    ghost takes_memory = { nat_le 1 };
+
+    fn append_to(&self, _word: u64, count: u32, output: &mut ByteList) -> Result<(), OutOfMemory> {
+        append_first(output, count as usize, self.sent)
+    }
+
+    fn store(&mut self, _word: u64, bytes: &[u8]) -> Result<(), OutOfMemory> {
+        if bytes.is_empty() {
+            return Ok(());
         }
-        match got.append(self.coming(place, told)) {
-            Ok(()) => Ok(self.finish(place, told)),
-            Err(_) => Err(ExecRefusal::OutOfMemory),
-        }
+        self.got.append(bytes)
     }
 }
 
@@ -331,8 +265,8 @@ fn completion_for(entry: Entry, outcome: Outcome) -> Completion
 fn take_entry(entry: Entry, flying: &mut Flights, done: &mut VecDeque<Completion>)
     requires flying_room { length flying.old.flights < flying.old.room }
     requires done_room { deque_len done.old < deque_capacity done.old }
-    ensures flying { flying.new.flights ≡ flying_with flying.old.flights entry entry.body }
-    ensures done { done.new.items ≡ done_with done.old.items entry entry.body }
+    ensures flying { flying.new.flights ≡ flying_after_entry flying.old.flights entry entry.body }
+    ensures done { done.new.items ≡ done_after_entry done.old.items entry entry.body }
     ensures length { length flying.new.flights + deque_len done.new ≡ length flying.old.flights + deque_len done.old + 1 }
     ensures longer { (length flying.old.flights ≤ length flying.new.flights) × (deque_len done.old ≤ deque_len done.new) }
     ensures room { (flying.new.room ≡ flying.old.room) × (deque_capacity done.new ≡ deque_capacity done.old) }

@@ -1,47 +1,50 @@
-//! What is asked of the ring, and how it ended. (monoio's `driver::op`)
-ghost use Rattle.std.specs.Prelude.{◌≡◌, length, min};
-ghost use Rattle.rent_buf.specs.Buffer.{most_asked, want_of, sent_of};
-ghost use Rattle.rent_buf.specs.Parts.{parts_want, parts_sent};
-ghost use Rattle.ring_core.specs.Request.{call_of, plain_request};
+//! What is asked of the ring, and how it ended. (monoio: `driver::op`)
+ghost use Rattle.std.specs.Prelude.{◌≡◌, ◌≤◌, ◌<◌, ◌++◌, Ok, Err, length, min, take, slice_index, IfOk, IfErr, OnOk, OnErr};
+ghost use Rattle.std.specs.List.{concat};
+ghost use Rattle.rent_buf.specs.Buffer.{shown};
+ghost use Rattle.rent_buf.specs.Parts.{bytes_of};
+ghost use Rattle.ring_core.specs.Request.{named, way_of, held_of, shape_of, call_of, plain_request, room_of, shown_by, held_after};
+ghost use Rattle.ring_core.specs.Request.{request_copied, held_copied, IsMade, HeldFailed};
 ghost use Rattle.ring_core.specs.Effect.{count_told};
 
+use crate::payloads::{append_first, append_first_parts};
 use crate::shared_fd::SharedFd;
-use rent_buf::{IoBuf, IoBufMut, IoVecBuf, IoVecBufMut, VecBuf};
+use rent_buf::{ByteList, Held, IoBuf, IoBufMut, IoVecBuf, IoVecBufMut, OutOfMemory, VecBuf};
 
 /// The most bytes that one request asks for.
 pub const MOST_ASKED: usize = 2147483647;
 
-/// The error of a canceled operation. (monoio's `operation_canceled`)
+/// The error of a canceled operation. (monoio: `operation_canceled`)
 pub const CANCELED: u16 = 125;
 
-/// The greatest error number. (Linux's `MAX_ERRNO`)
+/// The greatest error number. (Linux: `MAX_ERRNO`)
 pub const LAST_ERROR: u16 = 4095;
 
-/// A request, with the buffer, or the vector of buffers, that it owns until it is handed back. (monoio's `OpAble` types)
+/// A request, with the buffer, or the vector of buffers, that it owns until it is returned. (monoio: the `OpAble` types)
 #[derive(Debug, Drop)]
 pub enum Request<B, V> {
-    /// Read bytes from a handle into the range of a buffer. (monoio's `Recv`)
+    /// Read bytes from a handle into the range of a buffer. (monoio: `Recv`)
     Recv {
         /// The handle that is read.
         fd: SharedFd,
         /// The buffer that is filled.
         buf: B,
     },
-    /// Read bytes from a handle into the parts of a vector of buffers, one behind the other. (monoio's `ReadVec`)
+    /// Read bytes from a handle into the parts of a vector of buffers, in order. (monoio: `ReadVec`)
     ReadVec {
         /// The handle that is read.
         fd: SharedFd,
         /// The parts that are filled.
         parts: V,
     },
-    /// Send the bytes that the range of a buffer shows. (monoio's `Send`)
+    /// Send the bytes that the range of a buffer shows. (monoio: `Send`)
     Send {
         /// The handle that takes them.
         fd: SharedFd,
         /// The buffer that is sent.
         buf: B,
     },
-    /// Send the bytes of the parts of a vector of buffers, one behind the other. (monoio's `WriteVec`)
+    /// Send the bytes of the parts of a vector of buffers, in order. (monoio: `WriteVec`)
     WriteVec {
         /// The handle that takes them.
         fd: SharedFd,
@@ -50,7 +53,16 @@ pub enum Request<B, V> {
     },
 }
 
-/// A request's shape without its buffer. (own)
+/// Which way a request's bytes go. (not in monoio)
+#[derive(Clone, Copy, Debug, PartialEq, Eq)]
+pub enum Way {
+    /// From the handle into what the request holds.
+    Reads,
+    /// Out of what the request holds to the handle.
+    Sends,
+}
+
+/// What a request asks a handle for, without its buffer. (not in monoio)
 #[derive(Clone, Copy, Debug, PartialEq, Eq)]
 pub enum Call {
     /// At most `ask` bytes from the handle `h`.
@@ -69,7 +81,7 @@ pub enum Call {
     },
 }
 
-/// What an executor tells of a call that it made. (own)
+/// What an executor reports of a call that it made. `Outcome` is what the machine makes of it. (not in monoio)
 #[derive(Clone, Copy, Debug, PartialEq, Eq)]
 pub enum Told {
     /// So many bytes moved.
@@ -79,7 +91,7 @@ pub enum Told {
 }
 
 impl Told {
-    /// The number of bytes, where it isn't an error. (own)
+    /// The number of bytes that is reported; None where it is an error. (not in monoio)
     pub fn count(self) -> Option<u32>
         ensures { result ≡ count_told self }
     {
@@ -90,7 +102,7 @@ impl Told {
     }
 }
 
-/// How a request ended. (monoio's `CqeResult`)
+/// How a request ended. (monoio: `CqeResult`)
 #[derive(Clone, Copy, Debug, PartialEq, Eq)]
 pub enum Outcome {
     /// So many bytes moved.
@@ -99,20 +111,121 @@ pub enum Outcome {
     Fail(u16),
 }
 
+impl<B, V> Request<B, V> {
+    /// How many handles it names. (not in monoio)
+    pub fn named_len(&self) -> usize
+        ensures { result ≡ length (named self.now) }
+    {
+        match self {
+            Request::Recv { .. } => 1,
+            Request::ReadVec { .. } => 1,
+            Request::Send { .. } => 1,
+            Request::WriteVec { .. } => 1,
+        }
+    }
+
+    /// The number of a handle that it names, by its place among those. (not in monoio)
+    pub fn named_at(&self, i: usize) -> u64
+        requires { i < length (named self.now) }
+        ensures { result ≡ slice_index (named self.now) i }
+    {
+        match self {
+            Request::Recv { fd, .. } => fd.number(),
+            Request::ReadVec { fd, .. } => fd.number(),
+            Request::Send { fd, .. } => fd.number(),
+            Request::WriteVec { fd, .. } => fd.number(),
+        }
+    }
+
+    /// Which way its bytes go. (not in monoio)
+    pub fn way(&self) -> Way
+        ensures { result ≡ way_of self.now }
+    {
+        match self {
+            Request::Recv { .. } => Way::Reads,
+            Request::ReadVec { .. } => Way::Reads,
+            Request::Send { .. } => Way::Sends,
+            Request::WriteVec { .. } => Way::Sends,
+        }
+    }
+
+    /// What it holds, taken out. (not in monoio)
+    pub fn into_held(self) -> Held<B, V>
+        ensures { result ≡ held_of self }
+    {
+        match self {
+            Request::Recv { fd: _, buf } => Held::One(buf),
+            Request::ReadVec { fd: _, parts } => Held::Parts(parts),
+            Request::Send { fd: _, buf } => Held::One(buf),
+            Request::WriteVec { fd: _, parts } => Held::Parts(parts),
+        }
+    }
+
+    /// The request with a reference to what it holds. (not in monoio; like `Option::as_ref`)
+    pub fn as_ref(&self) -> Request<&B, &V>
+        ensures { request_copied result ≡ self.now }
+    {
+        match self {
+            Request::Recv { fd, buf } => Request::Recv { fd: *fd, buf },
+            Request::ReadVec { fd, parts } => Request::ReadVec { fd: *fd, parts },
+            Request::Send { fd, buf } => Request::Send { fd: *fd, buf },
+            Request::WriteVec { fd, parts } => Request::WriteVec { fd: *fd, parts },
+        }
+    }
+
+    /// What it holds, lent. (not in monoio)
+    pub fn held(&self) -> Held<&B, &V>
+        ensures { held_copied result ≡ held_of self.now }
+    {
+        self.as_ref().into_held()
+    }
+
+    /// The request with what it holds made into something else: its buffer by `one`, its parts by `many`. An error is that of the
+    /// call that was made, and what it held is dropped. (not in monoio)
+    pub fn try_map<C, W, E, F, G>(self, one: F, many: G) -> Result<Request<C, W>, E>
+    where
+        F: FnOnce(B) -> Result<C, E> + Drop,
+        G: FnOnce(V) -> Result<W, E> + Drop,
+        requires one { F.IsAlwaysCallable one }
+        requires many { G.IsAlwaysCallable many }
+        ensures ok { IfOk result (λ new. IsMade (λ x y. F.post one x (Ok y)) (λ x y. G.post many x (Ok y)) self new) }
+        ensures err { IfErr result (λ e. HeldFailed (λ x e. F.post one x (Err e)) (λ x e. G.post many x (Err e)) (held_of self) e) }
+    {
+        match self {
+            Request::Recv { fd, buf } => match one(buf) {
+                Ok(buf) => Ok(Request::Recv { fd, buf }),
+                Err(error) => Err(error),
+            },
+            Request::ReadVec { fd, parts } => match many(parts) {
+                Ok(parts) => Ok(Request::ReadVec { fd, parts }),
+                Err(error) => Err(error),
+            },
+            Request::Send { fd, buf } => match one(buf) {
+                Ok(buf) => Ok(Request::Send { fd, buf }),
+                Err(error) => Err(error),
+            },
+            Request::WriteVec { fd, parts } => match many(parts) {
+                Ok(parts) => Ok(Request::WriteVec { fd, parts }),
+                Err(error) => Err(error),
+            },
+        }
+    }
+}
+
 impl<B: IoBufMut> Request<B, VecBuf> {
-    /// The request's shape. What a reading one asks for is its want: the room of its buffer's range, or of its parts, cut to
-    /// `MOST_ASKED`. What a sending one asks for is the number of the bytes that it offers, cut likewise. (own)
+    /// What it asks a handle for. A reading one asks for what fits what it holds, a sending one offers the bytes that it shows, both
+    /// cut to `MOST_ASKED`. (not in monoio)
     pub fn call(&self) -> Call
         ensures { result ≡ call_of (plain_request B.buffer self.now) }
     {
         match self {
             Request::Recv { fd, buf } => Call::In {
                 h: fd.number(),
-                ask: wanted(buf),
+                ask: asked(buf.bytes_total()),
             },
             Request::ReadVec { fd, parts } => Call::In {
                 h: fd.number(),
-                ask: parts_wanted(parts),
+                ask: asked(parts.total_room()),
             },
             Request::Send { fd, buf } => Call::Out {
                 h: fd.number(),
@@ -124,11 +237,57 @@ impl<B: IoBufMut> Request<B, VecBuf> {
             },
         }
     }
+
+    /// How many bytes fit what it holds: 0 where it sends. (not in monoio)
+    pub fn room(&self) -> usize
+        ensures { result ≡ room_of (plain_request B.buffer self.now) }
+    {
+        match self.way() {
+            Way::Reads => match self.held() {
+                Held::One(buf) => buf.bytes_total(),
+                Held::Parts(parts) => parts.total_room(),
+            },
+            Way::Sends => 0,
+        }
+    }
+
+    /// Stores bytes that came in what it holds: from the start of its buffer's range, or in its parts from the first one. What is
+    /// sent stays. It takes no memory. (not in monoio)
+    pub fn store(&mut self, bytes: &[u8])
+        requires { length bytes.now ≤ room_of (plain_request B.buffer self.old) }
+        ensures shape { shape_of self.new ≡ shape_of self.old }
+        ensures holds { held_of (plain_request B.buffer self.new) ≡ held_after (plain_request B.buffer self.old) bytes.now }
+    {
+        match self {
+            Request::Recv { fd: _, buf } => buf.store(0, bytes),
+            Request::ReadVec { fd: _, parts } => parts.store_front(bytes),
+            Request::Send { .. } => {}
+            Request::WriteVec { .. } => {}
+        }
+    }
+
+    /// Appends the first `count` bytes that it shows, or all where there are fewer, to a list; a reading one shows none. They are
+    /// copied once. If memory runs out, the list stays. (not in monoio)
+    pub fn append_shown(&self, count: usize, list: &mut ByteList) -> Result<(), OutOfMemory>
+        ensures ok { OnOk result (list.new ≡ list.old ++ take count (shown_by (plain_request B.buffer self.now))) }
+        ensures err { OnErr result (list.new ≡ list.old) }
+    {
+        match self.way() {
+            Way::Reads => Ok(()),
+            Way::Sends => match self.held() {
+                Held::One(buf) => {
+                    let _ = buf.bytes_total();
+                    append_first(list, count, buf.bytes())
+                }
+                Held::Parts(parts) => append_first_parts(list, count, parts),
+            },
+        }
+    }
 }
 
 // A number of bytes, cut to the most that one request asks for.
 fn asked(count: usize) -> u32
-    ensures { result ≡ min count most_asked }
+    ensures { result ≡ min count MOST_ASKED }
 {
     if count < MOST_ASKED {
         count as u32
@@ -137,23 +296,9 @@ fn asked(count: usize) -> u32
     }
 }
 
-// How many bytes a request into a buffer wants.
-fn wanted<B: IoBufMut>(buf: &B) -> u32
-    ensures { result ≡ want_of (B.buffer buf.now) }
-{
-    asked(buf.bytes_total())
-}
-
-// How many bytes a request into parts wants.
-fn parts_wanted(parts: &VecBuf) -> u32
-    ensures { result ≡ parts_want parts.now }
-{
-    asked(parts.total_room())
-}
-
 // How many bytes a request offers of a buffer.
 fn offered<B: IoBufMut>(buf: &B) -> u32
-    ensures { result ≡ length (sent_of (B.buffer buf.now)) }
+    ensures { result ≡ length (take MOST_ASKED (shown (B.buffer buf.now))) }
 {
     let _ = buf.bytes_total();
     asked(buf.bytes_init())
@@ -161,7 +306,7 @@ fn offered<B: IoBufMut>(buf: &B) -> u32
 
 // How many bytes a request offers of parts. A sum that saturates is cut all the same.
 fn parts_offered(parts: &VecBuf) -> u32
-    ensures { result ≡ length (parts_sent parts.now) }
+    ensures { result ≡ length (take MOST_ASKED (concat (bytes_of parts.now))) }
 {
     let mut count: usize = 0;
     for i in 0..parts.parts_len() {
@@ -169,3 +314,6 @@ fn parts_offered(parts: &VecBuf) -> u32
     }
     asked(count)
 }
+
+#[cfg(test)]
+mod tests;

@@ -3,7 +3,7 @@ ghost use Rattle.std.specs.Prelude.{◌≡◌};
 
 use std::marker::Model;
 
-/// A handle, by its number. (monoio's `SharedFd`, which counts its holders; here the driver does.)
+/// A handle, by its number. (monoio: `SharedFd`, which counts its holders; here the driver does)
 #[derive(Clone, Copy, Debug, PartialEq, Eq)]
 pub struct SharedFd {
     number: u64,
@@ -27,7 +27,7 @@ impl SharedFd {
         SharedFd { number: h }
     }
 
-    /// Its number. (monoio's `raw_fd`)
+    /// Its number. (monoio: `raw_fd`)
     pub fn number(&self) -> u64
         ensures { result ≡ self.now }
     {

@@ -1,46 +1,117 @@
 -- What a command has done, by its words and its status.
-use Rattle.std.proofs.Common.{◌≡◌, ◌*◌, Bool, ℕ, List, Option, Some, refl, subst}
+use Rattle.std.proofs.Common.{◌≡◌, ◌*◌, inl, inr, Bool, IsTrue, ℕ, List, Option, Some, refl, sym, subst, arith}
+use Rattle.ring_core.specs.declared.ledger.Event.{Event}
+use Rattle.ring_core.specs.Ledger.{empty}
+use Rattle.ring_core.specs.Run.{replies}
 use Rattle.session_run.specs.declared.command.Command.{Command}
-use Rattle.session_run.specs.declared.command.Command.TheVariants.{Run, Wake}
+use Rattle.session_run.specs.declared.command.Command.TheVariants.{Run, Generate, Wake}
+use Rattle.session_run.specs.declared.input.NoEvents.{NoEvents}
 use Rattle.session_run.specs.declared.top.Kept.{Kept}
 use Rattle.session_run.specs.declared.top.Status.{Status}
 use Rattle.session_run.specs.declared.top.Status.TheVariants.{Done, BadWords, BadLine, TooLong, ReadFault, WriteFault, OutOfMemory}
-use Rattle.session_run.specs.Command.{IsRun, IsWake, ReadsCommand}
-use Rattle.session_run.specs.Top.{WakesFor}
-use Rattle.session_run.specs.Ends.{Reading, Writing, EndsFor, WakeEnds, CommandEnds, StatusFor}
-use Rattle.session_run.proofs.Commands.{same-capacity, same-counts, not-both}
+use Rattle.session_run.specs.Command.{IsRun, IsGenerate, IsWake, ReadsCommand}
+use Rattle.session_run.specs.Generated.{generated_events}
+use Rattle.session_run.specs.Top.{SumsFor, WakesFor, WasRead, IsBadLine, of_replies, of_bad_line, bad_line_text, reply_lines}
+use Rattle.session_run.specs.Ends.{Reading, Writing, RunEnds, RunsEvents, RefusesFor, SinkEnds, CommandEnds, StatusFor, WhyNoEvents, WritesLine}
+use Rattle.session_run.proofs.Commands.{same-capacity, same-rounds, same-counts, not-both, not-run-generate, not-wake-generate}
+use Rattle.session_run.proofs.Reading.{few-read}
 
--- What the command of `run` has done where its status is this one.
-pub run-ends : (tells_source tells_sink : Bool) (words : List (List ℕ)) (command : Command) (capacity : ℕ) (source : Reading) (sink : Writing) (kept : Option Kept) (status this : Status) → ReadsCommand words (Some command) → IsRun words capacity → status ≡ this →
-    CommandEnds tells_source tells_sink command source sink kept status → EndsFor tells_source tells_sink capacity source sink kept this
-run-ends ts tk words (Run c) capacity source sink kept status this reads run is ends =
-    subst (λ s. EndsFor ts tk capacity source sink kept s) is (subst (λ k. EndsFor ts tk k source sink kept status) (same-capacity words c capacity reads run) ends)
-run-ends ts tk words (Wake s c) capacity source sink kept status this reads run is ends = absurd (not-both words capacity s c run reads)
+-- What running the events of an input has done is what the command has done.
+pub ends-run : (ts tk : Bool) (capacity : ℕ) (source : Reading) (sink : Writing) (kept : Option Kept) (events : List Event) (status : Status) →
+    (IsTrue ts → WasRead source.left source.rest events) → (IsTrue ts → source.later ≡ source.faults) → RunsEvents tk capacity events sink kept status → RunEnds ts tk capacity source sink kept status
+ends-run ts tk capacity source sink kept events Done read calm runs =
+    (record { events = events; read = read; written = runs.written; session = runs.session; kept_is = runs.kept_is; stands = runs.stands }, runs.flushed)
+ends-run ts tk capacity source sink kept events BadWords read calm runs = runs
+ends-run ts tk capacity source sink kept events BadLine read calm runs = absurd runs
+ends-run ts tk capacity source sink kept events TooLong read calm runs = absurd runs
+ends-run ts tk capacity source sink kept events ReadFault read calm runs = absurd runs
+ends-run ts tk capacity source sink kept events WriteFault read calm runs =
+    (runs.0, record { text = reply_lines (replies (empty capacity) events); may = of_replies events read; prefix = runs.1 })
+ends-run ts tk capacity source sink kept events OutOfMemory read calm runs = (
+  record {
+    few = λ told. few-read source.left source.rest events (read told);
+    calm = record { read = calm; wrote = λ told. (runs told).calm };
+  },
+  inr (record { text = reply_lines (replies (empty capacity) events); may = of_replies events read; prefix = λ told. (runs told).prefix }),
+)
 
--- What the command of `wake` has done.
-pub wake-ends : (tells_source tells_sink : Bool) (words : List (List ℕ)) (command : Command) (senders count : ℕ) (source : Reading) (sink : Writing) (kept : Option Kept) (status : Status) → ReadsCommand words (Some command) → IsWake words senders count →
-    CommandEnds tells_source tells_sink command source sink kept status → WakesFor tells_sink (senders * count) sink.taken sink.now status
+-- So is what writing the number of a wrong line has done.
+ends-line : (ts tk : Bool) (capacity : ℕ) (source : Reading) (sink : Writing) (kept : Option Kept) (line : ℕ) (status : Status) →
+    (IsTrue ts → IsBadLine source.left source.rest line) → WritesLine tk line sink.taken sink.now sink.faults sink.later status → RunEnds ts tk capacity source sink kept status
+ends-line ts tk capacity source sink kept line Done bad writes = absurd writes
+ends-line ts tk capacity source sink kept line BadWords bad writes = writes
+ends-line ts tk capacity source sink kept line BadLine bad writes = record { n = line; bad = bad; written = writes }
+ends-line ts tk capacity source sink kept line TooLong bad writes = absurd writes
+ends-line ts tk capacity source sink kept line ReadFault bad writes = absurd writes
+ends-line ts tk capacity source sink kept line WriteFault bad writes =
+    (writes.0, record { text = bad_line_text line; may = of_bad_line line bad; prefix = writes.1 })
+ends-line ts tk capacity source sink kept line OutOfMemory bad writes = absurd writes
+
+-- So is what refusing it has done.
+pub ends-refused : (ts tk : Bool) (capacity : ℕ) (source : Reading) (sink : Writing) (kept : Option Kept) (why : NoEvents) (status : Status) →
+    WhyNoEvents ts source.left source.rest source.faults source.later why → RefusesFor tk sink.taken sink.now sink.faults sink.later status why → RunEnds ts tk capacity source sink kept status
+ends-refused ts tk capacity source sink kept (NoEvents.BadLine n) status why refuses = ends-line ts tk capacity source sink kept n status why refuses
+ends-refused ts tk capacity source sink kept NoEvents.TooLong status why refuses =
+    subst (λ s. RunEnds ts tk capacity source sink kept s) (sym refuses.0) (why, refuses.1.nothing)
+ends-refused ts tk capacity source sink kept NoEvents.Fault status why refuses =
+    subst (λ s. RunEnds ts tk capacity source sink kept s) (sym refuses.0) (why, refuses.1.nothing)
+ends-refused ts tk capacity source sink kept NoEvents.OutOfMemory status why refuses =
+    subst (λ s. RunEnds ts tk capacity source sink kept s) (sym refuses.0) (
+      record {
+        few = λ told. (why told).few;
+        calm = record { read = λ told. (why told).calm; wrote = refuses.1.calm };
+      },
+      inl refuses.1.nothing,
+    )
+
+-- What a command has done where its words are those of `run`.
+pub run-ends : (ts tk : Bool) (words : List (List ℕ)) (command : Command) (capacity : ℕ) (source : Reading) (sink : Writing) (kept : Option Kept) (status : Status) →
+    ReadsCommand words (Some command) → IsRun words capacity → CommandEnds ts tk command source sink kept status → RunEnds ts tk capacity source sink kept status
+run-ends ts tk words (Run c) capacity source sink kept status reads run ends =
+    subst (λ k. RunEnds ts tk k source sink kept status) (same-capacity words c capacity reads run) ends
+run-ends ts tk words (Generate s r) capacity source sink kept status reads run ends = absurd (not-run-generate words capacity s r run reads)
+run-ends ts tk words (Wake s c) capacity source sink kept status reads run ends = absurd (not-both words capacity s c run reads)
+
+-- The same of `gen`.
+pub sum-ends : (ts tk : Bool) (words : List (List ℕ)) (command : Command) (seed rounds : ℕ) (source : Reading) (sink : Writing) (kept : Option Kept) (status : Status) →
+    ReadsCommand words (Some command) → IsGenerate words seed rounds → CommandEnds ts tk command source sink kept status → SumsFor tk (generated_events seed rounds) sink.taken sink.now kept status
+sum-ends ts tk words (Run c) seed rounds source sink kept status reads gen ends = absurd (not-run-generate words c seed rounds reads gen)
+sum-ends ts tk words (Generate s r) seed rounds source sink kept status reads gen ends =
+    let same = same-rounds words s seed r rounds reads gen in
+    subst (λ k. SumsFor tk (generated_events k rounds) sink.taken sink.now kept status) same.0
+    (subst (λ k. SumsFor tk (generated_events s k) sink.taken sink.now kept status) same.1 ends)
+sum-ends ts tk words (Wake s c) seed rounds source sink kept status reads gen ends = absurd (not-wake-generate words s c seed rounds reads gen)
+
+-- The same of `wake`.
+pub wake-ends : (ts tk : Bool) (words : List (List ℕ)) (command : Command) (senders count : ℕ) (source : Reading) (sink : Writing) (kept : Option Kept) (status : Status) →
+    ReadsCommand words (Some command) → IsWake words senders count → CommandEnds ts tk command source sink kept status → WakesFor tk (senders * count) sink.taken sink.now status
 wake-ends ts tk words (Run c) senders count source sink kept status reads wake ends = absurd (not-both words c senders count reads wake)
+wake-ends ts tk words (Generate s r) senders count source sink kept status reads wake ends = absurd (not-wake-generate words senders count s r wake reads)
 wake-ends ts tk words (Wake s c) senders count source sink kept status reads wake ends =
     let same = same-counts words s senders c count reads wake in
     subst (λ k. WakesFor tk (k * count) sink.taken sink.now status) same.0 (subst (λ k. WakesFor tk (s * k) sink.taken sink.now status) same.1 ends)
 
 -- What `run` has done is what every command has done.
-pub status-run : (tells_source tells_sink : Bool) (capacity : ℕ) (source : Reading) (sink : Writing) (kept : Option Kept) (status : Status) → EndsFor tells_source tells_sink capacity source sink kept status → StatusFor tells_source tells_sink source sink status
+pub status-run : (ts tk : Bool) (capacity : ℕ) (source : Reading) (sink : Writing) (kept : Option Kept) (status : Status) →
+    RunEnds ts tk capacity source sink kept status → StatusFor ts tk source sink status
 status-run ts tk capacity source sink kept Done ends = ends.1
 status-run ts tk capacity source sink kept BadWords ends = ends
 status-run ts tk capacity source sink kept BadLine ends = ends
 status-run ts tk capacity source sink kept TooLong ends = ends
 status-run ts tk capacity source sink kept ReadFault ends = ends
 status-run ts tk capacity source sink kept WriteFault ends = ends.0
-status-run ts tk capacity source sink kept OutOfMemory ends = tt
+status-run ts tk capacity source sink kept OutOfMemory ends = ends.0
 
--- So is what `wake` has done.
-pub status-wake : (tells_source tells_sink : Bool) (total : ℕ) (source : Reading) (sink : Writing) (status : Status) → WakeEnds tells_sink total sink status → StatusFor tells_source tells_sink source sink status
-status-wake ts tk total source sink Done ends = ends.flushed refl
-status-wake ts tk total source sink BadWords ends = ends.wrote
-status-wake ts tk total source sink BadLine ends = absurd ends.wrote
-status-wake ts tk total source sink TooLong ends = absurd ends.wrote
-status-wake ts tk total source sink ReadFault ends = absurd ends.wrote
-status-wake ts tk total source sink WriteFault ends = ends.rose refl
-status-wake ts tk total source sink OutOfMemory ends = tt
+-- So is what a command that reads nothing has done.
+pub status-sink : (ts tk : Bool) (left : List ℕ) (faults : ℕ) (sink : Writing) (status : Status) → SinkEnds tk sink status →
+    StatusFor ts tk (record { left = left; rest = left; faults = faults; later = faults }) sink status
+status-sink ts tk left faults sink Done ends = ends
+status-sink ts tk left faults sink BadWords ends = ends
+status-sink ts tk left faults sink BadLine ends = absurd ends
+status-sink ts tk left faults sink TooLong ends = absurd ends
+status-sink ts tk left faults sink ReadFault ends = absurd ends
+status-sink ts tk left faults sink WriteFault ends = ends
+status-sink ts tk left faults sink OutOfMemory ends = record {
+  few = λ told. record { count = 0; few = omega arith; taken = refl };
+  calm = record { read = λ told. refl; wrote = ends };
+}

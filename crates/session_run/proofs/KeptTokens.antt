@@ -1,12 +1,12 @@
 -- Which tokens a session keeps after each call of its driver.
 use Rattle.std.proofs.Common.{◌≡◌, ◌≢◌, ◌≤◌, ℕ, zero, suc, List, [], ◌∷◌, ◌++◌, length, Option, None, Some, ◌⊎◌, inl, inr, refl, sym, ◌∙◌, ap, subst, arith}
-use Rattle.rent_buf.specs.declared.spec.Buf.{Buf}
+use Rattle.rent_buf.specs.declared.plain.Buf.{Buf}
 use Rattle.ring_core.specs.Ring.{RingView}
 use Rattle.ring_core.specs.Lists.{amended}
-use Rattle.uring_driver.specs.declared.op.Op.{Op}
-use Rattle.uring_driver.specs.declared.driver.IoUringDriver.{IoUringDriver}
-use Rattle.ring_core.proofs.HeadlineLists.{same-or-not}
-use Rattle.uring_driver.specs.Driver.{given_by}
+use Rattle.driver_core.specs.declared.op.Op.{Op}
+use Rattle.uring_driver.specs.declared.uring.IoUringDriver.{IoUringDriver}
+use Rattle.ring_core.proofs.Numbers.{same-or-not}
+use Rattle.uring_driver.specs.Uring.{given_by}
 use Rattle.uring_driver.specs.Op.{Holds, number_of, KeepsTokens, DropsToken}
 use Rattle.uring_driver.specs.Submitted.{AddsTo}
 use Rattle.session_run.specs.Token.{token_at}

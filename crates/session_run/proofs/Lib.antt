@@ -1,6 +1,7 @@
 mod TextCuts
 mod TextNumbers
 mod TextHex
+mod TextTable
 mod TextWrites
 mod TextFields
 mod TextSpaces
@@ -14,5 +15,9 @@ mod Refusals
 mod Steps
 mod Runs
 mod Writing
+mod Reading
+mod Replying
+mod Generating
 mod Endings
 mod Parts
+mod NamedHandles

@@ -2,19 +2,19 @@
 use Rattle.std.proofs.Common.{◌≡◌, true, ℕ, [], sym, ◌∙◌, subst}
 use Rattle.std.specs.Prelude.{Result, Ok, Err, OnErr, Option, Some, None}
 use Rattle.rent_buf.specs.Buf.{built}
-use Rattle.rent_buf.specs.declared.spec.Buf.{Buf}
+use Rattle.rent_buf.specs.declared.plain.Buf.{Buf}
 use Rattle.ring_core.specs.Ring.{RingView}
 use Rattle.ring_core.specs.Ledger.{Ledger}
 use Rattle.ring_core.specs.declared.ledger.Event.TheVariants.{Turn, Exec}
 use Rattle.ring_core.specs.declared.request.Told.{Told}
 use Rattle.ring_core.specs.declared.mem_ring.ExecRefusal.{ExecRefusal}
 use Rattle.ring_core.specs.Step.{step}
-use Rattle.uring_driver.specs.declared.driver.IoUringDriver.{IoUringDriver}
-use Rattle.uring_driver.specs.declared.op.Executed.{Executed}
-use Rattle.uring_driver.specs.declared.op.Executed.TheVariants.{Op as ExecutedNumber}
-use Rattle.uring_driver.specs.declared.op.Turned.{Turned}
-use Rattle.uring_driver.specs.declared.op.Stop.{Stop}
-use Rattle.uring_driver.specs.Driver.{due_in, given_by}
+use Rattle.uring_driver.specs.declared.uring.IoUringDriver.{IoUringDriver}
+use Rattle.driver_core.specs.declared.op.Executed.{Executed}
+use Rattle.driver_core.specs.declared.op.Executed.TheVariants.{Op as ExecutedNumber}
+use Rattle.driver_core.specs.declared.op.Turned.{Turned}
+use Rattle.driver_core.specs.declared.op.Stop.{Stop}
+use Rattle.uring_driver.specs.Uring.{due_in, given_by}
 use Rattle.uring_driver.specs.Op.{KeepsTokens}
 use Rattle.uring_driver.specs.Executed.{ExecutesFor}
 use Rattle.uring_driver.specs.Turned.{TurnsFor}

@@ -1,29 +1,33 @@
 -- Which events a session refuses, by the causes that the machine names.
-use Rattle.std.proofs.Common.{◌≡◌, ◌≤◌, ℕ, Bool, true, false, not, ◌||◌, ◌&&◌, List, [], ◌∷◌, length, Option, None, Some, refl, sym, ◌∙◌, ap, arith}
+use Rattle.std.proofs.Common.{◌≡◌, ◌<◌, ◌≤◌, ℕ, Bool, true, false, not, ◌||◌, ◌&&◌, List, [], ◌∷◌, length, Option, None, Some, refl, sym, ◌∙◌, ap, arith}
 use Rattle.std.specs.Prelude.{slice_get, nat_le}
 use Rattle.std.proofs.lemmas.Bool.Decides.{nat_tests}
 use Rattle.rent_buf.specs.Buffer.{Buffer}
 use Rattle.rent_buf.specs.Parts.{Parts}
-use Rattle.rent_buf.specs.declared.spec.Buf.{Buf}
+use Rattle.rent_buf.specs.declared.plain.Buf.{Buf}
 use Rattle.ring_core.specs.Lists.{passes}
 use Rattle.ring_core.specs.Ring.{RingView}
-use Rattle.ring_core.specs.Ledger.{Ledger, Operation, Place, InQueue, InFlight, InDone, Reaped, Gone, is_live, is_owned, live_ops, user_holds}
+use Rattle.ring_core.specs.Ledger.{Ledger, Operation, Place, InQueue, InFlight, InDone, Reaped, Gone, is_kept, is_live, is_owned, live_ops, user_holds}
 use Rattle.ring_core.specs.Request.{named}
-use Rattle.ring_core.specs.Refusal.{cause, refused_if, most_live, lacks_handle}
+use Rattle.ring_core.specs.declared.ledger.TheConstants.{MOST_LIVE}
+use Rattle.ring_core.specs.Refusal.{cause, refused_if, lacks_handle}
 use Rattle.ring_core.specs.declared.ledger.Event.TheVariants.{Feed, End, Look, Submit, Poll, Drop, Cancel}
 use Rattle.ring_core.specs.World.{is_ended_at}
 use Rattle.ring_core.specs.declared.ledger.Refusal.TheVariants.{NoOp, NoHandle, Full, BadHandleEvent}
-use Rattle.uring_driver.specs.declared.op.Op.{Op}
-use Rattle.uring_driver.specs.declared.driver.IoUringDriver.{IoUringDriver}
-use Rattle.uring_driver.specs.Driver.{holds_handle, holds_all, live_slots}
+use Rattle.driver_core.specs.declared.op.Op.{Op}
+use Rattle.uring_driver.specs.declared.uring.IoUringDriver.{IoUringDriver}
+use Rattle.uring_driver.specs.Uring.{holds_handle, holds_all, live_slots}
 use Rattle.uring_driver.specs.Op.{Holds, number_of}
-use Rattle.uring_driver.specs.declared.slot.Slot.{Slot}
-use Rattle.uring_driver.specs.Slot.{is_owned_life, number_if, serial_of}
-use Rattle.uring_driver.specs.Slots.{waiting, life_of, life_at}
+use Rattle.driver_core.specs.declared.slot.Slot.{Slot}
+use Rattle.driver_core.specs.Slot.{is_owned_life, number_if, serial_of}
+use Rattle.driver_core.specs.Slots.{waiting, life_of, life_at}
 use Rattle.ring_core.specs.declared.request.Request.{Request}
 use Rattle.session_run.specs.declared.session.Session.{Session}
+use Rattle.std.specs.FinMap.{get}
 use Rattle.session_run.specs.Token.{token_at, by_number}
 use Rattle.session_run.specs.Session.{SessionStands}
+use Rattle.session_run.proofs.TextFields.{and-true}
+use Rattle.session_run.proofs.TextHex.{false-from}
 
 -- A feed, an end or a look of a handle that the user doesn't hold is refused.
 pub cause-feed : (L : Ledger) (h : ℕ) (bytes : List ℕ) → user_holds L h ≡ false → cause L (Feed h bytes) ≡ Some NoHandle
@@ -39,13 +43,22 @@ cause-look L h absent = ap (λ held. refused_if (not held || false) NoHandle Non
 pub nat_le-true : (a b : ℕ) → a ≤ b → nat_le a b ≡ true
 nat_le-true a b order = grind (arith, nat_tests)
 
+-- The test of an order that doesn't hold.
+pub nat_le-false : (a b : ℕ) → b < a → nat_le a b ≡ false
+nat_le-false a b order = grind (arith, nat_tests)
+
+-- A look at a handle that the user holds isn't refused.
+pub unrefused-look : (L : Ledger) (h : ℕ) → user_holds L h ≡ true → cause L (Look h) ≡ None
+unrefused-look L h present = ap (λ held. refused_if (not held || false) NoHandle None) present
+
 -- Where each of two holds, both do.
 not-and : (a b : Bool) → (not a || not b) ≡ not (a && b)
 not-and true b = refl
 not-and false b = refl
 
 -- The user lacks one of some handles where the driver doesn't hold all of them.
-pub lacks_handle-holds_all : (driver : IoUringDriver RingView Buf) (L : Ledger) → ((h : ℕ) → holds_handle driver h ≡ user_holds L h) → (handles : List ℕ) → lacks_handle L handles ≡ not (holds_all driver handles)
+pub lacks_handle-holds_all : (driver : IoUringDriver RingView Buf) (L : Ledger) → ((h : ℕ) → holds_handle driver h ≡ user_holds L h) →
+    (handles : List ℕ) → lacks_handle L handles ≡ not (holds_all driver handles)
 lacks_handle-holds_all driver L same [] = refl
 lacks_handle-holds_all driver L same (h ∷ handles) =
     ap (λ b. not b || lacks_handle L handles) (sym (same h))
@@ -53,17 +66,28 @@ lacks_handle-holds_all driver L same (h ∷ handles) =
     ∙ not-and (holds_handle driver h) (holds_all driver handles)
 
 -- A submission that names a handle which the user doesn't hold is refused.
-pub cause-submit_handle : (session : Session) (L : Ledger) (request : Request Buffer Parts) → SessionStands session L → holds_all session.driver (named request) ≡ false → cause L (Submit request) ≡ Some NoHandle
+pub cause-submit_handle : (session : Session) (L : Ledger) (request : Request Buffer Parts) → SessionStands session L →
+    holds_all session.driver (named request) ≡ false → cause L (Submit request) ≡ Some NoHandle
 cause-submit_handle session L request stands absent =
-    ap (λ lacks. refused_if lacks NoHandle (refused_if (nat_le most_live (length (live_ops L))) Full None))
+    ap (λ lacks. refused_if lacks NoHandle (refused_if (nat_le MOST_LIVE (length (live_ops L))) Full None))
     (lacks_handle-holds_all session.driver L stands.driver.handles (named request) ∙ ap not absent)
 
 -- Another one is refused as Full where as many operations as there may be are live.
-pub cause-submit_full : (session : Session) (L : Ledger) (request : Request Buffer Parts) (live : ℕ) → SessionStands session L → holds_all session.driver (named request) ≡ true → live ≡ live_slots session.driver → most_live ≤ live → cause L (Submit request) ≡ Some Full
+pub cause-submit_full : (session : Session) (L : Ledger) (request : Request Buffer Parts) (live : ℕ) → SessionStands session L →
+    holds_all session.driver (named request) ≡ true → live ≡ live_slots session.driver → MOST_LIVE ≤ live →
+    cause L (Submit request) ≡ Some Full
 cause-submit_full session L request live stands held count full =
-    ap (λ lacks. refused_if lacks NoHandle (refused_if (nat_le most_live (length (live_ops L))) Full None))
+    ap (λ lacks. refused_if lacks NoHandle (refused_if (nat_le MOST_LIVE (length (live_ops L))) Full None))
     (lacks_handle-holds_all session.driver L stands.driver.handles (named request) ∙ ap not held)
-    ∙ ap (λ b. refused_if b Full None) (ap (λ k. nat_le most_live k) (sym stands.driver.means.in_slots.counted ∙ sym count) ∙ nat_le-true most_live live full)
+    ∙ ap (λ b. refused_if b Full None) (ap (λ k. nat_le MOST_LIVE k) (sym stands.driver.means.in_slots.counted ∙ sym count) ∙ nat_le-true MOST_LIVE live full)
+
+-- A submission of handles that the user holds isn't refused where fewer operations are live.
+pub unrefused-submit : (session : Session) (L : Ledger) (request : Request Buffer Parts) (live : ℕ) → SessionStands session L →
+    holds_all session.driver (named request) ≡ true → live ≡ live_slots session.driver → live < MOST_LIVE → cause L (Submit request) ≡ None
+unrefused-submit session L request live stands held count fewer =
+    ap (λ lacks. refused_if lacks NoHandle (refused_if (nat_le MOST_LIVE (length (live_ops L))) Full None))
+    (lacks_handle-holds_all session.driver L stands.driver.handles (named request) ∙ ap not held)
+    ∙ ap (λ b. refused_if b Full None) (ap (λ k. nat_le MOST_LIVE k) (sym stands.driver.means.in_slots.counted ∙ sym count) ∙ nat_le-false MOST_LIVE live fewer)
 
 -- A poll, a drop or a cancel of what isn't its user's is refused.
 pub cause-poll : (L : Ledger) (n task : ℕ) → passes is_owned (slice_get L.ops n) ≡ false → cause L (Poll n task) ≡ Some NoOp
@@ -75,23 +99,13 @@ cause-drop L n absent = ap (λ owned. refused_if (not owned) NoOp None) absent
 pub cause-cancel : (L : Ledger) (n : ℕ) → passes is_owned (slice_get L.ops n) ≡ false → cause L (Cancel n) ≡ Some NoOp
 cause-cancel L n absent = ap (λ owned. refused_if (not owned) NoOp None) absent
 
--- What isn't true is false.
-false-unless : (b : Bool) → (b ≡ true → ⊥) → b ≡ false
-false-unless true never = absurd (never refl)
-false-unless false never = refl
-
--- Both parts of what holds hold.
-and-parts : (a b : Bool) → (a && b) ≡ true → (a ≡ true) × (b ≡ true)
-and-parts true true is = (refl, refl)
-and-parts true false is = absurd (let never : ◌≡◌ {A = Bool} false true = is in cc)
-and-parts false b is = absurd (let never : ◌≡◌ {A = Bool} false true = is in cc)
-
 -- The slot of an operation that wasn't dropped is its user's.
 owned-waiting : (task : Option ℕ) → is_owned_life (waiting task) ≡ true
 owned-waiting None = refl
 owned-waiting (Some task) = refl
 
-owned-undropped : (was_dropped : Bool) (place : Place) (task : Option ℕ) → not was_dropped ≡ true → is_owned_life (life_of was_dropped place task) ≡ true
+owned-undropped : (was_dropped : Bool) (place : Place) (task : Option ℕ) → not was_dropped ≡ true →
+    is_owned_life (life_of was_dropped place task) ≡ true
 owned-undropped true place task is = absurd (let never : ◌≡◌ {A = Bool} false true = is in cc)
 owned-undropped false InQueue task is = owned-waiting task
 owned-undropped false InFlight task is = owned-waiting task
@@ -100,7 +114,8 @@ owned-undropped false (Reaped outcome) task is = refl
 owned-undropped false Gone task is = refl
 
 -- The slot of an operation that is its user's has its number.
-serial_of-owned : (slot : Slot Buf) (operation : Operation) (n : ℕ) → slot.serial ≡ n → slot.life ≡ life_at operation → not operation.dropped ≡ true → serial_of (Some slot) ≡ Some n
+serial_of-owned : (slot : Slot Buf) (operation : Operation) (n : ℕ) → slot.serial ≡ n → slot.life ≡ life_at operation →
+    not operation.dropped ≡ true → serial_of (Some slot) ≡ Some n
 serial_of-owned slot operation n serial life undropped =
     ap (λ b. number_if b slot.serial) (ap is_owned_life life ∙ owned-undropped operation.dropped operation.place operation.task undropped) ∙ ap (λ k. Some k) serial
 
@@ -109,18 +124,52 @@ one-there : (ops : List Operation) (k n : ℕ) (x y : Operation) → k ≡ n →
 one-there ops k n x y same first second = (let both : Some x ≡ Some y = sym first ∙ ap (slice_get ops) same ∙ second in cc)
 
 -- The driver holds a token of each operation that is its user's.
-holds-owned : (session : Session) (L : Ledger) (n : ℕ) (operation : Operation) → SessionStands session L → slice_get L.ops n ≡ Some operation → is_owned operation ≡ true → (op : Op) × Holds session.driver op × (number_of op ≡ n)
+holds-owned : (session : Session) (L : Ledger) (n : ℕ) (operation : Operation) → SessionStands session L →
+    slice_get L.ops n ≡ Some operation → is_owned operation ≡ true → (op : Op) × Holds session.driver op × (number_of op ≡ n)
 holds-owned session L n operation stands is owned =
-    let parts = and-parts (is_live operation) (not operation.dropped) owned in
+    let parts = and-true (is_live operation) (not operation.dropped) owned in
     let slot = stands.driver.means.in_slots.each n operation is parts.0 in
     let for = stands.driver.means.in_slots.holds slot.key slot.slot slot.there in
     let same : for.operation ≡ operation = one-there L.ops slot.slot.serial n for.operation operation slot.serial for.there is in
     (record { number = n; key = slot.key }, ap serial_of slot.there ∙ serial_of-owned slot.slot operation n slot.serial (for.life ∙ ap life_at same) parts.1, refl)
 
 -- An operation whose token isn't kept isn't its user's.
-pub no_token-lacks : (session : Session) (L : Ledger) (n : ℕ) → SessionStands session L → token_at (by_number session.tokens) n ≡ None → (found : Option Operation) → slice_get L.ops n ≡ found → passes is_owned found ≡ false
+pub no_token-lacks : (session : Session) (L : Ledger) (n : ℕ) → SessionStands session L → token_at (by_number session.tokens) n ≡ None →
+    (found : Option Operation) → slice_get L.ops n ≡ found → passes is_owned found ≡ false
 no_token-lacks session L n stands none None is = refl
-no_token-lacks session L n stands none (Some operation) is = false-unless (is_owned operation) (λ owned.
+no_token-lacks session L n stands none (Some operation) is = false-from (is_owned operation) (λ owned.
     let op = holds-owned session L n operation stands is owned in
     let there : token_at (by_number session.tokens) n ≡ Some op.0 = (stands.tokens n op.0).1 (op.1, op.2) in
     (let both : ◌≡◌ {A = Option Op} None (Some op.0) = sym none ∙ there in cc))
+
+-- A number that is given out is that of its user's operation.
+number_if-Some : (b : Bool) (m n : ℕ) → number_if b m ≡ Some n → (b ≡ true) × (m ≡ n)
+number_if-Some true m n is = (refl, cc)
+number_if-Some false m n is = absurd (cc)
+
+-- The slot that has a number.
+slot-numbered : (found : Option (Slot Buf)) (n : ℕ) → serial_of found ≡ Some n →
+    (slot : Slot Buf) × (found ≡ Some slot) × (is_owned_life slot.life ≡ true) × (slot.serial ≡ n)
+slot-numbered None n is = absurd (cc)
+slot-numbered (Some slot) n is = let parts = number_if-Some (is_owned_life slot.life) slot.serial n is in (slot, refl, parts.0, parts.1)
+
+-- An operation whose slot isn't ignored wasn't dropped.
+undropped : (was_dropped : Bool) (place : Place) (task : Option ℕ) → is_owned_life (life_of was_dropped place task) ≡ true →
+    was_dropped ≡ false
+undropped true place task is = absurd (let never : ◌≡◌ {A = Bool} false true = is in cc)
+undropped false place task is = refl
+
+-- An operation whose token the driver holds is its user's.
+pub token-owns : (session : Session) (L : Ledger) (n : ℕ) (op : Op) → SessionStands session L → Holds session.driver op → number_of op ≡ n →
+    passes is_owned (slice_get L.ops n) ≡ true
+token-owns session L n op stands holds is =
+    let found = slot-numbered (get session.driver.slots.values op.key) (number_of op) holds in
+    let for = stands.driver.means.in_slots.holds op.key found.0 found.1 in
+    let operation = for.operation in
+    let kept = undropped operation.dropped operation.place operation.task (sym (ap is_owned_life for.life) ∙ found.2) in
+    ap (λ k. passes is_owned (slice_get L.ops k)) (sym (found.3 ∙ is)) ∙ ap (passes is_owned) for.there
+    ∙ ap (λ b. is_kept operation.place && not b) kept ∙ ap (λ b. b && true) for.live
+
+-- A cancel of what is its user's isn't refused.
+pub unrefused-cancel : (L : Ledger) (n : ℕ) → passes is_owned (slice_get L.ops n) ≡ true → cause L (Cancel n) ≡ None
+unrefused-cancel L n owned = ap (λ is. refused_if (not is) NoOp None) owned

@@ -6,7 +6,7 @@ use Rattle.ring_core.specs.declared.ledger.Reply.{Reply}
 use Rattle.ring_core.specs.Ledger.{Ledger}
 use Rattle.ring_core.specs.Step.{step}
 use Rattle.ring_core.specs.Run.{after, replies}
-use Rattle.ring_core.proofs.HeadlineReplies.{after-next}
+use Rattle.run_laws.proofs.Replies.{after-next}
 
 -- The element at a place that is there.
 pub get-there : {A : Type 0} (xs : List A) (n : ℕ) (x : A) → n < length xs → x ≡ get_or xs n x → slice_get xs n ≡ Some x
@@ -21,11 +21,14 @@ drop-there (y ∷ xs) zero x there = let same : y ≡ x = cc in ap (λ z. z ∷ 
 drop-there (y ∷ xs) (suc n) x there = drop-there xs n x there
 
 -- The ledger after one event more.
-pub after-one_more : (L : Ledger) (events : List Event) (k n : ℕ) (event : Event) → n ≡ suc k → slice_get events k ≡ Some event → after L (take n events) ≡ (step (after L (take k events)) event).0
+pub after-one_more : (L : Ledger) (events : List Event) (k n : ℕ) (event : Event) → n ≡ suc k → slice_get events k ≡ Some event →
+    after L (take n events) ≡ (step (after L (take k events)) event).0
 after-one_more L events k n event is there = ap (λ m. after L (take m events)) is ∙ after-next L events k event there
 
 -- One more reply: those so far, then those to what is left, are still the replies to all.
-pub replies-one_more : (L : Ledger) (events : List Event) (k n : ℕ) (event : Event) (before now all : List Reply) (reply : Reply) → n ≡ suc k → slice_get events k ≡ Some event → (step (after L (take k events)) event).1 ≡ reply → now ≡ before ++ reply ∷ [] → before ++ replies (after L (take k events)) (drop k events) ≡ all → now ++ replies (after L (take n events)) (drop n events) ≡ all
+pub replies-one_more : (L : Ledger) (events : List Event) (k n : ℕ) (event : Event) (before now all : List Reply) (reply : Reply) →
+    n ≡ suc k → slice_get events k ≡ Some event → (step (after L (take k events)) event).1 ≡ reply → now ≡ before ++ reply ∷ [] →
+    before ++ replies (after L (take k events)) (drop k events) ≡ all → now ++ replies (after L (take n events)) (drop n events) ≡ all
 replies-one_more L events k n event before now all reply next there is joined so_far =
     ap (λ xs. xs ++ replies (after L (take n events)) (drop n events)) joined
     ∙ append_assoc before (reply ∷ []) (replies (after L (take n events)) (drop n events))
@@ -48,6 +51,7 @@ append-none [] = refl
 append-none (x ∷ xs) = ap (λ ys. x ∷ ys) (append-none xs)
 
 -- Where no event is left, the replies so far are the replies to all.
-pub replies-done : (L : Ledger) (events : List Event) (k : ℕ) (now all : List Reply) → length events ≤ k → now ++ replies (after L (take k events)) (drop k events) ≡ all → now ≡ all
+pub replies-done : (L : Ledger) (events : List Event) (k : ℕ) (now all : List Reply) → length events ≤ k →
+    now ++ replies (after L (take k events)) (drop k events) ≡ all → now ≡ all
 replies-done L events k now all past so_far =
     sym (append-none now) ∙ ap (λ rest. now ++ replies (after L (take k events)) rest) (sym (drop-past events k past)) ∙ so_far

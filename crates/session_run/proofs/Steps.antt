@@ -1,9 +1,10 @@
 -- What each step of a session's driver makes of the session.
 use Rattle.std.proofs.Common.{◌≡◌, ℕ, ◌+◌, Bool, true, false, List, [], ◌∷◌, ◌++◌, length, None, Some, length-append, refl, sym, ◌∙◌, ap, subst}
-use Rattle.std.specs.Prelude.{Result, Ok, Err}
+use Rattle.std.specs.Prelude.{Result, Ok, Err, IfOk, OnErr}
+use Rattle.rent_buf.specs.Buffer.{Buffer}
 use Rattle.rent_buf.specs.Parts.{Parts}
 use Rattle.rent_buf.specs.Buf.{built}
-use Rattle.rent_buf.specs.declared.spec.Buf.{Buf}
+use Rattle.rent_buf.specs.declared.plain.Buf.{Buf}
 use Rattle.ring_core.specs.Lists.{amended}
 use Rattle.ring_core.specs.Ring.{RingView}
 use Rattle.ring_core.specs.Ledger.{Ledger}
@@ -17,8 +18,8 @@ use Rattle.ring_core.specs.declared.world.Look.TheVariants.{Bytes}
 use Rattle.uring_driver.specs.Handles.{LooksFor}
 use Rattle.ring_core.specs.declared.mem_ring.ExecRefusal.{ExecRefusal}
 use Rattle.rent_buf.specs.declared.fault.OutOfMemory.{OutOfMemory as NoMemory}
-use Rattle.uring_driver.specs.declared.op.Executed.{Executed}
-use Rattle.uring_driver.specs.declared.op.Executed.TheVariants.{Op as ExecutedNumber}
+use Rattle.driver_core.specs.declared.op.Executed.{Executed}
+use Rattle.driver_core.specs.declared.op.Executed.TheVariants.{Op as ExecutedNumber}
 use Rattle.uring_driver.specs.Executed.{ExecutesFor}
 use Rattle.session_run.specs.Executed.{reply_to, AnswersRefusal}
 use Rattle.ring_core.specs.declared.ledger.Refusal.{Refusal}
@@ -26,21 +27,21 @@ use Rattle.ring_core.specs.declared.ledger.Refusal.TheVariants.{NotFlying, BadOu
 use Rattle.ring_core.specs.declared.ledger.Reply.{Reply}
 use Rattle.ring_core.specs.declared.ledger.Reply.TheVariants.{Refused, ExecutedOp, Output, Submitted as Given}
 use Rattle.ring_core.proofs.Amended.{length-amended}
-use Rattle.ring_core.proofs.HeadlineReplies.{step-refused}
-use Rattle.uring_driver.specs.declared.op.Op.{Op}
-use Rattle.uring_driver.specs.declared.driver.IoUringDriver.{IoUringDriver}
-use Rattle.uring_driver.specs.Driver.{due_in, given_by}
+use Rattle.run_laws.proofs.Replies.{step-refused}
+use Rattle.driver_core.specs.declared.op.Op.{Op}
+use Rattle.uring_driver.specs.declared.uring.IoUringDriver.{IoUringDriver}
+use Rattle.uring_driver.specs.Uring.{due_in, given_by}
 use Rattle.uring_driver.specs.Op.{number_of, KeepsTokens, DropsToken}
-use Rattle.uring_driver.specs.Slot.{number_at}
+use Rattle.driver_core.specs.Slot.{number_at}
 use Rattle.ring_core.specs.Step.{step}
 use Rattle.uring_driver.specs.Submitted.{AddsTo, AddsToken, SubmitsFor, SameSlots, WhyRefused, SubmitRefused}
-use Rattle.uring_driver.specs.declared.op.Submitted.{Submitted}
+use Rattle.driver_core.specs.declared.op.Submitted.{Submitted}
 use Rattle.uring_driver.specs.Turned.{TurnsFor}
-use Rattle.uring_driver.specs.declared.op.Turned.{Turned}
-use Rattle.uring_driver.specs.declared.op.Stop.{Stop}
-use Rattle.uring_driver.specs.declared.op.Stop.TheVariants.{RingFault, Busy, BadCompletion, OutOfMemory}
-use Rattle.uring_driver.specs.declared.op.SubmitError.{SubmitError}
-use Rattle.uring_driver.specs.declared.op.SubmitFault.{SubmitFault}
+use Rattle.driver_core.specs.declared.op.Turned.{Turned}
+use Rattle.driver_core.specs.declared.op.Stop.{Stop}
+use Rattle.driver_core.specs.declared.op.Stop.TheVariants.{RingFault, Busy, BadCompletion, OutOfMemory}
+use Rattle.driver_core.specs.declared.op.SubmitError.{SubmitError}
+use Rattle.driver_core.specs.declared.op.SubmitFault.{SubmitFault}
 use Rattle.ring_core.specs.declared.request.Request.{Request}
 use Rattle.uring_driver.specs.Stands.{Stands, Answers}
 use Rattle.session_run.specs.declared.session.Session.{Session}
@@ -49,7 +50,9 @@ use Rattle.session_run.specs.Session.{AreHeld, SessionStands, SessionAnswers, St
 use Rattle.session_run.proofs.KeptTokens.{are_held-kept, are_held-taken, are_held-added}
 
 -- A session that keeps its tokens stands for a ledger where its driver does, which has nothing due and holds the tokens that it held.
-pub stands-kept : (old new : Session) (L M : Ledger) → SessionStands old L → by_number new.tokens ≡ by_number old.tokens → Stands (λ r. r) built new.driver M → (due_in old.driver ≡ [] → due_in new.driver ≡ []) → KeepsTokens old.driver new.driver → given_by new.driver ≡ given_by old.driver → SessionStands new M
+pub stands-kept : (old new : Session) (L M : Ledger) → SessionStands old L → by_number new.tokens ≡ by_number old.tokens →
+    Stands (λ r. r) built new.driver M → (due_in old.driver ≡ [] → due_in new.driver ≡ []) → KeepsTokens old.driver new.driver →
+    given_by new.driver ≡ given_by old.driver → SessionStands new M
 stands-kept old new L M stands tokens driver due kept given = record {
   driver = driver;
   none_due = due stands.none_due;
@@ -58,14 +61,18 @@ stands-kept old new L M stands tokens driver due kept given = record {
 }
 
 -- A driver's answer, where it keeps all tokens, is the session's.
-pub answers-kept : (old new : Session) (L : Ledger) (event : Event) (reply : Reply) → SessionStands old L → by_number new.tokens ≡ by_number old.tokens → Answers (λ r. r) built L event reply new.driver → (due_in old.driver ≡ [] → due_in new.driver ≡ []) → KeepsTokens old.driver new.driver → given_by new.driver ≡ given_by old.driver → SessionAnswers L event reply new
+pub answers-kept : (old new : Session) (L : Ledger) (event : Event) (reply : Reply) → SessionStands old L →
+    by_number new.tokens ≡ by_number old.tokens → Answers (λ r. r) built L event reply new.driver →
+    (due_in old.driver ≡ [] → due_in new.driver ≡ []) → KeepsTokens old.driver new.driver → given_by new.driver ≡ given_by old.driver →
+    SessionAnswers L event reply new
 answers-kept old new L event reply stands tokens answers due kept given = record {
   reply_is = answers.reply_is;
   stands = stands-kept old new L (step L event).0 stands tokens answers.stands due kept given;
 }
 
 -- Where the driver and the tokens are the same, a session stands for the same ledger.
-pub stands-same : (old new : Session) (L : Ledger) → SessionStands old L → new.driver ≡ old.driver → by_number new.tokens ≡ by_number old.tokens → SessionStands new L
+pub stands-same : (old new : Session) (L : Ledger) → SessionStands old L → new.driver ≡ old.driver →
+    by_number new.tokens ≡ by_number old.tokens → SessionStands new L
 stands-same old new L stands driver tokens = record {
   driver = subst (λ d. Stands (λ r. r) built d L) (sym driver) stands.driver;
   none_due = ap (λ d. due_in d) driver ∙ stands.none_due;
@@ -74,15 +81,18 @@ stands-same old new L stands driver tokens = record {
 }
 
 -- A refused event changes nothing.
-pub answers-refused : (old new : Session) (L : Ledger) (event : Event) (refusal : Refusal) → SessionStands old L → cause L event ≡ Some refusal → new.driver ≡ old.driver → by_number new.tokens ≡ by_number old.tokens → SessionAnswers L event (Refused refusal) new
+pub answers-refused : (old new : Session) (L : Ledger) (event : Event) (refusal : Refusal) → SessionStands old L →
+    cause L event ≡ Some refusal → new.driver ≡ old.driver → by_number new.tokens ≡ by_number old.tokens →
+    SessionAnswers L event (Refused refusal) new
 answers-refused old new L event refusal stands named driver tokens =
     let same = step-refused L event refusal named in
     record { reply_is = ap (λ next. next.1) same; stands = subst (λ next. SessionStands new next.0) (sym same) (stands-same old new L stands driver tokens) }
 
 -- A turn that stopped over the ring in memory changed nothing.
-pub stopped-same : (L : Ledger) (old new : IoUringDriver RingView Buf) (turned : Turned) (stop : Stop) → TurnsFor (λ r. r) built true L old new turned (Some stop) → new ≡ old
+pub stopped-same : (L : Ledger) (old new : IoUringDriver RingView Buf) (turned : Turned) (stop : Stop) →
+    TurnsFor (λ r. r) built true L old new turned (Some stop) → new ≡ old
 stopped-same L old new turned RingFault turns = absurd (turns refl)
-stopped-same L old new turned Busy turns = absurd (turns refl)
+stopped-same L old new turned Busy turns = absurd (turns.0 refl)
 stopped-same L old new turned (BadCompletion word) turns = absurd turns
 stopped-same L old new turned OutOfMemory turns = turns
 
@@ -94,25 +104,32 @@ kept-same_slots old new same op = (
 )
 
 -- A driver over the ring in memory that refused a submission stands as before.
-stands-refused : (old new : IoUringDriver RingView Buf) (L : Ledger) (why : SubmitFault) → WhyRefused (λ r. r) built true old new why → Stands (λ r. r) built old L → Stands (λ r. r) built new L
+stands-refused : (old new : IoUringDriver RingView Buf) (L : Ledger) (why : SubmitFault) → WhyRefused (λ r. r) built true old new why →
+    Stands (λ r. r) built old L → Stands (λ r. r) built new L
 stands-refused old new L SubmitFault.Full refused stands = subst (λ d. Stands (λ r. r) built d L) (sym refused) stands
 stands-refused old new L SubmitFault.RingFault refused stands = absurd (refused.1 refl)
 stands-refused old new L SubmitFault.Busy refused stands = absurd (refused.1 refl)
 stands-refused old new L SubmitFault.OutOfMemory refused stands = refused L stands
 
 -- So does the session.
-pub stands-unsubmitted : (old new : Session) (L : Ledger) (request : Request Buf Parts) (refused : SubmitError Buf) → SessionStands old L → by_number new.tokens ≡ by_number old.tokens → (due_in old.driver ≡ [] → due_in new.driver ≡ []) → SubmitRefused (λ r. r) built true request old.driver new.driver refused → SessionStands new L
+pub stands-unsubmitted : (old new : Session) (L : Ledger) (request : Request Buf Parts) (refused : SubmitError Buf) → SessionStands old L →
+    by_number new.tokens ≡ by_number old.tokens → (due_in old.driver ≡ [] → due_in new.driver ≡ []) →
+    SubmitRefused (λ r. r) built true request old.driver new.driver refused → SessionStands new L
 stands-unsubmitted old new L request refused stands tokens due why =
     stands-kept old new L L stands tokens (stands-refused old.driver new.driver L refused.why why.why stands.driver) due (kept-same_slots old.driver new.driver why.same) why.same.given
 
 -- What a look shows is the session's answer, which stays as it is.
-pub answers-looked : (session : Session) (L : Ledger) (h : ℕ) (shown : Shown) (bytes : List ℕ) → SessionStands session L → shown ≡ Bytes bytes → LooksFor L h shown → SessionAnswers L (Look h) (Output bytes) session
+pub answers-looked : (session : Session) (L : Ledger) (h : ℕ) (shown : Shown) (bytes : List ℕ) → SessionStands session L →
+    shown ≡ Bytes bytes → LooksFor L h shown → SessionAnswers L (Look h) (Output bytes) session
 answers-looked session L h shown bytes stands is looks =
     let same = subst (λ s. LooksFor L h s) is looks in
     record { reply_is = ap (λ next. next.1) same; stands = subst (λ next. SessionStands session next.0) (sym same) stands }
 
 -- An operation that is handed over or dropped leaves with its token.
-pub answers-taken : (old new : Session) (L : Ledger) (n : ℕ) (op : Op) (event : Event) (reply : Reply) → SessionStands old L → token_at (by_number old.tokens) n ≡ Some op → by_number new.tokens ≡ amended (by_number old.tokens) n (λ token. None) → DropsToken old.driver new.driver op → (due_in old.driver ≡ [] → due_in new.driver ≡ []) → given_by new.driver ≡ given_by old.driver → Answers (λ r. r) built L event reply new.driver → SessionAnswers L event reply new
+pub answers-taken : (old new : Session) (L : Ledger) (n : ℕ) (op : Op) (event : Event) (reply : Reply) → SessionStands old L →
+    token_at (by_number old.tokens) n ≡ Some op → by_number new.tokens ≡ amended (by_number old.tokens) n (λ token. None) →
+    DropsToken old.driver new.driver op → (due_in old.driver ≡ [] → due_in new.driver ≡ []) → given_by new.driver ≡ given_by old.driver →
+    Answers (λ r. r) built L event reply new.driver → SessionAnswers L event reply new
 answers-taken old new L n op event reply stands there tokens taken due given answers = record {
   reply_is = answers.reply_is;
   stands = record {
@@ -128,7 +145,9 @@ length-added : {A : Type 0} (xs : List A) (x : A) → length (xs ++ x ∷ []) �
 length-added xs x = length-append xs (x ∷ [])
 
 -- A new operation's token stands at the end.
-pub answers-added : (old new : Session) (L : Ledger) (op : Op) (event : Event) (reply : Reply) → SessionStands old L → by_number new.tokens ≡ by_number old.tokens ++ Some op ∷ [] → AddsTo old.driver new.driver op → (due_in old.driver ≡ [] → due_in new.driver ≡ []) → Answers (λ r. r) built L event reply new.driver → SessionAnswers L event reply new
+pub answers-added : (old new : Session) (L : Ledger) (op : Op) (event : Event) (reply : Reply) → SessionStands old L →
+    by_number new.tokens ≡ by_number old.tokens ++ Some op ∷ [] → AddsTo old.driver new.driver op →
+    (due_in old.driver ≡ [] → due_in new.driver ≡ []) → Answers (λ r. r) built L event reply new.driver → SessionAnswers L event reply new
 answers-added old new L op event reply stands tokens adds due answers = record {
   reply_is = answers.reply_is;
   stands = record {
@@ -140,19 +159,37 @@ answers-added old new L op event reply stands tokens adds due answers = record {
 }
 
 -- So does what a submission gave.
-pub answers-submitted : (old new : Session) (L : Ledger) (request : Request Buf Parts) (submitted : Submitted) (op : Op) → submitted ≡ Submitted.Op op → SessionStands old L → by_number new.tokens ≡ by_number old.tokens ++ Some op ∷ [] → AddsToken old.driver new.driver submitted → (due_in old.driver ≡ [] → due_in new.driver ≡ []) → SubmitsFor (λ r. r) built L request new.driver submitted → SessionAnswers L (Submit (plain_request built request)) (Given (number_of op)) new
+pub answers-submitted : (old new : Session) (L : Ledger) (request : Request Buf Parts) (submitted : Submitted) (op : Op) →
+    submitted ≡ Submitted.Op op → SessionStands old L → by_number new.tokens ≡ by_number old.tokens ++ Some op ∷ [] →
+    AddsToken old.driver new.driver submitted → (due_in old.driver ≡ [] → due_in new.driver ≡ []) →
+    SubmitsFor (λ r. r) built L request new.driver submitted →
+    SessionAnswers L (Submit (plain_request built request)) (Given (number_of op)) new
 answers-submitted old new L request submitted op is stands tokens adds due answers =
     answers-added old new L op _ _ stands tokens (subst (λ s. AddsToken old.driver new.driver s) is adds) due (subst (λ s. SubmitsFor (λ r. r) built L request new.driver s) is answers)
 
 -- What was executed is the session's answer.
-pub answers-executed : (old new : Session) (L : Ledger) (place : ℕ) (told : Told) (executed : Executed) → SessionStands old L → by_number new.tokens ≡ by_number old.tokens → ExecutesFor built L place told new.driver (Ok executed) → (due_in old.driver ≡ [] → due_in new.driver ≡ []) → KeepsTokens old.driver new.driver → given_by new.driver ≡ given_by old.driver → SessionAnswers L (Exec place told) (reply_to executed) new
+pub answers-executed : (old new : Session) (L : Ledger) (place : ℕ) (told : Told) (executed : Executed) → SessionStands old L →
+    by_number new.tokens ≡ by_number old.tokens → ExecutesFor built L place told new.driver (Ok executed) →
+    (due_in old.driver ≡ [] → due_in new.driver ≡ []) → KeepsTokens old.driver new.driver → given_by new.driver ≡ given_by old.driver →
+    SessionAnswers L (Exec place told) (reply_to executed) new
 answers-executed old new L place told (ExecutedNumber n) stands tokens answers due kept given = answers-kept old new L (Exec place told) (ExecutedOp n) stands tokens answers due kept given
 
 -- So is an execution that was refused.
-pub steps-unexecuted : (old new : Session) (L : Ledger) (place : ℕ) (told : Told) (why : ExecRefusal) (result : Result Reply NoMemory) → SessionStands old L → by_number new.tokens ≡ by_number old.tokens → ExecutesFor built L place told new.driver (Err why) → new.driver ≡ old.driver → AnswersRefusal why result → StepsFor L (Exec place told) new result
+pub steps-unexecuted : (old new : Session) (L : Ledger) (place : ℕ) (told : Told) (why : ExecRefusal) (result : Result Reply NoMemory) →
+    SessionStands old L → by_number new.tokens ≡ by_number old.tokens →
+    ExecutesFor built L place told new.driver (Err why) → new.driver ≡ old.driver → AnswersRefusal why result → StepsFor L (Exec place told) new result
 steps-unexecuted old new L place told ExecRefusal.NotFlying result stands tokens cause_is driver answer =
     subst (λ r. StepsFor L (Exec place told) new r) (sym answer) (answers-refused old new L (Exec place told) NotFlying stands cause_is driver tokens)
 steps-unexecuted old new L place told ExecRefusal.BadOutcome result stands tokens cause_is driver answer =
     subst (λ r. StepsFor L (Exec place told) new r) (sym answer) (answers-refused old new L (Exec place told) BadOutcome stands cause_is driver tokens)
 steps-unexecuted old new L place told ExecRefusal.OutOfMemory (Ok reply) stands tokens cause_is driver answer = absurd (let never : ◌≡◌ {A = Bool} false true = answer in cc)
-steps-unexecuted old new L place told ExecRefusal.OutOfMemory (Err refused) stands tokens cause_is driver answer = stands-same old new L stands driver tokens
+steps-unexecuted old new L place told ExecRefusal.OutOfMemory (Err refused) stands tokens cause_is driver answer =
+    record { stands = stands-same old new L stands driver tokens; unrefused = cause_is }
+
+-- What a submission of a built request answers is what the session answers.
+pub steps-built : (old new : Session) (L : Ledger) (own : Request Buf Parts) (request : Request Buffer Parts) (result : Result Reply NoMemory) →
+    IfOk result (λ reply. (L : Ledger) → SessionStands old L → SessionAnswers L (Submit (plain_request built own)) reply new) →
+    OnErr result ((L : Ledger) → SessionStands old L → SessionStands new L) →
+    plain_request built own ≡ request → SessionStands old L → cause L (Submit request) ≡ None → StepsFor L (Submit request) new result
+steps-built old new L own request (Ok reply) ok err plain stands unrefused = subst (λ r. SessionAnswers L (Submit r) reply new) plain (ok L stands)
+steps-built old new L own request (Err error) ok err plain stands unrefused = record { stands = err L stands; unrefused = unrefused }

@@ -1,5 +1,6 @@
 -- Where a text is cut into lines, and a line into words.
-use Rattle.std.proofs.Common.{◌≡◌, ◌∙◌, ℕ, zero, suc, ◌-◌, ◌<◌, List, [], ◌∷◌, length, get_or, take, drop, refl, ap, arith}
+use Rattle.std.proofs.Common.{◌≡◌, ◌∙◌, ℕ, zero, suc, ◌-◌, ◌<◌, ◌≤◌, inl, inr, List, [], ◌∷◌, length, get_or, take, drop, refl, ap, arith}
+use Rattle.std.specs.Prelude.{◌⊎◌}
 use Rattle.std.proofs.lemmas.Bool.Decides.{nat_tests}
 use Rattle.std.proofs.lemmas.Grind.{common_steps}
 use Rattle.session_run.specs.TextLines.{lines, onto_first}
@@ -55,3 +56,21 @@ take-rest xs n = grind (arith, common_steps)
 
 pub drop-whole : (xs : List ℕ) → drop (length xs) xs ≡ []
 drop-whole xs = grind (arith, common_steps)
+
+-- All elements of a list.
+take-whole : (xs : List ℕ) → take (length xs) xs ≡ xs
+take-whole xs = grind (arith, common_steps)
+
+-- The first word ends at the first space, or at the end.
+pub words-first : (text : List ℕ) (at : ℕ) → at ≤ length text → ((k : ℕ) → k < at → get_or text k 0 ≡ 32 → ⊥) → (at < length text → get_or text at 0 ≡ 32) →
+    words text ≡ take at text ∷ words_behind (take (length text - at) (drop at text))
+words-first text at bound before there = words-cases text at bound before there (bound-or (length text) at bound)
+  where
+    bound-or : (n k : ℕ) → k ≤ n → (k < n) ⊎ (k ≡ n)
+    bound-or n k order = grind arith
+
+    words-cases : (text : List ℕ) (at : ℕ) → at ≤ length text → ((k : ℕ) → k < at → get_or text k 0 ≡ 32 → ⊥) → (at < length text → get_or text at 0 ≡ 32) → (at < length text) ⊎ (at ≡ length text) →
+        words text ≡ take at text ∷ words_behind (take (length text - at) (drop at text))
+    words-cases text at bound before there (inl below) = rw (take-rest text at) (words-at text at below before (there below))
+    words-cases text at bound before there (inr is) =
+        rw (take-rest text at, is, drop-whole text, take-whole text) (words-whole text (λ k small. before k (omega arith)))

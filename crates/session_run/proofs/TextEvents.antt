@@ -1,6 +1,6 @@
 -- A line is read as an event exactly where it is its text.
 use Rattle.std.proofs.Common.{◌≡◌, ◌∙◌, ℕ, ◌^◌, ◌<◌, List, [], ◌∷◌, refl, ap, sym, subst, arith, inl, inr}
-use Rattle.std.specs.Prelude.{true, nat_lt, Option, Some, None, option_and_then, option_map, bytes_eq, codes, decimal}
+use Rattle.std.specs.Prelude.{true, nat_lt, if◌then◌else◌, Option, Some, None, option_and_then, option_map, bytes_eq, codes, decimal}
 use Rattle.std.proofs.lemmas.Bool.{ltb-true, lt-ltb}
 use Rattle.std.proofs.lemmas.Slice.Eq.{bytes_eq-Decides}
 use Rattle.rent_buf.specs.Buffer.{Buffer}
@@ -14,10 +14,10 @@ use Rattle.ring_core.specs.declared.world.HandleKind.{HandleKind}
 use Rattle.ring_core.specs.declared.world.HandleKind.TheVariants.{Stream}
 use Rattle.session_run.specs.TextEvent.{IsEvent, IsTold, StandsFor, event_text, event_words, handle_kind_word, request_words, told_words}
 use Rattle.session_run.specs.TextLines.{IsWrong}
-use Rattle.session_run.specs.TextReads.{words, number_field, bytes_end, at_end, handle_kind_of}
+use Rattle.session_run.specs.TextReads.{words, number_field, last_number_of, bytes_end, at_end, handle_kind_of}
 use Rattle.session_run.specs.TextEventReads.{request_of, told_below, told_of, give_of, feed_of, submit_of, poll_of, numbered_of, exec_of, turn_of, event_by, event_of}
 use Rattle.session_run.specs.TextWords.{spaced, bytes_word}
-use Rattle.session_run.proofs.TextFields.{and_then-Some, map-Some, if-Some, either-Some, some_same, at_end-Some, number_field-Some, bytes_end-Some, handle_kind_of-Some}
+use Rattle.session_run.proofs.TextFields.{and_then-Some, map-Some, if-Some, either-Some, some_same, at_end-Some, number_field-Some, last_number-Some, bytes_end-Some, handle_kind_of-Some}
 use Rattle.session_run.proofs.TextHex.{bytes_of-bytes_word}
 use Rattle.session_run.proofs.TextNumbers.{number_of-decimal}
 use Rattle.session_run.proofs.TextRequests.{request_of-words, request_read, solid_request}
@@ -74,11 +74,10 @@ poll_read more event is =
 -- An event of one number.
 numbered_read : (word : List ℕ) (make : ℕ → Event) (more : List (List ℕ)) (event : Event) → ((n : ℕ) → n < 2 ^ 64 → Spells (word ∷ decimal n ∷ []) (make n)) → numbered_of make more ≡ Some event → Spells (word ∷ more) event
 numbered_read word make more event spelt is =
-    let n = and_then-Some (λ (n : ℕ × List (List ℕ)). at_end (make n.0) n.1) (number_field more) event is in
-    let end = at_end-Some (make n.0.0) n.0.1 event n.2 in
-    let number = number_field-Some more n.0.1 n.0.0 n.1 in
-    let spells = spelt n.0.0 number.1 in
-    subst (λ (e : Event). Spells (word ∷ more) e) end.1 (ap (λ (l : List (List ℕ)). word ∷ l) (number.0 ∙ ap (λ (l : List (List ℕ)). decimal n.0.0 ∷ l) end.0) ∙ spells.0, spells.1)
+    let n = map-Some make (last_number_of more) event is in
+    let number = last_number-Some more n.0 n.1 in
+    let spells = spelt n.0 number.1 in
+    subst (λ (e : Event). Spells (word ∷ more) e) n.2 (ap (λ (l : List (List ℕ)). word ∷ l) number.0 ∙ spells.0, spells.1)
 
 drop_read : (more : List (List ℕ)) (event : Event) → numbered_of Drop more ≡ Some event → Spells (codes "drop" ∷ more) event
 drop_read more event is = numbered_read (codes "drop") Drop more event (λ n small. (refl, small)) is
@@ -97,30 +96,30 @@ abbrev Tells : List (List ℕ) → Told → Type 0
 Tells all told = (all ≡ told_words told) × IsTold told
 
 -- What is told by a number below a bound.
-below_read : (word : List ℕ) (bound : ℕ) (make : ℕ → Told) (more : List (List ℕ)) (told : Told) → ((n : ℕ) → n < bound → Tells (word ∷ decimal n ∷ []) (make n)) → option_and_then (told_below bound make) (number_field more) ≡ Some told → Tells (word ∷ more) told
+below_read : (word : List ℕ) (bound : ℕ) (make : ℕ → Told) (more : List (List ℕ)) (told : Told) → ((n : ℕ) → n < bound → Tells (word ∷ decimal n ∷ []) (make n)) → told_below bound make more ≡ Some told → Tells (word ∷ more) told
 below_read word bound make more told spelt is =
-    let n = and_then-Some (told_below bound make) (number_field more) told is in
-    let fits = if-Some (nat_lt n.0.0 bound) (at_end (make n.0.0) n.0.1) told n.2 in
-    let end = at_end-Some (make n.0.0) n.0.1 told fits.1 in
-    let number = number_field-Some more n.0.1 n.0.0 n.1 in
-    let tells = spelt n.0.0 (ltb-true n.0.0 bound fits.0) in
-    subst (λ (t : Told). Tells (word ∷ more) t) end.1 (ap (λ (l : List (List ℕ)). word ∷ l) (number.0 ∙ ap (λ (l : List (List ℕ)). decimal n.0.0 ∷ l) end.0) ∙ tells.0, tells.1)
+    let n = and_then-Some (λ (n : ℕ). if nat_lt n bound then Some (make n) else None) (last_number_of more) told is in
+    let fits = if-Some (nat_lt n.0 bound) (Some (make n.0)) told n.2 in
+    let number = last_number-Some more n.0 n.1 in
+    let tells = spelt n.0 (ltb-true n.0 bound fits.0) in
+    let same : make n.0 ≡ told = (let both : Some (make n.0) ≡ Some told = fits.1 in cc) in
+    subst (λ (t : Told). Tells (word ∷ more) t) same (ap (λ (l : List (List ℕ)). word ∷ l) number.0 ∙ tells.0, tells.1)
 
-count_read : (more : List (List ℕ)) (told : Told) → option_and_then (told_below (2 ^ 32) Count) (number_field more) ≡ Some told → Tells (codes "ok" ∷ more) told
+count_read : (more : List (List ℕ)) (told : Told) → told_below (2 ^ 32) Count more ≡ Some told → Tells (codes "ok" ∷ more) told
 count_read more told is = below_read (codes "ok") (2 ^ 32) Count more told (λ n small. (refl, small)) is
 
-error_read : (more : List (List ℕ)) (told : Told) → option_and_then (told_below (2 ^ 16) Fail) (number_field more) ≡ Some told → Tells (codes "err" ∷ more) told
+error_read : (more : List (List ℕ)) (told : Told) → told_below (2 ^ 16) Fail more ≡ Some told → Tells (codes "err" ∷ more) told
 error_read more told is = below_read (codes "err") (2 ^ 16) Fail more told (λ n small. (refl, small)) is
 
 told_read : (all : List (List ℕ)) (told : Told) → told_of all ≡ Some told → Tells all told
 told_read [] told is = absurd (cc)
 told_read (word ∷ more) told is =
-    elim (either-Some (bytes_eq word (codes "ok")) (option_and_then (told_below (2 ^ 32) Count) (number_field more)) _ told is) [
+    elim (either-Some (bytes_eq word (codes "ok")) (told_below (2 ^ 32) Count more) _ told is) [
       | inl it ↦
           let rest = count_read more told it.1 in
           (ap (λ (w : List ℕ). w ∷ more) ((bytes_eq-Decides word (codes "ok")).0 it.0) ∙ rest.0, rest.1)
       | inr is ↦
-          let it = if-Some (bytes_eq word (codes "err")) (option_and_then (told_below (2 ^ 16) Fail) (number_field more)) told is in
+          let it = if-Some (bytes_eq word (codes "err")) (told_below (2 ^ 16) Fail more) told is in
           let rest = error_read more told it.1 in
           (ap (λ (w : List ℕ). w ∷ more) ((bytes_eq-Decides word (codes "err")).0 it.0) ∙ rest.0, rest.1)
     ]

@@ -4,12 +4,12 @@ use Rattle.std.specs.Prelude.{Bool, true, false, ◌⊎◌, ◌&&◌, if◌then�
 use Rattle.std.proofs.lemmas.Bool.{leb-true, le-leb, eq-eqb, eqb-true}
 use Rattle.std.proofs.lemmas.Slice.Eq.{bytes_eq-Decides}
 use Rattle.rent_buf.specs.Buffer.{Buffer, BufferBounds, IsFull}
-use Rattle.rent_buf.specs.declared.spec.Kind.{Kind}
-use Rattle.rent_buf.specs.declared.spec.Kind.TheVariants.{Vector, Grown, Fixed}
+use Rattle.rent_buf.specs.declared.kind.Kind.{Kind}
+use Rattle.rent_buf.specs.declared.kind.Kind.TheVariants.{Vector, Grown, Fixed}
 use Rattle.ring_core.specs.declared.world.HandleKind.{HandleKind}
 use Rattle.ring_core.specs.declared.world.HandleKind.TheVariants.{Stream}
 use Rattle.session_run.specs.TextEvent.{AreBytes, IsBuffer, buffer_kind_word, buffer_words, handle_kind_word}
-use Rattle.session_run.specs.TextReads.{number_of, number_field, bytes_end, at_end, handle_kind_of, buffer_kind_of, kind_field, is_full, bounded, buffer_of}
+use Rattle.session_run.specs.TextReads.{number_of, number_field, last_number_of, bytes_end, at_end, handle_kind_of, buffer_kind_of, kind_field, is_full, bounded, buffer_of}
 use Rattle.session_run.specs.TextWords.{bytes_word}
 use Rattle.session_run.proofs.TextHex.{bytes_of-bytes_word, bytes_of-Some}
 use Rattle.session_run.proofs.TextNumbers.{None-from, number_of-decimal, number_of-Some}
@@ -177,3 +177,12 @@ buffer_read all b is =
     buffer_parts all b kind.0.0 total.0.0 begin.0.0 end.0.0 bytes.0 kind.0.1 total.0.1 begin.0.1 end.0.1
     (kind_field-Some all kind.0.1 kind.0.0 kind.1) (number_field-Some kind.0.1 total.0.1 total.0.0 total.1) (number_field-Some total.0.1 begin.0.1 begin.0.0 begin.1)
     (number_field-Some begin.0.1 end.0.1 end.0.0 end.1) (bytes_end-Some end.0.1 bytes.0 bytes.1) bytes.2
+
+-- One word that is read as a number is its digits.
+pub last_number-Some : (words : List (List ℕ)) (n : ℕ) → last_number_of words ≡ Some n → (words ≡ decimal n ∷ []) × (n < 2 ^ 64)
+last_number-Some words n is =
+    let found = and_then-Some (λ (m : ℕ × List (List ℕ)). at_end m.0 m.1) (number_field words) n is in
+    let end = at_end-Some found.0.0 found.0.1 n found.2 in
+    let number = number_field-Some words found.0.1 found.0.0 found.1 in
+    let P : ℕ → Type 0 = λ k. k < 2 ^ 64 in
+    (number.0 ∙ ap (λ (l : List (List ℕ)). decimal found.0.0 ∷ l) end.0 ∙ ap (λ (k : ℕ). decimal k ∷ []) end.1, subst P end.1 number.1)

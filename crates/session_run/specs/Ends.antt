@@ -1,21 +1,22 @@
--- What the parts of the top call have done: reading, running, writing. Cited by the functions of `top`, and by no public clause.
-use Rattle.std.specs.Prelude.{ℕ, ◌≡◌, ◌≤◌, ◌*◌, ◌⊎◌, ⊤, Bool, IsTrue, List, [], ◌++◌, Option, Some, Result, Ok, Err}
+-- What the parts of the top call have done: reading, running, writing. `top` cites `RunEnds`; the rest is for the functions it calls.
+use Rattle.std.specs.Prelude.{ℕ, ◌≡◌, ◌<◌, ◌≤◌, ◌+◌, ◌*◌, ◌⊎◌, Bool, IsTrue, List, [], ◌++◌, length, drop, Option, Some, Result, Ok, Err}
 use Rattle.ring_core.specs.declared.ledger.Event.{Event}
 use Rattle.ring_core.specs.Counts.{Rose}
 use Rattle.ring_core.specs.Ledger.{empty}
 use Rattle.ring_core.specs.Run.{ledger, replies}
-use Rattle.session_run.specs.declared.source.Failed.{Failed}
+use Rattle.rent_io.specs.declared.source.Failed.{Failed}
 use Rattle.session_run.specs.declared.session.Session.{Session}
 use Rattle.session_run.specs.declared.top.Status.{Status}
 use Rattle.session_run.specs.declared.top.Status.TheVariants.{Done, BadWords, BadLine, TooLong, ReadFault, WriteFault, OutOfMemory}
-use Rattle.session_run.specs.declared.top.NoEvents.{NoEvents}
-use Rattle.session_run.specs.declared.top.Unwritten.{Unwritten}
+use Rattle.session_run.specs.declared.input.NoEvents.{NoEvents}
+use Rattle.session_run.specs.declared.output.Unwritten.{Unwritten}
 use Rattle.session_run.specs.declared.top.Kept.{Kept}
 use Rattle.session_run.specs.declared.top.Kept.TheVariants.{Run}
 use Rattle.session_run.specs.declared.command.Command.{Command}
-use Rattle.session_run.specs.declared.command.Command.TheVariants.{Run as RunOf, Wake}
+use Rattle.session_run.specs.declared.command.Command.TheVariants.{Run as RunOf, Generate, Wake}
 use Rattle.session_run.specs.Session.{SessionStands}
-use Rattle.session_run.specs.Top.{RunDone, LineRefused, TookTooMany, IsBadLine, WroteFront, WroteSome, WakesFor, bad_line_text, reply_lines}
+use Rattle.session_run.specs.Generated.{generated_events}
+use Rattle.session_run.specs.Top.{most_input, RunDone, LineRefused, TookTooMany, IsBadLine, WrotePrefix, WroteSome, SumsFor, TookFew, WakesFor, bad_line_text, reply_lines}
 
 -- What a source had left and has left, and its count of faults before and after.
 pub record Reading : Type 0 where
@@ -32,59 +33,104 @@ pub record Writing : Type 0 where
   pub later : ℕ
   pub flushed : Bool
 
+-- What a call did to a source.
+abbrev pub reading : {S : Type 0} → (S → List ℕ) → (S → ℕ) → S → S → Reading
+reading left faults old new = record { left = left old; rest = left new; faults = faults old; later = faults new }
+
+-- What a call did to a sink.
+abbrev pub writing : {K : Type 0} → (K → List ℕ) → (K → ℕ) → (K → Bool) → K → K → Writing
+writing taken faults flushed old new =
+    record { taken = taken old; now = taken new; faults = faults old; later = faults new; flushed = flushed new }
+
+-- No count of faults rose, as far as the source and the sink tell it.
+pub record NoFaults (tells_source tells_sink : Bool) (source : Reading) (sink : Writing) : Type 0 where
+  pub read : IsTrue tells_source → source.later ≡ source.faults
+  pub wrote : IsTrue tells_sink → sink.later ≡ sink.faults
+
+-- Memory ran out, and nothing gives another status: no more was taken than the input may have, and no count of faults rose.
+pub record RanShort (tells_source tells_sink : Bool) (source : Reading) (sink : Writing) : Type 0 where
+  pub few : IsTrue tells_source → TookFew source.left source.rest
+  pub calm : NoFaults tells_source tells_sink source sink
+
 -- All that was left was read.
 pub record IsAll (left rest text : List ℕ) : Type 0 where
+  pub within : length text ≤ most_input
   pub all : text ≡ left
   pub to_its_end : rest ≡ []
+
+-- So many bytes were taken of what was left.
+pub record Took (left rest : List ℕ) (n : ℕ) : Type 0 where
+  pub there : n ≤ length left
+  pub taken : rest ≡ drop n left
+
+-- Memory ran out for what was read of a source that tells its bytes: no more than it may have, and no fault was counted.
+pub record ReadShort (left rest : List ℕ) (faults later : ℕ) : Type 0 where
+  pub few : TookFew left rest
+  pub calm : later ≡ faults
 
 -- Why a source gave no bytes: too many, a fault, or no memory.
 abbrev pub WhyUnread : Bool → List ℕ → List ℕ → ℕ → ℕ → NoEvents → Type 0
 WhyUnread tells left rest faults later (NoEvents.BadLine n) = ⊥
 WhyUnread tells left rest faults later NoEvents.TooLong = IsTrue tells → TookTooMany left rest
 WhyUnread tells left rest faults later NoEvents.Fault = Rose faults later
-WhyUnread tells left rest faults later NoEvents.OutOfMemory = Unit {0}
+WhyUnread tells left rest faults later NoEvents.OutOfMemory = IsTrue tells → ReadShort left rest faults later
 
 -- Why a source gave no events: a wrong line, or no bytes.
 abbrev pub WhyNoEvents : Bool → List ℕ → List ℕ → ℕ → ℕ → NoEvents → Type 0
 WhyNoEvents tells left rest faults later (NoEvents.BadLine n) = IsTrue tells → IsBadLine left rest n
 WhyNoEvents tells left rest faults later why = WhyUnread tells left rest faults later why
 
--- All bytes were written; at a fault a front of them.
-abbrev pub WritesAll : Bool → List ℕ → List ℕ → List ℕ → ℕ → ℕ → Result (Unit {0}) Failed → Type 0
-WritesAll tells bytes taken now faults later (Ok done) = (faults ≤ later) × (IsTrue tells → now ≡ taken ++ bytes)
-WritesAll tells bytes taken now faults later (Err failed) = Rose faults later × (IsTrue tells → WroteFront bytes taken now)
+-- Why one read behind so many bytes stopped: too many came, a fault, or no memory.
+abbrev pub WhyStopped : Bool → ℕ → List ℕ → List ℕ → ℕ → ℕ → NoEvents → Type 0
+WhyStopped tells before left rest faults later (NoEvents.BadLine n) = ⊥
+WhyStopped tells before left rest faults later NoEvents.TooLong = IsTrue tells → (n : ℕ) × (most_input < before + n) × Took left rest n
+WhyStopped tells before left rest faults later NoEvents.Fault = Rose faults later
+WhyStopped tells before left rest faults later NoEvents.OutOfMemory = IsTrue tells → (n : ℕ) × (before + n ≤ most_input) × Took left rest n × (later ≡ faults)
 
--- The text of a wrong line was written, or a front of it.
+-- All bytes were written, with no fault counted where the sink tells its bytes.
+pub record Wrote (tells : Bool) (bytes taken now : List ℕ) (faults later : ℕ) : Type 0 where
+  pub order : faults ≤ later
+  pub all : IsTrue tells → now ≡ taken ++ bytes
+  pub calm : IsTrue tells → later ≡ faults
+
+-- All bytes were written; at a fault a prefix of them.
+abbrev pub WritesAll : Bool → List ℕ → List ℕ → List ℕ → ℕ → ℕ → Result (Unit {0}) Failed → Type 0
+WritesAll tells bytes taken now faults later (Ok done) = Wrote tells bytes taken now faults later
+WritesAll tells bytes taken now faults later (Err failed) = Rose faults later × (IsTrue tells → WrotePrefix bytes taken now)
+
+-- The text of a wrong line was written, or a prefix of it.
 abbrev pub WritesLine : Bool → ℕ → List ℕ → List ℕ → ℕ → ℕ → Status → Type 0
 WritesLine tells line taken now faults later BadLine = IsTrue tells → now ≡ taken ++ bad_line_text line
-WritesLine tells line taken now faults later WriteFault = Rose faults later × (IsTrue tells → WroteFront (bad_line_text line) taken now)
-WritesLine tells line taken now faults later OutOfMemory = IsTrue tells → now ≡ taken
+WritesLine tells line taken now faults later WriteFault = Rose faults later × (IsTrue tells → WrotePrefix (bad_line_text line) taken now)
 WritesLine tells line taken now faults later _ = ⊥
 
--- Why one read stopped: a fault or no memory.
-abbrev pub WhyStopped : ℕ → ℕ → NoEvents → Type 0
-WhyStopped faults later (NoEvents.BadLine n) = ⊥
-WhyStopped faults later NoEvents.TooLong = ⊥
-WhyStopped faults later NoEvents.Fault = Rose faults later
-WhyStopped faults later NoEvents.OutOfMemory = Unit {0}
+-- Nothing was written, and no fault was counted.
+pub record Untouched (tells : Bool) (taken now : List ℕ) (faults later : ℕ) : Type 0 where
+  pub nothing : IsTrue tells → now ≡ taken
+  pub calm : IsTrue tells → later ≡ faults
 
 -- A command with no events to run ended with this status; only the number of a wrong line was written.
 abbrev pub RefusesFor : Bool → List ℕ → List ℕ → ℕ → ℕ → Status → NoEvents → Type 0
 RefusesFor tells taken now faults later status (NoEvents.BadLine n) = WritesLine tells n taken now faults later status
-RefusesFor tells taken now faults later status NoEvents.TooLong = (status ≡ TooLong) × (IsTrue tells → now ≡ taken)
-RefusesFor tells taken now faults later status NoEvents.Fault = (status ≡ ReadFault) × (IsTrue tells → now ≡ taken)
-RefusesFor tells taken now faults later status NoEvents.OutOfMemory = (status ≡ OutOfMemory) × (IsTrue tells → now ≡ taken)
+RefusesFor tells taken now faults later status NoEvents.TooLong = (status ≡ TooLong) × Untouched tells taken now faults later
+RefusesFor tells taken now faults later status NoEvents.Fault = (status ≡ ReadFault) × Untouched tells taken now faults later
+RefusesFor tells taken now faults later status NoEvents.OutOfMemory = (status ≡ OutOfMemory) × Untouched tells taken now faults later
 
--- Why not all of a text was written; a front of it was.
+-- Memory ran out once a prefix of a text was written, and no fault was counted.
+pub record WroteShort (text taken now : List ℕ) (faults later : ℕ) : Type 0 where
+  pub prefix : WrotePrefix text taken now
+  pub calm : later ≡ faults
+
+-- Why not all of a text was written; a prefix of it was.
 abbrev pub WhyUnwritten : Bool → List ℕ → List ℕ → List ℕ → ℕ → ℕ → Unwritten → Type 0
-WhyUnwritten tells text taken now faults later Unwritten.Fault = Rose faults later × (IsTrue tells → WroteFront text taken now)
-WhyUnwritten tells text taken now faults later Unwritten.OutOfMemory = IsTrue tells → WroteFront text taken now
+WhyUnwritten tells text taken now faults later Unwritten.Fault = Rose faults later × (IsTrue tells → WrotePrefix text taken now)
+WhyUnwritten tells text taken now faults later Unwritten.OutOfMemory = IsTrue tells → WroteShort text taken now faults later
 
 -- So much of a text was written that this is left of it.
 pub record Sent (text rest taken now : List ℕ) : Type 0 where
-  pub front : List ℕ
-  pub now_is : now ≡ taken ++ front
-  pub text_is : text ≡ front ++ rest
+  pub prefix : List ℕ
+  pub now_is : now ≡ taken ++ prefix
+  pub text_is : text ≡ prefix ++ rest
 
 -- Events were run and their replies written.
 pub record RunsDone (tells : Bool) (capacity : ℕ) (events : List Event) (sink : Writing) (kept : Option Kept) : Type 0 where
@@ -97,29 +143,31 @@ pub record RunsDone (tells : Bool) (capacity : ℕ) (events : List Event) (sink 
 -- What running events has done, by the status.
 abbrev pub RunsEvents : Bool → ℕ → List Event → Writing → Option Kept → Status → Type 0
 RunsEvents tells capacity events sink kept Done = RunsDone tells capacity events sink kept
-RunsEvents tells capacity events sink kept WriteFault = Rose sink.faults sink.later × (IsTrue tells → WroteFront (reply_lines (replies (empty capacity) events)) sink.taken sink.now)
-RunsEvents tells capacity events sink kept OutOfMemory = IsTrue tells → WroteFront (reply_lines (replies (empty capacity) events)) sink.taken sink.now
+RunsEvents tells capacity events sink kept WriteFault = Rose sink.faults sink.later × (IsTrue tells → WrotePrefix (reply_lines (replies (empty capacity) events)) sink.taken sink.now)
+RunsEvents tells capacity events sink kept OutOfMemory = IsTrue tells → WroteShort (reply_lines (replies (empty capacity) events)) sink.taken sink.now sink.faults sink.later
 RunsEvents tells capacity events sink kept _ = ⊥
 
 -- What `run CAP` has done, by the status.
-abbrev pub EndsFor : Bool → Bool → ℕ → Reading → Writing → Option Kept → Status → Type 0
-EndsFor tells_source tells_sink capacity source sink kept Done = RunDone tells_source tells_sink capacity source.left source.rest sink.taken sink.now kept × IsTrue sink.flushed
-EndsFor tells_source tells_sink capacity source sink kept BadWords = ⊥
-EndsFor tells_source tells_sink capacity source sink kept BadLine = LineRefused tells_source tells_sink source.left source.rest sink.taken sink.now
-EndsFor tells_source tells_sink capacity source sink kept TooLong = (IsTrue tells_source → TookTooMany source.left source.rest) × (IsTrue tells_sink → sink.now ≡ sink.taken)
-EndsFor tells_source tells_sink capacity source sink kept ReadFault = Rose source.faults source.later × (IsTrue tells_sink → sink.now ≡ sink.taken)
-EndsFor tells_source tells_sink capacity source sink kept WriteFault = Rose sink.faults sink.later × WroteSome tells_source tells_sink capacity source.left source.rest sink.taken sink.now
-EndsFor tells_source tells_sink capacity source sink kept OutOfMemory = (IsTrue tells_sink → sink.now ≡ sink.taken) ⊎ WroteSome tells_source tells_sink capacity source.left source.rest sink.taken sink.now
+abbrev pub RunEnds : Bool → Bool → ℕ → Reading → Writing → Option Kept → Status → Type 0
+RunEnds tells_source tells_sink capacity source sink kept Done = RunDone tells_source tells_sink capacity source.left source.rest sink.taken sink.now kept × IsTrue sink.flushed
+RunEnds tells_source tells_sink capacity source sink kept BadWords = ⊥
+RunEnds tells_source tells_sink capacity source sink kept BadLine = LineRefused tells_source tells_sink source.left source.rest sink.taken sink.now
+RunEnds tells_source tells_sink capacity source sink kept TooLong = (IsTrue tells_source → TookTooMany source.left source.rest) × (IsTrue tells_sink → sink.now ≡ sink.taken)
+RunEnds tells_source tells_sink capacity source sink kept ReadFault = Rose source.faults source.later × (IsTrue tells_sink → sink.now ≡ sink.taken)
+RunEnds tells_source tells_sink capacity source sink kept WriteFault = Rose sink.faults sink.later × WroteSome tells_source tells_sink capacity source.left source.rest sink.taken sink.now
+RunEnds tells_source tells_sink capacity source sink kept OutOfMemory = RanShort tells_source tells_sink source sink × ((IsTrue tells_sink → sink.now ≡ sink.taken) ⊎ WroteSome tells_source tells_sink capacity source.left source.rest sink.taken sink.now)
 
--- What `wake` has done, by the status.
-pub record WakeEnds (tells : Bool) (total : ℕ) (sink : Writing) (status : Status) : Type 0 where
-  pub wrote : WakesFor tells total sink.taken sink.now status
-  pub flushed : status ≡ Done → IsTrue sink.flushed
-  pub rose : status ≡ WriteFault → Rose sink.faults sink.later
+-- What a command that reads nothing has done to a sink, by the status.
+abbrev pub SinkEnds : Bool → Writing → Status → Type 0
+SinkEnds tells sink Done = IsTrue sink.flushed
+SinkEnds tells sink WriteFault = Rose sink.faults sink.later
+SinkEnds tells sink OutOfMemory = IsTrue tells → sink.later ≡ sink.faults
+SinkEnds tells sink _ = ⊥
 
 -- What a command has done, by the status.
 abbrev pub CommandEnds : Bool → Bool → Command → Reading → Writing → Option Kept → Status → Type 0
-CommandEnds tells_source tells_sink (RunOf capacity) source sink kept status = EndsFor tells_source tells_sink capacity source sink kept status
+CommandEnds tells_source tells_sink (RunOf capacity) source sink kept status = RunEnds tells_source tells_sink capacity source sink kept status
+CommandEnds tells_source tells_sink (Generate seed rounds) source sink kept status = SumsFor tells_sink (generated_events seed rounds) sink.taken sink.now kept status
 CommandEnds tells_source tells_sink (Wake senders count) source sink kept status = WakesFor tells_sink (senders * count) sink.taken sink.now status
 
 -- What every command has done, by the status.
@@ -130,4 +178,4 @@ StatusFor tells_source tells_sink source sink BadLine = LineRefused tells_source
 StatusFor tells_source tells_sink source sink TooLong = (IsTrue tells_source → TookTooMany source.left source.rest) × (IsTrue tells_sink → sink.now ≡ sink.taken)
 StatusFor tells_source tells_sink source sink ReadFault = Rose source.faults source.later × (IsTrue tells_sink → sink.now ≡ sink.taken)
 StatusFor tells_source tells_sink source sink WriteFault = Rose sink.faults sink.later
-StatusFor tells_source tells_sink source sink OutOfMemory = ⊤
+StatusFor tells_source tells_sink source sink OutOfMemory = RanShort tells_source tells_sink source sink

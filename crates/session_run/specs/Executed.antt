@@ -6,14 +6,14 @@ use Rattle.ring_core.specs.declared.ledger.Reply.TheVariants.{ExecutedOp, Refuse
 use Rattle.ring_core.specs.declared.ledger.Refusal.TheVariants.{NotFlying as NoFlight, BadOutcome as WrongOutcome}
 use Rattle.ring_core.specs.declared.mem_ring.ExecRefusal.{ExecRefusal}
 use Rattle.ring_core.specs.declared.mem_ring.ExecRefusal.TheVariants.{NotFlying, BadOutcome, OutOfMemory}
-use Rattle.uring_driver.specs.declared.op.Executed.{Executed}
-use Rattle.uring_driver.specs.declared.op.Executed.TheVariants.{Op}
+use Rattle.driver_core.specs.declared.op.Executed.{Executed}
+use Rattle.driver_core.specs.declared.op.Executed.TheVariants.{Op}
 
 -- The reply to what was executed.
 abbrev pub reply_to : Executed → Reply
 reply_to (Op n) = ExecutedOp n
 
--- A refused execution is answered with its name; for want of memory there is no reply.
+-- A refused execution is answered with its name; if memory runs out there is no reply.
 abbrev pub AnswersRefusal : ExecRefusal → Result Reply NoMemory → Type 0
 AnswersRefusal NotFlying result = result ≡ Ok (Refused NoFlight)
 AnswersRefusal BadOutcome result = result ≡ Ok (Refused WrongOutcome)

@@ -1,6 +1,3 @@
-pub mod Source
-pub mod Sink
-pub mod MemSource
 pub mod TextWords
 pub mod TextEvent
 pub mod TextReply
@@ -12,5 +9,6 @@ pub mod Token
 pub mod Session
 pub mod Executed
 pub mod Command
+pub mod Generated
 pub mod Top
 pub mod Ends

@@ -1,5 +1,5 @@
 -- When a session stands for a ledger, and what its steps answer. Cited by `Session` and by the top call.
-use Rattle.std.specs.Prelude.{ℕ, ◌≡◌, ◌↔◌, List, [], length, Option, Some, Result, Ok, Err}
+use Rattle.std.specs.Prelude.{ℕ, ◌≡◌, ◌↔◌, List, [], length, Option, Some, None, Result, Ok, Err}
 use Rattle.rent_buf.specs.Buf.{built}
 use Rattle.rent_buf.specs.declared.fault.OutOfMemory.{OutOfMemory}
 use Rattle.ring_core.specs.declared.ledger.Event.{Event}
@@ -7,11 +7,12 @@ use Rattle.ring_core.specs.declared.ledger.Event.TheVariants.{End, Poll, Drop}
 use Rattle.ring_core.specs.declared.ledger.Reply.{Reply}
 use Rattle.ring_core.specs.Ring.{RingView}
 use Rattle.ring_core.specs.Ledger.{Ledger}
+use Rattle.ring_core.specs.Refusal.{cause}
 use Rattle.ring_core.specs.Step.{step}
-use Rattle.rent_buf.specs.declared.spec.Buf.{Buf}
-use Rattle.uring_driver.specs.declared.op.Op.{Op}
-use Rattle.uring_driver.specs.declared.driver.IoUringDriver.{IoUringDriver}
-use Rattle.uring_driver.specs.Driver.{given_by, due_in}
+use Rattle.rent_buf.specs.declared.plain.Buf.{Buf}
+use Rattle.driver_core.specs.declared.op.Op.{Op}
+use Rattle.uring_driver.specs.declared.uring.IoUringDriver.{IoUringDriver}
+use Rattle.uring_driver.specs.Uring.{given_by, due_in}
 use Rattle.uring_driver.specs.Op.{Holds, number_of}
 use Rattle.uring_driver.specs.Stands.{Stands}
 use Rattle.session_run.specs.declared.session.Session.{Session}
@@ -52,10 +53,15 @@ pub record SessionAnswers (L : Ledger) (event : Event) (reply : Reply) (new : Se
   pub reply_is : (step L event).1 ≡ reply
   pub stands : SessionStands new (step L event).0
 
--- What a step answers: as the machine does; where memory ran out the session stands for the same ledger.
+-- A step ran out of memory: the session stands for the same ledger, in which the machine names no cause to refuse the event.
+pub record RanOut (L : Ledger) (event : Event) (new : Session) : Type 0 where
+  pub stands : SessionStands new L
+  pub unrefused : cause L event ≡ None
+
+-- What a step answers: as the machine does, or that it ran out of memory.
 abbrev pub StepsFor : Ledger → Event → Session → Result Reply OutOfMemory → Type 0
 StepsFor L event new (Ok reply) = SessionAnswers L event reply new
-StepsFor L event new (Err refused) = SessionStands new L
+StepsFor L event new (Err refused) = RanOut L event new
 
 -- The event takes no memory: it is an end, a poll or a drop.
 abbrev pub TakesNoMemory : Event → Type 0

@@ -2,8 +2,8 @@
 use Rattle.std.specs.Prelude.{◌≡◌, ℕ, ◌^◌, ◌<◌, List, [], ◌∷◌, All, length, codes, decimal}
 use Rattle.rent_buf.specs.Buffer.{Buffer, BufferBounds}
 use Rattle.rent_buf.specs.Parts.{Parts, IsParts}
-use Rattle.rent_buf.specs.declared.spec.Kind.{Kind}
-use Rattle.rent_buf.specs.declared.spec.Kind.TheVariants.{Vector, Grown, Fixed}
+use Rattle.rent_buf.specs.declared.kind.Kind.{Kind}
+use Rattle.rent_buf.specs.declared.kind.Kind.TheVariants.{Vector, Grown, Fixed}
 use Rattle.ring_core.specs.declared.ledger.Event.{Event}
 use Rattle.ring_core.specs.declared.ledger.Event.TheVariants.{Give, Feed, End, Look, Submit, Poll, Drop, Cancel, Turn, Exec}
 use Rattle.ring_core.specs.declared.request.Request.{Request}

@@ -1,6 +1,6 @@
 -- What the readers of a line's requests and events answer. Only contracts of private functions cite these: `event_of-stands` and
 -- `stands-event_of` (proofs/TextEvents.antt) prove that a line is read as an event exactly where it stands for it.
-use Rattle.std.specs.Prelude.{ℕ, ◌^◌, nat_lt, if◌then◌else◌, List, [], ◌∷◌, codes, bytes_eq, Option, None, option_and_then, option_map}
+use Rattle.std.specs.Prelude.{ℕ, ◌^◌, nat_lt, if◌then◌else◌, List, [], ◌∷◌, codes, bytes_eq, Option, Some, None, option_and_then, option_map}
 use Rattle.rent_buf.specs.Buffer.{Buffer}
 use Rattle.rent_buf.specs.Parts.{Parts}
 use Rattle.ring_core.specs.declared.ledger.Event.{Event}
@@ -9,7 +9,7 @@ use Rattle.ring_core.specs.declared.request.Request.{Request}
 use Rattle.ring_core.specs.declared.request.Request.TheVariants.{Recv, ReadVec, Send, WriteVec}
 use Rattle.ring_core.specs.declared.request.Told.{Told}
 use Rattle.ring_core.specs.declared.request.Told.TheVariants.{Count, Fail}
-use Rattle.session_run.specs.TextReads.{number_field, bytes_end, at_end, handle_kind_of, buffer_of, parts_of}
+use Rattle.session_run.specs.TextReads.{number_field, last_number_of, bytes_end, at_end, handle_kind_of, buffer_of, parts_of}
 
 -- The handle that the first word writes, with what the further words write.
 abbrev pub with_handle : {A : Type 0} → (List (List ℕ) → Option A) → List (List ℕ) → Option (ℕ × A)
@@ -29,38 +29,44 @@ abbrev pub request_of : List (List ℕ) → Option (Request Buffer Parts)
 request_of [] = None
 request_of (word ∷ words) = request_by word words
 
--- What an executor tells, by a number below a bound, where no further word stands.
-abbrev pub told_below : ℕ → (ℕ → Told) → ℕ × List (List ℕ) → Option Told
-told_below bound make n = if nat_lt n.0 bound then at_end (make n.0) n.1 else None
+-- What an executor tells, by one word, a number below a bound.
+abbrev pub told_below : ℕ → (ℕ → Told) → List (List ℕ) → Option Told
+told_below bound make words = option_and_then (λ number. if nat_lt number bound then Some (make number) else None) (last_number_of words)
 
 -- What an executor tells, by words.
 abbrev pub told_of : List (List ℕ) → Option Told
 told_of [] = None
 told_of (word ∷ words) =
-    if bytes_eq word (codes "ok") then option_and_then (told_below (2 ^ 32) Count) (number_field words)
-    else if bytes_eq word (codes "err") then option_and_then (told_below (2 ^ 16) Fail) (number_field words)
+    if bytes_eq word (codes "ok") then told_below (2 ^ 32) Count words
+    else if bytes_eq word (codes "err") then told_below (2 ^ 16) Fail words
     else None
 
--- The events by the words behind their first one.
+-- The events by the words behind their first one: of no word,
 abbrev pub turn_of : List (List ℕ) → Option Event
 turn_of words = at_end Turn words
 
+-- .. of one kind of handle.
 abbrev pub give_of : List (List ℕ) → Option Event
 give_of [] = None
 give_of (word ∷ words) = option_and_then (λ kind. at_end (Give kind) words) (handle_kind_of word)
 
+-- .. of a handle and bytes.
 abbrev pub feed_of : List (List ℕ) → Option Event
 feed_of words = option_and_then (λ h. option_map (λ bytes. Feed h.0 bytes) (bytes_end h.1)) (number_field words)
 
+-- .. of a request.
 abbrev pub submit_of : List (List ℕ) → Option Event
 submit_of words = option_map Submit (request_of words)
 
+-- .. of an operation and a task.
 abbrev pub poll_of : List (List ℕ) → Option Event
 poll_of words = option_and_then (λ n. option_and_then (λ task. at_end (Poll n.0 task.0) task.1) (number_field n.1)) (number_field words)
 
+-- .. of one number.
 abbrev pub numbered_of : (ℕ → Event) → List (List ℕ) → Option Event
-numbered_of make words = option_and_then (λ n. at_end (make n.0) n.1) (number_field words)
+numbered_of make words = option_map make (last_number_of words)
 
+-- .. of a place and what is told.
 abbrev pub exec_of : List (List ℕ) → Option Event
 exec_of words = option_and_then (λ place. option_map (λ told. Exec place.0 told) (told_of place.1)) (number_field words)
 

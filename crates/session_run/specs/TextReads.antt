@@ -5,8 +5,8 @@ use Rattle.std.specs.Prelude.{ℕ, Bool, true, ◌+◌, ◌-◌, ◌*◌, ◌^�
 use Rattle.std.specs.Str.Parse.{digits_value}
 use Rattle.rent_buf.specs.Buffer.{Buffer}
 use Rattle.rent_buf.specs.Parts.{Parts, rooms_of}
-use Rattle.rent_buf.specs.declared.spec.Kind.{Kind}
-use Rattle.rent_buf.specs.declared.spec.Kind.TheVariants.{Vector, Grown, Fixed}
+use Rattle.rent_buf.specs.declared.kind.Kind.{Kind}
+use Rattle.rent_buf.specs.declared.kind.Kind.TheVariants.{Vector, Grown, Fixed}
 use Rattle.ring_core.specs.declared.world.HandleKind.{HandleKind}
 use Rattle.ring_core.specs.declared.world.HandleKind.TheVariants.{Stream}
 use Rattle.session_run.specs.TextLines.{onto_first}
@@ -52,16 +52,20 @@ abbrev pub number_field : List (List ℕ) → Option (ℕ × List (List ℕ))
 number_field [] = None
 number_field (word ∷ words) = option_and_then (λ number. Some (number, words)) (number_of word)
 
+-- The value, where no further word stands.
+abbrev pub at_end : {A : Type 0} → A → List (List ℕ) → Option A
+at_end value [] = Some value
+at_end value (word ∷ words) = None
+
+-- The number that the one word writes.
+abbrev pub last_number_of : List (List ℕ) → Option ℕ
+last_number_of words = option_and_then (λ number. at_end number.0 number.1) (number_field words)
+
 -- The bytes that the one word writes.
 abbrev pub bytes_end : List (List ℕ) → Option (List ℕ)
 bytes_end [] = None
 bytes_end (word ∷ []) = bytes_of word
 bytes_end (word ∷ _) = None
-
--- The value, where no further word stands.
-abbrev pub at_end : {A : Type 0} → A → List (List ℕ) → Option A
-at_end value [] = Some value
-at_end value (word ∷ words) = None
 
 -- The kind of a handle that a word writes.
 abbrev pub handle_kind_of : List ℕ → Option HandleKind

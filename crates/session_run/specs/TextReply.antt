@@ -1,7 +1,7 @@
 -- The texts of replies.
 use Rattle.std.specs.Prelude.{ℕ, List, [], ◌∷◌, codes, decimal}
-use Rattle.rent_buf.specs.declared.spec.HeldBuf.{HeldBuf}
-use Rattle.rent_buf.specs.declared.spec.HeldBuf.TheVariants.{One, Parts}
+use Rattle.rent_buf.specs.Held.{HeldBuf}
+use Rattle.rent_buf.specs.declared.held.Held.TheVariants.{One, Parts}
 use Rattle.ring_core.specs.declared.ledger.Refusal.{Refusal}
 use Rattle.ring_core.specs.declared.ledger.Refusal.TheVariants.{NoOp, NoHandle, Full, NotFlying, BadOutcome, BadHandleEvent}
 use Rattle.ring_core.specs.declared.ledger.Reply.{Reply}

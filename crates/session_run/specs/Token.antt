@@ -1,6 +1,6 @@
 -- Tokens by the numbers of their operations.
 use Rattle.std.specs.Prelude.{ℕ, List, Option, Some, None, slice_get}
-use Rattle.uring_driver.specs.declared.op.Op.{Op}
+use Rattle.driver_core.specs.declared.op.Op.{Op}
 use Rattle.session_run.specs.declared.tokens.Tokens.{Tokens}
 
 -- The places of a session's tokens, by number.

@@ -1,24 +1,37 @@
--- What the top call has done, by its status. `top` cites these, and so do the functions that it calls.
-use Rattle.std.specs.Prelude.{ℕ, ◌≡◌, ◌≤◌, ◌<◌, Bool, IsTrue, List, [], ◌∷◌, ◌++◌, length, drop, Option, Some, codes, decimal}
-use Rattle.std.specs.List.{AllZip}
+-- What the top call has done, by its status. `top` cites these, and so do the functions that it calls. A prefix of a text is what
+-- it begins with.
+use Rattle.std.specs.Prelude.{ℕ, ◌≡◌, ◌≤◌, ◌<◌, Bool, true, false, IsTrue, List, [], ◌∷◌, ◌++◌, length, drop, Option, Some, codes, decimal}
+use Rattle.std.specs.List.{AllZip, count_by}
 use Rattle.ring_core.specs.declared.ledger.Event.{Event}
 use Rattle.ring_core.specs.declared.ledger.Reply.{Reply}
+use Rattle.ring_core.specs.declared.ledger.Reply.TheVariants.{Handed, Refused}
 use Rattle.ring_core.specs.Ledger.{empty}
 use Rattle.ring_core.specs.Run.{ledger, replies}
 use Rattle.session_run.specs.declared.session.Session.{Session}
 use Rattle.session_run.specs.declared.top.Kept.{Kept}
 use Rattle.session_run.specs.declared.top.Kept.TheVariants.{Run}
 use Rattle.session_run.specs.declared.top.Status.{Status}
-use Rattle.session_run.specs.declared.top.Status.TheVariants.{Done, WriteFault, OutOfMemory}
+use Rattle.session_run.specs.declared.top.Status.TheVariants.{Done, BadWords, BadLine, TooLong, ReadFault, WriteFault, OutOfMemory}
+use Rattle.session_run.specs.declared.input.TheConstants.{MOST_INPUT}
 use Rattle.session_run.specs.Session.{SessionStands}
 use Rattle.session_run.specs.TextEvent.{StandsFor}
 use Rattle.session_run.specs.TextReply.{reply_text}
 use Rattle.session_run.specs.TextLines.{lines, IsFirstWrong}
 use Rattle.session_run.specs.TextWrites.{Starts}
 
+-- The number with which the program ends.
+abbrev pub exit_number : Status → ℕ
+exit_number Done = 0
+exit_number BadWords = 1
+exit_number BadLine = 2
+exit_number TooLong = 3
+exit_number ReadFault = 4
+exit_number WriteFault = 5
+exit_number OutOfMemory = 6
+
 -- The most bytes of input.
 abbrev pub most_input : ℕ
-most_input = 16777216
+most_input = MOST_INPUT
 
 -- A text and its newline.
 abbrev pub ended : List ℕ → List ℕ
@@ -37,8 +50,29 @@ bad_line_text n = ended (codes "line " ++ decimal n)
 abbrev pub drained_text : ℕ → List ℕ
 drained_text n = ended (codes "drained " ++ decimal n)
 
--- The input was read to its end, and its lines stand for these events, one each.
+-- A reply refuses its event.
+abbrev pub is_refused : Reply → Bool
+is_refused (Refused refusal) = true
+is_refused _ = false
+
+-- A reply returns an operation's buffer and outcome.
+abbrev pub is_ready : Reply → Bool
+is_ready (Handed outcome held) = true
+is_ready _ = false
+
+-- What is written of so many events, and how many replies are refusals and how many return an operation.
+abbrev pub generated_text : ℕ → ℕ → ℕ → List ℕ
+generated_text events refused ready =
+    ended (codes "events " ++ decimal events ++ codes " refused " ++ decimal refused ++ codes " ready " ++ decimal ready)
+
+-- What is written of these events, run over a queue of 8 entries.
+abbrev pub summary_text : List Event → List ℕ
+summary_text events =
+    generated_text (length events) (count_by is_refused (replies (empty 8) events)) (count_by is_ready (replies (empty 8) events))
+
+-- The input, of at most so many bytes, was read to its end, and its lines stand for these events, one each.
 pub record WasRead (left rest : List ℕ) (events : List Event) : Type 0 where
+  pub within : length left ≤ most_input
   pub to_its_end : rest ≡ []
   pub stand : AllZip StandsFor (lines left) events
 
@@ -53,8 +87,9 @@ pub record RunDone (tells_source tells_sink : Bool) (capacity : ℕ) (left rest 
   pub kept_is : kept ≡ Some (Run session)
   pub stands : SessionStands session (ledger capacity events)
 
--- The input was read to its end, and this is the number of its first line that stands for no event.
+-- The input, of at most so many bytes, was read to its end, and this is the number of its first line that stands for no event.
 pub record IsBadLine (left rest : List ℕ) (n : ℕ) : Type 0 where
+  pub within : length left ≤ most_input
   pub to_its_end : rest ≡ []
   pub first : IsFirstWrong (lines left) n
 
@@ -71,26 +106,46 @@ pub record TookTooMany (left rest : List ℕ) : Type 0 where
   pub there : count ≤ length left
   pub taken : rest ≡ drop count left
 
--- A front of a text was written.
-pub record WroteFront (text taken now : List ℕ) : Type 0 where
-  pub front : List ℕ
-  pub starts : Starts front text
-  pub written : now ≡ taken ++ front
+-- No more bytes were taken than the input may have.
+pub record TookFew (left rest : List ℕ) : Type 0 where
+  pub count : ℕ
+  pub few : count ≤ most_input
+  pub taken : rest ≡ drop count left
+
+-- A prefix of a text was written.
+pub record WrotePrefix (text taken now : List ℕ) : Type 0 where
+  pub prefix : List ℕ
+  pub starts : Starts prefix text
+  pub written : now ≡ taken ++ prefix
 
 -- A text that the program may write: the replies to the events that the lines of the input stand for, or the number of a wrong line.
 pub data IsText (tells_source : Bool) (capacity : ℕ) (left rest : List ℕ) : List ℕ → Type 0 where
   of_replies : (events : List Event) → (IsTrue tells_source → WasRead left rest events) → IsText tells_source capacity left rest (reply_lines (replies (empty capacity) events))
   of_bad_line : (n : ℕ) → (IsTrue tells_source → IsBadLine left rest n) → IsText tells_source capacity left rest (bad_line_text n)
 
--- A front of a text that the program may write was written.
+-- A prefix of a text that the program may write was written.
 pub record WroteSome (tells_source tells_sink : Bool) (capacity : ℕ) (left rest taken now : List ℕ) : Type 0 where
   pub text : List ℕ
   pub may : IsText tells_source capacity left rest text
-  pub front : IsTrue tells_sink → WroteFront text taken now
+  pub prefix : IsTrue tells_sink → WrotePrefix text taken now
 
 -- What `wake` wrote of so many wakers, by the status. It has no other status than these three.
 abbrev pub WakesFor : Bool → ℕ → List ℕ → List ℕ → Status → Type 0
 WakesFor tells total taken now Done = IsTrue tells → now ≡ taken ++ drained_text total
-WakesFor tells total taken now WriteFault = IsTrue tells → WroteFront (drained_text total) taken now
+WakesFor tells total taken now WriteFault = IsTrue tells → WrotePrefix (drained_text total) taken now
 WakesFor tells total taken now OutOfMemory = IsTrue tells → now ≡ taken
 WakesFor tells total taken now _ = ⊥
+
+-- Events were run over a queue of 8 entries, and their summary written: a session is kept that stands for the ledger they lead to.
+pub record Summed (tells : Bool) (events : List Event) (taken now : List ℕ) (kept : Option Kept) : Type 0 where
+  pub written : IsTrue tells → now ≡ taken ++ summary_text events
+  pub session : Session
+  pub kept_is : kept ≡ Some (Run session)
+  pub stands : SessionStands session (ledger 8 events)
+
+-- What `gen` wrote and kept of generated events, by the status. It has no other status than these three.
+abbrev pub SumsFor : Bool → List Event → List ℕ → List ℕ → Option Kept → Status → Type 0
+SumsFor tells events taken now kept Done = Summed tells events taken now kept
+SumsFor tells events taken now kept WriteFault = IsTrue tells → WrotePrefix (summary_text events) taken now
+SumsFor tells events taken now kept OutOfMemory = IsTrue tells → now ≡ taken
+SumsFor tells events taken now kept _ = ⊥

@@ -1,8 +1,17 @@
 //! The words of the command line.
 ghost use Rattle.std.specs.Prelude.{map, string_bytes, ◌∷◌, []};
-ghost use Rattle.session_run.specs.Command.{ReadsCapacity, ReadsCounts, ReadsCommand, ReadsUpTo};
+ghost use Rattle.session_run.specs.Command.{ReadsCapacity, ReadsCounts, ReadsRounds, ReadsCommand, ReadsUpTo};
 
 use crate::text::read_number;
+
+/// The most entries of `run`'s queue.
+pub const MOST_ENTRIES: u64 = 4294967295;
+
+/// The greatest seed of `gen`.
+pub const MOST_SEED: u64 = 2147483647;
+
+/// The most rounds of `gen`.
+pub const MOST_ROUNDS: u64 = 100000;
 
 /// The most senders of `wake`.
 pub const MOST_SENDERS: u64 = 64;
@@ -15,6 +24,8 @@ pub const MOST_COUNT: u64 = 100000;
 pub enum Command {
     /// `run CAP`: runs the events that are read, over a queue of so many entries, at least one.
     Run(u32),
+    /// `gen SEED COUNT`: generates the events of so many rounds from a seed, and runs them.
+    Generate(u32, u32),
     /// `wake SENDERS COUNT`: so many senders, at most 64, send so many wakers each, at most 100000.
     Wake(u64, u32),
 }
@@ -25,7 +36,7 @@ pub fn command_of(words: &[String]) -> Option<Command>
 {
     match words {
         [name, capacity] => run_of(name.as_str(), capacity.as_str()),
-        [name, senders, count] => wake_of(name.as_str(), senders.as_str(), count.as_str()),
+        [name, first, second] => counted_of(name.as_str(), first.as_str(), second.as_str()),
         _ => None,
     }
 }
@@ -46,31 +57,42 @@ fn capacity_of(word: &[u8]) -> Option<Command>
     ensures { ReadsCapacity word.now result }
 {
     match read_number(word) {
-        Some(capacity) if 1 <= capacity && capacity <= 4294967295 => Some(Command::Run(
+        Some(capacity) if 1 <= capacity && capacity <= MOST_ENTRIES => Some(Command::Run(
             capacity as u32,
         )),
         _ => None,
     }
 }
 
-// The command `wake` of three words.
-fn wake_of(name: &str, senders: &str, count: &str) -> Option<Command>
-    ensures { ReadsCommand (name.now ∷ senders.now ∷ count.now ∷ []) result }
+// The command of three words: `wake` or `gen`, and two numbers.
+fn counted_of(name: &str, first: &str, second: &str) -> Option<Command>
+    ensures { ReadsCommand (name.now ∷ first.now ∷ second.now ∷ []) result }
 {
     if name == "wake" {
-        counts_of(senders.as_bytes(), count.as_bytes())
-    } else {
-        None
+        return wake_of(first.as_bytes(), second.as_bytes());
     }
+    if name == "gen" {
+        return generate_of(first.as_bytes(), second.as_bytes());
+    }
+    None
 }
 
 // The command of how many senders there are, and how many wakers each sends.
-fn counts_of(senders: &[u8], count: &[u8]) -> Option<Command>
+fn wake_of(senders: &[u8], count: &[u8]) -> Option<Command>
     ensures { ReadsCounts senders.now count.now result }
 {
     let senders = number_up_to(senders, MOST_SENDERS)?;
     let count = number_up_to(count, MOST_COUNT)?;
     Some(Command::Wake(senders, count as u32))
+}
+
+// The command of a seed, and how many rounds it generates.
+fn generate_of(seed: &[u8], rounds: &[u8]) -> Option<Command>
+    ensures { ReadsRounds seed.now rounds.now result }
+{
+    let seed = number_up_to(seed, MOST_SEED)?;
+    let rounds = number_up_to(rounds, MOST_ROUNDS)?;
+    Some(Command::Generate(seed as u32, rounds as u32))
 }
 
 // A decimal number that isn't greater than the most.

@@ -2,41 +2,38 @@
 #![tactic(auto)]
 
 pub mod command;
-pub mod mem_source;
+pub mod generated;
+mod input;
+mod output;
 pub mod session;
-pub mod source;
 pub mod text;
 pub mod tokens;
 pub mod top;
 mod usage;
 pub mod wake;
 
-use source::{StdSink, StdSource};
+use rent_io::{StdSink, StdSource};
 use std::process::ExitCode;
 use top::{Kept, Status, top};
-use usage::{Asked, asked_of, words_of};
+use usage::{answer, asked_of, end_with, words_of};
 
 fn main(rt: HostRuntime) -> ExitCode {
-    let words = match words_of(&rt) {
-        Ok(words) => words,
-        Err(_) => return usage::refuse(&rt),
+    let Ok(words) = words_of(&rt) else {
+        return end_with(&rt, Status::OutOfMemory);
     };
-    match asked_of(words.as_slice()) {
-        Some(asked) => return usage::answer(&rt, asked),
-        None => {}
+    if let Some(asked) = asked_of(words.as_slice()) {
+        return answer(&rt, asked);
     }
     let mut source = StdSource::new(rt.stdin());
     let mut sink = StdSink::new(rt.stdout());
     let mut kept: Option<Kept> = None;
-    match top(
+    let status = top(
         &rt,
         rt.alloc(),
         words.as_slice(),
         &mut source,
         &mut sink,
         &mut kept,
-    ) {
-        Status::BadWords => usage::refuse(&rt),
-        status => ExitCode::from(status as u8),
-    }
+    );
+    end_with(&rt, status)
 }

@@ -1,18 +1,19 @@
 //! A session: a driver over the ring in memory, and the tokens of its operations.
-ghost use Rattle.std.specs.Prelude.{◌≡◌, ◌<◌, ◌^◌, length, IfOk, None, Some, IsTrue, IsOk, vec_len, vec_capacity};
+ghost use Rattle.std.specs.Prelude.{◌≡◌, ◌<◌, ◌^◌, length, IfOk, IfNone, OnErr, None, Some, IsTrue, IsOk, vec_len, vec_capacity};
 ghost use Rattle.rent_buf.specs.Buf.{built};
-ghost use Rattle.ring_core.specs.Request.{named, buffer_of, plain_request};
+ghost use Rattle.ring_core.specs.Request.{named, held_of, plain_request};
 ghost use Rattle.ring_core.specs.Ledger.{Ledger, empty};
+ghost use Rattle.ring_core.specs.Refusal.{cause};
 ghost use Rattle.ring_core.specs.Run.{ledger, replies};
-ghost use Rattle.ring_core.specs.Headline.{OneReplyEach, RefusedExactly, PendingUntilReaped, HandsBackOwn, FirstPollHands, HandedOnce, DroppedOnce, ReapNames, CanceledWhereAsked};
+ghost use Rattle.run_laws.specs.Headline.{OneReplyEach, RefusedExactly, PendingUntilReaped, HandsBackOwn, FirstPollHands, HandedOnce, DroppedOnce, ReapNames, CanceledWhereAsked};
 ghost use Rattle.ring_core.specs.declared.ledger.Event.TheVariants.{Give, Feed, End, Submit, Poll, Drop, Cancel, Turn, Exec};
-ghost use Rattle.uring_driver.specs.Driver.{holds_all, given_by};
+ghost use Rattle.uring_driver.specs.Uring.{holds_all, given_by};
 ghost use Rattle.session_run.specs.Session.{AreParts, PartsStand, SessionStands, SessionAnswers, StepsFor, TakesNoMemory, driver_in};
 ghost use Rattle.session_run.specs.Executed.{reply_to, AnswersRefusal};
 
 use crate::tokens::Tokens;
 use op_slots::slab::MAX_LIVE;
-use rent_buf::{Buf, BufSpec, ByteList, HeldBuf, OutOfMemory, PartsSpec, VecBuf};
+use rent_buf::{Buf, BufSpec, ByteList, Held, HeldBuf, OutOfMemory, PartsSpec, VecBuf};
 use ring_core::{
     Event, ExecRefusal, HandleKind, Look, MemRing, Refusal, Reply, Request, Told, WorldError,
 };
@@ -44,7 +45,7 @@ impl From<AllocError> for RunError {
 }
 
 /// A driver over the ring in memory, which events step. It keeps the token of each operation that isn't handed back, by the
-/// operation's number. (own)
+/// operation's number. (not in monoio)
 pub struct Session {
     driver: IoUringDriver<MemRing, Buf>,
     tokens: Tokens,
@@ -96,8 +97,9 @@ impl Session {
         Session { driver, tokens }
     }
 
-    /// One step of the machine: does what the event says on the driver, and answers what the machine replies. Where memory
-    /// runs out nothing has happened; a poll, a drop and an end never answer that.
+    /// One step of the machine: does what the event says on the driver, and answers what the machine replies. If memory runs
+    /// out nothing has happened. That comes only of an event that the machine doesn't refuse, and never of a poll, a drop or an
+    /// end.
     pub fn step(&mut self, event: &Event) -> Result<Reply, OutOfMemory>
         ensures answers { (L : Ledger) → SessionStands self.old L → StepsFor L event.now self.new result }
         ensures memory { TakesNoMemory event.now → IsOk result }
@@ -107,12 +109,23 @@ impl Session {
             Event::Feed(h, bytes) => self.feed(*h, bytes.as_slice()),
             Event::End(h) => Ok(self.end(*h)),
             Event::Look(h) => self.look(*h),
-            Event::Submit(request) => self.submit(request),
+            Event::Submit(request) => self.submit_copy(request),
             Event::Poll(n, task) => Ok(self.poll(*n, *task)),
             Event::Drop(n) => Ok(self.give_up(*n)),
             Event::Cancel(n) => self.cancel(*n),
             Event::Turn => self.turn(),
             Event::Exec(place, told) => self.execute(*place, *told),
+        }
+    }
+
+    /// The same step of an event that it takes: a submission's bytes are moved into its operation's buffer. (not in monoio)
+    pub fn apply(&mut self, event: Event) -> Result<Reply, OutOfMemory>
+        ensures answers { (L : Ledger) → SessionStands self.old L → StepsFor L event self.new result }
+        ensures memory { TakesNoMemory event → IsOk result }
+    {
+        match event {
+            Event::Submit(request) => self.submit(request),
+            event => self.step(&event),
         }
     }
 
@@ -164,8 +177,10 @@ impl Session {
         if self.driver.handles() >= MOST_GIVEN {
             return Err(OutOfMemory);
         }
-        let fd = self.driver.give(kind)?;
-        Ok(Reply::Handle(fd.number()))
+        match self.driver.give(kind) {
+            Ok(fd) => Ok(Reply::Handle(fd.number())),
+            Err(_) => Err(OutOfMemory),
+        }
     }
 
     // Bytes arrive at a handle.
@@ -202,19 +217,32 @@ impl Session {
         if !self.driver.user_holds(h) {
             return Ok(Reply::Refused(Refusal::NoHandle));
         }
-        let look = self.driver.look(h)?;
-        Ok(Reply::Output(shown_by(look)))
+        match self.driver.look(h) {
+            Ok(look) => Ok(Reply::Output(shown_by(look))),
+            Err(_) => Err(OutOfMemory),
+        }
     }
 
-    // A request is submitted, its buffer, or its parts, built of the event's.
-    fn submit(&mut self, request: &Request<BufSpec, PartsSpec>) -> Result<Reply, OutOfMemory>
+    // A copy of a request is submitted.
+    fn submit_copy(&mut self, request: &Request<BufSpec, PartsSpec>) -> Result<Reply, OutOfMemory>
         ensures { (L : Ledger) → SessionStands self.old L → StepsFor L (Submit request.now) self.new result }
     {
-        if !self.holds_named(request) {
-            return Ok(Reply::Refused(Refusal::NoHandle));
+        match self.refusal_of(request) {
+            Some(refusal) => Ok(Reply::Refused(refusal)),
+            None => match copy_request(request) {
+                Ok(request) => self.submit(request),
+                Err(_) => Err(OutOfMemory),
+            },
         }
-        if self.driver.num_operations() >= MAX_LIVE {
-            return Ok(Reply::Refused(Refusal::Full));
+    }
+
+    // A request is submitted; what it holds is moved into its buffer, or its parts.
+    fn submit(&mut self, request: Request<BufSpec, PartsSpec>) -> Result<Reply, OutOfMemory>
+        ensures { (L : Ledger) → SessionStands self.old L → StepsFor L (Submit request) self.new result }
+    {
+        match self.refusal_of(&request) {
+            Some(refusal) => return Ok(Reply::Refused(refusal)),
+            None => {}
         }
         if self.driver.given() >= MOST_GIVEN {
             return Err(OutOfMemory);
@@ -228,16 +256,31 @@ impl Session {
         }
     }
 
+    // Why a submission is refused, if it is.
+    fn refusal_of(&self, request: &Request<BufSpec, PartsSpec>) -> Option<Refusal>
+        ensures named { (L : Ledger) → SessionStands self.now L → cause L (Submit request.now) ≡ result }
+        ensures held { IfNone result (IsTrue (holds_all self.now.driver (named request.now))) }
+    {
+        if !self.holds_named(request) {
+            return Some(Refusal::NoHandle);
+        }
+        if self.driver.num_operations() >= MAX_LIVE {
+            return Some(Refusal::Full);
+        }
+        None
+    }
+
     // The user holds each handle that a request names.
+    #[tactic(auto, using(crate::proofs::NamedHandles::holds_next, crate::proofs::NamedHandles::holds_none))]
     fn holds_named(&self, request: &Request<BufSpec, PartsSpec>) -> bool
         ensures { result ≡ holds_all self.now.driver (named request.now) }
     {
-        match request {
-            Request::Recv { fd, buf: _ } => self.driver.user_holds(fd.number()),
-            Request::ReadVec { fd, parts: _ } => self.driver.user_holds(fd.number()),
-            Request::Send { fd, buf: _ } => self.driver.user_holds(fd.number()),
-            Request::WriteVec { fd, parts: _ } => self.driver.user_holds(fd.number()),
+        for i in 0..request.named_len() {
+            if !self.driver.user_holds(request.named_at(i)) {
+                return false;
+            }
         }
+        true
     }
 
     // A request of handles that the user holds is submitted, and its token kept.
@@ -245,7 +288,8 @@ impl Session {
         requires held { IsTrue (holds_all self.old.driver (named request)) }
         requires counter { given_by self.old.driver < 2 ^ 62 }
         requires room { vec_len self.old.tokens.ops < vec_capacity self.old.tokens.ops }
-        ensures { (L : Ledger) → SessionStands self.old L → StepsFor L (Submit (plain_request built request)) self.new result }
+        ensures ok { IfOk result (λ reply. (L : Ledger) → SessionStands self.old L → SessionAnswers L (Submit (plain_request built request)) reply self.new) }
+        ensures err { OnErr result ((L : Ledger) → SessionStands self.old L → SessionStands self.new L) }
     {
         match self.driver.submit_with(request) {
             Ok(submitted) => {
@@ -274,7 +318,7 @@ impl Session {
                         self.tokens.put(n as usize, op);
                         Reply::Pending
                     }
-                    PollOp::Ready(done) => Reply::Handed(done.outcome, held_of(done.request)),
+                    PollOp::Ready(done) => Reply::Handed(done.outcome, plain_held(done.request)),
                 }
             }
         }
@@ -366,29 +410,23 @@ fn refused_execution(why: ExecRefusal) -> Result<Reply, OutOfMemory>
     }
 }
 
-// A request of an event, with its buffer, or its parts, built.
-fn build_request(request: &Request<BufSpec, PartsSpec>) -> Result<Request<Buf, VecBuf>, OutOfMemory>
-    ensures plain { IfOk result (λ own. plain_request built own ≡ request.now) }
-    ensures names { IfOk result (λ own. named own ≡ named request.now) }
+// A copy of a request.
+fn copy_request(
+    request: &Request<BufSpec, PartsSpec>,
+) -> Result<Request<BufSpec, PartsSpec>, OutOfMemory>
+    ensures { IfOk result (λ copy. copy ≡ request.now) }
 {
-    match request {
-        Request::Recv { fd, buf } => {
-            let buf = buf.try_clone()?.build()?;
-            Ok(Request::Recv { fd: *fd, buf })
-        }
-        Request::ReadVec { fd, parts } => {
-            let parts = parts.try_clone()?.build()?;
-            Ok(Request::ReadVec { fd: *fd, parts })
-        }
-        Request::Send { fd, buf } => {
-            let buf = buf.try_clone()?.build()?;
-            Ok(Request::Send { fd: *fd, buf })
-        }
-        Request::WriteVec { fd, parts } => {
-            let parts = parts.try_clone()?.build()?;
-            Ok(Request::WriteVec { fd: *fd, parts })
-        }
-    }
+    request
+        .as_ref()
+        .try_map(|buf| buf.try_clone(), |parts| parts.try_clone())
+}
+
+// A request of an event, with its buffer, or its parts, built.
+fn build_request(request: Request<BufSpec, PartsSpec>) -> Result<Request<Buf, VecBuf>, OutOfMemory>
+    ensures plain { IfOk result (λ own. plain_request built own ≡ request) }
+    ensures names { IfOk result (λ own. named own ≡ named request) }
+{
+    request.try_map(|buf| buf.build(), |parts| parts.build())
 }
 
 // The token that a submission gave.
@@ -400,15 +438,13 @@ fn token_of(submitted: Submitted) -> Op
     }
 }
 
-// The buffer of a request, or its parts, as plain data.
-fn held_of(request: Request<Buf, VecBuf>) -> HeldBuf
-    ensures { result ≡ buffer_of (plain_request built request) }
+// What a request holds, as plain data.
+fn plain_held(request: Request<Buf, VecBuf>) -> HeldBuf
+    ensures { result ≡ held_of (plain_request built request) }
 {
-    match request {
-        Request::Recv { fd: _, buf } => HeldBuf::One(buf.into_spec()),
-        Request::ReadVec { fd: _, parts } => HeldBuf::Parts(parts.into_spec()),
-        Request::Send { fd: _, buf } => HeldBuf::One(buf.into_spec()),
-        Request::WriteVec { fd: _, parts } => HeldBuf::Parts(parts.into_spec()),
+    match request.into_held() {
+        Held::One(buf) => Held::One(buf.into_spec()),
+        Held::Parts(parts) => Held::Parts(parts.into_spec()),
     }
 }
 

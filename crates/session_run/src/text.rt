@@ -6,31 +6,32 @@ ghost use Rattle.session_run.specs.TextEvent.{IsEvent, StandsFor, event_text};
 ghost use Rattle.session_run.specs.TextLines.{lines, IfBadLine, IsFirstWrong};
 ghost use Rattle.session_run.specs.declared.text.LinesError.TheVariants.{OutOfMemory};
 
-mod cut;
-mod hex;
-mod number;
-mod reader;
+mod buffer;
+mod event;
+mod reply;
+mod request;
 #[cfg(test)]
 mod tests;
-mod writer;
+mod word;
 
-use cut::{first_line, line_count};
-pub(crate) use number::{put_number, read_number};
-use reader::event_of_line;
+use event::event_of_line;
+pub use event::write_event;
 use rent_buf::OutOfMemory;
+pub use reply::write_reply;
 use ring_core::Event;
 use std::alloc::{AllocError, AllocFailed, Global};
 use thiserror::Error;
-pub use writer::{write_event, write_reply};
+use word::first_line;
+pub(crate) use word::number::{put_number, read_number};
 
 /// Why lines gave no events.
 #[derive(Clone, Copy, Debug, PartialEq, Eq, Error)]
 pub enum LinesError {
     /// The line of this number, counted from 1, is the first that is no event's text.
-    #[error("line {0}")]
+    #[error("BadLine")]
     BadLine(u64),
     /// Memory ran out.
-    #[error("out of memory")]
+    #[error("OutOfMemory")]
     OutOfMemory,
 }
 
@@ -58,12 +59,13 @@ impl<T: Drop> From<AllocFailed<T>> for LinesError {
     }
 }
 
-/// The events that the lines of a text stand for, one for each line, in order. (own)
+/// The events that the lines of a text stand for, one for each line, in order. Memory is taken line by line, so a wrong line is
+/// found before memory for the lines behind it. (not in monoio)
 pub fn read_events(alloc: Global, text: &[u8]) -> Result<Vec<Event>, LinesError>
     ensures events { IfOk result (λ events. AllZip StandsFor (lines text.now) events.items) }
     ensures bad_line { IfErr result (IfBadLine (IsFirstWrong (lines text.now))) }
 {
-    let mut events = Vec::with_capacity(alloc, line_count(text))?;
+    let mut events = Vec::new(alloc);
     let mut rest = text;
     while !rest.is_empty() {
         let (line, behind) = first_line(rest);
@@ -76,7 +78,7 @@ pub fn read_events(alloc: Global, text: &[u8]) -> Result<Vec<Event>, LinesError>
     Ok(events)
 }
 
-/// No two events have the same text, so a line stands for one event at most. (own)
+/// No two events have the same text, so a line stands for one event at most. (not in monoio)
 pub fn texts_differ()
     ensures events { (a b : Event) → IsEvent a → IsEvent b → event_text a ≡ event_text b → a ≡ b }
     ensures lines { (line : List ℕ) (a b : Event) → StandsFor line a → StandsFor line b → a ≡ b }

@@ -8,7 +8,7 @@ use std::alloc::Global;
 use uring_driver::Op;
 
 /// The tokens of a session that was taken apart, each under its operation's number. They can't be made, copied or dropped
-/// outside: `Session::from_parts` spends them. (own)
+/// outside: `Session::from_parts` spends them. (not in monoio)
 pub struct Tokens {
     // A place for each operation that was given, by its number: with its token, where it was neither handed back nor dropped.
     ops: Vec<Option<Op>>,

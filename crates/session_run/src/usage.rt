@@ -1,4 +1,7 @@
-//! What the program tells a person: its help, its version, and how its words go.
+//! What the program tells a person: its help, its version, how its words go, and why it ended.
+ghost use Rattle.std.specs.Prelude.{◌≡◌};
+ghost use Rattle.std.specs.Process.{exit_status};
+ghost use Rattle.session_run.specs.Top.{exit_number};
 
 use crate::top::Status;
 use std::process::ExitCode;
@@ -6,26 +9,35 @@ use std::rt::Env;
 use std::{env, io};
 
 /// What `--help` writes to standard output.
-pub(crate) const HELP: &str = "Runs events on a completion I/O engine with owned buffers.
+pub(crate) const HELP: &str =
+    "Runs a completion I/O engine with owned buffers on events that it reads.
 
 usage: session_run run CAP
+       session_run gen SEED COUNT
        session_run wake SENDERS COUNT
        session_run --help
        session_run --version
 
-`run CAP` reads events from standard input, a line each, runs them over a queue
-of CAP entries (1 to 4294967295), and writes the reply to each, a line each.
-`wake SENDERS COUNT` sends COUNT wakers (0 to 100000) from each of SENDERS
-threads (0 to 64) to a driver that parks, and writes how many it drained.
-The exit status is 0 where all was written, 1 for other words than these, 2 for
-a line that is no event, 3 for more than 16777216 bytes of input, 4 and 5 where
-reading or writing failed, and 6 where memory ran out.";
+run CAP              reads events from standard input, one a line, runs them
+                     over a submission queue of CAP entries (1 to 4294967295),
+                     and writes the reply to each, one a line
+gen SEED COUNT       runs COUNT rounds of seven events (0 to 100000) that SEED
+                     generates (0 to 2147483647) over a queue of 8 entries, and
+                     writes how many events there were, how many were refused,
+                     and how many polls were ready
+wake SENDERS COUNT   wakes a parked driver COUNT times (0 to 100000) from each
+                     of SENDERS threads (0 to 64), and writes how many wake-ups
+                     it drained
+
+exit status: 0 success; 1 invalid command line; 2 invalid line, whose number
+is printed; 3 more than 16777216 bytes of input; 4 reading failed; 5 writing
+failed; 6 out of memory";
 
 /// What `--version` writes to standard output.
 pub(crate) const VERSION: &str = "session_run 0.1.0";
 
-/// The line that goes to standard error where the words are no command's.
-pub(crate) const USAGE: &str = "usage: session_run run CAP | wake SENDERS COUNT";
+/// The line that standard error gets for an invalid command line.
+pub(crate) const USAGE: &str = "usage: session_run run CAP | gen SEED COUNT | wake SENDERS COUNT";
 
 /// What a person may ask for in place of a command.
 #[derive(Clone, Copy, Debug, PartialEq, Eq)]
@@ -36,7 +48,7 @@ pub(crate) enum Asked {
     Version,
 }
 
-/// What these words ask for, where they are `--help` or `--version` alone.
+/// What these words ask for, if they are `--help` or `--version` alone.
 pub(crate) fn asked_of(words: &[String]) -> Option<Asked> {
     match words {
         [word] if word.as_str() == "--help" => Some(Asked::Help),
@@ -54,20 +66,42 @@ pub(crate) fn words_of<R: Env + AllocGlobal>(rt: &R) -> io::Result<Vec<String>> 
     Ok(words)
 }
 
-/// Writes what was asked for.
-pub(crate) fn answer<R: Print>(rt: &R, asked: Asked) -> ExitCode {
+/// Writes what was asked for to standard output, and ends as `Done`, or as `WriteFault`.
+pub(crate) fn answer<R: Print + Eprint>(rt: &R, asked: Asked) -> ExitCode {
     let text = match asked {
         Asked::Help => HELP,
         Asked::Version => VERSION,
     };
     match rt.println(text) {
-        Ok(()) => ExitCode::from(Status::Done as u8),
-        Err(_) => ExitCode::from(Status::WriteFault as u8),
+        Ok(()) => end_with(rt, Status::Done),
+        Err(_) => end_with(rt, Status::WriteFault),
     }
 }
 
-/// Writes a line of usage to standard error.
-pub(crate) fn refuse<R: Eprint>(rt: &R) -> ExitCode {
-    let _ = rt.eprintln(USAGE);
-    ExitCode::from(Status::BadWords as u8)
+/// Ends the program with the number of a status, and writes its reason to standard error.
+pub(crate) fn end_with<R: Eprint>(rt: &R, status: Status) -> ExitCode
+    ensures { exit_status result ≡ exit_number status }
+{
+    match reason(status) {
+        Some(line) => {
+            let _ = rt.eprintln(line);
+        }
+        None => {}
+    }
+    ExitCode::from(status.number())
 }
+
+/// The line that standard error gets for a status; none for `Done`, nor for `BadLine`, which standard output tells.
+pub(crate) fn reason(status: Status) -> Option<&'static str> {
+    match status {
+        Status::Done | Status::BadLine => None,
+        Status::BadWords => Some(USAGE),
+        Status::TooLong => Some("session_run: the input has more than 16777216 bytes"),
+        Status::ReadFault => Some("session_run: reading the input failed"),
+        Status::WriteFault => Some("session_run: writing the output failed"),
+        Status::OutOfMemory => Some("session_run: out of memory"),
+    }
+}
+
+#[cfg(test)]
+mod tests;

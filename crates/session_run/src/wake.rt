@@ -23,7 +23,7 @@ const LIMIT: u64 = 1;
 /// in each send. The caller parks a driver until all are drained, at most 1000 times and for at most 1 millisecond each
 /// time, joins the threads, and settles. A sender whose thread can't be made runs on the caller.
 ///
-/// There are at most 64 senders, and the blanks are of the two ledgers, as for `WakeCell::new`. (own)
+/// There are at most 64 senders, and the blanks are of the two ledgers, as for `WakeCell::new`. (not in monoio)
 pub fn wake_all<P, D, G, R>(
     rt: &R,
     alloc: Global,

@@ -15,15 +15,15 @@ use Rattle.ring_core.specs.declared.entry.Entry.{Entry}
 use Rattle.ring_core.specs.Ledger.{Ledger, Cancel, Operation, Place, InQueue, InFlight, InDone, Reaped, is_live, is_kept}
 use Rattle.ring_core.specs.Queue.{with_op, append}
 use Rattle.ring_core.proofs.Amended.{get-amended-same, get-amended-other}
-use Rattle.uring_driver.specs.declared.slot.Slot.{Slot}
-use Rattle.uring_driver.specs.Slot.{with_life}
-use Rattle.uring_driver.specs.Slots.{SlotFor}
+use Rattle.driver_core.specs.declared.slot.Slot.{Slot}
+use Rattle.driver_core.specs.Slot.{with_life}
+use Rattle.driver_core.specs.Slots.{SlotFor}
 use Rattle.uring_driver.specs.Lists.{EntryFor, IsAt, QueuedFor, Meets, CancelsMean, is_call, queued_of}
-use Rattle.uring_driver.specs.Outbox.{cancel_entry}
+use Rattle.ring_core.specs.Entry.{cancel_entry}
 use Rattle.uring_driver.specs.Stands.{Means}
-use Rattle.uring_driver.proofs.Lists.{some, same-or-not, get-pushed}
-use Rattle.uring_driver.proofs.Maps.{put-same, put-other}
-use Rattle.uring_driver.proofs.Slots.{slots-replaced, slots-freed, other-left}
+use Rattle.driver_core.proofs.Lists.{some, same-or-not, get-pushed}
+use Rattle.driver_core.proofs.Maps.{put-same, put-other}
+use Rattle.driver_core.proofs.Slots.{slots-replaced, slots-freed, other-left}
 use Rattle.uring_driver.proofs.Kept.{KeepsOp, KeepsSlot, call-queued, lists-kept}
 
 -- A slot's life changes, and its operation with it, where it stands.
@@ -81,7 +81,7 @@ module _ {B : Type 0} (buffer : B → Buffer) (v : RingView) (slots : FinMap nat
 module _ {B : Type 0} (buffer : B → Buffer) (w : RingView) (slots : FinMap nat_cmp (Slot B)) (M : Ledger) (key : ℕ) (s : Slot B) (number : ℕ)
     (old : Means buffer w slots M) (there : get slots key ≡ Some s) (serial : s.serial ≡ number) where
   abbrev c' : Entry
-  c' = cancel_entry number key
+  c' = cancel_entry key number
 
   -- At its push the key is that of the number alone.
   meets : (e : Entry) → EntryFor buffer slots e → Meets e key number
@@ -115,7 +115,7 @@ module _ {B : Type 0} (buffer : B → Buffer) (w : RingView) (slots : FinMap nat
     ];
   }
 
-  pub means-canceled : Means buffer (record w { queue = w.queue ++ cancel_entry number key ∷ [] }) slots (append M (Cancel number))
+  pub means-canceled : Means buffer (record w { queue = w.queue ++ cancel_entry key number ∷ [] }) slots (append M (Cancel number))
   means-canceled = record {
     capacity = old.capacity;
     world = old.world;

@@ -17,18 +17,19 @@ use Rattle.ring_core.specs.Queue.{with_op, at_place, make_room, push}
 use Rattle.ring_core.specs.Run.{ledger}
 use Rattle.ring_core.specs.Step.{with_drop}
 use Rattle.ring_core.proofs.Amended.{get-amended-same, length-amended}
-use Rattle.uring_driver.specs.declared.slot.Slot.{Slot}
-use Rattle.uring_driver.specs.declared.driver.IoUringDriver.{IoUringDriver}
-use Rattle.uring_driver.specs.Driver.{ring_in, room_in, pending, whole_ring, is_among}
-use Rattle.uring_driver.specs.Outbox.{with_spare, room_made, pending_ring, cancel_entry}
-use Rattle.uring_driver.specs.Slot.{with_life, is_owned_life}
-use Rattle.uring_driver.specs.Slots.{SlotFor, waiting, owned_life}
+use Rattle.driver_core.specs.declared.slot.Slot.{Slot}
+use Rattle.uring_driver.specs.declared.uring.IoUringDriver.{IoUringDriver}
+use Rattle.uring_driver.specs.Uring.{ring_in, room_in, pending, whole_ring, is_among}
+use Rattle.ring_core.specs.Entry.{cancel_entry}
+use Rattle.uring_driver.specs.Submissions.{with_spare, room_made, pending_ring}
+use Rattle.driver_core.specs.Slot.{with_life, is_owned_life}
+use Rattle.driver_core.specs.Slots.{SlotFor, waiting, owned_life}
 use Rattle.uring_driver.specs.Stands.{Means, Stands, Answers}
-use Rattle.uring_driver.proofs.Lists.{amended-twice}
-use Rattle.uring_driver.proofs.Maps.{put-same}
-use Rattle.uring_driver.proofs.Counts.{where-less, where-within, owned-lives}
+use Rattle.driver_core.proofs.Lists.{amended-twice}
+use Rattle.driver_core.proofs.Maps.{put-same}
+use Rattle.driver_core.proofs.Counts.{where-less, where-within, owned-lives}
 use Rattle.uring_driver.proofs.Steps.{is_waiting, reached-more, step-drop-waiting, step-drop-reaped, step-cancel}
-use Rattle.uring_driver.proofs.Owned.{Owned, owned-slot}
+use Rattle.driver_core.proofs.Owned.{Owned, owned-slot}
 use Rattle.uring_driver.proofs.Changing.{means-changed, means-freed, means-canceled}
 use Rattle.uring_driver.proofs.Heads.{means-view}
 use Rattle.uring_driver.proofs.Taking.{means-room, owned-room}
@@ -88,13 +89,12 @@ module _ {R B : Type 0} (view : R → RingView) (buffer : B → Buffer) (d new :
       there = get-amended-same with_drop L.ops s.serial my.fit.operation my.fit.there;
       live = my.fit.live;
       request = my.fit.request;
-      held = my.fit.held;
       life = left-ignored s.life left;
       fresh = my.fit.fresh;
       uncanceled = my.fit.uncanceled;
     }
 
-    pub stands-leaves : (spare : ℕ) → new.slots.values ≡ insert d.slots.values key (with_life s (dropped s.life)) → whole_ring view new ≡ with_spare (pushed (room_made (whole_ring view d)) (cancel_entry s.serial key)) spare →
+    pub stands-leaves : (spare : ℕ) → new.slots.values ≡ insert d.slots.values key (with_life s (dropped s.life)) → whole_ring view new ≡ with_spare (pushed (room_made (whole_ring view d)) (cancel_entry key s.serial)) spare →
         length (pending view new) ≤ (view (ring_in new)).capacity → room_in new + 1 ≡ room_in d → Answers view buffer L (Drop s.serial) Dropped new
     unfolding my
     stands-leaves spare put ring still room =
@@ -122,8 +122,8 @@ module _ {R B : Type 0} (view : R → RingView) (buffer : B → Buffer) (d new :
             fits = still;
             means = subst (λ K. Means buffer (whole_ring view new) new.slots.values K) (sym (ap (λ x. x.0) e))
                 (subst (λ x. Means buffer x new.slots.values (push M (Cancel s.serial))) (sym ring)
-                (subst (λ x. Means buffer (with_spare (pushed (room_made v) (cancel_entry s.serial key)) spare) x (push M (Cancel s.serial))) (sym put)
-                (means-view buffer (record (room_made v) { queue = (room_made v).queue ++ cancel_entry s.serial key ∷ [] }) (with_spare (pushed (room_made v) (cancel_entry s.serial key)) spare) slots (push M (Cancel s.serial)) refl refl refl refl refl c)));
+                (subst (λ x. Means buffer (with_spare (pushed (room_made v) (cancel_entry key s.serial)) spare) x (push M (Cancel s.serial))) (sym put)
+                (means-view buffer (record (room_made v) { queue = (room_made v).queue ++ cancel_entry key s.serial ∷ [] }) (with_spare (pushed (room_made v) (cancel_entry key s.serial)) spare) slots (push M (Cancel s.serial)) refl refl refl refl refl c)));
           };
         }
 
@@ -153,7 +153,7 @@ module _ {R B : Type 0} (view : R → RingView) (buffer : B → Buffer) (d new :
       }
 
   -- A cancel that is asked for.
-  pub stands-asks : (spare : ℕ) → new.slots.values ≡ d.slots.values → whole_ring view new ≡ with_spare (pushed (room_made (whole_ring view d)) (cancel_entry s.serial key)) spare →
+  pub stands-asks : (spare : ℕ) → new.slots.values ≡ d.slots.values → whole_ring view new ≡ with_spare (pushed (room_made (whole_ring view d)) (cancel_entry key s.serial)) spare →
       length (pending view new) ≤ (view (ring_in new)).capacity → len d.slots.values ≤ room_in new → Answers view buffer L (Asks s.serial) Asked new
   unfolding my
   stands-asks spare same ring still room =
@@ -178,7 +178,7 @@ module _ {R B : Type 0} (view : R → RingView) (buffer : B → Buffer) (d new :
           fits = still;
           means = subst (λ K. Means buffer (whole_ring view new) new.slots.values K) (sym (ap (λ x. x.0) e))
               (subst (λ x. Means buffer x new.slots.values (push L (Cancel s.serial))) (sym ring)
-              (subst (λ x. Means buffer (with_spare (pushed (room_made v) (cancel_entry s.serial key)) spare) x (push L (Cancel s.serial))) (sym same)
-              (means-view buffer (record (room_made v) { queue = (room_made v).queue ++ cancel_entry s.serial key ∷ [] }) (with_spare (pushed (room_made v) (cancel_entry s.serial key)) spare) d.slots.values (push L (Cancel s.serial)) refl refl refl refl refl c)));
+              (subst (λ x. Means buffer (with_spare (pushed (room_made v) (cancel_entry key s.serial)) spare) x (push L (Cancel s.serial))) (sym same)
+              (means-view buffer (record (room_made v) { queue = (room_made v).queue ++ cancel_entry key s.serial ∷ [] }) (with_spare (pushed (room_made v) (cancel_entry key s.serial)) spare) d.slots.values (push L (Cancel s.serial)) refl refl refl refl refl c)));
         };
       }

@@ -1,34 +1,38 @@
 -- A whole turn from its begin and its end.
-use Rattle.std.proofs.Common.{◌≡◌, ◌≤◌, ℕ, Bool, true, false, [], length, Option, Some, None, sym, ◌∙◌, ap, subst, arith}
+use Rattle.std.proofs.Common.{◌≡◌, ◌≤◌, ℕ, Bool, true, false, [], ◌++◌, length, Option, Some, None, refl, sym, ◌∙◌, ap, subst, arith}
 use Rattle.std.specs.Prelude.{IsTrue}
-use Rattle.std.specs.Option.{unwrap_or}
+use Rattle.std.proofs.lemmas.List.{length-map}
 use Rattle.rent_buf.specs.Buffer.{Buffer}
 use Rattle.ring_core.specs.Counts.{Rose}
-use Rattle.ring_core.specs.Ring.{RingView}
+use Rattle.ring_core.specs.Ring.{RingView, with_done}
 use Rattle.ring_core.specs.Ledger.{Ledger}
 use Rattle.ring_core.specs.Queue.{take_all}
-use Rattle.uring_driver.specs.declared.op.Stop.{Stop}
-use Rattle.uring_driver.specs.declared.op.Stop.TheVariants.{RingFault, Busy, BadCompletion, OutOfMemory}
-use Rattle.uring_driver.specs.declared.op.Turned.{Turned}
-use Rattle.uring_driver.specs.declared.driver.IoUringDriver.{IoUringDriver}
+use Rattle.driver_core.specs.declared.op.Turned.{Turned}
+use Rattle.uring_driver.specs.declared.uring.IoUringDriver.{IoUringDriver}
 use Rattle.uring_driver.specs.declared.turn.Begun.{Begun}
-use Rattle.uring_driver.specs.Driver.{ring_in, due_in, pending, whole_ring}
-use Rattle.uring_driver.specs.Outbox.{Enters, KeepsPending}
-use Rattle.uring_driver.specs.Slot.{KeepsNumbers}
+use Rattle.uring_driver.specs.Uring.{ring_in, due_in, pending, whole_ring}
+use Rattle.uring_driver.specs.Submissions.{Enters, KeepsPending}
+use Rattle.driver_core.specs.Slot.{KeepsNumbers}
 use Rattle.uring_driver.specs.Stands.{Means, Stands}
-use Rattle.uring_driver.specs.Reap.{EndsAt, ReapsAll}
+use Rattle.uring_driver.specs.declared.turn.Named.{Named}
+use Rattle.uring_driver.specs.Reap.{EndsAt, Treated, treat_each, treated_behind, treated_to}
+use Rattle.uring_driver.specs.Lists.{queued_of}
 use Rattle.uring_driver.specs.Submitted.{SameSlots}
-use Rattle.uring_driver.specs.Turned.{StopsFor, TurnsFor, TurnMeets}
+use Rattle.uring_driver.specs.Turned.{StopsFor, TreatsFor, TreatsReady, TurnsFor, TurnsFront, TurnMeets, taken_front}
 use Rattle.uring_driver.specs.Begun.{EnteredFor, HasBegun, why_stopped}
-use Rattle.uring_driver.proofs.Lists.{emptied}
-use Rattle.uring_driver.proofs.Entering.{later-behind, none-pending, still-pending, moves-front}
+use Rattle.driver_core.proofs.Lists.{emptied}
+use Rattle.uring_driver.proofs.Entering.{later-behind, none-pending, still-pending, moves-front, taken-behind}
 use Rattle.uring_driver.proofs.Taking.{means-took-all, means-took-front}
-use Rattle.uring_driver.proofs.Tokens.{tokens-kept}
-use Rattle.uring_driver.proofs.Turns.{turns-none, turns-busy}
+use Rattle.driver_core.proofs.Tokens.{tokens-kept}
+use Rattle.uring_driver.proofs.Turns.{TreatsAll, treats-all, stands-turns}
 
 -- A count that rose and doesn't fall has risen.
-rose-on : (a b c : ℕ) → Rose a b → b ≤ c → Rose a c
-rose-on a b c rose more = omega (arith, rose, more)
+rose-later : (a b c : ℕ) → Rose a b → b ≤ c → Rose a c
+rose-later a b c rose more = omega (arith, rose, more)
+
+-- Nobody was named before.
+pub named-none : {B : Type 0} (named : Named) (all : Treated B) → named.reaped.items ≡ [] → named.woken.items ≡ [] → treated_behind named all ≡ all
+named-none named all reaped woken = ap (λ xs. record all { reaped = xs ++ all.reaped; woken = named.woken.items ++ all.woken }) reaped ∙ ap (λ xs. record all { reaped = [] ++ all.reaped; woken = xs ++ all.woken }) woken
 
 module _ {R B : Type 0} (view : R → RingView) (buffer : B → Buffer) (tells steady : Bool) where
   -- What the enter of a turn did to what was pending.
@@ -37,44 +41,74 @@ module _ {R B : Type 0} (view : R → RingView) (buffer : B → Buffer) (tells s
   enters old mid true enter = enter.0
 
   -- Why a turn stopped, by how its enter went and where its reaps ended.
-  stops : (old mid new : IoUringDriver R B) (turned : Turned) (busy : Bool) (bad : Option Stop) → EnteredFor view tells steady old.ring mid.ring busy →
-      EndsAt (view (ring_in mid)) (view (ring_in new)) new.slots.values bad → KeepsPending view tells mid.ring new.ring → StopsFor view old new turned (why_stopped busy bad)
+  stops : (old mid new : IoUringDriver R B) (turned : Turned) (busy : Bool) (bad : Option ℕ) → EnteredFor view tells steady old.ring mid.ring busy →
+      EndsAt (view (ring_in mid)) (view (ring_in new)) new.slots.values bad → KeepsPending view tells mid.ring new.ring → StopsFor view old new turned (why_stopped bad busy)
   stops old mid new turned false None enter ends same = record {
-    queue = emptied (view (ring_in new)).queue (let taken = ends.0.same_queue ∙ ap length enter.1 in omega (arith, taken));
+    queue = emptied (view (ring_in new)).queue (let taken = ends.same_queue ∙ ap length enter.1 in omega (arith, taken));
     none_due = same.due ∙ enter.2;
-    done = ends.1;
+    done = emptied (view (ring_in new)).done (let fewer = ends.fewer in omega (arith, fewer));
   }
-  stops old mid new turned false (Some RingFault) enter ends same = absurd ends
-  stops old mid new turned false (Some Busy) enter ends same = absurd ends
-  stops old mid new turned false (Some (BadCompletion word)) enter ends same = ends.1
-  stops old mid new turned false (Some OutOfMemory) enter ends same = absurd ends
-  stops old mid new turned true None enter ends same = (rose-on _ _ _ enter.1 ends.0.later.more_busies, ends.1)
-  stops old mid new turned true (Some RingFault) enter ends same = absurd ends
-  stops old mid new turned true (Some Busy) enter ends same = absurd ends
-  stops old mid new turned true (Some (BadCompletion word)) enter ends same = ends.1
-  stops old mid new turned true (Some OutOfMemory) enter ends same = absurd ends
+  stops old mid new turned true None enter ends same = (rose-later _ _ _ enter.1 ends.later.more_busies, emptied (view (ring_in new)).done (let fewer = ends.fewer in omega (arith, fewer)))
+  stops old mid new turned busy (Some word) enter ends same = ends.2
 
-  -- What the turn of a driver that stands for a ledger answers.
-  turns : (old mid new : IoUringDriver R B) (turned : Turned) (busy : Bool) (bad : Option Stop) (reaped0 reaped woken0 woken : _) → EnteredFor view tells steady old.ring mid.ring busy → SameSlots old mid → KeepsPending view tells mid.ring new.ring →
-      (IsTrue tells → (L : Ledger) → Means buffer (whole_ring view mid) mid.slots.values L → ReapsAll buffer L (whole_ring view new) new.slots.values reaped0 reaped woken0 woken bad) →
-      reaped0 ≡ [] → woken0 ≡ [] → new.given ≡ mid.given → new.first ≡ mid.first → new.held ≡ mid.held →
-      turned.reaped ≡ reaped → turned.closed ≡ [] → turned.woken ≡ woken → turned.stop ≡ why_stopped busy bad →
-      IsTrue tells → (L : Ledger) → Stands view buffer old L → TurnsFor view buffer steady L old new turned turned.stop
-  turns old mid new turned false bad reaped0 reaped woken0 woken enter same keeps treats r0 w0 given first held r c w s tells_it L stands =
-      let front = enter.0.told tells_it in
-      let later = later-behind (view (ring_in old)) (view (ring_in mid)) (due_in old) (due_in mid) enter.0.later in
-      let ring : Means buffer (whole_ring view mid) old.slots.values (take_all L) = means-took-all buffer (whole_ring view old) old.slots.values L stands.means (whole_ring view mid) front.count later front.took (none-pending (view (ring_in mid)).queue (due_in mid) enter.1 enter.2) in
-      let means : Means buffer (whole_ring view mid) mid.slots.values (take_all L) = subst (λ x. Means buffer (whole_ring view mid) x (take_all L)) (sym same.slots) ring in
-      turns-none view buffer old new steady L turned reaped0 reaped woken0 woken bad stands (treats tells_it (take_all L) means) r0 w0 r c w s
-      (keeps.room ∙ enter.0.same_room) (none-pending (view (ring_in new)).queue (due_in new) (keeps.queue tells_it ∙ enter.1) (keeps.due ∙ enter.2))
-      (given ∙ same.given) (first ∙ same.first) (held ∙ same.held)
-  turns old mid new turned true bad reaped0 reaped woken0 woken enter same keeps treats r0 w0 given first held r c w s tells_it L stands =
-      let took = enter.0.told tells_it in
-      let later = later-behind (view (ring_in old)) (view (ring_in mid)) (due_in old) (due_in mid) enter.0.later in
-      let front = means-took-front buffer (whole_ring view old) old.slots.values L stands.means (whole_ring view mid) took.count later took.took in
-      let means : Means buffer (whole_ring view mid) mid.slots.values front.0 = subst (λ x. Means buffer (whole_ring view mid) x front.0) (sym same.slots) front.1 in
-      let all = treats tells_it front.0 means in
-      turns-busy view buffer old new steady L turned (s ∙ ap (λ b. Some (unwrap_or b Busy)) all.no_stop) enter.2
+  module _ (old mid new : IoUringDriver R B) (turned : Turned) (same : SameSlots old mid) (keeps : KeepsPending view tells mid.ring new.ring) where
+    -- Where the completions that were ready have come to.
+    abbrev Ready : Option ℕ → Type 0
+    Ready bad = treat_each mid.slots.values (view (ring_in mid)).done ≡ record { slots = new.slots.values; reaped = turned.reaped; woken = turned.woken; bad = bad; left = (view (ring_in new)).done }
+
+    -- What was treated, over a ring that shows its lists.
+    treats-ready : (bad : Option ℕ) → Enters view tells old.ring mid.ring → IsTrue tells → Ready bad → TreatsReady view old new turned bad
+    treats-ready bad enter shows ready = record { mid = whole_ring view mid; front = enter.told shows; treated = ap (λ m. treat_each m (view (ring_in mid)).done) (sym same.slots) ∙ ready }
+
+    treats-for : (busy : Bool) (bad : Option ℕ) → EnteredFor view tells steady old.ring mid.ring busy → IsTrue tells → Ready bad → TreatsFor view old new turned (why_stopped bad busy)
+    treats-for false None enter shows ready = treats-ready None enter.0 shows ready
+    treats-for true None enter shows ready = treats-ready None enter.0 shows ready
+    treats-for busy (Some word) enter shows ready = treats-ready (Some word) (enters old mid busy enter) shows ready
+
+    -- Over a ledger that the ring and the slots meant once it was entered, all was treated.
+    all-treated : (bad : Option ℕ) (M : Ledger) → IsTrue tells → Ready bad → Means buffer (whole_ring view mid) mid.slots.values M → TreatsAll buffer M (whole_ring view new) (record { slots = new.slots.values; reaped = turned.reaped; woken = turned.woken; bad = bad; left = (view (ring_in new)).done })
+    all-treated bad M shows ready means =
+        let all = subst (λ x. TreatsAll buffer M (with_done (whole_ring view mid) []) x) ready (treats-all buffer (view (ring_in mid)).done (whole_ring view mid) mid.slots.values M means refl) in
+        let ring : whole_ring view new ≡ with_done (whole_ring view mid) [] = taken-behind view mid.ring new.ring [] (keeps.ring shows ∙ ap (with_done (view (ring_in mid))) all.none_left) keeps.due in
+        subst (λ v. TreatsAll buffer M v (record { slots = new.slots.values; reaped = turned.reaped; woken = turned.woken; bad = bad; left = (view (ring_in new)).done })) (sym ring) all
+
+    module _ (closed : turned.closed ≡ []) (given : new.given ≡ mid.given) (first : new.first ≡ mid.first) (held : new.held ≡ mid.held) (shows : IsTrue tells) (L : Ledger) (stands : Stands view buffer old L) where
+      -- The ledger once all that was pending is taken, and once a prefix of it is.
+      means-all : EnteredFor view tells steady old.ring mid.ring false → Means buffer (whole_ring view mid) mid.slots.values (take_all L)
+      means-all enter =
+          let front = enter.0.told shows in
+          let later = later-behind (view (ring_in old)) (view (ring_in mid)) (due_in old) (due_in mid) enter.0.later in
+          subst (λ x. Means buffer (whole_ring view mid) x (take_all L)) (sym same.slots)
+          (means-took-all buffer (whole_ring view old) old.slots.values L stands.means (whole_ring view mid) front.count later front.took (none-pending (view (ring_in mid)).queue (due_in mid) enter.1 enter.2))
+
+      turns-front : (enter : Enters view tells old.ring mid.ring) → Ready None → TurnsFront view buffer L new turned
+      turns-front enter ready =
+          let took = enter.told shows in
+          let later = later-behind (view (ring_in old)) (view (ring_in mid)) (due_in old) (due_in mid) enter.later in
+          let front = means-took-front buffer (whole_ring view old) old.slots.values L stands.means (whole_ring view mid) took.count later took.took in
+          let all = all-treated None (taken_front took.count L) shows ready (subst (λ x. Means buffer (whole_ring view mid) x (taken_front took.count L)) (sym same.slots) front) in
+          record {
+            count = took.count;
+            within = (let w = took.took.within in let l = ap length stands.means.in_lists.queue ∙ length-map (whole_ring view old).queue queued_of in omega (arith, w, l));
+            reaped = all.named;
+            woken = all.woken;
+            means = all.means;
+          }
+
+      -- What the turn of a driver that stands for a ledger answers.
+      turns : (busy : Bool) (bad : Option ℕ) → EnteredFor view tells steady old.ring mid.ring busy → Ready bad → TurnsFor view buffer steady L old new turned (why_stopped bad busy)
+      turns false None enter ready = stands-turns view buffer old new L (record { slots = new.slots.values; reaped = turned.reaped; woken = turned.woken; bad = None; left = (view (ring_in new)).done }) turned.closed stands
+          (all-treated None (take_all L) shows ready (means-all enter)) refl closed
+          (keeps.room ∙ enter.0.same_room) (none-pending (view (ring_in new)).queue (due_in new) (ap (λ v. v.queue) (keeps.ring shows) ∙ enter.1) (keeps.due ∙ enter.2))
+          (given ∙ same.given) (first ∙ same.first) (held ∙ same.held)
+      turns true None enter ready = (enter.2, turns-front enter.0 ready)
+      turns false (Some word) enter ready = (let all = all-treated (Some word) (take_all L) shows ready (means-all enter) in let z = all.no_bad in cc)
+      turns true (Some word) enter ready = (
+          let took = enter.0.told shows in
+          let later = later-behind (view (ring_in old)) (view (ring_in mid)) (due_in old) (due_in mid) enter.0.later in
+          let front = means-took-front buffer (whole_ring view old) old.slots.values L stands.means (whole_ring view mid) took.count later took.took in
+          let all = all-treated (Some word) (taken_front took.count L) shows ready (subst (λ x. Means buffer (whole_ring view mid) x (taken_front took.count L)) (sym same.slots) front) in
+          let z = all.no_bad in cc)
 
   -- Over a steady ring nothing becomes due.
   none-due : (old mid new : IoUringDriver R B) (busy : Bool) → EnteredFor view tells steady old.ring mid.ring busy → KeepsPending view tells mid.ring new.ring → IsTrue steady → due_in new ≡ []
@@ -82,17 +116,25 @@ module _ {R B : Type 0} (view : R → RingView) (buffer : B → Buffer) (tells s
   none-due old mid new true enter keeps is_steady = absurd (enter.2 is_steady)
 
   -- What was begun, and then treated, is a whole turn.
-  pub whole : (old mid new : IoUringDriver R B) (begun : Begun) (turned : Turned) (bad : Option Stop) (reaped woken : _) → HasBegun view tells steady old mid begun →
+  pub whole : (old mid new : IoUringDriver R B) (begun : Begun) (turned : Turned) (bad : Option ℕ) (named : Named) → HasBegun view tells steady old mid begun →
       KeepsNumbers mid.slots.values new.slots.values → EndsAt (view (ring_in mid)) (view (ring_in new)) new.slots.values bad → KeepsPending view tells mid.ring new.ring →
-      (IsTrue tells → (L : Ledger) → Means buffer (whole_ring view mid) mid.slots.values L → ReapsAll buffer L (whole_ring view new) new.slots.values begun.reaped.items reaped begun.woken.items woken bad) →
+      (IsTrue tells → treated_behind begun.named (treat_each mid.slots.values (view (ring_in mid)).done) ≡ treated_to new.slots.values named bad (view (ring_in new)).done) →
       new.given ≡ mid.given → new.first ≡ mid.first → new.held ≡ mid.held →
-      turned.reaped ≡ reaped → turned.closed ≡ [] → turned.woken ≡ woken → turned.stop ≡ why_stopped begun.busy bad →
+      turned.reaped ≡ named.reaped.items → turned.closed ≡ [] → turned.woken ≡ named.woken.items → turned.stop ≡ why_stopped bad begun.busy →
       TurnMeets view buffer tells steady old new turned
-  whole old mid new begun turned bad reaped woken has numbers ends keeps treats given first held r c w s = record {
-    turns = turns old mid new turned begun.busy bad begun.reaped.items reaped begun.woken.items woken has.entered has.same keeps treats has.none_reaped has.none_woken given first held r c w s;
-    stops = subst (λ stop. StopsFor view old new turned stop) (sym s) (stops old mid new turned begun.busy bad has.entered ends keeps);
-    moves = λ tells_it. moves-front (whole_ring view old) (whole_ring view mid) (pending view new) ((enters old mid begun.busy has.entered).told tells_it) (still-pending view tells mid.ring new.ring keeps tells_it);
-    none_due = λ is_steady none. none-due old mid new begun.busy has.entered keeps is_steady;
-    tokens = tokens-kept old.slots.values new.slots.values (subst (λ slots. KeepsNumbers slots new.slots.values) has.same.slots numbers);
-    given = given ∙ has.same.given;
-  }
+  whole old mid new begun turned bad named has numbers ends keeps treats given first held r c w s =
+      let done = (view (ring_in new)).done in
+      let ready : IsTrue tells → Ready old mid new turned has.same keeps bad = λ shows.
+      sym (named-none begun.named (treat_each mid.slots.values (view (ring_in mid)).done) has.none_reaped has.none_woken) ∙ treats shows
+      ∙ ap (λ xs. record { slots = new.slots.values; reaped = xs; woken = named.woken.items; bad = bad; left = done }) (sym r)
+      ∙ ap (λ xs. record { slots = new.slots.values; reaped = turned.reaped; woken = xs; bad = bad; left = done }) (sym w) in
+      record {
+        turns = λ shows L stands. subst (λ stop. TurnsFor view buffer steady L old new turned stop) (sym s) (turns old mid new turned has.same keeps c given first held shows L stands begun.busy bad has.entered (ready shows));
+        stops = subst (λ stop. StopsFor view old new turned stop) (sym s) (stops old mid new turned begun.busy bad has.entered ends keeps);
+        treats = λ shows. subst (λ stop. TreatsFor view old new turned stop) (sym s) (treats-for old mid new turned has.same keeps begun.busy bad has.entered shows (ready shows));
+        closed = c;
+        moves = λ shows. moves-front (whole_ring view old) (whole_ring view mid) (pending view new) ((enters old mid begun.busy has.entered).told shows) (still-pending view tells mid.ring new.ring keeps shows);
+        none_due = λ is_steady none. none-due old mid new begun.busy has.entered keeps is_steady;
+        tokens = tokens-kept old.slots.values new.slots.values (subst (λ slots. KeepsNumbers slots new.slots.values) has.same.slots numbers);
+        given = given ∙ has.same.given;
+      }

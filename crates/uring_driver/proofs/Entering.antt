@@ -9,18 +9,18 @@ use Rattle.ring_core.specs.declared.entry.Flight.{Flight}
 use Rattle.ring_core.specs.declared.entry.Completion.{Completion}
 use Rattle.ring_core.specs.declared.ring.EnterError.{EnterError}
 use Rattle.ring_core.specs.declared.ring.EnterError.TheVariants.{Fault, Busy}
-use Rattle.ring_core.specs.Ring.{RingView, IsLater, TookFront, EntersFor, IsPushed, entered, pushed, with_done, flying_with, flying_after, done_with, done_after}
+use Rattle.ring_core.specs.Ring.{RingView, IsLater, TookFront, EntersFor, IsPushed, entered, pushed, with_done, flying_after_entry, flying_after, done_after_entry, done_after}
 use Rattle.uring_driver.specs.Pending.{Pending}
-use Rattle.uring_driver.specs.Outbox.{with_spare, with_due, room_made, pending_ring, TakesFront, Enters, KeptOut, JoinsCancel, PendingMoves, KeepsPending}
+use Rattle.uring_driver.specs.Submissions.{with_spare, with_due, room_made, pending_ring, TakesFront, Enters, KeptOut, JoinsCancel, PendingMoves, KeepsPending}
 
 -- What is taken in two parts is taken in one.
 flying-joined : (flying : List Flight) (xs ys : List Entry) → flying_after flying (xs ++ ys) ≡ flying_after (flying_after flying xs) ys
 flying-joined flying [] ys = refl
-flying-joined flying (x ∷ xs) ys = flying-joined (flying_with flying x x.body) xs ys
+flying-joined flying (x ∷ xs) ys = flying-joined (flying_after_entry flying x x.body) xs ys
 
 done-joined : (done : List Completion) (xs ys : List Entry) → done_after done (xs ++ ys) ≡ done_after (done_after done xs) ys
 done-joined done [] ys = refl
-done-joined done (x ∷ xs) ys = done-joined (done_with done x x.body) xs ys
+done-joined done (x ∷ xs) ys = done-joined (done_after_entry done x x.body) xs ys
 
 drop-more : {A : Type 0} (m n : ℕ) (xs : List A) → drop n (drop m xs) ≡ drop (m + n) xs
 drop-more {A} zero n xs = ap (λ k. drop k xs) (let z : n ≡ 0 + n = omega arith in z)
@@ -211,16 +211,6 @@ module _ {R : Type 0} (view : R → RingView) (tells : Bool) where
       let y = g (let n = x.0 in let l = later.same_capacity in omega (arith, n, l, fits)) in
       (y.0 ∙ x.0, λ t. same-pending view tells a b c (x.1 t) (y.1 t))
 
-  -- Where no room was reserved nothing joins.
-  pub joins-none : (steady : Bool) (old : Pending R) (entry : Entry) → old.room ≡ 0 → JoinsCancel view tells steady old old entry
-  joins-none steady old entry h = record {
-    later = later-same (view old.ring) (view old.ring).spare;
-    none = λ z. refl;
-    room = λ some. absurd (omega (arith, h, some));
-    told = λ some t. absurd (omega (arith, h, some));
-    exact = λ some s f. absurd (omega (arith, h, some));
-  }
-
   module _ (steady : Bool) (old mid new : Pending R) (entry : Entry) (steady_tells : IsTrue steady → IsTrue tells) (enters : Enters view tells old mid)
       (told : IsTrue tells → pending_ring view new ≡ with_spare (pushed (pending_ring view mid) entry) (view new.ring).spare) (later : IsLater (view mid.ring) (view new.ring))
       (due : mid.due ≡ [] → length (view mid.ring).queue < (view mid.ring).capacity → new.due ≡ []) where
@@ -240,7 +230,6 @@ module _ {R : Type 0} (view : R → RingView) (tells : Bool) where
         new.room + 1 ≡ mid.room → 0 < old.room → JoinsCancel view tells steady old new entry
     joins result none room pend kept less some = record {
       later = later-on (view old.ring) (view mid.ring) (view new.ring) enters.later later;
-      none = λ z. absurd (omega (arith, z, some));
       room = λ h. less ∙ enters.same_room;
       told = λ h t. (pending_ring view mid, enters.told t, told t);
       exact = λ h s fits. exactly result none room pend kept s fits;
@@ -279,10 +268,10 @@ fits-joined queue due capacity h = (let l = length-append queue due in omega (ar
 
 -- What is pending is the same where the ring keeps its queue.
 pub still-pending : {R : Type 0} (view : R → RingView) (tells : Bool) (old new : Pending R) → KeepsPending view tells old new → IsTrue tells → (pending_ring view new).queue ≡ (pending_ring view old).queue
-still-pending view tells old new k t = ap (λ q. q ++ new.due) (k.queue t) ∙ ap (λ xs. (view old.ring).queue ++ xs) k.due
+still-pending view tells old new k t = ap (λ v. v.queue ++ new.due) (k.ring t) ∙ ap (λ xs. (view old.ring).queue ++ xs) k.due
 
 pub keeps-pending : {R : Type 0} (view : R → RingView) (tells : Bool) (a b c : Pending R) → KeepsPending view tells a b → KeepsPending view tells b c → KeepsPending view tells a c
-keeps-pending view tells a b c f g = record { due = g.due ∙ f.due; room = g.room ∙ f.room; queue = λ t. g.queue t ∙ f.queue t }
+keeps-pending view tells a b c f g = record { due = g.due ∙ f.due; room = g.room ∙ f.room; ring = λ t. g.ring t ∙ ap (λ v. with_done v (view c.ring).done) (f.ring t) }
 
 -- A completion is taken off, behind which all that is pending stays.
 pub taken-behind : {R : Type 0} (view : R → RingView) (old new : Pending R) (rest : List Completion) → view new.ring ≡ with_done (view old.ring) rest → new.due ≡ old.due → pending_ring view new ≡ with_done (pending_ring view old) rest

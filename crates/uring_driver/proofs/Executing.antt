@@ -5,38 +5,88 @@ use Rattle.std.specs.Ordering.{nat_cmp}
 use Rattle.std.specs.FinMap.{FinMap, get, insert}
 use Rattle.std.proofs.lemmas.List.{map-append}
 use Rattle.rent_buf.specs.Buffer.{Buffer}
+use Rattle.rent_buf.specs.Parts.{Parts}
 use Rattle.ring_core.specs.Ring.{RingView}
 use Rattle.ring_core.specs.Lists.{amended}
 use Rattle.ring_core.specs.MemRing.{IsFinished, body_effect}
 use Rattle.ring_core.specs.Outcome.{is_allowed}
 use Rattle.ring_core.specs.Effect.{Effect, effect}
-use Rattle.ring_core.specs.Request.{call_of, sent_of, with_buffer, buffer_of}
+use Rattle.ring_core.specs.Payloads.{comes, body_comes, StoresIf}
+use Rattle.ring_core.specs.Request.{call_of, sent_of, plain_request, room_of, held, held_of, held_after, IsHolding}
 use Rattle.ring_core.specs.declared.entry.Entry.{Entry}
 use Rattle.ring_core.specs.declared.entry.Flight.{Flight}
 use Rattle.ring_core.specs.declared.entry.Completion.{Completion}
+use Rattle.ring_core.specs.declared.request.Request.{Request}
 use Rattle.ring_core.specs.declared.request.Told.{Told}
 use Rattle.ring_core.specs.declared.request.Outcome.{Outcome}
 use Rattle.ring_core.specs.Ledger.{Ledger, Operation, Place, InQueue, InFlight, InDone, Op, is_live, is_kept}
-use Rattle.ring_core.specs.Turn.{held, with_result, with_effect, complete_at}
+use Rattle.ring_core.specs.Turn.{with_result, with_effect, complete_at}
 use Rattle.ring_core.proofs.Amended.{get-amended-same, get-amended-other}
-use Rattle.uring_driver.specs.declared.slot.Slot.{Slot}
-use Rattle.uring_driver.specs.Slot.{room_of, filled_by, IsFilled, FillsSlot}
-use Rattle.uring_driver.specs.Slots.{SlotFor, SlotsStand, life_of}
+use Rattle.ring_core.proofs.Requests.{holding-own, held-comes, held-stays, got-fits}
+use Rattle.driver_core.specs.declared.slot.Slot.{Slot}
+use Rattle.driver_core.specs.Ops.{Ops}
+use Rattle.driver_core.specs.Slot.{KeepsNumbers}
+use Rattle.driver_core.specs.Slots.{SlotFor, SlotsStand, life_of}
+use Rattle.driver_core.specs.Operations.{StoresAt}
 use Rattle.uring_driver.specs.Lists.{EntryFor, CompletionFor, IsAt, IsFlown, ListsStand, queued_of, item_of, done_item_of, is_reserved, kept as unreserved}
 use Rattle.uring_driver.specs.Stands.{Means}
-use Rattle.uring_driver.proofs.Lists.{some, skip, skip-not, skip-one, get-removed, map-removed, get-pushed}
-use Rattle.uring_driver.proofs.Maps.{put-same}
-use Rattle.uring_driver.proofs.Slots.{slots-replaced, other-slot}
+use Rattle.driver_core.proofs.Lists.{some, skip, skip-not, skip-one, get-removed, map-removed, get-pushed}
+use Rattle.driver_core.proofs.Maps.{put-same, put-self}
+use Rattle.driver_core.proofs.Slots.{slots-replaced, other-slot}
 use Rattle.uring_driver.proofs.Kept.{queued-kept, kept-pushed, not-reserved}
-use Rattle.uring_driver.proofs.Flights.{o, s, slot-there, n-is, there-s, which, flies, request-is, life-is, allows-is, here, filled-held, filled-back, got-fits}
+use Rattle.uring_driver.proofs.Flights.{o, s, slot-there, n-is, there-s, which, flies, request-is, life-is, allows-is, comes-is, here}
 
+-- An operation that was executed keeps its stage of life.
 done-life : (b : Bool) (r : Outcome) (t : Option ℕ) → life_of b InFlight t ≡ life_of b (InDone r) t
 done-life true r t = refl
 done-life false r t = refl
 
-module _ {B : Type 0} (buffer : B → Buffer) (v : RingView) (slots slots' : FinMap nat_cmp (Slot B)) (L : Ledger) (place : ℕ) (told : Told) (sent : List ℕ) (v' : RingView) (got : List ℕ) (c : Completion)
-    (old : Means buffer v slots L) (fin : IsFinished v place told sent v' got c) (fills : FillsSlot buffer slots c.word told got slots')
-    (eff : body_effect v.world fin.flight.entry.body sent told ≡ effect L.world (call_of (o buffer v slots L place fin.flight old fin.there).request) (sent_of (o buffer v slots L place fin.flight old fin.there).request) told) where
+-- A slot after its operation was executed: its request holds what the outcome leaves, and nothing else of it changed.
+record IsExecutedSlot {B : Type 0} (buffer : B → Buffer) (before after : FinMap nat_cmp (Slot B)) (key : ℕ) (r : Request Buffer Parts) (told : Told) (got : List ℕ) (old : Slot B) : Type 0 where
+  now : Slot B
+  changed : after ≡ insert before key now
+  serial : now.serial ≡ old.serial
+  life : now.life ≡ old.life
+  request : IsHolding r (held r told got) (plain_request buffer now.request)
+
+-- What an execution stores, where bytes come, is what its outcome leaves.
+executed-slot : {B : Type 0} (buffer : B → Buffer) (before after : Ops B) (key : ℕ) (r : Request Buffer Parts) (told : Told) (got : List ℕ) (slot : Slot B) →
+    get before.slots.values key ≡ Some slot → plain_request buffer slot.request ≡ r → length got ≤ room_of r →
+    (b : Bool) → comes (call_of r) told ≡ b → StoresIf (StoresAt buffer) b before key got after →
+    IsExecutedSlot buffer before.slots.values after.slots.values key r told got slot
+executed-slot buffer before after key r told got slot there is fits true brings stored =
+    let filled = stored.fills slot there (subst (λ x. length got ≤ room_of x) (sym is) fits) in
+    record {
+      now = filled.after;
+      changed = filled.slots;
+      serial = filled.serial;
+      life = filled.life;
+      request = subst (λ h. IsHolding r h (plain_request buffer filled.after.request)) (sym (held-comes r told got brings))
+          (subst (λ x. IsHolding x (held_after x got) (plain_request buffer filled.after.request)) is filled.request);
+    }
+executed-slot buffer before after key r told got slot there is fits false brings same = record {
+  now = slot;
+  changed = ap (λ x. x.slots.values) same ∙ sym (put-self before.slots.values key slot there);
+  serial = refl;
+  life = refl;
+  request = subst (λ h. IsHolding r h (plain_request buffer slot.request)) (sym (held-stays r told got brings)) (subst (λ x. IsHolding r (held_of r) x) (sym is) (holding-own r));
+}
+
+-- An execution changes no number, and gives none.
+pub executed-numbers : {B : Type 0} (buffer : B → Buffer) (before after : Ops B) (key : ℕ) (got : List ℕ) (b : Bool) → StoresIf (StoresAt buffer) b before key got after →
+    KeepsNumbers before.slots.values after.slots.values × (after.given ≡ before.given)
+executed-numbers buffer before after key got true stored = (stored.numbers, stored.given)
+executed-numbers buffer before after key got false same = (subst (λ x. KeepsNumbers before.slots.values x.slots.values) (sym same) (λ k. refl), ap (λ x. x.given) same)
+
+module _ {B : Type 0} (buffer : B → Buffer) (v : RingView) (before after : Ops B) (L : Ledger) (place : ℕ) (told : Told) (sent : List ℕ) (v' : RingView) (got : List ℕ) (c : Completion)
+    (old : Means buffer v before.slots.values L) (fin : IsFinished v place told sent v' got c) (stores : StoresIf (StoresAt buffer) (body_comes fin.flight.entry.body told) before c.word got after)
+    (eff : body_effect v.world fin.flight.entry.body sent told ≡ effect L.world (call_of (o buffer v before.slots.values L place fin.flight old fin.there).request) (sent_of (o buffer v before.slots.values L place fin.flight old fin.there).request) told) where
+  abbrev slots : FinMap nat_cmp (Slot B)
+  slots = before.slots.values
+
+  abbrev slots' : FinMap nat_cmp (Slot B)
+  slots' = after.slots.values
+
   abbrev n : ℕ
   n = fin.flight.entry.serial
 
@@ -70,14 +120,15 @@ module _ {B : Type 0} (buffer : B → Buffer) (v : RingView) (slots slots' : Fin
   got-is : got ≡ result.got
   got-is = fin.bytes ∙ ap (λ x. x.got) eff
 
-  stored-is : IsFilled buffer slots c.word told got slots' slot
+  stored-is : IsExecutedSlot buffer slots slots' c.word op.request told got slot
   stored-is =
       let allows : is_allowed L.world op.canceled (call_of op.request) told ≡ true = sym (allows-is buffer v slots L place fin.flight old fin.there told) ∙ fin.allows in
       let fit : length got ≤ room_of op.request = subst (λ x. length x ≤ room_of op.request) (sym got-is) (got-fits L.world op.canceled op.request told (sent_of op.request) allows) in
-      fills slot (ap (get slots) word ∙ slot-there buffer v slots L place fin.flight old fin.there) (subst (λ r. length got ≤ room_of r) (sym (request-is buffer v slots L place fin.flight old fin.there)) fit)
+      executed-slot buffer before after c.word op.request told got slot (ap (get slots) word ∙ slot-there buffer v slots L place fin.flight old fin.there) (request-is buffer v slots L place fin.flight old fin.there) fit
+      (body_comes fin.flight.entry.body told) (comes-is buffer v slots L place fin.flight old fin.there told) stores
 
   abbrev t : Slot B
-  t = stored-is.after
+  t = stored-is.now
 
   lives : is_live (f op) ≡ is_live op
   lives = sym (ap is_kept (flies buffer v slots L place fin.flight old fin.there))
@@ -88,8 +139,7 @@ module _ {B : Type 0} (buffer : B → Buffer) (v : RingView) (slots slots' : Fin
     operation = f op;
     there = ap (slice_get (amended L.ops slot.serial f)) stored-is.serial ∙ get-amended-same f L.ops slot.serial op (there-s buffer v slots L place fin.flight old fin.there);
     live = refl;
-    request = stored-is.request ∙ ap (λ r. filled_by told r got) (request-is buffer v slots L place fin.flight old fin.there) ∙ filled-held op.request told got ∙ ap (λ x. with_buffer op.request (held op.request told x)) got-is;
-    held = ap buffer_of stored-is.request ∙ ap (λ r. buffer_of (filled_by told r got)) (request-is buffer v slots L place fin.flight old fin.there) ∙ filled-back op.request told got ∙ ap (held op.request told) got-is;
+    request = subst (λ x. IsHolding op.request (held op.request told x) (plain_request buffer t.request)) got-is stored-is.request;
     life = stored-is.life ∙ life-is buffer v slots L place fin.flight old fin.there ∙ done-life op.dropped result.outcome op.task;
     fresh = λ h. (let z : false ≡ true = h in cc);
     uncanceled = λ h. cc;
@@ -99,14 +149,14 @@ module _ {B : Type 0} (buffer : B → Buffer) (v : RingView) (slots slots' : Fin
   unfolding stored-is
   slots-stand =
       let a = slots-replaced buffer slots L.ops fin.flight.entry.word slot t f op old.in_slots (slot-there buffer v slots L place fin.flight old fin.there) stored-is.serial (there-s buffer v slots L place fin.flight old fin.there) lives fits-t in
-      subst (λ x. SlotsStand buffer x ops') (sym (stored-is.slots ∙ ap (λ k. insert slots k t) word)) (subst (λ x. SlotsStand buffer (insert slots fin.flight.entry.word t) (amended L.ops x f)) (n-is buffer v slots L place fin.flight old fin.there) a)
+      subst (λ x. SlotsStand buffer x ops') (sym (stored-is.changed ∙ ap (λ k. insert slots k t) word)) (subst (λ x. SlotsStand buffer (insert slots fin.flight.entry.word t) (amended L.ops x f)) (n-is buffer v slots L place fin.flight old fin.there) a)
 
   -- The slots of other numbers are kept.
   slot-kept : (k : ℕ) (u : Slot B) → get slots k ≡ Some u → u.serial ≢ n → get slots' k ≡ Some u
   unfolding stored-is
   slot-kept k u h q =
       let a = other-slot buffer slots L.ops fin.flight.entry.word slot t f op old.in_slots (slot-there buffer v slots L place fin.flight old fin.there) stored-is.serial (there-s buffer v slots L place fin.flight old fin.there) lives fits-t k u h (λ r. q (r ∙ n-is buffer v slots L place fin.flight old fin.there)) in
-      ap (λ m. get m k) (stored-is.slots ∙ ap (λ x. insert slots x t) word) ∙ a
+      ap (λ m. get m k) (stored-is.changed ∙ ap (λ x. insert slots x t) word) ∙ a
 
   at-kept : (m : ℕ) (p : Place) → IsAt L.ops m p → m ≢ n → IsAt ops' m p
   at-kept m p a q = record { operation = a.operation; there = get-amended-other f L.ops n m q ∙ a.there; stays = a.stays }
@@ -132,7 +182,7 @@ module _ {B : Type 0} (buffer : B → Buffer) (v : RingView) (slots slots' : Fin
   unfolding stored-is
   new-completion = record {
     slot = t;
-    there = ap (λ m. get m c.word) stored-is.slots ∙ put-same slots c.word t;
+    there = ap (λ m. get m c.word) stored-is.changed ∙ put-same slots c.word t;
     serial = stored-is.serial ∙ n-is buffer v slots L place fin.flight old fin.there ∙ sym serial;
   }
 
@@ -193,7 +243,7 @@ module _ {B : Type 0} (buffer : B → Buffer) (v : RingView) (slots slots' : Fin
         };
       }
 
-  pub means-executed : Means buffer v' slots' (with_effect (complete_at L place (Op fin.flight.entry.serial)) fin.flight.entry.serial told (effect L.world (call_of (o buffer v slots L place fin.flight old fin.there).request) (sent_of (o buffer v slots L place fin.flight old fin.there).request) told))
+  pub means-executed : Means buffer v' after.slots.values (with_effect (complete_at L place (Op fin.flight.entry.serial)) fin.flight.entry.serial told (effect L.world (call_of (o buffer v before.slots.values L place fin.flight old fin.there).request) (sent_of (o buffer v before.slots.values L place fin.flight old fin.there).request) told))
   means-executed = record {
     capacity = ap (λ x. x.capacity) fin.ring ∙ old.capacity;
     world = ap (λ x. x.world) fin.ring ∙ ap (λ x. x.world) eff;

@@ -4,8 +4,8 @@ use Rattle.std.specs.Prelude.{nat_lt, nat_le, ◌&&◌, ◌==◌, if◌then◌el
 use Rattle.std.proofs.lemmas.Bool.Decides.{nat_tests}
 use Rattle.ring_core.specs.Ledger.{Ledger, user_holds}
 use Rattle.ring_core.specs.Refusal.{lacks_handle}
-use Rattle.uring_driver.specs.declared.driver.IoUringDriver.{IoUringDriver}
-use Rattle.uring_driver.specs.Driver.{is_among, first_with, holds_handle, holds_all}
+use Rattle.uring_driver.specs.declared.uring.IoUringDriver.{IoUringDriver}
+use Rattle.uring_driver.specs.Uring.{is_among, first_with, holds_handle, holds_all}
 
 -- No handle was given.
 pub none-among : (h : ℕ) → is_among 0 0 h ≡ nat_lt h 0

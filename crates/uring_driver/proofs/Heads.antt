@@ -9,7 +9,7 @@ use Rattle.ring_core.specs.declared.entry.Body.TheVariants.{Cancel as Cancels}
 use Rattle.ring_core.specs.declared.entry.Entry.{Entry}
 use Rattle.ring_core.specs.declared.entry.Flight.{Flight}
 use Rattle.ring_core.specs.Ledger.{Ledger}
-use Rattle.uring_driver.specs.declared.slot.Slot.{Slot}
+use Rattle.driver_core.specs.declared.slot.Slot.{Slot}
 use Rattle.uring_driver.specs.Lists.{Meets, CancelsMean, ListsStand}
 use Rattle.uring_driver.specs.Stands.{Means}
 

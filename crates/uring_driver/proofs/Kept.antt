@@ -3,7 +3,6 @@ use Rattle.std.proofs.Common.{◌≡◌, ℕ, Bool, true, false, List, [], ◌�
 use Rattle.std.specs.Prelude.{slice_get}
 use Rattle.std.specs.Ordering.{nat_cmp}
 use Rattle.std.specs.FinMap.{FinMap, get}
-use Rattle.std.proofs.lemmas.Bool.Decides.{nat_tests}
 use Rattle.rent_buf.specs.Buffer.{Buffer}
 use Rattle.ring_core.specs.Ring.{RingView}
 use Rattle.ring_core.specs.Request.{call_of, plain_request}
@@ -13,8 +12,10 @@ use Rattle.ring_core.specs.declared.entry.Entry.{Entry}
 use Rattle.ring_core.specs.declared.entry.Completion.{Completion}
 use Rattle.ring_core.specs.declared.entry.Flight.{Flight}
 use Rattle.ring_core.specs.Ledger.{Ledger, Operation, Place, InQueue, InFlight, InDone}
-use Rattle.uring_driver.specs.declared.slot.Slot.{Slot}
-use Rattle.uring_driver.specs.Lists.{EntryFor, CompletionFor, IsAt, IsFlown, QueuedFor, ListsStand, is_call, is_reserved, kept, kept_unless}
+use Rattle.driver_core.specs.declared.slot.Slot.{Slot}
+use Rattle.uring_driver.specs.Lists.{EntryFor, CompletionFor, IsAt, IsFlown, QueuedFor, ListsStand, is_call, names_no_slot, is_reserved, kept, kept_unless}
+use Rattle.ring_core.specs.declared.entry.TheConstants.{CANCEL_WORD}
+use Rattle.ring_core.proofs.Targets.{target-slot}
 
 -- What a call in the queue is.
 pub call-queued : {B : Type 0} (buffer : B → Buffer) (slots : FinMap nat_cmp (Slot B)) (ops : List Operation) (e : Entry) (b : Body) → QueuedFor buffer slots ops e b → is_call b ≡ true → EntryFor buffer slots e × IsAt ops e.serial InQueue
@@ -22,7 +23,7 @@ call-queued buffer slots ops e (Calls call) q h = q
 call-queued buffer slots ops e (Cancels key) q h = (let f : ⊥ = cc in absurd f)
 
 -- The word of a cancel in the queue.
-pub cancel-queued : {B : Type 0} (buffer : B → Buffer) (slots : FinMap nat_cmp (Slot B)) (ops : List Operation) (e : Entry) (b : Body) → QueuedFor buffer slots ops e b → (key : ℕ) → b ≡ Cancels key → e.word ≡ 18446744073709551615
+pub cancel-queued : {B : Type 0} (buffer : B → Buffer) (slots : FinMap nat_cmp (Slot B)) (ops : List Operation) (e : Entry) (b : Body) → QueuedFor buffer slots ops e b → (key : ℕ) → b ≡ Cancels key → e.word ≡ CANCEL_WORD
 cancel-queued buffer slots ops e (Calls call) q key h = (let f : ⊥ = cc in absurd f)
 cancel-queued buffer slots ops e (Cancels k) q key h = q
 
@@ -37,7 +38,7 @@ flown-at ops f a = record { operation = a.operation; there = a.there; stays = a.
 
 -- A key is no reserved word.
 pub not-reserved : (key : ℕ) → key < 4294967232 → is_reserved key ≡ false
-not-reserved key h = grind (arith, nat_tests)
+not-reserved key h = ap names_no_slot (target-slot key (omega (arith, h)))
 
 unless-joined : (b : Bool) (c : Completion) (xs ys : List Completion) → kept_unless b c (xs ++ ys) ≡ kept_unless b c xs ++ ys
 unless-joined true c xs ys = refl
@@ -52,8 +53,8 @@ pub kept-pushed : (xs : List Completion) (c : Completion) → is_reserved c.word
 kept-pushed xs c h = kept-joined xs (c ∷ []) ∙ ap (λ b. kept xs ++ kept_unless b c []) h
 
 -- A cancel's word is reserved.
-pub cancel-reserved : (word : ℕ) → word ≡ 18446744073709551615 → is_reserved word ≡ true
-cancel-reserved word h = grind (arith, nat_tests)
+pub cancel-reserved : (word : ℕ) → word ≡ CANCEL_WORD → is_reserved word ≡ true
+cancel-reserved word h = ap is_reserved h
 
 -- A completion that is reserved isn't kept.
 pub kept-reserved : (xs : List Completion) (c : Completion) → is_reserved c.word ≡ true → kept (xs ++ c ∷ []) ≡ kept xs

@@ -1,10 +1,4 @@
 mod Entering
-mod Lists
-mod Maps
-mod Numbers
-mod Completing
-mod Counts
-pub mod Slots
 mod Kept
 pub mod Steps
 mod Changing
@@ -14,13 +8,10 @@ mod TakingCancels
 mod Taking
 mod Reaping
 mod Turns
-mod Owned
 mod Polling
-mod Tokens
 mod Flights
 mod Executing
 mod Executions
-mod Filling
 mod Handles
 mod Arrivals
 mod Starting
@@ -29,3 +20,5 @@ mod Submits
 mod Ending
 mod Dropping
 mod Drops
+mod Sound
+pub mod Parks

@@ -1,14 +1,15 @@
 -- What a poll of a live slot does to a driver that stands for a ledger, and to its tokens.
 use Rattle.std.proofs.Common.{◌≡◌, ◌≤◌, ℕ, true, [], ◌∷◌, ◌++◌, Option, Some, None, refl, sym, ◌∙◌, ap, subst, length, arith}
+use Rattle.std.specs.Prelude.{◌↔◌, slice_get}
 use Rattle.std.specs.FinMap.{get, insert, remove}
 use Rattle.rent_buf.specs.Buffer.{Buffer}
 use Rattle.op_slots.specs.declared.lifecycle.Lifecycle.{Lifecycle}
 use Rattle.op_slots.specs.declared.lifecycle.Lifecycle.TheVariants.{Submitted, Waiting, Ignored, Completed}
-use Rattle.op_slots.specs.declared.lifecycle.AfterPoll.TheVariants.{Pending as Waits, Take}
-use Rattle.op_slots.specs.Lifecycle.{after_poll, polled, IsCompleted}
+use Rattle.op_slots.specs.declared.lifecycle.AfterPoll.TheVariants.{Pending as Waits}
+use Rattle.op_slots.specs.Lifecycle.{after_poll, polled}
 use Rattle.ring_core.specs.Ring.{RingView}
 use Rattle.ring_core.specs.Lists.{amended, numbers_where}
-use Rattle.ring_core.specs.Request.{plain_request, buffer_of}
+use Rattle.ring_core.specs.Request.{plain_request, held_of, IsHolding}
 use Rattle.ring_core.specs.declared.request.Outcome.{Outcome}
 use Rattle.ring_core.specs.declared.ledger.Event.TheVariants.{Poll}
 use Rattle.ring_core.specs.declared.ledger.Reply.TheVariants.{Pending, Handed}
@@ -17,18 +18,27 @@ use Rattle.ring_core.specs.Queue.{with_op, at_place}
 use Rattle.ring_core.specs.Run.{ledger}
 use Rattle.ring_core.specs.Step.{with_task}
 use Rattle.ring_core.proofs.Amended.{get-amended-same, length-amended}
-use Rattle.uring_driver.specs.declared.slot.Slot.{Slot}
-use Rattle.uring_driver.specs.declared.driver.IoUringDriver.{IoUringDriver}
-use Rattle.uring_driver.specs.Driver.{ring_in, pending, is_among}
-use Rattle.uring_driver.specs.Outbox.{pending_ring}
-use Rattle.uring_driver.specs.Slot.{with_life, is_owned_life}
-use Rattle.uring_driver.specs.Slots.{SlotFor, waiting, life_of, owned_life}
-use Rattle.uring_driver.specs.PollOp.{IsUnreaped, IsUnreapedOp, IsUnreapedPlace}
+use Rattle.driver_core.specs.declared.slot.Slot.{Slot}
+use Rattle.uring_driver.specs.declared.uring.IoUringDriver.{IoUringDriver}
+use Rattle.uring_driver.specs.Uring.{ring_in, pending, is_among}
+use Rattle.uring_driver.specs.Submissions.{pending_ring}
+use Rattle.driver_core.specs.Slot.{with_life, is_owned_life, is_flying}
+use Rattle.driver_core.specs.Slots.{SlotFor, waiting, life_of, owned_life}
+use Rattle.driver_core.specs.declared.op.Done.{Done}
+use Rattle.driver_core.specs.declared.op.Op.{Op}
+use Rattle.driver_core.specs.declared.op.PollOp.{PollOp}
+use Rattle.driver_core.specs.declared.op.PollOp.TheVariants as Answer
+use Rattle.driver_core.specs.Slot.{PollsAt}
+use Rattle.driver_core.specs.Answers.{IsOwnRequest}
+use Rattle.driver_core.proofs.Numbers.{Owner}
+use Rattle.driver_core.proofs.Tokens.{held-slot}
+use Rattle.uring_driver.specs.Op.{Holds, number_of}
+use Rattle.uring_driver.specs.PollOp.{PollsFor, PollsOp, IsPending, IsUnreaped, IsUnreapedOp, IsUnreapedPlace}
 use Rattle.uring_driver.specs.Stands.{Means, Stands, Answers}
 use Rattle.uring_driver.proofs.Steps.{is_waiting, step-poll-waiting, step-poll-reaped, reached-more}
 use Rattle.uring_driver.proofs.Changing.{means-changed, means-freed}
-use Rattle.uring_driver.proofs.Counts.{where-all, where-less}
-use Rattle.uring_driver.proofs.Owned.{Owned, owned-slot}
+use Rattle.driver_core.proofs.Counts.{where-all, where-less}
+use Rattle.driver_core.proofs.Owned.{Owned, owned-slot}
 
 wait-answer : (t : Option ℕ) → after_poll (waiting t) ≡ Waits
 wait-answer None = refl
@@ -60,17 +70,11 @@ unreaped-place (InDone r) h = tt
 unreaped-place (Reaped r) h = (let f : ⊥ = cc in absurd f)
 unreaped-place Gone h = (let f : ⊥ = cc in absurd f)
 
-pub polled-take : (l : Lifecycle Outcome) (task : ℕ) → after_poll l ≡ Take → polled l task ≡ l
-polled-take Submitted task e = cc
-polled-take (Waiting t) task e = cc
-polled-take Ignored task e = cc
-polled-take (Completed r) task e = refl
-
-pub completed-take : (l : Lifecycle Outcome) (task : ℕ) → after_poll l ≡ Take → IsCompleted (polled l task)
-completed-take Submitted task e = let f : ⊥ = cc in absurd f
-completed-take (Waiting t) task e = let f : ⊥ = cc in absurd f
-completed-take Ignored task e = let f : ⊥ = cc in absurd f
-completed-take (Completed r) task e = tt
+waits-flies : (l : Lifecycle Outcome) → is_flying l ≡ true → is_owned_life l ≡ true → after_poll l ≡ Waits
+waits-flies Submitted f o = refl
+waits-flies (Waiting t) f o = refl
+waits-flies Ignored f o = cc
+waits-flies (Completed r) f o = cc
 
 polled-waiting : (t : Option ℕ) (task : ℕ) → polled (waiting t) task ≡ Waiting task
 polled-waiting None task = refl
@@ -105,7 +109,6 @@ module _ {R B : Type 0} (view : R → RingView) (buffer : B → Buffer) (d new :
         there = get-amended-same (with_task task) L.ops s.serial o my.fit.there;
         live = my.fit.live;
         request = my.fit.request;
-        held = my.fit.held;
         life = ap (λ l. polled l task) my.life ∙ life-waits o.place o.task task w ∙ sym (ap (λ b. life_of b o.place (Some task)) my.not_dropped);
         fresh = my.fit.fresh;
         uncanceled = my.fit.uncanceled;
@@ -131,13 +134,13 @@ module _ {R B : Type 0} (view : R → RingView) (buffer : B → Buffer) (d new :
   waits-unreaped waits_here = subst (λ x. IsUnreapedOp x) (sym my.fit.there) (unreaped-place my.fit.operation.place (pending-waits my.fit.operation.place my.fit.operation.task my.fit.live (ap after_poll (sym my.life) ∙ waits_here)))
 
   -- A poll of an operation that was reaped.
-  pub stands-takes : (r : Outcome) → s.life ≡ Completed r → new.slots.values ≡ remove d.slots.values key → Answers view buffer L (Poll s.serial task) (Handed r (buffer_of (plain_request buffer s.request))) new
+  pub stands-takes : (r : Outcome) → s.life ≡ Completed r → new.slots.values ≡ remove d.slots.values key → Answers view buffer L (Poll s.serial task) (Handed r (held_of (plain_request buffer s.request))) new
   unfolding my
   stands-takes r life slots =
       let o = my.fit.operation in
       let w = take-reaped o.place o.task r my.fit.live (sym my.life ∙ life) in
       let e = step-poll-reaped L s.serial task o my.fit.there my.owned r w in
-      let buf : o.buffer ≡ buffer_of (plain_request buffer s.request) = sym my.fit.held in
+      let buf : o.buffer ≡ held_of (plain_request buffer s.request) = sym my.fit.request.holds in
       record {
         reply_is = ap (λ x. x.1) e ∙ ap (λ x. Handed r x) buf;
         stands = record {
@@ -157,3 +160,47 @@ module _ {R B : Type 0} (view : R → RingView) (buffer : B → Buffer) (d new :
   pub takes-reaped : (r : Outcome) → s.life ≡ Completed r → IsUnreaped L s.serial → ⊥
   unfolding my
   takes-reaped r life unreaped = subst (λ x. IsUnreapedPlace x) (take-reaped my.fit.operation.place my.fit.operation.task r my.fit.live (sym my.life ∙ life)) (subst (λ x. IsUnreapedOp x) my.fit.there unreaped)
+
+-- The answers of a poll, by what it did to the slot of its token.
+module _ {R B : Type 0} (view : R → RingView) (buffer : B → Buffer) (d new : IoUringDriver R B) (op : Op) (task : ℕ) (holds : Holds d op) (L : Ledger) (old : Stands view buffer d L)
+    (ring : new.ring ≡ d.ring) (given : new.given ≡ d.given) (first : new.first ≡ d.first) (held : new.held ≡ d.held) where
+  has : Owner d.slots.values op.key op.number
+  has = held-slot d.slots.values op holds
+
+  waits : PollsAt d.slots.values op.key task new.slots.values None → Answers view buffer L (Poll (number_of op) task) Pending new
+  waits polls =
+      let s = has.slot in
+      let is = polls s has.there in
+      subst (λ n. Answers view buffer L (Poll n task) Pending new) has.serial
+      (stands-waits view buffer d new L op.key task s old has.there has.owned ring given first held (waits-flies s.life is.0 has.owned) is.1)
+
+  takes : (done : Done B) → PollsAt d.slots.values op.key task new.slots.values (Some done) → Answers view buffer L (Poll (number_of op) task) (Handed done.outcome (held_of (plain_request buffer done.request))) new
+  takes done polls =
+      let s = has.slot in
+      let is = polls s has.there in
+      subst (λ r. Answers view buffer L (Poll (number_of op) task) (Handed done.outcome (held_of (plain_request buffer r))) new) (sym is.1)
+      (subst (λ n. Answers view buffer L (Poll n task) (Handed done.outcome (held_of (plain_request buffer s.request))) new) has.serial
+      (stands-takes view buffer d new L op.key task s old has.there has.owned ring given first held done.outcome is.0 is.2))
+
+  owns : (done : Done B) → PollsAt d.slots.values op.key task new.slots.values (Some done) → IsOwnRequest buffer L (number_of op) done.request
+  owns done polls =
+      let s = has.slot in
+      let fit = old.means.in_slots.holds op.key s has.there in
+      record { operation = fit.operation; there = ap (slice_get L.ops) (sym has.serial) ∙ fit.there; own = subst (λ r. IsHolding fit.operation.request fit.operation.buffer (plain_request buffer r)) (sym (polls s has.there).1) fit.request }
+
+  pub polls-for : (result : PollOp B) → PollsOp d new op task result → PollsFor view buffer L op task new result
+  polls-for (Answer.Pending back) polls = waits polls
+  polls-for (Answer.Ready done) polls = (takes done polls, owns done polls)
+
+  pub pending-unreaped : (result : PollOp B) → PollsOp d new op task result → IsPending result ↔ IsUnreaped L (number_of op)
+  pending-unreaped (Answer.Pending back) polls = (
+    λ _. (let s = has.slot in
+        let is = polls s has.there in
+        subst (λ n. IsUnreaped L n) has.serial (waits-unreaped view buffer d new L op.key task s old has.there has.owned ring given first held (waits-flies s.life is.0 has.owned))),
+    λ _. tt,
+  )
+  pending-unreaped (Answer.Ready done) polls = (
+    λ f. absurd f,
+    λ unreaped. (let s = has.slot in
+        takes-reaped view buffer d new L op.key task s old has.there has.owned ring given first held done.outcome (polls s has.there).0 (subst (λ n. IsUnreaped L n) (sym has.serial) unreaped)),
+  )

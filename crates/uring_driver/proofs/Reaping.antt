@@ -1,8 +1,7 @@
 -- What treating one completion does to a ring and slots that mean a ledger.
-use Rattle.std.proofs.Common.{◌≡◌, ◌≢◌, ℕ, suc, ◌≤◌, ◌<◌, Bool, true, false, List, [], ◌∷◌, ◌++◌, map, Option, Some, None, refl, sym, ◌∙◌, ap, subst, arith}
+use Rattle.std.proofs.Common.{◌≡◌, ◌≢◌, ℕ, suc, Bool, true, false, List, [], ◌∷◌, map, Option, Some, None, refl, sym, ◌∙◌, ap, subst}
 use Rattle.std.specs.Prelude.{slice_get, option_to_list}
 use Rattle.std.specs.Ordering.{nat_cmp}
-use Rattle.std.proofs.lemmas.Bool.Decides.{nat_tests}
 use Rattle.std.specs.FinMap.{FinMap, get, insert, remove}
 use Rattle.rent_buf.specs.Buffer.{Buffer}
 use Rattle.op_slots.specs.declared.lifecycle.Lifecycle.TheVariants.{Completed}
@@ -14,16 +13,21 @@ use Rattle.ring_core.specs.Ledger.{Ledger, Op, Operation, Place, InQueue, InFlig
 use Rattle.ring_core.specs.Queue.{at_place}
 use Rattle.ring_core.specs.Turn.{reap_one, reap_op, reap_if, reaped_place, with_reap, task_if, task_woken}
 use Rattle.ring_core.proofs.Amended.{get-amended-same, get-amended-other}
-use Rattle.uring_driver.specs.declared.slot.Slot.{Slot}
-use Rattle.uring_driver.specs.Slot.{with_life, is_flying, task_in, slots_completed, CompletesSlot}
-use Rattle.uring_driver.specs.Slots.{SlotFor, SlotsStand, waiting, life_of, is_early}
+use Rattle.driver_core.specs.declared.slot.Slot.{Slot}
+use Rattle.driver_core.specs.Slot.{with_life, is_flying, task_in, slots_completed, named_by, named_if, slots_if, slots_after}
+use Rattle.driver_core.specs.Slots.{SlotFor, SlotsStand, waiting, life_of, is_early}
 use Rattle.uring_driver.specs.Lists.{CompletionFor, IsAt, ListsStand, is_reserved, kept, kept_unless, done_item_of}
 use Rattle.uring_driver.specs.Stands.{Means}
-use Rattle.uring_driver.specs.Reap.{TreatsOne}
-use Rattle.uring_driver.proofs.Lists.{some}
-use Rattle.uring_driver.proofs.Maps.{remove-put}
-use Rattle.uring_driver.proofs.Slots.{slots-replaced, other-slot, slots-freed, other-left}
+use Rattle.driver_core.proofs.Lists.{some}
+use Rattle.driver_core.proofs.Maps.{remove-put}
+use Rattle.driver_core.proofs.Slots.{slots-replaced, other-slot, slots-freed, other-left}
 use Rattle.uring_driver.proofs.Kept.{KeepsOp, KeepsSlot, lists-kept}
+
+-- A completion names an operation, and so many tasks.
+pub record Names (named : Option (ℕ × Option ℕ)) (number : ℕ) (tasks : List ℕ) : Type 0 where
+  pub task : Option ℕ
+  pub is : named ≡ Some (number, task)
+  pub woken : option_to_list task ≡ tasks
 
 waiting-flies : (t : Option ℕ) → is_flying (waiting t) ≡ true
 waiting-flies None = refl
@@ -45,12 +49,6 @@ wakes-task false r t = wakes t
 slots-waiting : {B : Type 0} (t : Option ℕ) (m : FinMap nat_cmp (Slot B)) (k : ℕ) (x : Slot B) → slots_completed (waiting t) m k x ≡ insert m k x
 slots-waiting None m k x = refl
 slots-waiting (Some t) m k x = refl
-
-pub reserved-test : (word : ℕ) → 18446744073709551612 ≤ word → is_reserved word ≡ true
-reserved-test word h = grind (arith, nat_tests)
-
-pub free-test : (word : ℕ) → word < 18446744073709551612 → is_reserved word ≡ false
-free-test word h = grind (arith, nat_tests)
 
 -- A completion of a reserved word changes nothing but that it is gone.
 pub means-reserved : {B : Type 0} (buffer : B → Buffer) (v : RingView) (slots : FinMap nat_cmp (Slot B)) (L : Ledger) (c : Completion) (rest : List Completion) → Means buffer v slots L → v.done ≡ c ∷ rest → is_reserved c.word ≡ true → Means buffer (with_done v rest) slots L
@@ -138,7 +136,6 @@ module _ {B : Type 0} (buffer : B → Buffer) (v : RingView) (slots : FinMap nat
       there = get-amended-same with_reap L.ops s.serial o mine.there;
       live = ap (λ p. is_kept (reaped_place p)) stands-done;
       request = mine.request;
-      held = mine.held;
       life = sym (ap (λ b. life_of b (reaped_place o.place) o.task) owned ∙ ap (λ p. life_of false (reaped_place p) o.task) stands-done);
       fresh = λ h. absurd (not-early h);
       uncanceled = λ h. absurd (not-queued h);
@@ -219,27 +216,25 @@ module _ {B : Type 0} (buffer : B → Buffer) (v : RingView) (slots : FinMap nat
   flies : is_flying s.life ≡ true
   flies = ap is_flying life-is ∙ done-flies o.dropped c.outcome o.task
 
-  -- It isn't stray.
-  pub completes : (slots' : FinMap nat_cmp (Slot B)) (result : Option (ℕ × Option ℕ)) → CompletesSlot slots c slots' result → result ≡ None → ⊥
-  completes slots' result told h = (let r = (told s slot-there flies).answer in let z : ◌≡◌ {A = Option (ℕ × Option ℕ)} None (Some (s.serial, task_in s.life)) = sym h ∙ r in cc)
+  named-here : named_by (get slots c.word) ≡ Some (s.serial, task_in s.life)
+  named-here = ap named_by slot-there ∙ ap (λ b. named_if b s) flies
 
-  pub treats : (v' : RingView) (slots' : FinMap nat_cmp (Slot B)) (serial : ℕ) (task : Option ℕ) (reaped_old reaped_new woken_old woken_new : List ℕ) → v' ≡ with_done v rest → CompletesSlot slots c slots' (Some (serial, task)) →
-      reaped_new ≡ reaped_old ++ serial ∷ [] → woken_new ≡ woken_old ++ option_to_list task → TreatsOne buffer L v' slots' reaped_old reaped_new woken_old woken_new
-  treats v' slots' serial task reaped_old reaped_new woken_old woken_new ring told named woke =
-      let r = told s slot-there flies in
-      let z : ◌≡◌ {A = Option (ℕ × Option ℕ)} (Some (serial, task)) (Some (s.serial, task_in s.life)) = r.answer in
-      let pair : ◌≡◌ {A = ℕ × Option ℕ} (serial, task) (s.serial, task_in s.life) = cc in
-      let number : serial ≡ c.serial = ap (λ x. x.0) pair ∙ n-is in
-      let task_is : option_to_list task ≡ task_if o.dropped o.task = ap (λ x. option_to_list x.1) pair ∙ ap (λ l. option_to_list (task_in l)) life-is ∙ wakes-task o.dropped c.outcome o.task in
-      record {
-        number = c.serial;
-        rest = map done_item_of (kept rest);
-        first = old.in_lists.done ∙ ap (map done_item_of) first-kept;
-        means = subst (λ x. Means buffer x slots' (reap_one taken-off (Op c.serial))) (sym ring) (subst (λ x. Means buffer (with_done v rest) x (reap_one taken-off (Op c.serial))) (sym r.slots) means-reaped);
-        named = named ∙ ap (λ x. reaped_old ++ x ∷ []) number;
-        woke = woke ∙ ap (λ x. woken_old ++ x) (task_is ∙ sym (ap task_woken which));
-      }
+  -- The ledger's first completion is this one, and it names that operation and its task.
+  pub first-done : L.done ≡ Op c.serial ∷ map done_item_of (kept rest)
+  first-done = old.in_lists.done ∙ ap (map done_item_of) first-kept
 
--- Where no completion stands, none does in the ledger.
+  pub names-first : Names (named_by (get slots c.word)) c.serial (task_woken (slice_get L.ops c.serial))
+  unfolding s
+  names-first = record {
+    task = task_in s.life;
+    is = named-here ∙ ap (λ n. Some (n, task_in s.life)) n-is;
+    woken = ap (λ l. option_to_list (task_in l)) life-is ∙ wakes-task o.dropped c.outcome o.task ∙ sym (ap task_woken which);
+  }
+
+  -- What is left means what the ledger's reap leaves.
+  pub means-first : Means buffer (with_done v rest) (slots_after slots c (get slots c.word)) (reap_one taken-off (Op c.serial))
+  means-first = subst (λ m. Means buffer (with_done v rest) m (reap_one taken-off (Op c.serial))) (sym (ap (slots_after slots c) slot-there ∙ ap (λ b. slots_if b slots c s) flies)) means-reaped
+
+-- Where no completion is ready, none is in the ledger.
 pub ended : {B : Type 0} (buffer : B → Buffer) (v : RingView) (slots : FinMap nat_cmp (Slot B)) (L : Ledger) → Means buffer v slots L → v.done ≡ [] → L.done ≡ []
 ended buffer v slots L means h = means.in_lists.done ∙ ap (λ xs. map done_item_of (kept xs)) h

@@ -23,10 +23,10 @@ use Rattle.ring_core.specs.Ledger.{Ledger, empty, is_owned, user_holds}
 use Rattle.ring_core.specs.Step.{step, give_step, with_handle}
 use Rattle.ring_core.specs.Run.{ledger}
 use Rattle.ring_core.proofs.Amended.{length-amended}
-use Rattle.uring_driver.specs.declared.slot.Slot.{Slot}
-use Rattle.uring_driver.specs.declared.driver.IoUringDriver.{IoUringDriver}
-use Rattle.uring_driver.specs.Driver.{ring_in, due_in, room_in, pending, whole_ring, is_among, first_with, holds_handle}
-use Rattle.uring_driver.specs.Outbox.{IsIdle, with_spare, with_due, pending_ring}
+use Rattle.driver_core.specs.declared.slot.Slot.{Slot}
+use Rattle.uring_driver.specs.declared.uring.IoUringDriver.{IoUringDriver}
+use Rattle.uring_driver.specs.Uring.{ring_in, due_in, room_in, pending, whole_ring, is_among, first_with, holds_handle}
+use Rattle.uring_driver.specs.Submissions.{IsIdle, with_spare, with_due, pending_ring}
 use Rattle.uring_driver.specs.Handles.{RefusedAt, RefusedFor, LooksFor}
 use Rattle.uring_driver.specs.Stands.{Means, Stands, Answers}
 use Rattle.uring_driver.proofs.Handles.{none-among, one-more}

@@ -19,7 +19,8 @@ use Rattle.ring_core.specs.Request.{named, call_of}
 use Rattle.ring_core.specs.World.{fresh, with_input, with_end, is_ended_at, output_at}
 use Rattle.ring_core.specs.Ledger.{Ledger, Operation, Place, InQueue, InFlight, InDone, Reaped, Gone, Cancel, Op, is_owned, live_ops, user_holds, empty}
 use Rattle.ring_core.specs.Queue.{with_op, push, leave}
-use Rattle.ring_core.specs.Refusal.{cause, refused_if, lacks_handle, allowed, most_live}
+use Rattle.ring_core.specs.Refusal.{cause, refused_if, lacks_handle, allowed}
+use Rattle.ring_core.specs.declared.ledger.TheConstants.{MOST_LIVE}
 use Rattle.ring_core.specs.Turn.{turn_step, exec_step}
 use Rattle.ring_core.specs.Step.{step, answered, give_step, poll_at, poll_step, drop_at, drop_step, submit_step, with_handle, with_task, with_drop}
 use Rattle.ring_core.specs.Run.{after, ledger}
@@ -86,10 +87,10 @@ step-cancel L n o there owned =
     ap (λ x. answered (refused_if (not (passes is_owned x)) NoOp None) L (Asks n)) there
     ∙ ap (λ b. answered (refused_if (not b) NoOp None) L (Asks n)) owned
 
-pub step-submit : (L : Ledger) (r : Request Buffer Parts) → lacks_handle L (named r) ≡ false → nat_le most_live (length (live_ops L)) ≡ false → step L (Submit r) ≡ (submit_step L r, Submitted (length L.ops))
+pub step-submit : (L : Ledger) (r : Request Buffer Parts) → lacks_handle L (named r) ≡ false → nat_le MOST_LIVE (length (live_ops L)) ≡ false → step L (Submit r) ≡ (submit_step L r, Submitted (length L.ops))
 unfolding step
 step-submit L r user room =
-    ap (λ b. answered (refused_if b NoHandle (refused_if (nat_le most_live (length (live_ops L))) Full None)) L (Submit r)) user
+    ap (λ b. answered (refused_if b NoHandle (refused_if (nat_le MOST_LIVE (length (live_ops L))) Full None)) L (Submit r)) user
     ∙ ap (λ b. answered (refused_if b Full None) L (Submit r)) room
 
 pub step-turn : (L : Ledger) → step L Turn ≡ turn_step L
@@ -136,6 +137,15 @@ step-exec L place n told o within there which allows =
     ∙ ap (λ x. answered (refused_if (not (passes (λ operation. is_allowed L.world operation.canceled (call_of operation.request) told) x)) BadOutcome None) L (Exec place told)) which
     ∙ ap (λ b. answered (refused_if (not b) BadOutcome None) L (Exec place told)) allows
     ∙ ap (exec_step L place told) there
+
+-- An execution of an allowed outcome is not refused.
+pub unrefused-exec : (L : Ledger) (place n : ℕ) (told : Told) (o : Operation) → place < length L.flying → slice_get L.flying place ≡ Some (Op n) → slice_get L.ops n ≡ Some o →
+    is_allowed L.world o.canceled (call_of o.request) told ≡ true → cause L (Exec place told) ≡ None
+unrefused-exec L place n told o within there which allows =
+    ap (λ b. refused_if b NotFlying (refused_if (not (passes (λ item. allowed L item told) (slice_get L.flying place))) BadOutcome None)) (below-test (length L.flying) place within)
+    ∙ ap (λ x. refused_if (not (passes (λ item. allowed L item told) x)) BadOutcome None) there
+    ∙ ap (λ x. refused_if (not (passes (λ operation. is_allowed L.world operation.canceled (call_of operation.request) told) x)) BadOutcome None) which
+    ∙ ap (λ b. refused_if (not b) BadOutcome None) allows
 
 pub cause-flying : (L : Ledger) (place : ℕ) (told : Told) → length L.flying ≤ place → cause L (Exec place told) ≡ Some NotFlying
 cause-flying L place told h = ap (λ b. refused_if b NotFlying (refused_if (not (passes (λ item. allowed L item told) (slice_get L.flying place))) BadOutcome None)) (past-test (length L.flying) place h)

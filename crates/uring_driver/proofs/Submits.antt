@@ -1,5 +1,5 @@
 -- What a submission answers, of a driver that stands for a ledger.
-use Rattle.std.proofs.Common.{◌≡◌, ℕ, suc, ◌+◌, ◌<◌, ◌≤◌, Bool, true, false, List, [], ◌∷◌, ◌++◌, length, Some, None, refl, sym, ◌∙◌, ap, subst, arith, length-append}
+use Rattle.std.proofs.Common.{◌≡◌, inl, inr, ℕ, suc, ◌+◌, ◌<◌, ◌≤◌, Bool, true, false, List, [], ◌∷◌, ◌++◌, length, Some, None, refl, sym, ◌∙◌, ap, subst, arith, length-append}
 use Rattle.std.specs.Prelude.{slice_get, nat_le, nat_lt, IsTrue, ◌==◌, if◌then◌else◌}
 use Rattle.std.specs.Ordering.{nat_cmp}
 use Rattle.std.specs.FinMap.{FinMap, get, insert, len}
@@ -20,23 +20,27 @@ use Rattle.ring_core.specs.declared.ledger.Reply.TheVariants.{Submitted}
 use Rattle.ring_core.specs.Lists.{numbers_where}
 use Rattle.ring_core.specs.Ledger.{Ledger, Queued, Req, Cancel, Operation, InFlight, is_live, is_owned, live_ops, new_operation, user_holds}
 use Rattle.ring_core.specs.Queue.{take_one, take_each, take_all, make_room, append, push, at_place, with_cancel}
-use Rattle.ring_core.specs.Refusal.{most_live}
+use Rattle.ring_core.specs.declared.ledger.TheConstants.{MOST_LIVE}
 use Rattle.ring_core.specs.Step.{submit_step, with_new_op}
 use Rattle.ring_core.specs.Run.{ledger}
-use Rattle.uring_driver.specs.declared.op.SubmitFault.{SubmitFault}
-use Rattle.uring_driver.specs.declared.op.SubmitFault.TheVariants.{Full, RingFault, Busy, OutOfMemory}
-use Rattle.uring_driver.specs.declared.slot.Slot.{Slot}
-use Rattle.uring_driver.specs.declared.driver.IoUringDriver.{IoUringDriver}
-use Rattle.uring_driver.specs.Driver.{ring_in, room_in, whole_ring, is_among, holds_all}
+use Rattle.driver_core.specs.declared.op.SubmitFault.{SubmitFault}
+use Rattle.driver_core.specs.declared.op.SubmitFault.TheVariants.{Full, RingFault, Busy, OutOfMemory}
+use Rattle.driver_core.specs.declared.slot.Slot.{Slot}
+use Rattle.uring_driver.specs.declared.uring.IoUringDriver.{IoUringDriver}
+use Rattle.uring_driver.specs.Uring.{ring_in, room_in, whole_ring, is_among, holds_all}
 use Rattle.ring_core.specs.declared.request.Call.{Call}
-use Rattle.uring_driver.specs.declared.op.Op.{Op}
-use Rattle.uring_driver.specs.Op.{call_for}
-use Rattle.uring_driver.specs.Outbox.{with_spare, room_made, PendingMoves}
+use Rattle.driver_core.specs.declared.op.Op.{Op}
+use Rattle.uring_driver.specs.Op.{call_for, number_of}
+use Rattle.driver_core.specs.Op.{AddsToken}
+use Rattle.driver_core.specs.Ops.{Ops}
+use Rattle.driver_core.specs.Operations.{Submits, new_slot}
+use Rattle.driver_core.specs.Slot.{number_at}
+use Rattle.uring_driver.specs.Submissions.{with_spare, room_made, PendingMoves}
 use Rattle.uring_driver.specs.Lists.{queued_of, queued_in, is_call}
 use Rattle.uring_driver.specs.Stands.{Means, Stands, Answers}
 use Rattle.uring_driver.specs.Submitted.{IsSameRing, WhyRefused, Unprepared}
-use Rattle.uring_driver.proofs.Lists.{amended-append, amended-fixed, map-get}
-use Rattle.uring_driver.proofs.Counts.{where-more, where-within, owned-lives}
+use Rattle.driver_core.proofs.Lists.{amended-append, amended-fixed, map-get}
+use Rattle.driver_core.proofs.Counts.{where-more, where-within, owned-lives}
 use Rattle.uring_driver.proofs.Kept.{call-queued}
 use Rattle.uring_driver.proofs.Handles.{lacks-none}
 use Rattle.uring_driver.proofs.Starting.{stands-same}
@@ -94,7 +98,7 @@ all-known count [] h = tt
 all-known count (Req n ∷ qs) h = (h 0 n refl, all-known count qs (λ i m g. h (suc i) m g))
 all-known count (Cancel n ∷ qs) h = (tt, all-known count qs (λ i m g. h (suc i) m g))
 
-is-room : (n : ℕ) → n < 4294967232 → nat_le most_live n ≡ false
+is-room : (n : ℕ) → n < 4294967232 → nat_le MOST_LIVE n ≡ false
 is-room n h = grind (arith, nat_tests)
 
 named-plain : {B : Type 0} (buffer : B → Buffer) (r : Request B Parts) → named (plain_request buffer r) ≡ named r
@@ -149,8 +153,8 @@ module _ {R B : Type 0} (view : R → RingView) (buffer : B → Buffer) where
   -- Why a submission was refused, by what preparing it left.
   pub why-refused : (d new : IoUringDriver R B) (steady : Bool) (why : SubmitFault) → new ≡ record d { ring = new.ring; slots = new.slots } → new.slots.values ≡ d.slots.values → Unprepared view steady d.ring new.ring d.slots new.slots why → WhyRefused view buffer steady d new why
   why-refused d new steady Full same values h = same ∙ ap (λ r. record d { ring = r; slots = new.slots }) h.1 ∙ ap (λ s. record d { slots = s }) h.2
-  why-refused d new steady RingFault same values h = (h.1, h.2)
-  why-refused d new steady Busy same values h = (h.1, h.2)
+  why-refused d new steady RingFault same values h = (h.1, h.2, h.3)
+  why-refused d new steady Busy same values h = (h.1, h.2, h.3)
   why-refused d new steady OutOfMemory same values h = λ L old. stands-same view buffer d new L _ h.1.ring h.1.due h.1.room values (ap (λ x. x.given) same) (ap (λ x. x.first) same) (ap (λ x. x.held) same) old
 
   -- Where memory ran out the ring has other room at most.
@@ -161,8 +165,32 @@ module _ {R B : Type 0} (view : R → RingView) (buffer : B → Buffer) where
   same-room d new steady OutOfMemory h e = record { ring = h.1.ring; due = h.1.due }
 
 -- The entry that joined is that of the new token's call.
-pub entry-is : {B : Type 0} (buffer : B → Buffer) (request : Request B Parts) (old new : List Entry) (op : Op) (key number : ℕ) (call : Call) → op ≡ record { number = number; key = key } → call ≡ call_of (plain_request buffer request) →
-    PendingMoves old new (record { word = key; serial = number; body = Calls call } ∷ []) → PendingMoves old new (call_for op (call_of (plain_request buffer request)) ∷ [])
-entry-is buffer request old new op key number call is calls moves =
-    subst (λ o. PendingMoves old new (call_for o (call_of (plain_request buffer request)) ∷ [])) (sym is)
-    (subst (λ c. PendingMoves old new (record { word = key; serial = number; body = Calls c } ∷ [])) calls moves)
+pub entry-is : {B : Type 0} (buffer : B → Buffer) (request : Request B Parts) (old new : List Entry) (op : Op) (word serial : ℕ) (call : Call) → word ≡ op.key → serial ≡ op.number → call ≡ call_of (plain_request buffer request) →
+    PendingMoves old new (record { word = word; serial = serial; body = Calls call } ∷ []) → PendingMoves old new (call_for op (call_of (plain_request buffer request)) ∷ [])
+entry-is buffer request old new op word serial call key number calls moves =
+    subst (λ w. PendingMoves old new (record { word = w; serial = op.number; body = Calls (call_of (plain_request buffer request)) } ∷ [])) key
+    (subst (λ n. PendingMoves old new (record { word = word; serial = n; body = Calls (call_of (plain_request buffer request)) } ∷ [])) number
+    (subst (λ c. PendingMoves old new (record { word = word; serial = serial; body = Calls c } ∷ [])) calls moves))
+
+-- A token that was added to the slots that were there before is added.
+pub adds-over : {B : Type 0} (old mid new : Ops B) (op : Op) → mid.slots.values ≡ old.slots.values → mid.given ≡ old.given → AddsToken mid new op → AddsToken old new op
+adds-over old mid new op same given adds = record {
+  this = adds.this;
+  kept = λ other holds. adds.kept other (subst (λ m. number_at m other.key ≡ Some (number_of other)) (sym same) holds);
+  only = λ other holds. elim (adds.only other holds) [
+    | inl e ↦ inl e
+    | inr h ↦ inr (subst (λ m. number_at m other.key ≡ Some (number_of other)) same h)
+  ];
+  number = adds.number ∙ given;
+  next = adds.next ∙ ap (λ n. n + 1) given;
+}
+
+-- What a submission put in the slots, over those that were there before.
+pub put-over : {B : Type 0} (old mid new : Ops B) (request : Request B Parts) (op : Op) → mid.slots.values ≡ old.slots.values → mid.given ≡ old.given → Submits mid new request op → Submits old new request op
+put-over old mid new request op same given puts = record {
+  free = sym (ap (λ m. get m op.key) same) ∙ puts.free;
+  below = puts.below;
+  number = puts.number ∙ given;
+  slots = puts.slots ∙ ap (λ m. insert m op.key (new_slot mid request)) same ∙ ap (λ n. insert old.slots.values op.key (record { serial = n; request = request; life = Fresh })) given;
+  given = puts.given ∙ ap (λ n. n + 1) given;
+}

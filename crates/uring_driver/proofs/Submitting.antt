@@ -18,15 +18,15 @@ use Rattle.ring_core.specs.declared.entry.Body.TheVariants.{Call as Calls, Cance
 use Rattle.ring_core.specs.Ledger.{Ledger, Req, Operation, Place, InQueue, InDone, is_live, new_operation}
 use Rattle.ring_core.specs.Queue.{append}
 use Rattle.ring_core.specs.Step.{with_new_op}
-use Rattle.uring_driver.specs.declared.slot.Slot.{Slot}
-use Rattle.uring_driver.specs.Slots.{SlotFor, SlotsStand}
+use Rattle.driver_core.specs.declared.slot.Slot.{Slot}
+use Rattle.driver_core.specs.Slots.{SlotFor, SlotsStand}
 use Rattle.uring_driver.specs.Lists.{EntryFor, CompletionFor, IsAt, IsFlown, QueuedFor, CancelsMean, ListsStand, is_call, queued_of}
 use Rattle.uring_driver.specs.Stands.{Means}
-use Rattle.uring_driver.proofs.Lists.{some, same-or-not, get-pushed, get-front, get-last}
-use Rattle.uring_driver.proofs.Maps.{put-same, put-other, len-new}
-use Rattle.uring_driver.proofs.Counts.{where-more}
+use Rattle.driver_core.proofs.Lists.{some, same-or-not, get-pushed, get-front, get-last}
+use Rattle.driver_core.proofs.Maps.{put-same, put-other, len-new}
+use Rattle.driver_core.proofs.Counts.{where-more}
 use Rattle.uring_driver.proofs.Kept.{queued-kept, call-queued}
-use Rattle.uring_driver.proofs.Flights.{with-own}
+use Rattle.ring_core.proofs.Requests.{holding-own}
 
 module _ {B : Type 0} (buffer : B → Buffer) (w : RingView) (slots : FinMap nat_cmp (Slot B)) (M : Ledger) (given key : ℕ) (request : Request B Parts)
     (old : Means buffer w slots M) (numbered : given ≡ length M.ops) (free : get slots key ≡ None) (below : key < 4294967232) where
@@ -69,10 +69,10 @@ module _ {B : Type 0} (buffer : B → Buffer) (w : RingView) (slots : FinMap nat
   completion-kept c C = record { slot = C.slot; there = kept c.word C.slot C.there; serial = C.serial }
 
   slot-kept : (u : Slot B) → SlotFor buffer M.ops u → SlotFor buffer ops' u
-  slot-kept u m = record { operation = m.operation; there = get-front M.ops (new ∷ []) u.serial m.operation m.there; live = m.live; request = m.request; held = m.held; life = m.life; fresh = m.fresh; uncanceled = m.uncanceled }
+  slot-kept u m = record { operation = m.operation; there = get-front M.ops (new ∷ []) u.serial m.operation m.there; live = m.live; request = m.request; life = m.life; fresh = m.fresh; uncanceled = m.uncanceled }
 
   new-slot : SlotFor buffer ops' t
-  new-slot = record { operation = new; there = there-new; live = refl; request = sym (with-own (plain_request buffer request)); held = refl; life = refl; fresh = λ _. refl; uncanceled = λ _. refl }
+  new-slot = record { operation = new; there = there-new; live = refl; request = holding-own (plain_request buffer request); life = refl; fresh = λ _. refl; uncanceled = λ _. refl }
 
   -- Each slot is the new one, or was there.
   which : (k : ℕ) (u : Slot B) → get (insert slots key t) k ≡ Some u → ((k ≡ key) × (t ≡ u)) ⊎ (get slots k ≡ Some u)

@@ -3,32 +3,33 @@ use Rattle.std.proofs.Common.{◌≡◌, ℕ, Bool, true, false, List, [], ◌�
 use Rattle.std.specs.Prelude.{◌==◌, if◌then◌else◌}
 use Rattle.std.specs.Ordering.{nat_cmp}
 use Rattle.std.specs.FinMap.{FinMap}
-use Rattle.std.proofs.lemmas.List.{length-map, length-drop, take-append-drop, take_all as take-all}
+use Rattle.std.proofs.lemmas.List.{length-map, length-drop, take-map, drop-map, take-append-drop, take_all as take-all}
 use Rattle.rent_buf.specs.Buffer.{Buffer}
-use Rattle.ring_core.specs.Ring.{RingView, entered, flying_with, flying_after, done_with, done_after, IsLater, TookFront}
+use Rattle.ring_core.specs.Ring.{RingView, entered, flying_after_entry, flying_after, done_after_entry, done_after, IsLater, TookFront}
 use Rattle.ring_core.specs.Lists.{numbers_where}
 use Rattle.ring_core.specs.declared.entry.Body.{Body}
 use Rattle.ring_core.specs.declared.entry.Body.TheVariants.{Call as Calls, Cancel as Cancels}
 use Rattle.ring_core.specs.declared.entry.Entry.{Entry}
 use Rattle.ring_core.specs.Ledger.{Ledger, Queued, Req, Cancel, is_owned}
 use Rattle.ring_core.specs.Queue.{take_one, take_each, take_all, make_room, with_cancel}
-use Rattle.uring_driver.specs.declared.slot.Slot.{Slot}
+use Rattle.driver_core.specs.declared.slot.Slot.{Slot}
 use Rattle.uring_driver.specs.Lists.{queued_of, queued_in}
-use Rattle.uring_driver.specs.Outbox.{room_made}
+use Rattle.uring_driver.specs.Submissions.{room_made}
 use Rattle.uring_driver.specs.Stands.{Means}
-use Rattle.uring_driver.proofs.Counts.{where-all}
+use Rattle.uring_driver.specs.Turned.{taken_front}
+use Rattle.driver_core.proofs.Counts.{where-all}
 use Rattle.uring_driver.proofs.Heads.{means-view}
 use Rattle.uring_driver.proofs.TakingCalls.{means-call, owned-call}
 use Rattle.uring_driver.proofs.TakingCancels.{cancel-owned, means-cancel}
 
 module _ {B : Type 0} (buffer : B → Buffer) (v : RingView) (slots : FinMap nat_cmp (Slot B)) (L : Ledger) (e : Entry) (rest : List Entry)
     (old : Means buffer v slots L) (first : v.queue ≡ e ∷ rest) where
-  by_body : (b : Body) → e.body ≡ b → Means buffer (record v { queue = rest; flying = flying_with v.flying e b; done = done_with v.done e b }) slots (take_one (record L { queue = map queued_of rest }) (queued_in e b))
+  by_body : (b : Body) → e.body ≡ b → Means buffer (record v { queue = rest; flying = flying_after_entry v.flying e b; done = done_after_entry v.done e b }) slots (take_one (record L { queue = map queued_of rest }) (queued_in e b))
   by_body (Calls call) h = means-call buffer v slots L e rest old first call h
   by_body (Cancels key) h = means-cancel buffer v slots L e rest old first key h
 
   -- One entry is taken: by its word in the ring, and by its number in the ledger.
-  pub means-took : Means buffer (record v { queue = rest; flying = flying_with v.flying e e.body; done = done_with v.done e e.body }) slots (take_one (record L { queue = map queued_of rest }) (queued_of e))
+  pub means-took : Means buffer (record v { queue = rest; flying = flying_after_entry v.flying e e.body; done = done_after_entry v.done e e.body }) slots (take_one (record L { queue = map queued_of rest }) (queued_of e))
   unfolding by_body
   means-took = by_body e.body refl
 
@@ -51,8 +52,8 @@ means-front buffer slots [] rest v L old h =
     subst (λ qs. Means buffer (record v { queue = rest }) slots (record L { queue = qs })) (old.in_lists.queue ∙ ap (map queued_of) h)
     (subst (λ xs. Means buffer (record v { queue = xs }) slots L) h old)
 means-front buffer slots (e ∷ es) rest v L old h =
-    subst (λ K. Means buffer (record v { queue = rest; flying = flying_after (flying_with v.flying e e.body) es; done = done_after (done_with v.done e e.body) es }) slots (take_each K (map queued_of es))) (take-queue (record L { queue = map queued_of (es ++ rest) }) (queued_of e) (map queued_of rest))
-    (means-front buffer slots es rest (record v { queue = es ++ rest; flying = flying_with v.flying e e.body; done = done_with v.done e e.body }) (take_one (record L { queue = map queued_of (es ++ rest) }) (queued_of e))
+    subst (λ K. Means buffer (record v { queue = rest; flying = flying_after (flying_after_entry v.flying e e.body) es; done = done_after (done_after_entry v.done e e.body) es }) slots (take_each K (map queued_of es))) (take-queue (record L { queue = map queued_of (es ++ rest) }) (queued_of e) (map queued_of rest))
+    (means-front buffer slots es rest (record v { queue = es ++ rest; flying = flying_after_entry v.flying e e.body; done = done_after_entry v.done e e.body }) (take_one (record L { queue = map queued_of (es ++ rest) }) (queued_of e))
     (means-took buffer v slots L e (es ++ rest) old h) refl)
 
 -- Operations belong to whom they did.
@@ -61,7 +62,7 @@ pub owned-front : {B : Type 0} (buffer : B → Buffer) (slots : FinMap nat_cmp (
 owned-front buffer slots [] rest v L old h = refl
 owned-front buffer slots (e ∷ es) rest v L old h =
     ap (λ K. length (numbers_where is_owned 0 (take_each K (map queued_of es)).ops)) (sym (take-queue (record L { queue = map queued_of (es ++ rest) }) (queued_of e) (map queued_of rest)))
-    ∙ owned-front buffer slots es rest (record v { queue = es ++ rest; flying = flying_with v.flying e e.body; done = done_with v.done e e.body }) (take_one (record L { queue = map queued_of (es ++ rest) }) (queued_of e)) (means-took buffer v slots L e (es ++ rest) old h) refl
+    ∙ owned-front buffer slots es rest (record v { queue = es ++ rest; flying = flying_after_entry v.flying e e.body; done = done_after_entry v.done e e.body }) (take_one (record L { queue = map queued_of (es ++ rest) }) (queued_of e)) (means-took buffer v slots L e (es ++ rest) old h) refl
     ∙ owned-took buffer v slots L e (es ++ rest) old h
 
 module _ {B : Type 0} (buffer : B → Buffer) (v : RingView) (slots : FinMap nat_cmp (Slot B)) (L : Ledger) (old : Means buffer v slots L) where
@@ -89,13 +90,15 @@ module _ {B : Type 0} (buffer : B → Buffer) (v : RingView) (slots : FinMap nat
   pub owned-room : length (numbers_where is_owned 0 (make_room L).ops) ≡ length (numbers_where is_owned 0 L.ops)
   owned-room = owned_by_test (length L.queue == L.capacity)
 
-  -- The front of the queue is taken, over a ring that tells it.
-  pub means-took-front : (w : RingView) (count : ℕ) → IsLater v w → TookFront count v w → (M : Ledger) × Means buffer w slots M
-  means-took-front w count later took = (
-    take_each (record L { queue = map queued_of (drop count v.queue) }) (map queued_of (take count v.queue)),
-    means-view buffer (record v { queue = drop count v.queue; flying = flying_after v.flying (take count v.queue); done = done_after v.done (take count v.queue) }) w slots _ later.same_capacity took.queue took.flying took.done took.world
-        (means-front buffer slots (take count v.queue) (drop count v.queue) v L old (sym (take-append-drop count v.queue))),
-  )
+  -- A prefix of the queue is taken in both.
+  pub means-took-front : (w : RingView) (count : ℕ) → IsLater v w → TookFront count v w → Means buffer w slots (taken_front count L)
+  means-took-front w count later took =
+      let rest : map queued_of (drop count v.queue) ≡ drop count L.queue = sym (ap (drop count) old.in_lists.queue ∙ drop-map queued_of count v.queue) in
+      let front : map queued_of (take count v.queue) ≡ take count L.queue = sym (ap (take count) old.in_lists.queue ∙ take-map queued_of count v.queue) in
+      subst (λ qs. Means buffer w slots (take_each (record L { queue = drop count L.queue }) qs)) front
+      (subst (λ qs. Means buffer w slots (take_each (record L { queue = qs }) (map queued_of (take count v.queue)))) rest
+      (means-view buffer (record v { queue = drop count v.queue; flying = flying_after v.flying (take count v.queue); done = done_after v.done (take count v.queue) }) w slots _ later.same_capacity took.queue took.flying took.done took.world
+      (means-front buffer slots (take count v.queue) (drop count v.queue) v L old (sym (take-append-drop count v.queue)))))
 
   -- All of it is taken where none is left.
   pub means-took-all : (w : RingView) (count : ℕ) → IsLater v w → TookFront count v w → w.queue ≡ [] → Means buffer w slots (take_all L)

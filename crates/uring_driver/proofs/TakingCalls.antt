@@ -14,14 +14,14 @@ use Rattle.ring_core.specs.declared.entry.Flight.{Flight}
 use Rattle.ring_core.specs.Ledger.{Ledger, Req, Op, Operation, Place, InQueue, InFlight, InDone, is_live, is_kept, is_owned}
 use Rattle.ring_core.specs.Queue.{take_one, at_place}
 use Rattle.ring_core.proofs.Amended.{get-amended-same, get-amended-other}
-use Rattle.uring_driver.specs.declared.slot.Slot.{Slot}
-use Rattle.uring_driver.specs.Slots.{SlotFor, life_of, is_early}
+use Rattle.driver_core.specs.declared.slot.Slot.{Slot}
+use Rattle.driver_core.specs.Slots.{SlotFor, life_of, is_early}
 use Rattle.uring_driver.specs.Lists.{EntryFor, IsAt, IsFlown, Meets, ListsStand, is_call, queued_of, item_of}
 use Rattle.uring_driver.specs.Stands.{Means}
-use Rattle.uring_driver.proofs.Lists.{some, get-pushed}
-use Rattle.uring_driver.proofs.Counts.{where-same}
+use Rattle.driver_core.proofs.Lists.{some, get-pushed}
+use Rattle.driver_core.proofs.Counts.{where-same}
 use Rattle.uring_driver.proofs.Kept.{call-queued, queued-kept, flown-at}
-use Rattle.uring_driver.proofs.Slots.{slots-amended}
+use Rattle.driver_core.proofs.Slots.{slots-amended}
 use Rattle.uring_driver.proofs.Heads.{at-head, behind-head, cancels-left}
 
 early-life : (d : Bool) (t : Option ℕ) → life_of d InQueue t ≡ life_of d InFlight t
@@ -70,7 +70,6 @@ module _ {B : Type 0} (buffer : B → Buffer) (v : RingView) (slots : FinMap nat
         there = ap (slice_get (amended L.ops e.serial (at_place InFlight))) q ∙ get-amended-same (at_place InFlight) L.ops e.serial m.operation (ap (slice_get L.ops) (sym q) ∙ m.there);
         live = refl;
         request = m.request;
-        held = m.held;
         life = m.life ∙ ap (λ p. life_of m.operation.dropped p m.operation.task) at ∙ early-life m.operation.dropped m.operation.task;
         fresh = λ _. m.fresh (ap is_early at);
         uncanceled = λ z. cc;

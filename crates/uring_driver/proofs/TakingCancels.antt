@@ -15,13 +15,13 @@ use Rattle.ring_core.specs.declared.entry.Completion.{Completion}
 use Rattle.ring_core.specs.Ledger.{Ledger, Cancel, Op, Operation, Place, InQueue, InFlight, InDone, Reaped, Gone, is_live, is_owned}
 use Rattle.ring_core.specs.Queue.{take_one, canceled_at, with_cancel}
 use Rattle.ring_core.proofs.Amended.{get-amended-same, get-amended-other}
-use Rattle.uring_driver.specs.declared.slot.Slot.{Slot}
-use Rattle.uring_driver.specs.Slots.{SlotFor, SlotsStand}
+use Rattle.driver_core.specs.declared.slot.Slot.{Slot}
+use Rattle.driver_core.specs.Slots.{SlotFor, SlotsStand}
 use Rattle.uring_driver.specs.Lists.{EntryFor, IsAt, IsFlown, Meets, ListsStand, Once, queued_of, item_of, done_item_of, kept}
 use Rattle.uring_driver.specs.Stands.{Means}
-use Rattle.uring_driver.proofs.Lists.{same-or-not, map-get, amended-absent}
+use Rattle.driver_core.proofs.Lists.{same-or-not, map-get, amended-absent}
 use Rattle.uring_driver.proofs.Kept.{cancel-queued, queued-kept, kept-reserved, cancel-reserved}
-use Rattle.uring_driver.proofs.Slots.{slots-amended}
+use Rattle.driver_core.proofs.Slots.{slots-amended}
 use Rattle.uring_driver.proofs.Heads.{at-head, behind-head, cancels-left}
 
 or-true : (b : Bool) → (b || true) ≡ true
@@ -111,7 +111,6 @@ module _ {B : Type 0} (buffer : B → Buffer) (v : RingView) (slots : FinMap nat
     there = ap (slice_get (amended L.ops e.serial with_cancel)) q ∙ get-amended-same with_cancel L.ops e.serial m.operation (ap (slice_get L.ops) (sym q) ∙ m.there) ∙ ap (λ x. Some x) (cancel-same m.operation.place m.operation);
     live = m.live;
     request = m.request;
-    held = m.held;
     life = m.life;
     fresh = m.fresh;
     uncanceled = λ z. ap (λ p. (canceled_at p m.operation).canceled) z ∙ m.uncanceled z;

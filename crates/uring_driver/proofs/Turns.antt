@@ -1,10 +1,10 @@
 -- Completions treated one by one, and a turn.
-use Rattle.std.proofs.Common.{◌≡◌, inl, inr, ℕ, Bool, true, false, List, [], ◌∷◌, ◌++◌, length, Option, Some, None, refl, sym, ◌∙◌, ap, subst, arith, append_assoc, append-nil}
-use Rattle.std.specs.Prelude.{slice_get, nat_lt, ◌&&◌, ◌==◌, if◌then◌else◌, not, IsTrue}
+use Rattle.std.proofs.Common.{◌≡◌, inl, inr, ℕ, Bool, true, false, List, [], ◌∷◌, ◌++◌, ◌+◌, length, Option, Some, None, refl, sym, ◌∙◌, ap, subst, arith, map}
+use Rattle.std.specs.Prelude.{slice_get, nat_lt, ◌&&◌, ◌==◌, if◌then◌else◌, not}
 use Rattle.std.specs.Ordering.{nat_cmp}
-use Rattle.std.specs.FinMap.{FinMap}
+use Rattle.std.specs.FinMap.{FinMap, get}
 use Rattle.rent_buf.specs.Buffer.{Buffer}
-use Rattle.ring_core.specs.Ring.{RingView, entered}
+use Rattle.ring_core.specs.Ring.{RingView, entered, with_done}
 use Rattle.ring_core.specs.Lists.{amended, numbers_where}
 use Rattle.ring_core.specs.declared.ledger.Event.TheVariants.{Turn}
 use Rattle.ring_core.specs.declared.ledger.Reply.TheVariants.{Turned as TurnReply}
@@ -13,18 +13,19 @@ use Rattle.ring_core.specs.Queue.{take_one, take_each, take_all, make_room, at_p
 use Rattle.ring_core.specs.Turn.{with_reap, reaped_place, reap_if, reap_op, reap_one, reap_each, ops_in, task_woken, tasks_woken}
 use Rattle.ring_core.specs.Run.{ledger}
 use Rattle.ring_core.proofs.Amended.{get-amended-same, get-amended-other, get-amended-none, length-amended}
-use Rattle.uring_driver.specs.declared.op.Stop.{Stop}
-use Rattle.uring_driver.specs.declared.slot.Slot.{Slot}
-use Rattle.uring_driver.specs.declared.driver.IoUringDriver.{IoUringDriver}
-use Rattle.uring_driver.specs.Driver.{ring_in, room_in, pending, whole_ring, is_among}
-use Rattle.uring_driver.specs.Outbox.{room_made}
+use Rattle.ring_core.specs.declared.entry.Completion.{Completion}
+use Rattle.driver_core.specs.declared.slot.Slot.{Slot}
+use Rattle.uring_driver.specs.declared.uring.IoUringDriver.{IoUringDriver}
+use Rattle.uring_driver.specs.Uring.{ring_in, room_in, pending, whole_ring, is_among}
+use Rattle.uring_driver.specs.Submissions.{room_made}
 use Rattle.uring_driver.specs.Stands.{Means, Stands, Answers}
-use Rattle.uring_driver.specs.Reap.{TookOff, TreatsOne, ReapsAll}
-use Rattle.uring_driver.specs.Turned.{TurnsFor}
-use Rattle.uring_driver.specs.declared.op.Turned.{Turned}
-use Rattle.uring_driver.specs.declared.op.Stop.TheVariants.{Busy}
-use Rattle.uring_driver.proofs.Lists.{same-or-not, amended-absent, amended-like}
-use Rattle.uring_driver.proofs.Counts.{where-all}
+use Rattle.uring_driver.specs.Reap.{TookOff, Treated, treat_first, treat_each, slots_once}
+use Rattle.uring_driver.specs.Turned.{reaped_out}
+use Rattle.driver_core.specs.Slot.{named_by}
+use Rattle.uring_driver.specs.Lists.{done_item_of, kept, is_reserved}
+use Rattle.uring_driver.proofs.Reaping.{Names, means-reserved, names-first, first-done, means-first, ended}
+use Rattle.driver_core.proofs.Lists.{same-or-not, amended-absent, amended-like}
+use Rattle.driver_core.proofs.Counts.{where-all}
 use Rattle.uring_driver.proofs.Taking.{owned-taken}
 use Rattle.uring_driver.proofs.Steps.{step-turn, reached-more}
 
@@ -83,44 +84,67 @@ tasks-kept : (numbers : List ℕ) (ops : List Operation) (n : ℕ) → tasks_wok
 tasks-kept [] ops n = refl
 tasks-kept (m ∷ numbers) ops n = ap (λ x. x ++ tasks_woken (amended ops n reap_change) numbers) (task-kept ops n m (slice_get ops m) refl) ∙ ap (λ x. task_woken (slice_get ops m) ++ x) (tasks-kept numbers ops n)
 
--- A ledger whose completions were all reaped.
-abbrev pub reaped_out : Ledger → Ledger
-reaped_out L = reap_each (record L { done = [] }) L.done
-
 -- What is left after one completion was treated ends as the whole does.
-module _ {B : Type 0} (buffer : B → Buffer) (M : Ledger) (v : RingView) (slots : FinMap nat_cmp (Slot B)) (r r' w w' : List ℕ) (one : TreatsOne buffer M v slots r r' w w') where
-  pub means-one : Means buffer v slots (with_op (record M { done = one.rest }) one.number reap_change)
-  means-one = subst (λ K. Means buffer v slots K) (reap-one (record M { done = one.rest }) one.number) one.means
+module _ (L : Ledger) (n : ℕ) (rest : List Item) (first : L.done ≡ Op n ∷ rest) where
+  -- The ledger once the first completion is reaped.
+  abbrev reaped_first : Ledger
+  reaped_first = with_op (record L { done = rest }) n reap_change
 
-  pub all-same : reaped_out (with_op (record M { done = one.rest }) one.number reap_change) ≡ reaped_out M
-  all-same = ap (λ K. reap_each K one.rest) (sym (reap-one (record M { done = [] }) one.number)) ∙ sym (ap (λ d. reap_each (record M { done = [] }) d) one.first)
+  all-same : reaped_out reaped_first ≡ reaped_out L
+  all-same = ap (λ K. reap_each K rest) (sym (reap-one (record L { done = [] }) n)) ∙ sym (ap (λ d. reap_each (record L { done = [] }) d) first)
 
-  pub numbers-same : r' ++ ops_in one.rest ≡ r ++ ops_in M.done
-  numbers-same = ap (λ x. x ++ ops_in one.rest) one.named ∙ append_assoc r (one.number ∷ []) (ops_in one.rest) ∙ ap (λ d. r ++ ops_in d) (sym one.first)
+  numbers-same : n ∷ ops_in rest ≡ ops_in L.done
+  numbers-same = sym (ap ops_in first)
 
-  pub woken-same : w' ++ tasks_woken (amended M.ops one.number reap_change) (ops_in one.rest) ≡ w ++ tasks_woken M.ops (ops_in M.done)
-  woken-same =
-      ap (λ x. x ++ tasks_woken (amended M.ops one.number reap_change) (ops_in one.rest)) one.woke
-      ∙ ap (λ x. (w ++ task_woken (slice_get M.ops one.number)) ++ x) (tasks-kept (ops_in one.rest) M.ops one.number)
-      ∙ append_assoc w (task_woken (slice_get M.ops one.number)) (tasks_woken M.ops (ops_in one.rest))
-      ∙ ap (λ d. w ++ tasks_woken M.ops (ops_in d)) (sym one.first)
+  woken-same : task_woken (slice_get L.ops n) ++ tasks_woken reaped_first.ops (ops_in rest) ≡ tasks_woken L.ops (ops_in L.done)
+  woken-same = ap (λ x. task_woken (slice_get L.ops n) ++ x) (tasks-kept (ops_in rest) L.ops n) ∙ sym (ap (λ d. tasks_woken L.ops (ops_in d)) first)
 
--- Where none is left, all were treated.
-pub ends : {B : Type 0} (buffer : B → Buffer) (M L : Ledger) (v : RingView) (slots : FinMap nat_cmp (Slot B)) (r0 r w0 w : List ℕ) → M.done ≡ [] → Means buffer v slots M → reaped_out M ≡ reaped_out L →
-    r ++ ops_in M.done ≡ r0 ++ ops_in L.done → w ++ tasks_woken M.ops (ops_in M.done) ≡ w0 ++ tasks_woken L.ops (ops_in L.done) → ReapsAll buffer L v slots r0 r w0 w None
-ends buffer M L v slots r0 r w0 w e means all rs ws =
-    let whole : M ≡ reaped_out M = ap (λ d. record M { done = d }) e ∙ sym (ap (λ d. reap_each (record M { done = [] }) d) e) in
+-- All completions of a ledger were treated: none is bad, and the machine's operations and tasks are named.
+pub record TreatsAll {B : Type 0} (buffer : B → Buffer) (L : Ledger) (v : RingView) (all : Treated B) : Type 0 where
+  pub no_bad : all.bad ≡ None
+  pub none_left : all.left ≡ []
+  pub means : Means buffer v all.slots (reaped_out L)
+  pub named : all.reaped ≡ ops_in L.done
+  pub woken : all.woken ≡ tasks_woken L.ops (ops_in L.done)
+
+module _ {B : Type 0} (buffer : B → Buffer) (v : RingView) (slots : FinMap nat_cmp (Slot B)) (L : Ledger) (c : Completion) (rest : List Completion) (old : Means buffer v slots L) (first : v.done ≡ c ∷ rest)
+    (more : (slots' : FinMap nat_cmp (Slot B)) (M : Ledger) → Means buffer (with_done v rest) slots' M → TreatsAll buffer M (with_done v []) (treat_each slots' rest)) where
+  treats-named : (named : Option (ℕ × Option ℕ)) (tasks : List ℕ) → Names named c.serial tasks → tasks ≡ task_woken (slice_get L.ops c.serial) → L.done ≡ Op c.serial ∷ map done_item_of (kept rest) → (all : Treated B) →
+      TreatsAll buffer (with_op (record L { done = map done_item_of (kept rest) }) c.serial reap_change) (with_done v []) all → TreatsAll buffer L (with_done v []) (treat_first false named slots c rest all)
+  treats-named named tasks is same done all ends = subst (λ x. TreatsAll buffer L (with_done v []) (treat_first false x slots c rest all)) (sym is.is) (record {
+    no_bad = ends.no_bad;
+    none_left = ends.none_left;
+    means = subst (λ K. Means buffer (with_done v []) all.slots K) (all-same L c.serial (map done_item_of (kept rest)) done) ends.means;
+    named = ap (λ xs. c.serial ∷ xs) ends.named ∙ numbers-same L c.serial (map done_item_of (kept rest)) done;
+    woken = ap (λ x. x ++ all.woken) (is.woken ∙ same) ∙ ap (λ x. task_woken (slice_get L.ops c.serial) ++ x) ends.woken ∙ woken-same L c.serial (map done_item_of (kept rest)) done;
+  })
+
+  treats-by : (b : Bool) → is_reserved c.word ≡ b → TreatsAll buffer L (with_done v []) (treat_first b (named_by (get slots c.word)) slots c rest (treat_each (slots_once b slots c) rest))
+  treats-by true reserved = more slots L (means-reserved buffer v slots L c rest old first reserved)
+  treats-by false free = treats-named (named_by (get slots c.word)) (task_woken (slice_get L.ops c.serial)) (names-first buffer v slots L c rest old first free) refl (first-done buffer v slots L c rest old first free)
+      (treat_each (slots_once false slots c) rest)
+      (more (slots_once false slots c) (with_op (record L { done = map done_item_of (kept rest) }) c.serial reap_change)
+      (subst (λ K. Means buffer (with_done v rest) (slots_once false slots c) K) (reap-one (record L { done = map done_item_of (kept rest) }) c.serial) (means-first buffer v slots L c rest old first free)))
+
+-- Completions that mean those of a ledger are treated as the machine reaps them.
+pub treats-all : {B : Type 0} (buffer : B → Buffer) (cs : List Completion) (v : RingView) (slots : FinMap nat_cmp (Slot B)) (L : Ledger) → Means buffer v slots L → v.done ≡ cs → TreatsAll buffer L (with_done v []) (treat_each slots cs)
+treats-all buffer [] v slots L old none =
+    let e = ended buffer v slots L old none in
+    let whole : L ≡ reaped_out L = ap (λ d. record L { done = d }) e ∙ sym (ap (λ d. reap_each (record L { done = [] }) d) e) in
     record {
-      no_stop = refl;
-      means = subst (λ K. Means buffer v slots K) (whole ∙ all) means;
-      named = sym (append-nil r) ∙ ap (λ d. r ++ ops_in d) (sym e) ∙ rs;
-      woken_are = sym (append-nil w) ∙ ap (λ d. w ++ tasks_woken M.ops (ops_in d)) (sym e) ∙ ws;
+      no_bad = refl;
+      none_left = refl;
+      means = subst (λ K. Means buffer (with_done v []) slots K) whole (subst (λ d. Means buffer (with_done v d) slots L) none old);
+      named = sym (ap ops_in e);
+      woken = sym (ap (λ d. tasks_woken L.ops (ops_in d)) e);
     }
+treats-all buffer (c ∷ rest) v slots L old first = treats-by buffer v slots L c rest old first (λ slots' M means. treats-all buffer rest (with_done v rest) slots' M means refl) (is_reserved c.word) refl
 
 -- Completions that were taken off, and then more.
-pub took-on : (a b c : RingView) → TookOff a b → TookOff b c → TookOff a c
-took-on a b c f g = record {
+pub took-on : (m n : ℕ) (a b c : RingView) → TookOff m a b → TookOff n b c → TookOff (m + n) a c
+took-on m n a b c f g = record {
   same_queue = g.same_queue ∙ f.same_queue;
+  fewer = (let x = f.fewer in let y = g.fewer in omega (arith, x, y));
   later = record {
     same_capacity = g.later.same_capacity ∙ f.later.same_capacity;
     more_faults = (let x = f.later.more_faults in let y = g.later.more_faults in omega (arith, x, y));
@@ -197,37 +221,24 @@ pub room-capacity : (v : RingView) → (room_made v).capacity ≡ v.capacity
 room-capacity v = room-capacity-by v (length v.queue == v.capacity)
 
 module _ {R B : Type 0} (view : R → RingView) (buffer : B → Buffer) where
-  -- A turn of which all was treated.
-  pub stands-turns : (d new : IoUringDriver R B) (L : Ledger) (reaped0 reaped closed woke0 woke : List ℕ) (stop : Option Stop) → Stands view buffer d L → ReapsAll buffer (take_all L) (whole_ring view new) new.slots.values reaped0 reaped woke0 woke stop →
-      reaped0 ≡ [] → woke0 ≡ [] → closed ≡ [] → room_in new ≡ room_in d → pending view new ≡ [] → new.given ≡ d.given → new.first ≡ d.first → new.held ≡ d.held → Answers view buffer L Turn (TurnReply reaped closed woke) new
-  stands-turns d new L reaped0 reaped closed woke0 woke stop old all r0 w0 c0 room none given first held =
+  -- A turn of which all was treated answers what the machine does.
+  pub stands-turns : (d new : IoUringDriver R B) (L : Ledger) (all : Treated B) (closed : List ℕ) → Stands view buffer d L → TreatsAll buffer (take_all L) (whole_ring view new) all →
+      new.slots.values ≡ all.slots → closed ≡ [] → room_in new ≡ room_in d → pending view new ≡ [] → new.given ≡ d.given → new.first ≡ d.first → new.held ≡ d.held → Answers view buffer L Turn (TurnReply all.reaped closed all.woken) new
+  stands-turns d new L all closed old ends slots c0 room none given first held =
       let M = take_all L in
       let K = reap_each (record M { done = [] }) M.done in
-      let rs : reaped ≡ ops_in M.done = all.named ∙ ap (λ x. x ++ ops_in M.done) r0 in
-      let ws : woke ≡ tasks_woken M.ops (ops_in M.done) = all.woken_are ∙ ap (λ x. x ++ tasks_woken M.ops (ops_in M.done)) w0 in
       let long : length K.ops ≡ length L.ops = length-reap_each (record M { done = [] }) M.done ∙ length-take_each (record L { queue = [] }) L.queue in
       let world : K.world ≡ L.world = world-reap_each (record M { done = [] }) M.done ∙ world-take_each (record L { queue = [] }) L.queue in
       let e = step-turn L in
       record {
-        reply_is = ap (λ x. x.1) e ∙ ap (λ x. TurnReply x [] (tasks_woken M.ops (ops_in M.done))) (sym rs) ∙ ap (λ x. TurnReply reaped x (tasks_woken M.ops (ops_in M.done))) (sym c0) ∙ ap (λ x. TurnReply reaped closed x) (sym ws);
+        reply_is = ap (λ x. x.1) e ∙ ap (λ x. TurnReply x [] (tasks_woken M.ops (ops_in M.done))) (sym ends.named) ∙ ap (λ x. TurnReply all.reaped x (tasks_woken M.ops (ops_in M.done))) (sym c0) ∙ ap (λ x. TurnReply all.reaped closed x) (sym ends.woken);
         stands = subst (λ N. Stands view buffer new N) (sym (ap (λ x. x.0) e)) (record {
           events = old.events ++ Turn ∷ [];
-          reached = sym (ap (λ x. x.0) e) ∙ reached-more L (view (ring_in new)).capacity old.events Turn (old.reached ∙ ap (λ x. ledger x old.events) (old.means.capacity ∙ sym (capacity-reap_each (record M { done = [] }) M.done ∙ capacity-take_each (record L { queue = [] }) L.queue) ∙ sym all.means.capacity));
+          reached = sym (ap (λ x. x.0) e) ∙ reached-more L (view (ring_in new)).capacity old.events Turn (old.reached ∙ ap (λ x. ledger x old.events) (old.means.capacity ∙ sym (capacity-reap_each (record M { done = [] }) M.done ∙ capacity-take_each (record L { queue = [] }) L.queue) ∙ sym ends.means.capacity));
           numbered = given ∙ old.numbered ∙ sym long;
           handles = λ h. ap (λ k. is_among k new.held h) first ∙ ap (λ k. is_among d.first k h) held ∙ old.handles h ∙ ap (λ xs. nat_lt h (length xs)) (sym world);
           room = (let a = owned-reap_each (record M { done = [] }) M.done in let b = owned-taken buffer (whole_ring view d) d.slots.values L old.means in let c = ap (λ x. length (numbers_where is_owned 0 x.0.ops)) e in let r = old.room in omega (arith, a, b, c, r, room));
           fits = (let n = ap length none in omega (arith, n));
-          means = all.means;
+          means = subst (λ x. Means buffer (whole_ring view new) x K) (sym slots) ends.means;
         });
       }
-
-  -- What a turn answers where all was treated: the machine's reply.
-  pub turns-none : (d new : IoUringDriver R B) (steady : Bool) (L : Ledger) (turned : Turned) (reaped0 reaped woke0 woke : List ℕ) (bad : Option Stop) → Stands view buffer d L → ReapsAll buffer (take_all L) (whole_ring view new) new.slots.values reaped0 reaped woke0 woke bad →
-      reaped0 ≡ [] → woke0 ≡ [] → turned.reaped ≡ reaped → turned.closed ≡ [] → turned.woken ≡ woke → turned.stop ≡ bad → room_in new ≡ room_in d → pending view new ≡ [] → new.given ≡ d.given → new.first ≡ d.first → new.held ≡ d.held → TurnsFor view buffer steady L d new turned turned.stop
-  turns-none d new steady L turned reaped0 reaped woke0 woke bad old all r0 w0 r c w s room none given first held =
-      subst (λ x. TurnsFor view buffer steady L d new turned x) (sym (s ∙ all.no_stop))
-      (stands-turns d new L reaped0 turned.reaped turned.closed woke0 turned.woken bad old (record { no_stop = all.no_stop; means = all.means; named = r ∙ all.named; woken_are = w ∙ all.woken_are }) r0 w0 c room none given first held)
-
-  -- One that was busy, over a ring that may be.
-  pub turns-busy : (d new : IoUringDriver R B) (steady : Bool) (L : Ledger) (turned : Turned) → turned.stop ≡ Some Busy → (IsTrue steady → ⊥) → TurnsFor view buffer steady L d new turned turned.stop
-  turns-busy d new steady L turned s h = subst (λ x. TurnsFor view buffer steady L d new turned x) (sym s) h

@@ -1,17 +1,17 @@
 -- How a turn begins, and how its end makes it whole. Cited by `begin_turn` and `end_turn` of the driver, and by no public clause.
-use Rattle.std.specs.Prelude.{◌≡◌, ◌+◌, ◌≤◌, Bool, true, false, IsTrue, [], length, Option, Some, None, ⊤, vec_len, vec_capacity}
-use Rattle.std.specs.Option.{unwrap_or}
+use Rattle.std.specs.Prelude.{ℕ, ◌≡◌, Bool, true, false, IsTrue, [], length, Option, Some, None, ⊤}
 use Rattle.rent_buf.specs.Buffer.{Buffer}
 use Rattle.ring_core.specs.Counts.{Rose}
 use Rattle.ring_core.specs.Ring.{RingView}
-use Rattle.uring_driver.specs.declared.op.Stop.{Stop}
-use Rattle.uring_driver.specs.declared.op.Stop.TheVariants.{RingFault, Busy, BadCompletion, OutOfMemory}
-use Rattle.uring_driver.specs.declared.op.Turned.{Turned}
-use Rattle.uring_driver.specs.declared.driver.IoUringDriver.{IoUringDriver}
+use Rattle.driver_core.specs.declared.op.Stop.{Stop}
+use Rattle.driver_core.specs.declared.op.Stop.TheVariants.{RingFault, Busy, BadCompletion, OutOfMemory}
+use Rattle.driver_core.specs.declared.op.Turned.{Turned}
+use Rattle.uring_driver.specs.declared.uring.IoUringDriver.{IoUringDriver}
 use Rattle.uring_driver.specs.declared.turn.Begun.{Begun}
-use Rattle.uring_driver.specs.Driver.{ring_in}
+use Rattle.uring_driver.specs.Uring.{ring_in}
+use Rattle.uring_driver.specs.Reap.{HasRoom}
 use Rattle.uring_driver.specs.Pending.{Pending}
-use Rattle.uring_driver.specs.Outbox.{Enters}
+use Rattle.uring_driver.specs.Submissions.{Enters}
 use Rattle.uring_driver.specs.Submitted.{SameSlots}
 use Rattle.uring_driver.specs.Turned.{TurnMeets}
 
@@ -20,19 +20,13 @@ abbrev pub EnteredFor : {R : Type 0} → (R → RingView) → Bool → Bool → 
 EnteredFor view tells steady old new false = Enters view tells old new × ((view new.ring).queue ≡ []) × (new.due ≡ [])
 EnteredFor view tells steady old new true = Enters view tells old new × Rose (view old.ring).busies (view new.ring).busies × (IsTrue steady → ⊥)
 
--- A turn has room for the numbers of all completions that stand.
-pub record HasRoom {R B : Type 0} (view : R → RingView) (driver : IoUringDriver R B) (begun : Begun) : Type 0 where
-  pub reaped : vec_len begun.reaped + begun.count ≤ vec_capacity begun.reaped
-  pub woken : vec_len begun.woken + begun.count ≤ vec_capacity begun.woken
-  pub all : length (view (ring_in driver)).done ≤ begun.count
-
 -- A turn was begun: the driver has entered its ring, and nothing is treated yet.
 pub record HasBegun {R B : Type 0} (view : R → RingView) (tells steady : Bool) (old new : IoUringDriver R B) (begun : Begun) : Type 0 where
   pub same : SameSlots old new
   pub entered : EnteredFor view tells steady old.ring new.ring begun.busy
-  pub none_reaped : begun.reaped.items ≡ []
-  pub none_woken : begun.woken.items ≡ []
-  pub room : HasRoom view new begun
+  pub none_reaped : begun.named.reaped.items ≡ []
+  pub none_woken : begun.named.woken.items ≡ []
+  pub room : HasRoom begun.named (length (view (ring_in new)).done)
 
 -- Why a turn can't begin: the ring failed, which a steady one never does, or memory ran out and nothing changed.
 abbrev pub CannotBegin : {R B : Type 0} → (R → RingView) → Bool → Bool → IoUringDriver R B → IoUringDriver R B → Stop → Type 0
@@ -45,12 +39,13 @@ CannotBegin view tells steady old new (BadCompletion word) = ⊥
 abbrev pub EndsTurn : {R B : Type 0} → (R → RingView) → (B → Buffer) → Bool → Bool → IoUringDriver R B → Begun → IoUringDriver R B → Turned → Type 0
 EndsTurn {R} {B} view buffer tells steady mid begun new turned = (old : IoUringDriver R B) → HasBegun view tells steady old mid begun → TurnMeets view buffer tells steady old new turned
 
--- Why a turn stopped that treated what stood: a bad completion, or else that the ring was busy.
-abbrev pub why_stopped : Bool → Option Stop → Option Stop
-why_stopped false bad = bad
-why_stopped true bad = Some (unwrap_or bad Busy)
+-- Why a turn stopped that treated what was ready: a bad completion, or else that the ring was busy.
+abbrev pub why_stopped : Option ℕ → Bool → Option Stop
+why_stopped (Some word) busy = Some (BadCompletion word)
+why_stopped None true = Some Busy
+why_stopped None false = None
 
--- A turn went on to treat what stood.
+-- A turn went on to treat what was ready.
 abbrev pub HasTreated : Option Stop → Type 0
 HasTreated None = ⊤
 HasTreated (Some RingFault) = ⊥

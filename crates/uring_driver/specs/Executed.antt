@@ -1,5 +1,5 @@
 -- What an execution answers.
-use Rattle.std.specs.Prelude.{ℕ, ◌≡◌, Some, Result, Ok, Err}
+use Rattle.std.specs.Prelude.{ℕ, ◌≡◌, Some, None, Result, Ok, Err}
 use Rattle.rent_buf.specs.Buffer.{Buffer}
 use Rattle.ring_core.specs.declared.request.Told.{Told}
 use Rattle.ring_core.specs.declared.ledger.Event.TheVariants.{Exec}
@@ -10,16 +10,16 @@ use Rattle.ring_core.specs.declared.mem_ring.ExecRefusal.TheVariants.{NotFlying,
 use Rattle.ring_core.specs.Refusal.{cause}
 use Rattle.ring_core.specs.Ledger.{Ledger}
 use Rattle.ring_core.specs.Ring.{RingView}
-use Rattle.uring_driver.specs.declared.op.Executed.{Executed}
-use Rattle.uring_driver.specs.declared.op.Executed.TheVariants.{Op}
-use Rattle.uring_driver.specs.declared.driver.IoUringDriver.{IoUringDriver}
+use Rattle.driver_core.specs.declared.op.Executed.{Executed}
+use Rattle.driver_core.specs.declared.op.Executed.TheVariants.{Op}
+use Rattle.uring_driver.specs.declared.uring.IoUringDriver.{IoUringDriver}
 use Rattle.uring_driver.specs.Stands.{Answers}
 
--- Why an execution was refused: by the machine's cause. For want of memory there is none.
+-- Why an execution was refused: by the machine's cause, or memory ran out and the machine names none.
 abbrev pub RefusedFor : Ledger → ℕ → Told → ExecRefusal → Type 0
 RefusedFor L place told NotFlying = cause L (Exec place told) ≡ Some NoFlight
 RefusedFor L place told BadOutcome = cause L (Exec place told) ≡ Some WrongOutcome
-RefusedFor L place told OutOfMemory = Unit {0}
+RefusedFor L place told OutOfMemory = cause L (Exec place told) ≡ None
 
 -- An execution answers what the machine does.
 abbrev pub ExecutesFor : {B : Type 0} → (B → Buffer) → Ledger → ℕ → Told → IoUringDriver RingView B → Result Executed ExecRefusal → Type 0

@@ -1,4 +1,4 @@
--- What the calls on handles answer. Cited by `feed`, `end` and `look` of the driver, and of its outbox.
+-- What the calls on handles answer. Cited by `feed`, `end` and `look` of the driver, and of its submissions.
 use Rattle.std.specs.Prelude.{ℕ, ◌≡◌, true, false, List, Some, None, Result, Ok, Err}
 use Rattle.rent_buf.specs.Buffer.{Buffer}
 use Rattle.ring_core.specs.declared.world.HandleState.{HandleState}
@@ -15,7 +15,7 @@ use Rattle.ring_core.specs.Refusal.{cause}
 use Rattle.ring_core.specs.Ledger.{Ledger}
 use Rattle.ring_core.specs.Step.{step}
 use Rattle.ring_core.specs.Ring.{RingView}
-use Rattle.uring_driver.specs.declared.driver.IoUringDriver.{IoUringDriver}
+use Rattle.uring_driver.specs.declared.uring.IoUringDriver.{IoUringDriver}
 use Rattle.uring_driver.specs.Stands.{Answers}
 
 -- Why nothing arrived at a handle: its end is marked; or it isn't, and memory ran out.

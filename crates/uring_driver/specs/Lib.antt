@@ -1,9 +1,7 @@
 pub mod Pending
-pub mod Outbox
-pub mod Slot
-pub mod Driver
+pub mod Submissions
+pub mod Uring
 pub mod Op
-pub mod Slots
 pub mod Lists
 pub mod Stands
 pub mod Submitted
@@ -14,3 +12,5 @@ pub mod Reap
 pub mod Turned
 pub mod Begun
 pub mod Parked
+pub mod State
+pub mod Dropped

@@ -1,5 +1,5 @@
 -- What the lists of a ring mean in the ledger. Its entries are read by serials there; the ring itself compares words alone. Cited by `Stands`.
-use Rattle.std.specs.Prelude.{ℕ, ◌≡◌, ◌<◌, Bool, true, false, nat_le, List, [], ◌∷◌, map, Some, slice_get}
+use Rattle.std.specs.Prelude.{ℕ, ◌≡◌, ◌<◌, Bool, true, false, List, [], ◌∷◌, map, Some, slice_get}
 use Rattle.std.specs.Ordering.{nat_cmp}
 use Rattle.std.specs.FinMap as finite
 use Rattle.rent_buf.specs.Buffer.{Buffer}
@@ -8,10 +8,14 @@ use Rattle.ring_core.specs.declared.entry.Body.TheVariants.{Call as Calls, Cance
 use Rattle.ring_core.specs.declared.entry.Entry.{Entry}
 use Rattle.ring_core.specs.declared.entry.Flight.{Flight}
 use Rattle.ring_core.specs.declared.entry.Completion.{Completion}
+use Rattle.ring_core.specs.declared.entry.TheConstants.{CANCEL_WORD}
+use Rattle.ring_core.specs.declared.entry.Target.{Target}
+use Rattle.ring_core.specs.declared.entry.Target.TheVariants.{Slot as Keyed, Reserved}
+use Rattle.ring_core.specs.Entry.{target}
 use Rattle.ring_core.specs.Request.{call_of, plain_request}
 use Rattle.ring_core.specs.Ring.{RingView}
 use Rattle.ring_core.specs.Ledger.{Ledger, Queued, Req, Cancel, Item, Op, Operation, Place, InQueue, InFlight, InDone}
-use Rattle.uring_driver.specs.declared.slot.Slot.{Slot}
+use Rattle.driver_core.specs.declared.slot.Slot.{Slot}
 
 -- What an entry with a body means in the queue.
 abbrev pub queued_in : Entry → Body → Queued
@@ -35,9 +39,14 @@ item_of flight = Op flight.entry.serial
 abbrev pub done_item_of : Completion → Item
 done_item_of completion = Op completion.serial
 
--- A word is one of those that reach no slot.
+-- What a word names is no slot.
+abbrev pub names_no_slot : Target → Bool
+names_no_slot (Keyed key) = false
+names_no_slot (Reserved word) = true
+
+-- A word is one of those that name no slot.
 abbrev pub is_reserved : ℕ → Bool
-is_reserved word = nat_le 18446744073709551612 word
+is_reserved word = names_no_slot (target word)
 
 -- A completion in front of others, unless it is left out.
 abbrev pub kept_unless : Bool → Completion → List Completion → List Completion
@@ -82,7 +91,7 @@ pub record CompletionFor {B : Type 0} (slots : finite.FinMap nat_cmp (Slot B)) (
 -- What stands in the queue, by its body: a call is that of an operation that is queued, and the word of a cancel is reserved.
 abbrev pub QueuedFor : {B : Type 0} → (B → Buffer) → finite.FinMap nat_cmp (Slot B) → List Operation → Entry → Body → Type 0
 QueuedFor buffer slots ops entry (Calls call) = EntryFor buffer slots entry × IsAt ops entry.serial InQueue
-QueuedFor buffer slots ops entry (Cancels key) = entry.word ≡ 18446744073709551615
+QueuedFor buffer slots ops entry (Cancels key) = entry.word ≡ CANCEL_WORD
 
 -- An entry has a cancel's key exactly where it has the cancel's number.
 pub record Meets (entry : Entry) (key number : ℕ) : Type 0 where

@@ -1,4 +1,4 @@
--- An outbox as contracts see it. Cited by `Outbox`, and by the definitions of `Outbox`.
+-- A submission queue as contracts see it. Cited by `Submissions` and its definitions.
 use Rattle.std.specs.Prelude.{ℕ, List, refl}
 use Rattle.std.specs.Coded.{Coded, code_by, coded×, coded_list, coded_ℕ}
 use Rattle.ring_core.specs.declared.entry.Entry.{Entry}

@@ -1,32 +1,30 @@
 -- What a poll answers.
-use Rattle.std.specs.Prelude.{ℕ, ◌≡◌, Option, Some, None, slice_get}
+use Rattle.std.specs.Prelude.{ℕ, Option, Some, None, slice_get}
 use Rattle.rent_buf.specs.Buffer.{Buffer}
-use Rattle.ring_core.specs.declared.ledger.Event.TheVariants.{Poll}
-use Rattle.ring_core.specs.declared.ledger.Reply.TheVariants.{Pending as Waits, Handed}
-use Rattle.ring_core.specs.Request.{plain_request, buffer_of}
 use Rattle.ring_core.specs.Ledger.{Ledger, Operation, Place, InQueue, InFlight, InDone, Reaped, Gone}
 use Rattle.ring_core.specs.Ring.{RingView}
-use Rattle.uring_driver.specs.declared.op.Op.{Op}
-use Rattle.uring_driver.specs.declared.op.PollOp.{PollOp}
-use Rattle.uring_driver.specs.declared.op.PollOp.TheVariants.{Pending, Ready}
-use Rattle.uring_driver.specs.declared.driver.IoUringDriver.{IoUringDriver}
-use Rattle.uring_driver.specs.Op.{number_of, KeepsTokens, DropsToken}
-use Rattle.uring_driver.specs.Stands.{Answers}
+use Rattle.driver_core.specs.declared.op.Op.{Op}
+use Rattle.driver_core.specs.declared.op.PollOp.{PollOp}
+use Rattle.driver_core.specs.Answers.{PollsFor as PollsBy}
+use Rattle.driver_core.specs.Operations.{PollsOp as PollsIn}
+use Rattle.driver_core.specs.Op.{PollsTokens as PollsTokensIn}
+use Rattle.uring_driver.specs.declared.uring.IoUringDriver.{IoUringDriver}
+use Rattle.uring_driver.specs.Op.{ops_in}
+use Rattle.uring_driver.specs.Stands.{Stands}
+pub use Rattle.driver_core.specs.Op.{IsPending}
 
--- A poll answers what the machine does. What is ready has its outcome and its buffer.
+-- A poll answers what the machine does. What is ready has its outcome, and its own request with its buffer.
 abbrev pub PollsFor : {R B : Type 0} → (R → RingView) → (B → Buffer) → Ledger → Op → ℕ → IoUringDriver R B → PollOp B → Type 0
-PollsFor view buffer L op task new (Pending back) = Answers view buffer L (Poll (number_of op) task) Waits new
-PollsFor view buffer L op task new (Ready done) = Answers view buffer L (Poll (number_of op) task) (Handed done.outcome (buffer_of (plain_request buffer done.request))) new
+PollsFor view buffer L op task new result = PollsBy (Stands view buffer) buffer L op task new result
 
--- A poll that is pending hands its token back, and keeps all. One that is ready keeps all but this one.
+-- What a poll does over any ring to the slot at its token's key: Pending exactly while it isn't completed, and then its task is the
+-- one that polled; what is ready is that slot's own request and outcome, and the slot goes.
+abbrev pub PollsOp : {R B : Type 0} → IoUringDriver R B → IoUringDriver R B → Op → ℕ → PollOp B → Type 0
+PollsOp old new op task result = PollsIn (ops_in old) (ops_in new) op task result
+
+-- A poll that is pending returns its token, and keeps all. One that is ready keeps all but this one.
 abbrev pub PollsTokens : {R B : Type 0} → IoUringDriver R B → IoUringDriver R B → Op → PollOp B → Type 0
-PollsTokens old new op (Pending back) = (back ≡ op) × KeepsTokens old new
-PollsTokens old new op (Ready done) = DropsToken old new op
-
--- The answer is Pending.
-abbrev pub IsPending : {B : Type 0} → PollOp B → Type 0
-IsPending (Pending back) = Unit {0}
-IsPending (Ready done) = ⊥
+PollsTokens old new op result = PollsTokensIn (ops_in old) (ops_in new) op result
 
 -- A place before the reap.
 abbrev pub IsUnreapedPlace : Place → Type 0

@@ -1,23 +1,18 @@
--- What treating completions does: one, and all that stand. Cited by `reap_one` and `reap_all`.
-use Rattle.std.specs.Prelude.{ℕ, ◌≡◌, ◌+◌, List, [], ◌∷◌, ◌++◌, false, length, Option, Some, None, slice_get}
+-- What treating completions does, one after another. Cited by `reap_one` and `reap_all`, and by what every turn does.
+use Rattle.std.specs.Prelude.{ℕ, ◌≡◌, ◌+◌, ◌≤◌, Bool, true, false, List, [], ◌∷◌, ◌++◌, length, option_to_list, Option, Some, None, vec_len, vec_capacity}
 use Rattle.std.specs.Ordering.{nat_cmp}
 use Rattle.std.specs.FinMap as map
-use Rattle.rent_buf.specs.Buffer.{Buffer}
+use Rattle.ring_core.specs.declared.entry.Completion.{Completion}
 use Rattle.ring_core.specs.Ring.{RingView, IsLater}
-use Rattle.ring_core.specs.Ledger.{Ledger, Item, Op}
-use Rattle.ring_core.specs.Turn.{reap_one, reap_each, ops_in, task_woken, tasks_woken}
-use Rattle.uring_driver.specs.declared.op.Stop.{Stop}
-use Rattle.uring_driver.specs.declared.op.Stop.TheVariants.{RingFault, Busy, BadCompletion, OutOfMemory}
-use Rattle.uring_driver.specs.declared.turn.Reap.{Reap}
-use Rattle.uring_driver.specs.declared.turn.Reap.TheVariants.{End, Stray, Reserved, Reaped}
-use Rattle.uring_driver.specs.declared.slot.Slot.{Slot}
-use Rattle.uring_driver.specs.Slot.{flies_in}
+use Rattle.driver_core.specs.declared.slot.Slot.{Slot}
+use Rattle.uring_driver.specs.declared.turn.Named.{Named}
+use Rattle.driver_core.specs.Slot.{flies_in, named_by, slots_after}
 use Rattle.uring_driver.specs.Lists.{is_reserved}
-use Rattle.uring_driver.specs.Stands.{Means}
 
--- Completions were taken off: the queue keeps its length, and no count falls.
-pub record TookOff (old new : RingView) : Type 0 where
+-- So many completions were taken off: the queue keeps its length, and no count falls.
+pub record TookOff (count : ℕ) (old new : RingView) : Type 0 where
   pub same_queue : length new.queue ≡ length old.queue
+  pub fewer : length new.done + count ≡ length old.done
   pub later : IsLater old new
 
 -- A word names no slot in flight, and isn't reserved.
@@ -25,40 +20,51 @@ pub record IsStray {B : Type 0} (slots : map.FinMap nat_cmp (Slot B)) (word : �
   pub lands_nowhere : flies_in (map.get slots word) ≡ false
   pub unreserved : is_reserved word ≡ false
 
--- What one reap does to any ring, and to what slots a stray completion leaves.
-abbrev pub TakesOff : {B : Type 0} → RingView → RingView → map.FinMap nat_cmp (Slot B) → Reap → Type 0
-TakesOff old new slots End = (new ≡ old) × (old.done ≡ [])
-TakesOff old new slots (Stray word) = TookOff old new × (length new.done + 1 ≡ length old.done) × IsStray slots word
-TakesOff old new slots Reserved = TookOff old new × (length new.done + 1 ≡ length old.done)
-TakesOff old new slots Reaped = TookOff old new × (length new.done + 1 ≡ length old.done)
+-- There is room for so many more numbers in each list.
+pub record HasRoom (named : Named) (count : ℕ) : Type 0 where
+  pub reaped : vec_len named.reaped + count ≤ vec_capacity named.reaped
+  pub woken : vec_len named.woken + count ≤ vec_capacity named.woken
 
--- What the reaps of a turn do to any ring: but at a stray completion, none is left.
-abbrev pub EndsAt : {B : Type 0} → RingView → RingView → map.FinMap nat_cmp (Slot B) → Option Stop → Type 0
-EndsAt old new slots None = TookOff old new × (new.done ≡ [])
-EndsAt old new slots (Some (BadCompletion word)) = TookOff old new × IsStray slots word
-EndsAt old new slots (Some RingFault) = ⊥
-EndsAt old new slots (Some Busy) = ⊥
-EndsAt old new slots (Some OutOfMemory) = ⊥
+-- What treating completions comes to: the slots; the operations that are named, and the tasks to wake; and the word of a stray
+-- completion that ended it, with the completions behind that one.
+pub record Treated (B : Type 0) : Type 0 where
+  pub slots : map.FinMap nat_cmp (Slot B)
+  pub reaped : List ℕ
+  pub woken : List ℕ
+  pub bad : Option ℕ
+  pub left : List Completion
 
--- The ledger's first completion was treated: its operation is named, and its task.
-pub record TreatsOne {B : Type 0} (buffer : B → Buffer) (L : Ledger) (view : RingView) (slots : map.FinMap nat_cmp (Slot B)) (reaped reaped' woken woken' : List ℕ) : Type 0 where
-  pub number : ℕ
-  pub rest : List Item
-  pub first : L.done ≡ Op number ∷ rest
-  pub means : Means buffer view slots (reap_one (record L { done = rest }) (Op number))
-  pub named : reaped' ≡ reaped ++ number ∷ []
-  pub woke : woken' ≡ woken ++ task_woken (slice_get L.ops number)
+-- The slots once one completion is treated: a reserved word changes none.
+abbrev pub slots_once : {B : Type 0} → Bool → map.FinMap nat_cmp (Slot B) → Completion → map.FinMap nat_cmp (Slot B)
+slots_once true slots completion = slots
+slots_once false slots completion = slots_after slots completion (map.get slots completion.word)
 
--- What one reap does to a ring and slots that meant a ledger: none is stray.
-abbrev pub ReapsOne : {B : Type 0} → (B → Buffer) → Ledger → RingView → map.FinMap nat_cmp (Slot B) → List ℕ → List ℕ → List ℕ → List ℕ → Reap → Type 0
-ReapsOne buffer L view slots reaped reaped' woken woken' End = (L.done ≡ []) × Means buffer view slots L × (reaped' ≡ reaped) × (woken' ≡ woken)
-ReapsOne buffer L view slots reaped reaped' woken woken' (Stray word) = ⊥
-ReapsOne buffer L view slots reaped reaped' woken woken' Reserved = Means buffer view slots L × (reaped' ≡ reaped) × (woken' ≡ woken)
-ReapsOne buffer L view slots reaped reaped' woken woken' Reaped = TreatsOne buffer L view slots reaped reaped' woken woken'
+-- One completion, in front of what the rest comes to: it is passed over where its word is reserved, it ends all where it names no
+-- slot in flight, and else it names its operation, and the task that waits for it.
+abbrev pub treat_first : {B : Type 0} → Bool → Option (ℕ × Option ℕ) → map.FinMap nat_cmp (Slot B) → Completion → List Completion → Treated B → Treated B
+treat_first true named slots completion rest more = more
+treat_first false None slots completion rest more = record { slots = slots; reaped = []; woken = []; bad = Some completion.word; left = rest }
+treat_first false (Some named) slots completion rest more = record more { reaped = named.0 ∷ more.reaped; woken = option_to_list named.1 ++ more.woken }
 
--- All that stood was treated, in order.
-pub record ReapsAll {B : Type 0} (buffer : B → Buffer) (L : Ledger) (view : RingView) (slots : map.FinMap nat_cmp (Slot B)) (reaped reaped' woke woke' : List ℕ) (stop : Option Stop) : Type 0 where
-  pub no_stop : stop ≡ None
-  pub means : Means buffer view slots (reap_each (record L { done = [] }) L.done)
-  pub named : reaped' ≡ reaped ++ ops_in L.done
-  pub woken_are : woke' ≡ woke ++ tasks_woken L.ops (ops_in L.done)
+-- Completions are treated in order.
+abbrev pub treat_each : {B : Type 0} → map.FinMap nat_cmp (Slot B) → List Completion → Treated B
+treat_each slots [] = record { slots = slots; reaped = []; woken = []; bad = None; left = [] }
+treat_each slots (completion ∷ rest) = treat_first (is_reserved completion.word) (named_by (map.get slots completion.word)) slots completion rest (treat_each (slots_once (is_reserved completion.word) slots completion) rest)
+
+-- What completions come to behind those that were named before.
+abbrev pub treated_behind : {B : Type 0} → Named → Treated B → Treated B
+treated_behind named treated = record treated { reaped = named.reaped.items ++ treated.reaped; woken = named.woken.items ++ treated.woken }
+
+-- Where treating has come to.
+abbrev pub treated_to : {B : Type 0} → map.FinMap nat_cmp (Slot B) → Named → Option ℕ → List Completion → Treated B
+treated_to slots named bad left = record { slots = slots; reaped = named.reaped.items; woken = named.woken.items; bad = bad; left = left }
+
+-- What the reaps of a turn do to any ring: all completions are taken off, or those up to a stray one.
+abbrev pub EndsAt : {B : Type 0} → RingView → RingView → map.FinMap nat_cmp (Slot B) → Option ℕ → Type 0
+EndsAt old new slots None = TookOff (length old.done) old new
+EndsAt old new slots (Some word) = (count : ℕ) × TookOff count old new × IsStray slots word
+
+-- The first completion was treated, and what the others come to stays; or it was a stray one, which ended all.
+abbrev pub TreatsFirst : {B : Type 0} → Treated B → map.FinMap nat_cmp (Slot B) → Named → List Completion → Option ℕ → Type 0
+TreatsFirst all slots named left None = all ≡ treated_behind named (treat_each slots left)
+TreatsFirst all slots named left (Some word) = all ≡ treated_to slots named (Some word) left

@@ -7,13 +7,13 @@ use Rattle.ring_core.specs.declared.ledger.Event.{Event}
 use Rattle.ring_core.specs.declared.ledger.Reply.{Reply}
 use Rattle.ring_core.specs.Lists.{numbers_where}
 use Rattle.ring_core.specs.Ledger.{Ledger, is_owned, user_holds}
-use Rattle.ring_core.specs.Step.{step}
 use Rattle.ring_core.specs.Run.{ledger}
 use Rattle.ring_core.specs.Ring.{RingView}
-use Rattle.uring_driver.specs.declared.slot.Slot.{Slot}
-use Rattle.uring_driver.specs.declared.driver.IoUringDriver.{IoUringDriver}
-use Rattle.uring_driver.specs.Driver.{ring_in, room_in, pending, whole_ring, given_by, holds_handle}
-use Rattle.uring_driver.specs.Slots.{SlotsStand}
+use Rattle.driver_core.specs.declared.slot.Slot.{Slot}
+use Rattle.uring_driver.specs.declared.uring.IoUringDriver.{IoUringDriver}
+use Rattle.uring_driver.specs.Uring.{ring_in, room_in, pending, whole_ring, given_by, holds_handle}
+use Rattle.driver_core.specs.Slots.{SlotsStand}
+use Rattle.driver_core.specs.Answers.{Answers as AnswersBy}
 use Rattle.uring_driver.specs.Lists.{ListsStand}
 
 -- A ring and slots mean a ledger: its capacity, what stands on its handles, its operations by their slots, and its lists.
@@ -36,6 +36,5 @@ pub record Stands {R B : Type 0} (view : R → RingView) (buffer : B → Buffer)
   pub means : Means buffer (whole_ring view driver) driver.slots.values L
 
 -- A call's answer is the machine's reply to its event, and the driver stands for the machine's next ledger.
-pub record Answers {R B : Type 0} (view : R → RingView) (buffer : B → Buffer) (L : Ledger) (event : Event) (reply : Reply) (new : IoUringDriver R B) : Type 0 where
-  pub reply_is : (step L event).1 ≡ reply
-  pub stands : Stands view buffer new (step L event).0
+abbrev pub Answers : {R B : Type 0} → (R → RingView) → (B → Buffer) → Ledger → Event → Reply → IoUringDriver R B → Type 0
+Answers view buffer L event reply new = AnswersBy (Stands view buffer) L event reply new

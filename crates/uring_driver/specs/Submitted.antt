@@ -1,42 +1,38 @@
 -- What a submission answers.
-use Rattle.std.specs.Prelude.{ℕ, ◌≡◌, ◌+◌, ◌<◌, ◌≤◌, ◌⊎◌, Bool, IsTrue, List, [], ◌∷◌, Result, Ok, Err, length}
+use Rattle.std.specs.Prelude.{ℕ, ◌≡◌, ◌+◌, ◌<◌, ◌≤◌, Bool, IsTrue, List, [], ◌∷◌, Result, Ok, Err, length}
 use Rattle.std.specs.FinMap as map
 use Rattle.rent_buf.specs.Buffer.{Buffer}
 use Rattle.rent_buf.specs.Parts.{Parts}
 use Rattle.op_slots.specs.Slots.{Slots}
 use Rattle.ring_core.specs.declared.request.Request.{Request}
-use Rattle.ring_core.specs.declared.ledger.Event.TheVariants.{Submit}
-use Rattle.ring_core.specs.declared.ledger.Reply.TheVariants.{Submitted as Given}
 use Rattle.ring_core.specs.Counts.{Rose}
 use Rattle.ring_core.specs.declared.entry.Entry.{Entry}
 use Rattle.ring_core.specs.Request.{call_of, plain_request}
 use Rattle.ring_core.specs.Ledger.{Ledger}
 use Rattle.ring_core.specs.Ring.{RingView}
-use Rattle.uring_driver.specs.declared.op.Op.{Op as Token}
-use Rattle.uring_driver.specs.declared.op.Submitted.{Submitted}
-use Rattle.uring_driver.specs.declared.op.Submitted.TheVariants.{Op}
-use Rattle.uring_driver.specs.declared.op.SubmitError.{SubmitError}
-use Rattle.uring_driver.specs.declared.op.SubmitFault.{SubmitFault}
-use Rattle.uring_driver.specs.declared.op.SubmitFault.TheVariants.{Full, RingFault, Busy, OutOfMemory}
-use Rattle.uring_driver.specs.declared.slot.Slot.{Slot}
-use Rattle.uring_driver.specs.declared.driver.IoUringDriver.{IoUringDriver}
-use Rattle.uring_driver.specs.Driver.{ring_in, due_in, pending}
-use Rattle.uring_driver.specs.Op.{number_of, Holds, call_for}
+use Rattle.driver_core.specs.declared.op.Op.{Op as Token}
+use Rattle.driver_core.specs.declared.op.Submitted.{Submitted}
+use Rattle.driver_core.specs.declared.op.Submitted.TheVariants.{Op}
+use Rattle.driver_core.specs.declared.op.SubmitError.{SubmitError}
+use Rattle.driver_core.specs.declared.op.SubmitFault.{SubmitFault}
+use Rattle.driver_core.specs.declared.op.SubmitFault.TheVariants.{Full, RingFault, Busy, OutOfMemory}
+use Rattle.driver_core.specs.declared.slot.Slot.{Slot}
+use Rattle.uring_driver.specs.declared.uring.IoUringDriver.{IoUringDriver}
+use Rattle.uring_driver.specs.Uring.{ring_in, due_in, pending}
+use Rattle.driver_core.specs.Answers.{SubmitsFor as SubmitsBy}
+use Rattle.driver_core.specs.Op.{AddsToken as AddsTokenIn}
+use Rattle.uring_driver.specs.Op.{ops_in, call_for}
 use Rattle.uring_driver.specs.Pending.{Pending}
-use Rattle.uring_driver.specs.Outbox.{IsSameButRoom, PendingMoves}
-use Rattle.uring_driver.specs.Stands.{Stands, Answers}
+use Rattle.uring_driver.specs.Submissions.{IsSameButRoom, PendingMoves, MustEnter}
+use Rattle.uring_driver.specs.Stands.{Stands}
 
 -- A submission got the machine's next number.
 abbrev pub SubmitsFor : {R B : Type 0} → (R → RingView) → (B → Buffer) → Ledger → Request B Parts → IoUringDriver R B → Submitted → Type 0
-SubmitsFor view buffer L request new (Op op) = Answers view buffer L (Submit (plain_request buffer request)) (Given (number_of op)) new
+SubmitsFor view buffer L request new submitted = SubmitsBy (Stands view buffer) buffer L request new submitted
 
 -- The driver holds the new token beside those that it held, and no other.
-pub record AddsTo {R B : Type 0} (old new : IoUringDriver R B) (op : Token) : Type 0 where
-  pub this : Holds new op
-  pub kept : (other : Token) → Holds old other → Holds new other
-  pub only : (other : Token) → Holds new other → (other ≡ op) ⊎ Holds old other
-  pub number : number_of op ≡ old.given
-  pub next : new.given ≡ old.given + 1
+abbrev pub AddsTo : {R B : Type 0} → IoUringDriver R B → IoUringDriver R B → Token → Type 0
+AddsTo old new op = AddsTokenIn (ops_in old) (ops_in new) op
 
 abbrev pub AddsToken : {R B : Type 0} → IoUringDriver R B → IoUringDriver R B → Submitted → Type 0
 AddsToken old new (Op op) = AddsTo old new op
@@ -59,11 +55,11 @@ pub record SameSlots {R B : Type 0} (old new : IoUringDriver R B) : Type 0 where
   pub held : new.held ≡ old.held
 
 -- Why a submission was refused, and what it left of the ring. Full: the driver is the same. A fault of the ring: that count rose,
--- and a prefix of what is pending may have been entered; a steady ring has none. OutOfMemory: the driver stands for what it stood for.
+-- since the queue was full or an entry was due, and a prefix of what is pending may have been entered; a steady ring has none. OutOfMemory: the driver stands for what it stood for.
 abbrev pub WhyRefused : {R B : Type 0} → (R → RingView) → (B → Buffer) → Bool → IoUringDriver R B → IoUringDriver R B → SubmitFault → Type 0
 WhyRefused view buffer steady old new Full = new ≡ old
-WhyRefused view buffer steady old new RingFault = Rose (view (ring_in old)).faults (view (ring_in new)).faults × (IsTrue steady → ⊥)
-WhyRefused view buffer steady old new Busy = Rose (view (ring_in old)).busies (view (ring_in new)).busies × (IsTrue steady → ⊥)
+WhyRefused view buffer steady old new RingFault = Rose (view (ring_in old)).faults (view (ring_in new)).faults × (IsTrue steady → ⊥) × MustEnter view old.ring
+WhyRefused view buffer steady old new Busy = Rose (view (ring_in old)).busies (view (ring_in new)).busies × (IsTrue steady → ⊥) × MustEnter view old.ring
 WhyRefused view buffer steady old new OutOfMemory = (L : Ledger) → Stands view buffer old L → Stands view buffer new L
 
 -- A refused submission hands its request back, and leaves slots and counts.
@@ -94,6 +90,6 @@ pub record OnlyReserved {R : Type 0} (view : R → RingView) (old new : Pending 
 -- Why a submission can't be made. Nothing changed but reserved memory, and at a fault of the ring what it took.
 abbrev pub Unprepared : {R : Type 0} {B : Type 0} → (R → RingView) → Bool → Pending R → Pending R → Slots (Slot B) → Slots (Slot B) → SubmitFault → Type 0
 Unprepared view steady old new slots slots' Full = (map.len slots.values ≡ 4294967232) × (new ≡ old) × (slots' ≡ slots)
-Unprepared view steady old new slots slots' RingFault = (map.len slots.values < 4294967232) × Rose (view old.ring).faults (view new.ring).faults × (IsTrue steady → ⊥)
-Unprepared view steady old new slots slots' Busy = (map.len slots.values < 4294967232) × Rose (view old.ring).busies (view new.ring).busies × (IsTrue steady → ⊥)
+Unprepared view steady old new slots slots' RingFault = (map.len slots.values < 4294967232) × Rose (view old.ring).faults (view new.ring).faults × (IsTrue steady → ⊥) × MustEnter view old
+Unprepared view steady old new slots slots' Busy = (map.len slots.values < 4294967232) × Rose (view old.ring).busies (view new.ring).busies × (IsTrue steady → ⊥) × MustEnter view old
 Unprepared view steady old new slots slots' OutOfMemory = (map.len slots.values < 4294967232) × OnlyReserved view old new

@@ -1,458 +1,166 @@
-//! The completion driver.
-ghost use Rattle.std.specs.Prelude.{◌≡◌, ◌≤◌, ◌<◌, ◌+◌, ◌^◌, ◌↔◌, ◌||◌, ◌==◌, nat_lt, ℕ, [], ◌∷◌, true, Some, IsTrue, IfOk, IfErr, OnOk, OnErr, length, option_copied};
-ghost use Rattle.ring_core.specs.Request.{named};
-ghost use Rattle.ring_core.specs.Ledger.{Ledger, empty};
-ghost use Rattle.ring_core.specs.MemRing.{admits_at, sends_at, IsFinished};
-ghost use Rattle.ring_core.specs.declared.request.Told.TheVariants.{Count as Counts};
-ghost use Rattle.ring_core.specs.declared.ledger.Event.TheVariants.{Give, Drop, Cancel};
-ghost use Rattle.ring_core.specs.declared.ledger.Reply.TheVariants.{Handle, Dropped, Asked};
-ghost use Rattle.uring_driver.specs.Op.{number_of, cancel_for, Holds, HoldsNone, KeepsTokens, DropsToken};
-ghost use Rattle.uring_driver.specs.Outbox.{IsIdle, TakesFront, PendingMoves, PendingMovesBy, with_spare, room_made, pending_ring};
-ghost use Rattle.uring_driver.specs.Slot.{shown_in};
-ghost use Rattle.uring_driver.specs.Driver.{ring_in, due_in, pending, live_slots, given_by, handles_of, holds_handle, holds_all, first_with, IsNextHandle};
-ghost use Rattle.uring_driver.specs.Stands.{Stands, Answers};
-ghost use Rattle.uring_driver.specs.Submitted.{SubmitsFor, SubmitMoves, AddsToken, IsFullError, IsSameRing, SubmitRefused, IsPrepared, Unprepared};
-ghost use Rattle.uring_driver.specs.PollOp.{PollsFor, PollsTokens, IsPending, IsUnreaped};
-ghost use Rattle.uring_driver.specs.Handles.{FeedsFor, EndsFor, LooksFor};
-ghost use Rattle.uring_driver.specs.Executed.{ExecutesFor};
-ghost use Rattle.uring_driver.specs.Begun.{HasRoom, HasBegun, CannotBegin, EndsTurn, HasTreated};
+//! What every driver does: a turn, and a park, which is a turn that may wait for wakers of other threads in its middle.
+ghost use Rattle.std.specs.Prelude.{◌≡◌, ℕ, ◌+◌, [], Bool, false, length, Option, Some, None};
+ghost use Rattle.wake_core.specs.WakerList.{IsInOrder};
+ghost use Rattle.wake_core.specs.Sleeping.{Sleeping};
+ghost use Rattle.wake_core.specs.declared.park.Woken.{Woken};
+ghost use Rattle.driver_core.specs.declared.op.Stop.{Stop};
+ghost use Rattle.driver_core.specs.declared.op.Turned.{Turned};
+ghost use Rattle.uring_driver.specs.Turned.{TurnMeets};
+ghost use Rattle.uring_driver.specs.Parked.{DrainsFor};
 
-use crate::op::{Executed, Op, PollOp, Stop, SubmitError, SubmitFault, Submitted, Turned};
-use crate::outbox::Outbox;
-use crate::slot::{Slot, drop_slot, fill_slot, is_numbered, poll_slot, take_done};
-use crate::turn::{Begun, reap_all, stop_of, turned, with_room};
-use op_slots::slab::MAX_LIVE;
-use op_slots::{AfterDrop, AfterPoll, Lifecycle, Slab};
-use rent_buf::{IoBufMut, OutOfMemory, VecBuf};
-use ring_core::{
-    Body, Completion, EnterError, Entry, ExecRefusal, HandleKind, Look, MemRing, Request, Ring,
-    SharedFd, Told, WorldError,
-};
+use crate::uring::IoUringDriver;
+use driver_core::{Stop, Turned};
+use rent_buf::IoBufMut;
+use ring_core::Ring;
 use std::alloc::Global;
+use std::sync::Wait;
+use std::sync::ledger::Ledger;
+use std::time::Clock;
+use wake_core::{Sleeper, WakerList, Woken};
 
-// How many entries the queue of a new driver holds.
-const ENTRIES: u32 = 1024;
-
-/// A driver over a ring. Each operation has a slot from its submission to its last poll, or to the reap of one that was dropped.
-/// The slot holds its request with its buffer or its parts, and the slot's key is the data word of its entry. (monoio's
-/// `IoUringDriver`)
-#[derive(Drop)]
-pub struct IoUringDriver<R: Ring, B: IoBufMut> {
-    ring: Outbox<R>,
-    slots: Slab<Slot<B>>,
-    // How many operations were given.
-    given: u64,
-    // The first handle that was given, and how many were: their numbers follow one another.
-    first: u64,
-    held: u64,
-    alloc: Global,
+/// What a park did.
+#[derive(Debug, Drop)]
+pub struct Parked {
+    /// The wakers that the sleeper drained.
+    pub remote: Woken,
+    /// What the turn around the wait did.
+    pub turned: Turned,
 }
 
-impl<R: Ring, B: IoBufMut + Drop> IoUringDriver<R, B> {
-    /// A driver over a ring with nothing queued, in flight or standing. Where memory runs out the ring comes back. (own)
-    pub fn over(alloc: Global, ring: R) -> Result<Self, (OutOfMemory, R)>
-        requires { IsIdle (R.view ring) }
-        ensures stands { IfOk result (λ driver. (R.view ring).world ≡ [] → Stands R.view B.buffer driver (empty (R.view ring).capacity)) }
-        ensures ring { IfOk result (λ driver. ring_in driver ≡ ring) }
-        ensures none { IfOk result (λ driver. (live_slots driver ≡ 0) × (given_by driver ≡ 0) × HoldsNone driver) }
-        ensures due { IfOk result (λ driver. due_in driver ≡ []) }
-        ensures err { IfErr result (λ e. e.1 ≡ ring) }
-    {
-        Ok(IoUringDriver {
-            ring: Outbox::new(alloc, ring),
-            slots: Slab::new(alloc),
-            given: 0,
-            first: 0,
-            held: 0,
-            alloc,
-        })
-    }
+/// What takes requests to a kernel and brings their completions. (monoio's `Driver`)
+///
+/// A driver has no wake cell of its own: a park is lent the sleeper of the cell whose senders may wake it.
+pub trait Driver {
+    // What a turn does: the driver before it and after it, and what it answers.
+    ghost turns: { Self → Self → Turned → Type 0 };
 
-    /// The ring. (own)
-    pub fn ring(&self) -> &R
-        ensures { result.now ≡ ring_in self.now }
-    {
-        self.ring.ring()
-    }
+    // What a park did with the sleeper, by why its turn stopped and the limit that it has: before and after, and what it drained.
+    ghost drains: { Option Stop → Option ℕ → Sleeping → Sleeping → Woken → Type 0 };
 
-    /// How many operations are in flight or wait for their poll, those with them that were dropped and aren't reaped.
-    /// (monoio's `num_operations`)
-    pub fn num_operations(&self) -> usize
-        ensures { result ≡ live_slots self.now }
-    {
-        self.slots.len()
-    }
+    // It asks whether a call would block, and has no completions.
+    ghost legacy: { Bool };
 
-    /// How many operations were given, which is the number of the next one. (own)
-    pub fn given(&self) -> u64
-        ensures { result ≡ given_by self.now }
-    {
-        self.given
-    }
+    /// A turn: enters what is queued, and treats the completions that stand, in order.
+    fn submit(&mut self) -> Turned
+        ensures turns { turns self.old self.new result };
 
-    /// How many handles were given. (own)
-    pub fn handles(&self) -> u64
-        ensures { result ≡ handles_of self.now }
-    {
-        self.held
-    }
+    /// A turn that walks the sleeper's steps after its enter. If no completion is ready and nothing is drained, it waits until
+    /// a sender sends or a handle unparks the sleeper. A completion that comes meanwhile doesn't end the wait: over a ring
+    /// that completes by itself, use `park_timeout`.
+    fn park<P: Ledger, D: Ledger, T: Wait + Clock>(
+        &mut self,
+        rt: &T,
+        sleeper: &mut Sleeper<P, D>,
+    ) -> Parked
+        ensures turns { turns self.old self.new result.turned }
+        // What was drained is what the sleeper's share of drains grew by, and each sender's wakers are in order.
+        ensures made { sleeper.new.made ≡ sleeper.old.made }
+        ensures taken { sleeper.new.taken ≡ (sleeper.old.taken + length result.remote.first) + length result.remote.again }
+        ensures order { IsInOrder result.remote.first × IsInOrder result.remote.again }
 
-    /// The user holds a handle: this driver gave it. (own)
-    pub fn user_holds(&self, h: u64) -> bool
-        ensures { result ≡ holds_handle self.now h }
-    {
-        h >= self.first && h - self.first < self.held
-    }
+        // The lists are what the drains of a round gave, if one was made, and it waited with this limit, if it waited.
+        ensures drains { drains result.turned.stop None sleeper.old sleeper.new result.remote };
 
-    /// The token is that of an operation of this driver that is neither handed back nor dropped. (own)
-    pub fn holds(&self, op: &Op) -> bool
-        ensures { IsTrue result ↔ Holds self.now op.now }
-    {
-        is_numbered(self.slots.peek(op.key()), op.number())
-    }
+    /// A park that waits no longer than so many milliseconds.
+    fn park_timeout<P: Ledger, D: Ledger, T: Wait + Clock>(
+        &mut self,
+        rt: &T,
+        sleeper: &mut Sleeper<P, D>,
+        millis: u64,
+    ) -> Parked
+        ensures turns { turns self.old self.new result.turned }
+        ensures made { sleeper.new.made ≡ sleeper.old.made }
+        ensures taken { sleeper.new.taken ≡ (sleeper.old.taken + length result.remote.first) + length result.remote.again }
+        ensures order { IsInOrder result.remote.first × IsInOrder result.remote.again }
 
-    /// Submits a request of handles that the user holds, and gives the new operation's token. What is due goes in first, and a
-    /// queue at capacity is entered. The memory that it needs, and that of one cancel, is taken before anything changes. Fewer
-    /// than `2^62` were given before. (monoio's `submit_with_data`)
-    pub fn submit_with(&mut self, request: Request<B, VecBuf>) -> Result<Submitted, SubmitError<B>>
-        requires held { IsTrue (holds_all self.old (named request)) }
-        requires counter { given_by self.old < 2 ^ 62 }
-        // The answer is the machine's, over each ring that tells its lists.
-        ensures answers { IfOk result (λ submitted. IsTrue R.tells → (L : Ledger) → Stands R.view B.buffer self.old L →
-            SubmitsFor R.view B.buffer L request self.new submitted) }
-        ensures token { IfOk result (λ submitted. AddsToken self.old self.new submitted) }
+        // The lists are what the drains of a round gave, if one was made, and it waited with this limit, if it waited.
+        ensures drains { drains result.turned.stop (Some millis) sleeper.old sleeper.new result.remote };
 
-        // Nothing passes what is pending. Over a steady ring nothing becomes due.
-        ensures pending { IsTrue R.tells → SubmitMoves R.view B.buffer request self.old self.new result }
-        ensures none_due { IsTrue R.steady → due_in self.old ≡ [] → due_in self.new ≡ [] }
+    /// It is a driver by readiness.
+    fn is_legacy(&self) -> bool
+        ensures { result ≡ legacy };
+}
 
-        // It is Full exactly where all slots are live; a fault of the ring comes only where that count rose.
-        ensures full { IsFullError result ↔ (live_slots self.old ≡ 4294967232) }
-        ensures err { IfErr result (SubmitRefused R.view B.buffer R.steady request self.old self.new) }
-        ensures memory { IfErr result (λ refused. refused.why ≡ SubmitFault.OutOfMemory → IsSameRing R.view self.old self.new) }
-    {
-        match prepare(&mut self.ring, &mut self.slots) {
-            Ok(()) => {}
-            Err(why) => return Err(SubmitError { why, request }),
-        }
-        let call = request.call();
-        let serial = self.given;
-        let slot = Slot {
-            serial,
-            request,
-            life: Lifecycle::Submitted,
-        };
-        let key = match self.slots.insert(slot) {
-            Ok(key) => key,
-            Err(_) => unreachable!(),
-        };
-        self.given += 1;
-        self.ring.join(Entry {
-            word: key as u64,
-            serial,
-            body: Body::Call(call),
-        });
-        Ok(Submitted::Op(Op::make(serial, key)))
-    }
+impl<R: Ring, B: IoBufMut + Drop> Driver for IoUringDriver<R, B> {
+    ghost turns = { λ old new turned. TurnMeets R.view B.buffer R.tells R.steady old new turned };
 
-    /// Polls an operation of this driver for a task. It takes no memory. (monoio's `poll_op`)
-    ///
-    /// It is `Pending` exactly while the operation isn't reaped, and then the operation's completion wakes this task.
-    pub fn poll_op(&mut self, op: Op, task: u64) -> PollOp<B>
-        requires { Holds self.old op }
-        ensures answers { (L : Ledger) → Stands R.view B.buffer self.old L → PollsFor R.view B.buffer L op task self.new result }
-        ensures pending { (L : Ledger) → Stands R.view B.buffer self.old L → (IsPending result ↔ IsUnreaped L (number_of op)) }
-        ensures tokens { PollsTokens self.old self.new op result }
-        ensures ring { ring_in self.new ≡ ring_in self.old }
-        ensures due { due_in self.new ≡ due_in self.old }
-        ensures given { given_by self.new ≡ given_by self.old }
-    {
-        match poll_slot(&mut self.slots, op.key(), task) {
-            AfterPoll::Pending => PollOp::Pending(op),
-            AfterPoll::Take => PollOp::Ready(take_done(&mut self.slots, op.spend())),
+    ghost drains = { DrainsFor };
+
+    ghost legacy = { false };
+
+    /// Memory is taken once, for as many numbers as stand and are queued; none is taken where there are none. After Busy
+    /// what stood is treated. (monoio's `submit`)
+    fn submit(&mut self) -> Turned {
+        match self.begin_turn() {
+            Ok(begun) => self.end_turn(begun),
+            Err(stop) => self.stop(stop),
         }
     }
 
-    /// Gives an operation of this driver up. It takes no memory. (monoio's `drop_op`)
-    ///
-    /// One that isn't reaped keeps its slot, with its buffer, until its reap, which names it; its cancel joins what is pending.
-    pub fn drop_op(&mut self, op: Op)
-        requires { Holds self.old op }
-        ensures answers { IsTrue R.steady → (L : Ledger) → Stands R.view B.buffer self.old L →
-            Answers R.view B.buffer L (Drop (number_of op)) Dropped self.new }
-        ensures tokens { DropsToken self.old self.new op }
-        ensures pending { IsTrue R.tells → PendingMovesBy (pending R.view self.old) (pending R.view self.new) (cancel_for op) }
-        ensures none_due { IsTrue R.steady → due_in self.old ≡ [] → due_in self.new ≡ [] }
-        ensures given { given_by self.new ≡ given_by self.old }
-    {
-        let number = op.number();
-        let key = op.spend();
-        match drop_slot(&mut self.slots, key) {
-            AfterDrop::Free => {
-                let _ = self.slots.remove(key);
-            }
-            AfterDrop::Left => self.ring.cancel(number, key),
-        }
+    /// Where the turn stops with `RingFault` or `OutOfMemory`, the sleeper makes no step. After Busy it makes its steps and
+    /// doesn't wait. (monoio's `park`)
+    fn park<P: Ledger, D: Ledger, T: Wait + Clock>(
+        &mut self,
+        rt: &T,
+        sleeper: &mut Sleeper<P, D>,
+    ) -> Parked {
+        park_for(rt, self, sleeper, None)
     }
 
-    /// Asks for the cancel of an operation of this driver: it joins what is pending. (monoio's `cancel_op`)
-    pub fn cancel_op(&mut self, op: &Op) -> Result<(), OutOfMemory>
-        requires { Holds self.old op.now }
-        ensures answers { OnOk result (IsTrue R.steady → (L : Ledger) → Stands R.view B.buffer self.old L →
-            Answers R.view B.buffer L (Cancel (number_of op.now)) Asked self.new) }
-        ensures tokens { KeepsTokens self.old self.new }
-        ensures pending { OnOk result (IsTrue R.tells → PendingMoves (pending R.view self.old) (pending R.view self.new) (cancel_for op.now ∷ [])) }
-        ensures none_due { IsTrue R.steady → due_in self.old ≡ [] → due_in self.new ≡ [] }
-        ensures given { given_by self.new ≡ given_by self.old }
-
-        ensures err { OnErr result ((L : Ledger) → Stands R.view B.buffer self.old L → Stands R.view B.buffer self.new L) }
-        ensures memory { OnErr result (IsSameRing R.view self.old self.new) }
-    {
-        self.ring.make_spare(self.slots.len() + 1)?;
-        self.ring.cancel(op.number(), op.key());
-        Ok(())
+    /// As `park`, with that limit handed to the wait. (monoio's `park_timeout`)
+    fn park_timeout<P: Ledger, D: Ledger, T: Wait + Clock>(
+        &mut self,
+        rt: &T,
+        sleeper: &mut Sleeper<P, D>,
+        millis: u64,
+    ) -> Parked {
+        park_for(rt, self, sleeper, Some(millis))
     }
 
-    // Begins a turn: takes memory once, for as many numbers as stand, are queued and are due, and enters what is due and what
-    // is queued. None is taken where there are none. A ring that is busy doesn't end the turn.
-    pub(crate) fn begin_turn(&mut self) -> Result<Begun, Stop>
-        ensures ok { IfOk result (HasBegun R.view R.tells R.steady self.old self.new) }
-        ensures err { IfErr result (CannotBegin R.view R.tells R.steady self.old self.new) }
-    {
-        let Some(count) = self.ring.waiting() else {
-            return Err(Stop::OutOfMemory);
-        };
-        let Ok(reaped) = with_room(self.alloc, count) else {
-            return Err(Stop::OutOfMemory);
-        };
-        let Ok(woken) = with_room(self.alloc, count) else {
-            return Err(Stop::OutOfMemory);
-        };
-        let busy = match self.ring.enter() {
-            Ok(_) => false,
-            Err(EnterError::Busy) => true,
-            Err(EnterError::Fault) => return Err(Stop::RingFault),
-        };
-        Ok(Begun {
-            count,
-            reaped,
-            woken,
-            busy,
-        })
-    }
-
-    // A turn that was begun needn't wait: a completion stands, or the ring was busy.
-    pub(crate) fn is_ready(&self, begun: &Begun) -> bool
-        ensures { result ≡ (begun.now.busy || nat_lt 0 (length (R.view (ring_in self.now)).done)) }
-    {
-        begun.busy || self.ring.has_standing()
-    }
-
-    // Ends a turn: treats the completions that stand, in order.
-    pub(crate) fn end_turn(&mut self, begun: Begun) -> Turned
-        requires { HasRoom R.view self.old begun }
-        ensures meets { EndsTurn R.view B.buffer R.tells R.steady self.old begun self.new result }
-        ensures treated { HasTreated result.stop }
-    {
-        let Begun {
-            count,
-            mut reaped,
-            mut woken,
-            busy,
-        } = begun;
-        let (ring, slots) = (&mut self.ring, &mut self.slots);
-        let bad = reap_all(ring, slots, count, &mut reaped, &mut woken);
-        turned(self.alloc, reaped, woken, stop_of(busy, bad))
-    }
-
-    // What allocates its memory.
-    pub(crate) fn alloc(&self) -> Global {
-        self.alloc
-    }
-
-    // Ends a turn that can't begin.
-    pub(crate) fn stop(&self, stop: Stop) -> Turned
-        ensures reaped { result.reaped ≡ [] }
-        ensures closed { result.closed ≡ [] }
-        ensures woken { result.woken ≡ [] }
-        ensures stop { result.stop ≡ Some stop }
-    {
-        let none = Vec::new(self.alloc);
-        turned(self.alloc, none, Vec::new(self.alloc), Some(stop))
+    fn is_legacy(&self) -> bool {
+        false
     }
 }
 
-impl<B: IoBufMut + Drop> IoUringDriver<MemRing, B> {
-    /// A driver over a ring in memory whose queue holds 1024 entries. (monoio's `new`)
-    pub fn new(alloc: Global) -> Result<Self, OutOfMemory>
-        ensures stands { IfOk result (λ driver. Stands (λ r. r) B.buffer driver (empty 1024)) }
-        ensures tokens { IfOk result (λ driver. HoldsNone driver) }
-        ensures due { IfOk result (λ driver. due_in driver ≡ []) }
-    {
-        IoUringDriver::new_with_entries(alloc, ENTRIES)
-    }
-
-    /// A driver over a ring in memory whose queue holds `entries` entries, at least one. (monoio's `new_with_entries`)
-    pub fn new_with_entries(alloc: Global, entries: u32) -> Result<Self, OutOfMemory>
-        requires { 1 ≤ entries }
-        ensures stands { IfOk result (λ driver. Stands (λ r. r) B.buffer driver (empty entries)) }
-        ensures tokens { IfOk result (λ driver. HoldsNone driver) }
-        ensures due { IfOk result (λ driver. due_in driver ≡ []) }
-    {
-        match IoUringDriver::over(alloc, MemRing::new(alloc, entries)) {
-            Ok(driver) => Ok(driver),
-            Err((why, _)) => Err(why),
-        }
-    }
-
-    /// A new handle of the user: fewer than `2^62` were given before. (own)
-    pub fn give(&mut self, kind: HandleKind) -> Result<SharedFd, OutOfMemory>
-        requires { handles_of self.old < 2 ^ 62 }
-        ensures answers { IfOk result (λ fd. (L : Ledger) → Stands (λ r. r) B.buffer self.old L →
-            Answers (λ r. r) B.buffer L (Give kind) (Handle fd) self.new) }
-        // Over a ring with handles of its own the new one is the user's too, beside those that were given.
-        ensures held { IfOk result (λ fd. IsNextHandle self.old fd →
-            (h : ℕ) → holds_handle self.new h ≡ (holds_handle self.old h || h == fd)) }
-        ensures err { OnErr result (self.new ≡ self.old) }
-        ensures tokens { KeepsTokens self.old self.new }
-        ensures pending { pending (λ r. r) self.new ≡ pending (λ r. r) self.old }
-        ensures due { due_in self.new ≡ due_in self.old }
-        ensures given { given_by self.new ≡ given_by self.old }
-    {
-        let h = self.ring.give(kind)?;
-        self.first = first_of(self.first, self.held, h);
-        self.held += 1;
-        Ok(SharedFd::new(h))
-    }
-
-    /// Bytes arrive at a handle that the user holds: they join its input's end. `BadHandleEvent` comes exactly where its end is
-    /// marked. (own)
-    pub fn feed(&mut self, h: u64, bytes: &[u8]) -> Result<(), WorldError>
-        requires { IsTrue (holds_handle self.old h) }
-        ensures answers { (L : Ledger) → Stands (λ r. r) B.buffer self.old L → FeedsFor B.buffer L h bytes.now self.new result }
-        ensures err { OnErr result (self.new ≡ self.old) }
-        ensures tokens { KeepsTokens self.old self.new }
-        ensures pending { pending (λ r. r) self.new ≡ pending (λ r. r) self.old }
-        ensures due { due_in self.new ≡ due_in self.old }
-        ensures given { given_by self.new ≡ given_by self.old }
-    {
-        match self.ring.feed(h, bytes) {
-            Ok(()) => Ok(()),
-            Err(why) => Err(why),
-        }
-    }
-
-    /// The end of what arrives at a handle that the user holds. `BadHandleEvent` comes exactly where it is marked already. It
-    /// takes no memory, so `OutOfMemory` doesn't come. (own)
-    pub fn end(&mut self, h: u64) -> Result<(), WorldError>
-        requires { IsTrue (holds_handle self.old h) }
-        ensures answers { (L : Ledger) → Stands (λ r. r) B.buffer self.old L → EndsFor B.buffer L h self.new result }
-        ensures memory { IfErr result (λ why. why ≡ WorldError.BadHandleEvent) }
-        ensures err { OnErr result (self.new ≡ self.old) }
-        ensures tokens { KeepsTokens self.old self.new }
-        ensures pending { pending (λ r. r) self.new ≡ pending (λ r. r) self.old }
-        ensures due { due_in self.new ≡ due_in self.old }
-        ensures given { given_by self.new ≡ given_by self.old }
-    {
-        match self.ring.end(h) {
-            Ok(()) => Ok(()),
-            Err(why) => Err(why),
-        }
-    }
-
-    /// What was sent to a handle that the user holds, copied once. (own)
-    pub fn look(&self, h: u64) -> Result<Look, OutOfMemory>
-        requires { IsTrue (holds_handle self.now h) }
-        ensures { IfOk result (λ look. (L : Ledger) → Stands (λ r. r) B.buffer self.now L → LooksFor L h look) }
-    {
-        self.ring.look(self.alloc, h)
-    }
-
-    /// Executes what is in flight at a place with what is told: it becomes the last completion. The bytes that come go from
-    /// the handle's input into the operation's buffer, and those that are sent are copied from the buffer to the handle's
-    /// output; an error leaves the buffer as it was submitted. Only a send takes memory. (own)
-    pub fn execute(&mut self, place: usize, told: Told) -> Result<Executed, ExecRefusal>
-        ensures answers { (L : Ledger) → Stands (λ r. r) B.buffer self.old L → ExecutesFor B.buffer L place told self.new result }
-        ensures err { OnErr result (self.new ≡ self.old) }
-        ensures tokens { KeepsTokens self.old self.new }
-        ensures pending { pending (λ r. r) self.new ≡ pending (λ r. r) self.old }
-        ensures due { due_in self.new ≡ due_in self.old }
-        ensures given { given_by self.new ≡ given_by self.old }
-    {
-        let entry = match self.ring.admits(place, told) {
-            Ok(entry) => entry,
-            Err(why) => return Err(why),
-        };
-        let key = entry.word as usize;
-        if let Some(count) = entry.body.sends(told) {
-            return match send_from(&mut self.ring, self.slots.peek(key), place, count) {
-                Ok(completion) => Ok(Executed::Op(completion.serial)),
-                Err(_) => Err(ExecRefusal::OutOfMemory),
-            };
-        }
-        fill_slot(&mut self.slots, key, told, self.ring.coming(place, told));
-        let completion = self.ring.finish(place, told);
-        Ok(Executed::Op(completion.serial))
-    }
-}
-
-// The first handle, once `h` was given after `held` others.
-fn first_of(first: u64, held: u64, h: u64) -> u64
-    ensures { result ≡ first_with first held h }
+// A turn with the sleeper's steps in its middle. They wait no longer than the limit, in milliseconds.
+#[tactic(auto, using(crate::proofs::Parks::makes_round, crate::proofs::Parks::drains_for_treated))]
+fn park_for<R: Ring, B: IoBufMut + Drop, P: Ledger, D: Ledger, T: Wait + Clock>(
+    rt: &T,
+    driver: &mut IoUringDriver<R, B>,
+    sleeper: &mut Sleeper<P, D>,
+    limit: Option<u64>,
+) -> Parked
+    ensures turns { TurnMeets R.view B.buffer R.tells R.steady driver.old driver.new result.turned }
+    ensures made { sleeper.new.made ≡ sleeper.old.made }
+    ensures taken { sleeper.new.taken ≡ (sleeper.old.taken + length result.remote.first) + length result.remote.again }
+    ensures order { IsInOrder result.remote.first × IsInOrder result.remote.again }
+    ensures drains { DrainsFor result.turned.stop limit sleeper.old sleeper.new result.remote }
 {
-    if held == 0 { h } else { first }
-}
-
-// Takes the memory of a submission, and of one cancel for each slot, and makes way for its entry. No slot changes.
-fn prepare<R: Ring, B: Drop>(
-    ring: &mut Outbox<R>,
-    slots: &mut Slab<Slot<B>>,
-) -> Result<(), SubmitFault>
-    ensures slots { slots.new.values ≡ slots.old.values }
-    ensures ok { OnOk result (IsPrepared (R.view ring.new.ring) ring.new.due ring.new.room slots.new) }
-    ensures told { OnOk result (IsTrue R.tells → length (R.view ring.old.ring).queue + length ring.old.due ≤ (R.view ring.old.ring).capacity →
-        pending_ring R.view ring.new ≡ with_spare (room_made (pending_ring R.view ring.old)) (R.view ring.new.ring).spare) }
-    ensures takes { IsTrue R.tells → TakesFront (pending_ring R.view ring.old) (pending_ring R.view ring.new) }
-    ensures err { IfErr result (Unprepared R.view R.steady ring.old ring.new slots.old slots.new) }
-{
-    let live = slots.len();
-    if live >= MAX_LIVE {
-        return Err(SubmitFault::Full);
-    }
-    if slots.reserve_one().is_err() || ring.make_spare(live + 2).is_err() {
-        return Err(SubmitFault::OutOfMemory);
-    }
-    match ring.make_way() {
-        Ok(()) => Ok(()),
-        Err(EnterError::Fault) => Err(SubmitFault::RingFault),
-        Err(EnterError::Busy) => Err(SubmitFault::Busy),
-    }
-}
-
-// Executes what is in flight at a place with a count of bytes to send, which the slot that was looked up lends.
-fn send_from<B: IoBufMut>(
-    ring: &mut Outbox<MemRing>,
-    slot: Option<&Slot<B>>,
-    place: usize,
-    count: u32,
-) -> Result<Completion, OutOfMemory>
-    requires allowed { admits_at ring.old.ring place (Counts count) ≡ true }
-    requires sends { sends_at ring.old.ring place (Counts count) ≡ Some count }
-    ensures ok { IfOk result (λ completion. IsFinished ring.old.ring place (Counts count) (shown_in B.buffer (option_copied slot.entry)) ring.new.ring [] completion) }
-    ensures due { ring.new.due ≡ ring.old.due }
-    ensures room { ring.new.room ≡ ring.old.room }
-    ensures err { OnErr result (ring.new ≡ ring.old) }
-{
-    let Some(slot) = slot else {
-        return ring.finish_send(place, count, &[]);
-    };
-    match &slot.request {
-        Request::Recv { .. } => ring.finish_send(place, count, &[]),
-        Request::ReadVec { .. } => ring.finish_send(place, count, &[]),
-        Request::Send { fd: _, buf } => {
-            let _ = buf.bytes_total();
-            ring.finish_send(place, count, buf.bytes())
+    match driver.begin_turn() {
+        Ok(begun) => {
+            let ready = driver.is_ready(&begun);
+            let remote = sleeper.park(rt, limit, ready);
+            let turned = driver.end_turn(begun);
+            Parked { remote, turned }
         }
-        Request::WriteVec { fd: _, parts } => ring.finish_send_parts(place, count, parts),
+        Err(stop) => {
+            let remote = none_woken(driver.alloc());
+            let turned = driver.stop(stop);
+            Parked { remote, turned }
+        }
     }
 }
+
+// Nothing drained. Takes no memory.
+fn none_woken(alloc: Global) -> Woken
+    ensures first { result.first ≡ [] }
+    ensures again { result.again ≡ [] }
+{
+    Woken {
+        first: WakerList::from_vec(Vec::new(alloc)),
+        again: WakerList::from_vec(Vec::new(alloc)),
+    }
+}
+
+#[cfg(test)]
+mod tests;

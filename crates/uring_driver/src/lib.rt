@@ -2,15 +2,15 @@
 #![tactic(auto)]
 
 pub mod driver;
-pub mod op;
-mod outbox;
-pub mod parking;
-mod slot;
+mod submissions;
 mod turn;
+pub mod uring;
 
-pub use driver::IoUringDriver;
-pub use op::{Done, Executed, Op, PollOp, Stop, SubmitError, SubmitFault, Submitted, Turned};
-pub use parking::{Driver, Parked};
+pub use driver::{Driver, Parked};
+pub use driver_core::{
+    Done, Executed, Op, PollOp, Stop, SubmitError, SubmitFault, Submitted, Turned,
+};
+pub use uring::IoUringDriver;
 
 #[cfg(test)]
 mod tests;

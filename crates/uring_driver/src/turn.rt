@@ -1,128 +1,113 @@
-//! What a turn of the driver does: it treats the completions that stand, in order.
-ghost use Rattle.std.specs.Prelude.{◌≡◌, ◌≤◌, ◌<◌, ◌+◌, ◌++◌, [], IsTrue, IfOk, option_to_list, length, vec_len, vec_capacity};
-ghost use Rattle.ring_core.specs.Ledger.{Ledger};
-ghost use Rattle.uring_driver.specs.Outbox.{KeepsPending, pending_ring};
-ghost use Rattle.uring_driver.specs.Slot.{KeepsNumbers};
-ghost use Rattle.uring_driver.specs.Stands.{Means};
-ghost use Rattle.uring_driver.specs.Reap.{TakesOff, EndsAt, ReapsOne, ReapsAll};
+//! What a turn of the driver does: it treats the completions that are ready, in order.
+ghost use Rattle.std.specs.Prelude.{◌≡◌, ◌≤◌, ◌<◌, ◌+◌, ◌++◌, ◌∷◌, [], IsTrue, IfOk, IfSome, option_to_list, length, vec_len, vec_capacity};
+ghost use Rattle.uring_driver.specs.Submissions.{KeepsPending};
+ghost use Rattle.driver_core.specs.Slot.{KeepsNumbers};
+ghost use Rattle.uring_driver.specs.Reap.{TookOff, IsStray, HasRoom, EndsAt, TreatsFirst, treat_each, treated_behind, treated_to};
 ghost use Rattle.uring_driver.specs.Begun.{why_stopped};
 
-use crate::op::{Stop, Turned};
-use crate::outbox::Outbox;
-use crate::slot::{Slot, complete_slot};
-use op_slots::Slab;
-use rent_buf::{IoBufMut, NumList, OutOfMemory};
-use ring_core::{FIRST_RESERVED, Ring};
+use crate::submissions::Submissions;
+use driver_core::{Operations, Stop, Turned};
+use rent_buf::{NumList, OutOfMemory};
+use ring_core::{Ring, Target};
 use std::alloc::Global;
 
-/// A turn that was begun: the most completions that stand, lists with room for the numbers that it may name, and whether the
-/// ring was busy.
-pub struct Begun {
-    /// The most completions that stand.
-    pub count: usize,
-    /// The numbers of the operations that were treated: none yet.
+/// Whom a turn named so far, in the order of the completions.
+#[derive(Drop)]
+pub struct Named {
+    /// The operations whose completions were treated, by their numbers.
     pub reaped: Vec<u64>,
-    /// The tasks to wake: none yet.
+    /// The tasks to wake.
     pub woken: Vec<u64>,
+}
+
+/// A turn that was begun: it has named nobody, and has room for all that it may name.
+pub struct Begun {
+    /// Nobody, with that room.
+    pub named: Named,
     /// The ring was busy.
     pub busy: bool,
 }
 
-// What became of the first completion.
-enum Reap {
-    // None stands.
-    End,
-    // It names no slot in flight.
-    Stray(u64),
-    // Its word is reserved.
-    Reserved,
-    // It was treated.
-    Reaped,
-}
-
-// Takes the first completion off, and treats it.
-fn reap_one<R: Ring, B: Drop + IoBufMut>(
-    ring: &mut Outbox<R>,
-    slots: &mut Slab<Slot<B>>,
-    reaped: &mut Vec<u64>,
-    woken: &mut Vec<u64>,
-) -> Reap
-    requires reaped_room { vec_len reaped.old < vec_capacity reaped.old }
-    requires woken_room { vec_len woken.old < vec_capacity woken.old }
-    ensures reaped_room { (vec_len reaped.new ≤ vec_len reaped.old + 1) × (vec_capacity reaped.old ≤ vec_capacity reaped.new) }
-    ensures woken_room { (vec_len woken.new ≤ vec_len woken.old + 1) × (vec_capacity woken.old ≤ vec_capacity woken.new) }
-    ensures numbers { KeepsNumbers slots.old.values slots.new.values }
-    ensures ring { TakesOff (R.view ring.old.ring) (R.view ring.new.ring) slots.new.values result }
+// Takes the first completion off, and treats it. It answers the word of one that names no slot in flight.
+fn reap_one<R: Ring, B: Drop>(
+    ring: &mut Submissions<R>,
+    ops: &mut Operations<B>,
+    named: &mut Named,
+) -> Option<u64>
+    requires some { 0 < length (R.view ring.old.ring).done }
+    requires room { HasRoom named.old (length (R.view ring.old.ring).done) }
+    ensures room { HasRoom named.new (length (R.view ring.new.ring).done) }
+    ensures numbers { KeepsNumbers ops.old.slots.values ops.new.slots.values }
+    ensures given { ops.new.given ≡ ops.old.given }
+    ensures took { TookOff 1 (R.view ring.old.ring) (R.view ring.new.ring) }
     ensures same { KeepsPending R.view R.tells ring.old ring.new }
-    ensures treats { IsTrue R.tells → (L : Ledger) → Means B.buffer (pending_ring R.view ring.old) slots.old.values L →
-        ReapsOne B.buffer L (pending_ring R.view ring.new) slots.new.values reaped.old.items reaped.new.items woken.old.items woken.new.items result }
+    ensures bad { IfSome result (λ word. IsStray ops.new.slots.values word) }
+    ensures treats { IsTrue R.tells →
+        TreatsFirst (treated_behind named.old (treat_each ops.old.slots.values (R.view ring.old.ring).done)) ops.new.slots.values named.new (R.view ring.new.ring).done result }
 {
     let Some(completion) = ring.next() else {
-        return Reap::End;
+        unreachable!();
     };
-    if completion.word >= FIRST_RESERVED {
-        return Reap::Reserved;
-    }
-    match complete_slot(slots, &completion) {
-        None => Reap::Stray(completion.word),
-        Some((serial, task)) => {
-            let _ = reaped.push(serial);
-            note(woken, task);
-            Reap::Reaped
-        }
+    match Target::of(completion.word) {
+        Target::Reserved(_) => None,
+        Target::Slot(_) => match ops.complete(&completion) {
+            None => Some(completion.word),
+            Some((number, task)) => {
+                note(named, number, task);
+                None
+            }
+        },
     }
 }
 
-// A task that is to be woken is noted.
-fn note(woken: &mut Vec<u64>, task: Option<u64>)
-    requires { vec_len woken.old < vec_capacity woken.old }
-    ensures items { woken.new.items ≡ woken.old.items ++ option_to_list task }
-    ensures room { (vec_len woken.new ≤ vec_len woken.old + 1) × (vec_capacity woken.old ≤ vec_capacity woken.new) }
+// Names an operation, and the task that is to be woken.
+fn note(named: &mut Named, number: u64, task: Option<u64>)
+    requires reaped { vec_len named.old.reaped < vec_capacity named.old.reaped }
+    requires woken { vec_len named.old.woken < vec_capacity named.old.woken }
+    ensures reaped { named.new.reaped.items ≡ named.old.reaped.items ++ number ∷ [] }
+    ensures woken { named.new.woken.items ≡ named.old.woken.items ++ option_to_list task }
+    ensures reaped_room { (vec_len named.new.reaped ≤ vec_len named.old.reaped + 1) × (vec_capacity named.new.reaped ≡ vec_capacity named.old.reaped) }
+    ensures woken_room { (vec_len named.new.woken ≤ vec_len named.old.woken + 1) × (vec_capacity named.new.woken ≡ vec_capacity named.old.woken) }
 {
+    named.reaped.push_reserved(number);
     match task {
         None => {}
-        Some(task) => {
-            let _ = woken.push(task);
-        }
+        Some(task) => named.woken.push_reserved(task),
     }
 }
 
-/// Treats the completions that stand, in order, at most `count` of them. It ends early at a completion that names no slot in
-/// flight.
-pub fn reap_all<R: Ring, B: Drop + IoBufMut>(
-    ring: &mut Outbox<R>,
-    slots: &mut Slab<Slot<B>>,
-    count: usize,
-    reaped: &mut Vec<u64>,
-    woken: &mut Vec<u64>,
-) -> Option<Stop>
-    requires reaped_room { vec_len reaped.old + count ≤ vec_capacity reaped.old }
-    requires woken_room { vec_len woken.old + count ≤ vec_capacity woken.old }
-    requires all { length (R.view ring.old.ring).done ≤ count }
-    ensures numbers { KeepsNumbers slots.old.values slots.new.values }
-    ensures ring { EndsAt (R.view ring.old.ring) (R.view ring.new.ring) slots.new.values result }
+/// Treats the completions that are ready when it is called, in order. It ends early at one that names no slot in flight, and
+/// answers its word.
+pub fn reap_all<R: Ring, B: Drop>(
+    ring: &mut Submissions<R>,
+    ops: &mut Operations<B>,
+    named: &mut Named,
+) -> Option<u64>
+    requires { HasRoom named.old (length (R.view ring.old.ring).done) }
+    ensures numbers { KeepsNumbers ops.old.slots.values ops.new.slots.values }
+    ensures given { ops.new.given ≡ ops.old.given }
+    ensures ring { EndsAt (R.view ring.old.ring) (R.view ring.new.ring) ops.new.slots.values result }
     ensures same { KeepsPending R.view R.tells ring.old ring.new }
-    ensures treats { IsTrue R.tells → (L : Ledger) → Means B.buffer (pending_ring R.view ring.old) slots.old.values L →
-        ReapsAll B.buffer L (pending_ring R.view ring.new) slots.new.values reaped.old.items reaped.new.items woken.old.items woken.new.items result }
+    ensures treats { IsTrue R.tells →
+        treated_behind named.old (treat_each ops.old.slots.values (R.view ring.old.ring).done) ≡ treated_to ops.new.slots.values named.new result (R.view ring.new.ring).done }
 {
-    for i in 0..count {
-        match reap_one(ring, slots, reaped, woken) {
-            Reap::End => return None,
-            Reap::Stray(word) => return Some(Stop::BadCompletion(word)),
-            Reap::Reserved => {}
-            Reap::Reaped => {}
+    let ready = ring.ready();
+    for i in 0..ready {
+        if let Some(word) = reap_one(ring, ops, named) {
+            return Some(word);
         }
     }
     None
 }
 
-/// What a turn did, by its lists.
-pub fn turned(alloc: Global, reaped: Vec<u64>, woken: Vec<u64>, stop: Option<Stop>) -> Turned
-    ensures reaped { result.reaped ≡ reaped.items }
+/// What a turn did, by whom it named.
+pub fn turned(alloc: Global, named: Named, stop: Option<Stop>) -> Turned
+    ensures reaped { result.reaped ≡ named.reaped.items }
     ensures closed { result.closed ≡ [] }
-    ensures woken { result.woken ≡ woken.items }
+    ensures woken { result.woken ≡ named.woken.items }
     ensures stop { result.stop ≡ stop }
 {
+    let Named { reaped, woken } = named;
     Turned {
         reaped: NumList::from_vec(reaped),
         closed: NumList::from_vec(Vec::new(alloc)),
@@ -131,19 +116,29 @@ pub fn turned(alloc: Global, reaped: Vec<u64>, woken: Vec<u64>, stop: Option<Sto
     }
 }
 
-/// Why a turn stopped that treated what stood: a bad completion, or else that the ring was busy.
-pub fn stop_of(busy: bool, bad: Option<Stop>) -> Option<Stop>
-    ensures { result ≡ why_stopped busy bad }
+/// Why a turn stopped that treated what was ready: a bad completion, or else that the ring was busy.
+pub fn stop_of(busy: bool, bad: Option<u64>) -> Option<Stop>
+    ensures { result ≡ why_stopped bad busy }
 {
-    if busy {
-        Some(bad.unwrap_or(Stop::Busy))
-    } else {
-        bad
+    match bad {
+        Some(word) => Some(Stop::BadCompletion(word)),
+        None => { if busy { Some(Stop::Busy) } else { None } }
     }
 }
 
-/// An empty list with room for `count` numbers. It takes no memory for none.
-pub fn with_room(alloc: Global, count: usize) -> Result<Vec<u64>, OutOfMemory>
+/// Nobody, with room for `count` numbers in each list. It takes no memory for none.
+pub fn nobody(alloc: Global, count: usize) -> Result<Named, OutOfMemory>
+    ensures reaped { IfOk result (λ named. named.reaped.items ≡ []) }
+    ensures woken { IfOk result (λ named. named.woken.items ≡ []) }
+    ensures room { IfOk result (λ named. HasRoom named count) }
+{
+    let reaped = with_room(alloc, count)?;
+    let woken = with_room(alloc, count)?;
+    Ok(Named { reaped, woken })
+}
+
+// An empty list with room for `count` numbers. It takes no memory for none.
+fn with_room(alloc: Global, count: usize) -> Result<Vec<u64>, OutOfMemory>
     ensures items { IfOk result (λ list. list.items ≡ []) }
     ensures room { IfOk result (λ list. vec_len list + count ≤ vec_capacity list) }
 {

@@ -1,3 +1,4 @@
+pub mod Ends
 pub mod Locked
 pub mod Remote
 pub mod SenderSlot

@@ -1,10 +1,15 @@
--- What contracts see of a sender's own end. Cited by `RemoteSender` and by the settling of the sleeper.
-use Rattle.std.specs.Prelude.{ℕ, List, sum_by}
+-- What contracts see of a sender. Cited by `RemoteSender` and by the settling of the sleeper.
+use Rattle.std.specs.Prelude.{ℕ, List, Option, None, sum_by}
 
--- its number, and how many wakers it sent
+-- its number, how many wakers it sent, and the task of the last one
 pub record Remote : Type 0 where
   pub number : ℕ
   pub sent : ℕ
+  pub last : Option ℕ
+
+-- the sender with this number, which sent nothing yet
+abbrev pub new_remote : ℕ → Remote
+new_remote number = record { number = number; sent = 0; last = None }
 
 -- how many wakers these senders sent
 abbrev pub sent_by : List Remote → ℕ

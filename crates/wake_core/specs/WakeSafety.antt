@@ -1,4 +1,5 @@
--- Wake safety: what every wake state keeps, so that no waker is slept over. It is the invariant of `WakeState`, and `WakeState::is_safe` shows it.
+-- Wake safety: what every wake state keeps, so that no waker is slept over. It is the invariant of `WakeState`, and
+-- `WakeState::is_safe` shows it.
 use Rattle.std.specs.Prelude.{◌≡◌, ℕ, ◌<◌, ◌≤◌, List, length, All, Bool, true, false, ⊤, ◌⊎◌}
 use Rattle.wake_core.specs.declared.senders.SenderStage.{SenderStage}
 use Rattle.wake_core.specs.declared.senders.SenderStage.TheVariants.{Idle, Pushed, Called}
@@ -64,7 +65,8 @@ IsTold state = state.stage ≡ Asleep → (state.token ≡ true) ⊎ All (λ (w 
 pub record WakeSafety (state : Wake) : Type 0 where
   -- the flag is true in Awake and First, and false in Cleared, Second(true), Asleep and Up
   pub flag_fits : FlagFits state.stage state.flag
-  -- in Second(true) and Asleep, where the token isn't set, each waker in the queue is from a sender at Pushed or Called, and no sender has two there
+  -- in Second(true) and Asleep, where the token isn't set, each waker in the queue is from a sender at Pushed or Called, and no
+  -- sender has two there
   pub none_slept_over : MaySleep state.stage → state.token ≡ false → AreMidSend state.queue state.senders
   -- the numbers of each sender's wakers in the queue run, in order, from its drained count to its pushed count less one
   pub numbers_run_on : (number : ℕ) → RunsOn state.queue number (sender_of state.senders number)

@@ -1,4 +1,5 @@
--- The wake state as contracts see it, and its twelve kinds of step: when each may be made, and the state after it. Cited by `WakeState` and by the laws over steps.
+-- The wake state as contracts see it, and its twelve kinds of step: when each may be made, and the state after it. Cited by
+-- `WakeState` and by the laws over steps.
 use Rattle.std.specs.Prelude.{◌≡◌, ℕ, ◌+◌, ◌<◌, List, [], ◌∷◌, ◌++◌, length, map, Bool, true, false, ◌&&◌, ◌⊎◌, if◌then◌else◌}
 use Rattle.wake_core.specs.declared.senders.SenderStage.{SenderStage}
 use Rattle.wake_core.specs.declared.senders.SenderStage.TheVariants.{Idle, Pushed, Called}
@@ -10,7 +11,8 @@ use Rattle.wake_core.specs.SenderTable.{sender_of, with_sender}
 use Rattle.wake_core.specs.Waker.{waker}
 use Rattle.wake_core.specs.WakerList.{is_empty}
 
--- the wakers that wait, the flag (true: the sleeper is awake), the token (true: the sleeper is to wake), the senders by number, the booked totals of pushes and drains, and the sleeper's stage
+-- the wakers that wait, the flag (true: the sleeper is awake), the token (true: the sleeper is to wake), the senders by number,
+-- the booked totals of pushes and drains, and the sleeper's stage
 pub record Wake : Type 0 where
   pub queue : List Waker
   pub flag : Bool

@@ -1,15 +1,19 @@
 //! The wake state under its lock.
-ghost use Rattle.std.specs.Prelude.{◌≡◌, IfOk};
+ghost use Rattle.std.specs.Prelude.{◌≡◌, Some, IfOk};
+ghost use Rattle.wake_core.specs.Sleeping.{new_sleeper};
 
 use crate::fault::OutOfMemory;
 use crate::locked;
+use crate::locked::handle::Nudging;
+use crate::locked::sender::{SendDue, SenderEnd};
+use crate::locked::sleeper::{RoundDue, SleeperEnd};
 use crate::park::Sleeper;
 use crate::state::WakeState;
 use crate::unpark::UnparkHandle;
 use std::alloc::Global;
 use std::sync::ledger::{Blank, Ledger};
-use std::sync::{Arc, Condvar, CondvarTimeouts, Mutex, Wait};
-use std::time::{Clock, Duration};
+use std::sync::{Arc, Condvar, Mutex, Wait};
+use std::time::Clock;
 
 // The state under its lock, and what the sleeper waits on. Each method takes the lock once for each step.
 #[derive(Drop)]
@@ -19,39 +23,37 @@ pub(crate) struct Shared<P: Ledger, D: Ledger> {
 }
 
 impl<P: Ledger, D: Ledger> Shared<P, D> {
-    // Ends a sender's send: it reads the flag, and where that was false it sets the token, under a lock of its own.
-    pub(crate) fn end_send<R: Wait>(&self, rt: &R, sender: u64) {
-        if !locked::read_flag(&mut self.state.lock(rt), sender) {
-            locked::set_token(&mut self.state.lock(rt), sender);
-            self.token_set.notify_one();
+    // Ends a sender's send: it reads the flag, and if that was false it sets the token, under a lock of its own, and
+    // notifies the sleeper.
+    pub(crate) fn end_send<R: Wait>(&self, rt: &R, end: &mut SenderEnd<P>)
+        requires { end.old.due ≡ SendDue.ReadFlag }
+        ensures { end.new ≡ record end.old { due = SendDue.Nothing } }
+    {
+        if !locked::sender::read_flag(&mut self.state.lock(rt), end) {
+            locked::sender::set_token(&mut self.state.lock(rt), end);
+            locked::sender::notify(&self.token_set, end);
         }
     }
 
-    // Sets the token where the flag is false.
-    pub(crate) fn nudge<R: Wait>(&self, rt: &R) {
-        self.state.lock(rt).nudge();
-        self.token_set.notify_one();
+    // Makes an unpark: sets the token where the flag is false, and notifies the sleeper.
+    pub(crate) fn nudge<R: Wait>(&self, rt: &R, mut nudging: Nudging)
+        requires { nudging.due ≡ SendDue.SetToken }
+    {
+        locked::handle::nudge(&mut self.state.lock(rt), &mut nudging);
+        locked::handle::notify(&self.token_set, nudging);
     }
 
     // Waits while the sleeper sleeps, and no longer than the limit, in milliseconds.
-    pub(crate) fn sleep<R: Wait + Clock>(&self, rt: &R, limit: Option<u64>) {
-        let state = self.state.lock(rt);
-        match limit {
-            Some(limit) => {
-                let limit = Duration::from_millis(limit);
-                self.token_set
-                    .wait_timeout_while(rt, state, limit, |state| locked::take_token(state));
-            }
-            None => {
-                self.token_set
-                    .wait_while(rt, state, |state| locked::take_token(state));
-            }
-        }
+    pub(crate) fn sleep<R: Wait + Clock>(&self, rt: &R, limit: Option<u64>, end: &mut SleeperEnd<D>)
+        requires { end.old.due ≡ RoundDue.Rouse }
+        ensures { end.new ≡ record end.old { waited = Some limit } }
+    {
+        let _state = locked::sleeper::wait(rt, &self.token_set, self.state.lock(rt), limit, end);
     }
 }
 
-/// The wake state under its lock, shared by the sleeper, the senders that it makes, and the handles made here.
-/// (own; it stands for the eventfd and the channel of wakers that monoio's drivers keep)
+/// The wake state under its lock, shared by the sleeper, the senders that it makes, and the handles made here. It lives until
+/// the last of these is dropped. (not in monoio, whose drivers keep an eventfd and a channel of wakers)
 #[derive(Drop)]
 pub struct WakeCell<P: Ledger, D: Ledger> {
     shared: Arc<Shared<P, D>>,
@@ -60,8 +62,8 @@ pub struct WakeCell<P: Ledger, D: Ledger> {
 impl<P: Ledger, D: Ledger> WakeCell<P, D> {
     /// A cell whose state is the first one, and its sleeper, which has made no sender and taken no waker.
     ///
-    /// The blanks are of the two ledgers, with a part for each sender and one for the sleeper, and with one part. For
-    /// want of memory the blanks are given up. (own)
+    /// The blanks are of the two ledgers: that of pushes has a part for each sender and one for the sleeper, that of drains
+    /// has one part. If memory runs out the blanks are dropped. (not in monoio)
     pub fn new(
         alloc: Global,
         pushes: Blank,
@@ -69,7 +71,7 @@ impl<P: Ledger, D: Ledger> WakeCell<P, D> {
     ) -> Result<(WakeCell<P, D>, Sleeper<P, D>), OutOfMemory>
         requires pushes { (pushes.name ≡ P.name) × (pushes.parts ≡ P.parts) × (pushes.parts ≡ 65537) }
         requires drains { (drains.name ≡ D.name) × (drains.parts ≡ D.parts) × (drains.parts ≡ 1) }
-        ensures { IfOk result (λ made. made.1 ≡ record { made = 0; taken = 0 }) }
+        ensures { IfOk result (λ made. made.1 ≡ new_sleeper) }
     {
         let (state, pushes_share, drains_share) = WakeState::new(alloc, pushes, drains);
         let shared = Shared {
@@ -82,7 +84,8 @@ impl<P: Ledger, D: Ledger> WakeCell<P, D> {
         Ok((WakeCell { shared }, sleeper))
     }
 
-    /// A handle that wakes the sleeper of this cell. (monoio: `Driver::unpark`)
+    /// A handle that wakes the sleeper of this cell. `OutOfMemory` if there is no room for another reference to the cell.
+    /// (monoio: `Driver::unpark`)
     pub fn unpark_handle(&self) -> Result<UnparkHandle<P, D>, OutOfMemory> {
         let shared = Arc::try_clone(&self.shared).map_err(|_| OutOfMemory)?;
         Ok(UnparkHandle::over(shared))

@@ -2,13 +2,13 @@
 use std::sync::Wait;
 use std::time::Clock;
 
-/// A place between a sender's push and its reading of the flag, outside the lock. (own)
+/// A place between a sender's push and its reading of the flag, outside the lock. (not in monoio)
 pub trait Gate: Sync {
     /// Comes back when this sender may read the flag.
     fn pause<R: Wait + Clock>(&self, rt: &R, sender: u64);
 }
 
-/// The gate that lets each sender pass at once. (own)
+/// The gate that lets each sender pass at once. (not in monoio)
 #[derive(Clone, Copy, Debug, PartialEq, Eq)]
 pub struct OpenGate;
 

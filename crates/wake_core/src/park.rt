@@ -1,10 +1,12 @@
 //! The thread that drains wakers and sleeps.
-ghost use Rattle.std.specs.Prelude.{◌≡◌, ◌+◌, ◌↔◌, length, IfOk, OnErr, Err};
-ghost use Rattle.wake_core.specs.Remote.{sent_by};
+ghost use Rattle.std.specs.Prelude.{◌≡◌, ◌+◌, ◌↔◌, length, None, Some, if◌then◌else◌, IfOk, OnErr, Err};
+ghost use Rattle.wake_core.specs.Remote.{new_remote, sent_by};
+ghost use Rattle.wake_core.specs.Sleeping.{new_sleeper};
 ghost use Rattle.wake_core.specs.WakerList.{IsInOrder};
 
 use crate::cell::Shared;
 use crate::locked;
+use crate::locked::sleeper::SleeperEnd;
 use crate::remote::{RemoteSender, gather};
 use crate::state::MAX_SENDERS;
 use crate::waker::WakerList;
@@ -18,7 +20,7 @@ use thiserror::Error;
 /// Why no sender was made. The sleeper is as it was.
 #[derive(Clone, Copy, Debug, PartialEq, Eq, Error)]
 pub enum SenderError {
-    /// The sleeper made `MAX_SENDERS` senders.
+    /// The sleeper made `MAX_SENDERS` senders already. A number isn't used again, also if its sender was dropped.
     #[error("TooMany")]
     TooMany,
     /// Memory ran out.
@@ -26,7 +28,7 @@ pub enum SenderError {
     OutOfMemory,
 }
 
-/// What one round of the sleeper drained. (own)
+/// What one round of the sleeper drained. (not in monoio)
 #[derive(Debug, Drop)]
 pub struct Woken {
     /// What the first drain gave.
@@ -35,7 +37,7 @@ pub struct Woken {
     pub again: WakerList,
 }
 
-/// What the last drain gave, and how much came out of all drains. (own)
+/// What the last drain gave, and how much came out of all drains. (not in monoio)
 #[derive(Debug, Drop)]
 pub struct Settled {
     /// How many wakers all drains gave.
@@ -44,26 +46,39 @@ pub struct Settled {
     pub rest: WakerList,
 }
 
-/// The one that drains wakers and sleeps while there are none. A contract sees how many senders it made and how many
-/// wakers its drains gave. (own; it stands for the part of monoio's drivers that parks)
+/// The one that drains wakers and sleeps while there are none, as the thread of a driver.
+///
+/// A contract sees how many senders it made, how many wakers its drains gave, what the two drains of its last round gave,
+/// what its last `settle` gave, and whether and with which limit its last round waited. It makes at most `MAX_SENDERS`
+/// senders ever. (not in monoio; it is the part of monoio's drivers that parks)
 #[derive(Drop)]
 pub struct Sleeper<P: Ledger, D: Ledger> {
     alloc: Global,
     shared: Arc<Shared<P, D>>,
     made: u64,
     unmade: Share<P>,
-    drains: Share<D>,
+    drains: SleeperEnd<D>,
 }
 
 impl<P: Ledger, D: Ledger> Model for Sleeper<P, D> {
     ghost use Rattle.std.specs.Prelude.{◌≡◌, ◌+◌, ◌≤◌};
     ghost use Rattle.wake_core.specs.Sleeping.{Sleeping};
+    ghost use Rattle.wake_core.specs.declared.locked.sleeper.RoundDue.TheVariants.{DrainFirst};
 
     ghost Value = { Sleeping };
 
-    ghost view = { λ s. record { made = s.made; taken = s.drains.amount } };
+    ghost view = { λ s. record {
+      made = s.made;
+      taken = s.drains.taken;
+      first = s.drains.first;
+      again = s.drains.again;
+      rest = s.drains.rest;
+      waited = s.drains.waited;
+    } };
 
-    ghost invariant = { λ s. (P.parts ≡ 65537) × (D.parts ≡ 1) × (s.unmade.parts + s.made ≡ 65537) × (s.made ≤ 65536) × (s.unmade.amount ≡ 0) × (s.drains.parts ≡ 1) };
+    // No call of a round is left out.
+    ghost invariant = { λ s. (P.parts ≡ 65537) × (D.parts ≡ 1) × (s.unmade.parts + s.made ≡ 65537) × (s.made ≤ 65536)
+        × (s.unmade.amount ≡ 0) × (s.drains.due ≡ DrainFirst) };
 }
 
 impl<P: Ledger, D: Ledger> Sleeper<P, D> {
@@ -76,18 +91,18 @@ impl<P: Ledger, D: Ledger> Sleeper<P, D> {
     ) -> Sleeper<P, D>
         requires unmade { (P.parts ≡ 65537) × (unmade.parts ≡ P.parts) × (unmade.amount ≡ 0) }
         requires drains { (D.parts ≡ 1) × (drains.parts ≡ D.parts) × (drains.amount ≡ 0) }
-        ensures { result ≡ record { made = 0; taken = 0 } }
+        ensures { result ≡ new_sleeper }
     {
         Sleeper {
             alloc,
             shared,
             made: 0,
             unmade,
-            drains,
+            drains: SleeperEnd::new(alloc, drains),
         }
     }
 
-    /// How many senders it made. (own)
+    /// How many senders it made. (not in monoio)
     pub fn made(&self) -> u64
         ensures { result ≡ self.now.made }
     {
@@ -96,10 +111,10 @@ impl<P: Ledger, D: Ledger> Sleeper<P, D> {
 
     /// Makes the sender with the next number, which sent nothing yet. Takes no lock.
     ///
-    /// It answers `TooMany` exactly where `made` is 65536, and `OutOfMemory` where there is no room for another hold of
-    /// the cell; at both the sleeper is as it was. (monoio: cloning the sender of a thread's channel of wakers)
+    /// It answers `TooMany` exactly when `made` is 65536, and `OutOfMemory` if there is no room for another reference to the
+    /// cell; at both the sleeper is as it was. (monoio: cloning the sender of a thread's channel of wakers)
     pub fn sender(&mut self) -> Result<RemoteSender<P, D>, SenderError>
-        ensures sender { IfOk result (λ sender. sender ≡ record { number = self.old.made; sent = 0 }) }
+        ensures sender { IfOk result (λ sender. sender ≡ new_remote self.old.made) }
         ensures made { IfOk result (λ sender. self.new ≡ record self.old { made = self.old.made + 1 }) }
         ensures many { (result ≡ Err SenderError.TooMany) ↔ (self.old.made ≡ 65536) }
         ensures err { OnErr result (self.new ≡ self.old) }
@@ -116,44 +131,53 @@ impl<P: Ledger, D: Ledger> Sleeper<P, D> {
         Ok(RemoteSender::over(shared, number, share))
     }
 
-    /// One round: drains, clears the flag, drains again, falls asleep, waits for the token, and sets the flag, each step
-    /// under a lock of its own and where the stage found there admits it.
+    /// One round: drains, clears the flag, drains again, falls asleep, waits for the token, gets up, and sets the flag. Each
+    /// of these calls is made, under a lock of its own, and makes its step if the stage found there admits it.
     ///
-    /// It waits no longer than `limit` milliseconds, and doesn't wait where `ready` is true or a drain gave something.
-    /// Takes no memory. (monoio: `Driver::park` and `park_timeout`, without the ring)
+    /// It doesn't wait if `ready` is true, nor if a drain gave something. Else it waits until a sender or a handle sets the
+    /// token, and no longer than `limit` milliseconds if there is a limit. Nothing else ends the wait: a completion that
+    /// comes to a ring meanwhile doesn't. Takes no memory. (monoio: `Driver::park` and `park_timeout`, without the ring)
     pub fn park<R: Wait + Clock>(&mut self, rt: &R, limit: Option<u64>, ready: bool) -> Woken
-        // What the two drains gave is what the share of drains grew by.
-        ensures taken { self.new ≡ record self.old { taken = (self.old.taken + length result.first) + length result.again } }
+        // The two lists are what the two drains of this round gave, and the share of drains grew by their lengths.
+        ensures given { (self.new.first ≡ result.first) × (self.new.again ≡ result.again) }
+        ensures taken { self.new.taken ≡ (self.old.taken + length result.first) + length result.again }
         ensures order { IsInOrder result.first × IsInOrder result.again }
+
+        // It waited exactly if it wasn't ready, with the limit that it was given.
+        ensures waited { self.new.waited ≡ (if ready then None else Some limit) }
+        ensures kept { (self.new.made ≡ self.old.made) × (self.new.rest ≡ self.old.rest) }
     {
         let alloc = self.alloc;
-        let first = locked::drain_first(alloc, &mut self.shared.state.lock(rt), &mut self.drains);
-        locked::clear_flag(&mut self.shared.state.lock(rt));
-        let again = locked::drain_again(alloc, &mut self.shared.state.lock(rt), &mut self.drains);
-        locked::fall_asleep(&mut self.shared.state.lock(rt));
+        let (shared, end) = (&self.shared, &mut self.drains);
+        let first = locked::sleeper::drain_first(alloc, &mut shared.state.lock(rt), end);
+        locked::sleeper::clear_flag(&mut shared.state.lock(rt), end);
+        let again = locked::sleeper::drain_again(alloc, &mut shared.state.lock(rt), end);
+        locked::sleeper::fall_asleep(&mut shared.state.lock(rt), end);
         if !ready {
-            self.shared.sleep(rt, limit);
+            shared.sleep(rt, limit, end);
         }
-        locked::rouse(&mut self.shared.state.lock(rt));
-        locked::set_flag(&mut self.shared.state.lock(rt));
+        locked::sleeper::rouse(&mut shared.state.lock(rt), end);
+        locked::sleeper::set_flag(&mut shared.state.lock(rt), end);
         Woken { first, again }
     }
 
-    /// The last drain, with all senders handed back: what all drains gave is what these senders sent. Takes no memory.
+    /// The last drain, once all senders are given back: what all drains gave is what these senders sent. Takes no memory.
     ///
-    /// The list holds each sender that this sleeper made, `made` in number: the empty one where it made none. (own)
+    /// The list holds each sender that this sleeper made, `made` in number: the empty one if it made none. A sender that was
+    /// dropped is missing for good, and its sleeper can't be settled. (not in monoio)
     pub fn settle<R: Wait>(&mut self, rt: &R, senders: Vec<RemoteSender<P, D>>) -> Settled
         requires { length senders.items ≡ self.old.made }
         ensures sum { result.drained ≡ sent_by senders.items }
         ensures drained { result.drained ≡ self.new.taken }
-        ensures taken { self.new ≡ record self.old { taken = self.old.taken + length result.rest } }
+        ensures taken { self.new ≡ record self.old { taken = self.old.taken + length result.rest; rest = result.rest } }
         ensures order { IsInOrder result.rest }
     {
         let mut all = self.unmade.empty();
         let drained = gather(&mut all, senders);
         let left = MAX_SENDERS + 1 - self.made;
         self.unmade.give(&mut all, left, 0);
-        let rest = locked::settle(&mut self.shared.state.lock(rt), &mut all, &mut self.drains);
+        let mut state = self.shared.state.lock(rt);
+        let rest = locked::sleeper::settle(&mut state, &mut all, &mut self.drains);
         all.give(&mut self.unmade, left, 0);
         Settled { drained, rest }
     }

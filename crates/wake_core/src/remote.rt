@@ -1,55 +1,59 @@
 //! Senders of wakers, each for a thread of its own.
-ghost use Rattle.std.specs.Prelude.{◌≡◌, ◌+◌, ◌<◌, ◌*◌, length, OnOk, OnErr};
-ghost use Rattle.wake_core.specs.Remote.{sent_by};
+ghost use Rattle.std.specs.Prelude.{◌≡◌, ◌+◌, ◌<◌, length, Some, OnOk, OnErr};
+ghost use Rattle.wake_core.specs.Remote.{new_remote, sent_by};
 
 use crate::cell::Shared;
 use crate::fault::OutOfMemory;
 use crate::gate::Gate;
 use crate::locked;
+use crate::locked::sender::{SendDue, SenderEnd};
 use crate::unpark::UnparkError;
 use std::marker::Model;
 use std::sync::ledger::{Ledger, Share};
 use std::sync::{Arc, Wait};
 use std::time::Clock;
 
-/// Sends wakers to the sleeper that made it. A contract sees its number and how many wakers it sent. (own; it stands for
-/// the `Sender` of wakers that monoio keeps for each thread)
+/// Sends wakers to the sleeper that made it. A contract sees its number, how many wakers it sent, and the task of the last.
+///
+/// It belongs to that sleeper for good: it is given back only all at once, by `Sleeper::settle`, and a sender that is dropped
+/// keeps its number. It sends at most `MAX_PUSHED` wakers ever: at 100,000 wakers a second, those of 12 hours.
+/// (not in monoio, which keeps a channel of wakers for each thread)
 #[derive(Drop)]
 pub struct RemoteSender<P: Ledger, D: Ledger> {
     shared: Arc<Shared<P, D>>,
-    number: u64,
-    sent: u64,
-    share: Share<P>,
+    end: SenderEnd<P>,
 }
 
 impl<P: Ledger, D: Ledger> Model for RemoteSender<P, D> {
-    ghost use Rattle.std.specs.Prelude.{◌≡◌, ◌<◌, ◌≤◌};
+    ghost use Rattle.std.specs.Prelude.{◌≡◌};
     ghost use Rattle.wake_core.specs.Remote.{Remote};
+    ghost use Rattle.wake_core.specs.declared.locked.sender.SendDue.TheVariants.{Nothing};
 
     ghost Value = { Remote };
 
-    ghost view = { λ s. record { number = s.number; sent = s.sent } };
+    ghost view = { λ s. record { number = s.end.number; sent = s.end.sent; last = s.end.last } };
 
-    ghost invariant = { λ s. (s.share.parts ≡ 1) × (s.share.amount ≡ s.sent) × (s.number < 65536) × (s.sent ≤ 4294967295) };
+    // No call of a send is left out.
+    ghost invariant = { λ s. s.end.due ≡ Nothing };
 }
 
-// Pushes under a lock. Where the state has the sender's pushed count at its end, it gives the lock back and begins anew.
+// Pushes under a lock. If the state has the sender's pushed count at its limit, it releases the lock and begins anew.
 fn push<P: Ledger, D: Ledger, R: Wait>(
     rt: &R,
     shared: &Shared<P, D>,
-    sender: u64,
     task: u64,
-    share: &mut Share<P>,
-) -> Result<(), OutOfMemory>
-    requires part { 0 < share.old.parts }
-    requires numbered { sender < 65536 }
-    ensures ok { OnOk result (share.new.amount ≡ share.old.amount + 1) }
-    ensures err { OnErr result (share.new.amount ≡ share.old.amount) }
-    ensures parts { share.new.parts ≡ share.old.parts }
+    end: &mut SenderEnd<P>,
+) -> Result<(), UnparkError>
+    requires room { end.old.sent < 4294967295 }
+    requires due { end.old.due ≡ SendDue.Nothing }
+    ensures ok { OnOk result (end.new ≡ record end.old { sent = end.old.sent + 1; last = Some task; due = SendDue.ReadFlag }) }
+    ensures err { OnErr result (end.new ≡ end.old) }
 {
     for _ in rt.forever() {
-        if locked::push(&mut shared.state.lock(rt), sender, task, share)? {
-            return Ok(());
+        match locked::sender::push(&mut shared.state.lock(rt), task, end) {
+            Ok(true) => return Ok(()),
+            Ok(false) => {}
+            Err(OutOfMemory) => return Err(UnparkError::OutOfMemory),
         }
     }
     unreachable!()
@@ -64,63 +68,49 @@ impl<P: Ledger, D: Ledger> RemoteSender<P, D> {
     ) -> RemoteSender<P, D>
         requires numbered { number < 65536 }
         requires part { (share.parts ≡ 1) × (share.amount ≡ 0) }
-        ensures { result ≡ record { number = number; sent = 0 } }
+        ensures { result ≡ new_remote number }
     {
         RemoteSender {
             shared,
-            number,
-            sent: 0,
-            share,
+            end: SenderEnd::new(number, share),
         }
     }
 
-    /// Its number among the senders of its sleeper, which its wakers name. (own)
+    /// Its number among the senders of its sleeper, which its wakers name. (not in monoio)
     pub fn number(&self) -> u64
         ensures { result ≡ self.now.number }
     {
-        self.number
+        self.end.number()
     }
 
-    /// How many wakers it sent: its share of pushes. (own)
+    /// How many wakers it sent: its share of pushes. (not in monoio)
     pub fn sent(&self) -> u64
         ensures { result ≡ self.now.sent }
     {
-        self.sent
+        self.end.sent()
     }
 
-    // Pushes a waker under a lock, and counts it.
-    fn push<R: Wait>(&mut self, rt: &R, task: u64) -> Result<(), UnparkError>
-        requires { self.old.sent < 4294967295 }
-        ensures ok { OnOk result (self.new ≡ record self.old { sent = self.old.sent + 1 }) }
-        ensures err { OnErr result (self.new ≡ self.old) }
-    {
-        match push(rt, &self.shared, self.number, task, &mut self.share) {
-            Ok(()) => {
-                self.sent += 1;
-                Ok(())
-            }
-            Err(OutOfMemory) => Err(UnparkError::OutOfMemory),
-        }
-    }
-
-    /// Sends a waker for a task, and tells the sleeper where it sleeps: pushes, reads the flag, and where that was false
-    /// sets the token, each under a lock of its own.
+    /// Sends a waker for a task, and wakes the sleeper if it sleeps: pushes the waker, reads the flag, and if that was false
+    /// sets the token and notifies the sleeper. Each of the first three is under a lock of its own.
     ///
-    /// The sender sent fewer than `MAX_PUSHED` wakers, as `sent` tells; afterwards it sent one more. For want of memory,
-    /// the one error, nothing was sent and the sender is as it was. (monoio: sending a `Waker` to the thread that owns
-    /// the task, then `UnparkHandle::unpark`)
+    /// The sender sent fewer than `MAX_PUSHED` wakers, as `sent` says; afterwards it sent one more, and the last was for this
+    /// task. `OutOfMemory`, the one error, comes if the queue can't grow: nothing was sent and the sender is as it was.
+    ///
+    /// If the sleeper was dropped, the waker is queued all the same and nobody drains it: the queue grows with each send until
+    /// memory runs out or the last of the cell, its handles and its senders is dropped.
+    /// (monoio: sending a `Waker` to the thread that owns the task, then `UnparkHandle::unpark`)
     pub fn send<R: Wait>(&mut self, rt: &R, task: u64) -> Result<(), UnparkError>
         requires { self.old.sent < 4294967295 }
-        ensures ok { OnOk result (self.new ≡ record self.old { sent = self.old.sent + 1 }) }
+        ensures ok { OnOk result (self.new ≡ record self.old { sent = self.old.sent + 1; last = Some task }) }
         ensures err { OnErr result (self.new ≡ self.old) }
     {
-        self.push(rt, task)?;
-        self.shared.end_send(rt, self.number);
+        push(rt, &self.shared, task, &mut self.end)?;
+        self.shared.end_send(rt, &mut self.end);
         Ok(())
     }
 
     /// Sends a waker as `send` does, under the same condition and with the same error, and pauses at the gate after the
-    /// push, outside the lock. (own)
+    /// push, outside the lock. (not in monoio)
     pub fn send_gated<G: Gate, R: Wait + Clock>(
         &mut self,
         rt: &R,
@@ -128,12 +118,12 @@ impl<P: Ledger, D: Ledger> RemoteSender<P, D> {
         gate: &G,
     ) -> Result<(), UnparkError>
         requires { self.old.sent < 4294967295 }
-        ensures ok { OnOk result (self.new ≡ record self.old { sent = self.old.sent + 1 }) }
+        ensures ok { OnOk result (self.new ≡ record self.old { sent = self.old.sent + 1; last = Some task }) }
         ensures err { OnErr result (self.new ≡ self.old) }
     {
-        self.push(rt, task)?;
-        gate.pause(rt, self.number);
-        self.shared.end_send(rt, self.number);
+        push(rt, &self.shared, task, &mut self.end)?;
+        gate.pause(rt, self.end.number());
+        self.shared.end_send(rt, &mut self.end);
         Ok(())
     }
 }
@@ -151,12 +141,8 @@ pub(crate) fn gather<P: Ledger, D: Ledger>(
     let mut senders = senders;
     let mut total: u64 = 0;
     while let Some(sender) = senders.pop() {
-        let RemoteSender {
-            shared: _,
-            number: _,
-            sent,
-            share,
-        } = sender;
+        let RemoteSender { shared: _, end } = sender;
+        let (sent, share) = end.into_share();
         all.merge(share);
         total += sent;
     }

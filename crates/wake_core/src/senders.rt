@@ -7,7 +7,7 @@ use crate::fault::OutOfMemory;
 use std::alloc::Global;
 use std::marker::Model;
 
-/// Where a sender stands in sending one waker. (own)
+/// How far a sender is in sending one waker. (not in monoio)
 #[derive(Clone, Copy, Debug, PartialEq, Eq)]
 pub enum SenderStage {
     /// It sends nothing.

@@ -1,6 +1,6 @@
 //! The stages of the thread that drains, falls asleep and is woken.
 
-/// Where the sleeper stands in its round. (own)
+/// How far the sleeper is in its round. (not in monoio)
 #[derive(Clone, Copy, Debug, PartialEq, Eq)]
 pub enum SleeperStage {
     /// It runs, and the flag is true.

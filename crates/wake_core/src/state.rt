@@ -2,7 +2,10 @@
 ghost use Rattle.std.specs.Prelude.{◌≡◌, ◌+◌, ◌<◌, length, OnOk, OnErr, if◌then◌else◌};
 ghost use Rattle.wake_core.specs.SenderTable.{sender_of};
 ghost use Rattle.wake_core.specs.WakeSafety.{WakeSafety};
-ghost use Rattle.wake_core.specs.WakeState.{first_wake, CanPush, after_push, CanReadFlag, after_read_flag, CanSetToken, after_set_token, after_nudge, CanDrainFirst, after_drain_first, CanClearFlag, after_clear_flag, CanDrainAgain, after_drain_again, CanFallAsleep, after_fall_asleep, CanTakeToken, after_take_token, CanRouse, after_rouse, CanSetFlag, after_set_flag, after_drain_rest};
+ghost use Rattle.wake_core.specs.WakeState.{first_wake, CanPush, after_push, CanReadFlag, after_read_flag, CanSetToken, after_set_token};
+ghost use Rattle.wake_core.specs.WakeState.{after_nudge, CanDrainFirst, after_drain_first, CanClearFlag, after_clear_flag, CanDrainAgain};
+ghost use Rattle.wake_core.specs.WakeState.{after_drain_again, CanFallAsleep, after_fall_asleep, CanTakeToken, after_take_token};
+ghost use Rattle.wake_core.specs.WakeState.{CanRouse, after_rouse, CanSetFlag, after_set_flag, after_drain_rest};
 ghost use Rattle.wake_core.specs.WakerList.{IsInOrder};
 
 use crate::fault::OutOfMemory;
@@ -14,18 +17,18 @@ use std::marker::Model;
 use std::mem;
 use std::sync::ledger::{Blank, Book, Ledger, Share};
 
-/// Senders have the numbers below this.
+/// Senders have the numbers below this: it is the most that one sleeper makes, ever.
 pub const MAX_SENDERS: u64 = 65536;
 
-/// The most wakers that one sender pushes.
+/// The most wakers that one sender pushes, ever.
 pub const MAX_PUSHED: u64 = 4294967295;
 
 /// What the senders and the sleeper share: the wakers that wait, the flag (true: the sleeper is awake), the token
 /// (true: the sleeper is to wake), the stages and counts of the senders, and the stage of the sleeper.
 ///
 /// It keeps the totals of two ledgers: `P` counts pushes and `D` counts drains. Each method that changes it is one
-/// step, and its contract gives the new state in full. Every value is wake-safe, as `is_safe` says. (own; it stands
-/// for the channel of wakers and the eventfd of monoio's drivers)
+/// step, and its contract gives the new state in full. Every value is wake-safe, as `is_safe` says. (not in
+/// monoio, whose drivers keep a channel of wakers and an eventfd)
 #[derive(Drop)]
 pub struct WakeState<P: Ledger, D: Ledger> {
     alloc: Global,
@@ -64,7 +67,7 @@ fn stage_after(flag: bool) -> SenderStage
 impl<P: Ledger, D: Ledger> WakeState<P, D> {
     /// The first state: the sleeper is awake, nothing waits, and no sender pushed anything. Takes no memory.
     ///
-    /// It opens both ledgers, and answers their whole shares: that of pushes, then that of drains. (own)
+    /// It opens both ledgers, and returns their whole shares: that of pushes, then that of drains. (not in monoio)
     pub fn new(alloc: Global, pushes: Blank, drains: Blank) -> (WakeState<P, D>, Share<P>, Share<D>)
         requires pushes { (pushes.name ≡ P.name) × (pushes.parts ≡ P.parts) }
         requires drains { (drains.name ≡ D.name) × (drains.parts ≡ D.parts) }
@@ -87,28 +90,28 @@ impl<P: Ledger, D: Ledger> WakeState<P, D> {
         (state, pushes_share, drains_share)
     }
 
-    /// The sleeper's stage: the test of the conditions of the sleeper's steps. (own)
+    /// The sleeper's stage: the test of the conditions of the sleeper's steps. (not in monoio)
     pub fn stage(&self) -> SleeperStage
         ensures { result ≡ self.now.stage }
     {
         self.stage
     }
 
-    /// A sender's stage: the test of the conditions of that sender's steps. (own)
+    /// A sender's stage: the test of the conditions of that sender's steps. (not in monoio)
     pub fn sender_stage(&self, sender: u64) -> SenderStage
         ensures { result ≡ (sender_of self.now.senders sender).stage }
     {
         self.senders.get(sender).stage
     }
 
-    /// How many wakers a sender pushed. (own)
+    /// How many wakers a sender pushed. (not in monoio)
     pub fn pushed(&self, sender: u64) -> u64
         ensures { result ≡ (sender_of self.now.senders sender).pushed }
     {
         self.senders.get(sender).pushed
     }
 
-    /// Tells the caller that this state is wake-safe, as every value of the type is. Does nothing. (own)
+    /// Tells the caller that this state is wake-safe, as every value of the type is. Does nothing. (not in monoio)
     pub fn is_safe(&self)
         ensures safe { WakeSafety self.now }
 
@@ -118,9 +121,9 @@ impl<P: Ledger, D: Ledger> WakeState<P, D> {
         let _ = &self.flag;
     }
 
-    /// An idle sender pushes a waker for a task, which stands at the queue's end with the sender's next number.
+    /// An idle sender pushes a waker for a task, which joins the queue's end with the sender's next number.
     ///
-    /// The sender is then at `Pushed`, and the share of pushes grows by one. For want of memory nothing changes.
+    /// The sender is then at `Pushed`, and the share of pushes grows by one. If memory runs out nothing changes.
     /// (monoio: sending a `Waker` over the driver's channel)
     pub fn push(&mut self, sender: u64, task: u64, share: &mut Share<P>) -> Result<(), OutOfMemory>
         requires part { 0 < share.old.parts }
@@ -177,7 +180,7 @@ impl<P: Ledger, D: Ledger> WakeState<P, D> {
 
     /// Gives out all wakers that wait, in the order of their pushes, at any stage. Takes no memory.
     ///
-    /// The share of drains grows by their number. (own)
+    /// The share of drains grows by their number. (not in monoio)
     pub fn drain_rest(&mut self, share: &mut Share<D>) -> WakerList
         requires part { 0 < share.old.parts }
         ensures state { self.new ≡ after_drain_rest self.old }
@@ -273,7 +276,7 @@ impl<P: Ledger, D: Ledger> WakeState<P, D> {
         set
     }
 
-    /// Gets the sleeper up without the token: a time limit passed, or a completion stands. (own)
+    /// Gets the sleeper up without the token: its time limit passed, or it was not to wait. (not in monoio)
     pub fn rouse(&mut self)
         requires { CanRouse self.old }
         ensures { self.new ≡ after_rouse self.old }

@@ -3,11 +3,12 @@ ghost use Rattle.std.specs.Prelude.{IsOk};
 
 use crate::cell::Shared;
 use crate::fault::OutOfMemory;
+use crate::locked::handle::Nudging;
 use std::sync::ledger::Ledger;
 use std::sync::{Arc, Wait};
 use thiserror::Error;
 
-/// Why the sleeper was not told.
+/// Why the sleeper was not woken.
 #[derive(Clone, Copy, Debug, PartialEq, Eq, Error)]
 pub enum UnparkError {
     /// Memory ran out. Nothing was sent.
@@ -39,7 +40,8 @@ impl<P: Ledger, D: Ledger> UnparkHandle<P, D> {
         UnparkHandle { shared }
     }
 
-    /// Another handle of the same cell. (monoio: `UnparkHandle::clone`)
+    /// Another handle of the same cell. `OutOfMemory` if there is no room for another reference to the cell.
+    /// (monoio: `UnparkHandle::clone`)
     pub fn try_clone(&self) -> Result<UnparkHandle<P, D>, OutOfMemory> {
         let shared = Arc::try_clone(&self.shared).map_err(|_| OutOfMemory)?;
         Ok(UnparkHandle { shared })
@@ -47,12 +49,13 @@ impl<P: Ledger, D: Ledger> UnparkHandle<P, D> {
 }
 
 impl<P: Ledger, D: Ledger> Unpark for UnparkHandle<P, D> {
-    /// Nudges the state once: the token is set where the flag is false. Takes no memory, and is always Ok.
+    /// Nudges the state once: if the flag is false, because the sleeper sleeps or is about to, it sets the token; then it
+    /// notifies the sleeper. If the sleeper is awake or was dropped, nothing changes. Takes no memory, and is always Ok.
     /// (monoio: `UnparkHandle::unpark`)
     fn unpark<R: Wait>(&self, rt: &R) -> Result<(), UnparkError>
         ensures { IsOk result }
     {
-        self.shared.nudge(rt);
+        self.shared.nudge(rt, Nudging::new());
         Ok(())
     }
 }

@@ -5,7 +5,7 @@ ghost use Rattle.wake_core.specs.WakerList.{is_empty};
 use crate::fault::OutOfMemory;
 use std::marker::Model;
 
-/// What a sender pushes, so that the driver wakes a task: monoio's `Waker` sent to another thread, as numbers.
+/// What a sender pushes, so that the thread which drains it wakes a task. (monoio: a `Waker` sent to another thread)
 #[derive(Clone, Copy, Debug, PartialEq, Eq)]
 pub struct Waker {
     /// The number of its sender.
@@ -16,7 +16,7 @@ pub struct Waker {
     pub task: u64,
 }
 
-/// Wakers in order. A contract sees the list of them. (own)
+/// Wakers in order. A contract sees the list of them. (not in monoio)
 #[derive(Debug, Drop)]
 pub struct WakerList {
     items: Vec<Waker>,
@@ -32,14 +32,14 @@ impl Model for WakerList {
 }
 
 impl WakerList {
-    /// The list that owns these wakers. Takes no memory. (own)
+    /// The list that owns these wakers. Takes no memory. (not in monoio)
     pub fn from_vec(items: Vec<Waker>) -> WakerList
         ensures { result ≡ items.items }
     {
         WakerList { items }
     }
 
-    /// Gives up the vector of the wakers. Takes no memory. (own)
+    /// The vector of the wakers. Takes no memory. (not in monoio)
     pub fn into_vec(self) -> Vec<Waker>
         ensures { result.items ≡ self }
     {
@@ -54,14 +54,14 @@ impl WakerList {
         self.items.is_empty()
     }
 
-    /// The wakers, in order. (own)
+    /// The wakers, in order. (not in monoio)
     pub fn as_slice(&self) -> &[Waker]
         ensures { result.now ≡ self.now }
     {
         self.items.as_slice()
     }
 
-    /// Adds a waker at the end. For want of memory the list is as it was. (own)
+    /// Adds a waker at the end. `OutOfMemory` if the vector can't grow: the list is as it was. (not in monoio)
     pub fn push(&mut self, item: Waker) -> Result<(), OutOfMemory>
         ensures ok { OnOk result (self.new ≡ self.old ++ item ∷ []) }
         ensures err { OnErr result (self.new ≡ self.old) }
@@ -76,7 +76,7 @@ mod tests {
     use std::test::Fail;
 
     #[test]
-    fn a_list_takes_wakers_and_gives_them_up(rt: HostRuntime) -> Result<(), Fail> {
+    fn a_list_takes_wakers_and_returns_them(rt: HostRuntime) -> Result<(), Fail> {
         let waker = Waker {
             sender: 2,
             number: 0,

@@ -1,5 +1,6 @@
 use super::*;
 use crate::entry::{CANCEL_WORD, FIRST_RESERVED};
+use crate::payloads::append_first_parts;
 use crate::request::{Call, Request};
 use crate::shared_fd::SharedFd;
 use crate::world::{HandleKind, Look, World, WorldError};
@@ -100,8 +101,8 @@ fn a_send_moves_what_is_counted(rt: HostRuntime) -> Result<(), Fail> {
     let sent = ring.finish_at(0, Told::Count(3), b"hello", &mut got);
     assert_eq!(rt; sent.is_ok(), true);
     assert_eq!(rt; got.len(), 0);
-    assert!(rt; ring.handles() > 0);
-    let Look::Bytes(shown) = ring.look(0)?;
+    assert!(rt; ring.world().count() > 0);
+    let Look::Bytes(shown) = ring.world().look(0)?;
     assert_eq!(rt; shown.as_slice(), b"hel".as_slice());
     Ok(())
 }
@@ -115,20 +116,70 @@ fn nothing_arrives_after_the_end(rt: HostRuntime) -> Result<(), Fail> {
     assert_eq!(rt; world.end(h), Err(WorldError::BadHandleEvent));
     assert!(rt; h < world.count());
     assert_eq!(rt; world.feed(h, b"a"), Err(WorldError::BadHandleEvent));
+    Ok(())
+}
 
-    // What is sent to it goes on.
+// Bytes that are offered in parts, and those that came.
+#[derive(Drop)]
+struct Parts {
+    parts: VecBuf,
+    came: ByteList,
+}
+
+impl Payloads for Parts {
+    ghost use Rattle.std.specs.Prelude.{◌≡◌, ◌++◌, true};
+    ghost use Rattle.std.specs.List.{concat};
+    ghost use Rattle.rent_buf.specs.Parts.{bytes_of};
+
+    ghost offered = { λ payloads word. concat (bytes_of payloads.parts) };
+
+    ghost stores = { λ before word bytes after. after.came ≡ before.came ++ bytes };
+
+    ghost takes_memory = { λ n. true };
+
+    fn append_to(&self, _word: u64, count: u32, output: &mut ByteList) -> Result<(), OutOfMemory> {
+        append_first_parts(output, count as usize, &self.parts)
+    }
+
+    fn store(&mut self, _word: u64, bytes: &[u8]) -> Result<(), OutOfMemory> {
+        self.came.append(bytes)
+    }
+}
+
+#[test]
+fn an_execution_sends_from_its_payload_and_stores_into_it(rt: HostRuntime) -> Result<(), Fail> {
     let mut lists = Vec::new(rt.alloc());
     for bytes in [b"x".as_slice(), b"", b"yz"] {
         let mut list = Vec::new(rt.alloc());
         list.extend_from_slice(bytes)?;
         lists.push(list)?;
     }
-    let parts = VecBuf::from_parts(lists).map_err(|_| OutOfMemory)?;
-    world.send_parts(h, 2, &parts)?;
-    world.send(h, 1, b"!?")?;
-    assert!(rt; h < world.count());
-    let Look::Bytes(shown) = world.look(h)?;
-    assert_eq!(rt; shown.as_slice(), b"xy!".as_slice());
+    let mut payloads = Parts {
+        parts: VecBuf::from_parts(lists).map_err(|_| OutOfMemory)?,
+        came: ByteList::new(rt.alloc()),
+    };
+    let entries = [
+        read_entry(5, 7, 2),
+        send_entry(6, 8, 3),
+        send_entry(7, 9, 3),
+    ];
+    let mut ring = entered_ring(&rt, entries)?;
+
+    let sent = ring.execute(1, Told::Count(2), &mut payloads);
+    assert_eq!(rt; sent.is_ok(), true);
+    let read = ring.execute(0, Told::Count(2), &mut payloads);
+    assert_eq!(rt; read.is_ok(), true);
+    let failed = ring.execute(0, Told::Fail(5), &mut payloads);
+    assert_eq!(rt; failed.is_ok(), true);
+    assert_eq!(rt;
+        ring.execute(0, Told::Fail(5), &mut payloads),
+        Err(ExecRefusal::NotFlying)
+    );
+
+    assert_eq!(rt; payloads.came.as_slice(), b"ab".as_slice());
+    assert!(rt; ring.world().count() > 0);
+    let Look::Bytes(shown) = ring.world().look(0)?;
+    assert_eq!(rt; shown.as_slice(), b"xy".as_slice());
     Ok(())
 }
 
@@ -142,19 +193,6 @@ fn a_full_queue_hands_the_entry_back(rt: HostRuntime) -> Result<(), Fail> {
         Push::Full(read_entry(1, 1, 1))
     );
     assert_eq!(rt; ring.queued(), 1);
-    Ok(())
-}
-
-#[test]
-fn a_request_asks_for_its_want(rt: HostRuntime) -> Result<(), Fail> {
-    let buf = Rent::from_vec(Vec::new(rt.alloc()), 4).map_err(|refused| refused.0)?;
-    let request = Request::Recv {
-        fd: SharedFd::new(3),
-        buf,
-    };
-    assert_eq!(rt; request.call(), Call::In { h: 3, ask: 4 });
-    assert_eq!(rt; SharedFd::new(3).number(), 3);
-    assert_eq!(rt; FIRST_RESERVED, u64::MAX - 3);
     Ok(())
 }
 
@@ -266,10 +304,41 @@ fn an_error_is_allowed_by_its_number_and_moves_nothing(rt: HostRuntime) -> Resul
         };
         assert_eq!(rt; finished, want, "the error {e}");
         assert!(rt; got.as_slice().is_empty(), "the error {e}");
-        let whole = ring
-            .world()
-            .allows(false, Call::In { h: 0, ask: 3 }, Told::Count(3));
-        assert!(rt; whole, "the error {e}");
+        assert!(rt; ring.world().count() > 0);
+        let Look::Bytes(shown) = ring.world().look(0)?;
+        assert!(rt; shown.as_slice().is_empty(), "the error {e}");
+    }
+    Ok(())
+}
+
+// Where entries are executed: the first place, and how far the next one is from each.
+const ORDERS: [(&str, u64, u64); 3] = [("the first", 0, 0), ("the last", 39, 0), ("any", 0, 7)];
+
+// Of 600 reads, one is executed after each, once 40 are in flight: each completion is that of the entry that a plain list has at
+// the place. All slots are used up a few times meanwhile.
+#[test]
+fn what_is_in_flight_keeps_its_order(rt: HostRuntime) -> Result<(), Fail> {
+    for (name, first, step) in ORDERS {
+        let mut ring = MemRing::new(rt.alloc(), 1);
+        let mut serials = Vec::new(rt.alloc());
+        for serial in 0..600 {
+            assert!(rt; submit(&mut ring, read_entry(serial % 64, serial, 1))?);
+            serials.push(serial)?;
+            let place = ((first + serial * step) % 40) as usize;
+            if serials.len() < 40 || place >= serials.len() {
+                continue;
+            }
+            let gone = serials.remove(place);
+            let mut got = ByteList::new(rt.alloc());
+            let finished = ring.finish_at(place, Told::Fail(5), &[], &mut got);
+            let serial = finished.map(|completion| completion.serial);
+            assert_eq!(rt; serial, Ok(gone), "{name}, at {place}");
+            let _ = ring.next();
+        }
+        for place in 0..serials.len() {
+            let serial = ring.flying_at(place).map(|entry| entry.serial);
+            assert_eq!(rt; serial, serials.get(place).copied(), "{name}, at {place}");
+        }
     }
     Ok(())
 }

@@ -1,7 +1,7 @@
 use super::*;
-use crate::mem_source::{MemSink, MemSource};
-use crate::source::{StdSink, StdSource};
 use rent_buf::{ByteList, NumList};
+use rent_io::{MemSink, MemSource};
+use std::alloc::AllocError;
 use std::test::Fail;
 
 // Runs of the program: a name, the capacity's word, the lines, the status, and the replies, separated by `;`.
@@ -119,12 +119,14 @@ fn rows(rt: HostRuntime) -> Result<(), Fail> {
 
 // An input, a read that fails, a write that fails, the status, and what was written.
 #[rattlefmt::skip]
-const FAULTS: [(&str, Option<u64>, Option<u64>, Status, &str); 6] = [
+const FAULTS: [(&str, Option<u64>, Option<u64>, Status, &str); 8] = [
     ("give stream;", Some(0), None, Status::ReadFault, ""),
     ("give stream;", Some(1), None, Status::ReadFault, ""),
     ("give stream;", None, Some(0), Status::WriteFault, ""),
     ("give stream;", None, Some(1), Status::WriteFault, "handle 0;"),
-    ("drop;", None, Some(0), Status::WriteFault, ""),
+    ("no event;", None, Some(0), Status::WriteFault, ""),
+    ("no event;", None, Some(1), Status::WriteFault, "line "),
+    ("no event;", None, Some(3), Status::WriteFault, "line 1;"),
     ("give stream;submit recv 0 v 18446744073709551615 0 0 -;", None, None, Status::OutOfMemory, ""),
 ];
 
@@ -141,9 +143,21 @@ fn faults(rt: HostRuntime) -> Result<(), Fail> {
     Ok(())
 }
 
-// Words of `wake`, a write that fails, the status, and what was written.
+// Words of `gen` and `wake` and of no command, a write or flush that fails, the status, and what was written.
 #[rattlefmt::skip]
-const WAKES: [(&str, Option<u64>, Status, &str); 9] = [
+const WORDS: [(&str, Option<u64>, Status, &str); 21] = [
+    ("gen 1 5", None, Status::Done, "events 36 refused 1 ready 4;"),
+    ("gen 0 0", None, Status::Done, "events 1 refused 0 ready 0;"),
+    ("gen 2147483647 0", None, Status::Done, "events 1 refused 0 ready 0;"),
+    ("gen 2147483648 0", None, Status::BadWords, ""),
+    ("gen 0 100001", None, Status::BadWords, ""),
+    ("gen 00 1", None, Status::BadWords, ""),
+    ("gen 0", None, Status::BadWords, ""),
+    ("gen 1 5", Some(0), Status::WriteFault, ""),
+    ("gen 1 5", Some(1), Status::WriteFault, "events 36 refused 1 ready 4;"),
+    ("run", None, Status::BadWords, ""),
+    ("run 4 4", None, Status::BadWords, ""),
+    ("Run 4", None, Status::BadWords, ""),
     ("wake 2 3", None, Status::Done, "drained 6;"),
     ("wake 0 3", None, Status::Done, "drained 0;"),
     ("wake 3 0", None, Status::Done, "drained 0;"),
@@ -165,8 +179,8 @@ fn split_words(alloc: Global, text: &str) -> Result<Vec<String>, AllocError> {
 }
 
 #[test]
-fn wakers_are_drained_and_counted(rt: HostRuntime) -> Result<(), Fail> {
-    for (text, failing_write, status, output) in WAKES {
+fn commands_that_read_nothing(rt: HostRuntime) -> Result<(), Fail> {
+    for (text, failing_write, status, output) in WORDS {
         let words = split_words(rt.alloc(), text)?;
         let source = MemSource::new(lines_of(rt.alloc(), "")?, failing(rt.alloc(), None)?);
         let (ended, sink) = run_top(&rt, rt.alloc(), words.as_slice(), source, failing_write)?;
@@ -193,55 +207,59 @@ fn an_input_that_is_too_long_is_refused(rt: HostRuntime) -> Result<(), Fail> {
     Ok(())
 }
 
+// A run that is cut behind so many bytes: from the first to the last such number it is Done, or its line of this number is wrong.
+#[rattlefmt::skip]
+const CUTS: [(usize, usize, u64); 13] = [
+    (0, 0, 0),
+    (1, 10, 1),
+    (11, 12, 0),
+    (13, 20, 2),
+    (21, 22, 0),
+    (23, 44, 3),
+    (45, 46, 0),
+    (47, 49, 4),
+    (50, 51, 0),
+    (52, 61, 5),
+    (62, 63, 0),
+    (64, 70, 6),
+    (71, 71, 0),
+];
+
 #[test]
 fn an_input_that_is_cut_ends_well_or_has_a_wrong_line(rt: HostRuntime) -> Result<(), Fail> {
+    let alloc = rt.alloc();
     let input = lines_of(
-        rt.alloc(),
-        "give stream;feed 0 61;submit recv 0 v 1 0 1 -;turn;exec 0 ok 1;turn;poll 0 2",
+        alloc,
+        "give stream;feed 0 61;submit recv 0 v 1 0 1 -;turn;exec 0 ok 1;poll 0 2",
     )?;
-    for count in 0..input.len() {
-        let mut bytes = Vec::new(rt.alloc());
-        for byte in input.as_slice().iter().take(count) {
-            bytes.push(*byte)?;
-        }
-        let source = MemSource::new(ByteList::from_vec(bytes), failing(rt.alloc(), None)?);
-        let (ended, sink) = run_top(
-            &rt,
-            rt.alloc(),
-            run_words(rt.alloc(), "4")?.as_slice(),
-            source,
-            None,
-        )?;
-        let refused = sink.taken().starts_with(b"line ");
-        assert_eq!(rt;
-            ended,
-            if refused {
-                Status::BadLine
+    for (first, last, line) in CUTS {
+        for count in first..=last {
+            let mut bytes = Vec::new(alloc);
+            for byte in input.as_slice().iter().take(count) {
+                bytes.push(*byte)?;
+            }
+            let source = MemSource::new(ByteList::from_vec(bytes), failing(alloc, None)?);
+            let words = run_words(alloc, "4")?;
+            let (ended, sink) = run_top(&rt, alloc, words.as_slice(), source, None)?;
+            if line == 0 {
+                assert_eq!(rt; ended, Status::Done, "cut behind {count}");
             } else {
-                Status::Done
-            },
-            "cut after {count}"
-        );
+                let wanted = format!(in alloc; "line {line}\n")?;
+                assert_eq!(rt; ended, Status::BadLine, "cut behind {count}");
+                assert_eq!(rt; sink.taken(), wanted.as_bytes(), "cut behind {count}");
+            }
+        }
     }
     Ok(())
 }
 
 #[test]
-fn what_std_reads_and_writes_goes_through(rt: HostRuntime) -> Result<(), Fail> {
-    let input: &[u8] = b"turn\n";
-    let mut source = StdSource::new(input);
-    let mut sink = StdSink::new(Vec::new(rt.alloc()));
-    let mut kept = None;
-    let words = run_words(rt.alloc(), "1")?;
-    let status = top(
-        &rt,
-        rt.alloc(),
-        words.as_slice(),
-        &mut source,
-        &mut sink,
-        &mut kept,
-    );
-    assert_eq!(rt; status, Status::Done);
-    assert_eq!(rt; kept.is_some(), true);
+fn newlines_alone_are_a_wrong_line_at_once(rt: HostRuntime) -> Result<(), Fail> {
+    let bytes = ByteList::from_vec(vec![in rt.alloc(); b'\n'; 16777216]?);
+    let source = MemSource::new(bytes, failing(rt.alloc(), None)?);
+    let words = run_words(rt.alloc(), "4")?;
+    let (ended, sink) = run_top(&rt, rt.alloc(), words.as_slice(), source, None)?;
+    assert_eq!(rt; ended, Status::BadLine);
+    assert_eq!(rt; sink.taken(), b"line 1\n".as_slice());
     Ok(())
 }

@@ -1,11 +1,12 @@
 use Rattle.std.proofs.Common.{arith, ◌∙◌, ap, length}
 use Rattle.std.proofs.lemmas.List.{length-take}
-use Rattle.rent_buf.specs.Buffer.{most_asked, shown}
+use Rattle.rent_buf.specs.Buffer.{shown}
+use Rattle.ring_core.specs.declared.request.TheConstants.{MOST_ASKED}
 use Rattle.ring_core.proofs.request.offered.Goals as goal
 
 pub returns : goal.returns
 returns g c =
     let shows = c.bytes_init.ensures ∙ ap length c.bytes_total.ensures.content in
-    let cut = length-take most_asked (shown (g.B.IoBufMut.buffer c.args.buf.now)) in
+    let cut = length-take MOST_ASKED (shown (g.B.IoBufMut.buffer c.args.buf.now)) in
     let asks = c.asked.ensures in
     omega (arith, shows, cut, asks)

@@ -2,8 +2,8 @@ use Rattle.std.proofs.Common.{arith, ◌≡◌, ◌<◌, ◌+◌, ◌∙◌, ap,
 use Rattle.std.specs.Prelude.{take}
 use Rattle.std.specs.List.{concat}
 use Rattle.std.proofs.lemmas.List.{length-take, take_all}
-use Rattle.rent_buf.specs.Buffer.{most_asked}
 use Rattle.rent_buf.specs.Parts.{bytes_of}
+use Rattle.ring_core.specs.declared.request.TheConstants.{MOST_ASKED}
 use Rattle.ring_core.proofs.Joined.{length-joined-more}
 use Rattle.ring_core.proofs.request.parts_offered.Goals as goal
 
@@ -24,7 +24,7 @@ returns c =
     let parts = bytes_of c.args.parts.now in
     let count = c.parts_len-i-end.ensures in
     let all = ap (λ xs. length (concat xs)) (take_all c.loop-i.i parts (omega (arith, count))) in
-    let cut = length-take most_asked (concat parts) in
+    let cut = length-take MOST_ASKED (concat parts) in
     let sum = c.loop-i.invariant in
     let asks = c.asked.ensures in
     omega (arith, all, cut, sum, asks)

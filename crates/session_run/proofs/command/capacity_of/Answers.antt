@@ -3,10 +3,10 @@ use Rattle.session_run.proofs.Commands.{capacity-within, capacity-outside, capac
 use Rattle.session_run.proofs.command.capacity_of.Goals as goal
 
 pub returns-in-Some : goal.returns-in-Some
-returns-in-Some c = capacity-within _ c.in-Some.capacity (sym c.in-Some.ensures) c.if-capacity-ge1.true c.if-capacity-le4294967295.true
+returns-in-Some c = capacity-within _ c.in-Some.capacity (sym c.in-Some.ensures) c.if-capacity-ge1.true c.if-capacity-le-MOST_ENTRIES.true
 
 pub returns-in_default : goal.returns-in_default
-returns-in_default c = capacity-outside _ c.in-Some.capacity (sym c.in-Some.ensures) (λ low high. omega (arith, c.if-capacity-le4294967295.false, high))
+returns-in_default c = capacity-outside _ c.in-Some.capacity (sym c.in-Some.ensures) (λ low high. omega (arith, c.if-capacity-le-MOST_ENTRIES.false, high))
 
 pub returns-in_default-2 : goal.returns-in_default-2
 returns-in_default-2 c = capacity-outside _ c.in-Some.capacity (sym c.in-Some.ensures) (λ low high. omega (arith, c.if-capacity-ge1.false, low))

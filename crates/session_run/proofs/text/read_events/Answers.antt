@@ -15,7 +15,7 @@ loop-rest-preserved c =
     (event_of-stands c.first_line.result.0.now c.in-Some.event (sym c.in_ok-event.ensures ∙ c.in-Some.is)) c.in_ok-push-in-Some.ensures.items
 
 pub loop-rest-init : goal.loop-rest-init
-loop-rest-init c = rw c.in_ok-events.ensures.items (have_read-none c.args.text.now)
+loop-rest-init c = rw c.new-events.ensures.items (have_read-none c.args.text.now)
 
 pub returns-clause-events : goal.returns-clause-events
 returns-clause-events c = have_read-all c.args.text.now c.loop-rest.rest.now c.loop-rest.events.items c.loop-rest.invariant (grind (arith, nat_tests))

@@ -1,13 +1,16 @@
-use Rattle.std.proofs.Common.{ap, arith}
-use Rattle.op_slots.proofs.Places.{len-at, live-within}
+use Rattle.std.proofs.Common.{ap, ◌∙◌, arith}
+use Rattle.std.specs.FinMap.{len}
+use Rattle.op_slots.proofs.Kept.{kept-len, kept-bound, keys-below, on-pages}
 use Rattle.op_slots.proofs.slab.Slab.len.Goals as goal
 
 pub returns-clause-count : goal.returns-clause-count
-returns-clause-count g c =
-    let count = len-at c.self.inside.places.items _ (ap (λ s. s.values) c.self.view_is) in
-    omega (arith, count, c.self.invariant.count)
+returns-clause-count g c = kept-len _ _ _ _ c.self.invariant ∙ ap (λ s. len s.values) c.self.view_is
+
+pub returns-clause-bound : goal.returns-clause-bound
+returns-clause-bound g c = omega (arith, kept-bound _ _ _ _ c.self.invariant)
 
 pub returns-clause-keys : goal.returns-clause-keys
-returns-clause-keys g c = λ key live.
-    let within = live-within c.self.inside.places.items _ key (ap (λ s. s.values) c.self.view_is) live in
-    omega (arith, within, c.self.invariant.bound)
+returns-clause-keys g c = rw (← c.self.view_is) (keys-below _ _ _ _ c.self.invariant)
+
+pub returns-clause-pages : goal.returns-clause-pages
+returns-clause-pages g c = rw (← c.self.view_is) (on-pages _ _ _ _ c.self.invariant)

@@ -1,52 +1,133 @@
-use Rattle.std.proofs.Common.{sym, ◌∙◌, ap, arith}
-use Rattle.std.specs.FinMap as map
-use Rattle.std.specs.Ordering.{nat_cmp}
-use Rattle.op_slots.specs.Places.{listed}
-use Rattle.op_slots.proofs.Places.{get-at, map-empty, map-absent, at-past, set-at-none, length-empty, slots-same}
-use Rattle.op_slots.proofs.Free.{kept-take}
+use Rattle.std.proofs.Common.{sym, arith}
+use Rattle.op_slots.proofs.Places.{map-absent}
+use Rattle.op_slots.proofs.Kept.{peek-past, peek-none}
+use Rattle.op_slots.proofs.Removing.{removed, removed-kept, looked}
 use Rattle.op_slots.proofs.slab.Slab.remove.Goals as goal
 
-absent : goal.returns-then-key-len-clause-value
-absent g c =
-    let places = c.self.inside.places.items in
-    sym (get-at places _ c.args.key (ap (λ s. s.values) c.self.view_is) ∙ at-past places c.args.key (omega arith))
+pub returns-then-page-len-clause-value : goal.returns-then-page-len-clause-value
+returns-then-page-len-clause-value g c =
+    let absent = peek-past c.self.inside.pages.items _ _ c.self.inside.removals c.args.key c.page_of-page.result c.self.invariant
+    (omega (arith, c.ranges.key)) c.page_of-page.ensures.rule (omega arith) in
+    rw (← c.self.view_is) (sym absent)
 
-pub returns-then-key-len-clause-value : goal.returns-then-key-len-clause-value
-returns-then-key-len-clause-value g c = absent g c
+pub returns-then-page-len-clause-new : goal.returns-then-page-len-clause-new
+returns-then-page-len-clause-new g c =
+    let absent = peek-past c.self.inside.pages.items _ _ c.self.inside.removals c.args.key c.page_of-page.result c.self.invariant
+    (omega (arith, c.ranges.key)) c.page_of-page.ensures.rule (omega arith) in
+    rw (← c.self.view_is) (sym (map-absent _ _ absent))
 
-pub returns-then-key-len-clause-new : goal.returns-then-key-len-clause-new
-returns-then-key-len-clause-new g c = sym (map-absent _ c.args.key (sym (absent g c)))
+pub overflow_sub-self : goal.overflow_sub-self
+overflow_sub-self g c =
+    let r = removed _ _ _ _ _ c.args.key c.page_of-page.result c.first_key.result c.in-Some.value c.self.invariant (omega (
+      arith,
+      c.ranges.key,
+    )) c.page_of-page.ensures.rule c.first_key.ensures c.in-Some.ensures.some in
+    r.some
 
-pub push_reserved-requires : goal.push_reserved-requires
-push_reserved-requires g c =
-    let one_less = length-empty c.self.inside.places.items 0 c.args.key c.in-Some.value (sym c.in-Some.ensures.value) in
-    omega (arith, one_less, c.self.invariant.count, c.self.invariant.returns)
+pub invariant_of-self-then-self-lt-COMPACT_INTERVAL : goal.invariant_of-self-then-self-lt-COMPACT_INTERVAL
+invariant_of-self-then-self-lt-COMPACT_INTERVAL g c =
+    let r = removed _ _ _ _ _ c.args.key c.page_of-page.result c.first_key.result c.in-Some.value c.self.invariant (omega (
+      arith,
+      c.ranges.key,
+    )) c.page_of-page.ensures.rule c.first_key.ensures c.in-Some.ensures.some in
+    removed-kept _ _ _ _ _ _ _ c.self.invariant r (omega arith)
 
-pub invariant_of-self : goal.invariant_of-self
-invariant_of-self g c =
-    let kept = kept-take c.self.inside.places.items c.self.inside.free.items c.args.key c.in-Some.value _ c.self.invariant (sym c.in-Some.ensures.value) in
-    rw (c.in-Some.ensures.items, c.push_reserved.ensures.items, c.push_reserved.ensures.capacity) kept
+pub returns-then-self-lt-COMPACT_INTERVAL-clause-value : goal.returns-then-self-lt-COMPACT_INTERVAL-clause-value
+returns-then-self-lt-COMPACT_INTERVAL-clause-value g c =
+    let r = removed _ _ _ _ _ c.args.key c.page_of-page.result c.first_key.result c.in-Some.value c.self.invariant (omega (
+      arith,
+      c.ranges.key,
+    )) c.page_of-page.ensures.rule c.first_key.ensures c.in-Some.ensures.some in
+    rw (← c.self.view_is) (sym r.value)
 
-pub invariant_of-self-in-None : goal.invariant_of-self-in-None
-invariant_of-self-in-None g c =
-    let e = c.in-None.ensures.items ∙ set-at-none c.self.inside.places.items c.args.key (sym c.in-None.ensures.value) in
-    rw e c.self.invariant
+pub returns-then-self-lt-COMPACT_INTERVAL-clause-new : goal.returns-then-self-lt-COMPACT_INTERVAL-clause-new
+returns-then-self-lt-COMPACT_INTERVAL-clause-new g c =
+    let r = removed _ _ _ _ _ c.args.key c.page_of-page.result c.first_key.result c.in-Some.value c.self.invariant (omega (
+      arith,
+      c.ranges.key,
+    )) c.page_of-page.ensures.rule c.first_key.ensures c.in-Some.ensures.some in
+    rw (← c.self.view_is) r.values
 
-pub returns-in-Some-clause-value : goal.returns-in-Some-clause-value
-returns-in-Some-clause-value g c = c.in-Some.ensures.value ∙ sym (get-at c.self.inside.places.items _ c.args.key (ap (λ s. s.values) c.self.view_is))
+pub returns-then-self-lt-COMPACT_INTERVAL-clause-below : goal.returns-then-self-lt-COMPACT_INTERVAL-clause-below
+returns-then-self-lt-COMPACT_INTERVAL-clause-below g c =
+    let r = removed _ _ _ _ _ c.args.key c.page_of-page.result c.first_key.result c.in-Some.value c.self.invariant (omega (
+      arith,
+      c.ranges.key,
+    )) c.page_of-page.ensures.rule c.first_key.ensures c.in-Some.ensures.some in
+    r.below
 
-pub returns-in-Some-clause-new : goal.returns-in-Some-clause-new
-returns-in-Some-clause-new g c =
-    ap (λ xs. map.from_entries {R = nat_cmp} (listed 0 xs)) c.in-Some.ensures.items ∙ map-empty c.self.inside.places.items c.args.key (omega arith) ∙ ap (λ s. map.remove s.values c.args.key) c.self.view_is
+pub invariant_of-self-in-Some : goal.invariant_of-self-in-Some
+invariant_of-self-in-Some g c =
+    let r = removed _ _ _ _ _ c.args.key c.page_of-page.result c.first_key.result c.in-Some.value c.self.invariant (omega (
+      arith,
+      c.ranges.key,
+    )) c.page_of-page.ensures.rule c.first_key.ensures c.in-Some.ensures.some in
+    let l = looked _ _ _ _ _ _ c.args.key c.in-Some.value c.self.invariant r (omega (
+      arith,
+      c.self.invariant.interval,
+    )) c.give_back.ensures in
+    l.kept
 
 pub returns-in-None-clause-value : goal.returns-in-None-clause-value
-returns-in-None-clause-value g c = c.in-None.ensures.value ∙ sym (get-at c.self.inside.places.items _ c.args.key (ap (λ s. s.values) c.self.view_is))
+returns-in-None-clause-value g c =
+    let absent = peek-none c.self.inside.pages.items _ _ c.self.inside.removals c.args.key c.page_of-page.result c.first_key.result
+    c.self.invariant (omega (arith, c.ranges.key)) c.page_of-page.ensures.rule c.first_key.ensures c.in-None.ensures.none in
+    rw (← c.self.view_is) (sym absent)
 
 pub returns-in-None-clause-new : goal.returns-in-None-clause-new
 returns-in-None-clause-new g c =
-    ap (λ xs. map.from_entries {R = nat_cmp} (listed 0 xs)) c.in-None.ensures.items ∙ map-empty c.self.inside.places.items c.args.key (omega arith) ∙ ap (λ s. map.remove s.values c.args.key) c.self.view_is
+    let absent = peek-none c.self.inside.pages.items _ _ c.self.inside.removals c.args.key c.page_of-page.result c.first_key.result
+    c.self.invariant (omega (arith, c.ranges.key)) c.page_of-page.ensures.rule c.first_key.ensures c.in-None.ensures.none in
+    rw (← c.self.view_is, c.in-None.ensures.same) (sym (map-absent _ _ absent))
 
-pub returns-in-None-clause-none : goal.returns-in-None-clause-none
-returns-in-None-clause-none g c =
-    let e = c.in-None.ensures.items ∙ set-at-none c.self.inside.places.items c.args.key (sym c.in-None.ensures.value) in
-    slots-same _ _ _ _ _ _ _ _ e c.in-None.ensures.len c.in-None.ensures.capacity ∙ c.self.view_is
+pub returns-else-self-lt-COMPACT_INTERVAL-clause-value : goal.returns-else-self-lt-COMPACT_INTERVAL-clause-value
+returns-else-self-lt-COMPACT_INTERVAL-clause-value g c =
+    let r = removed _ _ _ _ _ c.args.key c.page_of-page.result c.first_key.result c.in-Some.value c.self.invariant (omega (
+      arith,
+      c.ranges.key,
+    )) c.page_of-page.ensures.rule c.first_key.ensures c.in-Some.ensures.some in
+    rw (← c.self.view_is) (sym r.value)
+
+pub returns-else-self-lt-COMPACT_INTERVAL-clause-new : goal.returns-else-self-lt-COMPACT_INTERVAL-clause-new
+returns-else-self-lt-COMPACT_INTERVAL-clause-new g c =
+    let r = removed _ _ _ _ _ c.args.key c.page_of-page.result c.first_key.result c.in-Some.value c.self.invariant (omega (
+      arith,
+      c.ranges.key,
+    )) c.page_of-page.ensures.rule c.first_key.ensures c.in-Some.ensures.some in
+    let l = looked _ _ _ _ _ _ c.args.key c.in-Some.value c.self.invariant r (omega (
+      arith,
+      c.self.invariant.interval,
+    )) c.give_back.ensures in
+    rw (← c.self.view_is) l.values
+
+pub returns-else-self-lt-COMPACT_INTERVAL-clause-below : goal.returns-else-self-lt-COMPACT_INTERVAL-clause-below
+returns-else-self-lt-COMPACT_INTERVAL-clause-below g c =
+    let r = removed _ _ _ _ _ c.args.key c.page_of-page.result c.first_key.result c.in-Some.value c.self.invariant (omega (
+      arith,
+      c.ranges.key,
+    )) c.page_of-page.ensures.rule c.first_key.ensures c.in-Some.ensures.some in
+    r.below
+
+pub returns-else-self-lt-COMPACT_INTERVAL-clause-given : goal.returns-else-self-lt-COMPACT_INTERVAL-clause-given
+returns-else-self-lt-COMPACT_INTERVAL-clause-given g c =
+    let r = removed _ _ _ _ _ c.args.key c.page_of-page.result c.first_key.result c.in-Some.value c.self.invariant (omega (
+      arith,
+      c.ranges.key,
+    )) c.page_of-page.ensures.rule c.first_key.ensures c.in-Some.ensures.some in
+    let l = looked _ _ _ _ _ _ c.args.key c.in-Some.value c.self.invariant r (omega (
+      arith,
+      c.self.invariant.interval,
+    )) c.give_back.ensures in
+    rw (← c.self.view_is) l.given
+
+pub returns-else-self-lt-COMPACT_INTERVAL-clause-kept : goal.returns-else-self-lt-COMPACT_INTERVAL-clause-kept
+returns-else-self-lt-COMPACT_INTERVAL-clause-kept g c =
+    let r = removed _ _ _ _ _ c.args.key c.page_of-page.result c.first_key.result c.in-Some.value c.self.invariant (omega (
+      arith,
+      c.ranges.key,
+    )) c.page_of-page.ensures.rule c.first_key.ensures c.in-Some.ensures.some in
+    let l = looked _ _ _ _ _ _ c.args.key c.in-Some.value c.self.invariant r (omega (
+      arith,
+      c.self.invariant.interval,
+    )) c.give_back.ensures in
+    rw (← c.self.view_is) l.stays

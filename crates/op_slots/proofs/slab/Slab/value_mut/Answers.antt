@@ -1,35 +1,53 @@
-use Rattle.std.proofs.Common.{refl, sym, ◌∙◌, ap, subst, arith}
-use Rattle.std.specs.Prelude.{IsSome}
+use Rattle.std.proofs.Common.{◌-◌, refl, sym, ap, ◌∙◌, arith}
+use Rattle.std.specs.FinMap.{get}
 use Rattle.op_slots.specs.Slots.{with_value}
-use Rattle.op_slots.proofs.Places.{slots-put, at-get, live-at, live-within, get-at}
-use Rattle.op_slots.proofs.Free.{kept-keep}
+use Rattle.op_slots.specs.Places.{slots_of}
+use Rattle.op_slots.proofs.Kept.{peek-at, live-within, live_place, kept-keep, slots-keep}
 use Rattle.op_slots.proofs.slab.Slab.value_mut.Goals as goal
 
 pub index_mut-requires : goal.index_mut-requires
 index_mut-requires g c =
-    let within = live-within c.self.inside.places.items _ c.args.key (ap (λ s. s.values) c.self.view_is) c.requires in
-    omega (arith, within)
+    let within = live-within _ _ _ _ c.args.key c.self.invariant (rw (← c.self.view_is) at c.requires) in
+    let is = c.page_of-page.ensures.rule in
+    omega (arith, within.1, is)
 
-pub held-requires : goal.held-requires
-held-requires g c =
-    let places = c.self.inside.places.items in
-    let values = ap (λ s. s.values) c.self.view_is in
-    subst (λ o. IsSome o) (sym (c.index_mut.ensures.value ∙ at-get places c.args.key c.index_mut.result.now (live-within places _ c.args.key values c.requires))) (live-at places _ c.args.key values c.requires)
+pub value_mut-requires : goal.value_mut-requires
+value_mut-requires g c =
+    (live_place c.self.inside.pages.items _ _ _ c.args.key c.page_of-page.result c.first_key.result c.index_mut.result.now
+    c.self.invariant (omega (arith, c.ranges.key)) (rw (← c.self.view_is) at c.requires) c.page_of-page.ensures.rule
+    c.first_key.ensures c.index_mut.ensures.value).held
 
 pub invariant_of-self-lent : goal.invariant_of-self-lent
 invariant_of-self-lent g c w =
-    let places = c.self.inside.places.items in
-    kept-keep places c.self.inside.free.items c.args.key w _ c.self.invariant (live-at places _ c.args.key (ap (λ s. s.values) c.self.view_is) c.requires)
+    let place = live_place c.self.inside.pages.items _ _ _ c.args.key c.page_of-page.result c.first_key.result c.index_mut.result.now
+    c.self.invariant (omega (arith, c.ranges.key)) (rw (← c.self.view_is) at c.requires) c.page_of-page.ensures.rule
+    c.first_key.ensures c.index_mut.ensures.value in
+    kept-keep _ _ _ _ _ _ _ w c.self.invariant place.there place.held
 
 pub returns : goal.returns
 returns g c =
-    let places = c.self.inside.places.items in
-    let values = ap (λ s. s.values) c.self.view_is in
-    let within = live-within places _ c.args.key values c.requires in (
-      (refl, λ w. slots-put places c.args.key w _ _ _ _ within ∙ ap (λ s. with_value s c.args.key w) c.self.view_is),
+    let place = live_place c.self.inside.pages.items _ _ _ c.args.key c.page_of-page.result c.first_key.result c.index_mut.result.now
+    c.self.invariant (omega (arith, c.ranges.key)) (rw (← c.self.view_is) at c.requires) c.page_of-page.ensures.rule
+    c.first_key.ensures c.index_mut.ensures.value in
+    let within = live-within _ _ _ _ c.args.key c.self.invariant (rw (← c.self.view_is) at c.requires) in
+    let is = c.page_of-page.ensures.rule in
+    let here = peek-at c.self.inside.pages.items _ _ c.self.inside.removals c.args.key c.page_of-page.result c.first_key.result
+    c.index_mut.result.now c.self.invariant (omega (arith, c.ranges.key)) is c.first_key.ensures (omega (
+      arith,
+      within.1,
+      is,
+    )) c.index_mut.ensures.value in (
+      (
+        refl,
+        λ w.
+            slots-keep c.self.inside.pages.items _ _ c.self.inside.removals c.page_of-page.result (c.args.key - c.first_key.result)
+            c.index_mut.result.now w c.self.invariant place.there place.held
+            ∙ ap (λ k. with_value (slots_of c.self.inside.pages.items c.self.inside.removals) k w) place.key_is
+            ∙ ap (λ s. with_value s c.args.key w) c.self.view_is,
+      ),
       record {
         writes_back = tt;
-        value = get-at places _ c.args.key values ∙ sym (c.index_mut.ensures.value ∙ at-get places c.args.key c.index_mut.result.now within) ∙ c.held.ensures.value;
-        below = omega (arith, within, c.self.invariant.bound);
+        value = sym (sym c.value_mut.ensures.value ∙ here ∙ ap (λ s. get s.values c.args.key) c.self.view_is);
+        below = place.below;
       },
     )

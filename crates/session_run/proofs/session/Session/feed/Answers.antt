@@ -17,4 +17,7 @@ returns-in-Err-BadHandleEvent c = λ L stands. answers-refused c.args.self.now _
     (subst (λ why. RefusedFor L (Feed c.args.h c.args.bytes.now) why) c.in-Err-BadHandleEvent.field-0-is (c.in-Err-BadHandleEvent.ensures.answers L stands.driver)) c.in-Err-BadHandleEvent.ensures.err refl
 
 pub returns-in-Err-OutOfMemory : goal.returns-in-Err-OutOfMemory
-returns-in-Err-OutOfMemory c = λ L stands. stands-same c.args.self.now _ L stands c.in-Err-OutOfMemory.ensures.err refl
+returns-in-Err-OutOfMemory c = λ L stands. record {
+  stands = stands-same c.args.self.now _ L stands c.in-Err-OutOfMemory.ensures.err refl;
+  unrefused = subst (λ why. RefusedFor L (Feed c.args.h c.args.bytes.now) why) c.in-Err-OutOfMemory.field-0-is (c.in-Err-OutOfMemory.ensures.answers L stands.driver);
+}

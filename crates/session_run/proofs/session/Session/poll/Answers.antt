@@ -1,7 +1,7 @@
 use Rattle.std.proofs.Common.{◌≡◌, Some, None, ap, refl, sym, subst, ◌∙◌}
 use Rattle.rent_buf.specs.Buf.{built}
 use Rattle.ring_core.specs.Lists.{amended}
-use Rattle.ring_core.specs.Request.{buffer_of, plain_request}
+use Rattle.ring_core.specs.Request.{held_of, plain_request}
 use Rattle.ring_core.specs.declared.ledger.Event.TheVariants.{Poll}
 use Rattle.ring_core.specs.declared.ledger.Reply.TheVariants.{Pending, Handed}
 use Rattle.uring_driver.specs.Stands.{Answers}
@@ -33,5 +33,5 @@ returns-in-Pending c = λ L stands.
 pub returns-in-Ready : goal.returns-in-Ready
 returns-in-Ready c = λ L stands.
     let there = sym c.in-Some.ensures.value in
-    rw c.held_of.ensures (answers-taken c.args.self.now _ L c.args.n c.in-Some.op _ _ stands there c.in-Some.ensures.rest c.in-Ready.ensures.tokens (λ none. c.poll_op.ensures.due ∙ none) c.poll_op.ensures.given
-    (subst (λ n. Answers (λ r. r) built L (Poll n c.args.task) (Handed c.in-Ready.done.outcome (buffer_of (plain_request built c.in-Ready.done.request))) c.poll_op.new.self) ((stands.tokens c.args.n c.in-Some.op).0 there).1 (c.in-Ready.ensures.answers L stands.driver)))
+    rw c.plain_held.ensures (answers-taken c.args.self.now _ L c.args.n c.in-Some.op _ _ stands there c.in-Some.ensures.rest c.in-Ready.ensures.tokens (λ none. c.poll_op.ensures.due ∙ none) c.poll_op.ensures.given
+    (subst (λ n. Answers (λ r. r) built L (Poll n c.args.task) (Handed c.in-Ready.done.outcome (held_of (plain_request built c.in-Ready.done.request))) c.poll_op.new.self) ((stands.tokens c.args.n c.in-Some.op).0 there).1 (c.in-Ready.ensures.answers L stands.driver).0))

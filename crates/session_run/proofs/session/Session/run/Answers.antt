@@ -1,7 +1,7 @@
 use Rattle.std.proofs.Common.{◌+◌, sym, subst, add-one, arith}
 use Rattle.ring_core.specs.Ledger.{empty}
-use Rattle.ring_core.specs.Headline.{RefusedExactly, PendingUntilReaped, HandsBackOwn, FirstPollHands, HandedOnce, DroppedOnce, ReapNames, CanceledWhereAsked}
-use Rattle.ring_core.proofs.HeadlineLaws.{refused-exactly, pending-until-reaped, hands-back-own, first-poll-hands, handed-once, dropped-once, reap-names, canceled-where-asked}
+use Rattle.run_laws.specs.Headline.{RefusedExactly, PendingUntilReaped, HandsBackOwn, FirstPollHands, HandedOnce, DroppedOnce, ReapNames, CanceledWhereAsked}
+use Rattle.run_laws.proofs.Laws.{refused-exactly, pending-until-reaped, hands-back-own, first-poll-hands, handed-once, dropped-once, reap-names, canceled-where-asked}
 use Rattle.session_run.specs.Session.{SessionStands}
 use Rattle.session_run.proofs.Runs.{get-there, after-one_more, replies-one_more, replies-done}
 use Rattle.session_run.proofs.session.Session.run.Goals as goal

@@ -1,0 +1,28 @@
+use Rattle.std.proofs.Common.{refl, ap}
+use Rattle.op_slots.specs.declared.lifecycle.Lifecycle.TheVariants.{Submitted}
+use Rattle.driver_core.specs.declared.slot.Slot.{Slot}
+use Rattle.driver_core.proofs.Tokens.{adds-this, adds-kept, adds-only, numbered-more}
+use Rattle.driver_core.proofs.operations.Operations.submit.Goals as goal
+
+pub invariant_of-self : goal.invariant_of-self
+invariant_of-self g c =
+    let given = c.self.inside.given in
+    let slot : Slot g.row.B.Denot = record { serial = given; request = c.args.request; life = Submitted } in
+    numbered-more c.self.inside.slots.values c.insert.new.self.values given c.in-Ok.key slot c.in-Ok.ensures.fresh refl refl c.in-Ok.ensures.ok c.self.invariant c.in-Ok.ensures.below
+
+pub returns-clause-token : goal.returns-clause-token
+returns-clause-token g c =
+    let given = c.self.inside.given in
+    let old = c.self.inside.slots.values in
+    let new = c.insert.new.self.values in
+    let op = c.make-op.result in
+    let slot : Slot g.row.B.Denot = record { serial = given; request = c.args.request; life = Submitted } in
+    let key = ap (λ o. o.key) c.make-op.ensures in
+    let number = ap (λ o. o.number) c.make-op.ensures in
+    rw (← c.self.view_is) (record {
+      this = adds-this old new given c.in-Ok.key slot c.in-Ok.ensures.fresh refl refl c.in-Ok.ensures.ok op key number;
+      kept = adds-kept old new given c.in-Ok.key slot c.in-Ok.ensures.fresh refl refl c.in-Ok.ensures.ok;
+      only = λ other held. adds-only old new given c.in-Ok.key slot c.in-Ok.ensures.fresh refl refl c.in-Ok.ensures.ok op other key number held;
+      number = number;
+      next = refl;
+    })

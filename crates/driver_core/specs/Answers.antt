@@ -1,0 +1,38 @@
+-- What the calls of a driver answer, by the relation that says when it stands for a ledger: the same for every driver.
+use Rattle.std.specs.Prelude.{ℕ, ◌≡◌, Some, slice_get}
+use Rattle.rent_buf.specs.Buffer.{Buffer}
+use Rattle.rent_buf.specs.Parts.{Parts}
+use Rattle.ring_core.specs.declared.request.Request.{Request}
+use Rattle.ring_core.specs.declared.ledger.Event.{Event}
+use Rattle.ring_core.specs.declared.ledger.Event.TheVariants.{Submit, Poll}
+use Rattle.ring_core.specs.declared.ledger.Reply.{Reply}
+use Rattle.ring_core.specs.declared.ledger.Reply.TheVariants.{Submitted as Given, Pending as Waits, Handed}
+use Rattle.ring_core.specs.Request.{plain_request, held_of, IsHolding}
+use Rattle.ring_core.specs.Ledger.{Ledger, Operation}
+use Rattle.ring_core.specs.Step.{step}
+use Rattle.driver_core.specs.declared.op.Op.{Op as Token}
+use Rattle.driver_core.specs.declared.op.PollOp.{PollOp}
+use Rattle.driver_core.specs.declared.op.PollOp.TheVariants.{Pending, Ready}
+use Rattle.driver_core.specs.declared.op.Submitted.{Submitted}
+use Rattle.driver_core.specs.declared.op.Submitted.TheVariants.{Op}
+use Rattle.driver_core.specs.Op.{number_of}
+
+-- A call's answer is the machine's reply to its event, and the driver stands for the machine's next ledger.
+pub record Answers {D : Type 0} (relation : D → Ledger → Type 0) (L : Ledger) (event : Event) (reply : Reply) (new : D) : Type 0 where
+  pub reply_is : (step L event).1 ≡ reply
+  pub stands : relation new (step L event).0
+
+-- A submission got the machine's next number.
+abbrev pub SubmitsFor : {D B : Type 0} → (D → Ledger → Type 0) → (B → Buffer) → Ledger → Request B Parts → D → Submitted → Type 0
+SubmitsFor relation buffer L request new (Op op) = Answers relation L (Submit (plain_request buffer request)) (Given (number_of op)) new
+
+-- A request is that of the machine's operation of a number, with what it holds.
+pub record IsOwnRequest {B : Type 0} (buffer : B → Buffer) (L : Ledger) (number : ℕ) (request : Request B Parts) : Type 0 where
+  pub operation : Operation
+  pub there : slice_get L.ops number ≡ Some operation
+  pub own : IsHolding operation.request operation.buffer (plain_request buffer request)
+
+-- A poll answers what the machine does. What is ready has its outcome, and its own request with what it holds.
+abbrev pub PollsFor : {D B : Type 0} → (D → Ledger → Type 0) → (B → Buffer) → Ledger → Token → ℕ → D → PollOp B → Type 0
+PollsFor relation buffer L op task new (Pending back) = Answers relation L (Poll (number_of op) task) Waits new
+PollsFor relation buffer L op task new (Ready done) = Answers relation L (Poll (number_of op) task) (Handed done.outcome (held_of (plain_request buffer done.request))) new × IsOwnRequest buffer L (number_of op) done.request

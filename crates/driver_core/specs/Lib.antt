@@ -1,0 +1,6 @@
+pub mod Slot
+pub mod Slots
+pub mod Ops
+pub mod Op
+pub mod Operations
+pub mod Answers

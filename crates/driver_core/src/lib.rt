@@ -1,0 +1,10 @@
+//! What every driver shares: operations in slots, their numbers and tokens, and what calls on them answer.
+#![tactic(auto)]
+
+pub mod op;
+pub mod operations;
+mod slot;
+
+pub use op::{Done, Executed, Op, PollOp, Stop, SubmitError, SubmitFault, Submitted, Turned};
+pub use operations::Operations;
+pub use slot::Slot;

@@ -1,0 +1,139 @@
+//! The token of an operation, and what the driver answers.
+ghost use Rattle.std.specs.Prelude.{◌≡◌};
+ghost use Rattle.driver_core.specs.Op.{number_of, key_of};
+
+use rent_buf::{NumList, VecBuf};
+use ring_core::{Outcome, Request};
+use thiserror::Error;
+
+/// Names one operation of the driver that gave it. It can't be made, copied or dropped outside: `poll_op` spends it where
+/// it is `Ready`, `drop_op` always, and `forget` spends it with no driver. (monoio's `Op`, which holds its driver too)
+#[derive(Debug)]
+pub struct Op {
+    number: u64,
+    key: usize,
+}
+
+impl Op {
+    /// The operation's number: how many were given before it. (own)
+    pub fn number(&self) -> u64
+        ensures { result ≡ number_of self.now }
+    {
+        self.number
+    }
+
+    /// Gives the token up. The operation stays as it is, with its buffer, until its driver goes. (own)
+    pub fn forget(self) {
+        let Op { number: _, key: _ } = self;
+    }
+
+    // The token of the operation with this number and the slot at this key.
+    pub(crate) fn make(number: u64, key: usize) -> Op
+        ensures { result ≡ record { number = number; key = key } }
+    {
+        Op { number, key }
+    }
+
+    /// The key of its slot, which another operation may have later. (not in monoio)
+    pub fn key(&self) -> usize
+        ensures { result ≡ key_of self.now }
+    {
+        self.key
+    }
+
+    // The key of its slot, and the token is gone.
+    pub(crate) fn spend(self) -> usize
+        ensures { result ≡ self.key }
+    {
+        let Op { number: _, key } = self;
+        key
+    }
+}
+
+/// What a submission gave.
+#[derive(Debug)]
+pub enum Submitted {
+    /// The token of the new operation.
+    Op(Op),
+}
+
+/// Why nothing was submitted. (monoio answers an `io::Error`)
+#[derive(Clone, Copy, Debug, PartialEq, Eq, Error)]
+pub enum SubmitFault {
+    /// 4294967232 operations are in flight or wait for their poll.
+    #[error("Full")]
+    Full,
+    /// The queue was full, or an entry was due, and the ring failed to take it: its count of faults rose.
+    #[error("RingFault")]
+    RingFault,
+    /// The queue was full, or an entry was due, and the ring was busy: its count of busies rose.
+    #[error("Busy")]
+    Busy,
+    /// Memory ran out.
+    #[error("OutOfMemory")]
+    OutOfMemory,
+}
+
+/// A submission that was refused, with the request.
+#[derive(Debug, Drop)]
+pub struct SubmitError<B> {
+    /// Why.
+    pub why: SubmitFault,
+    /// The request as it was handed in, with its buffer or its parts.
+    pub request: Request<B, VecBuf>,
+}
+
+/// What an operation ended with.
+#[derive(Debug, Drop)]
+pub struct Done<B> {
+    /// How it ended.
+    pub outcome: Outcome,
+    /// The request as it was submitted, with its buffer or its parts, in which the bytes of a read stand.
+    pub request: Request<B, VecBuf>,
+}
+
+/// What a poll answers. (std's `Poll`)
+#[derive(Debug)]
+pub enum PollOp<B> {
+    /// The operation isn't reaped; its token comes back, and its next completion wakes the task that polled last.
+    Pending(Op),
+    /// The operation has ended. Its slot is free again.
+    Ready(Done<B>),
+}
+
+/// What was executed. (own)
+#[derive(Clone, Copy, Debug, PartialEq, Eq)]
+pub enum Executed {
+    /// The operation of this number.
+    Op(u64),
+}
+
+/// Why a turn ended early.
+#[derive(Clone, Copy, Debug, PartialEq, Eq, Error)]
+pub enum Stop {
+    /// The ring failed to take its queue: its count of faults rose. Nothing was treated.
+    #[error("RingFault")]
+    RingFault,
+    /// The ring was busy: its count of busies rose. What stood was treated.
+    #[error("Busy")]
+    Busy,
+    /// The turn ended at a completion with this data word, which is not reserved and names no slot in flight.
+    #[error("BadCompletion {0}")]
+    BadCompletion(u64),
+    /// Memory ran out. Nothing changed.
+    #[error("OutOfMemory")]
+    OutOfMemory,
+}
+
+/// What a turn did.
+#[derive(Debug, Drop)]
+pub struct Turned {
+    /// The numbers of the operations whose completions were treated, in the order of these.
+    pub reaped: NumList,
+    /// The handles whose closes were treated: there are none yet.
+    pub closed: NumList,
+    /// The tasks to wake, in the order of the completions.
+    pub woken: NumList,
+    /// Why it ended early, if it did.
+    pub stop: Option<Stop>,
+}

@@ -1,0 +1,167 @@
+//! What a slot of a driver holds, and what its calls do to one slot.
+ghost use Rattle.std.specs.Prelude.{◌≡◌, ◌≤◌, ℕ, false, length, IsSome, IfSome, IfNone, option_copied};
+ghost use Rattle.std.specs.FinMap as map;
+ghost use Rattle.op_slots.specs.Lifecycle.{IsCompleted, IsIgnored};
+ghost use Rattle.ring_core.specs.Request.{plain_request, room_of, held_after, IsHolding};
+ghost use Rattle.driver_core.specs.Slot.{has_number, flies_in, PollsSlot, PollsAt, DropsSlot, DropsAt, CompletesSlot, KeepsNumbers, FillsSlot};
+
+use crate::op::Done;
+use op_slots::{AfterComplete, AfterDrop, AfterPoll, Lifecycle, Slab};
+use rent_buf::{IoBufMut, VecBuf};
+use ring_core::{Completion, Outcome, Request};
+
+/// What a slot holds: an operation's number, its request with its buffer or its parts, and how far it is. (not in
+/// monoio, whose slot is a `Lifecycle` alone)
+#[derive(Drop)]
+pub struct Slot<B> {
+    /// The operation's number.
+    pub serial: u64,
+    /// Its request, with its buffer or its parts.
+    pub request: Request<B, VecBuf>,
+    /// How far it is.
+    pub life: Lifecycle<Outcome>,
+}
+
+/// The slot that was looked up holds this number, and its operation wasn't dropped.
+pub fn is_numbered<B>(slot: Option<&Slot<B>>, number: u64) -> bool
+    ensures { result ≡ has_number (option_copied slot.entry) number }
+{
+    match slot {
+        Some(slot) => match &slot.life {
+            Lifecycle::Ignored => false,
+            _ => slot.serial == number,
+        },
+        None => false,
+    }
+}
+
+// The slot that was looked up is in flight: live and not completed.
+fn is_flying<B>(slot: Option<&Slot<B>>) -> bool
+    ensures { result ≡ flies_in (option_copied slot.entry) }
+{
+    match slot {
+        Some(slot) => match &slot.life {
+            Lifecycle::Completed(_) => false,
+            _ => true,
+        },
+        None => false,
+    }
+}
+
+/// Polls a live slot of its user's: what a completed one holds comes out, and the slot goes; else the task waits from then on.
+pub fn poll_at<B: Drop>(slots: &mut Slab<Slot<B>>, key: usize, task: u64) -> Option<Done<B>>
+    requires live { IsSome (map.get slots.old.values key) }
+    requires owned { IfSome (map.get slots.old.values key) (λ s. ¬ IsIgnored s.life) }
+    ensures { PollsAt slots.old.values key task slots.new.values result }
+{
+    match poll_slot(slots, key, task) {
+        AfterPoll::Pending => None,
+        AfterPoll::Take => Some(take_done(slots, key)),
+    }
+}
+
+// Asks a live slot for its result.
+fn poll_slot<B: Drop>(slots: &mut Slab<Slot<B>>, key: usize, task: u64) -> AfterPoll
+    requires live { IsSome (map.get slots.old.values key) }
+    requires owned { IfSome (map.get slots.old.values key) (λ s. ¬ IsIgnored s.life) }
+    ensures { PollsSlot slots.old.values key task slots.new.values result }
+{
+    let slot = slots.value_mut(key);
+    slot.life.poll(task)
+}
+
+// Frees a completed slot.
+fn take_done<B: Drop>(slots: &mut Slab<Slot<B>>, key: usize) -> Done<B>
+    requires live { IsSome (map.get slots.old.values key) }
+    requires completed { IfSome (map.get slots.old.values key) (λ s. IsCompleted s.life) }
+    ensures done { IfSome (map.get slots.old.values key) (λ s. (s.request ≡ result.request) × (s.life ≡ Lifecycle.Completed result.outcome)) }
+    ensures slots { slots.new.values ≡ map.remove slots.old.values key }
+{
+    match slots.remove(key) {
+        Some(slot) => {
+            let Slot {
+                serial: _,
+                request,
+                life,
+            } = slot;
+            match life {
+                Lifecycle::Completed(outcome) => Done { outcome, request },
+                _ => unreachable!(),
+            }
+        }
+        None => unreachable!(),
+    }
+}
+
+/// Drops the operation of a live slot of its user's: where it isn't completed it is ignored from then on, else it goes.
+pub fn drop_at<B: Drop>(slots: &mut Slab<Slot<B>>, key: usize) -> AfterDrop
+    requires live { IsSome (map.get slots.old.values key) }
+    requires owned { IfSome (map.get slots.old.values key) (λ s. ¬ IsIgnored s.life) }
+    ensures { DropsAt slots.old.values key slots.new.values result }
+{
+    match drop_slot(slots, key) {
+        AfterDrop::Free => {
+            let _ = slots.remove(key);
+            AfterDrop::Free
+        }
+        AfterDrop::Left => AfterDrop::Left,
+    }
+}
+
+// Where a live slot isn't completed it is ignored from then on.
+fn drop_slot<B: Drop>(slots: &mut Slab<Slot<B>>, key: usize) -> AfterDrop
+    requires live { IsSome (map.get slots.old.values key) }
+    requires owned { IfSome (map.get slots.old.values key) (λ s. ¬ IsIgnored s.life) }
+    ensures { DropsSlot slots.old.values key slots.new.values result }
+{
+    let slot = slots.value_mut(key);
+    slot.life.drop_owner()
+}
+
+/// Completes the slot that a completion names, or frees it where its operation was dropped, and answers its number and the task
+/// to wake. Where that is no slot in flight it answers None, and nothing changes.
+pub fn complete_slot<B: Drop>(
+    slots: &mut Slab<Slot<B>>,
+    completion: &Completion,
+) -> Option<(u64, Option<u64>)>
+    ensures completes { CompletesSlot slots.old.values completion.now slots.new.values result }
+    ensures stray { IfNone result (flies_in (map.get slots.new.values completion.now.word) ≡ false) }
+    ensures numbers { KeepsNumbers slots.old.values slots.new.values }
+{
+    let key = completion.word as usize;
+    if !is_flying(slots.peek(key)) {
+        return None;
+    }
+    let slot = slots.value_mut(key);
+    let serial = slot.serial;
+    match slot.life.complete(completion.outcome) {
+        AfterComplete::Kept => Some((serial, None)),
+        AfterComplete::Wake(task) => Some((serial, Some(task))),
+        AfterComplete::Free => {
+            let _ = slots.remove(key);
+            Some((serial, None))
+        }
+    }
+}
+
+/// Stores bytes that came in what the request of a live slot holds, when they fit. What is sent stays.
+pub fn store_in<B: IoBufMut + Drop>(slots: &mut Slab<Slot<B>>, key: usize, bytes: &[u8])
+    ensures fills { FillsSlot B.buffer slots.old.values key bytes.now slots.new.values }
+    ensures numbers { KeepsNumbers slots.old.values slots.new.values }
+{
+    if slots.peek(key).is_none() {
+        return;
+    }
+    let slot = slots.value_mut(key);
+    fill(&mut slot.request, bytes);
+}
+
+// Stores bytes that came in what a request holds, when they fit.
+fn fill<B: IoBufMut>(request: &mut Request<B, VecBuf>, bytes: &[u8])
+    ensures { length bytes.now ≤ room_of (plain_request B.buffer request.old) →
+        IsHolding (plain_request B.buffer request.old) (held_after (plain_request B.buffer request.old) bytes.now) (plain_request B.buffer request.new) }
+{
+    if bytes.len() <= request.room() {
+        request.store(bytes);
+    }
+}

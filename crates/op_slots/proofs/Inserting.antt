@@ -1,0 +1,179 @@
+-- What a slab keeps true, and what its slots are, as a place is found and a value put in.
+use Rattle.std.proofs.Common.{◌≡◌, ◌⊎◌, ℕ, suc, ◌+◌, ◌-◌, ◌≤◌, ◌<◌, max, List, [], ◌++◌, length, Option, None, Some, is_some, cond, set, get_or, slice_get, inl, inr, sym, ◌∙◌, ap, subst, arith, length-set}
+use Rattle.std.specs.Prelude.{IsSome}
+use Rattle.std.specs.FinMap.{get, insert}
+use Rattle.std.proofs.lemmas.List.{length_push, length-replicate}
+use Rattle.std.proofs.lemmas.List.Folds.{sum_by-replicate}
+use Rattle.std.proofs.lemmas.Option.{slice_get_within, slice_get-get_or}
+use Rattle.op_slots.specs.Page.{Places, at, taken}
+use Rattle.op_slots.specs.Pages.{page_of, places_on, first_key}
+use Rattle.op_slots.specs.Slots.{IsPageFull, MakesPage}
+use Rattle.op_slots.specs.Places.{all_places, room_in, AreSized, AreKept, slots_of, IsOpenAt, AreFullFrom, IsLastFull, FindsPlace, PutsOn}
+use Rattle.op_slots.proofs.Pages.{next_first, first-mono, first-bound, page_of-at}
+use Rattle.op_slots.proofs.Places.{map_of, get-places, map-put, map-more, taken-put, taken-append, taken-le, taken-below, held_everywhere}
+use Rattle.op_slots.proofs.AllPlaces.{sized-at, sized-set, sized-push, at-places, set-places, places-push, same-length, same-all, same-sized, full-places, room-at, open-below}
+use Rattle.op_slots.proofs.Kept.{length-all, bound-all}
+
+module _ {T : Type 0} where
+  -- nothing was put on the pages that a search left: at most there is one more, with empty places
+  record Found (old mid : List (Places T)) (live removals i : ℕ) : Type 0 where
+    sized : AreSized 0 mid
+    few : length mid ≤ 26
+    counted : live ≡ taken (all_places mid)
+    values : map_of (all_places mid) ≡ map_of (all_places old)
+    within : i < length mid
+    longer : length old ≤ length mid
+    pages : length mid ≡ max (length old) (i + 1)
+    made : MakesPage (slots_of old removals) (slots_of mid removals)
+
+  -- the keys of a last page without an empty place are live
+  last-full : (pages : List (Places T)) (live first removals : ℕ) → AreKept pages live first removals → IsLastFull pages
+      → 0 < length pages → IsPageFull (slots_of pages removals) (length pages - 1)
+  last-full pages live first removals h full some = λ key begin end.
+      let i = length pages - 1 in
+      let bound = first-bound (suc i) (omega (arith, h.few)) in
+      let next = next_first i in
+      let is : page_of key ≡ i = page_of-at key i (omega (arith, h.few)) begin end in
+      let last : Places T = get_or pages i (record { places = []; memory = 0 }) in
+      let there : slice_get pages i ≡ Some last = slice_get-get_or pages i (record { places = []; memory = 0 }) (omega arith) in
+      let size = sized-at 0 i pages last h.sized there in
+      let e : 0 + i ≡ i = omega arith in
+      let size_is = rw e at size in
+      let at_key = at-places 0 i key (key - first_key i) pages last h.sized there (omega (arith, size_is)) (rw e (omega arith)) in
+      subst IsSome (sym (get-places (all_places pages) key ∙ at_key))
+      (held_everywhere last.places (key - first_key i) (full last there) (omega (arith, size_is)))
+
+  -- what a search leaves
+  found : (old mid : List (Places T)) (live first removals i : ℕ) → AreKept old live first removals → FindsPlace old mid i
+      → Found old mid live removals i
+  found old mid live first removals i h finds =
+      let within = slice_get_within mid i _ finds.0.1 in
+      elim finds.1 [
+        | inl same ↦
+            let size = same-length old mid same in
+            let all = same-all old mid same in
+            record {
+              sized = same-sized 0 old mid same h.sized;
+              few = omega (arith, size, h.few);
+              counted = h.counted ∙ ap taken (sym all);
+              values = ap map_of all;
+              within = within;
+              longer = omega arith;
+              pages = omega arith;
+              made = inl size;
+            }
+        | inr added ↦
+            let new = added.0 in
+            let size : length mid ≡ length old + 1 = ap length new.1 ∙ length_push old new.0 in
+            let all : all_places mid ≡ all_places old ++ new.0.places = ap all_places new.1 ∙ places-push old new.0 in
+            let count = places_on (length old) in
+            let none : taken new.0.places ≡ 0 = rw new.2 (omega (
+              arith,
+              sum_by-replicate (λ (o : Option T). cond (is_some o) 1 0) count None,
+            )) in
+            let e : 0 + length old ≡ length old = omega arith in
+            let new_size : length new.0.places ≡ places_on (0 + length old) = rw (e, new.2) (length-replicate {A = Option T} count None) in
+            record {
+              sized = subst (AreSized 0) (sym new.1) (sized-push 0 old new.0 h.sized new_size);
+              few = omega (arith, size, added.2);
+              counted = h.counted ∙ sym (ap taken all ∙ omega (arith, taken-append (all_places old) new.0.places, none));
+              values = ap map_of all ∙ map-more (all_places old) new.0.places none;
+              within = within;
+              longer = omega arith;
+              pages = omega (arith, added.1);
+              made = inr (size, last-full old live first removals h added.3);
+            }
+      ]
+
+  -- what is so once a value was put on a page that a search found
+  pub record Inserted (old new : List (Places T)) (live removals i key : ℕ) (v : T) : Type 0 where
+    pub kept : AreKept new (live + 1) i removals
+    pub few : i < 26
+    pub below : key < 4294967232
+    pub space : live < 4294967232
+    pub fresh : get (slots_of old removals).values key ≡ None
+    pub values : (slots_of new removals).values ≡ insert (slots_of old removals).values key v
+    pub pages : length new ≡ max (length old) (page_of key + 1)
+    pub made : MakesPage (slots_of old removals) (slots_of new removals)
+
+  pub inserted : (old mid new : List (Places T)) (live first removals i q : ℕ) (v : T) → AreKept old live first removals
+      → FindsPlace old mid i → PutsOn mid i q v new → Inserted old new live removals i (first_key i + q) v
+  inserted old mid new live first removals i q v h finds put =
+      let f = found old mid live first removals i h finds in
+      let e : 0 + i ≡ i = omega arith in
+      let k = first_key i + q in
+      let place = at-places 0 i k q mid put.page f.sized put.there put.within (rw e (omega arith)) in
+      let empty : at (all_places mid) k ≡ None = place ∙ put.empty in
+      let size = sized-at 0 i mid put.page f.sized put.there in
+      let size_is = rw e at size in
+      let ends = first-bound (suc i) (omega (arith, f.within, f.few)) in
+      let next = next_first i in
+      let all_size = length-all mid f.sized in
+      let last = first-mono (suc i) (length mid) (omega (arith, f.within)) in
+      let inside : k < length (all_places mid) = omega (arith, size_is, put.within) in
+      let all : all_places new ≡ set (all_places mid) k (Some v) =
+      ap all_places put.changed ∙ set-places 0 i k q mid put.page (Some v) f.sized put.there put.within (rw e (omega arith)) in
+      let count = ap length put.changed ∙ length-set mid i _ in
+      let bound = bound-all mid f.sized f.few in
+      let is : page_of k ≡ i = page_of-at k i (omega (arith, f.within, f.few)) (omega arith) (omega (arith, size_is, put.within)) in
+      record {
+        kept = record {
+          sized = subst (AreSized 0) (sym put.changed)
+              (sized-set 0 i mid put.page _ f.sized put.there (length-set put.page.places q (Some v)));
+          few = omega (arith, count, f.few);
+          counted = omega (arith, f.counted, ap taken all, taken-put (all_places mid) k v inside empty);
+          search = omega (arith, count, f.within);
+          interval = h.interval;
+        };
+        few = omega (arith, f.within, f.few);
+        below = omega arith;
+        space = omega (arith, f.counted, taken-below (all_places mid) k inside empty);
+        fresh = ap (λ m. get m k) (sym f.values) ∙ get-places (all_places mid) k ∙ empty;
+        values = ap map_of all ∙ map-put (all_places mid) k v inside ∙ ap (λ m. insert m k v) f.values;
+        pages = rw is (omega (arith, count, f.pages));
+        made = subst (λ n. MakesPage (slots_of old removals) (record (slots_of new removals) { pages = n })) (sym count) f.made;
+      }
+
+  -- what is so once a search has found a place
+  pub record Reserved (old mid : List (Places T)) (live removals i : ℕ) : Type 0 where
+    pub kept : AreKept mid live i removals
+    pub values : (slots_of mid removals).values ≡ (slots_of old removals).values
+    pub room : 0 < room_in mid
+    pub made : MakesPage (slots_of old removals) (slots_of mid removals)
+
+  pub reserved : (old mid : List (Places T)) (live first removals i : ℕ) → AreKept old live first removals → FindsPlace old mid i
+      → Reserved old mid live removals i
+  reserved old mid live first removals i h finds =
+      let f = found old mid live first removals i h finds in
+      record {
+        kept = record { sized = f.sized; few = f.few; counted = f.counted; search = omega (arith, f.within); interval = h.interval };
+        values = f.values;
+        room = room-at mid i finds.0;
+        made = f.made;
+      }
+
+  -- where all pages are there and full, all keys are live
+  pub full-live : (pages : List (Places T)) (live first removals : ℕ) → AreKept pages live first removals → AreFullFrom pages 0
+      → length pages ≡ 26 → live ≡ 4294967232
+  full-live pages live first removals h full all =
+      let size = length-all pages h.sized ∙ ap first_key all in
+      omega (arith, h.counted, full-places pages full, size)
+
+  -- where a place is empty, or a page can be made, they aren't
+  pub not-full-live : (pages : List (Places T)) (live first removals : ℕ) → AreKept pages live first removals
+      → ((i : ℕ) × IsOpenAt pages i) ⊎ (length pages < 26) → live < 4294967232
+  not-full-live pages live first removals h (inl is_open) = omega (
+    arith,
+    h.counted,
+    open-below pages is_open.0 is_open.1,
+    bound-all pages h.sized h.few,
+  )
+  not-full-live pages live first removals h (inr fewer) =
+      let less = first-mono (length pages) 25 (omega arith) in
+      omega (arith, h.counted, taken-le (all_places pages), length-all pages h.sized, less)
+
+  -- the same, where the first key of the page is known by another name
+  pub inserted_at : (old mid new : List (Places T)) (live first removals i begin q : ℕ) (v : T) → begin ≡ first_key i
+      → AreKept old live first removals → FindsPlace old mid i → PutsOn mid i q v new → Inserted old new live removals i (begin + q) v
+  inserted_at old mid new live first removals i begin q v is h finds put =
+      subst (λ b. Inserted old new live removals i (b + q) v) (sym is) (inserted old mid new live first removals i q v h finds put)

@@ -1,0 +1,84 @@
+-- Which keys a page has.
+use Rattle.std.proofs.Common.{◌≡◌, ℕ, zero, suc, ◌+◌, ◌-◌, ◌*◌, ◌/◌, ◌^◌, ◌<◌, ◌≤◌, min, inl, inr, arith}
+use Rattle.std.proofs.Math.Nat.{pow-suc, pow-le-pow_right}
+use Rattle.std.proofs.lemmas.Nat.{leading_length, pow_pos}
+use Rattle.std.proofs.lemmas.Bool.{cases_lt}
+use Rattle.op_slots.specs.Pages.{page_of, places_on, first_key, binary_digits}
+
+-- the next power of two is twice as great
+pub doubled : (i : ℕ) → 2 ^ suc i ≡ 2 * 2 ^ i
+doubled i = omega (arith, pow-suc 2 i)
+
+-- behind a page the next one begins
+pub next_first : (i : ℕ) → first_key i + places_on i ≡ first_key (suc i)
+next_first i = omega (arith, doubled i, pow_pos i)
+
+-- a later page begins later
+pub first-mono : (i j : ℕ) → i ≤ j → first_key i ≤ first_key j
+first-mono i j le = let pow : 2 ^ i ≤ 2 ^ j = pow-le-pow_right (omega arith) le in omega arith
+
+-- of two pages the one that begins below the other's first key is the earlier one
+pub first-less : (i j : ℕ) → first_key i < first_key j → i < j
+first-less i j less = elim (cases_lt i j) [ inl lt ↦ lt | inr ge ↦ absurd (omega (arith, first-mono j i ge)) ]
+
+-- no page ends behind the bound on keys
+pub first-bound : (i : ℕ) → i ≤ 26 → first_key i ≤ 4294967232
+first-bound i few = first-mono i 26 few
+
+-- a number, and how many binary digits it has
+record HasDigits (n m : ℕ) : Type 0 where
+  above : n < 2 ^ m
+  below : 2 ^ m ≤ 2 * n + 1
+
+-- the binary digits of a number
+digits : (n : ℕ) → n < 2 ^ 64 → HasDigits n (binary_digits n)
+digits n fits =
+    let d = leading_length 64 n fits in
+    let e : binary_digits n ≡ d.0 = omega (arith, d.1) in
+    rw e (record { above = d.2; below = d.3 })
+
+-- a page that is named by the digits of a number begins at or below it
+begins : (key n m : ℕ) → n ≤ (key + 64) / 128 → 2 ^ m ≤ 2 * n + 1 → first_key m ≤ key
+begins key n zero le below = omega arith
+begins key n (suc m) le below = omega (arith, doubled m)
+
+-- the page of a key begins at or below it
+pub page_of-first : (key : ℕ) → key < 2 ^ 64 → first_key (page_of key) ≤ key
+unfolding page_of
+page_of-first key fits =
+    let n = min (key + 64) (2 ^ 64 - 1) / 128 in
+    let d = digits n (omega arith) in
+    let pow : 2 ^ (min (binary_digits n) 25) ≤ 2 ^ binary_digits n = pow-le-pow_right (omega arith) (omega arith) in
+    begins key n (min (binary_digits n) 25) (omega arith) (omega (arith, pow, d.below))
+
+-- there are 26 pages
+pub page_of-few : (key : ℕ) → page_of key < 26
+unfolding page_of
+page_of-few key = omega arith
+
+-- a key ends before the page after its own begins
+pub page_of-last : (key : ℕ) → key < 4294967232 → key < first_key (page_of key) + places_on (page_of key)
+unfolding page_of
+page_of-last key below =
+    let n = min (key + 64) (2 ^ 64 - 1) / 128 in
+    let d = digits n (omega arith) in
+    by_digits (binary_digits n) d.above
+  where
+    by_digits : (m : ℕ) → min (key + 64) (2 ^ 64 - 1) / 128 < 2 ^ m → key < first_key (min m 25) + places_on (min m 25)
+    by_digits m above =
+        elim (cases_lt m 25) [
+          | inl lt ↦ (let e : min m 25 ≡ m = omega arith in rw e (omega (arith, above, pow_pos m)))
+          | inr ge ↦ (let e : min m 25 ≡ 25 = omega arith in rw e (omega (arith, below)))
+        ]
+
+-- a page is that of each key between its first one and its last one
+pub page_of-at : (key i : ℕ) → i < 26 → first_key i ≤ key → key < first_key i + places_on i → page_of key ≡ i
+page_of-at key i few first last =
+    let bound = first-bound (suc i) (omega arith) in
+    let next = next_first i in
+    let begin = page_of-first key (omega arith) in
+    let end = page_of-last key (omega arith) in
+    let after = next_first (page_of key) in
+    let low : page_of key < suc i = first-less (page_of key) (suc i) (omega arith) in
+    let high : i < suc (page_of key) = first-less i (suc (page_of key)) (omega arith) in
+    omega arith

@@ -1,0 +1,52 @@
+//! Which keys lie on which page.
+ghost use Rattle.std.specs.Prelude.{◌≡◌, ◌+◌, ◌<◌, ◌≤◌};
+ghost use Rattle.op_slots.specs.Pages.{page_of as page_by_rule, places_on as places_by_rule, first_key as first_by_rule};
+
+use super::MAX_LIVE;
+
+/// How many pages there are at most.
+///
+/// monoio: `NUM_PAGES`.
+pub const NUM_PAGES: usize = 26;
+
+/// How many places page 0 has. Each later page has twice as many as the one before it.
+///
+/// monoio: `PAGE_INITIAL_SIZE`.
+pub const PAGE_INITIAL_SIZE: usize = 64;
+
+/// The page of a key: how many binary digits `(key + 64) >> 7` has, where 0 has none, and 25 at most. The sum stays at
+/// `usize::MAX` where it would pass it. A key from `MAX_LIVE` on, which no value has, is answered with 25.
+///
+/// monoio: `get_page_id`.
+pub fn page_of(key: usize) -> usize
+    ensures rule { result ≡ page_by_rule key }
+    ensures few { result < NUM_PAGES }
+
+    // The key is one of the page's, if it can be a key at all.
+    ensures first { first_by_rule result ≤ key }
+    ensures last { key < MAX_LIVE → key < first_by_rule result + places_by_rule result }
+{
+    // The answer for page 0 waits for no other instruction.
+    if key < PAGE_INITIAL_SIZE {
+        return 0;
+    }
+    let shifted = key.saturating_add(PAGE_INITIAL_SIZE) >> 7;
+    let digits = (usize::BITS - shifted.leading_zeros()) as usize;
+    digits.min(NUM_PAGES - 1)
+}
+
+// How many places a page has.
+pub fn places_on(page: usize) -> usize
+    requires { page < NUM_PAGES }
+    ensures { result ≡ places_by_rule page }
+{
+    PAGE_INITIAL_SIZE << page
+}
+
+// The first key of a page.
+pub fn first_key(page: usize) -> usize
+    requires { page < NUM_PAGES }
+    ensures { result ≡ first_by_rule page }
+{
+    (PAGE_INITIAL_SIZE << page) - PAGE_INITIAL_SIZE
+}

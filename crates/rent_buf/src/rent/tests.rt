@@ -1,0 +1,39 @@
+//! Vectors with a stated total.
+use crate::trials::{fill_range, set_first, vec_of};
+use crate::*;
+
+#[test]
+fn fills_and_clears_a_vector(rt: HostRuntime) -> Result<(), OutOfMemory> {
+    let vec = vec_of(rt.alloc(), "0123")?;
+    assert!(rt; vec.len() <= 10);
+    let Ok(rent) = Rent::from_vec(vec, 10) else {
+        return Err(OutOfMemory);
+    };
+    assert!(rt; rent.slice_mut_fits(4, 10));
+    let mut rent = fill_range(rent, 4, 10, b"45");
+    assert!(rt; rent.bytes_init() > 0);
+    set_first(&mut rent, b'a');
+    assert_eq!(rt; rent.bytes(), b"a12345".as_slice());
+    rent.clear();
+    assert_eq!(rt; (rent.bytes_init(), rent.bytes_total()), (0, 10));
+    Ok(())
+}
+
+#[test]
+fn refuses_a_total_past_memory(rt: HostRuntime) -> Result<(), OutOfMemory> {
+    let alloc = rt.alloc();
+    assert!(rt; Rent::with_total(alloc, usize::MAX).is_err());
+    let Err((refusal, vec)) = Rent::from_vec(vec_of(alloc, "7")?, usize::MAX) else {
+        assert!(rt; false, "a vector of all memory");
+        return Ok(());
+    };
+    assert_eq!(rt; format!(in alloc; "{refusal}")?.as_str(), "OutOfMemory");
+    assert_eq!(rt; vec.as_slice(), b"7".as_slice());
+    let most = usize::MAX;
+    let Some(spec) = BufSpec::new(Kind::Vector, most, 0, most, ByteList::from_vec(vec)) else {
+        return Err(OutOfMemory);
+    };
+    assert!(rt; spec.try_clone().is_err());
+    assert!(rt; spec.build().is_err());
+    Ok(())
+}

@@ -1,0 +1,17 @@
+pub mod BufReader
+pub mod Counts
+pub mod FileAt
+pub mod ItemSink
+pub mod MemSource
+pub mod Polls
+pub mod ReadExact
+pub mod ReadLine
+pub mod ReadNumber
+pub mod ReadUntil
+pub mod Reader
+pub mod Scripted
+pub mod Sink
+pub mod Source
+pub mod WriteAll
+pub mod WriteVectoredAll
+pub mod Writer

@@ -1,0 +1,42 @@
+-- A write of all bytes: what each poll of it does.
+use Rattle.std.specs.Prelude.{ℕ, ◌≡◌, ◌<◌, ◌⊎◌, Bool, IsTrue, List, ◌++◌, length, Result, Ok, Err}
+use Rattle.rent_buf.specs.declared.fault.IoFault.{IoFault}
+use Rattle.rent_buf.specs.declared.fault.IoFault.TheVariants.{WriteZero}
+use Rattle.rent_io.specs.declared.poll.Step.{Step}
+use Rattle.rent_io.specs.declared.poll.Step.TheVariants.{Ready, Pending, Again}
+use Rattle.rent_io.specs.Counts.{Rose}
+use Rattle.rent_io.specs.Writer.{Writer}
+
+-- Such a write is its buffer, the bytes that are still to be written, and how many bytes the buffer has.
+pub record Sending (T : Type 0) : Type 0 where
+  pub buf : T
+  pub rest : List ℕ
+  pub total : ℕ
+
+-- It wrote some bytes, and more are to be written.
+pub record SendsOn {T : Type 0} (tells : Bool) (before now : List ℕ) (s next : Sending T) : Type 0 where
+  pub sent : List ℕ
+  pub some : 0 < length sent
+  pub more : 0 < length next.rest
+  pub cut : s.rest ≡ sent ++ next.rest
+  pub same_buf : next.buf ≡ s.buf
+  pub same_total : next.total ≡ s.total
+  pub joined : IsTrue tells → now ≡ before ++ sent
+
+-- How it ends: all bytes are delivered, or at a fault, at which this poll wrote nothing.
+abbrev pub IsAllEnd : {T : Type 0} → Bool → Writer → Writer → Sending T → Result ℕ IoFault → Type 0
+IsAllEnd tells before now s (Ok n) = (n ≡ s.total) × (IsTrue tells → now.delivered ≡ before.delivered ++ s.rest)
+IsAllEnd tells before now s (Err fault) =
+    (IsTrue tells → now.delivered ≡ before.delivered)
+    × (Rose before.counts.faults now.counts.faults ⊎ ((fault ≡ WriteZero) × (0 < length s.rest)))
+
+-- It is as it was, since the stream paused.
+abbrev pub WaitsAll : {T : Type 0} → Bool → Writer → Writer → Sending T → Sending T → Type 0
+WaitsAll tells before now s next = (next ≡ s) × (IsTrue tells → now.delivered ≡ before.delivered)
+    × Rose before.counts.pauses now.counts.pauses
+
+-- A poll of it.
+abbrev pub WritesAll : {T : Type 0} → Bool → Writer → Writer → Sending T → Step (Sending T) (Result ℕ IoFault × T) → Type 0
+WritesAll tells before now s (Ready end) = IsAllEnd tells before now s end.0 × (end.1 ≡ s.buf)
+WritesAll tells before now s (Pending next) = WaitsAll tells before now s next
+WritesAll tells before now s (Again next) = WaitsAll tells before now s next ⊎ SendsOn tells before.delivered now.delivered s next

@@ -1,0 +1,50 @@
+// Streams that are read through a buffer of their own.
+ghost use Rattle.std.specs.Prelude.{◌≡◌, ◌++◌, List, ℕ, IsTrue, take, drop};
+ghost use Rattle.rent_io.specs.BufReader.{Fills, IsFront};
+ghost use Rattle.rent_io.specs.Counts.{AfterCall};
+ghost use Rattle.rent_io.specs.Polls.{IsCountCaused};
+
+use crate::async_read_rent::AsyncReadRent;
+use crate::poll::PollCount;
+
+/// A stream with a buffer of its own (monoio: `AsyncBufRead`). The bytes that are buffered are the first of those
+/// that are left.
+pub trait AsyncBufRead: AsyncReadRent {
+    /// The bytes that are buffered.
+    ghost buffered: { Self → List ℕ };
+
+    /// Sees to it that bytes are buffered (monoio: `fill_buf`), and answers how many are: 0 only at the end of the
+    /// stream. It makes one read at most.
+    fn poll_fill(&mut self, task: u64) -> PollCount
+        ensures left { IsTrue Self.tells → (Self.reader self.new).left ≡ (Self.reader self.old).left }
+        ensures fills { Fills Self.tells (Self.reader self.new).left (buffered self.new) result }
+        ensures cause { IsCountCaused (Self.reader self.old).counts (Self.reader self.new).counts result }
+        ensures counts { AfterCall (Self.reader self.old).counts (Self.reader self.new).counts };
+
+    /// The bytes that are buffered (monoio: part of `fill_buf`).
+    fn buffered(&self) -> &[u8]
+        ensures value { result.now ≡ buffered self.now }
+        ensures front { IsFront Self.tells (Self.reader self.now).left (buffered self.now) };
+
+    /// Takes the first `n` bytes that are buffered away (monoio: `consume`), or all, if there are fewer.
+    fn consume(&mut self, n: usize)
+        ensures buffered { buffered self.new ≡ drop n (buffered self.old) }
+        ensures left { IsTrue Self.tells → (Self.reader self.old).left ≡ take n (buffered self.old) ++ (Self.reader self.new).left }
+        ensures counts { (Self.reader self.new).counts ≡ (Self.reader self.old).counts };
+}
+
+impl<A: AsyncBufRead> AsyncBufRead for &mut A {
+    ghost buffered = { λ s. A.buffered s.now };
+
+    fn poll_fill(&mut self, task: u64) -> PollCount {
+        (**self).poll_fill(task)
+    }
+
+    fn buffered(&self) -> &[u8] {
+        (**self).buffered()
+    }
+
+    fn consume(&mut self, n: usize) {
+        (**self).consume(n);
+    }
+}

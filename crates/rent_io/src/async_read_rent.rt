@@ -1,0 +1,76 @@
+// Streams that are read into a buffer which they are given for the time of a poll.
+ghost use Rattle.std.specs.Prelude.{Bool, true};
+ghost use Rattle.rent_io.specs.Counts.{AfterCall, no_counts};
+ghost use Rattle.rent_io.specs.Polls.{IsCaused};
+ghost use Rattle.rent_io.specs.Reader.{Reader, Reads, ReadsParts};
+
+use crate::poll::PollBuf;
+use crate::vectored::first_room;
+use rent_buf::{IoBufMut, IoVecBufMut};
+
+/// A stream that is read (monoio: `AsyncReadRent`). Each call makes one read at most.
+pub trait AsyncReadRent {
+    /// Whether it tells which bytes are left.
+    ghost tells: { Bool };
+
+    /// The bytes that are left, where it tells them, and its counts.
+    ghost reader: { Self → Reader };
+
+    /// Reads the next bytes into a buffer (monoio: `read`), at most as many as its range has room for, and answers
+    /// their number: 0 only where there is no room, or at the end of the stream. At `Pending`, `Again` and a fault
+    /// nothing was read.
+    fn poll_read<T: IoBufMut>(&mut self, buf: T, task: u64) -> PollBuf<T>
+        ensures reads { Reads tells (reader self.old).left (reader self.new).left T.buffer T.under buf result }
+        ensures cause { IsCaused (reader self.old).counts (reader self.new).counts result }
+        ensures counts { AfterCall (reader self.old).counts (reader self.new).counts };
+
+    /// Reads the next bytes into the first part that has room (monoio: `readv`), at most as many as it has room for,
+    /// and answers their number: 0 only where no part has room, or at the end of the stream.
+    fn poll_readv<T: IoVecBufMut>(&mut self, buf: T, task: u64) -> PollBuf<T>
+        ensures reads { ReadsParts tells (reader self.old).left (reader self.new).left T.held buf result }
+        ensures cause { IsCaused (reader self.old).counts (reader self.new).counts result }
+        ensures counts { AfterCall (reader self.old).counts (reader self.new).counts };
+}
+
+impl<A: AsyncReadRent> AsyncReadRent for &mut A {
+    ghost tells = { A.tells };
+
+    ghost reader = { λ s. A.reader s.now };
+
+    fn poll_read<T: IoBufMut>(&mut self, buf: T, task: u64) -> PollBuf<T> {
+        (**self).poll_read(buf, task)
+    }
+
+    fn poll_readv<T: IoVecBufMut>(&mut self, buf: T, task: u64) -> PollBuf<T> {
+        (**self).poll_readv(buf, task)
+    }
+}
+
+// The bytes of a slice are read from its start, and it becomes what is left. It never pauses and never fails.
+impl AsyncReadRent for &[u8] {
+    ghost tells = { true };
+
+    ghost reader = { λ s. record { left = s.now; counts = no_counts } };
+
+    #[tactic(auto, using(crate::proofs::Fronts::taken_front))]
+    fn poll_read<T: IoBufMut>(&mut self, buf: T, _task: u64) -> PollBuf<T> {
+        let mut buf = buf;
+        let left = *self;
+        let count = buf.bytes_total().min(left.len());
+        let (front, rest) = left.split_at(count);
+        buf.store(0, front);
+        *self = rest;
+        PollBuf::Ready(Ok(count), buf)
+    }
+
+    #[tactic(auto, using(crate::proofs::Fronts::scattered_front))]
+    fn poll_readv<T: IoVecBufMut>(&mut self, buf: T, _task: u64) -> PollBuf<T> {
+        let mut buf = buf;
+        let left = *self;
+        let count = first_room(&buf).min(left.len());
+        let (front, rest) = left.split_at(count);
+        buf.store_front(front);
+        *self = rest;
+        PollBuf::Ready(Ok(count), buf)
+    }
+}

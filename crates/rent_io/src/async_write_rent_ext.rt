@@ -1,0 +1,57 @@
+// The whole writes of a stream, as calls of the stream.
+ghost use Rattle.std.specs.Prelude.{◌≡◌, ◌^◌, ◌<◌, length, sum_by};
+ghost use Rattle.std.specs.List.{concat};
+
+use crate::async_rent_cancelable::CancelableAsyncWriteRent;
+use crate::async_write_rent::AsyncWriteRent;
+use crate::cancelable_write::{CancelableWriteAll, CancelableWriteVectoredAll};
+use crate::write_all::WriteAll;
+use crate::write_vectored_all::WriteVectoredAll;
+use cancel_core::CancelHandle;
+use rent_buf::{IoBuf, IoVecBuf};
+
+/// Whole writes of a stream (monoio: `AsyncWriteRentExt`). Each answers a state, to be polled with the stream.
+pub trait AsyncWriteRentExt: AsyncWriteRent {
+    /// A write of this buffer's bytes (monoio: `write_all`).
+    fn write_all<T: IoBuf>(&self, buf: T) -> WriteAll<T>
+        ensures { result ≡ record { buf = buf; rest = T.content buf; total = length (T.content buf) } }
+    {
+        WriteAll::new(buf)
+    }
+
+    /// A write of the parts' bytes, in order (monoio: `write_vectored_all`). `Ranges::read_fits` tests whether their
+    /// number fits `usize`.
+    fn write_vectored_all<T: IoVecBuf>(&self, buf: T) -> WriteVectoredAll<T>
+        requires { sum_by length (T.parts buf) < 2 ^ 64 }
+        ensures { result ≡ record { buf = buf; rest = concat (T.parts buf); total = sum_by length (T.parts buf) } }
+    {
+        WriteVectoredAll::new(buf)
+    }
+}
+
+impl<A: AsyncWriteRent> AsyncWriteRentExt for A {}
+
+/// Whole writes of a stream under a cancel group (monoio: `CancelableAsyncWriteRentExt`). Each answers a state, to be
+/// polled with the stream.
+pub trait CancelableAsyncWriteRentExt: CancelableAsyncWriteRent {
+    /// A write of this buffer's bytes, under the group of `c` (monoio: `write_all`).
+    fn write_all<T: IoBuf>(&self, buf: T, c: CancelHandle) -> CancelableWriteAll<T>
+        ensures { result ≡ record { buf = buf; rest = T.content buf; total = length (T.content buf) } }
+    {
+        CancelableWriteAll::new(buf, c)
+    }
+
+    /// A write of the parts' bytes, in order, under the group of `c` (monoio: `write_vectored_all`).
+    fn write_vectored_all<T: IoVecBuf>(
+        &self,
+        buf: T,
+        c: CancelHandle,
+    ) -> CancelableWriteVectoredAll<T>
+        requires { sum_by length (T.parts buf) < 2 ^ 64 }
+        ensures { result ≡ record { buf = buf; rest = concat (T.parts buf); total = sum_by length (T.parts buf) } }
+    {
+        CancelableWriteVectoredAll::new(buf, c)
+    }
+}
+
+impl<A: CancelableAsyncWriteRent> CancelableAsyncWriteRentExt for A {}

@@ -1,0 +1,111 @@
+// Reads whose calls are put under a cancel group.
+ghost use Rattle.std.specs.Prelude.{◌≡◌, IfOk};
+ghost use Rattle.rent_io.specs.Counts.{AfterCall};
+ghost use Rattle.rent_io.specs.ReadExact.{ReadsExact};
+ghost use Rattle.rent_io.specs.ReadNumber.{number_of, ReadsNumber};
+
+use crate::async_rent_cancelable::CancelableAsyncReadRent;
+use crate::number::Number;
+use crate::poll::Step;
+use crate::read_exact::ReadExact;
+use crate::read_number::ReadNumber;
+use cancel_core::CancelHandle;
+use rent_buf::{BufResult, IoBufMut, IoFault, OutOfMemory};
+use std::alloc::Global;
+use std::marker::Model;
+
+/// A `ReadExact` whose reads are put under a cancel group (monoio: the future of `cancelable_read_exact`). A clause
+/// sees the `ReadExact`.
+#[derive(Drop)]
+#[must_use]
+pub struct CancelableReadExact<T: IoBufMut> {
+    state: ReadExact<T>,
+    handle: CancelHandle,
+}
+
+impl<T: IoBufMut> Model for CancelableReadExact<T> {
+    ghost use Rattle.rent_io.specs.ReadExact.{Filling};
+
+    ghost Value = { Filling };
+
+    ghost view = { λ s. s.state };
+}
+
+impl<T: IoBufMut> CancelableReadExact<T> {
+    /// A read that fills this buffer's range from its start, under the group of `c`.
+    pub fn new(buf: T, c: CancelHandle) -> CancelableReadExact<T>
+        ensures { result ≡ record { buffer = T.buffer buf; under = T.under buf; filled = 0 } }
+    {
+        CancelableReadExact {
+            state: ReadExact::new(buf),
+            handle: c,
+        }
+    }
+
+    /// As `ReadExact::poll`, by a cancelable read.
+    pub fn poll<A: CancelableAsyncReadRent>(
+        self,
+        io: &mut A,
+        task: u64,
+    ) -> Step<CancelableReadExact<T>, BufResult<usize, T>>
+        ensures answer { ReadsExact A.tells (A.reader io.old) (A.reader io.new) T.buffer T.under self result }
+        ensures counts { AfterCall (A.reader io.old).counts (A.reader io.new).counts }
+    {
+        let CancelableReadExact { state, handle } = self;
+        match state.poll_by(io, &handle, task) {
+            Step::Ready(end) => Step::Ready(end),
+            Step::Pending(state) => Step::Pending(CancelableReadExact { state, handle }),
+            Step::Again(state) => Step::Again(CancelableReadExact { state, handle }),
+        }
+    }
+}
+
+/// A `ReadNumber` whose reads are put under a cancel group (monoio: the future of `cancelable_read_u16` and its like).
+/// A clause sees the `ReadNumber`.
+#[derive(Drop)]
+#[must_use]
+pub struct CancelableReadNumber<N: Number> {
+    state: ReadNumber<N>,
+    handle: CancelHandle,
+}
+
+impl<N: Number> Model for CancelableReadNumber<N> {
+    ghost use Rattle.rent_io.specs.ReadNumber.{Numbering};
+
+    ghost Value = { Numbering };
+
+    ghost view = { λ s. s.state };
+}
+
+impl<N: Number> CancelableReadNumber<N> {
+    /// A read of a number, as of `ReadNumber::new`, under the group of `c`; or `OutOfMemory`.
+    pub fn new(
+        alloc: Global,
+        little: bool,
+        c: CancelHandle,
+    ) -> Result<CancelableReadNumber<N>, OutOfMemory>
+        ensures { IfOk result (λ r. r ≡ number_of little N.SIZE) }
+    {
+        Ok(CancelableReadNumber {
+            state: ReadNumber::new(alloc, little)?,
+            handle: c,
+        })
+    }
+
+    /// As `ReadNumber::poll`, by a cancelable read.
+    pub fn poll<A: CancelableAsyncReadRent>(
+        self,
+        io: &mut A,
+        task: u64,
+    ) -> Step<CancelableReadNumber<N>, Result<N, IoFault>>
+        ensures answer { ReadsNumber A.tells (A.reader io.old) (A.reader io.new) N.value self result }
+        ensures counts { AfterCall (A.reader io.old).counts (A.reader io.new).counts }
+    {
+        let CancelableReadNumber { state, handle } = self;
+        match state.poll_by(io, &handle, task) {
+            Step::Ready(end) => Step::Ready(end),
+            Step::Pending(state) => Step::Pending(CancelableReadNumber { state, handle }),
+            Step::Again(state) => Step::Again(CancelableReadNumber { state, handle }),
+        }
+    }
+}

@@ -1,0 +1,109 @@
+// Writes whose calls are put under a cancel group.
+ghost use Rattle.std.specs.Prelude.{◌≡◌, ◌^◌, ◌<◌, length, sum_by};
+ghost use Rattle.std.specs.List.{concat};
+ghost use Rattle.rent_io.specs.Counts.{AfterCall};
+ghost use Rattle.rent_io.specs.WriteAll.{WritesAll};
+ghost use Rattle.rent_io.specs.Writer.{EndsStay};
+
+use crate::async_rent_cancelable::CancelableAsyncWriteRent;
+use crate::poll::Step;
+use crate::write_all::WriteAll;
+use crate::write_vectored_all::WriteVectoredAll;
+use cancel_core::CancelHandle;
+use rent_buf::{BufResult, IoBuf, IoVecBuf};
+use std::marker::Model;
+
+/// A `WriteAll` whose writes are put under a cancel group (monoio: the future of `write_all` of
+/// `CancelableAsyncWriteRentExt`). A clause sees the `WriteAll`.
+#[derive(Drop)]
+#[must_use]
+pub struct CancelableWriteAll<T: IoBuf> {
+    state: WriteAll<T>,
+    handle: CancelHandle,
+}
+
+impl<T: IoBuf> Model for CancelableWriteAll<T> {
+    ghost use Rattle.rent_io.specs.WriteAll.{Sending};
+
+    ghost Value = { Sending T };
+
+    ghost view = { λ s. s.state };
+}
+
+impl<T: IoBuf> CancelableWriteAll<T> {
+    /// A write of this buffer's bytes, under the group of `c`.
+    pub fn new(buf: T, c: CancelHandle) -> CancelableWriteAll<T>
+        ensures { result ≡ record { buf = buf; rest = T.content buf; total = length (T.content buf) } }
+    {
+        CancelableWriteAll {
+            state: WriteAll::new(buf),
+            handle: c,
+        }
+    }
+
+    /// As `WriteAll::poll`, by a cancelable write.
+    pub fn poll<A: CancelableAsyncWriteRent>(
+        self,
+        io: &mut A,
+        task: u64,
+    ) -> Step<CancelableWriteAll<T>, BufResult<usize, T>>
+        ensures answer { WritesAll A.tells (A.writer io.old) (A.writer io.new) self result }
+        ensures ends { EndsStay (A.writer io.old) (A.writer io.new) }
+        ensures counts { AfterCall (A.writer io.old).counts (A.writer io.new).counts }
+    {
+        let CancelableWriteAll { state, handle } = self;
+        match state.poll_by(io, &handle, task) {
+            Step::Ready(end) => Step::Ready(end),
+            Step::Pending(state) => Step::Pending(CancelableWriteAll { state, handle }),
+            Step::Again(state) => Step::Again(CancelableWriteAll { state, handle }),
+        }
+    }
+}
+
+/// A `WriteVectoredAll` whose writes are put under a cancel group (monoio: the future of `write_vectored_all` of
+/// `CancelableAsyncWriteRentExt`). A clause sees the `WriteVectoredAll`.
+#[derive(Drop)]
+#[must_use]
+pub struct CancelableWriteVectoredAll<T: IoVecBuf> {
+    state: WriteVectoredAll<T>,
+    handle: CancelHandle,
+}
+
+impl<T: IoVecBuf> Model for CancelableWriteVectoredAll<T> {
+    ghost use Rattle.rent_io.specs.WriteAll.{Sending};
+
+    ghost Value = { Sending T };
+
+    ghost view = { λ s. s.state };
+}
+
+impl<T: IoVecBuf> CancelableWriteVectoredAll<T> {
+    /// A write of the bytes of the parts, in order, under the group of `c`.
+    pub fn new(buf: T, c: CancelHandle) -> CancelableWriteVectoredAll<T>
+        requires { sum_by length (T.parts buf) < 2 ^ 64 }
+        ensures { result ≡ record { buf = buf; rest = concat (T.parts buf); total = sum_by length (T.parts buf) } }
+    {
+        CancelableWriteVectoredAll {
+            state: WriteVectoredAll::new(buf),
+            handle: c,
+        }
+    }
+
+    /// As `WriteVectoredAll::poll`, by a cancelable write.
+    pub fn poll<A: CancelableAsyncWriteRent>(
+        self,
+        io: &mut A,
+        task: u64,
+    ) -> Step<CancelableWriteVectoredAll<T>, BufResult<usize, T>>
+        ensures answer { WritesAll A.tells (A.writer io.old) (A.writer io.new) self result }
+        ensures ends { EndsStay (A.writer io.old) (A.writer io.new) }
+        ensures counts { AfterCall (A.writer io.old).counts (A.writer io.new).counts }
+    {
+        let CancelableWriteVectoredAll { state, handle } = self;
+        match state.poll_by(io, &handle, task) {
+            Step::Ready(end) => Step::Ready(end),
+            Step::Pending(state) => Step::Pending(CancelableWriteVectoredAll { state, handle }),
+            Step::Again(state) => Step::Again(CancelableWriteVectoredAll { state, handle }),
+        }
+    }
+}

@@ -1,0 +1,93 @@
+// A read that fills its buffer.
+ghost use Rattle.std.specs.Prelude.{◌≡◌, ◌+◌, ◌<◌, ◌≤◌};
+ghost use Rattle.rent_io.specs.Counts.{AfterCall};
+ghost use Rattle.rent_io.specs.ReadExact.{Filling, ReadsExact};
+
+use crate::async_read_rent::AsyncReadRent;
+use crate::calls::{Plain, ReadCall};
+use crate::poll::{PollBuf, Step};
+use rent_buf::{BufResult, IoBufMut, IoFault, SliceMut};
+use std::marker::Model;
+
+/// A read that fills its buffer, as `read_exact` starts it (monoio: the future of `read_exact`). A clause sees it as
+/// the buffer, and how many bytes of its range are filled.
+#[derive(Debug, Drop)]
+#[must_use]
+pub struct ReadExact<T: IoBufMut> {
+    buf: T,
+    filled: usize,
+}
+
+impl<T: IoBufMut> Model for ReadExact<T> {
+    ghost use Rattle.std.specs.Prelude.{◌≤◌, length};
+    ghost use Rattle.rent_buf.specs.Buffer.{room, shown};
+    ghost use Rattle.rent_io.specs.ReadExact.{Filling};
+
+    ghost Value = { Filling };
+
+    ghost view = { λ s. record { buffer = T.buffer s.buf; under = T.under s.buf; filled = s.filled } };
+
+    ghost invariant = { λ s. (s.filled ≤ room (T.buffer s.buf)) × (s.filled ≤ length (shown (T.buffer s.buf))) };
+}
+
+impl<T: IoBufMut> ReadExact<T> {
+    /// A read that fills this buffer's range from its start.
+    pub fn new(buf: T) -> ReadExact<T>
+        ensures { result ≡ record { buffer = T.buffer buf; under = T.under buf; filled = 0 } }
+    {
+        ReadExact { buf, filled: 0 }
+    }
+
+    /// Makes one read at most. It is done with the number of the bytes that the range has room for, once it is full;
+    /// with `UnexpectedEof`, where a read gave no byte though there is room; or with the stream's fault. At `Pending`
+    /// nothing was read, and at `Again` the stream paused too, or some bytes were read and more are to come.
+    pub fn poll<A: AsyncReadRent>(
+        self,
+        io: &mut A,
+        task: u64,
+    ) -> Step<ReadExact<T>, BufResult<usize, T>>
+        ensures answer { ReadsExact A.tells (A.reader io.old) (A.reader io.new) T.buffer T.under self result }
+        ensures counts { AfterCall (A.reader io.old).counts (A.reader io.new).counts }
+    {
+        self.poll_by(io, &Plain, task)
+    }
+
+    // A poll by this call.
+    pub(crate) fn poll_by<A: AsyncReadRent, C: ReadCall<A>>(
+        self,
+        io: &mut A,
+        call: &C,
+        task: u64,
+    ) -> Step<ReadExact<T>, BufResult<usize, T>>
+        ensures answer { ReadsExact A.tells (A.reader io.old) (A.reader io.new) T.buffer T.under self result }
+        ensures counts { AfterCall (A.reader io.old).counts (A.reader io.new).counts }
+    {
+        let ReadExact { buf, filled } = self;
+        let total = buf.bytes_total();
+        if filled == total {
+            return Step::Ready((Ok(total), buf));
+        }
+        match call.read(io, SliceMut::new(buf, filled, total), task) {
+            PollBuf::Ready(Ok(n), part) => {
+                let buf = part.into_inner();
+                if n == 0 {
+                    return Step::Ready((Err(IoFault::UnexpectedEof), buf));
+                }
+                let filled = filled + n;
+                if filled == total {
+                    return Step::Ready((Ok(total), buf));
+                }
+                Step::Again(ReadExact { buf, filled })
+            }
+            PollBuf::Ready(Err(fault), part) => Step::Ready((Err(fault), part.into_inner())),
+            PollBuf::Pending(part) => Step::Pending(ReadExact {
+                buf: part.into_inner(),
+                filled,
+            }),
+            PollBuf::Again(part) => Step::Again(ReadExact {
+                buf: part.into_inner(),
+                filled,
+            }),
+        }
+    }
+}

@@ -1,0 +1,95 @@
+// A read of a number.
+ghost use Rattle.std.specs.Prelude.{◌≡◌, IfOk};
+ghost use Rattle.rent_io.specs.Counts.{AfterCall};
+ghost use Rattle.rent_io.specs.ReadNumber.{number_of, ReadsNumber};
+
+use crate::async_read_rent::AsyncReadRent;
+use crate::calls::{Plain, ReadCall};
+use crate::number::Number;
+use crate::poll::Step;
+use crate::read_exact::ReadExact;
+use rent_buf::{IoBuf, IoFault, OutOfMemory, Rent};
+use std::alloc::Global;
+use std::marker::{Model, PhantomData};
+
+/// A read of a number, as `read_u16` and its like start it (monoio: the future of `read_u16` and its like). A clause
+/// sees it as the order of the bytes, those that it has, and how many there will be.
+#[derive(Drop)]
+#[must_use]
+pub struct ReadNumber<N: Number> {
+    exact: ReadExact<Rent>,
+    little: bool,
+    number: PhantomData<N>,
+}
+
+impl<N: Number> Model for ReadNumber<N> {
+    ghost use Rattle.rent_io.specs.ReadNumber.{Numbering, IsReading};
+
+    ghost Value = { Numbering };
+
+    ghost view = { λ r. record { little = r.little; bytes = r.exact.buffer.bytes; size = N.SIZE } };
+
+    ghost invariant = { λ r. IsReading N.SIZE r.exact };
+}
+
+impl<N: Number> ReadNumber<N> {
+    /// A read of a number, whose least significant byte is the first one if it is `little`, and else the last one; or
+    /// `OutOfMemory`.
+    pub fn new(alloc: Global, little: bool) -> Result<ReadNumber<N>, OutOfMemory>
+        ensures { IfOk result (λ r. r ≡ number_of little N.SIZE) }
+    {
+        let rent = Rent::with_total(alloc, N::SIZE)?;
+        Ok(ReadNumber {
+            exact: ReadExact::new(rent),
+            little,
+            number: PhantomData,
+        })
+    }
+
+    /// Makes one read at most. It is done with the number, once all its bytes are there; with `UnexpectedEof`, where
+    /// the stream ended before; or with the stream's fault. At `Pending` nothing was read, and at `Again` the stream
+    /// paused too, or some bytes were read and more are to come.
+    pub fn poll<A: AsyncReadRent>(
+        self,
+        io: &mut A,
+        task: u64,
+    ) -> Step<ReadNumber<N>, Result<N, IoFault>>
+        ensures answer { ReadsNumber A.tells (A.reader io.old) (A.reader io.new) N.value self result }
+        ensures counts { AfterCall (A.reader io.old).counts (A.reader io.new).counts }
+    {
+        self.poll_by(io, &Plain, task)
+    }
+
+    // A poll by this call.
+    pub(crate) fn poll_by<A: AsyncReadRent, C: ReadCall<A>>(
+        self,
+        io: &mut A,
+        call: &C,
+        task: u64,
+    ) -> Step<ReadNumber<N>, Result<N, IoFault>>
+        ensures answer { ReadsNumber A.tells (A.reader io.old) (A.reader io.new) N.value self result }
+        ensures counts { AfterCall (A.reader io.old).counts (A.reader io.new).counts }
+    {
+        let ReadNumber {
+            exact,
+            little,
+            number,
+        } = self;
+        match exact.poll_by(io, call, task) {
+            Step::Ready((outcome, rent)) => match outcome {
+                Ok(_) => Step::Ready(Ok(N::of(rent.bytes(), little))),
+                Err(fault) => Step::Ready(Err(fault)),
+            },
+            Step::Pending(exact) => Step::Pending(ReadNumber {
+                exact,
+                little,
+                number,
+            }),
+            Step::Again(exact) => Step::Again(ReadNumber {
+                exact,
+                little,
+                number,
+            }),
+        }
+    }
+}

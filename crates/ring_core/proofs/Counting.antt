@@ -1,0 +1,314 @@
+-- Sums of the first counts of a list, and how many of the first slots are kept.
+use Rattle.std.proofs.Common.{◌≡◌, inl, inr, ℕ, zero, suc, ◌+◌, ◌-◌, ◌*◌, ◌/◌, ◌<◌, ◌≤◌, Bool, true, false, List, [], ◌∷◌, ◌++◌, length, replicate, get_or, set, Some, slice_get, refl, sym, ◌∙◌, ap, arith}
+use Rattle.std.proofs.lemmas.Bool.Decides.{leb_tells}
+use Rattle.std.proofs.lemmas.Grind.{get_or_default_zero}
+use Rattle.std.proofs.lemmas.Option.{slice_get_within}
+use Rattle.std.proofs.Math.ListN.{length-set}
+use Rattle.std.proofs.lemmas.List.{length-append}
+use Rattle.ring_core.specs.Lists.{amended}
+use Rattle.ring_core.specs.Ranks.{one_if, kept_first, sum_first, AreCounted, less_one}
+
+-- 1 where a place is among the first n, else 0.
+abbrev pub among : ℕ → ℕ → ℕ
+among i zero = 0
+among zero (suc n) = 1
+among (suc i) (suc n) = among i n
+
+-- A place that is among the first n counts 1.
+among-yes : (i n : ℕ) → i < n → among i n ≡ 1
+among-yes i zero within = absurd (omega arith)
+among-yes zero (suc n) within = refl
+among-yes (suc i) (suc n) within = among-yes i n (omega arith)
+
+-- A place that isn't among the first n counts 0.
+among-no : (i n : ℕ) → n ≤ i → among i n ≡ 0
+among-no i zero past = refl
+among-no zero (suc n) past = absurd (omega arith)
+among-no (suc i) (suc n) past = among-no i n (omega arith)
+
+-- Which of 64 a place belongs to tells on which side of a multiple of 64 it is.
+among-scaled : (i n : ℕ) → among (i / 64) n ≡ among i (64 * n)
+among-scaled i n = elim (leb_tells n (i / 64)) [
+  | inl past ↦ among-no (i / 64) n past.1 ∙ sym (among-no i (64 * n) (let p = past.1 in omega arith))
+  | inr within ↦ among-yes (i / 64) n within.1 ∙ sym (among-yes i (64 * n) (let w = within.1 in omega arith))
+]
+
+-- One count more.
+pub sum-next : (n : ℕ) (xs : List ℕ) → sum_first (suc n) xs ≡ sum_first n xs + get_or xs n 0
+sum-next zero [] = refl
+sum-next zero (x ∷ xs) = omega arith
+sum-next (suc n) [] = refl
+sum-next (suc n) (x ∷ xs) = let rest = sum-next n xs in omega arith
+
+-- A longer prefix has no smaller sum.
+pub sum-more : (n m : ℕ) (xs : List ℕ) → n ≤ m → sum_first n xs ≤ sum_first m xs
+sum-more zero m xs longer = omega arith
+sum-more (suc n) zero xs longer = absurd (omega arith)
+sum-more (suc n) (suc m) [] longer = omega arith
+sum-more (suc n) (suc m) (x ∷ xs) longer = let rest = sum-more n m xs (omega arith) in omega arith
+
+-- Past the end nothing is added.
+pub sum-end : (n : ℕ) (xs : List ℕ) → length xs ≤ n → sum_first n xs ≡ sum_first (length xs) xs
+sum-end zero [] past = refl
+sum-end zero (x ∷ xs) past = absurd (omega arith)
+sum-end (suc n) [] past = refl
+sum-end (suc n) (x ∷ xs) past = ap (λ rest. x + rest) (sum-end n xs (omega arith))
+
+-- A prefix of a smaller sum than the whole ends before the end.
+pub sum-within : (n : ℕ) (xs : List ℕ) → sum_first n xs < sum_first (length xs) xs → n < length xs
+sum-within n xs less = elim (leb_tells (length xs) n) [
+  | inl past ↦ let all = sum-end n xs past.1 in absurd (omega (arith, less, all))
+  | inr within ↦ within.1
+]
+
+-- The sums after one count rose by one.
+sum-counted : (n i : ℕ) (xs : List ℕ) → i < length xs → sum_first n (amended xs i suc) ≡ sum_first n xs + among i n
+sum-counted zero i xs within = omega arith
+sum-counted (suc n) i [] within = absurd (omega arith)
+sum-counted (suc n) zero (x ∷ xs) within = omega arith
+sum-counted (suc n) (suc i) (x ∷ xs) within = let rest = sum-counted n i xs (omega arith) in omega arith
+
+-- The sums after one count fell by one.
+sum-discounted : (n i : ℕ) (xs : List ℕ) → 0 < get_or xs i 0 → sum_first n (amended xs i less_one) + among i n ≡ sum_first n xs
+sum-discounted zero i xs some = omega arith
+sum-discounted (suc n) i [] some = absurd (omega arith)
+sum-discounted (suc n) zero (x ∷ xs) some = omega arith
+sum-discounted (suc n) (suc i) (x ∷ xs) some = let rest = sum-discounted n i xs some in omega arith
+
+-- One slot more.
+pub kept-next : (n : ℕ) (flags : List Bool) (flag : Bool) → slice_get flags n ≡ Some flag → kept_first (suc n) flags ≡ kept_first n flags + one_if flag
+kept-next n [] flag there = cc
+kept-next zero (f ∷ flags) flag there = let same : f ≡ flag = cc in let counts = ap one_if same in omega arith
+kept-next (suc n) (f ∷ flags) flag there = let rest = kept-next n flags flag there in omega arith
+
+-- A longer prefix has no fewer kept ones.
+pub kept-more : (n m : ℕ) (flags : List Bool) → n ≤ m → kept_first n flags ≤ kept_first m flags
+kept-more zero m flags longer = omega arith
+kept-more (suc n) zero flags longer = absurd (omega arith)
+kept-more (suc n) (suc m) [] longer = omega arith
+kept-more (suc n) (suc m) (f ∷ flags) longer = let rest = kept-more n m flags (omega arith) in omega arith
+
+-- No more are kept than there are.
+pub kept-at-most : (n : ℕ) (flags : List Bool) → kept_first n flags ≤ n
+kept-at-most zero flags = omega arith
+kept-at-most (suc n) [] = omega arith
+kept-at-most (suc n) (true ∷ flags) = let rest = kept-at-most n flags in omega arith
+kept-at-most (suc n) (false ∷ flags) = let rest = kept-at-most n flags in omega arith
+
+-- So many slots more have at most so many kept ones more.
+pub kept-few : (n m k : ℕ) (flags : List Bool) → m ≡ n + k → kept_first m flags ≤ kept_first n flags + k
+kept-few zero m k flags longer = let few = kept-at-most m flags in omega arith
+kept-few (suc n) zero k flags longer = absurd (omega arith)
+kept-few (suc n) (suc m) k [] longer = omega arith
+kept-few (suc n) (suc m) k (f ∷ flags) longer = let rest = kept-few n m k flags (omega arith) in omega arith
+
+-- Past the end nothing is kept.
+pub kept-end : (n : ℕ) (flags : List Bool) → length flags ≤ n → kept_first n flags ≡ kept_first (length flags) flags
+kept-end zero [] past = refl
+kept-end zero (f ∷ flags) past = absurd (omega arith)
+kept-end (suc n) [] past = refl
+kept-end (suc n) (f ∷ flags) past = ap (λ rest. one_if f + rest) (kept-end n flags (omega arith))
+
+-- No prefix has more kept ones than all slots have.
+kept-all : (n : ℕ) (flags : List Bool) → kept_first n flags ≤ kept_first (length flags) flags
+kept-all zero flags = omega arith
+kept-all (suc n) [] = omega arith
+kept-all (suc n) (f ∷ flags) = let rest = kept-all n flags in omega arith
+
+-- Of no slots none is kept.
+kept-none : (n : ℕ) → ◌≡◌ {A = ℕ} (kept_first n []) 0
+kept-none zero = refl
+kept-none (suc n) = refl
+
+-- A slot that joins is kept.
+kept-joined : (n : ℕ) (flags : List Bool) → kept_first n (flags ++ true ∷ []) ≡ kept_first n flags + among (length flags) n
+kept-joined zero flags = refl
+kept-joined (suc n) [] = let none = kept-none n in omega arith
+kept-joined (suc n) (f ∷ flags) = let rest = kept-joined n flags in omega arith
+
+-- A slot that was kept isn't any more.
+kept-left : (n i : ℕ) (flags : List Bool) → slice_get flags i ≡ Some true → kept_first n (set flags i false) + among i n ≡ kept_first n flags
+kept-left zero i flags there = refl
+kept-left (suc n) i [] there = cc
+kept-left (suc n) zero (f ∷ flags) there = let same : f ≡ true = cc in let counts = ap one_if same in omega arith
+kept-left (suc n) (suc i) (f ∷ flags) there = let rest = kept-left n i flags there in omega arith
+
+-- The counts after a slot joined.
+pub counted-joined : (flags : List Bool) (blocks groups : List ℕ) (at : ℕ) → at ≡ length flags → at < 64 * length blocks →
+    length blocks ≤ 64 * length groups → AreCounted flags blocks groups →
+    AreCounted (flags ++ true ∷ []) (amended blocks (at / 64) suc) (amended groups (at / 64 / 64) suc)
+counted-joined flags blocks groups at end in_blocks in_groups counts =
+    let block : at / 64 < length blocks = omega arith in
+    let group : at / 64 / 64 < length groups = omega arith in record {
+      blocks_count = λ n.
+          let up = sum-counted n (at / 64) blocks block in
+          let scaled = among-scaled at n in
+          let before = counts.blocks_count n in
+          let joined = kept-joined (64 * n) flags in
+          let last = ap (λ i. among i (64 * n)) end in
+          omega arith;
+      groups_count = λ n.
+          let up = sum-counted n (at / 64 / 64) groups group in
+          let scaled = among-scaled (at / 64) n in
+          let before = counts.groups_count n in
+          let below = sum-counted (64 * n) (at / 64) blocks block in
+          omega arith;
+    }
+
+-- The block of a kept slot counts it.
+pub block-some : (flags : List Bool) (blocks groups : List ℕ) (i : ℕ) → AreCounted flags blocks groups → slice_get flags i ≡ Some true →
+    0 < get_or blocks (i / 64) 0
+block-some flags blocks groups i counts there =
+    let next = sum-next (i / 64) blocks in
+    let low = counts.blocks_count (i / 64) in
+    let high = counts.blocks_count (suc (i / 64)) in
+    let here = kept-next i flags true there in
+    let below = kept-more (64 * (i / 64)) i flags (omega arith) in
+    let above = kept-more (suc i) (64 * suc (i / 64)) flags (omega arith) in
+    omega arith
+
+-- The group of a block that counts something counts it.
+pub group-some : (flags : List Bool) (blocks groups : List ℕ) (b : ℕ) → AreCounted flags blocks groups → 0 < get_or blocks b 0 →
+    0 < get_or groups (b / 64) 0
+group-some flags blocks groups b counts some =
+    let next = sum-next (b / 64) groups in
+    let low = counts.groups_count (b / 64) in
+    let high = counts.groups_count (suc (b / 64)) in
+    let here = sum-next b blocks in
+    let below = sum-more (64 * (b / 64)) b blocks (omega arith) in
+    let above = sum-more (suc b) (64 * suc (b / 64)) blocks (omega arith) in
+    omega arith
+
+-- A block counts at most 64.
+pub block-few : (flags : List Bool) (blocks groups : List ℕ) (b : ℕ) → AreCounted flags blocks groups → get_or blocks b 0 ≤ 64
+block-few flags blocks groups b counts =
+    let next = sum-next b blocks in
+    let low = counts.blocks_count b in
+    let high = counts.blocks_count (suc b) in
+    let few = kept-few (64 * b) (64 * suc b) 64 flags (omega arith) in
+    omega arith
+
+-- A group counts at most 4096.
+pub group-few : (flags : List Bool) (blocks groups : List ℕ) (g : ℕ) → AreCounted flags blocks groups → get_or groups g 0 ≤ 4096
+group-few flags blocks groups g counts =
+    let next = sum-next g groups in
+    let low = counts.groups_count g in
+    let high = counts.groups_count (suc g) in
+    let low_block = counts.blocks_count (64 * g) in
+    let high_block = counts.blocks_count (64 * suc g) in
+    let few = kept-few (64 * (64 * g)) (64 * (64 * suc g)) 4096 flags (omega arith) in
+    omega arith
+
+-- The counts after a slot that was kept isn't any more.
+pub counted-left : (flags : List Bool) (blocks groups : List ℕ) (i : ℕ) → slice_get flags i ≡ Some true → AreCounted flags blocks groups →
+    AreCounted (set flags i false) (amended blocks (i / 64) less_one) (amended groups (i / 64 / 64) less_one)
+counted-left flags blocks groups i there counts =
+    let block = block-some flags blocks groups i counts there in
+    let group = group-some flags blocks groups (i / 64) counts block in record {
+      blocks_count = λ n.
+          let down = sum-discounted n (i / 64) blocks block in
+          let scaled = among-scaled i n in
+          let before = counts.blocks_count n in
+          let left = kept-left (64 * n) i flags there in
+          omega arith;
+      groups_count = λ n.
+          let down = sum-discounted n (i / 64 / 64) groups group in
+          let scaled = among-scaled (i / 64) n in
+          let before = counts.groups_count n in
+          let below = sum-discounted (64 * n) (i / 64) blocks block in
+          omega arith;
+    }
+
+-- The whole sum of the blocks is the number of kept slots.
+pub blocks-total : (flags : List Bool) (blocks groups : List ℕ) → length flags ≤ 64 * length blocks → AreCounted flags blocks groups →
+    sum_first (length blocks) blocks ≡ kept_first (length flags) flags
+blocks-total flags blocks groups in_blocks counts = counts.blocks_count (length blocks) ∙ kept-end (64 * length blocks) flags in_blocks
+
+-- The whole sum of the groups is that of the blocks.
+pub groups-total : (flags : List Bool) (blocks groups : List ℕ) → length blocks ≤ 64 * length groups → AreCounted flags blocks groups →
+    sum_first (length groups) groups ≡ sum_first (length blocks) blocks
+groups-total flags blocks groups in_groups counts = counts.groups_count (length groups) ∙ sum-end (64 * length groups) blocks in_groups
+
+-- Counts of 0 have the sum 0.
+sum-zeros : (n m : ℕ) → ◌≡◌ {A = ℕ} (sum_first n (replicate m 0)) 0
+sum-zeros zero m = refl
+sum-zeros (suc n) zero = refl
+sum-zeros (suc n) (suc m) = let rest = sum-zeros n m in omega arith
+
+-- Of no slots, all counts are 0.
+pub counted-none : (blocks groups : List ℕ) (n m : ℕ) → blocks ≡ replicate n 0 → groups ≡ replicate m 0 → AreCounted [] blocks groups
+counted-none blocks groups n m no_blocks no_groups = record {
+  blocks_count = λ i. ap (sum_first i) no_blocks ∙ sum-zeros i n ∙ sym (kept-none (64 * i));
+  groups_count = λ i. ap (sum_first i) no_groups ∙ sum-zeros i m ∙ sym (sum-zeros (64 * i) n) ∙ sym (ap (sum_first (64 * i)) no_blocks);
+}
+
+-- Counts with no slot kept are those of no slots.
+pub counted-empty : (flags : List Bool) (blocks groups : List ℕ) → length flags ≤ 64 * length blocks → ◌≡◌ {A = ℕ} (kept_first (length flags) flags) 0 →
+    AreCounted flags blocks groups → AreCounted [] blocks groups
+counted-empty flags blocks groups in_blocks empty counts = record {
+  blocks_count = λ i.
+      let count = counts.blocks_count i in
+      let all = kept-all (64 * i) flags in
+      let none = kept-none (64 * i) in
+      omega arith;
+  groups_count = counts.groups_count;
+}
+
+-- A step over a count that is no more than the rank: the next count is there, and the rank before it is what is left.
+pub step-over : (counts : List ℕ) (at rest all count : ℕ) → sum_first at counts + rest ≡ all → all < sum_first (length counts) counts →
+    at < length counts → count ≡ get_or counts at count → count ≤ rest → (at + 1 < length counts) × (sum_first (at + 1) counts + (rest - count) ≡ all)
+step-over counts at rest all count sum within there here over =
+    let zero_default = get_or_default_zero counts at count there in
+    let next : sum_first (at + 1) counts ≡ sum_first at counts + get_or counts at 0 = ap (λ n. sum_first n counts) (let q : at + 1 ≡ suc at = omega arith in q) ∙ sum-next at counts in
+    (sum-within (at + 1) counts (omega arith), omega arith)
+
+-- A prefix of fewer kept ones than all ends before the end.
+pub kept-within : (n : ℕ) (flags : List Bool) → kept_first n flags < kept_first (length flags) flags → n < length flags
+kept-within n flags less = elim (leb_tells (length flags) n) [
+  | inl past ↦ let all = kept-end n flags past.1 in absurd (omega (arith, less, all))
+  | inr within ↦ within.1
+]
+
+-- A step over a slot that is not the one that is looked for.
+pub slot-over : (flags : List Bool) (at rest all : ℕ) (flag : Bool) (left : ℕ) → kept_first at flags + rest ≡ all → all < kept_first (length flags) flags →
+    slice_get flags at ≡ Some flag → left + one_if flag ≡ rest → (at + 1 < length flags) × (kept_first (at + 1) flags + left ≡ all)
+slot-over flags at rest all flag left sum within here over =
+    let next : kept_first (at + 1) flags ≡ kept_first at flags + one_if flag = ap (λ n. kept_first n flags) (let q : at + 1 ≡ suc at = omega arith in q) ∙ kept-next at flags flag here in
+    (kept-within (at + 1) flags (omega arith), omega arith)
+
+-- The blocks of a group in which a rank ends begin before the end of all blocks, and so do those that the rank is left to.
+pub group-found : (flags : List Bool) (blocks groups : List ℕ) (rank at rest : ℕ) → length flags ≤ 64 * length blocks →
+    AreCounted flags blocks groups → rank < kept_first (length flags) flags → sum_first at groups + rest ≡ rank →
+    (64 * at < length blocks) × (sum_first (64 * at) blocks + rest < sum_first (length blocks) blocks)
+group-found flags blocks groups rank at rest in_blocks counts some found =
+    let all = blocks-total flags blocks groups in_blocks counts in
+    let same = counts.groups_count at in
+    (sum-within (64 * at) blocks (omega arith), omega arith)
+
+-- The slots of a block in which a rank ends begin before the end of all slots, and so do those that the rank is left to.
+pub block-found : (flags : List Bool) (blocks groups : List ℕ) (rank at rest : ℕ) → AreCounted flags blocks groups →
+    rank < kept_first (length flags) flags → sum_first at blocks + rest ≡ rank →
+    (64 * at < length flags) × (kept_first (64 * at) flags + rest < kept_first (length flags) flags)
+block-found flags blocks groups rank at rest counts some found =
+    let same = counts.blocks_count at in
+    (kept-within (64 * at) flags (omega arith), omega arith)
+
+-- One kept slot less, once one isn't kept any more.
+pub kept-less : (flags : List Bool) (i : ℕ) → slice_get flags i ≡ Some true →
+    kept_first (length (set flags i false)) (set flags i false) + 1 ≡ kept_first (length flags) flags
+kept-less flags i there =
+    let same = length-set flags i false in
+    let within = slice_get_within flags i true there in
+    let left = kept-left (length flags) i flags there in
+    let one = among-yes i (length flags) within in
+    let whole = ap (λ n. kept_first n (set flags i false)) same in
+    omega arith
+
+-- One kept slot more, once one joined.
+pub kept-one-more : (flags : List Bool) → (kept_first (length (flags ++ true ∷ [])) (flags ++ true ∷ []) ≡ kept_first (length flags) flags + 1) × (length (flags ++ true ∷ []) ≡ length flags + 1)
+kept-one-more flags =
+    let longer = length-append flags (true ∷ []) in
+    let joined = kept-joined (length (flags ++ true ∷ [])) flags in
+    let all = kept-end (length (flags ++ true ∷ [])) flags (omega arith) in
+    let one = among-yes (length flags) (length (flags ++ true ∷ [])) (omega arith) in
+    (omega arith, omega arith)

@@ -1,6 +1,0 @@
-use Rattle.std.proofs.Common.{◌∙◌, ap, min}
-use Rattle.rent_buf.specs.Buffer.{most_asked}
-use Rattle.ring_core.proofs.request.parts_wanted.Goals as goal
-
-pub returns : goal.returns
-returns c = c.asked.ensures ∙ ap (λ n. min n most_asked) c.total_room.ensures.total

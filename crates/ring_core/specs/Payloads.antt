@@ -1,0 +1,43 @@
+-- What becomes of the payloads when a call is executed, and when that may run out of memory. Cited by `World` and `MemRing`.
+use Rattle.std.specs.Prelude.{ℕ, ◌≡◌, Bool, true, false, nat_le, List}
+use Rattle.ring_core.specs.declared.request.Call.{Call}
+use Rattle.ring_core.specs.declared.request.Call.TheVariants.{In, Out}
+use Rattle.ring_core.specs.declared.request.Told.{Told}
+use Rattle.ring_core.specs.declared.request.Told.TheVariants.{Count, Fail}
+use Rattle.ring_core.specs.declared.entry.Body.{Body}
+use Rattle.ring_core.specs.declared.entry.Body.TheVariants.{Call as Calls, Cancel as Cancels}
+
+-- A count of bytes comes from the handle of a call: the call reads.
+abbrev pub count_comes : Call → Bool
+count_comes (In h want) = true
+count_comes (Out h offered) = false
+
+-- Bytes come with an outcome of a call: it reads, and didn't fail.
+abbrev pub comes : Call → Told → Bool
+comes call (Count k) = count_comes call
+comes call (Fail e) = false
+
+-- Bytes come to an entry in flight.
+abbrev pub body_comes : Body → Told → Bool
+body_comes (Calls call) told = comes call told
+body_comes (Cancels key) told = false
+
+-- The payloads store the bytes that came for a data word, where bytes come; else they stay.
+abbrev pub StoresIf : {P : Type 0} → (P → ℕ → List ℕ → P → Type 0) → Bool → P → ℕ → List ℕ → P → Type 0
+StoresIf stores true before word got after = stores before word got after
+StoresIf stores false before word got after = after ≡ before
+
+-- Moving so many bytes may run out of memory: they are sent, or storing them takes memory.
+abbrev pub count_may_run_out : (ℕ → Bool) → Call → ℕ → Bool
+count_may_run_out takes_memory (In h want) k = takes_memory k
+count_may_run_out takes_memory (Out h offered) k = nat_le 1 k
+
+-- Executing a call may run out of memory. An error never does.
+abbrev pub may_run_out : (ℕ → Bool) → Call → Told → Bool
+may_run_out takes_memory call (Count k) = count_may_run_out takes_memory call k
+may_run_out takes_memory call (Fail e) = false
+
+-- Executing an entry in flight may run out of memory.
+abbrev pub body_may_run_out : (ℕ → Bool) → Body → Told → Bool
+body_may_run_out takes_memory (Calls call) told = may_run_out takes_memory call told
+body_may_run_out takes_memory (Cancels key) told = false

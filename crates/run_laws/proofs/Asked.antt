@@ -1,0 +1,134 @@
+-- Whose cancel is recorded: of an operation with a property alone, where each cancel in the queue is one of such an operation.
+use Rattle.std.proofs.Common.{◌≡◌, ◌⊎◌, inl, inr, ℕ, zero, suc, Bool, true, false, List, [], ◌∷◌, ◌++◌, length, Option, Some, None}
+use Rattle.std.proofs.Common.{option_map, slice_get, refl, sym, ◌∙◌, ap, subst, if◌then◌else◌, ◌==◌}
+use Rattle.ring_core.specs.Lists.{amended}
+use Rattle.ring_core.specs.Ledger.{Ledger, Operation, InFlight, Gone, Queued, Req, Cancel, Item, Op}
+use Rattle.ring_core.specs.Queue.{at_place, with_cancel, take_one, take_each, take_all, make_room, append}
+use Rattle.ring_core.specs.Turn.{with_reap, reap_if, reap_op, reap_one, reap_each, reap_all}
+use Rattle.ring_core.proofs.Taken.{queue-take_each}
+use Rattle.run_laws.proofs.Reaping.{same-each}
+use Rattle.run_laws.proofs.Listed.{changed-cases, joined-cases, joined}
+
+-- Each cancel among these entries is one of an operation with this property.
+abbrev pub CancelsOf : (ℕ → Type 0) → List Queued → Type 0
+CancelsOf P entries = (n place : ℕ) → slice_get entries place ≡ Some (Cancel n) → P n
+
+-- Each of these operations whose cancel was taken has this property.
+abbrev pub TakenOf : (ℕ → Type 0) → List Operation → Type 0
+TakenOf P ops = (n : ℕ) (o : Operation) → slice_get ops n ≡ Some o → o.canceled ≡ true → P n
+
+-- Both hold of a ledger.
+pub record Asked (P : ℕ → Type 0) (L : Ledger) : Type 0 where
+  pub waiting : CancelsOf P L.queue
+  pub taken : TakenOf P L.ops
+
+-- What was looked up after a change was there before it.
+there-before : {A : Type 0} (f : A → A) (x : Option A) (y : A) → option_map f x ≡ Some y → (z : A) × (x ≡ Some z) × (y ≡ f z)
+there-before f None y h = (let e : ⊥ = cc in absurd e)
+there-before f (Some z) y h = (z, refl, (let e : f z ≡ y = cc in sym e))
+
+module _ (P : ℕ → Type 0) where
+  -- A property that another one follows from.
+  pub asked-more : (Q : ℕ → Type 0) (L : Ledger) → ((n : ℕ) → P n → Q n) → Asked P L → Asked Q L
+  asked-more Q L more h =
+      record { waiting = λ n place there. more n (h.waiting n place there); taken = λ n o there is. more n (h.taken n o there is) }
+
+  -- A change of one operation records no cancel, or one of an operation with the property.
+  pub taken-changed : (ops : List Operation) (m : ℕ) (change : Operation → Operation) →
+      ((o : Operation) → (change o).canceled ≡ true → (o.canceled ≡ true) ⊎ P m) → TakenOf P ops → TakenOf P (amended ops m change)
+  taken-changed ops m change keeps h n o there is = elim (changed-cases change ops m n) [
+    | inl e ↦ (
+        let b = there-before change (slice_get ops m) o (sym e.1 ∙ there) in
+        elim (keeps b.0 (ap (λ z. z.canceled) (sym b.2) ∙ is)) [
+          | inl was ↦ subst P (sym e.0) (h m b.0 b.1 was)
+          | inr p ↦ subst P (sym e.0) p
+        ])
+    | inr e ↦ h n o (sym e.1 ∙ there) is
+  ]
+
+  -- One entry taken.
+  taken-one : (L : Ledger) (entry : Queued) → CancelsOf P (entry ∷ []) → TakenOf P L.ops → TakenOf P (take_one L entry).ops
+  taken-one L (Req m) of h = taken-changed L.ops m (at_place InFlight) (λ o is. inl is) h
+  taken-one L (Cancel m) of h = taken-changed L.ops m with_cancel (λ o is. inr (of m 0 refl)) h
+
+  -- The first of some entries, and the rest.
+  first-of : (entry : Queued) (entries : List Queued) → CancelsOf P (entry ∷ entries) → CancelsOf P (entry ∷ [])
+  first-of entry entries h n zero there = h n zero there
+  first-of entry entries h n (suc place) there = (let e : ⊥ = cc in absurd e)
+
+  -- Entries taken, in order.
+  taken-each : (L : Ledger) (entries : List Queued) → CancelsOf P entries → TakenOf P L.ops → TakenOf P (take_each L entries).ops
+  taken-each L [] of h = h
+  taken-each L (entry ∷ entries) of h =
+      taken-each (take_one L entry) entries (λ n place. of n (suc place)) (taken-one L entry (first-of entry entries of) h)
+
+  -- The queue taken.
+  pub asked-take_all : (L : Ledger) → Asked P L → Asked P (take_all L)
+  asked-take_all L h = record {
+    waiting =
+        λ n place there. (let e : slice_get [] place ≡ Some (Cancel n) = sym
+        (ap (λ q. slice_get q place) (queue-take_each (record L { queue = [] }) L.queue)) ∙ there in let f : ⊥ = cc in absurd f);
+    taken = taken-each (record L { queue = [] }) L.queue h.waiting h.taken;
+  }
+
+  -- Making room, or not, keeps what was asked for.
+  asked-room : (b : Bool) (L : Ledger) → Asked P L → Asked P (if b then take_all L else L)
+  asked-room true L h = asked-take_all L h
+  asked-room false L h = h
+
+  -- Room made.
+  pub asked-make_room : (L : Ledger) → Asked P L → Asked P (make_room L)
+  asked-make_room L h = asked-room (length L.queue == L.capacity) L h
+
+  -- One entry more.
+  cancels-append : (entries : List Queued) (entry : Queued) → CancelsOf P entries → CancelsOf P (entry ∷ []) →
+      CancelsOf P (entries ++ entry ∷ [])
+  cancels-append entries entry h one n place there = elim (joined-cases entries entry place) [
+    | inl e ↦ one n 0 (sym e.2 ∙ there)
+    | inr e ↦ h n place (sym e.1 ∙ there)
+  ]
+
+  -- A cancel of an operation with the property joins the queue.
+  pub asked-appended : (M : Ledger) (m : ℕ) → P m → Asked P M → Asked P (append M (Cancel m))
+  asked-appended M m p h = record { waiting = cancels-append M.queue (Cancel m) h.waiting (one m p); taken = h.taken }
+    where
+      one : (m : ℕ) → P m → CancelsOf P (Cancel m ∷ [])
+      one m p n zero there = (let e : m ≡ n = cc in subst P e p)
+      one m p n (suc place) there = (let e : ⊥ = cc in absurd e)
+
+  -- A new operation and its request join.
+  pub asked-joined : (M : Ledger) (o : Operation) → o.canceled ≡ false → Asked P M → Asked P (joined M o)
+  asked-joined M o fresh h = record {
+    waiting = cancels-append M.queue (Req (length M.ops)) h.waiting one;
+    taken = λ n q there is. elim (joined-cases M.ops o n) [
+      | inl e ↦ (let same : o ≡ q = (let w = sym e.2 ∙ there in cc) in let f : true ≡ false = sym is ∙ ap (λ z. z.canceled) (sym same)
+          ∙ fresh in let g : ⊥ = cc in absurd g)
+      | inr e ↦ h.taken n q (sym e.1 ∙ there) is
+    ];
+  }
+    where
+      one : CancelsOf P (Req (length M.ops) ∷ [])
+      one n zero there = (let e : ⊥ = cc in absurd e)
+      one n (suc place) there = (let e : ⊥ = cc in absurd e)
+
+  -- A completion reaped.
+  taken-if : (dropped : Bool) (L : Ledger) (m : ℕ) → TakenOf P L.ops → TakenOf P (reap_if dropped L m).ops
+  taken-if true L m h = taken-changed L.ops m (at_place Gone) (λ o is. inl is) h
+  taken-if false L m h = taken-changed L.ops m with_reap (λ o is. inl is) h
+
+  -- The completion of an operation that was looked up leaves whose cancels were taken.
+  taken-op : (L : Ledger) (m : ℕ) (x : Option Operation) → TakenOf P L.ops → TakenOf P (reap_op L m x).ops
+  taken-op L m None h = h
+  taken-op L m (Some o) h = taken-if o.dropped L m h
+
+  -- Completions reaped, in order.
+  taken-reaped : (L : Ledger) (items : List Item) → TakenOf P L.ops → TakenOf P (reap_each L items).ops
+  taken-reaped L [] h = h
+  taken-reaped L (Op m ∷ items) h = taken-reaped (reap_one L (Op m)) items (taken-op L m (slice_get L.ops m) h)
+
+  -- All that stood reaped.
+  pub asked-reap_all : (L : Ledger) → Asked P L → Asked P (reap_all L).0
+  asked-reap_all L h = record {
+    waiting = subst (CancelsOf P) (sym (same-each (record L { done = [] }) L.done).queue) h.waiting;
+    taken = taken-reaped (record L { done = [] }) L.done h.taken;
+  }

@@ -1,0 +1,114 @@
+-- What a Cancel and a Drop make of the trace of a ledger.
+use Rattle.std.proofs.Common.{◌≡◌, inl, inr, ℕ, suc, true, false, List, Some, option_map, slice_get, refl, sym, ◌∙◌, ap, subst, arith}
+use Rattle.ring_core.specs.declared.request.Outcome.{Outcome}
+use Rattle.ring_core.specs.declared.ledger.Event.{Event}
+use Rattle.ring_core.specs.declared.ledger.Event.TheVariants.{Drop}
+use Rattle.ring_core.specs.declared.ledger.Reply.TheVariants.{Dropped}
+use Rattle.ring_core.specs.Ledger.{Ledger, Operation, Place, InQueue, InFlight, InDone, Reaped, Gone, Queued, empty, is_kept}
+use Rattle.ring_core.specs.Queue.{with_op, at_place, make_room, push}
+use Rattle.ring_core.specs.Step.{with_drop, drop_at}
+use Rattle.ring_core.specs.Run.{replies}
+use Rattle.run_laws.specs.Moments.{IsDropped}
+use Rattle.ring_core.proofs.Amended.{get-amended}
+use Rattle.run_laws.proofs.Taking.{in_queue, in_flight, in_done}
+use Rattle.run_laws.proofs.Listed.{changed-cases, listed-make_room, listed-appended, listed-changed}
+use Rattle.run_laws.proofs.Asked.{taken-changed, asked-make_room, asked-appended}
+use Rattle.run_laws.proofs.Moments.{Placed, Owned, History, reaped-before}
+use Rattle.run_laws.proofs.History.{given-next, placed-next, history-next}
+use Rattle.run_laws.proofs.Trace.{AskedBefore, Trace, asked-on, history-room}
+
+module _ (capacity : ℕ) (events : List Event) (k : ℕ) where
+  -- The cancel of an operation that was asked for is pushed: no history tells it.
+  pub trace-pushed : (M : Ledger) (n : ℕ) → Trace capacity events k M → AskedBefore capacity events k n →
+      Trace capacity events k (push M (Queued.Cancel n))
+  trace-pushed M n trace asked =
+      let P : ℕ → Type 0 = AskedBefore capacity events k in
+      record {
+        lists = listed-appended (make_room M) n (listed-make_room M trace.lists);
+        history = history-room capacity events k M trace;
+        asked = asked-appended P (make_room M) n asked (asked-make_room P M trace.asked);
+      }
+
+  -- A dropped operation that is reaped leaves.
+  trace-left : (M : Ledger) (n : ℕ) (o : Operation) (outcome : Outcome) → Trace capacity events k M → slice_get M.ops n ≡ Some o →
+      o.place ≡ Reaped outcome → o.dropped ≡ true → Trace capacity events k (with_op M n (at_place Gone))
+  trace-left M n o outcome trace there reaped dropped =
+      let was : History capacity events k n (Some o) = subst (History capacity events k n) there (trace.history n) in
+      let gone : History capacity events k n (Some (at_place Gone o)) = record {
+        given = was.given;
+        placed = reaped-before capacity events k n outcome o.buffer (subst (Placed capacity events k n o.buffer) reaped was.placed);
+        owned =
+            subst (λ d. Owned capacity events k n d false) (sym dropped)
+            (subst (λ d. Owned capacity events k n d (is_kept o.place)) dropped was.owned);
+      } in
+      record {
+        lists =
+            listed-changed M n (at_place Gone) o trace.lists there
+            (record { queue = sym (ap in_queue reaped); flight = sym (ap in_flight reaped); done = sym (ap in_done reaped) });
+        history = λ m. elim (changed-cases (at_place Gone) M.ops n m) [
+          | inl e ↦ subst (History capacity events k m) (sym (e.1 ∙ ap (option_map (at_place Gone)) there))
+              (subst (λ x. History capacity events k x (Some (at_place Gone o))) (sym e.0) gone)
+          | inr e ↦ subst (History capacity events k m) (sym e.1) (trace.history m)
+        ];
+        asked = record {
+          waiting = trace.asked.waiting;
+          taken = taken-changed (AskedBefore capacity events k) M.ops n (at_place Gone) (λ o is. inl is) trace.asked.taken;
+        };
+      }
+
+module _ (capacity : ℕ) (events : List Event) (k : ℕ) (L : Ledger) (trace : Trace capacity events k L)
+    (n : ℕ) (o : Operation) (here : slice_get events k ≡ Some (Drop n)) (there : slice_get L.ops n ≡ Some o)
+    (reply : slice_get (replies (empty capacity) events) k ≡ Some Dropped) where
+  -- The event drops n.
+  drops : IsDropped events (replies (empty capacity) events) n k
+  drops = record { event = here; reply = reply }
+
+  -- The history of the operation that is dropped.
+  history-dropped : History capacity events (suc k) n (Some (with_drop o))
+  history-dropped =
+      let was : History capacity events k n (Some o) = subst (History capacity events k n) there (trace.history n) in
+      record {
+        given = given-next capacity events k (Drop n) Dropped here reply n o.request was.given;
+        placed = placed-next capacity events k (Drop n) Dropped here reply n o.buffer o.place (λ q. cc) (λ q. cc) was.placed;
+        owned = record { drop = k; before = omega arith; is_dropped = drops };
+      }
+
+  -- The operation is dropped, and stays at its place.
+  trace-marked : Trace capacity events (suc k) (with_op L n with_drop)
+  trace-marked =
+      let asked = asked-on capacity events k L trace in
+      record {
+        lists = listed-changed L n with_drop o trace.lists there (record { queue = refl; flight = refl; done = refl });
+        history = λ m. elim (changed-cases with_drop L.ops n m) [
+          | inl e ↦ subst (History capacity events (suc k) m) (sym (e.1 ∙ ap (option_map with_drop) there))
+              (subst (λ x. History capacity events (suc k) x (Some (with_drop o))) (sym e.0) history-dropped)
+          | inr e ↦ subst (History capacity events (suc k) m) (sym e.1)
+              (history-next capacity events k (Drop n) Dropped here reply m (slice_get L.ops m)
+              (record {
+                gives_none = λ q. cc;
+                executes_none = λ q. cc;
+                hands_none = λ t outcome buffer p q. cc;
+                drops_none = λ p q. e.0 (let w : n ≡ m = cc in sym w);
+              }) (λ q. cc) (trace.history m))
+        ];
+        asked = record {
+          waiting = asked.waiting;
+          taken = taken-changed (AskedBefore capacity events (suc k)) L.ops n with_drop (λ o is. inl is) asked.taken;
+        };
+      }
+
+  -- Its cancel is pushed.
+  trace-cancels : Trace capacity events (suc k) (push (with_op L n with_drop) (Queued.Cancel n))
+  trace-cancels =
+      trace-pushed capacity events (suc k) (with_op L n with_drop) n trace-marked
+      (record { ask = k; before = omega arith; asked = inr drops })
+
+  -- A Drop, by the place of the operation.
+  pub trace-dropped : (p : Place) → o.place ≡ p → Trace capacity events (suc k) (drop_at (with_op L n with_drop) n p)
+  trace-dropped InQueue e = trace-cancels
+  trace-dropped InFlight e = trace-cancels
+  trace-dropped (InDone outcome) e = trace-cancels
+  trace-dropped (Reaped outcome) e =
+      trace-left capacity events (suc k) (with_op L n with_drop) n (with_drop o) outcome trace-marked
+      (get-amended with_drop L.ops n ∙ ap (option_map with_drop) there) e refl
+  trace-dropped Gone e = trace-cancels

@@ -1,0 +1,16 @@
+-- The laws of whole runs, each by its name, for whoever cites them.
+use Rattle.std.proofs.Common.{ℕ, List}
+use Rattle.ring_core.specs.declared.ledger.Event.{Event}
+use Rattle.ring_core.specs.Ledger.{empty}
+use Rattle.ring_core.specs.Run.{replies}
+use Rattle.run_laws.specs.Headline.{OneReplyEach}
+use Rattle.run_laws.proofs.Replies.{length-replies}
+pub use Rattle.run_laws.proofs.Replies.{refused-exactly}
+pub use Rattle.run_laws.proofs.Numbers.{given-in-order}
+pub use Rattle.run_laws.proofs.Polls.{pending-until-reaped, reaped-or-not, hands-back-own, given-once, executed-once, reaped-once, one-own}
+pub use Rattle.run_laws.proofs.Once.{handed-once, dropped-once, refused-where-gone, first-poll-hands}
+pub use Rattle.run_laws.proofs.Ends.{reap-names, kept-until-reaped, canceled-where-asked}
+
+-- There are as many replies as events.
+pub one-reply-each : (capacity : ℕ) (events : List Event) → OneReplyEach events (replies (empty capacity) events)
+one-reply-each capacity events = length-replies (empty capacity) events

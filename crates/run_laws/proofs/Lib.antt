@@ -1,0 +1,16 @@
+pub mod Occurring
+pub mod Taking
+pub mod Reaping
+pub mod Listed
+pub mod Asked
+pub mod Replies
+pub mod Numbers
+pub mod Moments
+pub mod History
+pub mod Trace
+pub mod Dropped
+pub mod Reached
+pub mod Polls
+pub mod Once
+pub mod Ends
+pub mod Laws

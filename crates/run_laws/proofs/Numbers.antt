@@ -1,0 +1,122 @@
+-- Numbers are given in order.
+use Rattle.std.proofs.Common.{◌≡◌, ℕ, zero, suc, ◌+◌, cond, List, [], ◌∷◌, length, take, count_by, Option, Some, None, slice_get, refl, sym}
+use Rattle.std.proofs.Common.{◌∙◌, ap, arith, length-append}
+use Rattle.std.proofs.lemmas.List.Sums.{sum_by-cons}
+use Rattle.ring_core.specs.declared.request.Told.{Told}
+use Rattle.ring_core.specs.declared.ledger.Event.{Event}
+use Rattle.ring_core.specs.declared.ledger.Event.TheVariants.{Give, Feed, End, Look, Submit, Poll, Drop, Cancel, Turn, Exec}
+use Rattle.ring_core.specs.declared.ledger.Refusal.{Refusal}
+use Rattle.ring_core.specs.declared.ledger.Reply.{Reply}
+use Rattle.ring_core.specs.declared.ledger.Reply.TheVariants.{Submitted}
+use Rattle.ring_core.specs.Ledger.{Ledger, Operation, Place, InQueue, InFlight, InDone, Reaped, Gone, Item, Op, empty, new_operation}
+use Rattle.ring_core.specs.Queue.{take_all, at_place, with_op}
+use Rattle.ring_core.specs.Turn.{exec_op, exec_step, with_result, effect_of, complete_at}
+use Rattle.ring_core.specs.Refusal.{cause}
+use Rattle.ring_core.specs.Step.{step, row, answered, poll_at, poll_step, with_drop, drop_at, drop_step, with_task, with_new_op}
+use Rattle.ring_core.specs.Run.{after, replies}
+use Rattle.run_laws.specs.Headline.{gives_number, GivenInOrder}
+use Rattle.ring_core.proofs.Amended.{length-amended}
+use Rattle.ring_core.proofs.Taken.{length-take_each, length-make_room}
+use Rattle.run_laws.proofs.Reaping.{length-reap_all}
+use Rattle.run_laws.proofs.Replies.{reply-at, reply-event}
+
+-- The operations of a next ledger: one more exactly where the reply gives a number, and that is their count before.
+pub record Numbers (L : Ledger) (s : Ledger × Reply) : Type 0 where
+  pub count : length s.0.ops ≡ cond (gives_number s.1) 1 0 + length L.ops
+  pub number : (n : ℕ) → s.1 ≡ Submitted n → n ≡ length L.ops
+
+-- A Poll gives no number.
+numbers-op : (L : Ledger) (n task : ℕ) (o : Operation) (p : Place) → Numbers L (poll_at L n task o p)
+numbers-op L n task o InQueue = record { count = length-amended (with_task task) L.ops n ∙ omega arith; number = λ m q. cc }
+numbers-op L n task o InFlight = record { count = length-amended (with_task task) L.ops n ∙ omega arith; number = λ m q. cc }
+numbers-op L n task o (InDone outcome) = record { count = length-amended (with_task task) L.ops n ∙ omega arith; number = λ m q. cc }
+numbers-op L n task o (Reaped outcome) = record { count = length-amended (at_place Gone) L.ops n ∙ omega arith; number = λ m q. cc }
+numbers-op L n task o Gone = record { count = length-amended (with_task task) L.ops n ∙ omega arith; number = λ m q. cc }
+
+-- A poll gives no number.
+numbers-poll : (L : Ledger) (n task : ℕ) (x : Option Operation) → Numbers L (poll_step L n task x)
+numbers-poll L n task None = record { count = omega arith; number = λ m q. cc }
+numbers-poll L n task (Some o) = numbers-op L n task o o.place
+
+-- A Drop gives no number.
+length-drop_at : (L : Ledger) (n : ℕ) (p : Place) → length (drop_at L n p).ops ≡ length L.ops
+length-drop_at L n InQueue = length-make_room L
+length-drop_at L n InFlight = length-make_room L
+length-drop_at L n (InDone outcome) = length-make_room L
+length-drop_at L n (Reaped outcome) = length-amended (at_place Gone) L.ops n
+length-drop_at L n Gone = length-make_room L
+
+-- A drop gives no number.
+numbers-drop : (L : Ledger) (n : ℕ) (x : Option Operation) → Numbers L (drop_step L n x)
+numbers-drop L n None = record { count = omega arith; number = λ m q. cc }
+numbers-drop L n (Some o) =
+    record {
+      count = length-drop_at (with_op L n with_drop) n o.place ∙ length-amended with_drop L.ops n ∙ omega arith;
+      number = λ m q. cc;
+    }
+
+-- An Exec gives no number.
+length-exec_op : (L : Ledger) (n : ℕ) (told : Told) (x : Option Operation) → length (exec_op L n told x).ops ≡ length L.ops
+length-exec_op L n told None = refl
+length-exec_op L n told (Some o) = length-amended (with_result told (effect_of L o.request told)) L.ops n
+
+-- An execution gives no number.
+numbers-exec : (L : Ledger) (place : ℕ) (told : Told) (x : Option Item) → Numbers L (exec_step L place told x)
+numbers-exec L place told None = record { count = omega arith; number = λ m q. cc }
+numbers-exec L place told (Some (Op n)) =
+    record { count = length-exec_op (complete_at L place (Op n)) n told (slice_get L.ops n) ∙ omega arith; number = λ m q. cc }
+
+-- Each row keeps the count, and a Submit gives it.
+numbers-row : (L : Ledger) (e : Event) → Numbers L (row L e)
+numbers-row L (Give kind) = record { count = omega arith; number = λ m q. cc }
+numbers-row L (Feed h bytes) = record { count = omega arith; number = λ m q. cc }
+numbers-row L (End h) = record { count = omega arith; number = λ m q. cc }
+numbers-row L (Look h) = record { count = omega arith; number = λ m q. cc }
+numbers-row L (Submit request) = record {
+  count = length-make_room (with_new_op L (new_operation request)) ∙ length-append L.ops (new_operation request ∷ []) ∙ omega arith;
+  number = λ m q. cc;
+}
+numbers-row L (Poll n task) = numbers-poll L n task (slice_get L.ops n)
+numbers-row L (Drop n) = numbers-drop L n (slice_get L.ops n)
+numbers-row L (Cancel n) = record { count = length-make_room L ∙ omega arith; number = λ m q. cc }
+numbers-row L Turn =
+    record { count = length-reap_all (take_all L) ∙ length-take_each (record L { queue = [] }) L.queue ∙ omega arith; number = λ m q. cc }
+numbers-row L (Exec place told) = numbers-exec L place told (slice_get L.flying place)
+
+-- Numbers are given in order by an event with whatever cause.
+numbers-answered : (L : Ledger) (e : Event) (c : Option Refusal) → Numbers L (answered c L e)
+numbers-answered L e None = numbers-row L e
+numbers-answered L e (Some refusal) = record { count = omega arith; number = λ m q. cc }
+
+-- A step gives the count of the operations before, or no number.
+pub numbers : (L : Ledger) (e : Event) → Numbers L (step L e)
+unfolding step
+numbers L e = numbers-answered L e (cause L e)
+
+-- A number that is given is the count of the operations before.
+pub submitted-number : (L : Ledger) (e : Event) (n : ℕ) → (step L e).1 ≡ Submitted n → n ≡ length L.ops
+submitted-number L e n h = (numbers L e).number n h
+
+-- A sum in another order.
+regroup : (later after one before : ℕ) → after ≡ one + before → later + after ≡ (one + later) + before
+regroup later after one before h = omega arith
+
+-- As many operations are there as replies gave numbers.
+length-after : (L : Ledger) (events : List Event) (i : ℕ) →
+    length (after L (take i events)).ops ≡ count_by gives_number (take i (replies L events)) + length L.ops
+length-after L [] zero = omega arith
+length-after L [] (suc i) = omega arith
+length-after L (e ∷ events) zero = omega arith
+length-after L (e ∷ events) (suc i) =
+    length-after (step L e).0 events i
+    ∙ regroup (count_by gives_number (take i (replies (step L e).0 events))) (length (step L e).0.ops)
+    (cond (gives_number (step L e).1) 1 0) (length L.ops) (numbers L e).count
+    ∙ ap (λ n. n + length L.ops) (sym (sum_by-cons (λ r. cond (gives_number r) 1 0) (step L e).1 (take i (replies (step L e).0 events))))
+
+-- Numbers are given in order, from 0.
+pub given-in-order : (capacity : ℕ) (events : List Event) → GivenInOrder (replies (empty capacity) events)
+given-in-order capacity events n i h =
+    let e = reply-event (empty capacity) events i (Submitted n) h in
+    let r = reply-at (empty capacity) events i e.0 e.1 in
+    submitted-number (after (empty capacity) (take i events)) e.0 n (let w = sym r ∙ h in cc)
+    ∙ length-after (empty capacity) events i ∙ omega arith

@@ -1,0 +1,158 @@
+-- The replies of a run, one by one: each is that of the step from the ledger before it.
+use Rattle.std.proofs.Common.{◌≡◌, ℕ, zero, suc, Bool, true, false, not, ◌&&◌, List, [], ◌∷◌, length, take, Option, Some, None, slice_get}
+use Rattle.std.proofs.Common.{refl, sym, ◌∙◌, ap}
+use Rattle.std.specs.Prelude.{nat_le}
+use Rattle.ring_core.specs.declared.request.Told.{Told}
+use Rattle.ring_core.specs.declared.ledger.Event.{Event}
+use Rattle.ring_core.specs.declared.ledger.Event.TheVariants.{Give, Feed, End, Look, Submit, Poll, Drop, Cancel, Turn, Exec}
+use Rattle.ring_core.specs.declared.ledger.Reply.{Reply}
+use Rattle.ring_core.specs.declared.ledger.Reply.TheVariants.{Dropped, ExecutedOp, Refused}
+use Rattle.ring_core.specs.declared.ledger.Refusal.{Refusal}
+use Rattle.ring_core.specs.declared.ledger.Refusal.TheVariants.{NoOp, NotFlying, BadOutcome}
+use Rattle.ring_core.specs.Lists.{passes}
+use Rattle.ring_core.specs.Ledger.{Ledger, Operation, Place, InQueue, InFlight, InDone, Reaped, Gone, Item, Op, empty, is_kept, is_owned}
+use Rattle.ring_core.specs.Refusal.{cause, refused_if, lacks_op, allowed}
+use Rattle.ring_core.specs.Turn.{exec_step}
+use Rattle.ring_core.specs.Step.{step, row, answered, poll_at, poll_step, drop_step}
+use Rattle.ring_core.specs.Run.{after, replies, ledger_before, IsExecuted}
+use Rattle.run_laws.specs.Headline.{RefusedExactly}
+
+-- There is one reply for each event.
+pub length-replies : (L : Ledger) (events : List Event) → length (replies L events) ≡ length events
+length-replies L [] = refl
+length-replies L (e ∷ events) = ap suc (length-replies (step L e).0 events)
+
+-- The reply at i is that of the step from the ledger before it.
+pub reply-at : (L : Ledger) (events : List Event) (i : ℕ) (e : Event) → slice_get events i ≡ Some e →
+    slice_get (replies L events) i ≡ Some (step (after L (take i events)) e).1
+reply-at L [] i e h = cc
+reply-at L (x ∷ events) zero e h = let q : x ≡ e = cc in ap (λ y. Some (step L y).1) q
+reply-at L (x ∷ events) (suc i) e h = reply-at (step L x).0 events i e h
+
+-- Where there is a reply there is an event.
+pub reply-event : (L : Ledger) (events : List Event) (i : ℕ) (r : Reply) → slice_get (replies L events) i ≡ Some r → (e : Event)
+    × (slice_get events i ≡ Some e)
+reply-event L [] i r h = cc
+reply-event L (x ∷ events) zero r h = (x, refl)
+reply-event L (x ∷ events) (suc i) r h = reply-event (step L x).0 events i r h
+
+-- The ledger after one event more.
+pub after-next : (L : Ledger) (events : List Event) (k : ℕ) (e : Event) → slice_get events k ≡ Some e →
+    after L (take (suc k) events) ≡ (step (after L (take k events)) e).0
+after-next L [] k e h = cc
+after-next L (x ∷ events) zero e h = let q : x ≡ e = cc in ap (λ y. (step L y).0) q
+after-next L (x ∷ events) (suc k) e h = after-next (step L x).0 events k e h
+
+-- A refused event changes nothing.
+pub step-refused : (L : Ledger) (e : Event) (refusal : Refusal) → cause L e ≡ Some refusal → step L e ≡ (L, Refused refusal)
+unfolding step
+step-refused L e refusal h = ap (λ c. answered c L e) h
+
+-- An event that isn't refused has its row.
+pub step-row : (L : Ledger) (e : Event) → cause L e ≡ None → step L e ≡ row L e
+unfolding step
+step-row L e h = ap (λ c. answered c L e) h
+
+-- An operation of a number that is its user's.
+pub record OwnedAt (L : Ledger) (n : ℕ) : Type 0 where
+  pub operation : Operation
+  pub there : slice_get L.ops n ≡ Some operation
+  pub kept : is_kept operation.place ≡ true
+  pub undropped : operation.dropped ≡ false
+
+-- A test that refuses nothing passes.
+unrefused : (b : Bool) → refused_if (not b) NoOp None ≡ None → b ≡ true
+unrefused true h = refl
+unrefused false h = (let f : ⊥ = cc in absurd f)
+
+-- What is its user's is neither gone nor dropped.
+kept-undropped : (kept dropped : Bool) → (kept && not dropped) ≡ true → (kept ≡ true) × (dropped ≡ false)
+kept-undropped true true h = (let f : ⊥ = cc in absurd f)
+kept-undropped true false h = (refl, refl)
+kept-undropped false dropped h = (let f : ⊥ = cc in absurd f)
+
+-- What was looked up and is its user's is there.
+owned-there : (L : Ledger) (n : ℕ) (x : Option Operation) → slice_get L.ops n ≡ x → passes is_owned x ≡ true → OwnedAt L n
+owned-there L n None there h = (let f : ⊥ = cc in absurd f)
+owned-there L n (Some o) there h =
+    let k = kept-undropped (is_kept o.place) o.dropped h in record { operation = o; there = there; kept = k.0; undropped = k.1 }
+
+-- An event about an operation that isn't refused as NoOp finds it, and it is its user's.
+pub found : (L : Ledger) (n : ℕ) → refused_if (lacks_op L n) NoOp None ≡ None → OwnedAt L n
+found L n h = owned-there L n (slice_get L.ops n) refl (unrefused (passes is_owned (slice_get L.ops n)) h)
+
+-- What has neither cause of an Exec is an item in flight.
+item-there : (L : Ledger) (told : Told) (b : Bool) (x : Option Item) →
+    refused_if b NotFlying (refused_if (not (passes (λ item. allowed L item told) x)) BadOutcome None) ≡ None → (m : ℕ)
+    × (x ≡ Some (Op m))
+item-there L told true x h = (let f : ⊥ = cc in absurd f)
+item-there L told false None h = (let f : ⊥ = cc in absurd f)
+item-there L told false (Some (Op m)) h = (m, refl)
+
+-- An Exec that isn't refused finds an operation in flight.
+pub executed-there : (L : Ledger) (place : ℕ) (told : Told) → cause L (Exec place told) ≡ None → (m : ℕ)
+    × (slice_get L.flying place ≡ Some (Op m))
+executed-there L place told h = item-there L told (nat_le (length L.flying) place) (slice_get L.flying place) h
+
+-- The reply to an Exec that isn't refused names the operation.
+pub executed-row : (L : Ledger) (place m : ℕ) (told : Told) → slice_get L.flying place ≡ Some (Op m) →
+    (row L (Exec place told)).1 ≡ ExecutedOp m
+executed-row L place m told h = ap (λ x. (exec_step L place told x).1) h
+
+-- The event that executes n is answered so.
+pub executed-reply : (capacity : ℕ) (events : List Event) (n i : ℕ) (told : Told) → IsExecuted capacity events n i told →
+    slice_get (replies (empty capacity) events) i ≡ Some (ExecutedOp n)
+executed-reply capacity events n i told x =
+    let L : Ledger = ledger_before capacity events i in
+    reply-at (empty capacity) events i (Exec x.place told) x.event
+    ∙ ap (λ s. Some s.1) (step-row L (Exec x.place told) x.unrefused)
+    ∙ ap Some (executed-row L x.place n told x.item)
+
+-- A Drop that finds an operation is answered so.
+pub dropped-row : (L : Ledger) (n : ℕ) → OwnedAt L n → (row L (Drop n)).1 ≡ Dropped
+dropped-row L n f = ap (λ x. (drop_step L n x).1) f.there
+
+-- A Poll that finds an operation isn't refused.
+place-answers : (L : Ledger) (n task : ℕ) (o : Operation) (p : Place) (c : Refusal) → (poll_at L n task o p).1 ≡ Refused c → ⊥
+place-answers L n task o InQueue c h = cc
+place-answers L n task o InFlight c h = cc
+place-answers L n task o (InDone outcome) c h = cc
+place-answers L n task o (Reaped outcome) c h = cc
+place-answers L n task o Gone c h = cc
+
+-- An event that isn't refused isn't answered so.
+row-answers : (L : Ledger) (e : Event) (c : Refusal) → cause L e ≡ None → (row L e).1 ≡ Refused c → ⊥
+row-answers L (Give kind) c h r = cc
+row-answers L (Feed x bytes) c h r = cc
+row-answers L (End x) c h r = cc
+row-answers L (Look x) c h r = cc
+row-answers L (Submit request) c h r = cc
+row-answers L (Poll n task) c h r =
+    (let f = found L n h in let a = ap (λ x. (poll_step L n task x).1) f.there in
+    place-answers L n task f.operation f.operation.place c (sym a ∙ r))
+row-answers L (Drop n) c h r = (let f = found L n h in let a : (row L (Drop n)).1 ≡ Dropped = dropped-row L n f in cc)
+row-answers L (Cancel n) c h r = cc
+row-answers L Turn c h r = cc
+row-answers L (Exec place told) c h r = (let t = executed-there L place told h in let a = executed-row L place t.0 told t.1 in cc)
+
+-- What is answered with a refusal has that cause, whatever was looked up.
+by_cause : (L : Ledger) (e : Event) (c : Refusal) (x : Option Refusal) → cause L e ≡ x → (answered x L e).1 ≡ Refused c → cause L e ≡ Some c
+by_cause L e c None h r = absurd (row-answers L e c h r)
+by_cause L e c (Some d) h r = let q : d ≡ c = cc in h ∙ ap Some q
+
+-- What is refused has that cause.
+pub step-caused : (L : Ledger) (e : Event) (c : Refusal) → (step L e).1 ≡ Refused c → cause L e ≡ Some c
+unfolding step
+step-caused L e c h = by_cause L e c (cause L e) refl h
+
+-- A reply is Refused exactly where the machine names a cause, and has that name.
+pub refused-exactly : (capacity : ℕ) (events : List Event) → RefusedExactly capacity events (replies (empty capacity) events)
+refused-exactly capacity events = λ i c. (
+  λ h. (
+      let e = reply-event (empty capacity) events i (Refused c) h in
+      let r = reply-at (empty capacity) events i e.0 e.1 in
+      let q : (step (ledger_before capacity events i) e.0).1 ≡ Refused c = (let w = sym r ∙ h in cc) in
+      record { event = e.0; there = e.1; named = step-caused (ledger_before capacity events i) e.0 c q }),
+  λ k. reply-at (empty capacity) events i k.event k.there
+      ∙ ap (λ s. Some s.1) (step-refused (ledger_before capacity events i) k.event c k.named),
+)

@@ -1,0 +1,13 @@
+use Rattle.std.proofs.Common.{subst}
+use Rattle.session_run.specs.TextLines.{IfBadLine, IsFirstWrong, lines}
+use Rattle.session_run.proofs.Reading.{was-read, was-wrong}
+use Rattle.session_run.proofs.input.source_events.Goals as goal
+
+pub returns-in-Ok-read_events-clause-read : goal.returns-in-Ok-read_events-clause-read
+returns-in-Ok-read_events-clause-read g c = λ told.
+    was-read _ _ _ c.as_slice.result.now _ (c.in-Ok.ensures.read told) c.as_slice.ensures.value c.in-Ok-read_events.ensures.events
+
+pub returns-in-Err-BadLine-clause-why : goal.returns-in-Err-BadLine-clause-why
+returns-in-Err-BadLine-clause-why g c = λ told.
+    was-wrong _ _ _ c.as_slice.result.now c.in-Err-BadLine.line (c.in-Ok.ensures.read told) c.as_slice.ensures.value
+    (subst (λ why. IfBadLine (IsFirstWrong (lines c.as_slice.result.now)) why) c.in-Err-BadLine.field-0-is c.in-Err-BadLine.ensures.bad_line)

@@ -1,0 +1,120 @@
+//! Reading all lines of a source.
+ghost use Rattle.std.specs.Prelude.{◌≡◌, ◌≤◌, ◌<◌, ◌+◌, ◌++◌, length, IfOk, IfErr, OnOk, IsTrue, vec_len, []};
+ghost use Rattle.session_run.specs.Top.{WasRead};
+ghost use Rattle.session_run.specs.Ends.{IsAll, WhyNoEvents, WhyStopped, WhyUnread};
+
+use crate::text::{LinesError, read_events};
+use rent_io::ByteSource;
+use ring_core::Event;
+use std::alloc::{AllocError, Global};
+
+/// The most bytes of input.
+pub const MOST_INPUT: usize = 16777216;
+
+// The most reads that find bytes in an input that isn't too long, and one more.
+const READS: usize = 16777217;
+
+// How many bytes one read asks for.
+const PIECE: usize = 65536;
+
+/// Why a source gave no events.
+pub(crate) enum NoEvents {
+    /// This line is the first that is no event's text.
+    BadLine(u64),
+    /// There are more bytes than the input may have.
+    TooLong,
+    /// The source failed.
+    Fault,
+    /// Memory ran out.
+    OutOfMemory,
+}
+
+/// The events that the lines of a source stand for.
+pub(crate) fn source_events<S: ByteSource>(
+    alloc: Global,
+    source: &mut S,
+) -> Result<Vec<Event>, NoEvents>
+    ensures read { IfOk result (λ events. IsTrue S.tells → WasRead (S.left source.old) (S.left source.new) events.items) }
+    ensures calm { OnOk result (IsTrue S.tells → S.faults source.new ≡ S.faults source.old) }
+    ensures why { IfErr result (WhyNoEvents S.tells (S.left source.old) (S.left source.new) (S.faults source.old) (S.faults source.new)) }
+{
+    let text = match read_all(alloc, source) {
+        Ok(text) => text,
+        Err(why) => return Err(why),
+    };
+    match read_events(alloc, text.as_slice()) {
+        Ok(events) => Ok(events),
+        Err(LinesError::BadLine(line)) => Err(NoEvents::BadLine(line)),
+        Err(LinesError::OutOfMemory) => Err(NoEvents::OutOfMemory),
+    }
+}
+
+// All that a source gives.
+fn read_all<S: ByteSource>(alloc: Global, source: &mut S) -> Result<Vec<u8>, NoEvents>
+    ensures read { IfOk result (λ text. IsTrue S.tells → IsAll (S.left source.old) (S.left source.new) text.items) }
+    ensures calm { OnOk result (IsTrue S.tells → S.faults source.new ≡ S.faults source.old) }
+    ensures why { IfErr result (WhyUnread S.tells (S.left source.old) (S.left source.new) (S.faults source.old) (S.faults source.new)) }
+{
+    let mut text = Vec::new(alloc);
+    let Ok(mut piece) = zeros(alloc, PIECE) else {
+        return Err(NoEvents::OutOfMemory);
+    };
+    // Each turn takes a byte at least, so the budget is one more than what may be read.
+    for turn in 0..READS {
+        match read_some(source, &mut piece, &mut text) {
+            Ok(0) => return Ok(text),
+            Ok(_) => {}
+            Err(why) => return Err(why),
+        }
+    }
+    Err(NoEvents::TooLong)
+}
+
+// Reads once, and joins what came to the text; 0 is the end. Memory is taken only for what the input may have.
+fn read_some<S: ByteSource>(
+    source: &mut S,
+    piece: &mut Vec<u8>,
+    text: &mut Vec<u8>,
+) -> Result<usize, NoEvents>
+    requires piece { 0 < vec_len piece.old }
+    requires few { vec_len text.old ≤ 16777216 }
+    ensures piece { vec_len piece.new ≡ vec_len piece.old }
+    ensures joined { OnOk result (IsTrue S.tells → text.new.items ++ S.left source.new ≡ text.old.items ++ S.left source.old) }
+    ensures count { IfOk result (λ n. vec_len text.new ≡ vec_len text.old + n) }
+    ensures few { OnOk result (vec_len text.new ≤ 16777216) }
+    ensures end { IfOk result (λ n. n ≡ 0 → IsTrue S.tells → S.left source.new ≡ []) }
+    ensures calm { OnOk result (IsTrue S.tells → S.faults source.new ≡ S.faults source.old) }
+    ensures faults { OnOk result (S.faults source.old ≤ S.faults source.new) }
+    ensures why { IfErr result (WhyStopped S.tells (vec_len text.old) (S.left source.old) (S.left source.new) (S.faults source.old) (S.faults source.new)) }
+{
+    let count = match source.read(piece.as_mut_slice()) {
+        Ok(count) => count,
+        Err(_) => return Err(NoEvents::Fault),
+    };
+    if MOST_INPUT - text.len() < count {
+        return Err(NoEvents::TooLong);
+    }
+    match append(text, &piece.as_slice()[..count]) {
+        Ok(()) => Ok(count),
+        Err(_) => Err(NoEvents::OutOfMemory),
+    }
+}
+
+// Bytes join a text.
+fn append(text: &mut Vec<u8>, bytes: &[u8]) -> Result<(), AllocError>
+    ensures ok { OnOk result (text.new.items ≡ text.old.items ++ bytes.now) }
+    ensures count { OnOk result (vec_len text.new ≡ vec_len text.old + length bytes.now) }
+{
+    text.extend_from_slice(bytes)?;
+    Ok(())
+}
+
+// So many bytes 0.
+fn zeros(alloc: Global, count: usize) -> Result<Vec<u8>, AllocError>
+    ensures { IfOk result (λ bytes. vec_len bytes ≡ count) }
+{
+    vec![in alloc; 0; count]
+}
+
+#[cfg(test)]
+mod tests;

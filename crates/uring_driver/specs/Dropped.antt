@@ -1,0 +1,21 @@
+-- What a drop does, over any ring.
+use Rattle.std.specs.Prelude.{◌≡◌, Bool, true, false, IsTrue, [], ◌∷◌, Some}
+use Rattle.std.specs.FinMap as map
+use Rattle.op_slots.specs.declared.lifecycle.Lifecycle.TheVariants.{Ignored}
+use Rattle.ring_core.specs.Ring.{RingView}
+use Rattle.driver_core.specs.declared.slot.Slot.{Slot}
+use Rattle.driver_core.specs.declared.op.Op.{Op}
+use Rattle.uring_driver.specs.declared.uring.IoUringDriver.{IoUringDriver}
+use Rattle.uring_driver.specs.Uring.{pending}
+use Rattle.uring_driver.specs.Op.{cancel_for}
+use Rattle.uring_driver.specs.Submissions.{PendingMoves}
+use Rattle.driver_core.specs.Slot.{with_life, is_flying}
+
+-- A slot that is in flight stays, ignored from then on, and its cancel joins what is pending. One that is completed goes, and
+-- nothing is queued.
+abbrev pub DropsSlotOf : {R B : Type 0} → (R → RingView) → Bool → IoUringDriver R B → IoUringDriver R B → Op → Slot B → Bool → Type 0
+DropsSlotOf view tells old new op slot true = (new.slots.values ≡ map.insert old.slots.values op.key (with_life slot Ignored)) × (IsTrue tells → PendingMoves (pending view old) (pending view new) (cancel_for op ∷ []))
+DropsSlotOf view tells old new op slot false = (new.slots.values ≡ map.remove old.slots.values op.key) × (new.ring ≡ old.ring)
+
+abbrev pub DropsOp : {R B : Type 0} → (R → RingView) → Bool → IoUringDriver R B → IoUringDriver R B → Op → Type 0
+DropsOp {R} {B} view tells old new op = (slot : Slot B) → map.get old.slots.values op.key ≡ Some slot → DropsSlotOf view tells old new op slot (is_flying slot.life)

@@ -1,0 +1,82 @@
+-- The ring as the driver uses it: what is pending, and what entering it and joining it do. Cited by `Submissions`, and by the driver's calls.
+use Rattle.std.specs.Prelude.{ℕ, ◌≡◌, ◌+◌, ◌<◌, ◌≤◌, ◌==◌, ◌⊎◌, if◌then◌else◌, Bool, IsTrue, List, [], ◌++◌, length, drop}
+use Rattle.ring_core.specs.Counts.{Rose}
+use Rattle.ring_core.specs.declared.entry.Entry.{Entry}
+use Rattle.ring_core.specs.declared.ring.EnterError.{EnterError}
+use Rattle.ring_core.specs.declared.ring.EnterError.TheVariants.{Fault, Busy}
+use Rattle.ring_core.specs.declared.world.HandleState.{HandleState}
+use Rattle.ring_core.specs.Lists.{amended}
+use Rattle.ring_core.specs.Lends.{with_world}
+use Rattle.ring_core.specs.Ring.{RingView, IsLater, TookFront, entered, pushed, with_done}
+use Rattle.uring_driver.specs.Pending.{Pending}
+
+-- Nothing is queued, in flight or standing.
+pub record IsIdle (view : RingView) : Type 0 where
+  pub queue : view.queue ≡ []
+  pub flying : view.flying ≡ []
+  pub done : view.done ≡ []
+
+-- A ring with memory for another number of pushes, and all else the same.
+abbrev pub with_spare : RingView → ℕ → RingView
+with_spare view spare = record view { spare = spare }
+
+-- Two rings are the same, but for how many pushes they have memory for.
+abbrev pub IsSameButRoom : RingView → RingView → Type 0
+IsSameButRoom old new = new ≡ with_spare old new.spare
+
+-- A ring with room for one more entry: a queue at capacity was taken.
+abbrev pub room_made : RingView → RingView
+room_made view = if length view.queue == view.capacity then entered view else view
+
+-- A ring with entries behind its queue.
+abbrev pub with_due : RingView → List Entry → RingView
+with_due view due = record view { queue = view.queue ++ due }
+
+-- The ring of a submission queue with what is due behind its queue.
+abbrev pub pending_ring : {R : Type 0} → (R → RingView) → Pending R → RingView
+pending_ring view out = with_due (view out.ring) out.due
+
+-- A submission queue over a ring in memory with what stands on a handle changed.
+abbrev pub with_change : Pending RingView → ℕ → (HandleState → HandleState) → Pending RingView
+with_change out h change = record out { ring = with_world out.ring (amended out.ring.world h change) }
+
+-- A prefix of what is pending was taken, of some length.
+pub record TakesFront (old new : RingView) : Type 0 where
+  pub count : ℕ
+  pub took : TookFront count old new
+
+-- What is pending went towards the ring, and a prefix of it was taken, with at most one completion for each of its entries.
+pub record Enters {R : Type 0} (view : R → RingView) (tells : Bool) (old new : Pending R) : Type 0 where
+  pub later : IsLater (view old.ring) (view new.ring)
+  pub few_done : length (view new.ring).done + (length (view new.ring).queue + length new.due) ≤ length (view old.ring).done + (length (view old.ring).queue + length old.due)
+  pub same_room : new.room ≡ old.room
+  pub told : IsTrue tells → TakesFront (pending_ring view old) (pending_ring view new)
+
+-- The next entry can't go in before an enter: the queue is full, or an entry is due.
+abbrev pub MustEnter : {R : Type 0} → (R → RingView) → Pending R → Type 0
+MustEnter view out = (length (view out.ring).queue ≡ (view out.ring).capacity) ⊎ (0 < length out.due)
+
+-- Why an enter took no more: the count of that fault rose. A steady ring has neither fault.
+abbrev pub KeptOut : Bool → RingView → RingView → EnterError → Type 0
+KeptOut steady old new Fault = Rose old.faults new.faults × (IsTrue steady → ⊥)
+KeptOut steady old new Busy = Rose old.busies new.busies × (IsTrue steady → ⊥)
+
+-- A cancel joined what is pending, after a prefix of it was taken.
+pub record JoinsCancel {R : Type 0} (view : R → RingView) (tells steady : Bool) (old new : Pending R) (entry : Entry) : Type 0 where
+  pub later : IsLater (view old.ring) (view new.ring)
+  pub room : 0 < old.room → new.room + 1 ≡ old.room
+  pub told : 0 < old.room → IsTrue tells → (mid : RingView) × TakesFront (pending_ring view old) mid × (pending_ring view new ≡ with_spare (pushed mid entry) (view new.ring).spare)
+  pub exact : 0 < old.room → IsTrue steady → length (view old.ring).queue + length old.due ≤ (view old.ring).capacity →
+      (pending_ring view new ≡ with_spare (pushed (room_made (pending_ring view old)) entry) (view new.ring).spare) × (length (view new.ring).queue + length new.due ≤ (view new.ring).capacity)
+
+-- What is pending changed only so: a prefix of it was entered, of `count` entries, and new entries joined its end.
+pub record PendingMoves (old new joined : List Entry) : Type 0 where
+  pub count : ℕ
+  pub within : count ≤ length old
+  pub moved : new ≡ drop count old ++ joined
+
+-- What is pending stays, and the room for more. Of a ring that shows its lists only completions are taken off.
+pub record KeepsPending {R : Type 0} (view : R → RingView) (tells : Bool) (old new : Pending R) : Type 0 where
+  pub due : new.due ≡ old.due
+  pub room : new.room ≡ old.room
+  pub ring : IsTrue tells → view new.ring ≡ with_done (view old.ring) (view new.ring).done

@@ -1,0 +1,315 @@
+//! The ring as the driver uses it: with room that is reserved in it, and with the entries that it kept out behind it.
+ghost use Rattle.std.specs.Prelude.{◌≡◌, ◌≤◌, ◌<◌, ◌+◌, ◌^◌, ◌++◌, List, [], ◌∷◌, ℕ, length, nat_lt, true, false, Some, None, IsTrue, IsOk, IfSome, IfNone, IfOk, IfErr, OnOk, OnErr};
+ghost use Rattle.ring_core.specs.Ring.{IsLater, NextFor, entered, pushed};
+ghost use Rattle.ring_core.specs.World.{fresh, is_ended_at, output_at, with_input, with_end, WorldFeeds, WorldEnds};
+ghost use Rattle.ring_core.specs.Lends.{with_world};
+ghost use Rattle.ring_core.specs.Entry.{cancel_entry};
+ghost use Rattle.ring_core.specs.MemRing.{ExecutesFor};
+ghost use Rattle.uring_driver.specs.Submissions.{with_spare, room_made, pending_ring, with_change, Enters, MustEnter, KeptOut, JoinsCancel};
+ghost use Rattle.uring_driver.specs.Handles.{RefusedAt};
+
+use rent_buf::{ByteList, OutOfMemory};
+use ring_core::{
+    Completion, EnterError, Entry, ExecRefusal, HandleKind, Look, MemRing, Payloads, Push, Ring,
+    Told, World, WorldError,
+};
+use std::alloc::Global;
+use std::collections::VecDeque;
+use std::marker::Model;
+
+/// A ring, the entries that a failed or busy enter kept out of it, and for how many more entries memory is reserved. What is
+/// due goes in first, so that nothing passes it. (own)
+#[derive(Drop)]
+pub struct Submissions<R: Ring> {
+    ring: R,
+    // What is due, oldest first.
+    due: VecDeque<Entry>,
+    // For how many entries more there is memory, in the ring and in `due`.
+    room: usize,
+}
+
+impl<R: Ring> Model for Submissions<R> {
+    ghost use Rattle.std.specs.Prelude.{◌≤◌, ◌+◌};
+    ghost use Rattle.std.specs.VecDeque.{deque_len, deque_capacity};
+    ghost use Rattle.uring_driver.specs.Pending.{Pending, pending_code};
+
+    ghost Value = { Pending R };
+
+    ghost coded = { pending_code R.code };
+
+    ghost view = { λ o. record { ring = o.ring; due = o.due.items; room = o.room } };
+
+    ghost invariant = { λ o. (deque_len o.due + o.room ≤ (R.view o.ring).spare) × (deque_len o.due + o.room ≤ deque_capacity o.due) };
+}
+
+impl<R: Ring> Submissions<R> {
+    /// A ring for which nothing is due or reserved yet. It takes no memory.
+    pub fn new(alloc: Global, ring: R) -> Self
+        ensures { result ≡ record { ring = ring; due = []; room = 0 } }
+    {
+        Submissions {
+            ring,
+            due: VecDeque::new(alloc),
+            room: 0,
+        }
+    }
+
+    /// The ring.
+    pub fn ring(&self) -> &R
+        ensures { result.now ≡ self.now.ring }
+    {
+        &self.ring
+    }
+
+    /// How many entries are due.
+    pub fn due(&self) -> usize
+        ensures { result ≡ length self.now.due }
+    {
+        self.due.len()
+    }
+
+    /// How many completions are ready.
+    pub fn ready(&self) -> usize
+        ensures { result ≡ length (R.view self.now.ring).done }
+    {
+        self.ring.standing()
+    }
+
+    /// How many completions stand, and how many entries are queued or due; None where that is no `usize`.
+    pub fn waiting(&self) -> Option<usize>
+        ensures some { IfSome result (λ n. n ≡ length (R.view self.now.ring).done + (length (R.view self.now.ring).queue + length self.now.due)) }
+        ensures none { IfNone result (2 ^ 64 ≤ length (R.view self.now.ring).done + (length (R.view self.now.ring).queue + length self.now.due)) }
+    {
+        let pending = (self.ring.queued() as usize).checked_add(self.due.len())?;
+        self.ring.standing().checked_add(pending)
+    }
+
+    /// Memory for `count` entries more, where there is less.
+    pub fn make_spare(&mut self, count: usize) -> Result<(), OutOfMemory>
+        ensures ok { OnOk result (count ≤ self.new.room) }
+        ensures view { R.view self.new.ring ≡ with_spare (R.view self.old.ring) (R.view self.new.ring).spare }
+        ensures due { self.new.due ≡ self.old.due }
+        ensures more { self.old.room ≤ self.new.room }
+    {
+        if self.room >= count {
+            return Ok(());
+        }
+        self.due.reserve(count)?;
+        self.ring.reserve(count - self.room)?;
+        self.room = count;
+        Ok(())
+    }
+
+    // The ring takes its queue. What is due stays.
+    fn enter_ring(&mut self) -> Result<(), EnterError>
+        ensures emptied { OnOk result ((R.view self.new.ring).queue ≡ []) }
+        ensures told { OnOk result (IsTrue R.tells → R.view self.new.ring ≡ entered (R.view self.old.ring)) }
+        ensures due { self.new.due ≡ self.old.due }
+        ensures enters { Enters R.view R.tells self.old self.new }
+        ensures err { IfErr result (KeptOut R.steady (R.view self.old.ring) (R.view self.new.ring)) }
+    {
+        match self.ring.enter() {
+            Ok(_) => Ok(()),
+            Err(why) => Err(why),
+        }
+    }
+
+    // Room for one more entry in the queue: a queue at capacity is entered.
+    fn make_room(&mut self) -> Result<(), EnterError>
+        ensures same { length (R.view self.old.ring).queue < (R.view self.old.ring).capacity → self.new ≡ self.old }
+        ensures room { OnOk result (length (R.view self.new.ring).queue < (R.view self.new.ring).capacity) }
+        ensures told { OnOk result (IsTrue R.tells → R.view self.new.ring ≡ room_made (R.view self.old.ring)) }
+        ensures due { self.new.due ≡ self.old.due }
+        ensures enters { Enters R.view R.tells self.old self.new }
+        ensures full { OnErr result (length (R.view self.old.ring).queue ≡ (R.view self.old.ring).capacity) }
+        ensures err { IfErr result (KeptOut R.steady (R.view self.old.ring) (R.view self.new.ring)) }
+    {
+        if self.ring.queued() < self.ring.capacity() {
+            return Ok(());
+        }
+        self.enter_ring()
+    }
+
+    // The first due entry goes in.
+    fn push_first(&mut self) -> Result<(), EnterError>
+        requires { 0 < length self.old.due }
+        ensures one { OnOk result (length self.new.due + 1 ≡ length self.old.due) }
+        ensures fits { OnOk result (length (R.view self.old.ring).queue + length self.old.due ≤ (R.view self.old.ring).capacity →
+            (length (R.view self.new.ring).queue + length self.new.due ≡ length (R.view self.old.ring).queue + length self.old.due) ×
+            (IsTrue R.tells → pending_ring R.view self.new ≡ with_spare (pending_ring R.view self.old) (R.view self.new.ring).spare)) }
+        ensures enters { Enters R.view R.tells self.old self.new }
+        ensures err { IfErr result (KeptOut R.steady (R.view self.old.ring) (R.view self.new.ring)) }
+    {
+        self.make_room()?;
+        match self.due.pop_front() {
+            Some(entry) => match self.ring.push_reserved(entry) {
+                Push::Done => Ok(()),
+                Push::Full(_) => unreachable!(),
+            },
+            None => unreachable!(),
+        }
+    }
+
+    /// Makes way for one more entry: what is due goes in, in order, and a queue at capacity is entered. It takes no memory.
+    pub fn make_way(&mut self) -> Result<(), EnterError>
+        ensures due { OnOk result (self.new.due ≡ []) }
+        ensures room { OnOk result (length (R.view self.new.ring).queue < (R.view self.new.ring).capacity) }
+        ensures told { OnOk result (IsTrue R.tells → length (R.view self.old.ring).queue + length self.old.due ≤ (R.view self.old.ring).capacity →
+            pending_ring R.view self.new ≡ with_spare (room_made (pending_ring R.view self.old)) (R.view self.new.ring).spare) }
+        ensures enters { Enters R.view R.tells self.old self.new }
+        ensures must { OnErr result (MustEnter R.view self.old) }
+        ensures err { IfErr result (KeptOut R.steady (R.view self.old.ring) (R.view self.new.ring)) }
+    {
+        flush(self)?;
+        self.make_room()
+    }
+
+    /// An entry joins the end of what is pending: the queue's end, where nothing is due and the queue has room, else it is due.
+    pub fn join(&mut self, entry: Entry)
+        requires { 0 < self.old.room }
+        ensures told { IsTrue R.tells → pending_ring R.view self.new ≡ with_spare (pushed (pending_ring R.view self.old) entry) (R.view self.new.ring).spare }
+        ensures due { self.old.due ≡ [] → length (R.view self.old.ring).queue < (R.view self.old.ring).capacity → self.new.due ≡ [] }
+        ensures room { self.new.room + 1 ≡ self.old.room }
+        ensures later { IsLater (R.view self.old.ring) (R.view self.new.ring) }
+    {
+        self.room -= 1;
+        if !self.due.is_empty() {
+            self.due.push_back_reserved(entry);
+            return;
+        }
+        match self.ring.push_reserved(entry) {
+            Push::Done => {}
+            Push::Full(entry) => self.due.push_back_reserved(entry),
+        }
+    }
+
+    /// A cancel of an operation, by its number and the key of its slot, joins the end of what is pending. It takes no memory,
+    /// so it needs room that was reserved before.
+    pub fn cancel(&mut self, number: u64, key: usize)
+        requires { 0 < self.old.room }
+        ensures joins { JoinsCancel R.view R.tells R.steady self.old self.new (cancel_entry key number) }
+        ensures none { IsTrue R.steady → self.old.due ≡ [] → self.new.due ≡ [] }
+    {
+        let _ = self.make_way();
+        self.join(Entry::cancel(key, number));
+    }
+
+    /// What is due goes in, in order, and the ring takes its queue.
+    pub fn enter(&mut self) -> Result<(), EnterError>
+        ensures emptied { OnOk result (((R.view self.new.ring).queue ≡ []) × (self.new.due ≡ [])) }
+        ensures enters { Enters R.view R.tells self.old self.new }
+        ensures err { IfErr result (KeptOut R.steady (R.view self.old.ring) (R.view self.new.ring)) }
+    {
+        flush(self)?;
+        self.enter_ring()
+    }
+
+    /// The first completion that stands.
+    pub fn next(&mut self) -> Option<Completion>
+        ensures next { NextFor R.tells (R.view self.old.ring) (R.view self.new.ring) result }
+        ensures due { self.new.due ≡ self.old.due }
+        ensures room { self.new.room ≡ self.old.room }
+    {
+        self.ring.next()
+    }
+}
+
+impl Submissions<MemRing> {
+    /// A new handle of the ring's world.
+    pub fn give(&mut self, kind: HandleKind) -> Result<u64, OutOfMemory>
+        ensures number { IfOk result (λ h. h ≡ length self.old.ring.world) }
+        ensures ok { OnOk result (self.new ≡ record self.old { ring = with_world self.old.ring (self.old.ring.world ++ fresh kind ∷ []) }) }
+        ensures err { OnErr result (self.new ≡ self.old) }
+    {
+        self.ring.world().give(kind)
+    }
+
+    /// Bytes join the input of a handle of the ring's world; where there is no such handle, nothing changes.
+    pub fn feed(&mut self, h: u64, bytes: &[u8]) -> Result<(), WorldError>
+        ensures live { OnOk result (is_ended_at self.old.ring.world h ≡ false) }
+        ensures ok { OnOk result (self.new ≡ with_change self.old h (with_input bytes.now)) }
+        ensures why { IfErr result (λ why. RefusedAt self.old.ring.world h why) }
+        ensures err { OnErr result (self.new ≡ self.old) }
+    {
+        match feed_at(self.ring.world(), h, bytes) {
+            Ok(()) => Ok(()),
+            Err(why) => Err(why),
+        }
+    }
+
+    /// Marks the end of a handle of the ring's world; where there is no such handle, nothing changes. It takes no memory.
+    pub fn end(&mut self, h: u64) -> Result<(), WorldError>
+        ensures live { OnOk result (is_ended_at self.old.ring.world h ≡ false) }
+        ensures ok { OnOk result (self.new ≡ with_change self.old h with_end) }
+        ensures why { IfErr result (λ why. RefusedAt self.old.ring.world h why) }
+        ensures memory { IfErr result (λ why. why ≡ WorldError.BadHandleEvent) }
+        ensures err { OnErr result (self.new ≡ self.old) }
+    {
+        match end_at(self.ring.world(), h) {
+            Ok(()) => Ok(()),
+            Err(why) => Err(why),
+        }
+    }
+
+    /// What was sent to a handle of the ring's world, copied once; where there is no such handle, that is nothing.
+    pub fn look(&self, alloc: Global, h: u64) -> Result<Look, OutOfMemory>
+        ensures { IfOk result (λ look. look ≡ Look.Bytes (output_at self.now.ring.world h)) }
+    {
+        let world = self.ring.handles();
+        if h >= world.count() {
+            return Ok(Look::Bytes(ByteList::new(alloc)));
+        }
+        world.look(h)
+    }
+
+    /// Executes what is in flight at a place with the reported outcome, over what holds its bytes.
+    pub fn execute<P: Payloads>(
+        &mut self,
+        place: usize,
+        told: Told,
+        payloads: &mut P,
+    ) -> Result<Completion, ExecRefusal>
+        ensures executes { ExecutesFor P.offered P.stores P.takes_memory self.old.ring place told self.new.ring payloads.old payloads.new result }
+        ensures due { self.new.due ≡ self.old.due }
+        ensures room { self.new.room ≡ self.old.room }
+    {
+        self.ring.execute(place, told, payloads)
+    }
+}
+
+// What is due goes in, in order.
+fn flush<R: Ring>(out: &mut Submissions<R>) -> Result<(), EnterError>
+    ensures due { OnOk result (out.new.due ≡ []) }
+    ensures told { OnOk result (IsTrue R.tells → length (R.view out.old.ring).queue + length out.old.due ≤ (R.view out.old.ring).capacity →
+        pending_ring R.view out.new ≡ with_spare (pending_ring R.view out.old) (R.view out.new.ring).spare) }
+    ensures enters { Enters R.view R.tells out.old out.new }
+    ensures same { out.old.due ≡ [] → out.new ≡ out.old }
+    ensures must { OnErr result (0 < length out.old.due) }
+    ensures err { IfErr result (KeptOut R.steady (R.view out.old.ring) (R.view out.new.ring)) }
+{
+    let count = out.due();
+    for i in 0..count {
+        out.push_first()?;
+    }
+    Ok(())
+}
+
+// Bytes join the input of a handle; where there is no such handle, nothing changes.
+fn feed_at(world: &mut World, h: u64, bytes: &[u8]) -> Result<(), WorldError>
+    ensures { WorldFeeds bytes.now world.old h world.new result }
+{
+    if h >= world.count() {
+        return Ok(());
+    }
+    world.feed(h, bytes)
+}
+
+// The end of a handle is marked; where there is no such handle, nothing changes.
+fn end_at(world: &mut World, h: u64) -> Result<(), WorldError>
+    ensures { WorldEnds world.old h world.new result }
+{
+    if h >= world.count() {
+        return Ok(());
+    }
+    world.end(h)
+}
