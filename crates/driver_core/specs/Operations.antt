@@ -11,7 +11,7 @@ use Rattle.driver_core.specs.declared.op.Op.{Op}
 use Rattle.driver_core.specs.declared.op.PollOp.{PollOp}
 use Rattle.driver_core.specs.declared.op.PollOp.TheVariants.{Pending, Ready}
 use Rattle.driver_core.specs.declared.slot.Slot.{Slot}
-use Rattle.driver_core.specs.Slot.{PollsAt, DropsAt, FillsSlot, KeepsNumbers}
+use Rattle.driver_core.specs.Slot.{PollsAt, DropsAt, FillsSlot, KeepsNumbers, shown_in}
 use Rattle.driver_core.specs.Slots.{SlotsStand}
 use Rattle.driver_core.specs.Ops.{Ops}
 
@@ -35,6 +35,10 @@ PollsOp old new op task (Ready done) = PollsAt old.slots.values op.key task new.
 -- What a drop does to the slot at its token's key.
 abbrev pub DropsOp : {B : Type 0} → Ops B → Ops B → Op → AfterDrop → Type 0
 DropsOp old new op answer = DropsAt old.slots.values op.key new.slots.values answer
+
+-- The bytes that operations offer to a ring, by data word: those that the request in the slot of that key shows.
+abbrev pub offered : {B : Type 0} → (B → Buffer) → Ops B → ℕ → List ℕ
+offered buffer ops word = shown_in buffer (map.get ops.slots.values word)
 
 -- Bytes that came for a data word are stored in the slot of that key, and no number, token or count changes.
 pub record StoresAt {B : Type 0} (buffer : B → Buffer) (old : Ops B) (word : ℕ) (bytes : List ℕ) (new : Ops B) : Type 0 where

@@ -1,9 +1,9 @@
 //! The operations of a driver: each in a slot, with its number and its token.
 ghost use Rattle.std.specs.Prelude.{◌≡◌, ◌≤◌, ◌<◌, ◌^◌, ◌↔◌, ℕ, IsTrue, OnOk, OnErr, IfNone, false, option_copied};
 ghost use Rattle.std.specs.FinMap as map;
-ghost use Rattle.driver_core.specs.Slot.{flies_in, shown_in, CompletesSlot, KeepsNumbers};
+ghost use Rattle.driver_core.specs.Slot.{flies_in, CompletesSlot, KeepsNumbers};
 ghost use Rattle.driver_core.specs.Op.{Holds, HoldsNone, KeepsTokens, DropsToken, AddsToken, PollsTokens};
-ghost use Rattle.driver_core.specs.Operations.{Submits, PollsOp, DropsOp, StoresAt};
+ghost use Rattle.driver_core.specs.Operations.{Submits, PollsOp, DropsOp, offered, StoresAt};
 
 use crate::op::{Op, PollOp};
 use crate::slot::{Slot, complete_slot, drop_at, is_numbered, poll_at, store_in};
@@ -149,7 +149,7 @@ impl<B: Drop> Operations<B> {
 }
 
 impl<B: IoBufMut + Drop> Payloads for Operations<B> {
-    ghost offered = { λ ops word. shown_in B.buffer (map.get ops.slots.values word) };
+    ghost offered = { offered B.buffer };
 
     ghost stores = { StoresAt B.buffer };
 

@@ -68,9 +68,10 @@ reserved view n = record view { spare = view.spare + n }
 abbrev pub with_done : RingView → List Completion → RingView
 with_done view done = record view { done = done }
 
--- What no call makes less: the counts; and the capacity stays.
+-- What no call makes less: the counts, and how many handles there are; and the capacity stays.
 pub record IsLater (old new : RingView) : Type 0 where
   pub same_capacity : new.capacity ≡ old.capacity
+  pub more_handles : length old.world ≤ length new.world
   pub more_faults : old.faults ≤ new.faults
   pub more_busies : old.busies ≤ new.busies
 

@@ -16,7 +16,7 @@ use Rattle.uring_driver.specs.Pending.{Pending}
 use Rattle.uring_driver.specs.Uring.{ring_in, due_in, pending, room_in, whole_ring}
 use Rattle.uring_driver.specs.Op.{Holds, number_of, cancel_for}
 use Rattle.ring_core.specs.Entry.{cancel_entry}
-use Rattle.uring_driver.specs.Submissions.{with_spare, room_made, pending_ring, JoinsCancel, PendingMoves}
+use Rattle.uring_driver.specs.Submissions.{with_spare, room_made, pending_ring, Posts, PendingMoves}
 use Rattle.driver_core.specs.Slot.{with_life, number_at, serial_of, is_flying, DropsAt}
 use Rattle.op_slots.specs.declared.lifecycle.Lifecycle.{Lifecycle}
 use Rattle.op_slots.specs.declared.lifecycle.Lifecycle.TheVariants.{Submitted, Waiting, Ignored, Completed}
@@ -34,7 +34,7 @@ use Rattle.driver_core.proofs.Tokens.{held-slot}
 use Rattle.uring_driver.proofs.Dropping.{left-ignored, has-room, stands-leaves, stands-frees, stands-asks}
 
 -- A cancel joined what is pending.
-pub cancel-moves : {R : Type 0} (view : R → RingView) (tells steady : Bool) (old new : Pending R) (op : Op) (key number : ℕ) → key ≡ op.key → number ≡ op.number → 0 < old.room → JoinsCancel view tells steady old new (cancel_entry key number) → IsTrue tells →
+pub cancel-moves : {R : Type 0} (view : R → RingView) (tells steady : Bool) (old new : Pending R) (op : Op) (key number : ℕ) → key ≡ op.key → number ≡ op.number → 0 < old.room → Posts view tells steady old new (cancel_entry key number) → IsTrue tells →
     PendingMoves (pending_ring view old).queue (pending_ring view new).queue (cancel_for op ∷ [])
 cancel-moves view tells steady old new op key number k n some joins t =
     let j = joins.told some t in
@@ -43,7 +43,7 @@ cancel-moves view tells steady old new op key number k n some joins t =
 
 -- A cancel joined what is pending, over the room that was made for it.
 pub cancel-joins : {R : Type 0} (view : R → RingView) (tells steady : Bool) (old mid new : Pending R) (op : Op) (key number live : ℕ) → key ≡ op.key → number ≡ op.number →
-    view mid.ring ≡ with_spare (view old.ring) (view mid.ring).spare → mid.due ≡ old.due → live + 1 ≤ mid.room → JoinsCancel view tells steady mid new (cancel_entry key number) → IsTrue tells →
+    view mid.ring ≡ with_spare (view old.ring) (view mid.ring).spare → mid.due ≡ old.due → live + 1 ≤ mid.room → Posts view tells steady mid new (cancel_entry key number) → IsTrue tells →
     PendingMoves (pending_ring view old).queue (pending_ring view new).queue (cancel_for op ∷ [])
 cancel-joins view tells steady old mid new op key number live k n ring due room joins t =
     let j = joins.told (omega (arith, room)) t in
@@ -95,7 +95,7 @@ module _ {R B : Type 0} (d : IoUringDriver R B) (op : Op) (slots : FinMap nat_cm
   module _ (view : R → RingView) (buffer : B → Buffer) (new : IoUringDriver R B) (L : Ledger) (old : Stands view buffer d L)
       (given : new.given ≡ d.given) (first : new.first ≡ d.first) (held : new.held ≡ d.held) where
     -- What isn't reaped is left, and its cancel joins what is pending.
-    pub drop-leaves : (tells steady : Bool) (key number : ℕ) → key ≡ op.key → number ≡ op.number → DropsAt d.slots.values op.key slots Left → new.slots.values ≡ slots → JoinsCancel view tells steady d.ring new.ring (cancel_entry key number) → IsTrue steady →
+    pub drop-leaves : (tells steady : Bool) (key number : ℕ) → key ≡ op.key → number ≡ op.number → DropsAt d.slots.values op.key slots Left → new.slots.values ≡ slots → Posts view tells steady d.ring new.ring (cancel_entry key number) → IsTrue steady →
         Answers view buffer L (Drop (number_of op)) Dropped new
     drop-leaves tells steady key number k n drops put joins s =
         let t = has.slot in
@@ -131,7 +131,7 @@ module _ {R B : Type 0} (view : R → RingView) (buffer : B → Buffer) (d mid n
   mine' : Owner mid.slots.values key op.number
   mine' = there' mid same
 
-  pub cancel-asks : (tells steady : Bool) → len d.slots.values + 1 ≤ room_in mid → JoinsCancel view tells steady mid.ring new.ring (cancel_entry key number) → IsTrue steady → Answers view buffer L (Asks (number_of op)) Asked new
+  pub cancel-asks : (tells steady : Bool) → len d.slots.values + 1 ≤ room_in mid → Posts view tells steady mid.ring new.ring (cancel_entry key number) → IsTrue steady → Answers view buffer L (Asks (number_of op)) Asked new
   unfolding mine'
   cancel-asks tells steady room joins s =
       let some : 0 < room_in mid = omega (arith, room) in

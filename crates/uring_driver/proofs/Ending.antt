@@ -1,10 +1,12 @@
 -- A whole turn from its begin and its end.
 use Rattle.std.proofs.Common.{◌≡◌, ◌≤◌, ℕ, Bool, true, false, [], ◌++◌, length, Option, Some, None, refl, sym, ◌∙◌, ap, subst, arith}
 use Rattle.std.specs.Prelude.{IsTrue}
+use Rattle.std.specs.Ordering.{nat_cmp}
+use Rattle.std.specs.FinMap.{FinMap}
 use Rattle.std.proofs.lemmas.List.{length-map}
 use Rattle.rent_buf.specs.Buffer.{Buffer}
 use Rattle.ring_core.specs.Counts.{Rose}
-use Rattle.ring_core.specs.Ring.{RingView, with_done}
+use Rattle.ring_core.specs.Ring.{RingView, IsLater, with_done}
 use Rattle.ring_core.specs.Ledger.{Ledger}
 use Rattle.ring_core.specs.Queue.{take_all}
 use Rattle.driver_core.specs.declared.op.Turned.{Turned}
@@ -12,6 +14,7 @@ use Rattle.uring_driver.specs.declared.uring.IoUringDriver.{IoUringDriver}
 use Rattle.uring_driver.specs.declared.turn.Begun.{Begun}
 use Rattle.uring_driver.specs.Uring.{ring_in, due_in, pending, whole_ring}
 use Rattle.uring_driver.specs.Submissions.{Enters, KeepsPending}
+use Rattle.driver_core.specs.declared.slot.Slot.{Slot}
 use Rattle.driver_core.specs.Slot.{KeepsNumbers}
 use Rattle.uring_driver.specs.Stands.{Means, Stands}
 use Rattle.uring_driver.specs.declared.turn.Named.{Named}
@@ -29,6 +32,11 @@ use Rattle.uring_driver.proofs.Turns.{TreatsAll, treats-all, stands-turns}
 -- A count that rose and doesn't fall has risen.
 rose-later : (a b c : ℕ) → Rose a b → b ≤ c → Rose a c
 rose-later a b c rose more = omega (arith, rose, more)
+
+-- The reaps of a turn make nothing less.
+pub ends-later : {B : Type 0} (old new : RingView) (slots : FinMap nat_cmp (Slot B)) (bad : Option ℕ) → EndsAt old new slots bad → IsLater old new
+ends-later old new slots None ends = ends.later
+ends-later old new slots (Some word) ends = ends.1.later
 
 -- Nobody was named before.
 pub named-none : {B : Type 0} (named : Named) (all : Treated B) → named.reaped.items ≡ [] → named.woken.items ≡ [] → treated_behind named all ≡ all

@@ -11,7 +11,7 @@ use Rattle.ring_core.specs.declared.ring.EnterError.{EnterError}
 use Rattle.ring_core.specs.declared.ring.EnterError.TheVariants.{Fault, Busy}
 use Rattle.ring_core.specs.Ring.{RingView, IsLater, TookFront, EntersFor, IsPushed, entered, pushed, with_done, flying_after_entry, flying_after, done_after_entry, done_after}
 use Rattle.uring_driver.specs.Pending.{Pending}
-use Rattle.uring_driver.specs.Submissions.{with_spare, with_due, room_made, pending_ring, TakesFront, Enters, KeptOut, JoinsCancel, PendingMoves, KeepsPending}
+use Rattle.uring_driver.specs.Submissions.{with_spare, with_due, room_made, pending_ring, TakesFront, Enters, KeptOut, Posts, PendingMoves, KeepsPending}
 
 -- What is taken in two parts is taken in one.
 flying-joined : (flying : List Flight) (xs ys : List Entry) → flying_after flying (xs ++ ys) ≡ flying_after (flying_after flying xs) ys
@@ -85,15 +85,18 @@ took-entered v = record {
 pub rose-on : (a b c : ℕ) → a ≤ b → Rose b c → Rose a c
 rose-on a b c h r = omega (arith, h, r)
 
+-- What no call makes less, over two calls.
 pub later-on : (a b c : RingView) → IsLater a b → IsLater b c → IsLater a c
 later-on a b c f g = record {
   same_capacity = g.same_capacity ∙ f.same_capacity;
+  more_handles = (let x = f.more_handles in let y = g.more_handles in omega (arith, x, y));
   more_faults = (let x = f.more_faults in let y = g.more_faults in omega (arith, x, y));
   more_busies = (let x = f.more_busies in let y = g.more_busies in omega (arith, x, y));
 }
 
+-- Another number of pushes makes nothing less.
 pub later-same : (v : RingView) (spare : ℕ) → IsLater v (with_spare v spare)
-later-same v spare = record { same_capacity = refl; more_faults = omega arith; more_busies = omega arith }
+later-same v spare = record { same_capacity = refl; more_handles = omega arith; more_faults = omega arith; more_busies = omega arith }
 
 pub kept-on : (steady : Bool) (a b c : RingView) (why : EnterError) → IsLater a b → KeptOut steady b c why → KeptOut steady a c why
 kept-on steady a b c Fault l k = (rose-on a.faults b.faults c.faults l.more_faults k.0, k.1)
@@ -227,7 +230,7 @@ module _ {R : Type 0} (view : R → RingView) (tells : Bool) where
 
     pub joins : (result : Result Unit EnterError) → OnOk result (mid.due ≡ []) → OnOk result (length (view mid.ring).queue < (view mid.ring).capacity) →
         OnOk result (IsTrue tells → Fits old → pending_ring view mid ≡ with_spare (room_made (pending_ring view old)) (view mid.ring).spare) → IfErr result (KeptOut steady (view old.ring) (view mid.ring)) →
-        new.room + 1 ≡ mid.room → 0 < old.room → JoinsCancel view tells steady old new entry
+        new.room + 1 ≡ mid.room → 0 < old.room → Posts view tells steady old new entry
     joins result none room pend kept less some = record {
       later = later-on (view old.ring) (view mid.ring) (view new.ring) enters.later later;
       room = λ h. less ∙ enters.same_room;
@@ -258,7 +261,7 @@ none-pending queue due q d = ap (λ x. x ++ due) q ∙ d
 
 -- What is due is counted behind the queue.
 pub later-behind : (v w : RingView) (due due' : List Entry) → IsLater v w → IsLater (with_due v due) (with_due w due')
-later-behind v w due due' l = record { same_capacity = l.same_capacity; more_faults = l.more_faults; more_busies = l.more_busies }
+later-behind v w due due' l = record { same_capacity = l.same_capacity; more_handles = l.more_handles; more_faults = l.more_faults; more_busies = l.more_busies }
 
 pub fits-split : (queue due : List Entry) (capacity : ℕ) → length (queue ++ due) ≤ capacity → length queue + length due ≤ capacity
 fits-split queue due capacity h = (let l = length-append queue due in omega (arith, l, h))

@@ -27,7 +27,7 @@ use Rattle.ring_core.proofs.Amended.{length-amended}
 use Rattle.driver_core.specs.declared.slot.Slot.{Slot}
 use Rattle.driver_core.specs.Ops.{Ops}
 use Rattle.driver_core.specs.Slot.{shown_in}
-use Rattle.driver_core.specs.Operations.{StoresAt}
+use Rattle.driver_core.specs.Operations.{offered, StoresAt}
 use Rattle.uring_driver.specs.declared.uring.IoUringDriver.{IoUringDriver}
 use Rattle.uring_driver.specs.Uring.{ring_in, due_in, room_in, whole_ring, is_among}
 use Rattle.uring_driver.specs.Op.{ops_in}
@@ -38,12 +38,8 @@ use Rattle.uring_driver.specs.Stands.{Means, Stands, Answers}
 use Rattle.driver_core.proofs.Lists.{get-map}
 use Rattle.uring_driver.proofs.Steps.{reached-more, step-exec, unrefused-exec, cause-flying, cause-outcome}
 use Rattle.driver_core.proofs.Counts.{where-same}
-use Rattle.uring_driver.proofs.Flights.{o, s, slot-there, which, flies, allows-is, effect-sends, length-effect}
+use Rattle.uring_driver.proofs.Flights.{o, s, slot-there, which, flies, allows-is, effect-sends, length-effect, length-body-effect}
 use Rattle.uring_driver.proofs.Executing.{means-executed, executed-numbers}
-
--- The bytes that the operations of a driver offer to a ring, by data word.
-abbrev pub offered : {B : Type 0} → (B → Buffer) → Ops B → ℕ → List ℕ
-offered buffer ops word = shown_in buffer (get ops.slots.values word)
 
 -- What is in flight is the ledger's.
 flying-at : {B : Type 0} (buffer : B → Buffer) (v : RingView) (slots : FinMap nat_cmp (Slot B)) (L : Ledger) (place : ℕ) (flight : Flight) → Means buffer v slots L → slice_get v.flying place ≡ Some flight → slice_get L.flying place ≡ Some (Op flight.entry.serial)
@@ -66,6 +62,17 @@ pub refused-keeps : {P : Type 0} (offers : P → ℕ → List ℕ) (stores : P �
 refused-keeps offers stores takes old new place told before after NotFlying refused = refused.2
 refused-keeps offers stores takes old new place told before after BadOutcome refused = refused.2
 refused-keeps offers stores takes old new place told before after OutOfMemory refused = refused.2
+
+-- It leaves the ring too.
+pub refused-ring : {P : Type 0} (offers : P → ℕ → List ℕ) (stores : P → ℕ → List ℕ → P → Type 0) (takes : ℕ → Bool) (old new : RingView) (place : ℕ) (told : Told) (before after : P) (why : ExecRefusal) →
+    ExecutesFor offers stores takes old place told new before after (Err why) → new ≡ old
+refused-ring offers stores takes old new place told before after NotFlying refused = refused.1
+refused-ring offers stores takes old new place told before after BadOutcome refused = refused.1
+refused-ring offers stores takes old new place told before after OutOfMemory refused = refused.1
+
+-- An execution leaves as many handles.
+pub finished-handles : (v w : RingView) (place : ℕ) (told : Told) (sent got : List ℕ) (c : Completion) → IsFinished v place told sent w got c → length w.world ≡ length v.world
+finished-handles v w place told sent got c fin = ap (λ x. length x.world) fin.ring ∙ length-body-effect v.world fin.flight.entry.body sent told
 
 module _ {B : Type 0} (buffer : B → Buffer) (d : IoUringDriver RingView B) (L : Ledger) (place : ℕ) (told : Told) (old : Stands (λ r. r) buffer d L) where
   -- A driver that executed stands for the next ledger.

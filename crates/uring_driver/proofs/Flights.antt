@@ -11,6 +11,8 @@ use Rattle.ring_core.specs.Effect.{effect, without_front}
 use Rattle.ring_core.specs.World.{with_output}
 use Rattle.ring_core.specs.Request.{call_of, sent_of, shown_by, plain_request, IsHolding}
 use Rattle.ring_core.specs.declared.world.HandleState.{HandleState}
+use Rattle.ring_core.specs.declared.entry.Body.{Body}
+use Rattle.ring_core.specs.declared.entry.Body.TheVariants.{Call as Calls, Cancel as Cancels}
 use Rattle.ring_core.specs.declared.entry.Flight.{Flight}
 use Rattle.ring_core.specs.declared.request.Call.{Call}
 use Rattle.ring_core.specs.declared.request.Call.TheVariants.{In, Out}
@@ -32,6 +34,11 @@ length-effect world (In h want) sent (Count k) = length-amended (without_front k
 length-effect world (In h want) sent (Fail e) = refl
 length-effect world (Out h offered) sent (Count k) = length-amended (with_output (take k sent)) world h
 length-effect world (Out h offered) sent (Fail e) = refl
+
+-- So does an executed entry.
+pub length-body-effect : (world : List HandleState) (body : Body) (sent : List ℕ) (told : Told) → length (body_effect world body sent told).world ≡ length world
+length-body-effect world (Calls call) sent told = length-effect world call sent told
+length-body-effect world (Cancels key) sent told = refl
 
 -- What stands in flight at a place, in a ring and slots that mean a ledger.
 module _ {B : Type 0} (buffer : B → Buffer) (v : RingView) (slots : FinMap nat_cmp (Slot B)) (L : Ledger) (place : ℕ) (flight : Flight) (old : Means buffer v slots L) (there : slice_get v.flying place ≡ Some flight) where

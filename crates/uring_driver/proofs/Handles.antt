@@ -5,6 +5,7 @@ use Rattle.std.proofs.lemmas.Bool.Decides.{nat_tests}
 use Rattle.ring_core.specs.Ledger.{Ledger, user_holds}
 use Rattle.ring_core.specs.Refusal.{lacks_handle}
 use Rattle.uring_driver.specs.declared.uring.IoUringDriver.{IoUringDriver}
+use Rattle.uring_driver.specs.State.{AreInWorld}
 use Rattle.uring_driver.specs.Uring.{is_among, first_with, holds_handle, holds_all}
 
 -- No handle was given.
@@ -40,7 +41,8 @@ and-right false b h = (let f : ⊥ = cc in absurd f)
 from-zero : (count k : ℕ) → is_among 0 count k ≡ nat_lt k count
 from-zero count k = grind (arith, nat_tests)
 
-none-of : (first k : ℕ) → is_among first 0 k ≡ true → ⊥
+-- None is among none.
+pub none-of : (first k : ℕ) → is_among first 0 k ≡ true → ⊥
 none-of first k h = (let l = lt-of (k - first) 0 (and-right (nat_le first k) (nat_lt (k - first) 0) h) in absurd (omega (arith, l)))
 
 -- As many as there are, all from 0 on.
@@ -95,3 +97,34 @@ pub lacks-none : {R B : Type 0} (d : IoUringDriver R B) (L : Ledger) (handles : 
 lacks-none d L [] all h = refl
 lacks-none d L (x ∷ xs) all h =
     ap (λ b. not b || lacks_handle L xs) (sym (all x) ∙ and-left (holds_handle d x) (holds_all d xs) h) ∙ lacks-none d L xs all (and-right (holds_handle d x) (holds_all d xs) h)
+
+-- A handle that is among some is below the number behind the last.
+among-below : (first count h : ℕ) → is_among first count h ≡ true → h < first + count
+among-below first count h is =
+    let a = le-of first h (and-left (nat_le first h) (nat_lt (h - first) count) is) in
+    let b = lt-of (h - first) count (and-right (nat_le first h) (nat_lt (h - first) count) is) in
+    omega (arith, a, b)
+
+-- The last of some is among them.
+last-among : (first m : ℕ) → is_among first (suc m) (first + m) ≡ true
+last-among first m =
+    and-true (nat_le first (first + m)) (nat_lt (first + m - first) (suc m)) (le-is first (first + m) (omega arith)) (lt-is (first + m - first) (suc m) (omega arith))
+
+-- No handle is held: each is one of the ring's.
+pub in-world-none : (count : ℕ) → AreInWorld 0 0 count
+in-world-none count h is = absurd (none-of 0 h is)
+
+-- The ring's handles become no fewer.
+pub in-world-more : (first held count count' : ℕ) → count ≤ count' → AreInWorld first held count → AreInWorld first held count'
+in-world-more first held count count' more all h is = (let a = all h is in omega (arith, a, more))
+
+pub in-world-same : (first held count count' : ℕ) → count' ≡ count → AreInWorld first held count → AreInWorld first held count'
+in-world-same first held count count' same all h is = (let a = all h is in omega (arith, a, same))
+
+-- The next handle of the ring is held too.
+pub in-world-next : (first held count : ℕ) → AreInWorld first held count → AreInWorld (first_with first held count) (held + 1) (count + 1)
+in-world-next first zero count all h is = among-below count 1 h is
+in-world-next first (suc m) count all h is =
+    let a = all (first + m) (last-among first m) in
+    let b = among-below first (suc m + 1) h (ap (λ b. is_among (if b then count else first) (suc m + 1) h) (sym (not-zero m)) ∙ is) in
+    omega (arith, a, b)

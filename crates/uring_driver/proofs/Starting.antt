@@ -8,7 +8,7 @@ use Rattle.ring_core.specs.Ring.{RingView}
 use Rattle.ring_core.specs.MemRing.{fresh_ring}
 use Rattle.ring_core.specs.Lends.{with_world}
 use Rattle.ring_core.specs.Lists.{amended, numbers_where}
-use Rattle.ring_core.specs.World.{fresh, with_input, with_end, is_ended_at, output_at}
+use Rattle.ring_core.specs.World.{fresh, with_input, with_end, is_ended_at, output_at, WorldFeeds, WorldEnds}
 use Rattle.ring_core.specs.declared.world.HandleKind.{HandleKind}
 use Rattle.ring_core.specs.declared.world.HandleState.{HandleState}
 use Rattle.ring_core.specs.declared.world.Look.{Look}
@@ -27,7 +27,7 @@ use Rattle.driver_core.specs.declared.slot.Slot.{Slot}
 use Rattle.uring_driver.specs.declared.uring.IoUringDriver.{IoUringDriver}
 use Rattle.uring_driver.specs.Uring.{ring_in, due_in, room_in, pending, whole_ring, is_among, first_with, holds_handle}
 use Rattle.uring_driver.specs.Submissions.{IsIdle, with_spare, with_due, pending_ring}
-use Rattle.uring_driver.specs.Handles.{RefusedAt, RefusedFor, LooksFor}
+use Rattle.uring_driver.specs.Handles.{RefusedFor, LooksFor}
 use Rattle.uring_driver.specs.Stands.{Means, Stands, Answers}
 use Rattle.uring_driver.proofs.Handles.{none-among, one-more}
 use Rattle.uring_driver.proofs.Steps.{reached-more, step-give, step-feed, step-end, step-look, cause-feed, cause-end}
@@ -162,13 +162,18 @@ module _ {B : Type 0} (buffer : B → Buffer) (d new : IoUringDriver RingView B)
 
 module _ {B : Type 0} (buffer : B → Buffer) (d : IoUringDriver RingView B) (L : Ledger) (old : Stands (λ r. r) buffer d L) (h : ℕ) (user : IsTrue (holds_handle d h)) where
   -- What didn't arrive has its cause.
-  pub refuses-feed : (bytes : List ℕ) (why : WorldError) → RefusedAt (ring_in d).world h why → RefusedFor L (Feed h bytes) why
-  refuses-feed bytes BadHandleEvent at = cause-feed L h bytes true (sym (old.handles h) ∙ user) (ap (λ w. is_ended_at w h) (sym old.means.world) ∙ at)
-  refuses-feed bytes OutOfMemory at = cause-feed L h bytes false (sym (old.handles h) ∙ user) (ap (λ w. is_ended_at w h) (sym old.means.world) ∙ at)
+  pub refuses-feed : (bytes : List ℕ) (world : List HandleState) (why : WorldError) → WorldFeeds bytes (ring_in d).world h world (Err why) →
+      RefusedFor L (Feed h bytes) why
+  refuses-feed bytes world BadHandleEvent at =
+      cause-feed L h bytes true (sym (old.handles h) ∙ user) (ap (λ w. is_ended_at w h) (sym old.means.world) ∙ at.0)
+  refuses-feed bytes world OutOfMemory at =
+      cause-feed L h bytes false (sym (old.handles h) ∙ user) (ap (λ w. is_ended_at w h) (sym old.means.world) ∙ at.0)
 
-  pub refuses-end : (why : WorldError) → RefusedAt (ring_in d).world h why → RefusedFor L (End h) why
-  refuses-end BadHandleEvent at = cause-end L h true (sym (old.handles h) ∙ user) (ap (λ w. is_ended_at w h) (sym old.means.world) ∙ at)
-  refuses-end OutOfMemory at = cause-end L h false (sym (old.handles h) ∙ user) (ap (λ w. is_ended_at w h) (sym old.means.world) ∙ at)
+  -- An end that wasn't marked has its cause.
+  pub refuses-end : (world : List HandleState) (why : WorldError) → WorldEnds (ring_in d).world h world (Err why) → RefusedFor L (End h) why
+  refuses-end world BadHandleEvent at =
+      cause-end L h true (sym (old.handles h) ∙ user) (ap (λ w. is_ended_at w h) (sym old.means.world) ∙ at.0)
+  refuses-end world OutOfMemory at = absurd at
 
   -- A look shows what the machine replies.
   pub looks : (look : Look) → look ≡ Bytes (output_at (ring_in d).world h) → LooksFor L h look

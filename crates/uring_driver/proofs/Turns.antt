@@ -26,6 +26,7 @@ use Rattle.uring_driver.specs.Lists.{done_item_of, kept, is_reserved}
 use Rattle.uring_driver.proofs.Reaping.{Names, means-reserved, names-first, first-done, means-first, ended}
 use Rattle.driver_core.proofs.Lists.{same-or-not, amended-absent, amended-like}
 use Rattle.driver_core.proofs.Counts.{where-all}
+use Rattle.uring_driver.proofs.Entering.{later-on}
 use Rattle.uring_driver.proofs.Taking.{owned-taken}
 use Rattle.uring_driver.proofs.Steps.{step-turn, reached-more}
 
@@ -145,11 +146,7 @@ pub took-on : (m n : ℕ) (a b c : RingView) → TookOff m a b → TookOff n b c
 took-on m n a b c f g = record {
   same_queue = g.same_queue ∙ f.same_queue;
   fewer = (let x = f.fewer in let y = g.fewer in omega (arith, x, y));
-  later = record {
-    same_capacity = g.later.same_capacity ∙ f.later.same_capacity;
-    more_faults = (let x = f.later.more_faults in let y = g.later.more_faults in omega (arith, x, y));
-    more_busies = (let x = f.later.more_busies in let y = g.later.more_busies in omega (arith, x, y));
-  };
+  later = later-on a b c f.later g.later;
 }
 
 -- Taking and reaping keep how many operations there are, and the handles.

@@ -1,5 +1,5 @@
--- What an execution answers.
-use Rattle.std.specs.Prelude.{ℕ, ◌≡◌, Some, None, Result, Ok, Err}
+-- What an execution answers, of a driver that stands for a ledger, and of every driver.
+use Rattle.std.specs.Prelude.{ℕ, ◌≡◌, ◌≤◌, false, length, Some, None, Result, Ok, Err}
 use Rattle.rent_buf.specs.Buffer.{Buffer}
 use Rattle.ring_core.specs.declared.request.Told.{Told}
 use Rattle.ring_core.specs.declared.ledger.Event.TheVariants.{Exec}
@@ -12,7 +12,12 @@ use Rattle.ring_core.specs.Ledger.{Ledger}
 use Rattle.ring_core.specs.Ring.{RingView}
 use Rattle.driver_core.specs.declared.op.Executed.{Executed}
 use Rattle.driver_core.specs.declared.op.Executed.TheVariants.{Op}
+use Rattle.ring_core.specs.declared.entry.Completion.{Completion}
+use Rattle.ring_core.specs.MemRing.{IsExecuted, IsForbidden, MayRunOut}
+use Rattle.driver_core.specs.Operations.{offered, StoresAt}
 use Rattle.uring_driver.specs.declared.uring.IoUringDriver.{IoUringDriver}
+use Rattle.uring_driver.specs.Uring.{ring_in}
+use Rattle.uring_driver.specs.Op.{ops_in}
 use Rattle.uring_driver.specs.Stands.{Answers}
 
 -- Why an execution was refused: by the machine's cause, or memory ran out and the machine names none.
@@ -25,3 +30,20 @@ RefusedFor L place told OutOfMemory = cause L (Exec place told) ≡ None
 abbrev pub ExecutesFor : {B : Type 0} → (B → Buffer) → Ledger → ℕ → Told → IoUringDriver RingView B → Result Executed ExecRefusal → Type 0
 ExecutesFor buffer L place told new (Ok (Op number)) = Answers (λ r. r) buffer L (Exec place told) (ExecutedOp number) new
 ExecutesFor buffer L place told new (Err why) = RefusedFor L place told why
+
+-- What is in flight at a place was executed by the ring over the driver's operations, and became the completion of this number.
+pub record IsExecutedOver {B : Type 0} (buffer : B → Buffer) (old : IoUringDriver RingView B) (place : ℕ) (told : Told) (new : IoUringDriver RingView B) (number : ℕ) : Type 0 where
+  pub completion : Completion
+  pub numbered : completion.serial ≡ number
+  pub executed : IsExecuted (offered buffer) (StoresAt buffer) (ring_in old) place told (ring_in new) (ops_in old) (ops_in new) completion
+
+-- Why nothing was executed: there is nothing at the place, the outcome isn't allowed to it, or bytes are sent and memory ran out.
+abbrev pub NotExecuted : RingView → ℕ → Told → ExecRefusal → Type 0
+NotExecuted ring place told NotFlying = length ring.flying ≤ place
+NotExecuted ring place told BadOutcome = IsForbidden ring place told
+NotExecuted ring place told OutOfMemory = MayRunOut (λ count. false) ring place told
+
+-- What an execution does over every driver.
+abbrev pub ExecutesOver : {B : Type 0} → (B → Buffer) → IoUringDriver RingView B → ℕ → Told → IoUringDriver RingView B → Result Executed ExecRefusal → Type 0
+ExecutesOver buffer old place told new (Ok (Op number)) = IsExecutedOver buffer old place told new number
+ExecutesOver buffer old place told new (Err why) = NotExecuted (ring_in old) place told why

@@ -18,11 +18,6 @@ use Rattle.ring_core.specs.Ring.{RingView}
 use Rattle.uring_driver.specs.declared.uring.IoUringDriver.{IoUringDriver}
 use Rattle.uring_driver.specs.Stands.{Answers}
 
--- Why nothing arrived at a handle: its end is marked; or it isn't, and memory ran out.
-abbrev pub RefusedAt : List HandleState → ℕ → WorldError → Type 0
-RefusedAt world h BadHandleEvent = is_ended_at world h ≡ true
-RefusedAt world h OutOfMemory = is_ended_at world h ≡ false
-
 -- Why a call on a handle was refused: by the machine's cause. For want of memory there is none.
 abbrev pub RefusedFor : Ledger → Event → WorldError → Type 0
 RefusedFor L event BadHandleEvent = cause L event ≡ Some HasEnded

@@ -23,15 +23,19 @@ pub record Means {B : Type 0} (buffer : B → Buffer) (view : RingView) (slots :
   pub in_slots : SlotsStand buffer slots L.ops
   pub in_lists : ListsStand buffer slots view L
 
+-- For how many entries memory is owed to calls that take none: a cancel of each operation that its user may drop.
+abbrev pub owed : Ledger → ℕ
+owed L = length (numbers_where is_owned 0 L.ops)
+
 -- A driver stands for a ledger that some events led to, from the empty one of its ring's capacity. `view` reads its ring, and
 -- `buffer` its buffers. Its ring's queue, followed by what is due, is the ledger's queue, and fits the ring's. The next operation
--- has the next number, and the user holds the ledger's handles. For each operation that its user may drop room is reserved.
+-- has the next number, and the user holds the ledger's handles. There is room for what is owed.
 pub record Stands {R B : Type 0} (view : R → RingView) (buffer : B → Buffer) (driver : IoUringDriver R B) (L : Ledger) : Type 0 where
   pub events : List Event
   pub reached : L ≡ ledger (view (ring_in driver)).capacity events
   pub numbered : given_by driver ≡ length L.ops
   pub handles : (h : ℕ) → holds_handle driver h ≡ user_holds L h
-  pub room : length (numbers_where is_owned 0 L.ops) ≤ room_in driver
+  pub room : owed L ≤ room_in driver
   pub fits : length (pending view driver) ≤ (view (ring_in driver)).capacity
   pub means : Means buffer (whole_ring view driver) driver.slots.values L
 

@@ -1,5 +1,5 @@
 -- A driver as contracts see it, and what holds of each. Cited by `IoUringDriver`, and by the definitions of its slots and room.
-use Rattle.std.specs.Prelude.{ℕ, ◌≡◌, ◌≤◌, Some, IsSome, refl}
+use Rattle.std.specs.Prelude.{ℕ, ◌≡◌, ◌≤◌, ◌<◌, nat_lt, nat_le, ◌-◌, ◌&&◌, Bool, true, Some, IsSome, refl}
 use Rattle.std.specs.Ordering.{nat_cmp}
 use Rattle.std.specs.FinMap as map
 use Rattle.std.specs.Coded.{Coded, code_by, coded×, coded_ℕ}
@@ -26,3 +26,11 @@ pub record IsSound {B : Type 0} (room : ℕ) (slots : map.FinMap nat_cmp (Slot B
   pub owned : map.FinMap nat_cmp (Slot B)
   pub few : map.len owned ≤ room
   pub all : (key number : ℕ) → number_at slots key ≡ Some number → IsSome (map.get owned key)
+
+-- A handle is one of so many from the first on.
+abbrev pub is_among : ℕ → ℕ → ℕ → Bool
+is_among first count h = nat_le first h && nat_lt (h - first) count
+
+-- What holds of every driver: each handle that its user holds is one of the ring's, of which there are so many.
+abbrev pub AreInWorld : ℕ → ℕ → ℕ → Type 0
+AreInWorld first held count = (h : ℕ) → is_among first held h ≡ true → h < count

@@ -4,8 +4,6 @@ use Rattle.ring_core.specs.Counts.{Rose}
 use Rattle.ring_core.specs.declared.entry.Entry.{Entry}
 use Rattle.ring_core.specs.declared.ring.EnterError.{EnterError}
 use Rattle.ring_core.specs.declared.ring.EnterError.TheVariants.{Fault, Busy}
-use Rattle.ring_core.specs.declared.world.HandleState.{HandleState}
-use Rattle.ring_core.specs.Lists.{amended}
 use Rattle.ring_core.specs.Lends.{with_world}
 use Rattle.ring_core.specs.Ring.{RingView, IsLater, TookFront, entered, pushed, with_done}
 use Rattle.uring_driver.specs.Pending.{Pending}
@@ -36,9 +34,9 @@ with_due view due = record view { queue = view.queue ++ due }
 abbrev pub pending_ring : {R : Type 0} → (R → RingView) → Pending R → RingView
 pending_ring view out = with_due (view out.ring) out.due
 
--- A submission queue over a ring in memory with what stands on a handle changed.
-abbrev pub with_change : Pending RingView → ℕ → (HandleState → HandleState) → Pending RingView
-with_change out h change = record out { ring = with_world out.ring (amended out.ring.world h change) }
+-- A submission queue over a ring in memory whose handles alone may have changed.
+abbrev pub IsSameButWorld : Pending RingView → Pending RingView → Type 0
+IsSameButWorld old new = new ≡ record old { ring = with_world old.ring new.ring.world }
 
 -- A prefix of what is pending was taken, of some length.
 pub record TakesFront (old new : RingView) : Type 0 where
@@ -61,8 +59,8 @@ abbrev pub KeptOut : Bool → RingView → RingView → EnterError → Type 0
 KeptOut steady old new Fault = Rose old.faults new.faults × (IsTrue steady → ⊥)
 KeptOut steady old new Busy = Rose old.busies new.busies × (IsTrue steady → ⊥)
 
--- A cancel joined what is pending, after a prefix of it was taken.
-pub record JoinsCancel {R : Type 0} (view : R → RingView) (tells steady : Bool) (old new : Pending R) (entry : Entry) : Type 0 where
+-- An entry joined what is pending, after a prefix of it was taken. It needed room that was reserved before.
+pub record Posts {R : Type 0} (view : R → RingView) (tells steady : Bool) (old new : Pending R) (entry : Entry) : Type 0 where
   pub later : IsLater (view old.ring) (view new.ring)
   pub room : 0 < old.room → new.room + 1 ≡ old.room
   pub told : 0 < old.room → IsTrue tells → (mid : RingView) × TakesFront (pending_ring view old) mid × (pending_ring view new ≡ with_spare (pushed mid entry) (view new.ring).spare)

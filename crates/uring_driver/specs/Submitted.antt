@@ -47,6 +47,11 @@ abbrev pub IsFullError : {B : Type 0} → Result Submitted (SubmitError B) → T
 IsFullError (Ok submitted) = ⊥
 IsFullError (Err refused) = refused.why ≡ Full
 
+-- The operations of a driver are as before; its ring and its handles may have changed.
+pub record SameOps {R B : Type 0} (old new : IoUringDriver R B) : Type 0 where
+  pub slots : new.slots ≡ old.slots
+  pub given : new.given ≡ old.given
+
 -- The slots and the counts of a driver are as before; its ring may have changed.
 pub record SameSlots {R B : Type 0} (old new : IoUringDriver R B) : Type 0 where
   pub slots : new.slots.values ≡ old.slots.values

@@ -1,9 +1,10 @@
 -- What the readers of a driver show. Cited by `IoUringDriver` and by whoever holds one.
-use Rattle.std.specs.Prelude.{ℕ, ◌≡◌, ◌+◌, ◌-◌, ◌⊎◌, ◌==◌, if◌then◌else◌, Bool, true, ◌&&◌, nat_lt, nat_le, List, [], ◌∷◌, ◌++◌}
+use Rattle.std.specs.Prelude.{ℕ, ◌≡◌, ◌+◌, ◌⊎◌, ◌==◌, if◌then◌else◌, Bool, true, ◌&&◌, List, [], ◌∷◌, ◌++◌}
 use Rattle.std.specs.FinMap as map
 use Rattle.ring_core.specs.declared.entry.Entry.{Entry}
 use Rattle.ring_core.specs.Ring.{RingView}
 use Rattle.uring_driver.specs.declared.uring.IoUringDriver.{IoUringDriver}
+pub use Rattle.uring_driver.specs.State.{is_among}
 use Rattle.uring_driver.specs.Submissions.{pending_ring}
 
 -- The driver's ring.
@@ -37,10 +38,6 @@ given_by driver = driver.given
 -- How many handles were given.
 abbrev pub handles_of : {R B : Type 0} → IoUringDriver R B → ℕ
 handles_of driver = driver.held
-
--- A handle is one of so many from the first on.
-abbrev pub is_among : ℕ → ℕ → ℕ → Bool
-is_among first count h = nat_le first h && nat_lt (h - first) count
 
 -- The first handle, once h was given after so many others.
 abbrev pub first_with : ℕ → ℕ → ℕ → ℕ

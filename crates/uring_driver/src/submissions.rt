@@ -1,24 +1,22 @@
 //! The ring as the driver uses it: with room that is reserved in it, and with the entries that it kept out behind it.
 ghost use Rattle.std.specs.Prelude.{◌≡◌, ◌≤◌, ◌<◌, ◌+◌, ◌^◌, ◌++◌, List, [], ◌∷◌, ℕ, length, nat_lt, true, false, Some, None, IsTrue, IsOk, IfSome, IfNone, IfOk, IfErr, OnOk, OnErr};
 ghost use Rattle.ring_core.specs.Ring.{IsLater, NextFor, entered, pushed};
-ghost use Rattle.ring_core.specs.World.{fresh, is_ended_at, output_at, with_input, with_end, WorldFeeds, WorldEnds};
+ghost use Rattle.ring_core.specs.World.{fresh, output_at, WorldFeeds, WorldEnds};
 ghost use Rattle.ring_core.specs.Lends.{with_world};
-ghost use Rattle.ring_core.specs.Entry.{cancel_entry};
 ghost use Rattle.ring_core.specs.MemRing.{ExecutesFor};
-ghost use Rattle.uring_driver.specs.Submissions.{with_spare, room_made, pending_ring, with_change, Enters, MustEnter, KeptOut, JoinsCancel};
-ghost use Rattle.uring_driver.specs.Handles.{RefusedAt};
+ghost use Rattle.uring_driver.specs.Submissions.{with_spare, room_made, pending_ring, IsSameButWorld, Enters, MustEnter, KeptOut, Posts};
 
-use rent_buf::{ByteList, OutOfMemory};
+use rent_buf::OutOfMemory;
 use ring_core::{
     Completion, EnterError, Entry, ExecRefusal, HandleKind, Look, MemRing, Payloads, Push, Ring,
-    Told, World, WorldError,
+    Told, WorldError,
 };
 use std::alloc::Global;
 use std::collections::VecDeque;
 use std::marker::Model;
 
 /// A ring, the entries that a failed or busy enter kept out of it, and for how many more entries memory is reserved. What is
-/// due goes in first, so that nothing passes it. (own)
+/// due goes in first, so that nothing passes it. (not in monoio)
 #[derive(Drop)]
 pub struct Submissions<R: Ring> {
     ring: R,
@@ -183,15 +181,15 @@ impl<R: Ring> Submissions<R> {
         }
     }
 
-    /// A cancel of an operation, by its number and the key of its slot, joins the end of what is pending. It takes no memory,
-    /// so it needs room that was reserved before.
-    pub fn cancel(&mut self, number: u64, key: usize)
+    /// Makes way for an entry, and lets it join the end of what is pending, also where the ring failed or is busy. It takes no
+    /// memory: its room was reserved before.
+    pub fn post(&mut self, entry: Entry)
         requires { 0 < self.old.room }
-        ensures joins { JoinsCancel R.view R.tells R.steady self.old self.new (cancel_entry key number) }
+        ensures posts { Posts R.view R.tells R.steady self.old self.new entry }
         ensures none { IsTrue R.steady → self.old.due ≡ [] → self.new.due ≡ [] }
     {
         let _ = self.make_way();
-        self.join(Entry::cancel(key, number));
+        self.join(entry);
     }
 
     /// What is due goes in, in order, and the ring takes its queue.
@@ -224,42 +222,30 @@ impl Submissions<MemRing> {
         self.ring.world().give(kind)
     }
 
-    /// Bytes join the input of a handle of the ring's world; where there is no such handle, nothing changes.
+    /// Bytes join the input of a handle of the ring's world.
     pub fn feed(&mut self, h: u64, bytes: &[u8]) -> Result<(), WorldError>
-        ensures live { OnOk result (is_ended_at self.old.ring.world h ≡ false) }
-        ensures ok { OnOk result (self.new ≡ with_change self.old h (with_input bytes.now)) }
-        ensures why { IfErr result (λ why. RefusedAt self.old.ring.world h why) }
-        ensures err { OnErr result (self.new ≡ self.old) }
+        requires { h < length self.old.ring.world }
+        ensures feeds { WorldFeeds bytes.now self.old.ring.world h self.new.ring.world result }
+        ensures rest { IsSameButWorld self.old self.new }
     {
-        match feed_at(self.ring.world(), h, bytes) {
-            Ok(()) => Ok(()),
-            Err(why) => Err(why),
-        }
+        self.ring.world().feed(h, bytes)
     }
 
-    /// Marks the end of a handle of the ring's world; where there is no such handle, nothing changes. It takes no memory.
+    /// Marks the end of a handle of the ring's world. It takes no memory.
     pub fn end(&mut self, h: u64) -> Result<(), WorldError>
-        ensures live { OnOk result (is_ended_at self.old.ring.world h ≡ false) }
-        ensures ok { OnOk result (self.new ≡ with_change self.old h with_end) }
-        ensures why { IfErr result (λ why. RefusedAt self.old.ring.world h why) }
-        ensures memory { IfErr result (λ why. why ≡ WorldError.BadHandleEvent) }
-        ensures err { OnErr result (self.new ≡ self.old) }
+        requires { h < length self.old.ring.world }
+        ensures ends { WorldEnds self.old.ring.world h self.new.ring.world result }
+        ensures rest { IsSameButWorld self.old self.new }
     {
-        match end_at(self.ring.world(), h) {
-            Ok(()) => Ok(()),
-            Err(why) => Err(why),
-        }
+        self.ring.world().end(h)
     }
 
-    /// What was sent to a handle of the ring's world, copied once; where there is no such handle, that is nothing.
-    pub fn look(&self, alloc: Global, h: u64) -> Result<Look, OutOfMemory>
+    /// What was sent to a handle of the ring's world, copied once.
+    pub fn look(&self, h: u64) -> Result<Look, OutOfMemory>
+        requires { h < length self.now.ring.world }
         ensures { IfOk result (λ look. look ≡ Look.Bytes (output_at self.now.ring.world h)) }
     {
-        let world = self.ring.handles();
-        if h >= world.count() {
-            return Ok(Look::Bytes(ByteList::new(alloc)));
-        }
-        world.look(h)
+        self.ring.handles().look(h)
     }
 
     /// Executes what is in flight at a place with the reported outcome, over what holds its bytes.
@@ -292,24 +278,4 @@ fn flush<R: Ring>(out: &mut Submissions<R>) -> Result<(), EnterError>
         out.push_first()?;
     }
     Ok(())
-}
-
-// Bytes join the input of a handle; where there is no such handle, nothing changes.
-fn feed_at(world: &mut World, h: u64, bytes: &[u8]) -> Result<(), WorldError>
-    ensures { WorldFeeds bytes.now world.old h world.new result }
-{
-    if h >= world.count() {
-        return Ok(());
-    }
-    world.feed(h, bytes)
-}
-
-// The end of a handle is marked; where there is no such handle, nothing changes.
-fn end_at(world: &mut World, h: u64) -> Result<(), WorldError>
-    ensures { WorldEnds world.old h world.new result }
-{
-    if h >= world.count() {
-        return Ok(());
-    }
-    world.end(h)
 }

@@ -1,18 +1,21 @@
 //! The completion driver.
-ghost use Rattle.std.specs.Prelude.{◌≡◌, ◌≤◌, ◌<◌, ◌+◌, ◌^◌, ◌↔◌, ◌||◌, ◌==◌, nat_lt, ℕ, [], ◌∷◌, true, Some, IsTrue, IfOk, IfErr, OnOk, OnErr, length};
+ghost use Rattle.std.specs.Prelude.{◌≡◌, ◌≤◌, ◌<◌, ◌+◌, ◌^◌, ◌++◌, ◌↔◌, ◌||◌, ◌==◌, nat_lt, ℕ, [], ◌∷◌, true, Some, IsTrue, IfOk, IfErr, OnOk, OnErr, length};
+ghost use Rattle.std.specs.FinMap as map;
 ghost use Rattle.ring_core.specs.Request.{named};
+ghost use Rattle.ring_core.specs.Ring.{IsLater};
+ghost use Rattle.ring_core.specs.World.{fresh, output_at, WorldFeeds, WorldEnds};
 ghost use Rattle.ring_core.specs.Ledger.{Ledger, empty};
 ghost use Rattle.ring_core.specs.declared.ledger.Event.TheVariants.{Give, Drop, Cancel};
 ghost use Rattle.ring_core.specs.declared.ledger.Reply.TheVariants.{Handle, Dropped, Asked};
 ghost use Rattle.uring_driver.specs.Op.{number_of, cancel_for, Holds, HoldsNone, KeepsTokens, DropsToken};
-ghost use Rattle.uring_driver.specs.Submissions.{IsIdle, TakesFront, PendingMoves, with_spare, room_made, pending_ring};
+ghost use Rattle.uring_driver.specs.Submissions.{IsIdle, IsSameButWorld, TakesFront, PendingMoves, with_spare, room_made, pending_ring};
 ghost use Rattle.uring_driver.specs.Uring.{ring_in, due_in, pending, live_slots, given_by, handles_of, holds_handle, holds_all, first_with, IsNextHandle};
 ghost use Rattle.uring_driver.specs.Stands.{Stands, Answers};
 ghost use Rattle.uring_driver.specs.Dropped.{DropsOp};
-ghost use Rattle.uring_driver.specs.Submitted.{SameSlots, SubmitsFor, SubmitMoves, AddsToken, IsFullError, IsSameRing, SubmitRefused, IsPrepared, Unprepared};
+ghost use Rattle.uring_driver.specs.Submitted.{SameSlots, SameOps, SubmitsFor, SubmitMoves, AddsToken, IsFullError, IsSameRing, SubmitRefused, IsPrepared, Unprepared};
 ghost use Rattle.uring_driver.specs.PollOp.{PollsFor, PollsOp, PollsTokens, IsPending, IsUnreaped};
 ghost use Rattle.uring_driver.specs.Handles.{FeedsFor, EndsFor, LooksFor};
-ghost use Rattle.uring_driver.specs.Executed.{ExecutesFor};
+ghost use Rattle.uring_driver.specs.Executed.{ExecutesFor, ExecutesOver};
 ghost use Rattle.uring_driver.specs.Begun.{HasBegun, CannotBegin, EndsTurn, HasTreated};
 ghost use Rattle.uring_driver.specs.Reap.{HasRoom};
 
@@ -35,7 +38,7 @@ use std::marker::Model;
 const ENTRIES: u32 = 1024;
 
 /// A driver over a ring. Each operation has a slot from its submission to its last poll, or to the reap of one that was dropped.
-/// The slot holds its request with its buffer or its parts, and the slot's key is the data word of its entry. (monoio's
+/// The slot holds its request with its buffer or its parts, and the slot's key is the data word of its entry. (monoio:
 /// `IoUringDriver`)
 #[derive(Drop)]
 pub struct IoUringDriver<R: Ring, B: IoBufMut> {
@@ -48,8 +51,9 @@ pub struct IoUringDriver<R: Ring, B: IoBufMut> {
 }
 
 impl<R: Ring, B: IoBufMut> Model for IoUringDriver<R, B> {
-    ghost use Rattle.uring_driver.specs.State.{State, state_code, IsSound};
+    ghost use Rattle.std.specs.Prelude.{length};
     ghost use Rattle.std.specs.Coded.{codes};
+    ghost use Rattle.uring_driver.specs.State.{State, state_code, IsSound, AreInWorld};
 
     ghost Value = { State R B };
 
@@ -57,11 +61,11 @@ impl<R: Ring, B: IoBufMut> Model for IoUringDriver<R, B> {
 
     ghost view = { λ d. record { ring = d.ring; slots = d.ops.slots; given = d.ops.given; first = d.first; held = d.held } };
 
-    ghost invariant = { λ d. IsSound d.ring.room d.ops.slots.values };
+    ghost invariant = { λ d. IsSound d.ring.room d.ops.slots.values × AreInWorld d.first d.held (length (R.view d.ring.ring).world) };
 }
 
 impl<R: Ring, B: IoBufMut + Drop> IoUringDriver<R, B> {
-    /// A driver over a ring with nothing queued, in flight or standing. Where memory runs out the ring comes back. (own)
+    /// A driver over a ring with nothing queued, in flight or standing. Where memory runs out the ring comes back. (not in monoio)
     pub fn over(alloc: Global, ring: R) -> Result<Self, (OutOfMemory, R)>
         requires { IsIdle (R.view ring) }
         ensures stands { IfOk result (λ driver. (R.view ring).world ≡ [] → Stands R.view B.buffer driver (empty (R.view ring).capacity)) }
@@ -79,7 +83,7 @@ impl<R: Ring, B: IoBufMut + Drop> IoUringDriver<R, B> {
         })
     }
 
-    /// The ring. (own)
+    /// The ring. (not in monoio)
     pub fn ring(&self) -> &R
         ensures { result.now ≡ ring_in self.now }
     {
@@ -87,35 +91,35 @@ impl<R: Ring, B: IoBufMut + Drop> IoUringDriver<R, B> {
     }
 
     /// How many operations are in flight or wait for their poll, those with them that were dropped and aren't reaped.
-    /// (monoio's `num_operations`)
+    /// (monoio: `num_operations`)
     pub fn num_operations(&self) -> usize
         ensures { result ≡ live_slots self.now }
     {
         self.ops.len()
     }
 
-    /// How many operations were given, which is the number of the next one. (own)
+    /// How many operations were given, which is the number of the next one. (not in monoio)
     pub fn given(&self) -> u64
         ensures { result ≡ given_by self.now }
     {
         self.ops.given()
     }
 
-    /// How many handles were given. (own)
+    /// How many handles were given. (not in monoio)
     pub fn handles(&self) -> u64
         ensures { result ≡ handles_of self.now }
     {
         self.held
     }
 
-    /// The user holds a handle: this driver gave it. (own)
+    /// The user holds a handle: this driver gave it. (not in monoio)
     pub fn user_holds(&self, h: u64) -> bool
         ensures { result ≡ holds_handle self.now h }
     {
         h >= self.first && h - self.first < self.held
     }
 
-    /// The token is that of an operation of this driver that is neither handed back nor dropped. (own)
+    /// The token is that of an operation of this driver that is neither handed back nor dropped. (not in monoio)
     pub fn holds(&self, op: &Op) -> bool
         ensures { IsTrue result ↔ Holds self.now op.now }
     {
@@ -124,7 +128,7 @@ impl<R: Ring, B: IoBufMut + Drop> IoUringDriver<R, B> {
 
     /// Submits a request of handles that the user holds, and gives the new operation's token. What is due goes in first, and a
     /// queue at capacity is entered. The memory that it needs, and that of one cancel, is taken before anything changes. Fewer
-    /// than `2^62` were given before. (monoio's `submit_with_data`)
+    /// than `2^62` were given before. (monoio: `submit_with_data`)
     pub fn submit_with(&mut self, request: Request<B, VecBuf>) -> Result<Submitted, SubmitError<B>>
         requires held { IsTrue (holds_all self.old (named request)) }
         requires counter { given_by self.old < 2 ^ 62 }
@@ -153,7 +157,7 @@ impl<R: Ring, B: IoBufMut + Drop> IoUringDriver<R, B> {
         Ok(Submitted::Op(op))
     }
 
-    /// Polls an operation of this driver for a task. It takes no memory. (monoio's `poll_op`)
+    /// Polls an operation of this driver for a task. It takes no memory. (monoio: `poll_op`)
     ///
     /// It is `Pending` exactly while the operation isn't reaped, and then the operation's completion wakes this task.
     pub fn poll_op(&mut self, op: Op, task: u64) -> PollOp<B>
@@ -170,7 +174,7 @@ impl<R: Ring, B: IoBufMut + Drop> IoUringDriver<R, B> {
         self.ops.poll(op, task)
     }
 
-    /// Gives an operation of this driver up. It takes no memory. (monoio's `drop_op`)
+    /// Gives an operation of this driver up. It takes no memory. (monoio: `drop_op`)
     ///
     /// One that isn't reaped keeps its slot, with its buffer, until its reap, which names it; its cancel joins what is pending.
     pub fn drop_op(&mut self, op: Op)
@@ -187,11 +191,11 @@ impl<R: Ring, B: IoBufMut + Drop> IoUringDriver<R, B> {
         let key = op.key();
         match self.ops.drop_op(op) {
             AfterDrop::Free => {}
-            AfterDrop::Left => self.ring.cancel(number, key),
+            AfterDrop::Left => self.ring.post(Entry::cancel(key, number)),
         }
     }
 
-    /// Asks for the cancel of an operation of this driver: it joins what is pending. (monoio's `cancel_op`)
+    /// Asks for the cancel of an operation of this driver: it joins what is pending. (monoio: `cancel_op`)
     pub fn cancel_op(&mut self, op: &Op) -> Result<(), OutOfMemory>
         requires { Holds self.old op.now }
         ensures answers { OnOk result (IsTrue R.steady → (L : Ledger) → Stands R.view B.buffer self.old L →
@@ -205,8 +209,8 @@ impl<R: Ring, B: IoBufMut + Drop> IoUringDriver<R, B> {
         ensures err { OnErr result ((L : Ledger) → Stands R.view B.buffer self.old L → Stands R.view B.buffer self.new L) }
         ensures memory { OnErr result (IsSameRing R.view self.old self.new) }
     {
-        self.ring.make_spare(self.ops.len() + 1)?;
-        self.ring.cancel(op.number(), op.key());
+        self.ring.make_spare(owed(&self.ops) + 1)?;
+        self.ring.post(Entry::cancel(op.key(), op.number()));
         Ok(())
     }
 
@@ -269,7 +273,7 @@ impl<R: Ring, B: IoBufMut + Drop> IoUringDriver<R, B> {
 }
 
 impl<B: IoBufMut + Drop> IoUringDriver<MemRing, B> {
-    /// A driver over a ring in memory whose queue holds 1024 entries. (monoio's `new`)
+    /// A driver over a ring in memory whose queue holds 1024 entries. (monoio: `new`)
     pub fn new(alloc: Global) -> Result<Self, OutOfMemory>
         ensures stands { IfOk result (λ driver. Stands (λ r. r) B.buffer driver (empty 1024)) }
         ensures tokens { IfOk result (λ driver. HoldsNone driver) }
@@ -278,7 +282,7 @@ impl<B: IoBufMut + Drop> IoUringDriver<MemRing, B> {
         IoUringDriver::new_with_entries(alloc, ENTRIES)
     }
 
-    /// A driver over a ring in memory whose queue holds `entries` entries, at least one. (monoio's `new_with_entries`)
+    /// A driver over a ring in memory whose queue holds `entries` entries, at least one. (monoio: `new_with_entries`)
     pub fn new_with_entries(alloc: Global, entries: u32) -> Result<Self, OutOfMemory>
         requires { 1 ≤ entries }
         ensures stands { IfOk result (λ driver. Stands (λ r. r) B.buffer driver (empty entries)) }
@@ -291,7 +295,7 @@ impl<B: IoBufMut + Drop> IoUringDriver<MemRing, B> {
         }
     }
 
-    /// A new handle of the user: fewer than `2^62` were given before. (own)
+    /// A new handle of the user: fewer than `2^62` were given before. (not in monoio)
     pub fn give(&mut self, kind: HandleKind) -> Result<SharedFd, OutOfMemory>
         requires { handles_of self.old < 2 ^ 62 }
         ensures answers { IfOk result (λ fd. (L : Ledger) → Stands (λ r. r) B.buffer self.old L →
@@ -299,6 +303,10 @@ impl<B: IoBufMut + Drop> IoUringDriver<MemRing, B> {
         // Over a ring with handles of its own the new one is the user's too, beside those that were given.
         ensures held { IfOk result (λ fd. IsNextHandle self.old fd →
             (h : ℕ) → holds_handle self.new h ≡ (holds_handle self.old h || h == fd)) }
+        // The ring has one handle more, which is the one that is answered.
+        ensures number { IfOk result (λ fd. fd ≡ length (ring_in self.old).world) }
+        ensures world { OnOk result ((ring_in self.new).world ≡ (ring_in self.old).world ++ fresh kind ∷ []) }
+        ensures rest { IsSameButWorld self.old.ring self.new.ring × SameOps self.old self.new }
         ensures err { OnErr result (self.new ≡ self.old) }
         ensures tokens { KeepsTokens self.old self.new }
         ensures pending { pending (λ r. r) self.new ≡ pending (λ r. r) self.old }
@@ -312,10 +320,13 @@ impl<B: IoBufMut + Drop> IoUringDriver<MemRing, B> {
     }
 
     /// Bytes arrive at a handle that the user holds: they join its input's end. `BadHandleEvent` comes exactly where its end is
-    /// marked. (own)
+    /// marked. (not in monoio)
     pub fn feed(&mut self, h: u64, bytes: &[u8]) -> Result<(), WorldError>
         requires { IsTrue (holds_handle self.old h) }
         ensures answers { (L : Ledger) → Stands (λ r. r) B.buffer self.old L → FeedsFor B.buffer L h bytes.now self.new result }
+        // Over every driver: the handle changes as the ring's world says, and nothing else.
+        ensures feeds { WorldFeeds bytes.now (ring_in self.old).world h (ring_in self.new).world result }
+        ensures rest { IsSameButWorld self.old.ring self.new.ring × SameSlots self.old self.new }
         ensures err { OnErr result (self.new ≡ self.old) }
         ensures tokens { KeepsTokens self.old self.new }
         ensures pending { pending (λ r. r) self.new ≡ pending (λ r. r) self.old }
@@ -330,10 +341,13 @@ impl<B: IoBufMut + Drop> IoUringDriver<MemRing, B> {
     }
 
     /// The end of what arrives at a handle that the user holds. `BadHandleEvent` comes exactly where it is marked already. It
-    /// takes no memory, so `OutOfMemory` doesn't come. (own)
+    /// takes no memory, so `OutOfMemory` doesn't come. (not in monoio)
     pub fn end(&mut self, h: u64) -> Result<(), WorldError>
         requires { IsTrue (holds_handle self.old h) }
         ensures answers { (L : Ledger) → Stands (λ r. r) B.buffer self.old L → EndsFor B.buffer L h self.new result }
+        // Over every driver: the handle changes as the ring's world says, and nothing else.
+        ensures ends { WorldEnds (ring_in self.old).world h (ring_in self.new).world result }
+        ensures rest { IsSameButWorld self.old.ring self.new.ring × SameSlots self.old self.new }
         ensures memory { IfErr result (λ why. why ≡ WorldError.BadHandleEvent) }
         ensures err { OnErr result (self.new ≡ self.old) }
         ensures tokens { KeepsTokens self.old self.new }
@@ -348,19 +362,23 @@ impl<B: IoBufMut + Drop> IoUringDriver<MemRing, B> {
         Ok(())
     }
 
-    /// What was sent to a handle that the user holds, copied once. (own)
+    /// What was sent to a handle that the user holds, copied once. (not in monoio)
     pub fn look(&self, h: u64) -> Result<Look, OutOfMemory>
         requires { IsTrue (holds_handle self.now h) }
-        ensures { IfOk result (λ look. (L : Ledger) → Stands (λ r. r) B.buffer self.now L → LooksFor L h look) }
+        ensures answers { IfOk result (λ look. (L : Ledger) → Stands (λ r. r) B.buffer self.now L → LooksFor L h look) }
+        ensures looks { IfOk result (λ look. look ≡ Look.Bytes (output_at (ring_in self.now).world h)) }
     {
-        self.ring.look(self.alloc, h)
+        self.ring.look(h)
     }
 
     /// Executes what is in flight at a place with what is told: it becomes the last completion. The bytes that come go from
     /// the handle's input into the operation's buffer, and those that are sent are copied from the buffer to the handle's
-    /// output; an error leaves the buffer as it was submitted. Only a send takes memory. (own)
+    /// output; an error leaves the buffer as it was submitted. Only a send takes memory. (not in monoio)
     pub fn execute(&mut self, place: usize, told: Told) -> Result<Executed, ExecRefusal>
         ensures answers { (L : Ledger) → Stands (λ r. r) B.buffer self.old L → ExecutesFor B.buffer L place told self.new result }
+        // Over every driver: what its ring does with its operations, and nothing else.
+        ensures executes { ExecutesOver B.buffer self.old place told self.new result }
+        ensures first { (self.new.first ≡ self.old.first) × (self.new.held ≡ self.old.held) }
         ensures err { OnErr result (self.new ≡ self.old) }
         ensures tokens { KeepsTokens self.old self.new }
         ensures pending { pending (λ r. r) self.new ≡ pending (λ r. r) self.old }
@@ -382,7 +400,15 @@ fn first_of(first: u64, held: u64, h: u64) -> u64
     if held == 0 { h } else { first }
 }
 
-// Takes the memory of a submission, and of one cancel for each slot, and makes way for its entry. No slot changes.
+// For how many entries memory is kept, so that calls that take none can push them: a cancel of each operation.
+fn owed<B: Drop>(ops: &Operations<B>) -> usize
+    ensures count { result ≡ map.len ops.now.slots.values }
+    ensures bound { result ≤ 4294967232 }
+{
+    ops.len()
+}
+
+// Takes the memory of a submission beside what is owed, and makes way for its entry. No slot changes.
 fn prepare<R: Ring, B: Drop>(
     ring: &mut Submissions<R>,
     ops: &mut Operations<B>,
@@ -390,17 +416,18 @@ fn prepare<R: Ring, B: Drop>(
     ensures slots { ops.new.slots.values ≡ ops.old.slots.values }
     ensures given { ops.new.given ≡ ops.old.given }
     ensures more { ring.old.room ≤ ring.new.room }
+    ensures later { IsLater (R.view ring.old.ring) (R.view ring.new.ring) }
     ensures ok { OnOk result (IsPrepared (R.view ring.new.ring) ring.new.due ring.new.room ops.new.slots) }
     ensures told { OnOk result (IsTrue R.tells → length (R.view ring.old.ring).queue + length ring.old.due ≤ (R.view ring.old.ring).capacity →
         pending_ring R.view ring.new ≡ with_spare (room_made (pending_ring R.view ring.old)) (R.view ring.new.ring).spare) }
     ensures takes { IsTrue R.tells → TakesFront (pending_ring R.view ring.old) (pending_ring R.view ring.new) }
     ensures err { IfErr result (Unprepared R.view R.steady ring.old ring.new ops.old.slots ops.new.slots) }
 {
-    let live = ops.len();
-    if live >= MAX_LIVE {
+    if ops.len() >= MAX_LIVE {
         return Err(SubmitFault::Full);
     }
-    if ops.reserve_one().is_err() || ring.make_spare(live + 2).is_err() {
+    // Beside what is owed: its own entry, and the cancel that it will owe.
+    if ops.reserve_one().is_err() || ring.make_spare(owed(ops) + 2).is_err() {
         return Err(SubmitFault::OutOfMemory);
     }
     match ring.make_way() {

@@ -5,8 +5,8 @@ use Rattle.uring_driver.specs.State.{State}
 use Rattle.std.proofs.Common.{IsTrue, sym, subst}
 use Rattle.uring_driver.specs.Uring.{holds_handle}
 
-pub returns : goal.returns
-returns g c =
+pub returns-clause-answers : goal.returns-clause-answers
+returns-clause-answers g c =
     let d : State RingView g.row.B.Denot = record { ring = c.self.inside.ring; slots = c.self.inside.ops.slots; given = c.self.inside.ops.given; first = c.self.inside.first; held = c.self.inside.held } in
     let holds = subst (λ x. IsTrue (holds_handle x c.args.h)) (sym c.self.view_is) c.requires in
     rw (← c.self.view_is) (

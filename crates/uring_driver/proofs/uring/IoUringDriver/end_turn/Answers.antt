@@ -1,5 +1,6 @@
 use Rattle.std.proofs.Common.{arith, refl, ◌∙◌}
-use Rattle.uring_driver.proofs.Ending.{whole}
+use Rattle.uring_driver.proofs.Ending.{whole, ends-later}
+use Rattle.uring_driver.proofs.Handles.{in-world-more}
 use Rattle.uring_driver.proofs.uring.IoUringDriver.end_turn.Goals as goal
 use Rattle.uring_driver.specs.State.{State}
 use Rattle.uring_driver.proofs.Sound.{sound-keeps}
@@ -16,4 +17,5 @@ returns-clause-meets g c =
 pub invariant_of-self : goal.invariant_of-self
 invariant_of-self g c =
     let room = c.reap_all-bad.ensures.same.room in
-    sound-keeps c.self.inside.ring.room c.reap_all-bad.new.ring.room c.self.inside.ops.slots.values c.reap_all-bad.new.ops.slots.values c.self.invariant (omega (arith, room)) c.reap_all-bad.ensures.numbers
+    (sound-keeps c.self.inside.ring.room c.reap_all-bad.new.ring.room c.self.inside.ops.slots.values c.reap_all-bad.new.ops.slots.values c.self.invariant.0 (omega (arith, room)) c.reap_all-bad.ensures.numbers,
+    in-world-more c.self.inside.first c.self.inside.held _ _ (ends-later _ _ _ _ c.reap_all-bad.ensures.ring).more_handles c.self.invariant.1)

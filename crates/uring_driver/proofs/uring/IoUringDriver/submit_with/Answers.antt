@@ -8,7 +8,8 @@ use Rattle.driver_core.specs.Operations.{new_slot}
 use Rattle.uring_driver.specs.State.{State}
 use Rattle.uring_driver.specs.Submissions.{PendingMoves, with_spare, pending_ring}
 use Rattle.uring_driver.specs.Uring.{holds_all}
-use Rattle.uring_driver.proofs.Entering.{moves-front, moves-join, fits-split}
+use Rattle.uring_driver.proofs.Entering.{moves-front, moves-join, fits-split, later-on}
+use Rattle.uring_driver.proofs.Handles.{in-world-more}
 use Rattle.uring_driver.proofs.Sound.{sound-more, sound-keeps}
 use Rattle.uring_driver.proofs.Submits.{stands-submits, why-refused, same-room, entry-is, adds-over, put-over}
 use Rattle.uring_driver.proofs.uring.IoUringDriver.submit_with.Goals as goal
@@ -74,7 +75,9 @@ returns-clause-pending g c =
     (moves-join (pending_ring view d.ring) (pending_ring view c.prepare.new.ring) (pending_ring view c.join.new.self) c.call-entry.result (view c.join.new.self.ring).spare (c.in-Ok.ensures.takes tells) (c.join.ensures.told tells))))
 
 pub invariant_of-self : goal.invariant_of-self
-invariant_of-self g c = sound-keeps c.self.inside.ring.room c.prepare.new.ring.room c.self.inside.ops.slots.values c.prepare.new.ops.slots.values c.self.invariant c.in-Err.ensures.more (λ key. ap (λ m. number_at m key) c.in-Err.ensures.slots)
+invariant_of-self g c =
+    (sound-keeps c.self.inside.ring.room c.prepare.new.ring.room c.self.inside.ops.slots.values c.prepare.new.ops.slots.values c.self.invariant.0 c.in-Err.ensures.more (λ key. ap (λ m. number_at m key) c.in-Err.ensures.slots),
+    in-world-more c.self.inside.first c.self.inside.held _ _ c.in-Err.ensures.later.more_handles c.self.invariant.1)
 
 pub invariant_of-self-2 : goal.invariant_of-self-2
 invariant_of-self-2 g c =
@@ -82,4 +85,6 @@ invariant_of-self-2 g c =
     let room = c.join.ensures.room in
     let spare = c.in-Ok.ensures.ok.spare in
     let count = ap map.len c.in-Ok.ensures.slots in
-    sound-more c.join.new.self.room c.self.inside.ops.slots.values c.submit-op.new.self.slots.values c.submit-op.result.key (new_slot c.self.inside.ops c.args.request) puts.free puts.slots (omega (arith, room, spare, count))
+    let more = (later-on _ _ _ c.in-Ok.ensures.later c.join.ensures.later).more_handles in
+    (sound-more c.join.new.self.room c.self.inside.ops.slots.values c.submit-op.new.self.slots.values c.submit-op.result.key (new_slot c.self.inside.ops c.args.request) puts.free puts.slots (omega (arith, room, spare, count)),
+    in-world-more c.self.inside.first c.self.inside.held _ _ more c.self.invariant.1)
