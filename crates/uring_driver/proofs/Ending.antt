@@ -1,6 +1,6 @@
 -- A whole turn from its begin and its end.
 use Rattle.std.proofs.Common.{◌≡◌, ◌≤◌, ℕ, Bool, true, false, [], ◌++◌, length, Option, Some, None, refl, sym, ◌∙◌, ap, subst, arith}
-use Rattle.std.specs.Prelude.{IsTrue}
+use Rattle.std.specs.Prelude.{IsTrue, IfNone}
 use Rattle.std.specs.Ordering.{nat_cmp}
 use Rattle.std.specs.FinMap.{FinMap}
 use Rattle.std.proofs.lemmas.List.{length-map}
@@ -9,15 +9,18 @@ use Rattle.ring_core.specs.Counts.{Rose}
 use Rattle.ring_core.specs.Ring.{RingView, IsLater, with_done}
 use Rattle.ring_core.specs.Ledger.{Ledger}
 use Rattle.ring_core.specs.Queue.{take_all}
+use Rattle.ring_core.specs.Step.{step}
+use Rattle.ring_core.specs.declared.ledger.Event.TheVariants.{Turn}
+use Rattle.driver_core.specs.declared.op.Stop.{Stop}
 use Rattle.driver_core.specs.declared.op.Turned.{Turned}
 use Rattle.uring_driver.specs.declared.uring.IoUringDriver.{IoUringDriver}
-use Rattle.uring_driver.specs.declared.turn.Begun.{Begun}
+use Rattle.uring_driver.specs.declared.uring.turn.Begun.{Begun}
 use Rattle.uring_driver.specs.Uring.{ring_in, due_in, pending, whole_ring}
 use Rattle.uring_driver.specs.Submissions.{Enters, KeepsPending}
 use Rattle.driver_core.specs.declared.slot.Slot.{Slot}
 use Rattle.driver_core.specs.Slot.{KeepsNumbers}
-use Rattle.uring_driver.specs.Stands.{Means, Stands}
-use Rattle.uring_driver.specs.declared.turn.Named.{Named}
+use Rattle.uring_driver.specs.Stands.{Means, Stands, StandsIfTold}
+use Rattle.uring_driver.specs.declared.uring.turn.Named.{Named}
 use Rattle.uring_driver.specs.Reap.{EndsAt, Treated, treat_each, treated_behind, treated_to}
 use Rattle.uring_driver.specs.Lists.{queued_of}
 use Rattle.uring_driver.specs.Submitted.{SameSlots}
@@ -146,3 +149,14 @@ module _ {R B : Type 0} (view : R → RingView) (buffer : B → Buffer) (tells s
         tokens = tokens-kept old.slots.values new.slots.values (subst (λ slots. KeepsNumbers slots new.slots.values) has.same.slots numbers);
         given = given ∙ has.same.given;
       }
+
+-- A turn that doesn't stop leads to the machine's next ledger.
+pub turn_stands : {R B : Type 0} (view : R → RingView) (buffer : B → Buffer) (tells steady : Bool) (old new : IoUringDriver R B) (turned : Turned) →
+    TurnMeets view buffer tells steady old new turned →
+    IfNone turned.stop ((L : Ledger) → StandsIfTold view buffer tells old L → StandsIfTold view buffer tells new (step L Turn).0)
+turn_stands view buffer tells steady old new turned meets = by-stop turned.stop meets.turns
+  where
+  by-stop : (stop : Option Stop) → (IsTrue tells → (L : Ledger) → Stands view buffer old L → TurnsFor view buffer steady L old new turned stop) →
+      IfNone stop ((L : Ledger) → StandsIfTold view buffer tells old L → StandsIfTold view buffer tells new (step L Turn).0)
+  by-stop None turns = λ L s. (s.0, (turns s.0 L s.1).stands)
+  by-stop (Some stop) turns = tt

@@ -25,7 +25,6 @@ use Rattle.ring_core.specs.Turn.{with_result, with_effect, exec_op, complete_at}
 use Rattle.ring_core.specs.Run.{ledger}
 use Rattle.ring_core.proofs.Amended.{length-amended}
 use Rattle.driver_core.specs.declared.slot.Slot.{Slot}
-use Rattle.driver_core.specs.Ops.{Ops}
 use Rattle.driver_core.specs.Slot.{shown_in}
 use Rattle.driver_core.specs.Operations.{offered, StoresAt}
 use Rattle.uring_driver.specs.declared.uring.IoUringDriver.{IoUringDriver}

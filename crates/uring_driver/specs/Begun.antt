@@ -7,7 +7,7 @@ use Rattle.driver_core.specs.declared.op.Stop.{Stop}
 use Rattle.driver_core.specs.declared.op.Stop.TheVariants.{RingFault, Busy, BadCompletion, OutOfMemory}
 use Rattle.driver_core.specs.declared.op.Turned.{Turned}
 use Rattle.uring_driver.specs.declared.uring.IoUringDriver.{IoUringDriver}
-use Rattle.uring_driver.specs.declared.turn.Begun.{Begun}
+use Rattle.uring_driver.specs.declared.uring.turn.Begun.{Begun}
 use Rattle.uring_driver.specs.Uring.{ring_in}
 use Rattle.uring_driver.specs.Reap.{HasRoom}
 use Rattle.uring_driver.specs.Pending.{Pending}

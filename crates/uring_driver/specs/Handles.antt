@@ -1,7 +1,6 @@
 -- What the calls on handles answer. Cited by `feed`, `end` and `look` of the driver, and of its submissions.
-use Rattle.std.specs.Prelude.{ℕ, ◌≡◌, true, false, List, Some, None, Result, Ok, Err}
+use Rattle.std.specs.Prelude.{ℕ, ◌≡◌, List, Some, None, Result, Ok, Err}
 use Rattle.rent_buf.specs.Buffer.{Buffer}
-use Rattle.ring_core.specs.declared.world.HandleState.{HandleState}
 use Rattle.ring_core.specs.declared.world.Look.{Look}
 use Rattle.ring_core.specs.declared.world.Look.TheVariants.{Bytes}
 use Rattle.ring_core.specs.declared.world.WorldError.{WorldError}
@@ -10,7 +9,6 @@ use Rattle.ring_core.specs.declared.ledger.Event.{Event}
 use Rattle.ring_core.specs.declared.ledger.Event.TheVariants.{Feed, End, Look as Looks}
 use Rattle.ring_core.specs.declared.ledger.Reply.TheVariants.{Fed, Ended, Output}
 use Rattle.ring_core.specs.declared.ledger.Refusal.TheVariants.{BadHandleEvent as HasEnded}
-use Rattle.ring_core.specs.World.{is_ended_at}
 use Rattle.ring_core.specs.Refusal.{cause}
 use Rattle.ring_core.specs.Ledger.{Ledger}
 use Rattle.ring_core.specs.Step.{step}

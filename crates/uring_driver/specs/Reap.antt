@@ -5,7 +5,7 @@ use Rattle.std.specs.FinMap as map
 use Rattle.ring_core.specs.declared.entry.Completion.{Completion}
 use Rattle.ring_core.specs.Ring.{RingView, IsLater}
 use Rattle.driver_core.specs.declared.slot.Slot.{Slot}
-use Rattle.uring_driver.specs.declared.turn.Named.{Named}
+use Rattle.uring_driver.specs.declared.uring.turn.Named.{Named}
 use Rattle.driver_core.specs.Slot.{flies_in, named_by, slots_after}
 use Rattle.uring_driver.specs.Lists.{is_reserved}
 

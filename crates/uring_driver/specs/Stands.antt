@@ -1,5 +1,5 @@
 -- When a driver stands for a ledger. Each call of the driver cites it, before and after, and so does whoever holds a driver.
-use Rattle.std.specs.Prelude.{ℕ, ◌≡◌, ◌≤◌, List, length}
+use Rattle.std.specs.Prelude.{ℕ, ◌≡◌, ◌≤◌, Bool, IsTrue, List, length}
 use Rattle.std.specs.Ordering.{nat_cmp}
 use Rattle.std.specs.FinMap as map
 use Rattle.rent_buf.specs.Buffer.{Buffer}
@@ -42,3 +42,7 @@ pub record Stands {R B : Type 0} (view : R → RingView) (buffer : B → Buffer)
 -- A call's answer is the machine's reply to its event, and the driver stands for the machine's next ledger.
 abbrev pub Answers : {R B : Type 0} → (R → RingView) → (B → Buffer) → Ledger → Event → Reply → IoUringDriver R B → Type 0
 Answers view buffer L event reply new = AnswersBy (Stands view buffer) L event reply new
+
+-- A driver stands for a ledger, and its ring shows its lists.
+abbrev pub StandsIfTold : {R B : Type 0} → (R → RingView) → (B → Buffer) → Bool → IoUringDriver R B → Ledger → Type 0
+StandsIfTold view buffer tells driver L = IsTrue tells × Stands view buffer driver L

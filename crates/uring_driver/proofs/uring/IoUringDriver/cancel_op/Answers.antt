@@ -49,6 +49,7 @@ invariant_of-self-2 g c =
 
 pub invariant_of-self : goal.invariant_of-self
 invariant_of-self g c =
-    let more : IsLater (g.R.Ring.view c.self.inside.ring.ring) (g.R.Ring.view c.make_spare.new.self.ring) = subst (λ v. IsLater (g.R.Ring.view c.self.inside.ring.ring) v) (sym c.make_spare.ensures.view) (later-same _ _) in
-    (sound-shrinks c.self.inside.ring.room c.make_spare.new.self.room c.self.inside.ops.slots.values c.self.inside.ops.slots.values c.self.invariant.0 c.make_spare.ensures.more (λ key number h. h),
-    in-world-more c.self.inside.first c.self.inside.held _ _ more.more_handles c.self.invariant.1)
+    let more : IsLater (g.R.Ring.view c.self.inside.ring.ring) (g.R.Ring.view c.make_spare.new.self.ring) = subst (λ v. IsLater (g.R.Ring.view c.self.inside.ring.ring) v) (sym c.make_spare.ensures.view) (later-same _ _) in (
+      sound-shrinks c.self.inside.ring.room c.make_spare.new.self.room c.self.inside.ops.slots.values c.self.inside.ops.slots.values c.self.invariant.0 c.make_spare.ensures.more (λ key number h. h),
+      in-world-more c.self.inside.first c.self.inside.held _ _ more.more_handles c.self.invariant.1,
+    )

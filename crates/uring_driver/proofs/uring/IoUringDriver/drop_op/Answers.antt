@@ -29,9 +29,10 @@ invariant_of-self-in-Left g c =
     let d : State g.row.R.Denot g.row.B.Denot = record { ring = c.self.inside.ring; slots = c.self.inside.ops.slots; given = c.self.inside.ops.given; first = c.self.inside.first; held = c.self.inside.held } in
     let holds : Holds d c.args.op = subst (λ x. Holds x c.args.op) (sym c.self.view_is) c.requires in
     let drops = subst (λ a. DropsAt d.slots.values c.args.op.key c.drop_op.new.self.slots.values a) c.in-Left.is c.drop_op.ensures.drops in
-    let some = sound-room d.ring.room d.slots.values c.args.op.key c.args.op.number c.self.invariant.0 holds in
-    (sound-left d c.args.op c.drop_op.new.self.slots.values holds c.self.invariant.0 drops c.post.new.self.room (c.post.ensures.posts.room some),
-    in-world-more d.first d.held _ _ c.post.ensures.posts.later.more_handles c.self.invariant.1)
+    let some = sound-room d.ring.room d.slots.values c.args.op.key c.args.op.number c.self.invariant.0 holds in (
+      sound-left d c.args.op c.drop_op.new.self.slots.values holds c.self.invariant.0 drops c.post.new.self.room (c.post.ensures.posts.room some),
+      in-world-more d.first d.held _ _ c.post.ensures.posts.later.more_handles c.self.invariant.1,
+    )
 
 pub returns-in-Free-clause-answers : goal.returns-in-Free-clause-answers
 returns-in-Free-clause-answers g c =

@@ -16,6 +16,7 @@ returns-clause-meets g c =
 
 pub invariant_of-self : goal.invariant_of-self
 invariant_of-self g c =
-    let room = c.reap_all-bad.ensures.same.room in
-    (sound-keeps c.self.inside.ring.room c.reap_all-bad.new.ring.room c.self.inside.ops.slots.values c.reap_all-bad.new.ops.slots.values c.self.invariant.0 (omega (arith, room)) c.reap_all-bad.ensures.numbers,
-    in-world-more c.self.inside.first c.self.inside.held _ _ (ends-later _ _ _ _ c.reap_all-bad.ensures.ring).more_handles c.self.invariant.1)
+    let room = c.reap_all-bad.ensures.same.room in (
+      sound-keeps c.self.inside.ring.room c.reap_all-bad.new.ring.room c.self.inside.ops.slots.values c.reap_all-bad.new.ops.slots.values c.self.invariant.0 (omega (arith, room)) c.reap_all-bad.ensures.numbers,
+      in-world-more c.self.inside.first c.self.inside.held _ _ (ends-later _ _ _ _ c.reap_all-bad.ensures.ring).more_handles c.self.invariant.1,
+    )

@@ -75,9 +75,10 @@ returns-clause-pending g c =
     (moves-join (pending_ring view d.ring) (pending_ring view c.prepare.new.ring) (pending_ring view c.join.new.self) c.call-entry.result (view c.join.new.self.ring).spare (c.in-Ok.ensures.takes tells) (c.join.ensures.told tells))))
 
 pub invariant_of-self : goal.invariant_of-self
-invariant_of-self g c =
-    (sound-keeps c.self.inside.ring.room c.prepare.new.ring.room c.self.inside.ops.slots.values c.prepare.new.ops.slots.values c.self.invariant.0 c.in-Err.ensures.more (λ key. ap (λ m. number_at m key) c.in-Err.ensures.slots),
-    in-world-more c.self.inside.first c.self.inside.held _ _ c.in-Err.ensures.later.more_handles c.self.invariant.1)
+invariant_of-self g c = (
+  sound-keeps c.self.inside.ring.room c.prepare.new.ring.room c.self.inside.ops.slots.values c.prepare.new.ops.slots.values c.self.invariant.0 c.in-Err.ensures.more (λ key. ap (λ m. number_at m key) c.in-Err.ensures.slots),
+  in-world-more c.self.inside.first c.self.inside.held _ _ c.in-Err.ensures.later.more_handles c.self.invariant.1,
+)
 
 pub invariant_of-self-2 : goal.invariant_of-self-2
 invariant_of-self-2 g c =
@@ -85,6 +86,7 @@ invariant_of-self-2 g c =
     let room = c.join.ensures.room in
     let spare = c.in-Ok.ensures.ok.spare in
     let count = ap map.len c.in-Ok.ensures.slots in
-    let more = (later-on _ _ _ c.in-Ok.ensures.later c.join.ensures.later).more_handles in
-    (sound-more c.join.new.self.room c.self.inside.ops.slots.values c.submit-op.new.self.slots.values c.submit-op.result.key (new_slot c.self.inside.ops c.args.request) puts.free puts.slots (omega (arith, room, spare, count)),
-    in-world-more c.self.inside.first c.self.inside.held _ _ more c.self.invariant.1)
+    let more = (later-on _ _ _ c.in-Ok.ensures.later c.join.ensures.later).more_handles in (
+      sound-more c.join.new.self.room c.self.inside.ops.slots.values c.submit-op.new.self.slots.values c.submit-op.result.key (new_slot c.self.inside.ops c.args.request) puts.free puts.slots (omega (arith, room, spare, count)),
+      in-world-more c.self.inside.first c.self.inside.held _ _ more c.self.invariant.1,
+    )

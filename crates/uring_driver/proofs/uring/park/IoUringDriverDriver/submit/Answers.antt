@@ -1,0 +1,7 @@
+use Rattle.uring_driver.proofs.Ending.{turn_stands}
+use Rattle.uring_driver.proofs.uring.park.IoUringDriverDriver.submit.Goals as goal
+
+pub returns-in-Ok : goal.returns-in-Ok
+returns-in-Ok g c =
+    let meets = c.end_turn.ensures.meets c.args.self.now c.in-Ok.ensures.ok in
+    record { turns = meets; stands = turn_stands g.R.Ring.view g.B.IoBufMut.buffer g.R.Ring.tells g.R.Ring.steady _ _ _ meets }

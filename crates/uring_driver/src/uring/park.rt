@@ -1,0 +1,106 @@
+//! Turns and parks of the completion driver: a park is a turn that may wait for wakers of other threads in its middle.
+ghost use Rattle.std.specs.Prelude.{◌≡◌, ◌+◌, [], false, length};
+ghost use Rattle.ring_core.specs.declared.ledger.Event.TheVariants.{Turn};
+ghost use Rattle.ring_core.specs.Step.{step};
+ghost use Rattle.wake_core.specs.WakerList.{IsInOrder};
+ghost use Rattle.uring_driver.specs.Stands.{StandsIfTold};
+ghost use Rattle.uring_driver.specs.Turned.{TurnMeets};
+ghost use Rattle.uring_driver.specs.Parked.{DrainsFor};
+
+use crate::uring::IoUringDriver;
+use driver_core::{Driver, Parked, Turned};
+use rent_buf::IoBufMut;
+use ring_core::Ring;
+use std::alloc::Global;
+use std::sync::Wait;
+use std::sync::ledger::Ledger;
+use std::time::Clock;
+use wake_core::{Sleeper, WakerList, Woken};
+
+impl<R: Ring, B: IoBufMut + Drop> Driver for IoUringDriver<R, B> {
+    ghost stands = { StandsIfTold R.view B.buffer R.tells };
+
+    ghost turned = { λ L. (step L Turn).0 };
+
+    ghost turns = { λ old new turned. TurnMeets R.view B.buffer R.tells R.steady old new turned };
+
+    ghost drains = { DrainsFor };
+
+    ghost legacy = { false };
+
+    /// Memory is taken once, for as many numbers as are ready, queued and due; none is taken where there are none. After Busy
+    /// what was ready is treated. (monoio: `submit`)
+    fn submit(&mut self) -> Turned {
+        match self.begin_turn() {
+            Ok(begun) => self.end_turn(begun),
+            Err(stop) => self.stop(stop),
+        }
+    }
+
+    /// Where the turn stops with `RingFault` or `OutOfMemory`, the sleeper makes no step. After Busy it makes its steps and
+    /// doesn't wait. (monoio: `park`)
+    fn park<P: Ledger, D: Ledger, T: Wait + Clock>(
+        &mut self,
+        rt: &T,
+        sleeper: &mut Sleeper<P, D>,
+    ) -> Parked {
+        park_for(rt, self, sleeper, None)
+    }
+
+    /// As `park`, with that limit handed to the wait. (monoio: `park_timeout`)
+    fn park_timeout<P: Ledger, D: Ledger, T: Wait + Clock>(
+        &mut self,
+        rt: &T,
+        sleeper: &mut Sleeper<P, D>,
+        millis: u64,
+    ) -> Parked {
+        park_for(rt, self, sleeper, Some(millis))
+    }
+
+    fn is_legacy(&self) -> bool {
+        false
+    }
+}
+
+// A turn with the sleeper's steps in its middle. They wait no longer than the limit, in milliseconds.
+#[tactic(auto, using(crate::proofs::Parks::makes_round, crate::proofs::Parks::drains_for_treated))]
+fn park_for<R: Ring, B: IoBufMut + Drop, P: Ledger, D: Ledger, T: Wait + Clock>(
+    rt: &T,
+    driver: &mut IoUringDriver<R, B>,
+    sleeper: &mut Sleeper<P, D>,
+    limit: Option<u64>,
+) -> Parked
+    ensures turns { TurnMeets R.view B.buffer R.tells R.steady driver.old driver.new result.turned }
+    ensures made { sleeper.new.made ≡ sleeper.old.made }
+    ensures taken { sleeper.new.taken ≡ (sleeper.old.taken + length result.remote.first) + length result.remote.again }
+    ensures order { IsInOrder result.remote.first × IsInOrder result.remote.again }
+    ensures drains { DrainsFor result.turned.stop limit sleeper.old sleeper.new result.remote }
+{
+    match driver.begin_turn() {
+        Ok(begun) => {
+            let ready = driver.is_ready(&begun);
+            let remote = sleeper.park(rt, limit, ready);
+            let turned = driver.end_turn(begun);
+            Parked { remote, turned }
+        }
+        Err(stop) => {
+            let remote = none_woken(driver.alloc());
+            let turned = driver.stop(stop);
+            Parked { remote, turned }
+        }
+    }
+}
+
+// Nothing drained. Takes no memory.
+fn none_woken(alloc: Global) -> Woken
+    ensures first { result.first ≡ [] }
+    ensures again { result.again ≡ [] }
+{
+    Woken {
+        first: WakerList::from_vec(Vec::new(alloc)),
+        again: WakerList::from_vec(Vec::new(alloc)),
+    }
+}
+
+#[cfg(test)]
+mod tests;
