@@ -24,7 +24,7 @@ use Rattle.uring_driver.specs.Stands.{Means}
 use Rattle.driver_core.proofs.Lists.{some, same-or-not, get-pushed}
 use Rattle.driver_core.proofs.Maps.{put-same, put-other}
 use Rattle.driver_core.proofs.Slots.{slots-replaced, slots-freed, other-left}
-use Rattle.uring_driver.proofs.Kept.{KeepsOp, KeepsSlot, call-queued, lists-kept}
+use Rattle.uring_driver.proofs.Kept.{KeepsOp, KeepsSlot, call-queued, call-flown, lists-kept}
 
 -- A slot's life changes, and its operation with it, where it stands.
 module _ {B : Type 0} (buffer : B → Buffer) (v : RingView) (slots : FinMap nat_cmp (Slot B)) (L : Ledger) (key : ℕ) (s : Slot B) (life : Lifecycle Outcome) (f : Operation → Operation) (o : Operation)
@@ -51,7 +51,7 @@ module _ {B : Type 0} (buffer : B → Buffer) (v : RingView) (slots : FinMap nat
     capacity = old.capacity;
     world = old.world;
     in_slots = slots-replaced buffer slots L.ops key s t f o old.in_slots there refl which (ap is_kept (stays o).0) fits;
-    in_lists = lists-kept buffer slots (insert slots key t) L.ops (amended L.ops s.serial f) v L refl (λ n a. (slot-kept n, op-kept n)) (λ n a. (slot-kept n, op-kept n)) (λ i c h a. (slot-kept c.serial, op-kept c.serial)) old.in_lists;
+    in_lists = lists-kept buffer slots (insert slots key t) L.ops (amended L.ops s.serial f) v L refl (λ n a. (slot-kept n, op-kept n)) (λ n a. (slot-kept n, op-kept n)) (λ i c h q a. (slot-kept c.serial, op-kept c.serial)) old.in_lists;
   }
 
 -- An operation that was reaped leaves, and its slot is freed.
@@ -74,7 +74,7 @@ module _ {B : Type 0} (buffer : B → Buffer) (v : RingView) (slots : FinMap nat
     capacity = old.capacity;
     world = old.world;
     in_slots = slots-freed buffer slots L.ops key s f o old.in_slots there which lives gone;
-    in_lists = lists-kept buffer slots (remove slots key) L.ops (amended L.ops s.serial f) v L refl (λ n a. both n InQueue (λ q. cc) a) (λ n a. both n InFlight (λ q. cc) a) (λ i c h a. both c.serial (InDone c.outcome) (λ q. cc) a) old.in_lists;
+    in_lists = lists-kept buffer slots (remove slots key) L.ops (amended L.ops s.serial f) v L refl (λ n a. both n InQueue (λ q. cc) a) (λ n a. both n InFlight (λ q. cc) a) (λ i c h b a. both c.serial (InDone c.outcome) (λ q. cc) a) old.in_lists;
   }
 
 -- A cancel of the operation of a live slot joins the queue's end.
@@ -109,9 +109,9 @@ module _ {B : Type 0} (buffer : B → Buffer) (w : RingView) (slots : FinMap nat
       ]
       | inr a ↦ absurd (no-call e a.1 q)
     ];
-    flown = λ i j f c k h l b. elim (get-pushed w.queue c' j c l) [
-      | inl d ↦ old.in_lists.cancels.flown i j f c k h d b
-      | inr d ↦ meets-last f.entry c k (old.in_lists.in_flight i f h).0 d.1 b
+    flown = λ i j f c k h l b q. elim (get-pushed w.queue c' j c l) [
+      | inl d ↦ old.in_lists.cancels.flown i j f c k h d b q
+      | inr d ↦ meets-last f.entry c k (call-flown buffer slots M.ops f f.entry.body (old.in_lists.in_flight i f h) q).0 d.1 b
     ];
   }
 

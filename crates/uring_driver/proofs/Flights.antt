@@ -1,4 +1,4 @@
--- What stands in flight at a place, of a ring and slots that mean a ledger, and what executing it gives.
+-- A call in flight at a place, of a ring and slots that mean a ledger, and what executing it gives.
 use Rattle.std.proofs.Common.{◌≡◌, ℕ, true, List, Some, refl, sym, ◌∙◌, ap, subst, length, take}
 use Rattle.std.specs.Prelude.{slice_get}
 use Rattle.std.specs.Ordering.{nat_cmp}
@@ -22,9 +22,10 @@ use Rattle.ring_core.proofs.Amended.{length-amended}
 use Rattle.ring_core.proofs.Requests.{holding-same, effect-shown}
 use Rattle.driver_core.specs.declared.slot.Slot.{Slot}
 use Rattle.driver_core.specs.Slots.{SlotFor, is_early, life_of}
-use Rattle.uring_driver.specs.Lists.{EntryFor, IsFlown}
+use Rattle.uring_driver.specs.Lists.{EntryFor, IsFlown, is_call}
 use Rattle.uring_driver.specs.Stands.{Means}
 use Rattle.driver_core.proofs.Lists.{some}
+use Rattle.uring_driver.proofs.Kept.{call-flown}
 
 -- An executed call leaves as many handles.
 pub length-effect : (world : List HandleState) (call : Call) (sent : List ℕ) (told : Told) → length (effect world call sent told).world ≡ length world
@@ -33,10 +34,10 @@ length-effect world (In h want) sent (Fail e) = refl
 length-effect world (Out h offered) sent (Count k) = length-amended (with_output (take k sent)) world h
 length-effect world (Out h offered) sent (Fail e) = refl
 
--- What stands in flight at a place, in a ring and slots that mean a ledger.
-module _ {B : Type 0} (buffer : B → Buffer) (v : RingView) (slots : FinMap nat_cmp (Slot B)) (L : Ledger) (place : ℕ) (flight : Flight) (old : Means buffer v slots L) (there : slice_get v.flying place ≡ Some flight) where
+-- A call in flight at a place, in a ring and slots that mean a ledger.
+module _ {B : Type 0} (buffer : B → Buffer) (v : RingView) (slots : FinMap nat_cmp (Slot B)) (L : Ledger) (place : ℕ) (flight : Flight) (old : Means buffer v slots L) (there : slice_get v.flying place ≡ Some flight) (calls : is_call flight.entry.body ≡ true) where
   pub here : EntryFor buffer slots flight.entry × IsFlown L.ops flight
-  here = old.in_lists.in_flight place flight there
+  here = call-flown buffer slots L.ops flight flight.entry.body (old.in_lists.in_flight place flight there) calls
 
   pub s : Slot B
   unfolding here

@@ -1,5 +1,5 @@
 -- A ring that differs in what means nothing, and what is left of a queue once its head is taken.
-use Rattle.std.proofs.Common.{◌≡◌, ℕ, suc, List, ◌∷◌, Some, sym, ◌∙◌, ap, subst, arith}
+use Rattle.std.proofs.Common.{◌≡◌, ℕ, suc, true, List, ◌∷◌, Some, sym, ◌∙◌, ap, subst, arith}
 use Rattle.std.specs.Prelude.{slice_get}
 use Rattle.std.specs.Ordering.{nat_cmp}
 use Rattle.std.specs.FinMap.{FinMap}
@@ -10,7 +10,7 @@ use Rattle.ring_core.specs.declared.entry.Entry.{Entry}
 use Rattle.ring_core.specs.declared.entry.Flight.{Flight}
 use Rattle.ring_core.specs.Ledger.{Ledger}
 use Rattle.driver_core.specs.declared.slot.Slot.{Slot}
-use Rattle.uring_driver.specs.Lists.{Meets, CancelsMean, ListsStand}
+use Rattle.uring_driver.specs.Lists.{Meets, CancelsMean, ListsStand, is_call}
 use Rattle.uring_driver.specs.Stands.{Means}
 
 -- A ring that differs in what means nothing.
@@ -36,7 +36,7 @@ behind-head v e rest first i x h = ap (λ xs. slice_get xs (suc i)) first ∙ h
 
 -- The cancels that are left once the head is taken mean what they meant.
 pub cancels-left : (v : RingView) (e : Entry) (rest : List Entry) → v.queue ≡ e ∷ rest → CancelsMean v.queue v.flying → (fs : List Flight) →
-    ((i j : ℕ) (f : Flight) (c : Entry) (key : ℕ) → slice_get fs i ≡ Some f → slice_get rest j ≡ Some c → c.body ≡ Cancels key → Meets f.entry key c.serial) → CancelsMean rest fs
+    ((i j : ℕ) (f : Flight) (c : Entry) (key : ℕ) → slice_get fs i ≡ Some f → slice_get rest j ≡ Some c → c.body ≡ Cancels key → is_call f.entry.body ≡ true → Meets f.entry key c.serial) → CancelsMean rest fs
 cancels-left v e rest first old fs all = record {
   before = λ i j x c key h k b l q. old.before (suc i) (suc j) x c key (behind-head v e rest first i x h) (behind-head v e rest first j c k) b (omega (arith, l)) q;
   flown = all;

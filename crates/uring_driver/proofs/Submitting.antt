@@ -15,6 +15,7 @@ use Rattle.ring_core.specs.declared.entry.Completion.{Completion}
 use Rattle.ring_core.specs.declared.entry.Flight.{Flight}
 use Rattle.ring_core.specs.declared.request.Request.{Request}
 use Rattle.ring_core.specs.declared.entry.Body.TheVariants.{Call as Calls, Cancel as Cancels}
+use Rattle.ring_core.specs.Entry.{target}
 use Rattle.ring_core.specs.Ledger.{Ledger, Req, Operation, Place, InQueue, InDone, is_live, new_operation}
 use Rattle.ring_core.specs.Queue.{append}
 use Rattle.ring_core.specs.Step.{with_new_op}
@@ -25,7 +26,7 @@ use Rattle.uring_driver.specs.Stands.{Means}
 use Rattle.driver_core.proofs.Lists.{some, same-or-not, get-pushed, get-front, get-last}
 use Rattle.driver_core.proofs.Maps.{put-same, put-other, len-new}
 use Rattle.driver_core.proofs.Counts.{where-more}
-use Rattle.uring_driver.proofs.Kept.{queued-kept, call-queued}
+use Rattle.uring_driver.proofs.Kept.{queued-kept, flight-kept, done-kept, call-queued}
 use Rattle.ring_core.proofs.Requests.{holding-own}
 
 module _ {B : Type 0} (buffer : B → Buffer) (w : RingView) (slots : FinMap nat_cmp (Slot B)) (M : Ledger) (given key : ℕ) (request : Request B Parts)
@@ -125,8 +126,8 @@ module _ {B : Type 0} (buffer : B → Buffer) (w : RingView) (slots : FinMap nat
       ]
       | inr d ↦ absurd (no-cancel c k d.1 b)
     ];
-    flown = λ i j f c k h l b. elim (get-pushed w.queue e j c l) [
-      | inl d ↦ old.in_lists.cancels.flown i j f c k h d b
+    flown = λ i j f c k h l b q. elim (get-pushed w.queue e j c l) [
+      | inl d ↦ old.in_lists.cancels.flown i j f c k h d b q
       | inr d ↦ absurd (no-cancel c k d.1 b)
     ];
   }
@@ -141,8 +142,8 @@ module _ {B : Type 0} (buffer : B → Buffer) (w : RingView) (slots : FinMap nat
       | inr a ↦ subst (λ y. QueuedFor buffer (insert slots key t) ops' y y.body) (sym a.1)
           (record { slot = t; there = put-same slots key t; serial = refl; call = refl }, record { operation = new; there = there-new; stays = refl })
     ];
-    in_flight = λ i x h. (let m = l.in_flight i x h in (entry-kept x.entry m.0, flown-kept x m.1));
-    in_done = λ i c h. (let m = l.in_done i c h in (completion-kept c m.0, at-kept c.serial (InDone c.outcome) m.1));
+    in_flight = λ i x h. flight-kept buffer slots (insert slots key t) M.ops ops' x x x.entry.body (λ _ m. (entry-kept x.entry m.0, flown-kept x m.1)) (l.in_flight i x h);
+    in_done = λ i c h. done-kept slots (insert slots key t) M.ops ops' c (target c.word) (λ _ m. (completion-kept c m.0, at-kept c.serial (InDone c.outcome) m.1)) (l.in_done i c h);
     queue_once = λ i j x y h k b c q. elim (get-pushed w.queue e i x h) [
       | inl a ↦ elim (get-pushed w.queue e j y k) [
         | inl f ↦ l.queue_once i j x y a f b c q

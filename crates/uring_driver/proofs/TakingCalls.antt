@@ -11,16 +11,17 @@ use Rattle.ring_core.specs.declared.request.Call.{Call}
 use Rattle.ring_core.specs.declared.entry.Body.TheVariants.{Call as Calls}
 use Rattle.ring_core.specs.declared.entry.Entry.{Entry}
 use Rattle.ring_core.specs.declared.entry.Flight.{Flight}
+use Rattle.ring_core.specs.Entry.{target}
 use Rattle.ring_core.specs.Ledger.{Ledger, Req, Op, Operation, Place, InQueue, InFlight, InDone, is_live, is_kept, is_owned}
 use Rattle.ring_core.specs.Queue.{take_one, at_place}
 use Rattle.ring_core.proofs.Amended.{get-amended-same, get-amended-other}
 use Rattle.driver_core.specs.declared.slot.Slot.{Slot}
 use Rattle.driver_core.specs.Slots.{SlotFor, life_of, is_early}
-use Rattle.uring_driver.specs.Lists.{EntryFor, IsAt, IsFlown, Meets, ListsStand, is_call, queued_of, item_of}
+use Rattle.uring_driver.specs.Lists.{EntryFor, IsAt, IsFlown, FlightFor, Meets, ListsStand, is_call, queued_of, item_in, item_of}
 use Rattle.uring_driver.specs.Stands.{Means}
 use Rattle.driver_core.proofs.Lists.{some, get-pushed}
 use Rattle.driver_core.proofs.Counts.{where-same}
-use Rattle.uring_driver.proofs.Kept.{call-queued, queued-kept, flown-at}
+use Rattle.uring_driver.proofs.Kept.{call-queued, call-flown, queued-kept, flight-kept, done-kept, flown-at}
 use Rattle.driver_core.proofs.Slots.{slots-amended}
 use Rattle.uring_driver.proofs.Heads.{at-head, behind-head, cancels-left}
 
@@ -95,30 +96,31 @@ module _ {B : Type 0} (buffer : B → Buffer) (v : RingView) (slots : FinMap nat
   unfolding here uncanceled
   now-flown = record { operation = at_place InFlight here.1.operation; there = get-amended-same (at_place InFlight) L.ops e.serial here.1.operation here.1.there; stays = refl; marked = uncanceled }
 
-  apart-lists : (i : ℕ) (x : Flight) → slice_get v.flying i ≡ Some x → x.entry.serial ≢ e.serial
-  apart-lists i x h = not-this x.entry.serial InFlight (flown-at L.ops x (old.in_lists.in_flight i x h).1) (λ q. cc)
+  -- A call in flight has another number.
+  apart-lists : (i : ℕ) (x : Flight) → slice_get v.flying i ≡ Some x → is_call x.entry.body ≡ true → x.entry.serial ≢ e.serial
+  apart-lists i x h c = not-this x.entry.serial InFlight (flown-at L.ops x (call-flown buffer slots L.ops x x.entry.body (old.in_lists.in_flight i x h) c).1) (λ q. cc)
 
   lists-call : ListsStand buffer slots (record v { queue = rest; flying = v.flying ++ f' ∷ [] }) (take_one (record L { queue = map queued_of rest }) (Req e.serial))
   unfolding here
   lists-call = record {
     queue = refl;
-    flying = ap (λ x. x ++ Op e.serial ∷ []) old.in_lists.flying ∙ sym (map-append item_of v.flying (f' ∷ []));
+    flying = ap (λ x. x ++ Op e.serial ∷ []) old.in_lists.flying ∙ ap (λ b. map item_of v.flying ++ item_in e b ∷ []) (sym body) ∙ sym (map-append item_of v.flying (f' ∷ []));
     done = old.in_lists.done;
     in_queue = λ i x h. queued-kept buffer slots slots L.ops ops' x x.body (λ c a. (a.0, stays x.serial InQueue (behind i x h c) a.1)) (old.in_lists.in_queue (suc i) x (later i x h));
     in_flight = λ i x h. elim (get-pushed v.flying f' i x h) [
-      | inl r ↦ (let a = old.in_lists.in_flight i x r in (a.0, flown-stays x a.1))
-      | inr r ↦ subst (λ y. EntryFor buffer slots y.entry × IsFlown ops' y) (sym r.1) (here.0, now-flown)
+      | inl r ↦ flight-kept buffer slots slots L.ops ops' x x x.entry.body (λ _ a. (a.0, flown-stays x a.1)) (old.in_lists.in_flight i x r)
+      | inr r ↦ subst (λ y. FlightFor buffer slots ops' y y.entry.body) (sym r.1) (subst (λ b. FlightFor buffer slots ops' f' b) (sym body) (here.0, now-flown))
     ];
-    in_done = λ i c h. (let a = old.in_lists.in_done i c h in (a.0, stays c.serial (InDone c.outcome) (not-this c.serial (InDone c.outcome) a.1 (λ q. cc)) a.1));
+    in_done = λ i c h. done-kept slots slots L.ops ops' c (target c.word) (λ _ a. (a.0, stays c.serial (InDone c.outcome) (not-this c.serial (InDone c.outcome) a.1 (λ q. cc)) a.1)) (old.in_lists.in_done i c h);
     queue_once = λ i j x y h k a b q. (let z = old.in_lists.queue_once (suc i) (suc j) x y (later i x h) (later j y k) a b q in cc);
-    flight_once = λ i j x y h k q. elim (get-pushed v.flying f' i x h) [
-      | inl a ↦ elim (get-pushed v.flying f' j y k) [ inl b ↦ old.in_lists.flight_once i j x y a b q | inr b ↦ absurd (apart-lists i x a (q ∙ ap (λ z. z.entry.serial) b.1)) ]
-      | inr a ↦ elim (get-pushed v.flying f' j y k) [ inl b ↦ absurd (apart-lists j y b (sym q ∙ ap (λ z. z.entry.serial) a.1)) | inr b ↦ a.0 ∙ sym b.0 ]
+    flight_once = λ i j x y h k c d q. elim (get-pushed v.flying f' i x h) [
+      | inl a ↦ elim (get-pushed v.flying f' j y k) [ inl b ↦ old.in_lists.flight_once i j x y a b c d q | inr b ↦ absurd (apart-lists i x a c (q ∙ ap (λ z. z.entry.serial) b.1)) ]
+      | inr a ↦ elim (get-pushed v.flying f' j y k) [ inl b ↦ absurd (apart-lists j y b d (sym q ∙ ap (λ z. z.entry.serial) a.1)) | inr b ↦ a.0 ∙ sym b.0 ]
     ];
     done_once = old.in_lists.done_once;
     -- A cancel that is left stood behind the call that is in flight now.
-    cancels = cancels-left v e rest first old.in_lists.cancels (v.flying ++ f' ∷ []) (λ i j f c key h k b. elim (get-pushed v.flying f' i f h) [
-      | inl r ↦ old.in_lists.cancels.flown i (suc j) f c key r (later j c k) b
+    cancels = cancels-left v e rest first old.in_lists.cancels (v.flying ++ f' ∷ []) (λ i j f c key h k b q. elim (get-pushed v.flying f' i f h) [
+      | inl r ↦ old.in_lists.cancels.flown i (suc j) f c key r (later j c k) b q
       | inr r ↦ subst (λ y. Meets y.entry key c.serial) (sym r.1) (old.in_lists.cancels.before 0 (suc j) e c key at_head (later j c k) b (omega arith) (ap is_call body))
     ]);
   }

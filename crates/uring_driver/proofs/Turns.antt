@@ -1,5 +1,5 @@
 -- Completions treated one by one, and a turn.
-use Rattle.std.proofs.Common.{◌≡◌, inl, inr, ℕ, Bool, true, false, List, [], ◌∷◌, ◌++◌, ◌+◌, length, Option, Some, None, refl, sym, ◌∙◌, ap, subst, arith, map}
+use Rattle.std.proofs.Common.{◌≡◌, inl, inr, ℕ, Bool, true, false, List, [], ◌∷◌, ◌++◌, ◌+◌, length, Option, Some, None, refl, sym, ◌∙◌, ap, subst, arith, flat_map}
 use Rattle.std.specs.Prelude.{slice_get, nat_lt, ◌&&◌, ◌==◌, if◌then◌else◌, not}
 use Rattle.std.specs.Ordering.{nat_cmp}
 use Rattle.std.specs.FinMap.{FinMap, get}
@@ -14,6 +14,9 @@ use Rattle.ring_core.specs.Turn.{with_reap, reaped_place, reap_if, reap_op, reap
 use Rattle.ring_core.specs.Run.{ledger}
 use Rattle.ring_core.proofs.Amended.{get-amended-same, get-amended-other, get-amended-none, length-amended}
 use Rattle.ring_core.specs.declared.entry.Completion.{Completion}
+use Rattle.ring_core.specs.declared.entry.Target.{Target}
+use Rattle.ring_core.specs.declared.entry.Target.TheVariants.{Slot as Keyed, Reserved as Unnamed}
+use Rattle.ring_core.specs.Entry.{target}
 use Rattle.driver_core.specs.declared.slot.Slot.{Slot}
 use Rattle.uring_driver.specs.declared.uring.IoUringDriver.{IoUringDriver}
 use Rattle.uring_driver.specs.Uring.{ring_in, room_in, pending, whole_ring, is_among}
@@ -22,7 +25,7 @@ use Rattle.uring_driver.specs.Stands.{Means, Stands, Answers}
 use Rattle.uring_driver.specs.Reap.{TookOff, Treated, treat_first, treat_each, slots_once}
 use Rattle.uring_driver.specs.Turned.{reaped_out}
 use Rattle.driver_core.specs.Slot.{named_by}
-use Rattle.uring_driver.specs.Lists.{done_item_of, kept, is_reserved}
+use Rattle.uring_driver.specs.Lists.{done_items_of, names_nothing}
 use Rattle.uring_driver.proofs.Reaping.{Names, means-reserved, names-first, first-done, means-first, ended}
 use Rattle.driver_core.proofs.Lists.{same-or-not, amended-absent, amended-like}
 use Rattle.driver_core.proofs.Counts.{where-all}
@@ -109,22 +112,22 @@ pub record TreatsAll {B : Type 0} (buffer : B → Buffer) (L : Ledger) (v : Ring
 
 module _ {B : Type 0} (buffer : B → Buffer) (v : RingView) (slots : FinMap nat_cmp (Slot B)) (L : Ledger) (c : Completion) (rest : List Completion) (old : Means buffer v slots L) (first : v.done ≡ c ∷ rest)
     (more : (slots' : FinMap nat_cmp (Slot B)) (M : Ledger) → Means buffer (with_done v rest) slots' M → TreatsAll buffer M (with_done v []) (treat_each slots' rest)) where
-  treats-named : (named : Option (ℕ × Option ℕ)) (tasks : List ℕ) → Names named c.serial tasks → tasks ≡ task_woken (slice_get L.ops c.serial) → L.done ≡ Op c.serial ∷ map done_item_of (kept rest) → (all : Treated B) →
-      TreatsAll buffer (with_op (record L { done = map done_item_of (kept rest) }) c.serial reap_change) (with_done v []) all → TreatsAll buffer L (with_done v []) (treat_first false named slots c rest all)
+  treats-named : (named : Option (ℕ × Option ℕ)) (tasks : List ℕ) → Names named c.serial tasks → tasks ≡ task_woken (slice_get L.ops c.serial) → L.done ≡ Op c.serial ∷ flat_map done_items_of rest → (all : Treated B) →
+      TreatsAll buffer (with_op (record L { done = flat_map done_items_of rest }) c.serial reap_change) (with_done v []) all → TreatsAll buffer L (with_done v []) (treat_first false named slots c rest all)
   treats-named named tasks is same done all ends = subst (λ x. TreatsAll buffer L (with_done v []) (treat_first false x slots c rest all)) (sym is.is) (record {
     no_bad = ends.no_bad;
     none_left = ends.none_left;
-    means = subst (λ K. Means buffer (with_done v []) all.slots K) (all-same L c.serial (map done_item_of (kept rest)) done) ends.means;
-    named = ap (λ xs. c.serial ∷ xs) ends.named ∙ numbers-same L c.serial (map done_item_of (kept rest)) done;
-    woken = ap (λ x. x ++ all.woken) (is.woken ∙ same) ∙ ap (λ x. task_woken (slice_get L.ops c.serial) ++ x) ends.woken ∙ woken-same L c.serial (map done_item_of (kept rest)) done;
+    means = subst (λ K. Means buffer (with_done v []) all.slots K) (all-same L c.serial (flat_map done_items_of rest) done) ends.means;
+    named = ap (λ xs. c.serial ∷ xs) ends.named ∙ numbers-same L c.serial (flat_map done_items_of rest) done;
+    woken = ap (λ x. x ++ all.woken) (is.woken ∙ same) ∙ ap (λ x. task_woken (slice_get L.ops c.serial) ++ x) ends.woken ∙ woken-same L c.serial (flat_map done_items_of rest) done;
   })
 
-  treats-by : (b : Bool) → is_reserved c.word ≡ b → TreatsAll buffer L (with_done v []) (treat_first b (named_by (get slots c.word)) slots c rest (treat_each (slots_once b slots c) rest))
-  treats-by true reserved = more slots L (means-reserved buffer v slots L c rest old first reserved)
-  treats-by false free = treats-named (named_by (get slots c.word)) (task_woken (slice_get L.ops c.serial)) (names-first buffer v slots L c rest old first free) refl (first-done buffer v slots L c rest old first free)
+  treats-by : (t : Target) → target c.word ≡ t → TreatsAll buffer L (with_done v []) (treat_first (names_nothing t) (named_by (get slots c.word)) slots c rest (treat_each (slots_once (names_nothing t) slots c) rest))
+  treats-by (Unnamed word) reserved = more slots L (means-reserved buffer v slots L c rest old first word reserved)
+  treats-by (Keyed key) keyed = treats-named (named_by (get slots c.word)) (task_woken (slice_get L.ops c.serial)) (names-first buffer v slots L c rest old first key keyed) refl (first-done buffer v slots L c rest old first key keyed)
       (treat_each (slots_once false slots c) rest)
-      (more (slots_once false slots c) (with_op (record L { done = map done_item_of (kept rest) }) c.serial reap_change)
-      (subst (λ K. Means buffer (with_done v rest) (slots_once false slots c) K) (reap-one (record L { done = map done_item_of (kept rest) }) c.serial) (means-first buffer v slots L c rest old first free)))
+      (more (slots_once false slots c) (with_op (record L { done = flat_map done_items_of rest }) c.serial reap_change)
+      (subst (λ K. Means buffer (with_done v rest) (slots_once false slots c) K) (reap-one (record L { done = flat_map done_items_of rest }) c.serial) (means-first buffer v slots L c rest old first key keyed)))
 
 -- Completions that mean those of a ledger are treated as the machine reaps them.
 pub treats-all : {B : Type 0} (buffer : B → Buffer) (cs : List Completion) (v : RingView) (slots : FinMap nat_cmp (Slot B)) (L : Ledger) → Means buffer v slots L → v.done ≡ cs → TreatsAll buffer L (with_done v []) (treat_each slots cs)
@@ -138,7 +141,7 @@ treats-all buffer [] v slots L old none =
       named = sym (ap ops_in e);
       woken = sym (ap (λ d. tasks_woken L.ops (ops_in d)) e);
     }
-treats-all buffer (c ∷ rest) v slots L old first = treats-by buffer v slots L c rest old first (λ slots' M means. treats-all buffer rest (with_done v rest) slots' M means refl) (is_reserved c.word) refl
+treats-all buffer (c ∷ rest) v slots L old first = treats-by buffer v slots L c rest old first (λ slots' M means. treats-all buffer rest (with_done v rest) slots' M means refl) (target c.word) refl
 
 -- Completions that were taken off, and then more.
 pub took-on : (m n : ℕ) (a b c : RingView) → TookOff m a b → TookOff n b c → TookOff (m + n) a c
