@@ -1,5 +1,6 @@
 -- What an execution does to a ring and slots that mean a ledger.
-use Rattle.std.proofs.Common.{◌≡◌, ◌≢◌, ◌⊎◌, inl, inr, ℕ, ◌≤◌, ◌<◌, Bool, true, false, Option, List, ◌++◌, [], ◌∷◌, Some, refl, sym, ◌∙◌, ap, subst, arith, length, map, flat_map}
+use Rattle.std.proofs.Common.{◌≡◌, ◌≢◌, ◌⊎◌, inl, inr, ℕ, ◌≤◌, Bool, true, false, Option, List, ◌++◌, [], ◌∷◌, Some, refl, sym, ◌∙◌}
+use Rattle.std.proofs.Common.{ap, subst, arith, length, map, flat_map}
 use Rattle.std.specs.Prelude.{slice_get, remove}
 use Rattle.std.specs.Ordering.{nat_cmp}
 use Rattle.std.specs.FinMap.{FinMap, get, insert}
@@ -30,7 +31,8 @@ use Rattle.driver_core.specs.Ops.{Ops}
 use Rattle.driver_core.specs.Slot.{KeepsNumbers}
 use Rattle.driver_core.specs.Slots.{SlotFor, SlotsStand, life_of}
 use Rattle.driver_core.specs.Operations.{StoresAt}
-use Rattle.uring_driver.specs.Lists.{EntryFor, CompletionFor, DoneFor, IsAt, IsFlown, ListsStand, is_call, names_slot, queued_of, item_of, done_items_of}
+use Rattle.uring_driver.specs.Lists.{EntryFor, CompletionFor, DoneFor, IsAt, IsFlown, ListsStand, is_call, names_slot, queued_of, item_of}
+use Rattle.uring_driver.specs.Lists.{done_items_of}
 use Rattle.uring_driver.specs.Stands.{Means}
 use Rattle.driver_core.proofs.Lists.{some, skip, skip-not, skip-one, get-removed, map-removed, get-pushed}
 use Rattle.driver_core.proofs.Maps.{put-same, put-self}
@@ -44,7 +46,8 @@ done-life true r t = refl
 done-life false r t = refl
 
 -- A slot after its operation was executed: its request holds what the outcome leaves, and nothing else of it changed.
-record IsExecutedSlot {B : Type 0} (buffer : B → Buffer) (before after : FinMap nat_cmp (Slot B)) (key : ℕ) (r : Request Buffer Parts) (told : Told) (got : List ℕ) (old : Slot B) : Type 0 where
+record IsExecutedSlot {B : Type 0} (buffer : B → Buffer) (before after : FinMap nat_cmp (Slot B)) (key : ℕ) (r : Request Buffer Parts)
+    (told : Told) (got : List ℕ) (old : Slot B) : Type 0 where
   now : Slot B
   changed : after ≡ insert before key now
   serial : now.serial ≡ old.serial
@@ -52,7 +55,8 @@ record IsExecutedSlot {B : Type 0} (buffer : B → Buffer) (before after : FinMa
   request : IsHolding r (held r told got) (plain_request buffer now.request)
 
 -- What an execution stores, where bytes come, is what its outcome leaves.
-executed-slot : {B : Type 0} (buffer : B → Buffer) (before after : Ops B) (key : ℕ) (r : Request Buffer Parts) (told : Told) (got : List ℕ) (slot : Slot B) →
+executed-slot : {B : Type 0} (buffer : B → Buffer) (before after : Ops B) (key : ℕ) (r : Request Buffer Parts) (told : Told) (got : List ℕ)
+    (slot : Slot B) →
     get before.slots.values key ≡ Some slot → plain_request buffer slot.request ≡ r → length got ≤ room_of r →
     (b : Bool) → comes (call_of r) told ≡ b → StoresIf (StoresAt buffer) b before key got after →
     IsExecutedSlot buffer before.slots.values after.slots.values key r told got slot
@@ -71,18 +75,26 @@ executed-slot buffer before after key r told got slot there is fits false brings
   changed = ap (λ x. x.slots.values) same ∙ sym (put-self before.slots.values key slot there);
   serial = refl;
   life = refl;
-  request = subst (λ h. IsHolding r h (plain_request buffer slot.request)) (sym (held-stays r told got brings)) (subst (λ x. IsHolding r (held_of r) x) (sym is) (holding-own r));
+  request = subst (λ h. IsHolding r h (plain_request buffer slot.request)) (sym (held-stays r told got brings))
+      (subst (λ x. IsHolding r (held_of r) x) (sym is) (holding-own r));
 }
 
 -- An execution changes no number, and gives none.
-pub executed-numbers : {B : Type 0} (buffer : B → Buffer) (before after : Ops B) (key : ℕ) (got : List ℕ) (b : Bool) → StoresIf (StoresAt buffer) b before key got after →
+pub executed-numbers : {B : Type 0} (buffer : B → Buffer) (before after : Ops B) (key : ℕ) (got : List ℕ) (b : Bool) →
+    StoresIf (StoresAt buffer) b before key got after →
     KeepsNumbers before.slots.values after.slots.values × (after.given ≡ before.given)
 executed-numbers buffer before after key got true stored = (stored.numbers, stored.given)
-executed-numbers buffer before after key got false same = (subst (λ x. KeepsNumbers before.slots.values x.slots.values) (sym same) (λ k. refl), ap (λ x. x.given) same)
+executed-numbers buffer before after key got false same =
+    (subst (λ x. KeepsNumbers before.slots.values x.slots.values) (sym same) (λ k. refl), ap (λ x. x.given) same)
 
-module _ {B : Type 0} (buffer : B → Buffer) (v : RingView) (before after : Ops B) (L : Ledger) (place : ℕ) (told : Told) (sent : List ℕ) (v' : RingView) (got : List ℕ) (c : Completion)
-    (old : Means buffer v before.slots.values L) (fin : IsFinished v place told sent v' got c) (calls : is_call fin.flight.entry.body ≡ true) (stores : StoresIf (StoresAt buffer) (body_comes fin.flight.entry.body told) before c.word got after)
-    (eff : body_effect v.world fin.flight.entry.body sent told ≡ effect L.world (call_of (o buffer v before.slots.values L place fin.flight old fin.there calls).request) (sent_of (o buffer v before.slots.values L place fin.flight old fin.there calls).request) told) where
+module _ {B : Type 0} (buffer : B → Buffer) (v : RingView) (before after : Ops B) (L : Ledger) (place : ℕ) (told : Told) (sent : List ℕ)
+    (v' : RingView) (got : List ℕ) (c : Completion)
+    (old : Means buffer v before.slots.values L) (fin : IsFinished v place told sent v' got c)
+    (calls : is_call fin.flight.entry.body ≡ true)
+    (stores : StoresIf (StoresAt buffer) (body_comes fin.flight.entry.body told) before c.word got after)
+    (eff : body_effect v.world fin.flight.entry.body sent told ≡ effect L.world
+    (call_of (o buffer v before.slots.values L place fin.flight old fin.there calls).request)
+    (sent_of (o buffer v before.slots.values L place fin.flight old fin.there calls).request) told) where
   abbrev slots : FinMap nat_cmp (Slot B)
   slots = before.slots.values
 
@@ -124,9 +136,13 @@ module _ {B : Type 0} (buffer : B → Buffer) (v : RingView) (before after : Ops
 
   stored-is : IsExecutedSlot buffer slots slots' c.word op.request told got slot
   stored-is =
-      let allows : is_allowed L.world op.canceled (call_of op.request) told ≡ true = sym (allows-is buffer v slots L place fin.flight old fin.there calls told) ∙ fin.allows in
-      let fit : length got ≤ room_of op.request = subst (λ x. length x ≤ room_of op.request) (sym got-is) (got-fits L.world op.canceled op.request told (sent_of op.request) allows) in
-      executed-slot buffer before after c.word op.request told got slot (ap (get slots) word ∙ slot-there buffer v slots L place fin.flight old fin.there calls) (request-is buffer v slots L place fin.flight old fin.there calls) fit
+      let allows : is_allowed L.world op.canceled (call_of op.request) told ≡ true =
+      sym (allows-is buffer v slots L place fin.flight old fin.there calls told) ∙ fin.allows in
+      let fit : length got ≤ room_of op.request = subst (λ x. length x ≤ room_of op.request) (sym got-is)
+      (got-fits L.world op.canceled op.request told (sent_of op.request) allows) in
+      executed-slot buffer before after c.word op.request told got slot (ap (get slots) word
+      ∙ slot-there buffer v slots L place fin.flight old fin.there calls)
+      (request-is buffer v slots L place fin.flight old fin.there calls) fit
       (body_comes fin.flight.entry.body told) (comes-is buffer v slots L place fin.flight old fin.there calls told) stores
 
   abbrev t : Slot B
@@ -139,7 +155,8 @@ module _ {B : Type 0} (buffer : B → Buffer) (v : RingView) (before after : Ops
   unfolding stored-is
   fits-t = record {
     operation = f op;
-    there = ap (slice_get (amended L.ops slot.serial f)) stored-is.serial ∙ get-amended-same f L.ops slot.serial op (there-s buffer v slots L place fin.flight old fin.there calls);
+    there = ap (slice_get (amended L.ops slot.serial f)) stored-is.serial
+        ∙ get-amended-same f L.ops slot.serial op (there-s buffer v slots L place fin.flight old fin.there calls);
     live = refl;
     request = subst (λ x. IsHolding op.request (held op.request told x) (plain_request buffer t.request)) got-is stored-is.request;
     life = stored-is.life ∙ life-is buffer v slots L place fin.flight old fin.there calls ∙ done-life op.dropped result.outcome op.task;
@@ -150,24 +167,41 @@ module _ {B : Type 0} (buffer : B → Buffer) (v : RingView) (before after : Ops
   slots-stand : SlotsStand buffer slots' ops'
   unfolding stored-is
   slots-stand =
-      let a = slots-replaced buffer slots L.ops fin.flight.entry.word slot t f op old.in_slots (slot-there buffer v slots L place fin.flight old fin.there calls) stored-is.serial (there-s buffer v slots L place fin.flight old fin.there calls) lives fits-t in
-      subst (λ x. SlotsStand buffer x ops') (sym (stored-is.changed ∙ ap (λ k. insert slots k t) word)) (subst (λ x. SlotsStand buffer (insert slots fin.flight.entry.word t) (amended L.ops x f)) (n-is buffer v slots L place fin.flight old fin.there calls) a)
+      let a = slots-replaced buffer slots L.ops fin.flight.entry.word slot t f op old.in_slots
+      (slot-there buffer v slots L place fin.flight old fin.there calls) stored-is.serial
+      (there-s buffer v slots L place fin.flight old fin.there calls) lives fits-t in
+      subst (λ x. SlotsStand buffer x ops') (sym (stored-is.changed ∙ ap (λ k. insert slots k t) word))
+      (subst (λ x. SlotsStand buffer (insert slots fin.flight.entry.word t) (amended L.ops x f))
+      (n-is buffer v slots L place fin.flight old fin.there calls) a)
 
   -- The slots of other numbers are kept.
   slot-kept : (k : ℕ) (u : Slot B) → get slots k ≡ Some u → u.serial ≢ n → get slots' k ≡ Some u
   unfolding stored-is
   slot-kept k u h q =
-      let a = other-slot buffer slots L.ops fin.flight.entry.word slot t f op old.in_slots (slot-there buffer v slots L place fin.flight old fin.there calls) stored-is.serial (there-s buffer v slots L place fin.flight old fin.there calls) lives fits-t k u h (λ r. q (r ∙ n-is buffer v slots L place fin.flight old fin.there calls)) in
+      let a = other-slot buffer slots L.ops fin.flight.entry.word slot t f op old.in_slots
+      (slot-there buffer v slots L place fin.flight old fin.there calls) stored-is.serial
+      (there-s buffer v slots L place fin.flight old fin.there calls) lives fits-t k u h
+      (λ r. q (r ∙ n-is buffer v slots L place fin.flight old fin.there calls)) in
       ap (λ m. get m k) (stored-is.changed ∙ ap (λ x. insert slots x t) word) ∙ a
 
   at-kept : (m : ℕ) (p : Place) → IsAt L.ops m p → m ≢ n → IsAt ops' m p
   at-kept m p a q = record { operation = a.operation; there = get-amended-other f L.ops n m q ∙ a.there; stays = a.stays }
 
   flown-kept : (x : Flight) → IsFlown L.ops x → x.entry.serial ≢ n → IsFlown ops' x
-  flown-kept x a q = record { operation = a.operation; there = get-amended-other f L.ops n x.entry.serial q ∙ a.there; stays = a.stays; marked = a.marked }
+  flown-kept x a q = record {
+    operation = a.operation;
+    there = get-amended-other f L.ops n x.entry.serial q ∙ a.there;
+    stays = a.stays;
+    marked = a.marked;
+  }
 
   entry-kept : (x : Entry) → EntryFor buffer slots x → x.serial ≢ n → EntryFor buffer slots' x
-  entry-kept x E q = record { slot = E.slot; there = slot-kept x.word E.slot E.there (λ r. q (sym E.serial ∙ r)); serial = E.serial; call = E.call }
+  entry-kept x E q = record {
+    slot = E.slot;
+    there = slot-kept x.word E.slot E.there (λ r. q (sym E.serial ∙ r));
+    serial = E.serial;
+    call = E.call;
+  }
 
   completion-kept : (x : Completion) → CompletionFor slots x → x.serial ≢ n → CompletionFor slots' x
   completion-kept x E q = record { slot = E.slot; there = slot-kept x.word E.slot E.there (λ r. q (sym E.serial ∙ r)); serial = E.serial }
@@ -175,10 +209,16 @@ module _ {B : Type 0} (buffer : B → Buffer) (v : RingView) (before after : Ops
   not-this : (m : ℕ) (p : Place) → IsAt L.ops m p → p ≢ InFlight → m ≢ n
   not-this m p a h e =
       let b = here buffer v slots L place fin.flight old fin.there calls in
-      h (sym a.stays ∙ ap (λ x. x.place) (some a.operation op (slice_get L.ops m) a.there (ap (slice_get L.ops) e ∙ which buffer v slots L place fin.flight old fin.there calls)) ∙ flies buffer v slots L place fin.flight old fin.there calls)
+      h (sym a.stays ∙ ap (λ x. x.place)
+      (some a.operation op (slice_get L.ops m) a.there (ap (slice_get L.ops) e
+      ∙ which buffer v slots L place fin.flight old fin.there calls)) ∙ flies buffer v slots L place fin.flight old fin.there calls)
 
   new-place : IsAt ops' n (InDone c.outcome)
-  new-place = record { operation = f op; there = get-amended-same f L.ops n op (which buffer v slots L place fin.flight old fin.there calls); stays = ap (λ x. InDone x) (sym outcome) }
+  new-place = record {
+    operation = f op;
+    there = get-amended-same f L.ops n op (which buffer v slots L place fin.flight old fin.there calls);
+    stays = ap (λ x. InDone x) (sym outcome);
+  }
 
   new-completion : CompletionFor slots' c
   unfolding stored-is
@@ -210,7 +250,8 @@ module _ {B : Type 0} (buffer : B → Buffer) (v : RingView) (before after : Ops
 
   -- What was done before is of another operation.
   done-other : (i : ℕ) (x : Completion) → slice_get v.done i ≡ Some x → names_slot (target x.word) ≡ true → x.serial ≢ n
-  done-other i x h q = not-this x.serial (InDone x.outcome) (slot-done slots L.ops x (target x.word) (old.in_lists.in_done i x h) q).1 (λ z. cc)
+  done-other i x h q = not-this x.serial (InDone x.outcome) (slot-done slots L.ops x (target x.word) (old.in_lists.in_done i x h) q).1
+      (λ z. cc)
 
   lists-stand : ListsStand buffer slots' v' L'
   lists-stand =
@@ -218,9 +259,11 @@ module _ {B : Type 0} (buffer : B → Buffer) (v : RingView) (before after : Ops
       record {
         queue = l.queue ∙ ap (map queued_of) (sym queue-is);
         flying = ap (λ x. remove x place) l.flying ∙ sym (map-removed item_of v.flying place) ∙ ap (map item_of) (sym flying-is);
-        done = ap (λ x. x ++ Op n ∷ []) l.done ∙ ap (λ x. flat_map done_items_of v.done ++ Op x ∷ []) (sym serial) ∙ sym (done-pushed v.done c c.word keyed) ∙ ap (flat_map done_items_of) (sym done-is);
+        done = ap (λ x. x ++ Op n ∷ []) l.done ∙ ap (λ x. flat_map done_items_of v.done ++ Op x ∷ []) (sym serial)
+            ∙ sym (done-pushed v.done c c.word keyed) ∙ ap (flat_map done_items_of) (sym done-is);
         in_queue = λ i x h. (
-            queued-kept buffer slots slots' L.ops ops' x x.body (λ _ a. (let q = not-this x.serial InQueue a.1 (λ r. cc) in (entry-kept x a.0 q, at-kept x.serial InQueue a.1 q)))
+            queued-kept buffer slots slots' L.ops ops' x x.body
+            (λ _ a. (let q = not-this x.serial InQueue a.1 (λ r. cc) in (entry-kept x a.0 q, at-kept x.serial InQueue a.1 q)))
             (l.in_queue i x (ap (λ xs. slice_get xs i) (sym queue-is) ∙ h)));
         in_flight = λ i x h. (
             let at = flew i x h in
@@ -238,8 +281,10 @@ module _ {B : Type 0} (buffer : B → Buffer) (v : RingView) (before after : Ops
           | inr r ↦ subst (λ y. DoneFor slots' ops' y (target y.word)) (sym r.1) (subst (λ t. DoneFor slots' ops' c t) (sym keyed)
               (new-completion, subst (λ y. IsAt ops' y (InDone c.outcome)) (sym serial) new-place))
         ];
-        queue_once = λ i j x y h k a b r. l.queue_once i j x y (ap (λ xs. slice_get xs i) (sym queue-is) ∙ h) (ap (λ xs. slice_get xs j) (sym queue-is) ∙ k) a b r;
-        flight_once = λ i j x y h k a b r. skip-one place i j (l.flight_once (skip place i) (skip place j) x y (flew i x h) (flew j y k) a b r);
+        queue_once = λ i j x y h k a b r. l.queue_once i j x y (ap (λ xs. slice_get xs i) (sym queue-is) ∙ h)
+            (ap (λ xs. slice_get xs j) (sym queue-is) ∙ k) a b r;
+        flight_once = λ i j x y h k a b r. skip-one place i j
+            (l.flight_once (skip place i) (skip place j) x y (flew i x h) (flew j y k) a b r);
         done_once = λ i j x y h k p q r. elim (done-at i x h) [
           | inl a ↦ elim (done-at j y k) [
             | inl b ↦ l.done_once i j x y a b p q r
@@ -251,12 +296,17 @@ module _ {B : Type 0} (buffer : B → Buffer) (v : RingView) (before after : Ops
           ]
         ];
         cancels = record {
-          before = λ i j x y key h k b less q. l.cancels.before i j x y key (ap (λ xs. slice_get xs i) (sym queue-is) ∙ h) (ap (λ xs. slice_get xs j) (sym queue-is) ∙ k) b less q;
-          flown = λ i j x y key h k b q. l.cancels.flown (skip place i) j x y key (flew i x h) (ap (λ xs. slice_get xs j) (sym queue-is) ∙ k) b q;
+          before = λ i j x y key h k b less q. l.cancels.before i j x y key (ap (λ xs. slice_get xs i) (sym queue-is) ∙ h)
+              (ap (λ xs. slice_get xs j) (sym queue-is) ∙ k) b less q;
+          flown = λ i j x y key h k b q. l.cancels.flown (skip place i) j x y key (flew i x h) (ap (λ xs. slice_get xs j) (sym queue-is)
+              ∙ k) b q;
         };
       }
 
-  pub means-executed : Means buffer v' after.slots.values (with_effect (complete_at L place (Op fin.flight.entry.serial)) fin.flight.entry.serial told (effect L.world (call_of (o buffer v before.slots.values L place fin.flight old fin.there calls).request) (sent_of (o buffer v before.slots.values L place fin.flight old fin.there calls).request) told))
+  pub means-executed : Means buffer v' after.slots.values
+      (with_effect (complete_at L place (Op fin.flight.entry.serial)) fin.flight.entry.serial told
+      (effect L.world (call_of (o buffer v before.slots.values L place fin.flight old fin.there calls).request)
+      (sent_of (o buffer v before.slots.values L place fin.flight old fin.there calls).request) told))
   means-executed = record {
     capacity = ap (λ x. x.capacity) fin.ring ∙ old.capacity;
     world = ap (λ x. x.world) fin.ring ∙ ap (λ x. x.world) eff;

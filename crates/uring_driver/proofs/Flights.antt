@@ -28,14 +28,16 @@ use Rattle.driver_core.proofs.Lists.{some}
 use Rattle.uring_driver.proofs.Kept.{call-flown}
 
 -- An executed call leaves as many handles.
-pub length-effect : (world : List HandleState) (call : Call) (sent : List ℕ) (told : Told) → length (effect world call sent told).world ≡ length world
+pub length-effect : (world : List HandleState) (call : Call) (sent : List ℕ) (told : Told) →
+    length (effect world call sent told).world ≡ length world
 length-effect world (In h want) sent (Count k) = length-amended (without_front k) world h
 length-effect world (In h want) sent (Fail e) = refl
 length-effect world (Out h offered) sent (Count k) = length-amended (with_output (take k sent)) world h
 length-effect world (Out h offered) sent (Fail e) = refl
 
 -- A call in flight at a place, in a ring and slots that mean a ledger.
-module _ {B : Type 0} (buffer : B → Buffer) (v : RingView) (slots : FinMap nat_cmp (Slot B)) (L : Ledger) (place : ℕ) (flight : Flight) (old : Means buffer v slots L) (there : slice_get v.flying place ≡ Some flight) (calls : is_call flight.entry.body ≡ true) where
+module _ {B : Type 0} (buffer : B → Buffer) (v : RingView) (slots : FinMap nat_cmp (Slot B)) (L : Ledger) (place : ℕ) (flight : Flight)
+    (old : Means buffer v slots L) (there : slice_get v.flying place ≡ Some flight) (calls : is_call flight.entry.body ≡ true) where
   pub here : EntryFor buffer slots flight.entry × IsFlown L.ops flight
   here = call-flown buffer slots L.ops flight flight.entry.body (old.in_lists.in_flight place flight there) calls
 
@@ -84,14 +86,19 @@ module _ {B : Type 0} (buffer : B → Buffer) (v : RingView) (slots : FinMap nat
   unfolding here
   marked-is = here.1.marked ∙ ap (λ x. x.canceled) (some here.1.operation o (slice_get L.ops flight.entry.serial) here.1.there which)
 
-  pub allows-is : (told : Told) → is_allowed_body v.world flight.marked flight.entry.body told ≡ is_allowed L.world o.canceled (call_of o.request) told
+  pub allows-is : (told : Told) →
+      is_allowed_body v.world flight.marked flight.entry.body told ≡ is_allowed L.world o.canceled (call_of o.request) told
   unfolding s here
-  allows-is told = ap (λ b. is_allowed_body v.world flight.marked b told) here.0.call ∙ ap (λ r. is_allowed v.world flight.marked (call_of r) told) request-is ∙ ap (λ w. is_allowed w flight.marked (call_of o.request) told) old.world ∙ ap (λ m. is_allowed L.world m (call_of o.request) told) marked-is
+  allows-is told = ap (λ b. is_allowed_body v.world flight.marked b told) here.0.call
+      ∙ ap (λ r. is_allowed v.world flight.marked (call_of r) told) request-is
+      ∙ ap (λ w. is_allowed w flight.marked (call_of o.request) told) old.world
+      ∙ ap (λ m. is_allowed L.world m (call_of o.request) told) marked-is
 
   -- What executing it leaves, whatever there is to send.
   effect-of : (told : Told) (sent : List ℕ) → body_effect v.world flight.entry.body sent told ≡ effect L.world (call_of o.request) sent told
   unfolding s here
-  effect-of told sent = ap (λ b. body_effect v.world b sent told) here.0.call ∙ ap (λ r. effect v.world (call_of r) sent told) request-is ∙ ap (λ w. effect w (call_of o.request) sent told) old.world
+  effect-of told sent = ap (λ b. body_effect v.world b sent told) here.0.call ∙ ap (λ r. effect v.world (call_of r) sent told) request-is
+      ∙ ap (λ w. effect w (call_of o.request) sent told) old.world
 
   -- Bytes come to it as they come to its operation's call.
   pub comes-is : (told : Told) → comes (call_of o.request) told ≡ body_comes flight.entry.body told
@@ -99,6 +106,9 @@ module _ {B : Type 0} (buffer : B → Buffer) (v : RingView) (slots : FinMap nat
   comes-is told = sym (ap (λ b. body_comes b told) here.0.call ∙ ap (λ r. comes (call_of r) told) request-is)
 
   -- Executing it with the bytes that its slot shows leaves what the machine does.
-  pub effect-sends : (told : Told) → is_allowed_body v.world flight.marked flight.entry.body told ≡ true → body_effect v.world flight.entry.body (shown_by (plain_request buffer s.request)) told ≡ effect L.world (call_of o.request) (sent_of o.request) told
+  pub effect-sends : (told : Told) → is_allowed_body v.world flight.marked flight.entry.body told ≡ true →
+      body_effect v.world flight.entry.body (shown_by (plain_request buffer s.request)) told ≡ effect L.world (call_of o.request)
+      (sent_of o.request) told
   effect-sends told allows =
-      ap (λ r. body_effect v.world flight.entry.body (shown_by r) told) request-is ∙ effect-of told (shown_by o.request) ∙ effect-shown L.world o.canceled o.request told (sym (allows-is told) ∙ allows)
+      ap (λ r. body_effect v.world flight.entry.body (shown_by r) told) request-is ∙ effect-of told (shown_by o.request)
+      ∙ effect-shown L.world o.canceled o.request told (sym (allows-is told) ∙ allows)

@@ -1,5 +1,6 @@
 -- What treating one completion does to a ring and slots that mean a ledger.
-use Rattle.std.proofs.Common.{◌≡◌, ◌≢◌, ℕ, suc, Bool, true, false, List, [], ◌∷◌, ◌++◌, flat_map, Option, Some, None, refl, sym, ◌∙◌, ap, subst}
+use Rattle.std.proofs.Common.{◌≡◌, ◌≢◌, ℕ, suc, Bool, true, false, List, [], ◌∷◌, ◌++◌, flat_map, Option, Some, None, refl, sym, ◌∙◌, ap}
+use Rattle.std.proofs.Common.{subst}
 use Rattle.std.specs.Prelude.{slice_get, option_to_list}
 use Rattle.std.specs.Ordering.{nat_cmp}
 use Rattle.std.specs.FinMap.{FinMap, get, insert, remove}
@@ -31,14 +32,17 @@ pub record Names (named : Option (ℕ × Option ℕ)) (number : ℕ) (tasks : Li
   pub is : named ≡ Some (number, task)
   pub woken : option_to_list task ≡ tasks
 
+-- A slot that waits is in flight.
 waiting-flies : (t : Option ℕ) → is_flying (waiting t) ≡ true
 waiting-flies None = refl
 waiting-flies (Some t) = refl
 
+-- So is the slot of an operation that is done, dropped or not.
 done-flies : (b : Bool) (r : Outcome) (t : Option ℕ) → is_flying (life_of b (InDone r) t) ≡ true
 done-flies true r t = refl
 done-flies false r t = waiting-flies t
 
+-- A slot that waits wakes its task.
 wakes : (t : Option ℕ) → option_to_list (task_in (waiting t)) ≡ option_to_list t
 wakes None = refl
 wakes (Some t) = refl
@@ -48,14 +52,19 @@ wakes-task : (b : Bool) (r : Outcome) (t : Option ℕ) → option_to_list (task_
 wakes-task true r t = refl
 wakes-task false r t = wakes t
 
-slots-waiting : {B : Type 0} (t : Option ℕ) (m : FinMap nat_cmp (Slot B)) (k : ℕ) (x : Slot B) → slots_completed (waiting t) m k x ≡ insert m k x
+-- The completion of a slot that waits stays in it.
+slots-waiting : {B : Type 0} (t : Option ℕ) (m : FinMap nat_cmp (Slot B)) (k : ℕ) (x : Slot B) →
+    slots_completed (waiting t) m k x ≡ insert m k x
 slots-waiting None m k x = refl
 slots-waiting (Some t) m k x = refl
 
 -- A completion of a reserved word changes nothing but that it is gone.
-pub means-reserved : {B : Type 0} (buffer : B → Buffer) (v : RingView) (slots : FinMap nat_cmp (Slot B)) (L : Ledger) (c : Completion) (rest : List Completion) → Means buffer v slots L → v.done ≡ c ∷ rest → (word : ℕ) → target c.word ≡ Unnamed word → Means buffer (with_done v rest) slots L
+pub means-reserved : {B : Type 0} (buffer : B → Buffer) (v : RingView) (slots : FinMap nat_cmp (Slot B)) (L : Ledger) (c : Completion)
+    (rest : List Completion) → Means buffer v slots L → v.done ≡ c ∷ rest → (word : ℕ) → target c.word ≡ Unnamed word →
+    Means buffer (with_done v rest) slots L
 means-reserved buffer v slots L c rest old first word reserved =
-    let later : (i : ℕ) (x : Completion) → slice_get rest i ≡ Some x → slice_get v.done (suc i) ≡ Some x = λ i x h. ap (λ xs. slice_get xs (suc i)) first ∙ h in
+    let later : (i : ℕ) (x : Completion) → slice_get rest i ≡ Some x →
+    slice_get v.done (suc i) ≡ Some x = λ i x h. ap (λ xs. slice_get xs (suc i)) first ∙ h in
     let l = old.in_lists in
     record {
       capacity = old.capacity;
@@ -75,7 +84,8 @@ means-reserved buffer v slots L c rest old first word reserved =
       };
     }
 
-module _ {B : Type 0} (buffer : B → Buffer) (v : RingView) (slots : FinMap nat_cmp (Slot B)) (L : Ledger) (c : Completion) (rest : List Completion)
+module _ {B : Type 0} (buffer : B → Buffer) (v : RingView) (slots : FinMap nat_cmp (Slot B)) (L : Ledger) (c : Completion)
+    (rest : List Completion)
     (old : Means buffer v slots L) (first : v.done ≡ c ∷ rest) (key : ℕ) (keyed : target c.word ≡ Keyed key) where
   at_head : slice_get v.done 0 ≡ Some c
   at_head = ap (λ xs. slice_get xs 0) first
@@ -144,10 +154,17 @@ module _ {B : Type 0} (buffer : B → Buffer) (v : RingView) (slots : FinMap nat
     }
 
     slots-reaped : SlotsStand buffer (insert slots c.word t) (amended L.ops c.serial with_reap)
-    slots-reaped = subst (λ x. SlotsStand buffer (insert slots c.word t) (amended L.ops x with_reap)) n-is (slots-replaced buffer slots L.ops c.word s t with_reap o old.in_slots slot-there refl there-s lives fits)
+    slots-reaped = subst (λ x. SlotsStand buffer (insert slots c.word t) (amended L.ops x with_reap)) n-is
+        (slots-replaced buffer slots L.ops c.word s t with_reap o old.in_slots slot-there refl there-s lives fits)
 
     slot-kept : (n : ℕ) → n ≢ c.serial → KeepsSlot slots (insert slots c.word t) n
-    slot-kept n q k u h e = (u, other-slot buffer slots L.ops c.word s t with_reap o old.in_slots slot-there refl there-s lives fits k u h (λ r. q (sym e ∙ r ∙ n-is)), refl, refl)
+    slot-kept n q k u h e = (
+      u,
+      other-slot buffer slots L.ops c.word s t with_reap o old.in_slots slot-there refl there-s lives fits k u h
+          (λ r. q (sym e ∙ r ∙ n-is)),
+      refl,
+      refl,
+    )
 
   -- Its user dropped it: its slot is freed.
   module _ where
@@ -155,16 +172,24 @@ module _ {B : Type 0} (buffer : B → Buffer) (v : RingView) (slots : FinMap nat
     was = ap is_kept stands-done
 
     slots-left : SlotsStand buffer (remove slots c.word) (amended L.ops c.serial (at_place Gone))
-    slots-left = subst (λ x. SlotsStand buffer (remove slots c.word) (amended L.ops x (at_place Gone))) n-is (slots-freed buffer slots L.ops c.word s (at_place Gone) o old.in_slots slot-there there-s was refl)
+    slots-left = subst (λ x. SlotsStand buffer (remove slots c.word) (amended L.ops x (at_place Gone))) n-is
+        (slots-freed buffer slots L.ops c.word s (at_place Gone) o old.in_slots slot-there there-s was refl)
 
     slot-left : (n : ℕ) → n ≢ c.serial → KeepsSlot slots (remove slots c.word) n
-    slot-left n q k u h e = (u, other-left buffer slots L.ops c.word s (at_place Gone) o old.in_slots slot-there there-s was refl k u h (λ r. q (sym e ∙ r ∙ n-is)), refl, refl)
+    slot-left n q k u h e = (
+      u,
+      other-left buffer slots L.ops c.word s (at_place Gone) o old.in_slots slot-there there-s was refl k u h
+          (λ r. q (sym e ∙ r ∙ n-is)),
+      refl,
+      refl,
+    )
 
   op-kept : (f : Operation → Operation) (n : ℕ) → n ≢ c.serial → KeepsOp L.ops (amended L.ops c.serial f) n
   op-kept f n q p h = (p, get-amended-other f L.ops c.serial n q ∙ h, refl, refl)
 
   not-this : (n : ℕ) (p : Place) → IsAt L.ops n p → p ≢ InDone c.outcome → n ≢ c.serial
-  not-this n p a h e = h (sym a.stays ∙ ap (λ x. x.place) (some a.operation o (slice_get L.ops n) a.there (ap (slice_get L.ops) e ∙ which)) ∙ stands-done)
+  not-this n p a h e = h (sym a.stays ∙ ap (λ x. x.place) (some a.operation o (slice_get L.ops n) a.there (ap (slice_get L.ops) e ∙ which))
+      ∙ stands-done)
 
   later : (i : ℕ) (x : Completion) → slice_get rest i ≡ Some x → slice_get v.done (suc i) ≡ Some x
   later i x h = ap (λ xs. slice_get xs (suc i)) first ∙ h
@@ -187,33 +212,40 @@ module _ {B : Type 0} (buffer : B → Buffer) (v : RingView) (slots : FinMap nat
     cancels = l.cancels;
   })
 
-  lists-reaped : (slots' : FinMap nat_cmp (Slot B)) (f : Operation → Operation) → ((n : ℕ) → n ≢ c.serial → KeepsSlot slots slots' n) → ListsStand buffer slots' (with_done v rest) (record taken-off { ops = amended L.ops c.serial f })
+  lists-reaped : (slots' : FinMap nat_cmp (Slot B)) (f : Operation → Operation) → ((n : ℕ) → n ≢ c.serial → KeepsSlot slots slots' n) →
+      ListsStand buffer slots' (with_done v rest) (record taken-off { ops = amended L.ops c.serial f })
   lists-reaped slots' f keeps =
       lists-kept buffer slots slots' L.ops (amended L.ops c.serial f) (with_done v rest) taken-off refl
       (λ n a. (let q = not-this n InQueue a (λ r. cc) in (keeps n q, op-kept f n q)))
       (λ n a. (let q = not-this n InFlight a (λ r. cc) in (keeps n q, op-kept f n q)))
       (λ i x h b a. (
-      let q : x.serial ≢ c.serial = λ r. (let z = old.in_lists.done_once (suc i) 0 x c (later i x h) at_head b (ap names_slot keyed) r in cc) in
+      let q : x.serial ≢ c.serial = λ r. (let z = old.in_lists.done_once (suc i) 0 x c (later i x h) at_head b (ap names_slot keyed) r in
+      cc) in
       (keeps x.serial q, op-kept f x.serial q)))
       lists-less
 
-  by_drop : (b : Bool) → o.dropped ≡ b → Means buffer (with_done v rest) (slots_completed (life_of b (InDone c.outcome) o.task) slots c.word t) (reap_if b taken-off c.serial)
-  by_drop true h = subst (λ m. Means buffer (with_done v rest) m (reap_if true taken-off c.serial)) (sym (remove-put slots c.word t)) (record {
-    capacity = old.capacity;
-    world = old.world;
-    in_slots = slots-left;
-    in_lists = lists-reaped (remove slots c.word) (at_place Gone) slot-left;
-  })
-  by_drop false h = subst (λ m. Means buffer (with_done v rest) m (reap_if false taken-off c.serial)) (sym (slots-waiting o.task slots c.word t)) (record {
-    capacity = old.capacity;
-    world = old.world;
-    in_slots = slots-reaped h;
-    in_lists = lists-reaped (insert slots c.word t) with_reap (slot-kept h);
-  })
+  by_drop : (b : Bool) → o.dropped ≡ b →
+      Means buffer (with_done v rest) (slots_completed (life_of b (InDone c.outcome) o.task) slots c.word t) (reap_if b taken-off c.serial)
+  by_drop true h = subst (λ m. Means buffer (with_done v rest) m (reap_if true taken-off c.serial)) (sym (remove-put slots c.word t))
+      (record {
+        capacity = old.capacity;
+        world = old.world;
+        in_slots = slots-left;
+        in_lists = lists-reaped (remove slots c.word) (at_place Gone) slot-left;
+      })
+  by_drop false h = subst (λ m. Means buffer (with_done v rest) m (reap_if false taken-off c.serial))
+      (sym (slots-waiting o.task slots c.word t)) (record {
+        capacity = old.capacity;
+        world = old.world;
+        in_slots = slots-reaped h;
+        in_lists = lists-reaped (insert slots c.word t) with_reap (slot-kept h);
+      })
 
   means-reaped : Means buffer (with_done v rest) (slots_completed s.life slots c.word t) (reap_one taken-off (Op c.serial))
-  means-reaped = subst (λ K. Means buffer (with_done v rest) (slots_completed s.life slots c.word t) K) (sym (ap (reap_op taken-off c.serial) which))
-      (subst (λ l. Means buffer (with_done v rest) (slots_completed l slots c.word t) (reap_if o.dropped taken-off c.serial)) (sym life-is) (by_drop o.dropped refl))
+  means-reaped = subst (λ K. Means buffer (with_done v rest) (slots_completed s.life slots c.word t) K)
+      (sym (ap (reap_op taken-off c.serial) which))
+      (subst (λ l. Means buffer (with_done v rest) (slots_completed l slots c.word t) (reap_if o.dropped taken-off c.serial)) (sym life-is)
+      (by_drop o.dropped refl))
 
   flies : is_flying s.life ≡ true
   flies = ap is_flying life-is ∙ done-flies o.dropped c.outcome o.task
@@ -235,8 +267,10 @@ module _ {B : Type 0} (buffer : B → Buffer) (v : RingView) (slots : FinMap nat
 
   -- What is left means what the ledger's reap leaves.
   pub means-first : Means buffer (with_done v rest) (slots_after slots c (get slots c.word)) (reap_one taken-off (Op c.serial))
-  means-first = subst (λ m. Means buffer (with_done v rest) m (reap_one taken-off (Op c.serial))) (sym (ap (slots_after slots c) slot-there ∙ ap (λ b. slots_if b slots c s) flies)) means-reaped
+  means-first = subst (λ m. Means buffer (with_done v rest) m (reap_one taken-off (Op c.serial)))
+      (sym (ap (slots_after slots c) slot-there ∙ ap (λ b. slots_if b slots c s) flies)) means-reaped
 
 -- Where no completion is ready, none is in the ledger.
-pub ended : {B : Type 0} (buffer : B → Buffer) (v : RingView) (slots : FinMap nat_cmp (Slot B)) (L : Ledger) → Means buffer v slots L → v.done ≡ [] → L.done ≡ []
+pub ended : {B : Type 0} (buffer : B → Buffer) (v : RingView) (slots : FinMap nat_cmp (Slot B)) (L : Ledger) → Means buffer v slots L →
+    v.done ≡ [] → L.done ≡ []
 ended buffer v slots L means h = means.in_lists.done ∙ ap (flat_map done_items_of) h

@@ -1,4 +1,5 @@
--- What the lists of a ring mean in the ledger. Its entries are read by serials there; the ring itself compares words alone. Cited by `Stands`.
+-- What the lists of a ring mean in the ledger. Its entries are read by serials there; the ring itself compares words alone.
+-- Cited by `Stands`.
 use Rattle.std.specs.Prelude.{ℕ, ◌≡◌, ◌<◌, Bool, true, false, List, [], ◌∷◌, map, flat_map, Some, slice_get, ⊤}
 use Rattle.std.specs.Ordering.{nat_cmp}
 use Rattle.std.specs.FinMap as finite
@@ -65,7 +66,8 @@ is_reserved word = names_nothing (target word)
 
 -- No two elements of a list that pass a test have one number.
 abbrev pub Once : {A : Type 0} → (A → Bool) → (A → ℕ) → List A → Type 0
-Once {A} passes number xs = (i j : ℕ) (x y : A) → slice_get xs i ≡ Some x → slice_get xs j ≡ Some y → passes x ≡ true → passes y ≡ true → number x ≡ number y → i ≡ j
+Once {A} passes number xs = (i j : ℕ) (x y : A) → slice_get xs i ≡ Some x → slice_get xs j ≡ Some y → passes x ≡ true → passes y ≡ true →
+    number x ≡ number y → i ≡ j
 
 -- The operation of a number is at a place.
 pub record IsAt (ops : List Operation) (number : ℕ) (place : Place) : Type 0 where
@@ -116,18 +118,22 @@ pub record Meets (entry : Entry) (key number : ℕ) : Type 0 where
 -- A cancel in the queue names a key and means a number: these are the same of each call before it in the queue, and of each call
 -- in flight. So the ring, which compares keys, marks what the ledger marks, however keys were used again.
 pub record CancelsMean (queue : List Entry) (flying : List Flight) : Type 0 where
-  pub before : (i j : ℕ) (entry cancel : Entry) (key : ℕ) → slice_get queue i ≡ Some entry → slice_get queue j ≡ Some cancel → cancel.body ≡ Cancels key → i < j → is_call entry.body ≡ true → Meets entry key cancel.serial
-  pub flown : (i j : ℕ) (flight : Flight) (cancel : Entry) (key : ℕ) → slice_get flying i ≡ Some flight → slice_get queue j ≡ Some cancel → cancel.body ≡ Cancels key → is_call flight.entry.body ≡ true → Meets flight.entry key cancel.serial
+  pub before : (i j : ℕ) (entry cancel : Entry) (key : ℕ) → slice_get queue i ≡ Some entry → slice_get queue j ≡ Some cancel →
+      cancel.body ≡ Cancels key → i < j → is_call entry.body ≡ true → Meets entry key cancel.serial
+  pub flown : (i j : ℕ) (flight : Flight) (cancel : Entry) (key : ℕ) → slice_get flying i ≡ Some flight → slice_get queue j ≡ Some cancel →
+      cancel.body ≡ Cancels key → is_call flight.entry.body ≡ true → Meets flight.entry key cancel.serial
 
 -- The three lists of a ring, read by serials, are those of the ledger; each word in them is the key of the slot of that serial;
 -- an operation's completion has its outcome; no operation stands twice in a list; and each cancel means its operation.
-pub record ListsStand {B : Type 0} (buffer : B → Buffer) (slots : finite.FinMap nat_cmp (Slot B)) (view : RingView) (L : Ledger) : Type 0 where
+pub record ListsStand {B : Type 0} (buffer : B → Buffer) (slots : finite.FinMap nat_cmp (Slot B)) (view : RingView)
+    (L : Ledger) : Type 0 where
   pub queue : L.queue ≡ map queued_of view.queue
   pub flying : L.flying ≡ map item_of view.flying
   pub done : L.done ≡ flat_map done_items_of view.done
   pub in_queue : (i : ℕ) (entry : Entry) → slice_get view.queue i ≡ Some entry → QueuedFor buffer slots L.ops entry entry.body
   pub in_flight : (i : ℕ) (flight : Flight) → slice_get view.flying i ≡ Some flight → FlightFor buffer slots L.ops flight flight.entry.body
-  pub in_done : (i : ℕ) (completion : Completion) → slice_get view.done i ≡ Some completion → DoneFor slots L.ops completion (target completion.word)
+  pub in_done : (i : ℕ) (completion : Completion) → slice_get view.done i ≡ Some completion →
+      DoneFor slots L.ops completion (target completion.word)
   pub queue_once : Once (λ entry. is_call entry.body) (λ entry. entry.serial) view.queue
   pub flight_once : Once (λ flight. is_call flight.entry.body) (λ flight. flight.entry.serial) view.flying
   pub done_once : Once (λ completion. names_slot (target completion.word)) (λ completion. completion.serial) view.done
