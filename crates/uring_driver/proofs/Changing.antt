@@ -24,10 +24,11 @@ use Rattle.uring_driver.specs.Stands.{Means}
 use Rattle.driver_core.proofs.Lists.{some, same-or-not, get-pushed}
 use Rattle.driver_core.proofs.Maps.{put-same, put-other}
 use Rattle.driver_core.proofs.Slots.{slots-replaced, slots-freed, other-left}
-use Rattle.uring_driver.proofs.Kept.{KeepsOp, KeepsSlot, call-queued, lists-kept}
+use Rattle.uring_driver.proofs.Kept.{KeepsOp, KeepsSlot, call-queued, call-flown, lists-kept}
 
 -- A slot's life changes, and its operation with it, where it stands.
-module _ {B : Type 0} (buffer : B → Buffer) (v : RingView) (slots : FinMap nat_cmp (Slot B)) (L : Ledger) (key : ℕ) (s : Slot B) (life : Lifecycle Outcome) (f : Operation → Operation) (o : Operation)
+module _ {B : Type 0} (buffer : B → Buffer) (v : RingView) (slots : FinMap nat_cmp (Slot B)) (L : Ledger) (key : ℕ) (s : Slot B)
+    (life : Lifecycle Outcome) (f : Operation → Operation) (o : Operation)
     (old : Means buffer v slots L) (there : get slots key ≡ Some s) (which : slice_get L.ops s.serial ≡ Some o)
     (stays : (p : Operation) → ((f p).place ≡ p.place) × ((f p).canceled ≡ p.canceled))
     (fits : SlotFor buffer (amended L.ops s.serial f) (with_life s life)) where
@@ -36,13 +37,24 @@ module _ {B : Type 0} (buffer : B → Buffer) (v : RingView) (slots : FinMap nat
 
   op-kept : (n : ℕ) → KeepsOp L.ops (amended L.ops s.serial f) n
   op-kept n p h = elim (same-or-not n s.serial) [
-    | inl e ↦ (f p, ap (slice_get (amended L.ops s.serial f)) e ∙ get-amended-same f L.ops s.serial p (ap (slice_get L.ops) (sym e) ∙ h), (stays p).0, (stays p).1)
+    | inl e ↦ (
+      f p,
+      ap (slice_get (amended L.ops s.serial f)) e
+          ∙ get-amended-same f L.ops s.serial p (ap (slice_get L.ops) (sym e) ∙ h),
+      (stays p).0,
+      (stays p).1,
+    )
     | inr e ↦ (p, get-amended-other f L.ops s.serial n e ∙ h, refl, refl)
   ]
 
   slot-kept : (n : ℕ) → KeepsSlot slots (insert slots key t) n
   slot-kept n k u h q = elim (same-or-not k key) [
-    | inl e ↦ (t, ap (get (insert slots key t)) e ∙ put-same slots key t, ap (λ x. x.serial) (some s u (get slots key) there (ap (get slots) (sym e) ∙ h)), ap (λ x. x.request) (some s u (get slots key) there (ap (get slots) (sym e) ∙ h)))
+    | inl e ↦ (
+      t,
+      ap (get (insert slots key t)) e ∙ put-same slots key t,
+      ap (λ x. x.serial) (some s u (get slots key) there (ap (get slots) (sym e) ∙ h)),
+      ap (λ x. x.request) (some s u (get slots key) there (ap (get slots) (sym e) ∙ h)),
+    )
     | inr e ↦ (u, put-other slots key t k e ∙ h, refl, refl)
   ]
 
@@ -51,21 +63,31 @@ module _ {B : Type 0} (buffer : B → Buffer) (v : RingView) (slots : FinMap nat
     capacity = old.capacity;
     world = old.world;
     in_slots = slots-replaced buffer slots L.ops key s t f o old.in_slots there refl which (ap is_kept (stays o).0) fits;
-    in_lists = lists-kept buffer slots (insert slots key t) L.ops (amended L.ops s.serial f) v L refl (λ n a. (slot-kept n, op-kept n)) (λ n a. (slot-kept n, op-kept n)) (λ i c h a. (slot-kept c.serial, op-kept c.serial)) old.in_lists;
+    in_lists = lists-kept buffer slots (insert slots key t) L.ops (amended L.ops s.serial f) v L refl (λ n a. (slot-kept n, op-kept n))
+        (λ n a. (slot-kept n, op-kept n)) (λ i c h q a. (slot-kept c.serial, op-kept c.serial)) old.in_lists;
   }
 
 -- An operation that was reaped leaves, and its slot is freed.
-module _ {B : Type 0} (buffer : B → Buffer) (v : RingView) (slots : FinMap nat_cmp (Slot B)) (L : Ledger) (key : ℕ) (s : Slot B) (f : Operation → Operation) (o : Operation) (r : Outcome)
-    (old : Means buffer v slots L) (there : get slots key ≡ Some s) (which : slice_get L.ops s.serial ≡ Some o) (at_user : o.place ≡ Reaped r) (gone : is_live (f o) ≡ false) where
+module _ {B : Type 0} (buffer : B → Buffer) (v : RingView) (slots : FinMap nat_cmp (Slot B)) (L : Ledger) (key : ℕ) (s : Slot B)
+    (f : Operation → Operation) (o : Operation) (r : Outcome)
+    (old : Means buffer v slots L) (there : get slots key ≡ Some s) (which : slice_get L.ops s.serial ≡ Some o)
+    (at_user : o.place ≡ Reaped r) (gone : is_live (f o) ≡ false) where
   other : (n : ℕ) (p : Place) → IsAt L.ops n p → p ≢ Reaped r → n ≢ s.serial
-  other n p a h e = h (sym a.stays ∙ ap (λ x. x.place) (some a.operation o (slice_get L.ops n) a.there (ap (slice_get L.ops) e ∙ which)) ∙ at_user)
+  other n p a h e = h (sym a.stays ∙ ap (λ x. x.place) (some a.operation o (slice_get L.ops n) a.there (ap (slice_get L.ops) e ∙ which))
+      ∙ at_user)
 
   lives : is_live o ≡ true
   lives = ap is_kept at_user
 
-  both : (n : ℕ) (p : Place) → p ≢ Reaped r → IsAt L.ops n p → KeepsSlot slots (remove slots key) n × KeepsOp L.ops (amended L.ops s.serial f) n
+  both : (n : ℕ) (p : Place) → p ≢ Reaped r → IsAt L.ops n p →
+      KeepsSlot slots (remove slots key) n × KeepsOp L.ops (amended L.ops s.serial f) n
   both n p h a = (
-    λ k u q i. (u, other-left buffer slots L.ops key s f o old.in_slots there which lives gone k u q (λ e. other n p a h (sym i ∙ e)), refl, refl),
+    λ k u q i. (
+      u,
+      other-left buffer slots L.ops key s f o old.in_slots there which lives gone k u q (λ e. other n p a h (sym i ∙ e)),
+      refl,
+      refl,
+    ),
     λ q i. (q, get-amended-other f L.ops s.serial n (other n p a h) ∙ i, refl, refl),
   )
 
@@ -74,11 +96,13 @@ module _ {B : Type 0} (buffer : B → Buffer) (v : RingView) (slots : FinMap nat
     capacity = old.capacity;
     world = old.world;
     in_slots = slots-freed buffer slots L.ops key s f o old.in_slots there which lives gone;
-    in_lists = lists-kept buffer slots (remove slots key) L.ops (amended L.ops s.serial f) v L refl (λ n a. both n InQueue (λ q. cc) a) (λ n a. both n InFlight (λ q. cc) a) (λ i c h a. both c.serial (InDone c.outcome) (λ q. cc) a) old.in_lists;
+    in_lists = lists-kept buffer slots (remove slots key) L.ops (amended L.ops s.serial f) v L refl (λ n a. both n InQueue (λ q. cc) a)
+        (λ n a. both n InFlight (λ q. cc) a) (λ i c h b a. both c.serial (InDone c.outcome) (λ q. cc) a) old.in_lists;
   }
 
 -- A cancel of the operation of a live slot joins the queue's end.
-module _ {B : Type 0} (buffer : B → Buffer) (w : RingView) (slots : FinMap nat_cmp (Slot B)) (M : Ledger) (key : ℕ) (s : Slot B) (number : ℕ)
+module _ {B : Type 0} (buffer : B → Buffer) (w : RingView) (slots : FinMap nat_cmp (Slot B)) (M : Ledger) (key : ℕ) (s : Slot B)
+    (number : ℕ)
     (old : Means buffer w slots M) (there : get slots key ≡ Some s) (serial : s.serial ≡ number) where
   abbrev c' : Entry
   c' = cancel_entry key number
@@ -109,9 +133,9 @@ module _ {B : Type 0} (buffer : B → Buffer) (w : RingView) (slots : FinMap nat
       ]
       | inr a ↦ absurd (no-call e a.1 q)
     ];
-    flown = λ i j f c k h l b. elim (get-pushed w.queue c' j c l) [
-      | inl d ↦ old.in_lists.cancels.flown i j f c k h d b
-      | inr d ↦ meets-last f.entry c k (old.in_lists.in_flight i f h).0 d.1 b
+    flown = λ i j f c k h l b q. elim (get-pushed w.queue c' j c l) [
+      | inl d ↦ old.in_lists.cancels.flown i j f c k h d b q
+      | inr d ↦ meets-last f.entry c k (call-flown buffer slots M.ops f f.entry.body (old.in_lists.in_flight i f h) q).0 d.1 b
     ];
   }
 

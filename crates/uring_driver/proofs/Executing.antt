@@ -1,12 +1,15 @@
 -- What an execution does to a ring and slots that mean a ledger.
-use Rattle.std.proofs.Common.{◌≡◌, ◌≢◌, ◌⊎◌, inl, inr, ℕ, ◌≤◌, ◌<◌, Bool, true, false, Option, List, ◌++◌, [], ◌∷◌, Some, refl, sym, ◌∙◌, ap, subst, length, map}
+use Rattle.std.proofs.Common.{◌≡◌, ◌≢◌, ◌⊎◌, inl, inr, ℕ, ◌≤◌, Bool, true, false, Option, List, ◌++◌, [], ◌∷◌, Some, refl, sym, ◌∙◌}
+use Rattle.std.proofs.Common.{ap, subst, arith, length, map, flat_map}
 use Rattle.std.specs.Prelude.{slice_get, remove}
 use Rattle.std.specs.Ordering.{nat_cmp}
 use Rattle.std.specs.FinMap.{FinMap, get, insert}
-use Rattle.std.proofs.lemmas.List.{map-append}
 use Rattle.rent_buf.specs.Buffer.{Buffer}
 use Rattle.rent_buf.specs.Parts.{Parts}
 use Rattle.ring_core.specs.Ring.{RingView}
+use Rattle.ring_core.specs.Entry.{target}
+use Rattle.ring_core.specs.declared.entry.Target.TheVariants.{Slot as Keyed}
+use Rattle.ring_core.proofs.Targets.{target-slot}
 use Rattle.ring_core.specs.Lists.{amended}
 use Rattle.ring_core.specs.MemRing.{IsFinished, body_effect}
 use Rattle.ring_core.specs.Outcome.{is_allowed}
@@ -28,12 +31,13 @@ use Rattle.driver_core.specs.Ops.{Ops}
 use Rattle.driver_core.specs.Slot.{KeepsNumbers}
 use Rattle.driver_core.specs.Slots.{SlotFor, SlotsStand, life_of}
 use Rattle.driver_core.specs.Operations.{StoresAt}
-use Rattle.uring_driver.specs.Lists.{EntryFor, CompletionFor, IsAt, IsFlown, ListsStand, queued_of, item_of, done_item_of, is_reserved, kept as unreserved}
+use Rattle.uring_driver.specs.Lists.{EntryFor, CompletionFor, DoneFor, IsAt, IsFlown, ListsStand, is_call, names_slot, queued_of, item_of}
+use Rattle.uring_driver.specs.Lists.{done_items_of}
 use Rattle.uring_driver.specs.Stands.{Means}
 use Rattle.driver_core.proofs.Lists.{some, skip, skip-not, skip-one, get-removed, map-removed, get-pushed}
 use Rattle.driver_core.proofs.Maps.{put-same, put-self}
 use Rattle.driver_core.proofs.Slots.{slots-replaced, other-slot}
-use Rattle.uring_driver.proofs.Kept.{queued-kept, kept-pushed, not-reserved}
+use Rattle.uring_driver.proofs.Kept.{queued-kept, flight-kept, done-kept, slot-done, done-pushed}
 use Rattle.uring_driver.proofs.Flights.{o, s, slot-there, n-is, there-s, which, flies, request-is, life-is, allows-is, comes-is, here}
 
 -- An operation that was executed keeps its stage of life.
@@ -42,7 +46,8 @@ done-life true r t = refl
 done-life false r t = refl
 
 -- A slot after its operation was executed: its request holds what the outcome leaves, and nothing else of it changed.
-record IsExecutedSlot {B : Type 0} (buffer : B → Buffer) (before after : FinMap nat_cmp (Slot B)) (key : ℕ) (r : Request Buffer Parts) (told : Told) (got : List ℕ) (old : Slot B) : Type 0 where
+record IsExecutedSlot {B : Type 0} (buffer : B → Buffer) (before after : FinMap nat_cmp (Slot B)) (key : ℕ) (r : Request Buffer Parts)
+    (told : Told) (got : List ℕ) (old : Slot B) : Type 0 where
   now : Slot B
   changed : after ≡ insert before key now
   serial : now.serial ≡ old.serial
@@ -50,7 +55,8 @@ record IsExecutedSlot {B : Type 0} (buffer : B → Buffer) (before after : FinMa
   request : IsHolding r (held r told got) (plain_request buffer now.request)
 
 -- What an execution stores, where bytes come, is what its outcome leaves.
-executed-slot : {B : Type 0} (buffer : B → Buffer) (before after : Ops B) (key : ℕ) (r : Request Buffer Parts) (told : Told) (got : List ℕ) (slot : Slot B) →
+executed-slot : {B : Type 0} (buffer : B → Buffer) (before after : Ops B) (key : ℕ) (r : Request Buffer Parts) (told : Told) (got : List ℕ)
+    (slot : Slot B) →
     get before.slots.values key ≡ Some slot → plain_request buffer slot.request ≡ r → length got ≤ room_of r →
     (b : Bool) → comes (call_of r) told ≡ b → StoresIf (StoresAt buffer) b before key got after →
     IsExecutedSlot buffer before.slots.values after.slots.values key r told got slot
@@ -69,18 +75,26 @@ executed-slot buffer before after key r told got slot there is fits false brings
   changed = ap (λ x. x.slots.values) same ∙ sym (put-self before.slots.values key slot there);
   serial = refl;
   life = refl;
-  request = subst (λ h. IsHolding r h (plain_request buffer slot.request)) (sym (held-stays r told got brings)) (subst (λ x. IsHolding r (held_of r) x) (sym is) (holding-own r));
+  request = subst (λ h. IsHolding r h (plain_request buffer slot.request)) (sym (held-stays r told got brings))
+      (subst (λ x. IsHolding r (held_of r) x) (sym is) (holding-own r));
 }
 
 -- An execution changes no number, and gives none.
-pub executed-numbers : {B : Type 0} (buffer : B → Buffer) (before after : Ops B) (key : ℕ) (got : List ℕ) (b : Bool) → StoresIf (StoresAt buffer) b before key got after →
+pub executed-numbers : {B : Type 0} (buffer : B → Buffer) (before after : Ops B) (key : ℕ) (got : List ℕ) (b : Bool) →
+    StoresIf (StoresAt buffer) b before key got after →
     KeepsNumbers before.slots.values after.slots.values × (after.given ≡ before.given)
 executed-numbers buffer before after key got true stored = (stored.numbers, stored.given)
-executed-numbers buffer before after key got false same = (subst (λ x. KeepsNumbers before.slots.values x.slots.values) (sym same) (λ k. refl), ap (λ x. x.given) same)
+executed-numbers buffer before after key got false same =
+    (subst (λ x. KeepsNumbers before.slots.values x.slots.values) (sym same) (λ k. refl), ap (λ x. x.given) same)
 
-module _ {B : Type 0} (buffer : B → Buffer) (v : RingView) (before after : Ops B) (L : Ledger) (place : ℕ) (told : Told) (sent : List ℕ) (v' : RingView) (got : List ℕ) (c : Completion)
-    (old : Means buffer v before.slots.values L) (fin : IsFinished v place told sent v' got c) (stores : StoresIf (StoresAt buffer) (body_comes fin.flight.entry.body told) before c.word got after)
-    (eff : body_effect v.world fin.flight.entry.body sent told ≡ effect L.world (call_of (o buffer v before.slots.values L place fin.flight old fin.there).request) (sent_of (o buffer v before.slots.values L place fin.flight old fin.there).request) told) where
+module _ {B : Type 0} (buffer : B → Buffer) (v : RingView) (before after : Ops B) (L : Ledger) (place : ℕ) (told : Told) (sent : List ℕ)
+    (v' : RingView) (got : List ℕ) (c : Completion)
+    (old : Means buffer v before.slots.values L) (fin : IsFinished v place told sent v' got c)
+    (calls : is_call fin.flight.entry.body ≡ true)
+    (stores : StoresIf (StoresAt buffer) (body_comes fin.flight.entry.body told) before c.word got after)
+    (eff : body_effect v.world fin.flight.entry.body sent told ≡ effect L.world
+    (call_of (o buffer v before.slots.values L place fin.flight old fin.there calls).request)
+    (sent_of (o buffer v before.slots.values L place fin.flight old fin.there calls).request) told) where
   abbrev slots : FinMap nat_cmp (Slot B)
   slots = before.slots.values
 
@@ -91,10 +105,10 @@ module _ {B : Type 0} (buffer : B → Buffer) (v : RingView) (before after : Ops
   n = fin.flight.entry.serial
 
   abbrev op : Operation
-  op = o buffer v slots L place fin.flight old fin.there
+  op = o buffer v slots L place fin.flight old fin.there calls
 
   abbrev slot : Slot B
-  slot = s buffer v slots L place fin.flight old fin.there
+  slot = s buffer v slots L place fin.flight old fin.there calls
 
   abbrev result : Effect
   result = effect L.world (call_of op.request) (sent_of op.request) told
@@ -122,25 +136,30 @@ module _ {B : Type 0} (buffer : B → Buffer) (v : RingView) (before after : Ops
 
   stored-is : IsExecutedSlot buffer slots slots' c.word op.request told got slot
   stored-is =
-      let allows : is_allowed L.world op.canceled (call_of op.request) told ≡ true = sym (allows-is buffer v slots L place fin.flight old fin.there told) ∙ fin.allows in
-      let fit : length got ≤ room_of op.request = subst (λ x. length x ≤ room_of op.request) (sym got-is) (got-fits L.world op.canceled op.request told (sent_of op.request) allows) in
-      executed-slot buffer before after c.word op.request told got slot (ap (get slots) word ∙ slot-there buffer v slots L place fin.flight old fin.there) (request-is buffer v slots L place fin.flight old fin.there) fit
-      (body_comes fin.flight.entry.body told) (comes-is buffer v slots L place fin.flight old fin.there told) stores
+      let allows : is_allowed L.world op.canceled (call_of op.request) told ≡ true =
+      sym (allows-is buffer v slots L place fin.flight old fin.there calls told) ∙ fin.allows in
+      let fit : length got ≤ room_of op.request = subst (λ x. length x ≤ room_of op.request) (sym got-is)
+      (got-fits L.world op.canceled op.request told (sent_of op.request) allows) in
+      executed-slot buffer before after c.word op.request told got slot (ap (get slots) word
+      ∙ slot-there buffer v slots L place fin.flight old fin.there calls)
+      (request-is buffer v slots L place fin.flight old fin.there calls) fit
+      (body_comes fin.flight.entry.body told) (comes-is buffer v slots L place fin.flight old fin.there calls told) stores
 
   abbrev t : Slot B
   t = stored-is.now
 
   lives : is_live (f op) ≡ is_live op
-  lives = sym (ap is_kept (flies buffer v slots L place fin.flight old fin.there))
+  lives = sym (ap is_kept (flies buffer v slots L place fin.flight old fin.there calls))
 
   fits-t : SlotFor buffer (amended L.ops slot.serial f) t
   unfolding stored-is
   fits-t = record {
     operation = f op;
-    there = ap (slice_get (amended L.ops slot.serial f)) stored-is.serial ∙ get-amended-same f L.ops slot.serial op (there-s buffer v slots L place fin.flight old fin.there);
+    there = ap (slice_get (amended L.ops slot.serial f)) stored-is.serial
+        ∙ get-amended-same f L.ops slot.serial op (there-s buffer v slots L place fin.flight old fin.there calls);
     live = refl;
     request = subst (λ x. IsHolding op.request (held op.request told x) (plain_request buffer t.request)) got-is stored-is.request;
-    life = stored-is.life ∙ life-is buffer v slots L place fin.flight old fin.there ∙ done-life op.dropped result.outcome op.task;
+    life = stored-is.life ∙ life-is buffer v slots L place fin.flight old fin.there calls ∙ done-life op.dropped result.outcome op.task;
     fresh = λ h. (let z : false ≡ true = h in cc);
     uncanceled = λ h. cc;
   }
@@ -148,42 +167,65 @@ module _ {B : Type 0} (buffer : B → Buffer) (v : RingView) (before after : Ops
   slots-stand : SlotsStand buffer slots' ops'
   unfolding stored-is
   slots-stand =
-      let a = slots-replaced buffer slots L.ops fin.flight.entry.word slot t f op old.in_slots (slot-there buffer v slots L place fin.flight old fin.there) stored-is.serial (there-s buffer v slots L place fin.flight old fin.there) lives fits-t in
-      subst (λ x. SlotsStand buffer x ops') (sym (stored-is.changed ∙ ap (λ k. insert slots k t) word)) (subst (λ x. SlotsStand buffer (insert slots fin.flight.entry.word t) (amended L.ops x f)) (n-is buffer v slots L place fin.flight old fin.there) a)
+      let a = slots-replaced buffer slots L.ops fin.flight.entry.word slot t f op old.in_slots
+      (slot-there buffer v slots L place fin.flight old fin.there calls) stored-is.serial
+      (there-s buffer v slots L place fin.flight old fin.there calls) lives fits-t in
+      subst (λ x. SlotsStand buffer x ops') (sym (stored-is.changed ∙ ap (λ k. insert slots k t) word))
+      (subst (λ x. SlotsStand buffer (insert slots fin.flight.entry.word t) (amended L.ops x f))
+      (n-is buffer v slots L place fin.flight old fin.there calls) a)
 
   -- The slots of other numbers are kept.
   slot-kept : (k : ℕ) (u : Slot B) → get slots k ≡ Some u → u.serial ≢ n → get slots' k ≡ Some u
   unfolding stored-is
   slot-kept k u h q =
-      let a = other-slot buffer slots L.ops fin.flight.entry.word slot t f op old.in_slots (slot-there buffer v slots L place fin.flight old fin.there) stored-is.serial (there-s buffer v slots L place fin.flight old fin.there) lives fits-t k u h (λ r. q (r ∙ n-is buffer v slots L place fin.flight old fin.there)) in
+      let a = other-slot buffer slots L.ops fin.flight.entry.word slot t f op old.in_slots
+      (slot-there buffer v slots L place fin.flight old fin.there calls) stored-is.serial
+      (there-s buffer v slots L place fin.flight old fin.there calls) lives fits-t k u h
+      (λ r. q (r ∙ n-is buffer v slots L place fin.flight old fin.there calls)) in
       ap (λ m. get m k) (stored-is.changed ∙ ap (λ x. insert slots x t) word) ∙ a
 
   at-kept : (m : ℕ) (p : Place) → IsAt L.ops m p → m ≢ n → IsAt ops' m p
   at-kept m p a q = record { operation = a.operation; there = get-amended-other f L.ops n m q ∙ a.there; stays = a.stays }
 
   flown-kept : (x : Flight) → IsFlown L.ops x → x.entry.serial ≢ n → IsFlown ops' x
-  flown-kept x a q = record { operation = a.operation; there = get-amended-other f L.ops n x.entry.serial q ∙ a.there; stays = a.stays; marked = a.marked }
+  flown-kept x a q = record {
+    operation = a.operation;
+    there = get-amended-other f L.ops n x.entry.serial q ∙ a.there;
+    stays = a.stays;
+    marked = a.marked;
+  }
 
   entry-kept : (x : Entry) → EntryFor buffer slots x → x.serial ≢ n → EntryFor buffer slots' x
-  entry-kept x E q = record { slot = E.slot; there = slot-kept x.word E.slot E.there (λ r. q (sym E.serial ∙ r)); serial = E.serial; call = E.call }
+  entry-kept x E q = record {
+    slot = E.slot;
+    there = slot-kept x.word E.slot E.there (λ r. q (sym E.serial ∙ r));
+    serial = E.serial;
+    call = E.call;
+  }
 
   completion-kept : (x : Completion) → CompletionFor slots x → x.serial ≢ n → CompletionFor slots' x
   completion-kept x E q = record { slot = E.slot; there = slot-kept x.word E.slot E.there (λ r. q (sym E.serial ∙ r)); serial = E.serial }
 
   not-this : (m : ℕ) (p : Place) → IsAt L.ops m p → p ≢ InFlight → m ≢ n
   not-this m p a h e =
-      let b = here buffer v slots L place fin.flight old fin.there in
-      h (sym a.stays ∙ ap (λ x. x.place) (some a.operation op (slice_get L.ops m) a.there (ap (slice_get L.ops) e ∙ which buffer v slots L place fin.flight old fin.there)) ∙ flies buffer v slots L place fin.flight old fin.there)
+      let b = here buffer v slots L place fin.flight old fin.there calls in
+      h (sym a.stays ∙ ap (λ x. x.place)
+      (some a.operation op (slice_get L.ops m) a.there (ap (slice_get L.ops) e
+      ∙ which buffer v slots L place fin.flight old fin.there calls)) ∙ flies buffer v slots L place fin.flight old fin.there calls)
 
   new-place : IsAt ops' n (InDone c.outcome)
-  new-place = record { operation = f op; there = get-amended-same f L.ops n op (which buffer v slots L place fin.flight old fin.there); stays = ap (λ x. InDone x) (sym outcome) }
+  new-place = record {
+    operation = f op;
+    there = get-amended-same f L.ops n op (which buffer v slots L place fin.flight old fin.there calls);
+    stays = ap (λ x. InDone x) (sym outcome);
+  }
 
   new-completion : CompletionFor slots' c
   unfolding stored-is
   new-completion = record {
     slot = t;
     there = ap (λ m. get m c.word) stored-is.changed ∙ put-same slots c.word t;
-    serial = stored-is.serial ∙ n-is buffer v slots L place fin.flight old fin.there ∙ sym serial;
+    serial = stored-is.serial ∙ n-is buffer v slots L place fin.flight old fin.there calls ∙ sym serial;
   }
 
   queue-is : v'.queue ≡ v.queue
@@ -192,16 +234,24 @@ module _ {B : Type 0} (buffer : B → Buffer) (v : RingView) (before after : Ops
   flying-is : v'.flying ≡ remove v.flying place
   flying-is = ap (λ x. x.flying) fin.ring
 
-  done-is : unreserved v'.done ≡ unreserved v.done ++ c ∷ []
-  done-is =
-      let free : is_reserved c.word ≡ false = not-reserved c.word (subst (λ x. x < 4294967232) (sym word) (old.in_slots.below fin.flight.entry.word slot (slot-there buffer v slots L place fin.flight old fin.there))) in
-      ap unreserved (ap (λ x. x.done) fin.ring ∙ ap (λ x. v.done ++ x ∷ []) (sym fin.answer)) ∙ kept-pushed v.done c free
+  done-is : v'.done ≡ v.done ++ c ∷ []
+  done-is = ap (λ x. x.done) fin.ring ∙ ap (λ x. v.done ++ x ∷ []) (sym fin.answer)
+
+  keyed : target c.word ≡ Keyed c.word
+  keyed =
+      let below = old.in_slots.below fin.flight.entry.word slot (slot-there buffer v slots L place fin.flight old fin.there calls) in
+      target-slot c.word (omega (arith, word, below))
 
   flew : (i : ℕ) (x : Flight) → slice_get v'.flying i ≡ Some x → slice_get v.flying (skip place i) ≡ Some x
   flew i x h = sym (get-removed v.flying place i) ∙ ap (λ xs. slice_get xs i) (sym flying-is) ∙ h
 
-  done-at : (i : ℕ) (x : Completion) → slice_get (unreserved v'.done) i ≡ Some x → (slice_get (unreserved v.done) i ≡ Some x) ⊎ ((i ≡ length (unreserved v.done)) × (x ≡ c))
-  done-at i x h = get-pushed (unreserved v.done) c i x (ap (λ xs. slice_get xs i) (sym done-is) ∙ h)
+  done-at : (i : ℕ) (x : Completion) → slice_get v'.done i ≡ Some x → (slice_get v.done i ≡ Some x) ⊎ ((i ≡ length v.done) × (x ≡ c))
+  done-at i x h = get-pushed v.done c i x (ap (λ xs. slice_get xs i) (sym done-is) ∙ h)
+
+  -- What was done before is of another operation.
+  done-other : (i : ℕ) (x : Completion) → slice_get v.done i ≡ Some x → names_slot (target x.word) ≡ true → x.serial ≢ n
+  done-other i x h q = not-this x.serial (InDone x.outcome) (slot-done slots L.ops x (target x.word) (old.in_lists.in_done i x h) q).1
+      (λ z. cc)
 
   lists-stand : ListsStand buffer slots' v' L'
   lists-stand =
@@ -209,41 +259,54 @@ module _ {B : Type 0} (buffer : B → Buffer) (v : RingView) (before after : Ops
       record {
         queue = l.queue ∙ ap (map queued_of) (sym queue-is);
         flying = ap (λ x. remove x place) l.flying ∙ sym (map-removed item_of v.flying place) ∙ ap (map item_of) (sym flying-is);
-        done = ap (λ x. x ++ Op n ∷ []) l.done ∙ ap (λ x. map done_item_of (unreserved v.done) ++ Op x ∷ []) (sym serial) ∙ sym (map-append done_item_of (unreserved v.done) (c ∷ [])) ∙ ap (map done_item_of) (sym done-is);
+        done = ap (λ x. x ++ Op n ∷ []) l.done ∙ ap (λ x. flat_map done_items_of v.done ++ Op x ∷ []) (sym serial)
+            ∙ sym (done-pushed v.done c c.word keyed) ∙ ap (flat_map done_items_of) (sym done-is);
         in_queue = λ i x h. (
-            queued-kept buffer slots slots' L.ops ops' x x.body (λ _ a. (let q = not-this x.serial InQueue a.1 (λ r. cc) in (entry-kept x a.0 q, at-kept x.serial InQueue a.1 q)))
+            queued-kept buffer slots slots' L.ops ops' x x.body
+            (λ _ a. (let q = not-this x.serial InQueue a.1 (λ r. cc) in (entry-kept x a.0 q, at-kept x.serial InQueue a.1 q)))
             (l.in_queue i x (ap (λ xs. slice_get xs i) (sym queue-is) ∙ h)));
         in_flight = λ i x h. (
             let at = flew i x h in
-            let a = l.in_flight (skip place i) x at in
-            let q : x.entry.serial ≢ n = λ r. skip-not place i (l.flight_once (skip place i) place x fin.flight at fin.there r) in
-            (entry-kept x.entry a.0 q, flown-kept x a.1 q));
+            flight-kept buffer slots slots' L.ops ops' x x x.entry.body
+            (λ b a. (
+            let q : x.entry.serial ≢ n = λ r. skip-not place i (l.flight_once (skip place i) place x fin.flight at fin.there b calls r) in
+            (entry-kept x.entry a.0 q, flown-kept x a.1 q)))
+            (l.in_flight (skip place i) x at));
         in_done = λ i x h. elim (done-at i x h) [
-          | inl r ↦
-              let a = l.in_done i x r in
+          | inl r ↦ done-kept slots slots' L.ops ops' x (target x.word)
+              (λ _ a. (
               let q = not-this x.serial (InDone x.outcome) a.1 (λ y. cc) in
-              (completion-kept x a.0 q, at-kept x.serial (InDone x.outcome) a.1 q)
-          | inr r ↦ (subst (λ y. CompletionFor slots' y) (sym r.1) new-completion, subst (λ y. IsAt ops' y.serial (InDone y.outcome)) (sym r.1) (subst (λ y. IsAt ops' y (InDone c.outcome)) (sym serial) new-place))
+              (completion-kept x a.0 q, at-kept x.serial (InDone x.outcome) a.1 q)))
+              (l.in_done i x r)
+          | inr r ↦ subst (λ y. DoneFor slots' ops' y (target y.word)) (sym r.1) (subst (λ t. DoneFor slots' ops' c t) (sym keyed)
+              (new-completion, subst (λ y. IsAt ops' y (InDone c.outcome)) (sym serial) new-place))
         ];
-        queue_once = λ i j x y h k a b r. l.queue_once i j x y (ap (λ xs. slice_get xs i) (sym queue-is) ∙ h) (ap (λ xs. slice_get xs j) (sym queue-is) ∙ k) a b r;
-        flight_once = λ i j x y h k r. skip-one place i j (l.flight_once (skip place i) (skip place j) x y (flew i x h) (flew j y k) r);
-        done_once = λ i j x y h k r. elim (done-at i x h) [
+        queue_once = λ i j x y h k a b r. l.queue_once i j x y (ap (λ xs. slice_get xs i) (sym queue-is) ∙ h)
+            (ap (λ xs. slice_get xs j) (sym queue-is) ∙ k) a b r;
+        flight_once = λ i j x y h k a b r. skip-one place i j
+            (l.flight_once (skip place i) (skip place j) x y (flew i x h) (flew j y k) a b r);
+        done_once = λ i j x y h k p q r. elim (done-at i x h) [
           | inl a ↦ elim (done-at j y k) [
-            | inl b ↦ l.done_once i j x y a b r
-            | inr b ↦ absurd (not-this x.serial (InDone x.outcome) (l.in_done i x a).1 (λ z. cc) (r ∙ ap (λ z. z.serial) b.1 ∙ serial))
+            | inl b ↦ l.done_once i j x y a b p q r
+            | inr b ↦ absurd (done-other i x a p (r ∙ ap (λ z. z.serial) b.1 ∙ serial))
           ]
           | inr a ↦ elim (done-at j y k) [
-            | inl b ↦ absurd (not-this y.serial (InDone y.outcome) (l.in_done j y b).1 (λ z. cc) (sym r ∙ ap (λ z. z.serial) a.1 ∙ serial))
+            | inl b ↦ absurd (done-other j y b q (sym r ∙ ap (λ z. z.serial) a.1 ∙ serial))
             | inr b ↦ a.0 ∙ sym b.0
           ]
         ];
         cancels = record {
-          before = λ i j x y key h k b less q. l.cancels.before i j x y key (ap (λ xs. slice_get xs i) (sym queue-is) ∙ h) (ap (λ xs. slice_get xs j) (sym queue-is) ∙ k) b less q;
-          flown = λ i j x y key h k b. l.cancels.flown (skip place i) j x y key (flew i x h) (ap (λ xs. slice_get xs j) (sym queue-is) ∙ k) b;
+          before = λ i j x y key h k b less q. l.cancels.before i j x y key (ap (λ xs. slice_get xs i) (sym queue-is) ∙ h)
+              (ap (λ xs. slice_get xs j) (sym queue-is) ∙ k) b less q;
+          flown = λ i j x y key h k b q. l.cancels.flown (skip place i) j x y key (flew i x h) (ap (λ xs. slice_get xs j) (sym queue-is)
+              ∙ k) b q;
         };
       }
 
-  pub means-executed : Means buffer v' after.slots.values (with_effect (complete_at L place (Op fin.flight.entry.serial)) fin.flight.entry.serial told (effect L.world (call_of (o buffer v before.slots.values L place fin.flight old fin.there).request) (sent_of (o buffer v before.slots.values L place fin.flight old fin.there).request) told))
+  pub means-executed : Means buffer v' after.slots.values
+      (with_effect (complete_at L place (Op fin.flight.entry.serial)) fin.flight.entry.serial told
+      (effect L.world (call_of (o buffer v before.slots.values L place fin.flight old fin.there calls).request)
+      (sent_of (o buffer v before.slots.values L place fin.flight old fin.there calls).request) told))
   means-executed = record {
     capacity = ap (λ x. x.capacity) fin.ring ∙ old.capacity;
     world = ap (λ x. x.world) fin.ring ∙ ap (λ x. x.world) eff;

@@ -1,4 +1,4 @@
--- What stands in flight at a place, of a ring and slots that mean a ledger, and what executing it gives.
+-- A call in flight at a place, of a ring and slots that mean a ledger, and what executing it gives.
 use Rattle.std.proofs.Common.{◌≡◌, ℕ, true, List, Some, refl, sym, ◌∙◌, ap, subst, length, take}
 use Rattle.std.specs.Prelude.{slice_get}
 use Rattle.std.specs.Ordering.{nat_cmp}
@@ -24,12 +24,14 @@ use Rattle.ring_core.proofs.Amended.{length-amended}
 use Rattle.ring_core.proofs.Requests.{holding-same, effect-shown}
 use Rattle.driver_core.specs.declared.slot.Slot.{Slot}
 use Rattle.driver_core.specs.Slots.{SlotFor, is_early, life_of}
-use Rattle.uring_driver.specs.Lists.{EntryFor, IsFlown}
+use Rattle.uring_driver.specs.Lists.{EntryFor, IsFlown, is_call}
 use Rattle.uring_driver.specs.Stands.{Means}
 use Rattle.driver_core.proofs.Lists.{some}
+use Rattle.uring_driver.proofs.Kept.{call-flown}
 
 -- An executed call leaves as many handles.
-pub length-effect : (world : List HandleState) (call : Call) (sent : List ℕ) (told : Told) → length (effect world call sent told).world ≡ length world
+pub length-effect : (world : List HandleState) (call : Call) (sent : List ℕ) (told : Told) →
+    length (effect world call sent told).world ≡ length world
 length-effect world (In h want) sent (Count k) = length-amended (without_front k) world h
 length-effect world (In h want) sent (Fail e) = refl
 length-effect world (Out h offered) sent (Count k) = length-amended (with_output (take k sent)) world h
@@ -40,10 +42,11 @@ pub length-body-effect : (world : List HandleState) (body : Body) (sent : List �
 length-body-effect world (Calls call) sent told = length-effect world call sent told
 length-body-effect world (Cancels key) sent told = refl
 
--- What stands in flight at a place, in a ring and slots that mean a ledger.
-module _ {B : Type 0} (buffer : B → Buffer) (v : RingView) (slots : FinMap nat_cmp (Slot B)) (L : Ledger) (place : ℕ) (flight : Flight) (old : Means buffer v slots L) (there : slice_get v.flying place ≡ Some flight) where
+-- A call in flight at a place, in a ring and slots that mean a ledger.
+module _ {B : Type 0} (buffer : B → Buffer) (v : RingView) (slots : FinMap nat_cmp (Slot B)) (L : Ledger) (place : ℕ) (flight : Flight)
+    (old : Means buffer v slots L) (there : slice_get v.flying place ≡ Some flight) (calls : is_call flight.entry.body ≡ true) where
   pub here : EntryFor buffer slots flight.entry × IsFlown L.ops flight
-  here = old.in_lists.in_flight place flight there
+  here = call-flown buffer slots L.ops flight flight.entry.body (old.in_lists.in_flight place flight there) calls
 
   pub s : Slot B
   unfolding here
@@ -90,14 +93,19 @@ module _ {B : Type 0} (buffer : B → Buffer) (v : RingView) (slots : FinMap nat
   unfolding here
   marked-is = here.1.marked ∙ ap (λ x. x.canceled) (some here.1.operation o (slice_get L.ops flight.entry.serial) here.1.there which)
 
-  pub allows-is : (told : Told) → is_allowed_body v.world flight.marked flight.entry.body told ≡ is_allowed L.world o.canceled (call_of o.request) told
+  pub allows-is : (told : Told) →
+      is_allowed_body v.world flight.marked flight.entry.body told ≡ is_allowed L.world o.canceled (call_of o.request) told
   unfolding s here
-  allows-is told = ap (λ b. is_allowed_body v.world flight.marked b told) here.0.call ∙ ap (λ r. is_allowed v.world flight.marked (call_of r) told) request-is ∙ ap (λ w. is_allowed w flight.marked (call_of o.request) told) old.world ∙ ap (λ m. is_allowed L.world m (call_of o.request) told) marked-is
+  allows-is told = ap (λ b. is_allowed_body v.world flight.marked b told) here.0.call
+      ∙ ap (λ r. is_allowed v.world flight.marked (call_of r) told) request-is
+      ∙ ap (λ w. is_allowed w flight.marked (call_of o.request) told) old.world
+      ∙ ap (λ m. is_allowed L.world m (call_of o.request) told) marked-is
 
   -- What executing it leaves, whatever there is to send.
   effect-of : (told : Told) (sent : List ℕ) → body_effect v.world flight.entry.body sent told ≡ effect L.world (call_of o.request) sent told
   unfolding s here
-  effect-of told sent = ap (λ b. body_effect v.world b sent told) here.0.call ∙ ap (λ r. effect v.world (call_of r) sent told) request-is ∙ ap (λ w. effect w (call_of o.request) sent told) old.world
+  effect-of told sent = ap (λ b. body_effect v.world b sent told) here.0.call ∙ ap (λ r. effect v.world (call_of r) sent told) request-is
+      ∙ ap (λ w. effect w (call_of o.request) sent told) old.world
 
   -- Bytes come to it as they come to its operation's call.
   pub comes-is : (told : Told) → comes (call_of o.request) told ≡ body_comes flight.entry.body told
@@ -105,6 +113,9 @@ module _ {B : Type 0} (buffer : B → Buffer) (v : RingView) (slots : FinMap nat
   comes-is told = sym (ap (λ b. body_comes b told) here.0.call ∙ ap (λ r. comes (call_of r) told) request-is)
 
   -- Executing it with the bytes that its slot shows leaves what the machine does.
-  pub effect-sends : (told : Told) → is_allowed_body v.world flight.marked flight.entry.body told ≡ true → body_effect v.world flight.entry.body (shown_by (plain_request buffer s.request)) told ≡ effect L.world (call_of o.request) (sent_of o.request) told
+  pub effect-sends : (told : Told) → is_allowed_body v.world flight.marked flight.entry.body told ≡ true →
+      body_effect v.world flight.entry.body (shown_by (plain_request buffer s.request)) told ≡ effect L.world (call_of o.request)
+      (sent_of o.request) told
   effect-sends told allows =
-      ap (λ r. body_effect v.world flight.entry.body (shown_by r) told) request-is ∙ effect-of told (shown_by o.request) ∙ effect-shown L.world o.canceled o.request told (sym (allows-is told) ∙ allows)
+      ap (λ r. body_effect v.world flight.entry.body (shown_by r) told) request-is ∙ effect-of told (shown_by o.request)
+      ∙ effect-shown L.world o.canceled o.request told (sym (allows-is told) ∙ allows)

@@ -1,5 +1,5 @@
 -- A ring that differs in what means nothing, and what is left of a queue once its head is taken.
-use Rattle.std.proofs.Common.{◌≡◌, ℕ, suc, List, ◌∷◌, Some, sym, ◌∙◌, ap, subst, arith}
+use Rattle.std.proofs.Common.{◌≡◌, ℕ, suc, true, List, ◌∷◌, Some, sym, ◌∙◌, ap, subst, arith}
 use Rattle.std.specs.Prelude.{slice_get}
 use Rattle.std.specs.Ordering.{nat_cmp}
 use Rattle.std.specs.FinMap.{FinMap}
@@ -10,11 +10,13 @@ use Rattle.ring_core.specs.declared.entry.Entry.{Entry}
 use Rattle.ring_core.specs.declared.entry.Flight.{Flight}
 use Rattle.ring_core.specs.Ledger.{Ledger}
 use Rattle.driver_core.specs.declared.slot.Slot.{Slot}
-use Rattle.uring_driver.specs.Lists.{Meets, CancelsMean, ListsStand}
+use Rattle.uring_driver.specs.Lists.{Meets, CancelsMean, ListsStand, is_call}
 use Rattle.uring_driver.specs.Stands.{Means}
 
 -- A ring that differs in what means nothing.
-pub means-view : {B : Type 0} (buffer : B → Buffer) (v w : RingView) (slots : FinMap nat_cmp (Slot B)) (L : Ledger) → w.capacity ≡ v.capacity → w.queue ≡ v.queue → w.flying ≡ v.flying → w.done ≡ v.done → w.world ≡ v.world → Means buffer v slots L → Means buffer w slots L
+pub means-view : {B : Type 0} (buffer : B → Buffer) (v w : RingView) (slots : FinMap nat_cmp (Slot B)) (L : Ledger) →
+    w.capacity ≡ v.capacity → w.queue ≡ v.queue → w.flying ≡ v.flying → w.done ≡ v.done → w.world ≡ v.world → Means buffer v slots L →
+    Means buffer w slots L
 means-view buffer v w slots L capacity queue flying done world old =
     let l = old.in_lists in
     record {
@@ -24,20 +26,35 @@ means-view buffer v w slots L capacity queue flying done world old =
       in_lists = subst (λ xs. ListsStand buffer slots (record w { queue = xs }) L) (sym queue)
           (subst (λ xs. ListsStand buffer slots (record w { queue = v.queue; flying = xs }) L) (sym flying)
           (subst (λ xs. ListsStand buffer slots (record w { queue = v.queue; flying = v.flying; done = xs }) L) (sym done)
-          (record { queue = l.queue; flying = l.flying; done = l.done; in_queue = l.in_queue; in_flight = l.in_flight; in_done = l.in_done; queue_once = l.queue_once; flight_once = l.flight_once; done_once = l.done_once; cancels = l.cancels })));
+          (record {
+            queue = l.queue;
+            flying = l.flying;
+            done = l.done;
+            in_queue = l.in_queue;
+            in_flight = l.in_flight;
+            in_done = l.in_done;
+            queue_once = l.queue_once;
+            flight_once = l.flight_once;
+            done_once = l.done_once;
+            cancels = l.cancels;
+          })));
     }
 
 -- The head of a queue, and what is behind it.
 pub at-head : (v : RingView) (e : Entry) (rest : List Entry) → v.queue ≡ e ∷ rest → slice_get v.queue 0 ≡ Some e
 at-head v e rest first = ap (λ xs. slice_get xs 0) first
 
-pub behind-head : (v : RingView) (e : Entry) (rest : List Entry) → v.queue ≡ e ∷ rest → (i : ℕ) (x : Entry) → slice_get rest i ≡ Some x → slice_get v.queue (suc i) ≡ Some x
+-- What is behind the head is one place further on.
+pub behind-head : (v : RingView) (e : Entry) (rest : List Entry) → v.queue ≡ e ∷ rest → (i : ℕ) (x : Entry) → slice_get rest i ≡ Some x →
+    slice_get v.queue (suc i) ≡ Some x
 behind-head v e rest first i x h = ap (λ xs. slice_get xs (suc i)) first ∙ h
 
 -- The cancels that are left once the head is taken mean what they meant.
 pub cancels-left : (v : RingView) (e : Entry) (rest : List Entry) → v.queue ≡ e ∷ rest → CancelsMean v.queue v.flying → (fs : List Flight) →
-    ((i j : ℕ) (f : Flight) (c : Entry) (key : ℕ) → slice_get fs i ≡ Some f → slice_get rest j ≡ Some c → c.body ≡ Cancels key → Meets f.entry key c.serial) → CancelsMean rest fs
+    ((i j : ℕ) (f : Flight) (c : Entry) (key : ℕ) → slice_get fs i ≡ Some f → slice_get rest j ≡ Some c → c.body ≡ Cancels key →
+    is_call f.entry.body ≡ true → Meets f.entry key c.serial) → CancelsMean rest fs
 cancels-left v e rest first old fs all = record {
-  before = λ i j x c key h k b l q. old.before (suc i) (suc j) x c key (behind-head v e rest first i x h) (behind-head v e rest first j c k) b (omega (arith, l)) q;
+  before = λ i j x c key h k b l q. old.before (suc i) (suc j) x c key (behind-head v e rest first i x h)
+      (behind-head v e rest first j c k) b (omega (arith, l)) q;
   flown = all;
 }

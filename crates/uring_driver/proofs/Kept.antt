@@ -1,5 +1,6 @@
 -- Lists that mean the same after a change of slots and of operations that keeps what each entry needs.
-use Rattle.std.proofs.Common.{◌≡◌, ℕ, Bool, true, false, List, [], ◌∷◌, ◌++◌, Some, refl, sym, ◌∙◌, ap, subst, arith, ◌<◌, append-nil}
+use Rattle.std.proofs.Common.{◌≡◌, ℕ, true, List, [], ◌∷◌, ◌++◌, Some, refl, sym, ◌∙◌, ap, subst, append-nil, flat_map}
+use Rattle.std.proofs.lemmas.List.Concat.{flat_map-append}
 use Rattle.std.specs.Prelude.{slice_get}
 use Rattle.std.specs.Ordering.{nat_cmp}
 use Rattle.std.specs.FinMap.{FinMap, get}
@@ -11,24 +12,31 @@ use Rattle.ring_core.specs.declared.entry.Body.TheVariants.{Call as Calls, Cance
 use Rattle.ring_core.specs.declared.entry.Entry.{Entry}
 use Rattle.ring_core.specs.declared.entry.Completion.{Completion}
 use Rattle.ring_core.specs.declared.entry.Flight.{Flight}
-use Rattle.ring_core.specs.Ledger.{Ledger, Operation, Place, InQueue, InFlight, InDone}
+use Rattle.ring_core.specs.declared.entry.Target.{Target}
+use Rattle.ring_core.specs.declared.entry.Target.TheVariants.{Slot as Keyed, Reserved}
+use Rattle.ring_core.specs.Entry.{target}
+use Rattle.ring_core.specs.Ledger.{Ledger, Op, Operation, Place, InQueue, InFlight, InDone}
 use Rattle.driver_core.specs.declared.slot.Slot.{Slot}
-use Rattle.uring_driver.specs.Lists.{EntryFor, CompletionFor, IsAt, IsFlown, QueuedFor, ListsStand, is_call, names_no_slot, is_reserved, kept, kept_unless}
+use Rattle.uring_driver.specs.Lists.{EntryFor, CompletionFor, IsAt, IsFlown, QueuedFor, FlightFor, DoneFor, ListsStand, is_call, names_slot}
+use Rattle.uring_driver.specs.Lists.{item_in, done_items_in, done_items_of}
 use Rattle.ring_core.specs.declared.entry.TheConstants.{CANCEL_WORD}
-use Rattle.ring_core.proofs.Targets.{target-slot}
 
 -- What a call in the queue is.
-pub call-queued : {B : Type 0} (buffer : B → Buffer) (slots : FinMap nat_cmp (Slot B)) (ops : List Operation) (e : Entry) (b : Body) → QueuedFor buffer slots ops e b → is_call b ≡ true → EntryFor buffer slots e × IsAt ops e.serial InQueue
+pub call-queued : {B : Type 0} (buffer : B → Buffer) (slots : FinMap nat_cmp (Slot B)) (ops : List Operation) (e : Entry) (b : Body) →
+    QueuedFor buffer slots ops e b → is_call b ≡ true → EntryFor buffer slots e × IsAt ops e.serial InQueue
 call-queued buffer slots ops e (Calls call) q h = q
 call-queued buffer slots ops e (Cancels key) q h = (let f : ⊥ = cc in absurd f)
 
 -- The word of a cancel in the queue.
-pub cancel-queued : {B : Type 0} (buffer : B → Buffer) (slots : FinMap nat_cmp (Slot B)) (ops : List Operation) (e : Entry) (b : Body) → QueuedFor buffer slots ops e b → (key : ℕ) → b ≡ Cancels key → e.word ≡ CANCEL_WORD
+pub cancel-queued : {B : Type 0} (buffer : B → Buffer) (slots : FinMap nat_cmp (Slot B)) (ops : List Operation) (e : Entry) (b : Body) →
+    QueuedFor buffer slots ops e b → (key : ℕ) → b ≡ Cancels key → e.word ≡ CANCEL_WORD
 cancel-queued buffer slots ops e (Calls call) q key h = (let f : ⊥ = cc in absurd f)
 cancel-queued buffer slots ops e (Cancels k) q key h = q
 
 -- What an entry in the queue means is kept by all that keeps it of a call.
-pub queued-kept : {B : Type 0} (buffer : B → Buffer) (slots slots' : FinMap nat_cmp (Slot B)) (ops ops' : List Operation) (e : Entry) (b : Body) → (is_call b ≡ true → EntryFor buffer slots e × IsAt ops e.serial InQueue → EntryFor buffer slots' e × IsAt ops' e.serial InQueue) → QueuedFor buffer slots ops e b → QueuedFor buffer slots' ops' e b
+pub queued-kept : {B : Type 0} (buffer : B → Buffer) (slots slots' : FinMap nat_cmp (Slot B)) (ops ops' : List Operation) (e : Entry)
+    (b : Body) → (is_call b ≡ true → EntryFor buffer slots e × IsAt ops e.serial InQueue →
+    EntryFor buffer slots' e × IsAt ops' e.serial InQueue) → QueuedFor buffer slots ops e b → QueuedFor buffer slots' ops' e b
 queued-kept buffer slots slots' ops ops' e (Calls call) go q = go refl q
 queued-kept buffer slots slots' ops ops' e (Cancels key) go q = q
 
@@ -36,47 +44,74 @@ queued-kept buffer slots slots' ops ops' e (Cancels key) go q = q
 pub flown-at : (ops : List Operation) (f : Flight) → IsFlown ops f → IsAt ops f.entry.serial InFlight
 flown-at ops f a = record { operation = a.operation; there = a.there; stays = a.stays }
 
--- A key is no reserved word.
-pub not-reserved : (key : ℕ) → key < 4294967232 → is_reserved key ≡ false
-not-reserved key h = ap names_no_slot (target-slot key (omega (arith, h)))
+-- What a call in flight is.
+pub call-flown : {B : Type 0} (buffer : B → Buffer) (slots : FinMap nat_cmp (Slot B)) (ops : List Operation) (f : Flight) (b : Body) →
+    FlightFor buffer slots ops f b → is_call b ≡ true → EntryFor buffer slots f.entry × IsFlown ops f
+call-flown buffer slots ops f (Calls call) q h = q
+call-flown buffer slots ops f (Cancels key) q h = absurd q
 
-unless-joined : (b : Bool) (c : Completion) (xs ys : List Completion) → kept_unless b c (xs ++ ys) ≡ kept_unless b c xs ++ ys
-unless-joined true c xs ys = refl
-unless-joined false c xs ys = refl
+-- What an entry in flight means is kept by all that keeps it of a call, also where the entry is marked.
+pub flight-kept : {B : Type 0} (buffer : B → Buffer) (slots slots' : FinMap nat_cmp (Slot B)) (ops ops' : List Operation) (f g : Flight)
+    (b : Body) → (is_call b ≡ true → EntryFor buffer slots f.entry × IsFlown ops f → EntryFor buffer slots' g.entry × IsFlown ops' g) →
+    FlightFor buffer slots ops f b → FlightFor buffer slots' ops' g b
+flight-kept buffer slots slots' ops ops' f g (Calls call) go q = go refl q
+flight-kept buffer slots slots' ops ops' f g (Cancels key) go q = q
 
-kept-joined : (xs ys : List Completion) → kept (xs ++ ys) ≡ kept xs ++ kept ys
-kept-joined [] ys = refl
-kept-joined (c ∷ xs) ys = ap (kept_unless (is_reserved c.word) c) (kept-joined xs ys) ∙ unless-joined (is_reserved c.word) c (kept xs) (kept ys)
+-- A call in flight is an operation.
+pub call-item : (e : Entry) (b : Body) → is_call b ≡ true → item_in e b ≡ Op e.serial
+call-item e (Calls call) h = refl
+call-item e (Cancels key) h = (let f : ⊥ = cc in absurd f)
 
--- A completion that isn't reserved is the last one kept.
-pub kept-pushed : (xs : List Completion) (c : Completion) → is_reserved c.word ≡ false → kept (xs ++ c ∷ []) ≡ kept xs ++ c ∷ []
-kept-pushed xs c h = kept-joined xs (c ∷ []) ∙ ap (λ b. kept xs ++ kept_unless b c []) h
+-- What a completion is whose word names a slot.
+pub slot-done : {B : Type 0} (slots : FinMap nat_cmp (Slot B)) (ops : List Operation) (c : Completion) (t : Target) →
+    DoneFor slots ops c t → names_slot t ≡ true → CompletionFor slots c × IsAt ops c.serial (InDone c.outcome)
+slot-done slots ops c (Keyed key) q h = q
+slot-done slots ops c (Reserved word) q h = (let f : ⊥ = cc in absurd f)
 
--- A cancel's word is reserved.
-pub cancel-reserved : (word : ℕ) → word ≡ CANCEL_WORD → is_reserved word ≡ true
-cancel-reserved word h = ap is_reserved h
+-- What a completion means is kept by all that keeps it where its word names a slot.
+pub done-kept : {B : Type 0} (slots slots' : FinMap nat_cmp (Slot B)) (ops ops' : List Operation) (c : Completion) (t : Target) →
+    (names_slot t ≡ true → CompletionFor slots c × IsAt ops c.serial (InDone c.outcome) →
+    CompletionFor slots' c × IsAt ops' c.serial (InDone c.outcome)) → DoneFor slots ops c t → DoneFor slots' ops' c t
+done-kept slots slots' ops ops' c (Keyed key) go q = go refl q
+done-kept slots slots' ops ops' c (Reserved word) go q = q
 
--- A completion that is reserved isn't kept.
-pub kept-reserved : (xs : List Completion) (c : Completion) → is_reserved c.word ≡ true → kept (xs ++ c ∷ []) ≡ kept xs
-kept-reserved xs c h = kept-joined xs (c ∷ []) ∙ ap (λ b. kept xs ++ kept_unless b c []) h ∙ append-nil (kept xs)
+-- The last completion is its operation's where its word names a slot.
+pub done-pushed : (xs : List Completion) (c : Completion) (key : ℕ) → target c.word ≡ Keyed key →
+    flat_map done_items_of (xs ++ c ∷ []) ≡ flat_map done_items_of xs ++ Op c.serial ∷ []
+done-pushed xs c key h = flat_map-append done_items_of xs (c ∷ []) ∙ ap (λ t. flat_map done_items_of xs ++ (done_items_in c t ++ [])) h
+
+-- The last completion means nothing where its word is reserved.
+pub done-reserved : (xs : List Completion) (c : Completion) (word : ℕ) → target c.word ≡ Reserved word →
+    flat_map done_items_of (xs ++ c ∷ []) ≡ flat_map done_items_of xs
+done-reserved xs c word h = flat_map-append done_items_of xs (c ∷ []) ∙ ap (λ t. flat_map done_items_of xs ++ (done_items_in c t ++ [])) h
+    ∙ append-nil (flat_map done_items_of xs)
 
 -- The operation of a number is at the place where it was, and its cancel was taken exactly where it was.
 abbrev pub KeepsOp : List Operation → List Operation → ℕ → Type 0
-KeepsOp ops ops' n = (o : Operation) → slice_get ops n ≡ Some o → (p : Operation) × (slice_get ops' n ≡ Some p) × (p.place ≡ o.place) × (p.canceled ≡ o.canceled)
+KeepsOp ops ops' n = (o : Operation) → slice_get ops n ≡ Some o →
+    (p : Operation) × (slice_get ops' n ≡ Some p) × (p.place ≡ o.place) × (p.canceled ≡ o.canceled)
 
 -- A slot of a number stays at its key, with its number and its request.
 abbrev pub KeepsSlot : {B : Type 0} → FinMap nat_cmp (Slot B) → FinMap nat_cmp (Slot B) → ℕ → Type 0
-KeepsSlot {B} slots slots' n = (k : ℕ) (t : Slot B) → get slots k ≡ Some t → t.serial ≡ n → (u : Slot B) × (get slots' k ≡ Some u) × (u.serial ≡ t.serial) × (u.request ≡ t.request)
+KeepsSlot {B} slots slots' n = (k : ℕ) (t : Slot B) → get slots k ≡ Some t → t.serial ≡ n →
+    (u : Slot B) × (get slots' k ≡ Some u) × (u.serial ≡ t.serial) × (u.request ≡ t.request)
 
 module _ {B : Type 0} (buffer : B → Buffer) (slots slots' : FinMap nat_cmp (Slot B)) (ops ops' : List Operation) where
   pub entry-kept : (e : Entry) → KeepsSlot slots slots' e.serial → EntryFor buffer slots e → EntryFor buffer slots' e
-  entry-kept e keeps E = (let u = keeps e.word E.slot E.there E.serial in record { slot = u.0; there = u.1; serial = u.2 ∙ E.serial; call = E.call ∙ ap (λ r. Calls (call_of (plain_request buffer r))) (sym u.3) })
+  entry-kept e keeps E = (let u = keeps e.word E.slot E.there E.serial in
+      record {
+        slot = u.0;
+        there = u.1;
+        serial = u.2 ∙ E.serial;
+        call = E.call ∙ ap (λ r. Calls (call_of (plain_request buffer r))) (sym u.3);
+      })
 
   pub at-kept : (n : ℕ) (p : Place) → KeepsOp ops ops' n → IsAt ops n p → IsAt ops' n p
   at-kept n p keeps a = (let o = keeps a.operation a.there in record { operation = o.0; there = o.1; stays = o.2 ∙ a.stays })
 
   pub flown-kept : (f : Flight) → KeepsOp ops ops' f.entry.serial → IsFlown ops f → IsFlown ops' f
-  flown-kept f keeps a = (let o = keeps a.operation a.there in record { operation = o.0; there = o.1; stays = o.2 ∙ a.stays; marked = a.marked ∙ sym o.3 })
+  flown-kept f keeps a = (let o = keeps a.operation a.there in
+      record { operation = o.0; there = o.1; stays = o.2 ∙ a.stays; marked = a.marked ∙ sym o.3 })
 
   pub completion-kept : (c : Completion) → KeepsSlot slots slots' c.serial → CompletionFor slots c → CompletionFor slots' c
   completion-kept c keeps C = (let u = keeps c.word C.slot C.there C.serial in record { slot = u.0; there = u.1; serial = u.2 ∙ C.serial })
@@ -85,7 +120,8 @@ module _ {B : Type 0} (buffer : B → Buffer) (slots slots' : FinMap nat_cmp (Sl
   pub lists-kept : (v : RingView) (L : Ledger) → L.ops ≡ ops →
       ((n : ℕ) → IsAt ops n InQueue → KeepsSlot slots slots' n × KeepsOp ops ops' n) →
       ((n : ℕ) → IsAt ops n InFlight → KeepsSlot slots slots' n × KeepsOp ops ops' n) →
-      ((i : ℕ) (c : Completion) → slice_get (kept v.done) i ≡ Some c → IsAt ops c.serial (InDone c.outcome) → KeepsSlot slots slots' c.serial × KeepsOp ops ops' c.serial) →
+      ((i : ℕ) (c : Completion) → slice_get v.done i ≡ Some c → names_slot (target c.word) ≡ true → IsAt ops c.serial (InDone c.outcome) →
+      KeepsSlot slots slots' c.serial × KeepsOp ops ops' c.serial) →
       ListsStand buffer slots v L → ListsStand buffer slots' v (record L { ops = ops' })
   lists-kept v L same in_queue in_flight in_done old =
       let at : (n : ℕ) (p : Place) → IsAt L.ops n p → IsAt ops n p = λ n p a. subst (λ x. IsAt x n p) same a in
@@ -93,9 +129,15 @@ module _ {B : Type 0} (buffer : B → Buffer) (slots slots' : FinMap nat_cmp (Sl
         queue = old.queue;
         flying = old.flying;
         done = old.done;
-        in_queue = λ i e h. queued-kept buffer slots slots' L.ops ops' e e.body (λ q a. (let k = in_queue e.serial (at e.serial InQueue a.1) in (entry-kept e k.0 a.0, at-kept e.serial InQueue k.1 (at e.serial InQueue a.1)))) (old.in_queue i e h);
-        in_flight = λ i f h. (let a = old.in_flight i f h in let b = subst (λ x. IsFlown x f) same a.1 in let k = in_flight f.entry.serial (flown-at ops f b) in (entry-kept f.entry k.0 a.0, flown-kept f k.1 b));
-        in_done = λ i c h. (let a = old.in_done i c h in let b = at c.serial (InDone c.outcome) a.1 in let k = in_done i c h b in (completion-kept c k.0 a.0, at-kept c.serial (InDone c.outcome) k.1 b));
+        in_queue = λ i e h. queued-kept buffer slots slots' L.ops ops' e e.body
+            (λ q a. (let k = in_queue e.serial (at e.serial InQueue a.1) in
+            (entry-kept e k.0 a.0, at-kept e.serial InQueue k.1 (at e.serial InQueue a.1)))) (old.in_queue i e h);
+        in_flight = λ i f h. flight-kept buffer slots slots' L.ops ops' f f f.entry.body
+            (λ q a. (let b = subst (λ x. IsFlown x f) same a.1 in let k = in_flight f.entry.serial (flown-at ops f b) in
+            (entry-kept f.entry k.0 a.0, flown-kept f k.1 b))) (old.in_flight i f h);
+        in_done = λ i c h. done-kept slots slots' L.ops ops' c (target c.word)
+            (λ q a. (let b = at c.serial (InDone c.outcome) a.1 in let k = in_done i c h q b in
+            (completion-kept c k.0 a.0, at-kept c.serial (InDone c.outcome) k.1 b))) (old.in_done i c h);
         queue_once = old.queue_once;
         flight_once = old.flight_once;
         done_once = old.done_once;

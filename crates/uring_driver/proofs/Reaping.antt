@@ -1,5 +1,6 @@
 -- What treating one completion does to a ring and slots that mean a ledger.
-use Rattle.std.proofs.Common.{◌≡◌, ◌≢◌, ℕ, suc, Bool, true, false, List, [], ◌∷◌, map, Option, Some, None, refl, sym, ◌∙◌, ap, subst}
+use Rattle.std.proofs.Common.{◌≡◌, ◌≢◌, ℕ, suc, Bool, true, false, List, [], ◌∷◌, ◌++◌, flat_map, Option, Some, None, refl, sym, ◌∙◌, ap}
+use Rattle.std.proofs.Common.{subst}
 use Rattle.std.specs.Prelude.{slice_get, option_to_list}
 use Rattle.std.specs.Ordering.{nat_cmp}
 use Rattle.std.specs.FinMap.{FinMap, get, insert, remove}
@@ -16,7 +17,9 @@ use Rattle.ring_core.proofs.Amended.{get-amended-same, get-amended-other}
 use Rattle.driver_core.specs.declared.slot.Slot.{Slot}
 use Rattle.driver_core.specs.Slot.{with_life, is_flying, task_in, slots_completed, named_by, named_if, slots_if, slots_after}
 use Rattle.driver_core.specs.Slots.{SlotFor, SlotsStand, waiting, life_of, is_early}
-use Rattle.uring_driver.specs.Lists.{CompletionFor, IsAt, ListsStand, is_reserved, kept, kept_unless, done_item_of}
+use Rattle.ring_core.specs.declared.entry.Target.TheVariants.{Slot as Keyed, Reserved as Unnamed}
+use Rattle.ring_core.specs.Entry.{target}
+use Rattle.uring_driver.specs.Lists.{CompletionFor, DoneFor, IsAt, ListsStand, names_slot, done_items_in, done_items_of}
 use Rattle.uring_driver.specs.Stands.{Means}
 use Rattle.driver_core.proofs.Lists.{some}
 use Rattle.driver_core.proofs.Maps.{remove-put}
@@ -29,14 +32,17 @@ pub record Names (named : Option (ℕ × Option ℕ)) (number : ℕ) (tasks : Li
   pub is : named ≡ Some (number, task)
   pub woken : option_to_list task ≡ tasks
 
+-- A slot that waits is in flight.
 waiting-flies : (t : Option ℕ) → is_flying (waiting t) ≡ true
 waiting-flies None = refl
 waiting-flies (Some t) = refl
 
+-- So is the slot of an operation that is done, dropped or not.
 done-flies : (b : Bool) (r : Outcome) (t : Option ℕ) → is_flying (life_of b (InDone r) t) ≡ true
 done-flies true r t = refl
 done-flies false r t = waiting-flies t
 
+-- A slot that waits wakes its task.
 wakes : (t : Option ℕ) → option_to_list (task_in (waiting t)) ≡ option_to_list t
 wakes None = refl
 wakes (Some t) = refl
@@ -46,14 +52,19 @@ wakes-task : (b : Bool) (r : Outcome) (t : Option ℕ) → option_to_list (task_
 wakes-task true r t = refl
 wakes-task false r t = wakes t
 
-slots-waiting : {B : Type 0} (t : Option ℕ) (m : FinMap nat_cmp (Slot B)) (k : ℕ) (x : Slot B) → slots_completed (waiting t) m k x ≡ insert m k x
+-- The completion of a slot that waits stays in it.
+slots-waiting : {B : Type 0} (t : Option ℕ) (m : FinMap nat_cmp (Slot B)) (k : ℕ) (x : Slot B) →
+    slots_completed (waiting t) m k x ≡ insert m k x
 slots-waiting None m k x = refl
 slots-waiting (Some t) m k x = refl
 
 -- A completion of a reserved word changes nothing but that it is gone.
-pub means-reserved : {B : Type 0} (buffer : B → Buffer) (v : RingView) (slots : FinMap nat_cmp (Slot B)) (L : Ledger) (c : Completion) (rest : List Completion) → Means buffer v slots L → v.done ≡ c ∷ rest → is_reserved c.word ≡ true → Means buffer (with_done v rest) slots L
-means-reserved buffer v slots L c rest old first reserved =
-    let same : kept v.done ≡ kept rest = ap kept first ∙ ap (λ b. kept_unless b c (kept rest)) reserved in
+pub means-reserved : {B : Type 0} (buffer : B → Buffer) (v : RingView) (slots : FinMap nat_cmp (Slot B)) (L : Ledger) (c : Completion)
+    (rest : List Completion) → Means buffer v slots L → v.done ≡ c ∷ rest → (word : ℕ) → target c.word ≡ Unnamed word →
+    Means buffer (with_done v rest) slots L
+means-reserved buffer v slots L c rest old first word reserved =
+    let later : (i : ℕ) (x : Completion) → slice_get rest i ≡ Some x →
+    slice_get v.done (suc i) ≡ Some x = λ i x h. ap (λ xs. slice_get xs (suc i)) first ∙ h in
     let l = old.in_lists in
     record {
       capacity = old.capacity;
@@ -62,24 +73,25 @@ means-reserved buffer v slots L c rest old first reserved =
       in_lists = record {
         queue = l.queue;
         flying = l.flying;
-        done = l.done ∙ ap (map done_item_of) same;
+        done = l.done ∙ ap (flat_map done_items_of) first ∙ ap (λ t. done_items_in c t ++ flat_map done_items_of rest) reserved;
         in_queue = l.in_queue;
         in_flight = l.in_flight;
-        in_done = λ i x h. l.in_done i x (ap (λ xs. slice_get xs i) same ∙ h);
+        in_done = λ i x h. l.in_done (suc i) x (later i x h);
         queue_once = l.queue_once;
         flight_once = l.flight_once;
-        done_once = λ i j x y h k e. l.done_once i j x y (ap (λ xs. slice_get xs i) same ∙ h) (ap (λ xs. slice_get xs j) same ∙ k) e;
+        done_once = λ i j x y h k a b e. (let z = l.done_once (suc i) (suc j) x y (later i x h) (later j y k) a b e in cc);
         cancels = l.cancels;
       };
     }
 
-module _ {B : Type 0} (buffer : B → Buffer) (v : RingView) (slots : FinMap nat_cmp (Slot B)) (L : Ledger) (c : Completion) (rest : List Completion)
-    (old : Means buffer v slots L) (first : v.done ≡ c ∷ rest) (free : is_reserved c.word ≡ false) where
-  first-kept : kept v.done ≡ c ∷ kept rest
-  first-kept = ap kept first ∙ ap (λ b. kept_unless b c (kept rest)) free
+module _ {B : Type 0} (buffer : B → Buffer) (v : RingView) (slots : FinMap nat_cmp (Slot B)) (L : Ledger) (c : Completion)
+    (rest : List Completion)
+    (old : Means buffer v slots L) (first : v.done ≡ c ∷ rest) (key : ℕ) (keyed : target c.word ≡ Keyed key) where
+  at_head : slice_get v.done 0 ≡ Some c
+  at_head = ap (λ xs. slice_get xs 0) first
 
   here : CompletionFor slots c × IsAt L.ops c.serial (InDone c.outcome)
-  here = old.in_lists.in_done 0 c (ap (λ xs. slice_get xs 0) first-kept)
+  here = subst (λ t. DoneFor slots L.ops c t) keyed (old.in_lists.in_done 0 c at_head)
 
   s : Slot B
   unfolding here
@@ -142,10 +154,17 @@ module _ {B : Type 0} (buffer : B → Buffer) (v : RingView) (slots : FinMap nat
     }
 
     slots-reaped : SlotsStand buffer (insert slots c.word t) (amended L.ops c.serial with_reap)
-    slots-reaped = subst (λ x. SlotsStand buffer (insert slots c.word t) (amended L.ops x with_reap)) n-is (slots-replaced buffer slots L.ops c.word s t with_reap o old.in_slots slot-there refl there-s lives fits)
+    slots-reaped = subst (λ x. SlotsStand buffer (insert slots c.word t) (amended L.ops x with_reap)) n-is
+        (slots-replaced buffer slots L.ops c.word s t with_reap o old.in_slots slot-there refl there-s lives fits)
 
     slot-kept : (n : ℕ) → n ≢ c.serial → KeepsSlot slots (insert slots c.word t) n
-    slot-kept n q k u h e = (u, other-slot buffer slots L.ops c.word s t with_reap o old.in_slots slot-there refl there-s lives fits k u h (λ r. q (sym e ∙ r ∙ n-is)), refl, refl)
+    slot-kept n q k u h e = (
+      u,
+      other-slot buffer slots L.ops c.word s t with_reap o old.in_slots slot-there refl there-s lives fits k u h
+          (λ r. q (sym e ∙ r ∙ n-is)),
+      refl,
+      refl,
+    )
 
   -- Its user dropped it: its slot is freed.
   module _ where
@@ -153,23 +172,31 @@ module _ {B : Type 0} (buffer : B → Buffer) (v : RingView) (slots : FinMap nat
     was = ap is_kept stands-done
 
     slots-left : SlotsStand buffer (remove slots c.word) (amended L.ops c.serial (at_place Gone))
-    slots-left = subst (λ x. SlotsStand buffer (remove slots c.word) (amended L.ops x (at_place Gone))) n-is (slots-freed buffer slots L.ops c.word s (at_place Gone) o old.in_slots slot-there there-s was refl)
+    slots-left = subst (λ x. SlotsStand buffer (remove slots c.word) (amended L.ops x (at_place Gone))) n-is
+        (slots-freed buffer slots L.ops c.word s (at_place Gone) o old.in_slots slot-there there-s was refl)
 
     slot-left : (n : ℕ) → n ≢ c.serial → KeepsSlot slots (remove slots c.word) n
-    slot-left n q k u h e = (u, other-left buffer slots L.ops c.word s (at_place Gone) o old.in_slots slot-there there-s was refl k u h (λ r. q (sym e ∙ r ∙ n-is)), refl, refl)
+    slot-left n q k u h e = (
+      u,
+      other-left buffer slots L.ops c.word s (at_place Gone) o old.in_slots slot-there there-s was refl k u h
+          (λ r. q (sym e ∙ r ∙ n-is)),
+      refl,
+      refl,
+    )
 
   op-kept : (f : Operation → Operation) (n : ℕ) → n ≢ c.serial → KeepsOp L.ops (amended L.ops c.serial f) n
   op-kept f n q p h = (p, get-amended-other f L.ops c.serial n q ∙ h, refl, refl)
 
   not-this : (n : ℕ) (p : Place) → IsAt L.ops n p → p ≢ InDone c.outcome → n ≢ c.serial
-  not-this n p a h e = h (sym a.stays ∙ ap (λ x. x.place) (some a.operation o (slice_get L.ops n) a.there (ap (slice_get L.ops) e ∙ which)) ∙ stands-done)
+  not-this n p a h e = h (sym a.stays ∙ ap (λ x. x.place) (some a.operation o (slice_get L.ops n) a.there (ap (slice_get L.ops) e ∙ which))
+      ∙ stands-done)
 
-  later : (i : ℕ) (x : Completion) → slice_get (kept rest) i ≡ Some x → slice_get (kept v.done) (suc i) ≡ Some x
-  later i x h = ap (λ xs. slice_get xs (suc i)) first-kept ∙ h
+  later : (i : ℕ) (x : Completion) → slice_get rest i ≡ Some x → slice_get v.done (suc i) ≡ Some x
+  later i x h = ap (λ xs. slice_get xs (suc i)) first ∙ h
 
   -- The lists without it.
   abbrev taken-off : Ledger
-  taken-off = record L { done = map done_item_of (kept rest) }
+  taken-off = record L { done = flat_map done_items_of rest }
 
   lists-less : ListsStand buffer slots (with_done v rest) taken-off
   lists-less = (let l = old.in_lists in record {
@@ -181,37 +208,44 @@ module _ {B : Type 0} (buffer : B → Buffer) (v : RingView) (slots : FinMap nat
     in_done = λ i x h. l.in_done (suc i) x (later i x h);
     queue_once = l.queue_once;
     flight_once = l.flight_once;
-    done_once = λ i j x y h k r. (let z = l.done_once (suc i) (suc j) x y (later i x h) (later j y k) r in cc);
+    done_once = λ i j x y h k a b r. (let z = l.done_once (suc i) (suc j) x y (later i x h) (later j y k) a b r in cc);
     cancels = l.cancels;
   })
 
-  lists-reaped : (slots' : FinMap nat_cmp (Slot B)) (f : Operation → Operation) → ((n : ℕ) → n ≢ c.serial → KeepsSlot slots slots' n) → ListsStand buffer slots' (with_done v rest) (record taken-off { ops = amended L.ops c.serial f })
+  lists-reaped : (slots' : FinMap nat_cmp (Slot B)) (f : Operation → Operation) → ((n : ℕ) → n ≢ c.serial → KeepsSlot slots slots' n) →
+      ListsStand buffer slots' (with_done v rest) (record taken-off { ops = amended L.ops c.serial f })
   lists-reaped slots' f keeps =
       lists-kept buffer slots slots' L.ops (amended L.ops c.serial f) (with_done v rest) taken-off refl
       (λ n a. (let q = not-this n InQueue a (λ r. cc) in (keeps n q, op-kept f n q)))
       (λ n a. (let q = not-this n InFlight a (λ r. cc) in (keeps n q, op-kept f n q)))
-      (λ i x h a. (
-      let q : x.serial ≢ c.serial = λ r. (let z = old.in_lists.done_once (suc i) 0 x c (later i x h) (ap (λ xs. slice_get xs 0) first-kept) r in cc) in
+      (λ i x h b a. (
+      let q : x.serial ≢ c.serial = λ r. (let z = old.in_lists.done_once (suc i) 0 x c (later i x h) at_head b (ap names_slot keyed) r in
+      cc) in
       (keeps x.serial q, op-kept f x.serial q)))
       lists-less
 
-  by_drop : (b : Bool) → o.dropped ≡ b → Means buffer (with_done v rest) (slots_completed (life_of b (InDone c.outcome) o.task) slots c.word t) (reap_if b taken-off c.serial)
-  by_drop true h = subst (λ m. Means buffer (with_done v rest) m (reap_if true taken-off c.serial)) (sym (remove-put slots c.word t)) (record {
-    capacity = old.capacity;
-    world = old.world;
-    in_slots = slots-left;
-    in_lists = lists-reaped (remove slots c.word) (at_place Gone) slot-left;
-  })
-  by_drop false h = subst (λ m. Means buffer (with_done v rest) m (reap_if false taken-off c.serial)) (sym (slots-waiting o.task slots c.word t)) (record {
-    capacity = old.capacity;
-    world = old.world;
-    in_slots = slots-reaped h;
-    in_lists = lists-reaped (insert slots c.word t) with_reap (slot-kept h);
-  })
+  by_drop : (b : Bool) → o.dropped ≡ b →
+      Means buffer (with_done v rest) (slots_completed (life_of b (InDone c.outcome) o.task) slots c.word t) (reap_if b taken-off c.serial)
+  by_drop true h = subst (λ m. Means buffer (with_done v rest) m (reap_if true taken-off c.serial)) (sym (remove-put slots c.word t))
+      (record {
+        capacity = old.capacity;
+        world = old.world;
+        in_slots = slots-left;
+        in_lists = lists-reaped (remove slots c.word) (at_place Gone) slot-left;
+      })
+  by_drop false h = subst (λ m. Means buffer (with_done v rest) m (reap_if false taken-off c.serial))
+      (sym (slots-waiting o.task slots c.word t)) (record {
+        capacity = old.capacity;
+        world = old.world;
+        in_slots = slots-reaped h;
+        in_lists = lists-reaped (insert slots c.word t) with_reap (slot-kept h);
+      })
 
   means-reaped : Means buffer (with_done v rest) (slots_completed s.life slots c.word t) (reap_one taken-off (Op c.serial))
-  means-reaped = subst (λ K. Means buffer (with_done v rest) (slots_completed s.life slots c.word t) K) (sym (ap (reap_op taken-off c.serial) which))
-      (subst (λ l. Means buffer (with_done v rest) (slots_completed l slots c.word t) (reap_if o.dropped taken-off c.serial)) (sym life-is) (by_drop o.dropped refl))
+  means-reaped = subst (λ K. Means buffer (with_done v rest) (slots_completed s.life slots c.word t) K)
+      (sym (ap (reap_op taken-off c.serial) which))
+      (subst (λ l. Means buffer (with_done v rest) (slots_completed l slots c.word t) (reap_if o.dropped taken-off c.serial)) (sym life-is)
+      (by_drop o.dropped refl))
 
   flies : is_flying s.life ≡ true
   flies = ap is_flying life-is ∙ done-flies o.dropped c.outcome o.task
@@ -220,8 +254,8 @@ module _ {B : Type 0} (buffer : B → Buffer) (v : RingView) (slots : FinMap nat
   named-here = ap named_by slot-there ∙ ap (λ b. named_if b s) flies
 
   -- The ledger's first completion is this one, and it names that operation and its task.
-  pub first-done : L.done ≡ Op c.serial ∷ map done_item_of (kept rest)
-  first-done = old.in_lists.done ∙ ap (map done_item_of) first-kept
+  pub first-done : L.done ≡ Op c.serial ∷ flat_map done_items_of rest
+  first-done = old.in_lists.done ∙ ap (flat_map done_items_of) first ∙ ap (λ t. done_items_in c t ++ flat_map done_items_of rest) keyed
 
   pub names-first : Names (named_by (get slots c.word)) c.serial (task_woken (slice_get L.ops c.serial))
   unfolding s
@@ -233,8 +267,10 @@ module _ {B : Type 0} (buffer : B → Buffer) (v : RingView) (slots : FinMap nat
 
   -- What is left means what the ledger's reap leaves.
   pub means-first : Means buffer (with_done v rest) (slots_after slots c (get slots c.word)) (reap_one taken-off (Op c.serial))
-  means-first = subst (λ m. Means buffer (with_done v rest) m (reap_one taken-off (Op c.serial))) (sym (ap (slots_after slots c) slot-there ∙ ap (λ b. slots_if b slots c s) flies)) means-reaped
+  means-first = subst (λ m. Means buffer (with_done v rest) m (reap_one taken-off (Op c.serial)))
+      (sym (ap (slots_after slots c) slot-there ∙ ap (λ b. slots_if b slots c s) flies)) means-reaped
 
 -- Where no completion is ready, none is in the ledger.
-pub ended : {B : Type 0} (buffer : B → Buffer) (v : RingView) (slots : FinMap nat_cmp (Slot B)) (L : Ledger) → Means buffer v slots L → v.done ≡ [] → L.done ≡ []
-ended buffer v slots L means h = means.in_lists.done ∙ ap (λ xs. map done_item_of (kept xs)) h
+pub ended : {B : Type 0} (buffer : B → Buffer) (v : RingView) (slots : FinMap nat_cmp (Slot B)) (L : Ledger) → Means buffer v slots L →
+    v.done ≡ [] → L.done ≡ []
+ended buffer v slots L means h = means.in_lists.done ∙ ap (flat_map done_items_of) h

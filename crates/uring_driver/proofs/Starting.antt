@@ -56,9 +56,9 @@ means-empty {B} buffer capacity = record {
     in_flight = λ i e h. cc;
     in_done = λ i c h. cc;
     queue_once = λ i j x y h k a b e. cc;
-    flight_once = λ i j x y h k e. cc;
-    done_once = λ i j x y h k e. cc;
-    cancels = record { before = λ i j e c key h k b l q. cc; flown = λ i j f c key h k b. cc };
+    flight_once = λ i j x y h k a b e. cc;
+    done_once = λ i j x y h k a b e. cc;
+    cancels = record { before = λ i j e c key h k b l q. cc; flown = λ i j f c key h k b q. cc };
   };
 }
 

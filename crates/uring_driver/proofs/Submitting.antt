@@ -1,5 +1,6 @@
 -- What a new operation and its entry do to a ring and slots that mean a ledger.
-use Rattle.std.proofs.Common.{◌≡◌, ◌≢◌, ◌⊎◌, inl, inr, ℕ, ◌+◌, ◌<◌, true, List, [], ◌∷◌, ◌++◌, length, Some, None, refl, sym, ◌∙◌, ap, subst, arith}
+use Rattle.std.proofs.Common.{◌≡◌, ◌≢◌, ◌⊎◌, inl, inr, ℕ, ◌+◌, ◌<◌, true, List, [], ◌∷◌, ◌++◌, length, Some, None, refl, sym, ◌∙◌, ap}
+use Rattle.std.proofs.Common.{subst, arith}
 use Rattle.std.specs.Prelude.{slice_get}
 use Rattle.std.specs.Ordering.{nat_cmp}
 use Rattle.std.specs.FinMap.{FinMap, get, insert}
@@ -15,6 +16,7 @@ use Rattle.ring_core.specs.declared.entry.Completion.{Completion}
 use Rattle.ring_core.specs.declared.entry.Flight.{Flight}
 use Rattle.ring_core.specs.declared.request.Request.{Request}
 use Rattle.ring_core.specs.declared.entry.Body.TheVariants.{Call as Calls, Cancel as Cancels}
+use Rattle.ring_core.specs.Entry.{target}
 use Rattle.ring_core.specs.Ledger.{Ledger, Req, Operation, Place, InQueue, InDone, is_live, new_operation}
 use Rattle.ring_core.specs.Queue.{append}
 use Rattle.ring_core.specs.Step.{with_new_op}
@@ -25,10 +27,11 @@ use Rattle.uring_driver.specs.Stands.{Means}
 use Rattle.driver_core.proofs.Lists.{some, same-or-not, get-pushed, get-front, get-last}
 use Rattle.driver_core.proofs.Maps.{put-same, put-other, len-new}
 use Rattle.driver_core.proofs.Counts.{where-more}
-use Rattle.uring_driver.proofs.Kept.{queued-kept, call-queued}
+use Rattle.uring_driver.proofs.Kept.{queued-kept, flight-kept, done-kept, call-queued}
 use Rattle.ring_core.proofs.Requests.{holding-own}
 
-module _ {B : Type 0} (buffer : B → Buffer) (w : RingView) (slots : FinMap nat_cmp (Slot B)) (M : Ledger) (given key : ℕ) (request : Request B Parts)
+module _ {B : Type 0} (buffer : B → Buffer) (w : RingView) (slots : FinMap nat_cmp (Slot B)) (M : Ledger) (given key : ℕ)
+    (request : Request B Parts)
     (old : Means buffer w slots M) (numbered : given ≡ length M.ops) (free : get slots key ≡ None) (below : key < 4294967232) where
   abbrev t : Slot B
   t = record { serial = given; request = request; life = Fresh }
@@ -60,7 +63,12 @@ module _ {B : Type 0} (buffer : B → Buffer) (w : RingView) (slots : FinMap nat
   at-kept n p a = record { operation = a.operation; there = get-front M.ops (new ∷ []) n a.operation a.there; stays = a.stays }
 
   flown-kept : (x : Flight) → IsFlown M.ops x → IsFlown ops' x
-  flown-kept x a = record { operation = a.operation; there = get-front M.ops (new ∷ []) x.entry.serial a.operation a.there; stays = a.stays; marked = a.marked }
+  flown-kept x a = record {
+    operation = a.operation;
+    there = get-front M.ops (new ∷ []) x.entry.serial a.operation a.there;
+    stays = a.stays;
+    marked = a.marked;
+  }
 
   entry-kept : (x : Entry) → EntryFor buffer slots x → EntryFor buffer (insert slots key t) x
   entry-kept x E = record { slot = E.slot; there = kept x.word E.slot E.there; serial = E.serial; call = E.call }
@@ -69,10 +77,26 @@ module _ {B : Type 0} (buffer : B → Buffer) (w : RingView) (slots : FinMap nat
   completion-kept c C = record { slot = C.slot; there = kept c.word C.slot C.there; serial = C.serial }
 
   slot-kept : (u : Slot B) → SlotFor buffer M.ops u → SlotFor buffer ops' u
-  slot-kept u m = record { operation = m.operation; there = get-front M.ops (new ∷ []) u.serial m.operation m.there; live = m.live; request = m.request; life = m.life; fresh = m.fresh; uncanceled = m.uncanceled }
+  slot-kept u m = record {
+    operation = m.operation;
+    there = get-front M.ops (new ∷ []) u.serial m.operation m.there;
+    live = m.live;
+    request = m.request;
+    life = m.life;
+    fresh = m.fresh;
+    uncanceled = m.uncanceled;
+  }
 
   new-slot : SlotFor buffer ops' t
-  new-slot = record { operation = new; there = there-new; live = refl; request = holding-own (plain_request buffer request); life = refl; fresh = λ _. refl; uncanceled = λ _. refl }
+  new-slot = record {
+    operation = new;
+    there = there-new;
+    live = refl;
+    request = holding-own (plain_request buffer request);
+    life = refl;
+    fresh = λ _. refl;
+    uncanceled = λ _. refl;
+  }
 
   -- Each slot is the new one, or was there.
   which : (k : ℕ) (u : Slot B) → get (insert slots key t) k ≡ Some u → ((k ≡ key) × (t ≡ u)) ⊎ (get slots k ≡ Some u)
@@ -98,7 +122,8 @@ module _ {B : Type 0} (buffer : B → Buffer) (w : RingView) (slots : FinMap nat
       ]
     ];
     each = λ n o h l. elim (get-pushed M.ops new n o h) [
-      | inl a ↦ (let m = old.in_slots.each n o a l in record { key = m.key; slot = m.slot; there = kept m.key m.slot m.there; serial = m.serial })
+      | inl a ↦ (let m = old.in_slots.each n o a l in
+          record { key = m.key; slot = m.slot; there = kept m.key m.slot m.there; serial = m.serial })
       | inr a ↦ record { key = key; slot = t; there = put-same slots key t; serial = numbered ∙ sym a.0 }
     ];
     counted = len-new slots key t free ∙ ap (λ n. n + 1) old.in_slots.counted ∙ sym (where-more is_live M.ops new refl);
@@ -110,7 +135,8 @@ module _ {B : Type 0} (buffer : B → Buffer) (w : RingView) (slots : FinMap nat
 
   -- The number of a call that is queued is another.
   queued-other : (i : ℕ) (x : Entry) → slice_get w.queue i ≡ Some x → is_call x.body ≡ true → x.serial ≢ given
-  queued-other i x h q = (let m = (call-queued buffer slots M.ops x x.body (old.in_lists.in_queue i x h) q).1 in other x.serial m.operation m.there)
+  queued-other i x h q = (let m = (call-queued buffer slots M.ops x x.body (old.in_lists.in_queue i x h) q).1 in
+      other x.serial m.operation m.there)
 
   no-cancel : (x : Entry) (k : ℕ) → x ≡ e → x.body ≡ Cancels k → ⊥
   no-cancel x k h b = (let z = sym (ap (λ y. y.body) h) ∙ b in cc)
@@ -125,8 +151,8 @@ module _ {B : Type 0} (buffer : B → Buffer) (w : RingView) (slots : FinMap nat
       ]
       | inr d ↦ absurd (no-cancel c k d.1 b)
     ];
-    flown = λ i j f c k h l b. elim (get-pushed w.queue e j c l) [
-      | inl d ↦ old.in_lists.cancels.flown i j f c k h d b
+    flown = λ i j f c k h l b q. elim (get-pushed w.queue e j c l) [
+      | inl d ↦ old.in_lists.cancels.flown i j f c k h d b q
       | inr d ↦ absurd (no-cancel c k d.1 b)
     ];
   }
@@ -137,12 +163,21 @@ module _ {B : Type 0} (buffer : B → Buffer) (w : RingView) (slots : FinMap nat
     flying = l.flying;
     done = l.done;
     in_queue = λ i x h. elim (get-pushed w.queue e i x h) [
-      | inl a ↦ queued-kept buffer slots (insert slots key t) M.ops ops' x x.body (λ _ m. (entry-kept x m.0, at-kept x.serial InQueue m.1)) (l.in_queue i x a)
-      | inr a ↦ subst (λ y. QueuedFor buffer (insert slots key t) ops' y y.body) (sym a.1)
-          (record { slot = t; there = put-same slots key t; serial = refl; call = refl }, record { operation = new; there = there-new; stays = refl })
+      | inl a ↦ queued-kept buffer slots (insert slots key t) M.ops ops' x x.body (λ _ m. (entry-kept x m.0, at-kept x.serial InQueue m.1))
+          (l.in_queue i x a)
+      | inr a ↦ subst (λ y. QueuedFor buffer (insert slots key t) ops' y y.body) (sym a.1) (
+        record { slot = t; there = put-same slots key t; serial = refl; call = refl },
+        record {
+          operation = new;
+          there = there-new;
+          stays = refl;
+        },
+      )
     ];
-    in_flight = λ i x h. (let m = l.in_flight i x h in (entry-kept x.entry m.0, flown-kept x m.1));
-    in_done = λ i c h. (let m = l.in_done i c h in (completion-kept c m.0, at-kept c.serial (InDone c.outcome) m.1));
+    in_flight = λ i x h. flight-kept buffer slots (insert slots key t) M.ops ops' x x x.entry.body
+        (λ _ m. (entry-kept x.entry m.0, flown-kept x m.1)) (l.in_flight i x h);
+    in_done = λ i c h. done-kept slots (insert slots key t) M.ops ops' c (target c.word)
+        (λ _ m. (completion-kept c m.0, at-kept c.serial (InDone c.outcome) m.1)) (l.in_done i c h);
     queue_once = λ i j x y h k b c q. elim (get-pushed w.queue e i x h) [
       | inl a ↦ elim (get-pushed w.queue e j y k) [
         | inl f ↦ l.queue_once i j x y a f b c q
@@ -158,7 +193,9 @@ module _ {B : Type 0} (buffer : B → Buffer) (w : RingView) (slots : FinMap nat
     cancels = cancels-stay;
   })
 
-  pub means-pushed : Means buffer (pushed w (record { word = key; serial = given; body = Calls (call_of (plain_request buffer request)) })) (insert slots key (record { serial = given; request = request; life = Fresh })) (append (with_new_op M (new_operation (plain_request buffer request))) (Req given))
+  pub means-pushed : Means buffer (pushed w (record { word = key; serial = given; body = Calls (call_of (plain_request buffer request)) }))
+      (insert slots key (record { serial = given; request = request; life = Fresh }))
+      (append (with_new_op M (new_operation (plain_request buffer request))) (Req given))
   means-pushed = record {
     capacity = old.capacity;
     world = old.world;

@@ -1,5 +1,6 @@
 -- What taking a call off the queue does to a ring and slots that mean a ledger.
-use Rattle.std.proofs.Common.{◌≡◌, ◌≢◌, inl, inr, ℕ, suc, Bool, true, false, List, [], ◌∷◌, ◌++◌, length, map, Option, Some, refl, sym, ◌∙◌, ap, subst, arith}
+use Rattle.std.proofs.Common.{◌≡◌, ◌≢◌, inl, inr, ℕ, suc, Bool, true, false, List, [], ◌∷◌, ◌++◌, length, map, Option, Some, refl, sym, ◌∙◌}
+use Rattle.std.proofs.Common.{ap, subst, arith}
 use Rattle.std.specs.Prelude.{slice_get, ◌&&◌, not}
 use Rattle.std.specs.Ordering.{nat_cmp}
 use Rattle.std.specs.FinMap.{FinMap}
@@ -11,19 +12,21 @@ use Rattle.ring_core.specs.declared.request.Call.{Call}
 use Rattle.ring_core.specs.declared.entry.Body.TheVariants.{Call as Calls}
 use Rattle.ring_core.specs.declared.entry.Entry.{Entry}
 use Rattle.ring_core.specs.declared.entry.Flight.{Flight}
+use Rattle.ring_core.specs.Entry.{target}
 use Rattle.ring_core.specs.Ledger.{Ledger, Req, Op, Operation, Place, InQueue, InFlight, InDone, is_live, is_kept, is_owned}
 use Rattle.ring_core.specs.Queue.{take_one, at_place}
 use Rattle.ring_core.proofs.Amended.{get-amended-same, get-amended-other}
 use Rattle.driver_core.specs.declared.slot.Slot.{Slot}
 use Rattle.driver_core.specs.Slots.{SlotFor, life_of, is_early}
-use Rattle.uring_driver.specs.Lists.{EntryFor, IsAt, IsFlown, Meets, ListsStand, is_call, queued_of, item_of}
+use Rattle.uring_driver.specs.Lists.{EntryFor, IsAt, IsFlown, FlightFor, Meets, ListsStand, is_call, queued_of, item_in, item_of}
 use Rattle.uring_driver.specs.Stands.{Means}
 use Rattle.driver_core.proofs.Lists.{some, get-pushed}
 use Rattle.driver_core.proofs.Counts.{where-same}
-use Rattle.uring_driver.proofs.Kept.{call-queued, queued-kept, flown-at}
+use Rattle.uring_driver.proofs.Kept.{call-queued, call-flown, queued-kept, flight-kept, done-kept, flown-at}
 use Rattle.driver_core.proofs.Slots.{slots-amended}
 use Rattle.uring_driver.proofs.Heads.{at-head, behind-head, cancels-left}
 
+-- A slot has one stage of life while its operation is queued and in flight.
 early-life : (d : Bool) (t : Option ℕ) → life_of d InQueue t ≡ life_of d InFlight t
 early-life true t = refl
 early-life false t = refl
@@ -48,26 +51,40 @@ module _ {B : Type 0} (buffer : B → Buffer) (v : RingView) (slots : FinMap nat
 
   not-this : (m : ℕ) (p : Place) → IsAt L.ops m p → p ≢ InQueue → m ≢ e.serial
   unfolding here
-  not-this m p a h q = h (sym a.stays ∙ ap (λ x. x.place) (some a.operation here.1.operation (slice_get L.ops m) a.there (ap (slice_get L.ops) q ∙ here.1.there)) ∙ here.1.stays)
+  not-this m p a h q = h (sym a.stays
+      ∙ ap (λ x. x.place) (some a.operation here.1.operation (slice_get L.ops m) a.there (ap (slice_get L.ops) q ∙ here.1.there))
+      ∙ here.1.stays)
 
   -- A call behind it has another number.
   behind : (i : ℕ) (x : Entry) → slice_get rest i ≡ Some x → is_call x.body ≡ true → x.serial ≢ e.serial
   behind i x h c q = (let z = old.in_lists.queue_once (suc i) 0 x e (later i x h) at_head c (ap is_call body) q in cc)
 
   stays : (m : ℕ) (p : Place) → m ≢ e.serial → IsAt L.ops m p → IsAt ops' m p
-  stays m p h a = record { operation = a.operation; there = get-amended-other (at_place InFlight) L.ops e.serial m h ∙ a.there; stays = a.stays }
+  stays m p h a = record {
+    operation = a.operation;
+    there = get-amended-other (at_place InFlight) L.ops e.serial m h ∙ a.there;
+    stays = a.stays;
+  }
 
   flown-stays : (f : Flight) → IsFlown L.ops f → IsFlown ops' f
-  flown-stays f a = record { operation = a.operation; there = get-amended-other (at_place InFlight) L.ops e.serial f.entry.serial (not-this f.entry.serial InFlight (flown-at L.ops f a) (λ q. cc)) ∙ a.there; stays = a.stays; marked = a.marked }
+  flown-stays f a = record {
+    operation = a.operation;
+    there = get-amended-other (at_place InFlight) L.ops e.serial f.entry.serial
+        (not-this f.entry.serial InFlight (flown-at L.ops f a) (λ q. cc)) ∙ a.there;
+    stays = a.stays;
+    marked = a.marked;
+  }
 
   fits : (t : Slot B) → t.serial ≡ e.serial → SlotFor buffer L.ops t → SlotFor buffer ops' t
   unfolding here
   fits t q m =
-      let same : m.operation ≡ here.1.operation = some m.operation here.1.operation (slice_get L.ops t.serial) m.there (ap (slice_get L.ops) q ∙ here.1.there) in
+      let same : m.operation ≡ here.1.operation = some m.operation here.1.operation (slice_get L.ops t.serial) m.there
+      (ap (slice_get L.ops) q ∙ here.1.there) in
       let at : m.operation.place ≡ InQueue = ap (λ x. x.place) same ∙ here.1.stays in
       record {
         operation = at_place InFlight m.operation;
-        there = ap (slice_get (amended L.ops e.serial (at_place InFlight))) q ∙ get-amended-same (at_place InFlight) L.ops e.serial m.operation (ap (slice_get L.ops) (sym q) ∙ m.there);
+        there = ap (slice_get (amended L.ops e.serial (at_place InFlight))) q
+            ∙ get-amended-same (at_place InFlight) L.ops e.serial m.operation (ap (slice_get L.ops) (sym q) ∙ m.there);
         live = refl;
         request = m.request;
         life = m.life ∙ ap (λ p. life_of m.operation.dropped p m.operation.task) at ∙ early-life m.operation.dropped m.operation.task;
@@ -88,42 +105,65 @@ module _ {B : Type 0} (buffer : B → Buffer) (v : RingView) (slots : FinMap nat
   unfolding here
   uncanceled =
       let m = old.in_slots.holds e.word here.0.slot here.0.there in
-      let same : m.operation ≡ here.1.operation = some m.operation here.1.operation (slice_get L.ops e.serial) (ap (slice_get L.ops) (sym here.0.serial) ∙ m.there) here.1.there in
+      let same : m.operation ≡ here.1.operation = some m.operation here.1.operation (slice_get L.ops e.serial)
+      (ap (slice_get L.ops) (sym here.0.serial) ∙ m.there) here.1.there in
       sym (m.uncanceled (ap (λ x. x.place) same ∙ here.1.stays)) ∙ ap (λ x. x.canceled) same
 
   now-flown : IsFlown ops' f'
   unfolding here uncanceled
-  now-flown = record { operation = at_place InFlight here.1.operation; there = get-amended-same (at_place InFlight) L.ops e.serial here.1.operation here.1.there; stays = refl; marked = uncanceled }
+  now-flown = record {
+    operation = at_place InFlight here.1.operation;
+    there = get-amended-same (at_place InFlight) L.ops e.serial here.1.operation here.1.there;
+    stays = refl;
+    marked = uncanceled;
+  }
 
-  apart-lists : (i : ℕ) (x : Flight) → slice_get v.flying i ≡ Some x → x.entry.serial ≢ e.serial
-  apart-lists i x h = not-this x.entry.serial InFlight (flown-at L.ops x (old.in_lists.in_flight i x h).1) (λ q. cc)
+  -- A call in flight has another number.
+  apart-lists : (i : ℕ) (x : Flight) → slice_get v.flying i ≡ Some x → is_call x.entry.body ≡ true → x.entry.serial ≢ e.serial
+  apart-lists i x h c = not-this x.entry.serial InFlight
+      (flown-at L.ops x (call-flown buffer slots L.ops x x.entry.body (old.in_lists.in_flight i x h) c).1) (λ q. cc)
 
-  lists-call : ListsStand buffer slots (record v { queue = rest; flying = v.flying ++ f' ∷ [] }) (take_one (record L { queue = map queued_of rest }) (Req e.serial))
+  lists-call : ListsStand buffer slots (record v { queue = rest; flying = v.flying ++ f' ∷ [] })
+      (take_one (record L { queue = map queued_of rest }) (Req e.serial))
   unfolding here
   lists-call = record {
     queue = refl;
-    flying = ap (λ x. x ++ Op e.serial ∷ []) old.in_lists.flying ∙ sym (map-append item_of v.flying (f' ∷ []));
+    flying = ap (λ x. x ++ Op e.serial ∷ []) old.in_lists.flying ∙ ap (λ b. map item_of v.flying ++ item_in e b ∷ []) (sym body)
+        ∙ sym (map-append item_of v.flying (f' ∷ []));
     done = old.in_lists.done;
-    in_queue = λ i x h. queued-kept buffer slots slots L.ops ops' x x.body (λ c a. (a.0, stays x.serial InQueue (behind i x h c) a.1)) (old.in_lists.in_queue (suc i) x (later i x h));
+    in_queue = λ i x h. queued-kept buffer slots slots L.ops ops' x x.body (λ c a. (a.0, stays x.serial InQueue (behind i x h c) a.1))
+        (old.in_lists.in_queue (suc i) x (later i x h));
     in_flight = λ i x h. elim (get-pushed v.flying f' i x h) [
-      | inl r ↦ (let a = old.in_lists.in_flight i x r in (a.0, flown-stays x a.1))
-      | inr r ↦ subst (λ y. EntryFor buffer slots y.entry × IsFlown ops' y) (sym r.1) (here.0, now-flown)
+      | inl r ↦ flight-kept buffer slots slots L.ops ops' x x x.entry.body (λ _ a. (a.0, flown-stays x a.1)) (old.in_lists.in_flight i x r)
+      | inr r ↦ subst (λ y. FlightFor buffer slots ops' y y.entry.body) (sym r.1)
+          (subst (λ b. FlightFor buffer slots ops' f' b) (sym body) (here.0, now-flown))
     ];
-    in_done = λ i c h. (let a = old.in_lists.in_done i c h in (a.0, stays c.serial (InDone c.outcome) (not-this c.serial (InDone c.outcome) a.1 (λ q. cc)) a.1));
+    in_done = λ i c h. done-kept slots slots L.ops ops' c (target c.word)
+        (λ _ a. (a.0, stays c.serial (InDone c.outcome) (not-this c.serial (InDone c.outcome) a.1 (λ q. cc)) a.1))
+        (old.in_lists.in_done i c h);
     queue_once = λ i j x y h k a b q. (let z = old.in_lists.queue_once (suc i) (suc j) x y (later i x h) (later j y k) a b q in cc);
-    flight_once = λ i j x y h k q. elim (get-pushed v.flying f' i x h) [
-      | inl a ↦ elim (get-pushed v.flying f' j y k) [ inl b ↦ old.in_lists.flight_once i j x y a b q | inr b ↦ absurd (apart-lists i x a (q ∙ ap (λ z. z.entry.serial) b.1)) ]
-      | inr a ↦ elim (get-pushed v.flying f' j y k) [ inl b ↦ absurd (apart-lists j y b (sym q ∙ ap (λ z. z.entry.serial) a.1)) | inr b ↦ a.0 ∙ sym b.0 ]
+    flight_once = λ i j x y h k c d q. elim (get-pushed v.flying f' i x h) [
+      | inl a ↦ elim (get-pushed v.flying f' j y k) [
+        | inl b ↦ old.in_lists.flight_once i j x y a b c d q
+        | inr b ↦ absurd (apart-lists i x a c (q ∙ ap (λ z. z.entry.serial) b.1))
+      ]
+      | inr a ↦ elim (get-pushed v.flying f' j y k) [
+        | inl b ↦ absurd (apart-lists j y b d (sym q ∙ ap (λ z. z.entry.serial) a.1))
+        | inr b ↦ a.0 ∙ sym b.0
+      ]
     ];
     done_once = old.in_lists.done_once;
     -- A cancel that is left stood behind the call that is in flight now.
-    cancels = cancels-left v e rest first old.in_lists.cancels (v.flying ++ f' ∷ []) (λ i j f c key h k b. elim (get-pushed v.flying f' i f h) [
-      | inl r ↦ old.in_lists.cancels.flown i (suc j) f c key r (later j c k) b
-      | inr r ↦ subst (λ y. Meets y.entry key c.serial) (sym r.1) (old.in_lists.cancels.before 0 (suc j) e c key at_head (later j c k) b (omega arith) (ap is_call body))
-    ]);
+    cancels = cancels-left v e rest first old.in_lists.cancels (v.flying ++ f' ∷ [])
+        (λ i j f c key h k b q. elim (get-pushed v.flying f' i f h) [
+          | inl r ↦ old.in_lists.cancels.flown i (suc j) f c key r (later j c k) b q
+          | inr r ↦ subst (λ y. Meets y.entry key c.serial) (sym r.1)
+              (old.in_lists.cancels.before 0 (suc j) e c key at_head (later j c k) b (omega arith) (ap is_call body))
+        ]);
   }
 
-  pub means-call : Means buffer (record v { queue = rest; flying = v.flying ++ f' ∷ [] }) slots (take_one (record L { queue = map queued_of rest }) (Req e.serial))
+  pub means-call : Means buffer (record v { queue = rest; flying = v.flying ++ f' ∷ [] }) slots
+      (take_one (record L { queue = map queued_of rest }) (Req e.serial))
   unfolding here
   means-call = record {
     capacity = old.capacity;

@@ -1,5 +1,6 @@
 -- What taking a cancel off the queue does to a ring and slots that mean a ledger.
-use Rattle.std.proofs.Common.{◌≡◌, ◌≢◌, inl, inr, ℕ, suc, Bool, true, false, List, [], ◌∷◌, ◌++◌, map, Option, Some, None, refl, sym, ◌∙◌, ap, subst, arith}
+use Rattle.std.proofs.Common.{◌≡◌, ◌≢◌, inl, inr, ℕ, suc, Bool, true, false, List, [], ◌∷◌, ◌++◌, map, Option, Some, None, refl, sym, ◌∙◌}
+use Rattle.std.proofs.Common.{ap, subst, arith}
 use Rattle.std.specs.Prelude.{slice_get, ◌==◌, ◌||◌}
 use Rattle.std.specs.Ordering.{nat_cmp}
 use Rattle.std.specs.FinMap.{FinMap}
@@ -12,29 +13,37 @@ use Rattle.ring_core.specs.declared.entry.Body.TheVariants.{Cancel as Cancels}
 use Rattle.ring_core.specs.declared.entry.Entry.{Entry}
 use Rattle.ring_core.specs.declared.entry.Flight.{Flight}
 use Rattle.ring_core.specs.declared.entry.Completion.{Completion}
-use Rattle.ring_core.specs.Ledger.{Ledger, Cancel, Op, Operation, Place, InQueue, InFlight, InDone, Reaped, Gone, is_live, is_owned}
+use Rattle.ring_core.specs.declared.entry.TheConstants.{CANCEL_WORD}
+use Rattle.ring_core.specs.declared.entry.Target.TheVariants.{Reserved}
+use Rattle.ring_core.specs.Entry.{target}
+use Rattle.ring_core.proofs.Targets.{target-cancel}
+use Rattle.ring_core.specs.Ledger.{Ledger, Cancel, Operation, Place, InQueue, InFlight, InDone, Reaped, Gone, is_live, is_owned}
 use Rattle.ring_core.specs.Queue.{take_one, canceled_at, with_cancel}
 use Rattle.ring_core.proofs.Amended.{get-amended-same, get-amended-other}
 use Rattle.driver_core.specs.declared.slot.Slot.{Slot}
 use Rattle.driver_core.specs.Slots.{SlotFor, SlotsStand}
-use Rattle.uring_driver.specs.Lists.{EntryFor, IsAt, IsFlown, Meets, ListsStand, Once, queued_of, item_of, done_item_of, kept}
+use Rattle.uring_driver.specs.Lists.{IsAt, IsFlown, FlightFor, DoneFor, Meets, ListsStand, is_call, names_slot, queued_of, item_of}
 use Rattle.uring_driver.specs.Stands.{Means}
-use Rattle.driver_core.proofs.Lists.{same-or-not, map-get, amended-absent}
-use Rattle.uring_driver.proofs.Kept.{cancel-queued, queued-kept, kept-reserved, cancel-reserved}
+use Rattle.driver_core.proofs.Lists.{same-or-not, map-get, get-pushed, amended-absent}
+use Rattle.uring_driver.proofs.Kept.{cancel-queued, queued-kept, flight-kept, done-kept, done-reserved}
 use Rattle.driver_core.proofs.Slots.{slots-amended}
 use Rattle.uring_driver.proofs.Heads.{at-head, behind-head, cancels-left}
 
+-- A test or one that passes.
 or-true : (b : Bool) → (b || true) ≡ true
 or-true true = refl
 or-true false = refl
 
+-- A test or one that fails.
 or-false : (b : Bool) → (b || false) ≡ b
 or-false true = refl
 or-false false = refl
 
+-- The test of two numbers that are equal.
 equal-test : (a b : ℕ) → a ≡ b → (a == b) ≡ true
 equal-test a b h = grind (arith, nat_tests)
 
+-- The test of two numbers that differ.
 differ-test : (a b : ℕ) → a ≢ b → (a == b) ≡ false
 differ-test a b h = grind (arith, nat_tests)
 
@@ -46,17 +55,20 @@ cancel-same (InDone r) o = refl
 cancel-same (Reaped r) o = refl
 cancel-same Gone o = refl
 
+-- It leaves to whom the operation belongs.
 pub cancel-owned : (o : Operation) → is_owned (with_cancel o) ≡ is_owned o
 cancel-owned o = ap is_owned (cancel-same o.place o)
 
+-- It leaves whether the operation is gone.
 cancel-live : (o : Operation) → is_live (with_cancel o) ≡ is_live o
 cancel-live o = ap is_live (cancel-same o.place o)
 
+-- Marks change nothing of what is in flight means.
 same-flying : (key : ℕ) (fs : List Flight) → map item_of (map (marked_by key) fs) ≡ map item_of fs
 same-flying key [] = refl
-same-flying key (f ∷ fs) = ap (λ xs. Op f.entry.serial ∷ xs) (same-flying key fs)
+same-flying key (f ∷ fs) = ap (λ xs. item_of f ∷ xs) (same-flying key fs)
 
--- A cancel is taken: what is in flight with its key is marked, and it leaves a completion that isn't kept.
+-- A cancel is taken: what is in flight with its key is marked, and it leaves a completion that means nothing.
 module _ {B : Type 0} (buffer : B → Buffer) (v : RingView) (slots : FinMap nat_cmp (Slot B)) (L : Ledger) (e : Entry) (rest : List Entry)
     (old : Means buffer v slots L) (first : v.queue ≡ e ∷ rest) (key : ℕ) (body : e.body ≡ Cancels key) where
   at_head : slice_get v.queue 0 ≡ Some e
@@ -71,31 +83,38 @@ module _ {B : Type 0} (buffer : B → Buffer) (v : RingView) (slots : FinMap nat
   abbrev answer : Completion
   answer = record { word = e.word; serial = e.serial; outcome = Counted 0 }
 
-  same-kept : kept (v.done ++ answer ∷ []) ≡ kept v.done
-  same-kept = kept-reserved v.done answer (cancel-reserved e.word (cancel-queued buffer slots L.ops e e.body (old.in_lists.in_queue 0 e at_head) key body))
+  -- The word of its completion is reserved, and names no slot.
+  reserved : target e.word ≡ Reserved CANCEL_WORD
+  reserved = ap target (cancel-queued buffer slots L.ops e e.body (old.in_lists.in_queue 0 e at_head) key body) ∙ target-cancel
+
+  not-named : (c : Completion) → c ≡ answer → names_slot (target c.word) ≡ true → ⊥
+  not-named c h q = (let z : false ≡ true = sym (ap (λ x. names_slot (target x.word)) h ∙ ap names_slot reserved) ∙ q in cc)
 
   -- An operation stays where it was.
   stays-at : (m : ℕ) (p : Place) → IsAt L.ops m p → IsAt marked_ops m p
   stays-at m p a = elim (same-or-not m e.serial) [
     | inl q ↦ record {
       operation = with_cancel a.operation;
-      there = ap (slice_get marked_ops) q ∙ get-amended-same with_cancel L.ops e.serial a.operation (ap (slice_get L.ops) (sym q) ∙ a.there);
+      there = ap (slice_get marked_ops) q
+          ∙ get-amended-same with_cancel L.ops e.serial a.operation (ap (slice_get L.ops) (sym q) ∙ a.there);
       stays = ap (λ x. x.place) (cancel-same a.operation.place a.operation) ∙ a.stays;
     }
     | inr q ↦ record { operation = a.operation; there = get-amended-other with_cancel L.ops e.serial m q ∙ a.there; stays = a.stays }
   ]
 
   -- The central step: the ring compares words alone, and marks just the entry of the number that the cancel was pushed for.
-  flown-marked : (i : ℕ) (f : Flight) → slice_get v.flying i ≡ Some f → IsFlown marked_ops (marked_by key f)
-  flown-marked i f h =
-      let a = (old.in_lists.in_flight i f h).1 in
-      let meets = old.in_lists.cancels.flown i 0 f e key h at_head body in
+  flown-marked : (i : ℕ) (f : Flight) → slice_get v.flying i ≡ Some f → is_call f.entry.body ≡ true → IsFlown L.ops f →
+      IsFlown marked_ops (marked_by key f)
+  flown-marked i f h c a =
+      let meets = old.in_lists.cancels.flown i 0 f e key h at_head body c in
       elim (same-or-not f.entry.serial e.serial) [
         | inl q ↦ record {
           operation = with_cancel a.operation;
-          there = ap (slice_get marked_ops) q ∙ get-amended-same with_cancel L.ops e.serial a.operation (ap (slice_get L.ops) (sym q) ∙ a.there);
+          there = ap (slice_get marked_ops) q
+              ∙ get-amended-same with_cancel L.ops e.serial a.operation (ap (slice_get L.ops) (sym q) ∙ a.there);
           stays = ap (λ x. x.place) (cancel-same a.operation.place a.operation) ∙ a.stays;
-          marked = ap (λ b. f.marked || b) (equal-test f.entry.word key (meets.by_serial q)) ∙ or-true f.marked ∙ sym (ap (λ p. (canceled_at p a.operation).canceled) a.stays);
+          marked = ap (λ b. f.marked || b) (equal-test f.entry.word key (meets.by_serial q)) ∙ or-true f.marked
+              ∙ sym (ap (λ p. (canceled_at p a.operation).canceled) a.stays);
         }
         | inr q ↦ record {
           operation = a.operation;
@@ -108,7 +127,9 @@ module _ {B : Type 0} (buffer : B → Buffer) (v : RingView) (slots : FinMap nat
   marked-fits : (t : Slot B) → t.serial ≡ e.serial → SlotFor buffer L.ops t → SlotFor buffer marked_ops t
   marked-fits t q m = record {
     operation = record m.operation { canceled = (canceled_at m.operation.place m.operation).canceled };
-    there = ap (slice_get (amended L.ops e.serial with_cancel)) q ∙ get-amended-same with_cancel L.ops e.serial m.operation (ap (slice_get L.ops) (sym q) ∙ m.there) ∙ ap (λ x. Some x) (cancel-same m.operation.place m.operation);
+    there = ap (slice_get (amended L.ops e.serial with_cancel)) q
+        ∙ get-amended-same with_cancel L.ops e.serial m.operation (ap (slice_get L.ops) (sym q) ∙ m.there)
+        ∙ ap (λ x. Some x) (cancel-same m.operation.place m.operation);
     live = m.live;
     request = m.request;
     life = m.life;
@@ -120,30 +141,48 @@ module _ {B : Type 0} (buffer : B → Buffer) (v : RingView) (slots : FinMap nat
   slots-marked None h = subst (λ ops. SlotsStand buffer slots ops) (sym (amended-absent L.ops e.serial with_cancel h)) old.in_slots
   slots-marked (Some o) h = slots-amended buffer slots L.ops e.serial with_cancel o old.in_slots h (cancel-live o) marked-fits
 
-  lists-cancel : ListsStand buffer slots (record v { queue = rest; flying = map (marked_by key) v.flying; done = v.done ++ answer ∷ [] }) (take_one (record L { queue = map queued_of rest }) (Cancel e.serial))
+  lists-cancel : ListsStand buffer slots (record v { queue = rest; flying = map (marked_by key) v.flying; done = v.done ++ answer ∷ [] })
+      (take_one (record L { queue = map queued_of rest }) (Cancel e.serial))
   lists-cancel = record {
     queue = refl;
     flying = old.in_lists.flying ∙ sym (same-flying key v.flying);
-    done = old.in_lists.done ∙ ap (map done_item_of) (sym same-kept);
-    in_queue = λ i x h. queued-kept buffer slots slots L.ops marked_ops x x.body (λ c a. (a.0, stays-at x.serial InQueue a.1)) (old.in_lists.in_queue (suc i) x (later i x h));
+    done = old.in_lists.done ∙ sym (done-reserved v.done answer CANCEL_WORD reserved);
+    in_queue = λ i x h. queued-kept buffer slots slots L.ops marked_ops x x.body (λ c a. (a.0, stays-at x.serial InQueue a.1))
+        (old.in_lists.in_queue (suc i) x (later i x h));
     in_flight = λ i f h. (
         let g = map-get (marked_by key) v.flying i f h in
-        subst (λ y. EntryFor buffer slots y.entry × IsFlown marked_ops y) (sym g.2) ((old.in_lists.in_flight i g.0 g.1).0, flown-marked i g.0 g.1));
-    in_done = λ i c h. (
-        let a = old.in_lists.in_done i c (ap (λ xs. slice_get xs i) (sym same-kept) ∙ h) in
-        (a.0, stays-at c.serial (InDone c.outcome) a.1));
+        let marked = marked_by key g.0 in
+        subst (λ y. FlightFor buffer slots marked_ops y y.entry.body) (sym g.2)
+        (flight-kept buffer slots slots L.ops marked_ops g.0 marked g.0.entry.body (λ c a. (a.0, flown-marked i g.0 g.1 c a.1))
+        (old.in_lists.in_flight i g.0 g.1)));
+    in_done = λ i c h. elim (get-pushed v.done answer i c h) [
+      | inl r ↦ done-kept slots slots L.ops marked_ops c (target c.word) (λ _ a. (a.0, stays-at c.serial (InDone c.outcome) a.1))
+          (old.in_lists.in_done i c r)
+      | inr r ↦ subst (λ y. DoneFor slots marked_ops y (target y.word)) (sym r.1)
+          (subst (λ t. DoneFor slots marked_ops answer t) (sym reserved) tt)
+    ];
     queue_once = λ i j x y h k a b q. (let z = old.in_lists.queue_once (suc i) (suc j) x y (later i x h) (later j y k) a b q in cc);
-    flight_once = λ i j x y h k q. (
+    flight_once = λ i j x y h k c d q. (
         let a = map-get (marked_by key) v.flying i x h in
         let b = map-get (marked_by key) v.flying j y k in
-        old.in_lists.flight_once i j a.0 b.0 a.1 b.1 (ap (λ z. z.entry.serial) (sym a.2) ∙ q ∙ ap (λ z. z.entry.serial) b.2));
-    done_once = subst (λ xs. Once (λ (c : Completion). c.serial) xs) (sym same-kept) old.in_lists.done_once;
-    cancels = cancels-left v e rest first old.in_lists.cancels (map (marked_by key) v.flying) (λ i j f c k h l b. (
+        let is_call_of = λ (z : Flight). is_call z.entry.body in
+        old.in_lists.flight_once i j a.0 b.0 a.1 b.1 (ap is_call_of (sym a.2) ∙ c) (ap is_call_of (sym b.2) ∙ d)
+        (ap (λ z. z.entry.serial) (sym a.2) ∙ q ∙ ap (λ z. z.entry.serial) b.2));
+    done_once = λ i j x y h k c d q. elim (get-pushed v.done answer i x h) [
+      | inl a ↦ elim (get-pushed v.done answer j y k) [
+        | inl b ↦ old.in_lists.done_once i j x y a b c d q
+        | inr b ↦ absurd (not-named y b.1 d)
+      ]
+      | inr a ↦ absurd (not-named x a.1 c)
+    ];
+    cancels = cancels-left v e rest first old.in_lists.cancels (map (marked_by key) v.flying) (λ i j f c k h l b q. (
         let g = map-get (marked_by key) v.flying i f h in
-        subst (λ y. Meets y.entry k c.serial) (sym g.2) (old.in_lists.cancels.flown i (suc j) g.0 c k g.1 (later j c l) b)));
+        subst (λ y. Meets y.entry k c.serial) (sym g.2)
+        (old.in_lists.cancels.flown i (suc j) g.0 c k g.1 (later j c l) b (ap (λ z. is_call z.entry.body) (sym g.2) ∙ q))));
   }
 
-  pub means-cancel : Means buffer (record v { queue = rest; flying = map (marked_by key) v.flying; done = v.done ++ answer ∷ [] }) slots (take_one (record L { queue = map queued_of rest }) (Cancel e.serial))
+  pub means-cancel : Means buffer (record v { queue = rest; flying = map (marked_by key) v.flying; done = v.done ++ answer ∷ [] }) slots
+      (take_one (record L { queue = map queued_of rest }) (Cancel e.serial))
   means-cancel = record {
     capacity = old.capacity;
     world = old.world;

@@ -1,5 +1,6 @@
--- What the lists of a ring mean in the ledger. Its entries are read by serials there; the ring itself compares words alone. Cited by `Stands`.
-use Rattle.std.specs.Prelude.{ℕ, ◌≡◌, ◌<◌, Bool, true, false, List, [], ◌∷◌, map, Some, slice_get}
+-- What the lists of a ring mean in the ledger. Its entries are read by serials there; the ring itself compares words alone.
+-- Cited by `Stands`.
+use Rattle.std.specs.Prelude.{ℕ, ◌≡◌, ◌<◌, Bool, true, false, List, [], ◌∷◌, map, flat_map, Some, slice_get, ⊤}
 use Rattle.std.specs.Ordering.{nat_cmp}
 use Rattle.std.specs.FinMap as finite
 use Rattle.rent_buf.specs.Buffer.{Buffer}
@@ -31,36 +32,42 @@ abbrev pub is_call : Body → Bool
 is_call (Calls call) = true
 is_call (Cancels key) = false
 
+-- What an entry with a body means in flight: a call is its operation. A cancel is never in flight (`FlightFor`).
+abbrev pub item_in : Entry → Body → Item
+item_in entry (Calls call) = Op entry.serial
+item_in entry (Cancels key) = Op entry.serial
+
 -- What an entry in flight means.
 abbrev pub item_of : Flight → Item
-item_of flight = Op flight.entry.serial
+item_of flight = item_in flight.entry flight.entry.body
+
+-- What a completion means, by what its word names: a slot is its operation, and a reserved word is nothing.
+abbrev pub done_items_in : Completion → Target → List Item
+done_items_in completion (Keyed key) = Op completion.serial ∷ []
+done_items_in completion (Reserved word) = []
 
 -- What a completion means.
-abbrev pub done_item_of : Completion → Item
-done_item_of completion = Op completion.serial
+abbrev pub done_items_of : Completion → List Item
+done_items_of completion = done_items_in completion (target completion.word)
 
--- What a word names is no slot.
-abbrev pub names_no_slot : Target → Bool
-names_no_slot (Keyed key) = false
-names_no_slot (Reserved word) = true
+-- What a word names is a slot.
+abbrev pub names_slot : Target → Bool
+names_slot (Keyed key) = true
+names_slot (Reserved word) = false
 
--- A word is one of those that name no slot.
+-- What a word names is nothing.
+abbrev pub names_nothing : Target → Bool
+names_nothing (Keyed key) = false
+names_nothing (Reserved word) = true
+
+-- A word is one of those that name nothing.
 abbrev pub is_reserved : ℕ → Bool
-is_reserved word = names_no_slot (target word)
+is_reserved word = names_nothing (target word)
 
--- A completion in front of others, unless it is left out.
-abbrev pub kept_unless : Bool → Completion → List Completion → List Completion
-kept_unless true completion rest = rest
-kept_unless false completion rest = completion ∷ rest
-
--- The completions without those whose words are reserved.
-abbrev pub kept : List Completion → List Completion
-kept [] = []
-kept (completion ∷ rest) = kept_unless (is_reserved completion.word) completion (kept rest)
-
--- No two elements of a list have one number.
-abbrev pub Once : {A : Type 0} → (A → ℕ) → List A → Type 0
-Once {A} number xs = (i j : ℕ) (x y : A) → slice_get xs i ≡ Some x → slice_get xs j ≡ Some y → number x ≡ number y → i ≡ j
+-- No two elements of a list that pass a test have one number.
+abbrev pub Once : {A : Type 0} → (A → Bool) → (A → ℕ) → List A → Type 0
+Once {A} passes number xs = (i j : ℕ) (x y : A) → slice_get xs i ≡ Some x → slice_get xs j ≡ Some y → passes x ≡ true → passes y ≡ true →
+    number x ≡ number y → i ≡ j
 
 -- The operation of a number is at a place.
 pub record IsAt (ops : List Operation) (number : ℕ) (place : Place) : Type 0 where
@@ -93,31 +100,41 @@ abbrev pub QueuedFor : {B : Type 0} → (B → Buffer) → finite.FinMap nat_cmp
 QueuedFor buffer slots ops entry (Calls call) = EntryFor buffer slots entry × IsAt ops entry.serial InQueue
 QueuedFor buffer slots ops entry (Cancels key) = entry.word ≡ CANCEL_WORD
 
+-- What is in flight, by its body: a call is that of an operation that is in flight, and a cancel never flies.
+abbrev pub FlightFor : {B : Type 0} → (B → Buffer) → finite.FinMap nat_cmp (Slot B) → List Operation → Flight → Body → Type 0
+FlightFor buffer slots ops flight (Calls call) = EntryFor buffer slots flight.entry × IsFlown ops flight
+FlightFor buffer slots ops flight (Cancels key) = ⊥
+
+-- What is done, by what its word names: a slot is that of an operation that is done with this outcome, and a reserved word says nothing.
+abbrev pub DoneFor : {B : Type 0} → finite.FinMap nat_cmp (Slot B) → List Operation → Completion → Target → Type 0
+DoneFor slots ops completion (Keyed key) = CompletionFor slots completion × IsAt ops completion.serial (InDone completion.outcome)
+DoneFor slots ops completion (Reserved word) = ⊤
+
 -- An entry has a cancel's key exactly where it has the cancel's number.
 pub record Meets (entry : Entry) (key number : ℕ) : Type 0 where
   pub by_word : entry.word ≡ key → entry.serial ≡ number
   pub by_serial : entry.serial ≡ number → entry.word ≡ key
 
--- A cancel in the queue names a key and means a number: these are the same of each call before it in the queue, and of all that
--- is in flight. So the ring, which compares keys, marks what the ledger marks, however keys were used again.
+-- A cancel in the queue names a key and means a number: these are the same of each call before it in the queue, and of each call
+-- in flight. So the ring, which compares keys, marks what the ledger marks, however keys were used again.
 pub record CancelsMean (queue : List Entry) (flying : List Flight) : Type 0 where
-  pub before : (i j : ℕ) (entry cancel : Entry) (key : ℕ) → slice_get queue i ≡ Some entry → slice_get queue j ≡ Some cancel → cancel.body ≡ Cancels key → i < j → is_call entry.body ≡ true → Meets entry key cancel.serial
-  pub flown : (i j : ℕ) (flight : Flight) (cancel : Entry) (key : ℕ) → slice_get flying i ≡ Some flight → slice_get queue j ≡ Some cancel → cancel.body ≡ Cancels key → Meets flight.entry key cancel.serial
-
--- No call stands twice in a queue.
-abbrev pub OnceQueued : List Entry → Type 0
-OnceQueued queue = (i j : ℕ) (x y : Entry) → slice_get queue i ≡ Some x → slice_get queue j ≡ Some y → is_call x.body ≡ true → is_call y.body ≡ true → x.serial ≡ y.serial → i ≡ j
+  pub before : (i j : ℕ) (entry cancel : Entry) (key : ℕ) → slice_get queue i ≡ Some entry → slice_get queue j ≡ Some cancel →
+      cancel.body ≡ Cancels key → i < j → is_call entry.body ≡ true → Meets entry key cancel.serial
+  pub flown : (i j : ℕ) (flight : Flight) (cancel : Entry) (key : ℕ) → slice_get flying i ≡ Some flight → slice_get queue j ≡ Some cancel →
+      cancel.body ≡ Cancels key → is_call flight.entry.body ≡ true → Meets flight.entry key cancel.serial
 
 -- The three lists of a ring, read by serials, are those of the ledger; each word in them is the key of the slot of that serial;
 -- an operation's completion has its outcome; no operation stands twice in a list; and each cancel means its operation.
-pub record ListsStand {B : Type 0} (buffer : B → Buffer) (slots : finite.FinMap nat_cmp (Slot B)) (view : RingView) (L : Ledger) : Type 0 where
+pub record ListsStand {B : Type 0} (buffer : B → Buffer) (slots : finite.FinMap nat_cmp (Slot B)) (view : RingView)
+    (L : Ledger) : Type 0 where
   pub queue : L.queue ≡ map queued_of view.queue
   pub flying : L.flying ≡ map item_of view.flying
-  pub done : L.done ≡ map done_item_of (kept view.done)
+  pub done : L.done ≡ flat_map done_items_of view.done
   pub in_queue : (i : ℕ) (entry : Entry) → slice_get view.queue i ≡ Some entry → QueuedFor buffer slots L.ops entry entry.body
-  pub in_flight : (i : ℕ) (flight : Flight) → slice_get view.flying i ≡ Some flight → EntryFor buffer slots flight.entry × IsFlown L.ops flight
-  pub in_done : (i : ℕ) (completion : Completion) → slice_get (kept view.done) i ≡ Some completion → CompletionFor slots completion × IsAt L.ops completion.serial (InDone completion.outcome)
-  pub queue_once : OnceQueued view.queue
-  pub flight_once : Once (λ flight. flight.entry.serial) view.flying
-  pub done_once : Once (λ completion. completion.serial) (kept view.done)
+  pub in_flight : (i : ℕ) (flight : Flight) → slice_get view.flying i ≡ Some flight → FlightFor buffer slots L.ops flight flight.entry.body
+  pub in_done : (i : ℕ) (completion : Completion) → slice_get view.done i ≡ Some completion →
+      DoneFor slots L.ops completion (target completion.word)
+  pub queue_once : Once (λ entry. is_call entry.body) (λ entry. entry.serial) view.queue
+  pub flight_once : Once (λ flight. is_call flight.entry.body) (λ flight. flight.entry.serial) view.flying
+  pub done_once : Once (λ completion. names_slot (target completion.word)) (λ completion. completion.serial) view.done
   pub cancels : CancelsMean view.queue view.flying
