@@ -10,4 +10,6 @@ pub use driver_core::{
 pub use uring::IoUringDriver;
 
 #[cfg(test)]
+mod example;
+#[cfg(test)]
 mod tests;

@@ -1,0 +1,57 @@
+// One read by the crates alone, as a program that uses them makes it. The README shows it.
+ghost use Rattle.std.specs.Prelude.{IsTrue};
+ghost use Rattle.ring_core.specs.Ledger.{Ledger};
+
+use crate::{Driver, Executed, IoUringDriver, PollOp, Submitted};
+use rent_buf::{IoBuf, Rent};
+use ring_core::{HandleKind, MemRing, Outcome, Request, Told};
+use std::test::Fail;
+
+// Two turns of any driver. Where neither stops, the driver stands for the ledger that is two turns on.
+fn turn_twice<D: Driver>(driver: &mut D) -> bool
+    ensures { IsTrue result → (L : Ledger) → D.stands driver.old L → D.stands driver.new (D.turned (D.turned L)) }
+{
+    if driver.submit().stop.is_some() {
+        return false;
+    }
+    driver.submit().stop.is_none()
+}
+
+#[test]
+fn one_read_by_the_crates_alone(rt: HostRuntime) -> Result<(), Fail> {
+    let mut driver: IoUringDriver<MemRing, Rent> = IoUringDriver::new_with_entries(rt.alloc(), 8)?;
+    assert!(rt; driver.handles() < 1 << 62);
+    let fd = driver.give(HandleKind::Stream)?;
+
+    // From here to its last poll the buffer is the engine's.
+    let buf = Rent::with_total(rt.alloc(), 16)?;
+    assert!(rt; driver.user_holds(fd.number()) && driver.given() < 1 << 62);
+    let op = match driver.submit_with(Request::Recv { fd, buf }) {
+        Ok(Submitted::Op(op)) => op,
+        Err(refused) => panic!(rt; "refused: {:?}", refused.why),
+    };
+
+    // Bytes arrive. A turn takes the queue, the ring executes what is in flight, and a turn reaps it.
+    assert!(rt; driver.user_holds(fd.number()));
+    assert!(rt; driver.feed(fd.number(), b"hello").is_ok());
+    let _ = driver.submit();
+    assert_eq!(rt; driver.execute(0, Told::Count(5)), Ok(Executed::Op(0)));
+    assert!(rt; turn_twice(&mut driver));
+
+    // The buffer comes back, with the result.
+    assert!(rt; driver.holds(&op));
+    match driver.poll_op(op, 1) {
+        PollOp::Ready(done) => {
+            assert_eq!(rt; done.outcome, Outcome::Count(5));
+            match done.request {
+                Request::Recv { buf, .. } => assert_eq!(rt; buf.bytes(), b"hello".as_slice()),
+                _ => panic!(rt; "another request"),
+            }
+        }
+        PollOp::Pending(op) => {
+            op.forget();
+            panic!(rt; "not reaped")
+        }
+    }
+    Ok(())
+}
