@@ -43,8 +43,8 @@ fn one_read_by_the_crates_alone(rt: HostRuntime) -> Result<(), Fail> {
     match driver.poll_op(op, 1) {
         PollOp::Ready(done) => {
             assert_eq!(rt; done.outcome, Outcome::Count(5));
-            match done.request {
-                Request::Recv { buf, .. } => assert_eq!(rt; buf.bytes(), b"hello".as_slice()),
+            match &done.request {
+                Request::Recv { fd: _, buf } => assert_eq!(rt; buf.bytes(), b"hello".as_slice()),
                 _ => panic!(rt; "another request"),
             }
         }
