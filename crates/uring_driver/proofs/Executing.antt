@@ -267,7 +267,7 @@ module _ {B : Type 0} (buffer : B → Buffer) (v : RingView) (before after : Ops
             (l.in_queue i x (ap (λ xs. slice_get xs i) (sym queue-is) ∙ h)));
         in_flight = λ i x h. (
             let at = flew i x h in
-            flight-kept buffer slots slots' L.ops ops' x x x.entry.body
+            flight-kept buffer slots slots' L.ops ops' x x.marked x.entry.body
             (λ b a. (
             let q : x.entry.serial ≢ n = λ r. skip-not place i (l.flight_once (skip place i) place x fin.flight at fin.there b calls r) in
             (entry-kept x.entry a.0 q, flown-kept x a.1 q)))

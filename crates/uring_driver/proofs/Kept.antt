@@ -1,5 +1,5 @@
 -- Lists that mean the same after a change of slots and of operations that keeps what each entry needs.
-use Rattle.std.proofs.Common.{◌≡◌, ℕ, true, List, [], ◌∷◌, ◌++◌, Some, refl, sym, ◌∙◌, ap, subst, append-nil, flat_map}
+use Rattle.std.proofs.Common.{◌≡◌, ℕ, Bool, true, List, [], ◌∷◌, ◌++◌, Some, refl, sym, ◌∙◌, ap, subst, append-nil, flat_map}
 use Rattle.std.proofs.lemmas.List.Concat.{flat_map-append}
 use Rattle.std.specs.Prelude.{slice_get}
 use Rattle.std.specs.Ordering.{nat_cmp}
@@ -50,12 +50,13 @@ pub call-flown : {B : Type 0} (buffer : B → Buffer) (slots : FinMap nat_cmp (S
 call-flown buffer slots ops f (Calls call) q h = q
 call-flown buffer slots ops f (Cancels key) q h = absurd q
 
--- What an entry in flight means is kept by all that keeps it of a call, also where the entry is marked.
-pub flight-kept : {B : Type 0} (buffer : B → Buffer) (slots slots' : FinMap nat_cmp (Slot B)) (ops ops' : List Operation) (f g : Flight)
-    (b : Body) → (is_call b ≡ true → EntryFor buffer slots f.entry × IsFlown ops f → EntryFor buffer slots' g.entry × IsFlown ops' g) →
-    FlightFor buffer slots ops f b → FlightFor buffer slots' ops' g b
-flight-kept buffer slots slots' ops ops' f g (Calls call) go q = go refl q
-flight-kept buffer slots slots' ops ops' f g (Cancels key) go q = q
+-- What an entry in flight means is kept by all that keeps it of a call, also where its mark changes.
+pub flight-kept : {B : Type 0} (buffer : B → Buffer) (slots slots' : FinMap nat_cmp (Slot B)) (ops ops' : List Operation) (f : Flight)
+    (m : Bool) (b : Body) → (is_call b ≡ true → EntryFor buffer slots f.entry × IsFlown ops f →
+    EntryFor buffer slots' f.entry × IsFlown ops' (record f { marked = m })) →
+    FlightFor buffer slots ops f b → FlightFor buffer slots' ops' (record f { marked = m }) b
+flight-kept buffer slots slots' ops ops' f m (Calls call) go q = go refl q
+flight-kept buffer slots slots' ops ops' f m (Cancels key) go q = q
 
 -- A call in flight is an operation.
 pub call-item : (e : Entry) (b : Body) → is_call b ≡ true → item_in e b ≡ Op e.serial
@@ -132,7 +133,7 @@ module _ {B : Type 0} (buffer : B → Buffer) (slots slots' : FinMap nat_cmp (Sl
         in_queue = λ i e h. queued-kept buffer slots slots' L.ops ops' e e.body
             (λ q a. (let k = in_queue e.serial (at e.serial InQueue a.1) in
             (entry-kept e k.0 a.0, at-kept e.serial InQueue k.1 (at e.serial InQueue a.1)))) (old.in_queue i e h);
-        in_flight = λ i f h. flight-kept buffer slots slots' L.ops ops' f f f.entry.body
+        in_flight = λ i f h. flight-kept buffer slots slots' L.ops ops' f f.marked f.entry.body
             (λ q a. (let b = subst (λ x. IsFlown x f) same a.1 in let k = in_flight f.entry.serial (flown-at ops f b) in
             (entry-kept f.entry k.0 a.0, flown-kept f k.1 b))) (old.in_flight i f h);
         in_done = λ i c h. done-kept slots slots' L.ops ops' c (target c.word)

@@ -151,9 +151,9 @@ module _ {B : Type 0} (buffer : B → Buffer) (v : RingView) (slots : FinMap nat
         (old.in_lists.in_queue (suc i) x (later i x h));
     in_flight = λ i f h. (
         let g = map-get (marked_by key) v.flying i f h in
-        let marked = marked_by key g.0 in
         subst (λ y. FlightFor buffer slots marked_ops y y.entry.body) (sym g.2)
-        (flight-kept buffer slots slots L.ops marked_ops g.0 marked g.0.entry.body (λ c a. (a.0, flown-marked i g.0 g.1 c a.1))
+        (flight-kept buffer slots slots L.ops marked_ops g.0 (marked_by key g.0).marked g.0.entry.body
+        (λ c a. (a.0, flown-marked i g.0 g.1 c a.1))
         (old.in_lists.in_flight i g.0 g.1)));
     in_done = λ i c h. elim (get-pushed v.done answer i c h) [
       | inl r ↦ done-kept slots slots L.ops marked_ops c (target c.word) (λ _ a. (a.0, stays-at c.serial (InDone c.outcome) a.1))
