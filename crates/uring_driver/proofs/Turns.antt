@@ -27,7 +27,7 @@ use Rattle.uring_driver.specs.Stands.{Means, Stands, Answers}
 use Rattle.uring_driver.specs.Reap.{TookOff, Treated, treat_first, treat_each, slots_once}
 use Rattle.uring_driver.specs.Turned.{reaped_out}
 use Rattle.driver_core.specs.Slot.{named_by}
-use Rattle.uring_driver.specs.Lists.{done_items_of, names_nothing}
+use Rattle.uring_driver.specs.Lists.{done_items_of}
 use Rattle.uring_driver.proofs.Reaping.{Names, means-reserved, names-first, first-done, means-first, ended}
 use Rattle.driver_core.proofs.Lists.{same-or-not, amended-absent, amended-like}
 use Rattle.driver_core.proofs.Counts.{where-all}
@@ -137,11 +137,11 @@ module _ {B : Type 0} (buffer : B → Buffer) (v : RingView) (slots : FinMap nat
     (rest : List Completion) (old : Means buffer v slots L) (first : v.done ≡ c ∷ rest)
     (more : (slots' : FinMap nat_cmp (Slot B)) (M : Ledger) → Means buffer (with_done v rest) slots' M →
     TreatsAll buffer M (with_done v []) (treat_each slots' rest)) where
-  treats-named : (named : Option (ℕ × Option ℕ)) (tasks : List ℕ) → Names named c.serial tasks →
+  treats-named : (key : ℕ) (named : Option (ℕ × Option ℕ)) (tasks : List ℕ) → Names named c.serial tasks →
       tasks ≡ task_woken (slice_get L.ops c.serial) → L.done ≡ Op c.serial ∷ flat_map done_items_of rest → (all : Treated B) →
       TreatsAll buffer (with_op (record L { done = flat_map done_items_of rest }) c.serial reap_change) (with_done v []) all →
-      TreatsAll buffer L (with_done v []) (treat_first false named slots c rest all)
-  treats-named named tasks is same done all ends = subst (λ x. TreatsAll buffer L (with_done v []) (treat_first false x slots c rest all))
+      TreatsAll buffer L (with_done v []) (treat_first (Keyed key) named slots c rest all)
+  treats-named key named tasks is same done all ends = subst (λ x. TreatsAll buffer L (with_done v []) (treat_first (Keyed key) x slots c rest all))
       (sym is.is) (record {
         no_bad = ends.no_bad;
         none_left = ends.none_left;
@@ -153,14 +153,14 @@ module _ {B : Type 0} (buffer : B → Buffer) (v : RingView) (slots : FinMap nat
 
   treats-by : (t : Target) → target c.word ≡ t →
       TreatsAll buffer L (with_done v [])
-      (treat_first (names_nothing t) (named_by (get slots c.word)) slots c rest
-      (treat_each (slots_once (names_nothing t) slots c) rest))
+      (treat_first t (named_by (get slots c.word)) slots c rest
+      (treat_each (slots_once t slots c) rest))
   treats-by (Unnamed word) reserved = more slots L (means-reserved buffer v slots L c rest old first word reserved)
-  treats-by (Keyed key) keyed = treats-named (named_by (get slots c.word)) (task_woken (slice_get L.ops c.serial))
+  treats-by (Keyed key) keyed = treats-named key (named_by (get slots c.word)) (task_woken (slice_get L.ops c.serial))
       (names-first buffer v slots L c rest old first key keyed) refl (first-done buffer v slots L c rest old first key keyed)
-      (treat_each (slots_once false slots c) rest)
-      (more (slots_once false slots c) (with_op (record L { done = flat_map done_items_of rest }) c.serial reap_change)
-      (subst (λ K. Means buffer (with_done v rest) (slots_once false slots c) K)
+      (treat_each (slots_once (Keyed key) slots c) rest)
+      (more (slots_once (Keyed key) slots c) (with_op (record L { done = flat_map done_items_of rest }) c.serial reap_change)
+      (subst (λ K. Means buffer (with_done v rest) (slots_once (Keyed key) slots c) K)
       (reap-one (record L { done = flat_map done_items_of rest }) c.serial) (means-first buffer v slots L c rest old first key keyed)))
 
 -- Completions that mean those of a ledger are treated as the machine reaps them.

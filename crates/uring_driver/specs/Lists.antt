@@ -55,15 +55,6 @@ abbrev pub names_slot : Target → Bool
 names_slot (Keyed key) = true
 names_slot (Reserved word) = false
 
--- What a word names is nothing.
-abbrev pub names_nothing : Target → Bool
-names_nothing (Keyed key) = false
-names_nothing (Reserved word) = true
-
--- A word is one of those that name nothing.
-abbrev pub is_reserved : ℕ → Bool
-is_reserved word = names_nothing (target word)
-
 -- No two elements of a list that pass a test have one number.
 abbrev pub Once : {A : Type 0} → (A → Bool) → (A → ℕ) → List A → Type 0
 Once {A} passes number xs = (i j : ℕ) (x y : A) → slice_get xs i ≡ Some x → slice_get xs j ≡ Some y → passes x ≡ true → passes y ≡ true →

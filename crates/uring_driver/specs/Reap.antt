@@ -1,5 +1,5 @@
 -- What treating completions does, one after another. Cited by `reap_one` and `reap_all`, and by what every turn does.
-use Rattle.std.specs.Prelude.{ℕ, ◌≡◌, ◌+◌, ◌≤◌, Bool, true, false, List, [], ◌∷◌, ◌++◌, length, option_to_list, Option, Some, None, vec_len, vec_capacity}
+use Rattle.std.specs.Prelude.{ℕ, ◌≡◌, ◌+◌, ◌≤◌, false, List, [], ◌∷◌, ◌++◌, length, option_to_list, Option, Some, None, vec_len, vec_capacity}
 use Rattle.std.specs.Ordering.{nat_cmp}
 use Rattle.std.specs.FinMap as map
 use Rattle.ring_core.specs.declared.entry.Completion.{Completion}
@@ -7,7 +7,9 @@ use Rattle.ring_core.specs.Ring.{RingView, IsLater}
 use Rattle.driver_core.specs.declared.slot.Slot.{Slot}
 use Rattle.uring_driver.specs.declared.uring.turn.Named.{Named}
 use Rattle.driver_core.specs.Slot.{flies_in, named_by, slots_after}
-use Rattle.uring_driver.specs.Lists.{is_reserved}
+use Rattle.ring_core.specs.Entry.{target}
+use Rattle.ring_core.specs.declared.entry.Target.{Target}
+use Rattle.ring_core.specs.declared.entry.Target.TheVariants.{Slot as Keyed, Reserved}
 
 -- So many completions were taken off: the queue keeps its length, and no count falls.
 pub record TookOff (count : ℕ) (old new : RingView) : Type 0 where
@@ -15,10 +17,13 @@ pub record TookOff (count : ℕ) (old new : RingView) : Type 0 where
   pub fewer : length new.done + count ≡ length old.done
   pub later : IsLater old new
 
--- A word names no slot in flight, and isn't reserved.
-pub record IsStray {B : Type 0} (slots : map.FinMap nat_cmp (Slot B)) (word : ℕ) : Type 0 where
-  pub lands_nowhere : flies_in (map.get slots word) ≡ false
-  pub unreserved : is_reserved word ≡ false
+-- A completion of a word is stray, by what the word names: a slot that isn't in flight. A reserved word is never stray.
+abbrev pub IsStrayFor : {B : Type 0} → map.FinMap nat_cmp (Slot B) → ℕ → Target → Type 0
+IsStrayFor slots word (Keyed key) = flies_in (map.get slots word) ≡ false
+IsStrayFor slots word (Reserved _) = ⊥
+
+abbrev pub IsStray : {B : Type 0} → map.FinMap nat_cmp (Slot B) → ℕ → Type 0
+IsStray slots word = IsStrayFor slots word (target word)
 
 -- There is room for so many more numbers in each list.
 pub record HasRoom (named : Named) (count : ℕ) : Type 0 where
@@ -34,22 +39,26 @@ pub record Treated (B : Type 0) : Type 0 where
   pub bad : Option ℕ
   pub left : List Completion
 
--- The slots once one completion is treated: a reserved word changes none.
-abbrev pub slots_once : {B : Type 0} → Bool → map.FinMap nat_cmp (Slot B) → Completion → map.FinMap nat_cmp (Slot B)
-slots_once true slots completion = slots
-slots_once false slots completion = slots_after slots completion (map.get slots completion.word)
+-- The slots once one completion is treated, by what its word names: a reserved word changes none.
+abbrev pub slots_once : {B : Type 0} → Target → map.FinMap nat_cmp (Slot B) → Completion → map.FinMap nat_cmp (Slot B)
+slots_once (Keyed key) slots completion = slots_after slots completion (map.get slots completion.word)
+slots_once (Reserved word) slots completion = slots
 
 -- One completion, in front of what the rest comes to: it is passed over where its word is reserved, it ends all where it names no
 -- slot in flight, and else it names its operation, and the task that waits for it.
-abbrev pub treat_first : {B : Type 0} → Bool → Option (ℕ × Option ℕ) → map.FinMap nat_cmp (Slot B) → Completion → List Completion → Treated B → Treated B
-treat_first true named slots completion rest more = more
-treat_first false None slots completion rest more = record { slots = slots; reaped = []; woken = []; bad = Some completion.word; left = rest }
-treat_first false (Some named) slots completion rest more = record more { reaped = named.0 ∷ more.reaped; woken = option_to_list named.1 ++ more.woken }
+abbrev pub treat_first : {B : Type 0} → Target → Option (ℕ × Option ℕ) → map.FinMap nat_cmp (Slot B) → Completion → List Completion →
+    Treated B → Treated B
+treat_first (Reserved word) named slots completion rest more = more
+treat_first (Keyed key) None slots completion rest more =
+    record { slots = slots; reaped = []; woken = []; bad = Some completion.word; left = rest }
+treat_first (Keyed key) (Some named) slots completion rest more =
+    record more { reaped = named.0 ∷ more.reaped; woken = option_to_list named.1 ++ more.woken }
 
 -- Completions are treated in order.
 abbrev pub treat_each : {B : Type 0} → map.FinMap nat_cmp (Slot B) → List Completion → Treated B
 treat_each slots [] = record { slots = slots; reaped = []; woken = []; bad = None; left = [] }
-treat_each slots (completion ∷ rest) = treat_first (is_reserved completion.word) (named_by (map.get slots completion.word)) slots completion rest (treat_each (slots_once (is_reserved completion.word) slots completion) rest)
+treat_each slots (completion ∷ rest) = treat_first (target completion.word) (named_by (map.get slots completion.word)) slots completion rest
+    (treat_each (slots_once (target completion.word) slots completion) rest)
 
 -- What completions come to behind those that were named before.
 abbrev pub treated_behind : {B : Type 0} → Named → Treated B → Treated B
