@@ -1,5 +1,5 @@
 -- A buffer as a value, and what storing bytes in it makes of it. Each crate that moves bytes cites it.
-use Rattle.std.specs.Prelude.{ℕ, ◌≡◌, ◌+◌, ◌-◌, ◌≤◌, List, ◌++◌, length, take, drop, min}
+use Rattle.std.specs.Prelude.{ℕ, ◌≡◌, ◌+◌, ◌-◌, ◌≤◌, List, ◌++◌, length, take, drop}
 use Rattle.rent_buf.specs.declared.kind.Kind.{Kind}
 use Rattle.rent_buf.specs.declared.kind.Kind.TheVariants.{Vector, Grown, Fixed}
 
@@ -33,21 +33,9 @@ whole_of kind bytes total = record { kind = kind; bytes = bytes; total = total; 
 abbrev pub room : Buffer → ℕ
 room b = b.end - b.begin
 
--- The most bytes that one request asks for.
-abbrev pub most_asked : ℕ
-most_asked = 2147483647
-
--- How many bytes a request into the buffer wants: the range's room, cut to the most that one request asks for.
-abbrev pub want_of : Buffer → ℕ
-want_of b = min (room b) most_asked
-
 -- The initialised bytes of the range: from `begin` to the lesser of `end` and the bytes' number.
 abbrev pub shown : Buffer → List ℕ
 shown b = drop b.begin (take b.end b.bytes)
-
--- The bytes that a request sends of the buffer: those that its range shows, cut to the most that one request asks for.
-abbrev pub sent_of : Buffer → List ℕ
-sent_of b = take most_asked (shown b)
 
 -- The bytes of a buffer of a kind after s was stored at an offset: each keeps what was before, then has s. A Vector ends there. The
 -- others keep what was behind.
@@ -60,7 +48,7 @@ written Fixed bytes at s = take at bytes ++ s ++ drop (at + length s) bytes
 abbrev pub put : Buffer → ℕ → List ℕ → Buffer
 put b at s = record b { bytes = written b.kind b.bytes at s }
 
--- A buffer with s stored at the begin of its range.
+-- A buffer with s stored at the start of its range.
 abbrev pub stored : Buffer → List ℕ → Buffer
 stored b s = put b b.begin s
 

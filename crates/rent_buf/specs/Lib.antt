@@ -1,5 +1,6 @@
 pub mod Buf
 pub mod Buffer
+pub mod Counts
 pub mod Fixed
 pub mod Grow
 pub mod Held

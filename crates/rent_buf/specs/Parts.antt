@@ -1,8 +1,6 @@
 -- Parts as a value, and what storing bytes in them makes of them. Each clause on a vector of buffers cites it.
-use Rattle.std.specs.Prelude.{ℕ, ◌^◌, ◌<◌, ◌≤◌, nat_le, if◌then◌else◌, List, [], ◌∷◌, ◌++◌, All, length, take, drop, map, min, sum_by, slice_index_or, slice_set}
-use Rattle.std.specs.List.{concat}
+use Rattle.std.specs.Prelude.{ℕ, ◌^◌, ◌<◌, ◌≤◌, nat_le, if◌then◌else◌, List, [], ◌∷◌, ◌++◌, All, length, take, drop, map, sum_by, slice_index_or, slice_set}
 use Rattle.std.specs.declared.vec.Vec.{Vec}
-use Rattle.rent_buf.specs.Buffer.{most_asked}
 use Rattle.rent_buf.specs.Rent.{Rented, with_bytes_of_rent}
 
 -- Parts are vectors with stated totals, in order. A part's total is its room.
@@ -17,14 +15,6 @@ bytes_of parts = map (λ part. part.bytes) parts
 abbrev pub rooms_of : Parts → ℕ
 rooms_of parts = sum_by (λ part. part.total) parts
 
--- How many bytes a request into the parts wants: the sum of their rooms, cut to the most that one request asks for.
-abbrev pub parts_want : Parts → ℕ
-parts_want parts = min (rooms_of parts) most_asked
-
--- The bytes that a request sends of the parts: theirs, joined in order, cut to the most that one request asks for.
-abbrev pub parts_sent : Parts → List ℕ
-parts_sent parts = take most_asked (concat (bytes_of parts))
-
 -- The bounds that parts keep: each part's bytes fit its room, and the rooms' sum fits a `usize`.
 pub record IsParts (parts : Parts) : Type 0 where
   pub fit : All (λ part. length part.bytes ≤ part.total) parts
@@ -34,7 +24,7 @@ pub record IsParts (parts : Parts) : Type 0 where
 abbrev pub part_at : Parts → ℕ → Rented
 part_at parts i = slice_index_or parts i (record { bytes = []; total = 0 })
 
--- Parts with s standing in one of them from a place on: what stood before stays, and s is the last.
+-- Parts with s in one of them from a place on: what was before it stays, and s is the last.
 abbrev pub part_put : Parts → ℕ → ℕ → List ℕ → Parts
 part_put parts i at s = slice_set parts i (record (part_at parts i) { bytes = take at (part_at parts i).bytes ++ s })
 

@@ -37,7 +37,7 @@ impl Model for BufSpec {
 }
 
 impl BufSpec {
-    /// The buffer of this kind, total, range and bytes (not in monoio). `None` comes exactly where
+    /// The buffer of this kind, total, range and bytes (not in monoio). `None` comes exactly when
     /// a bound fails: `bytes.len() <= total`, `begin <= end`, `begin <= bytes.len()` and `end <=
     /// total`, and for `Kind::Fixed` `bytes.len() == total`.
     pub fn new(

@@ -36,7 +36,7 @@ impl Model for PartsSpec {
 }
 
 impl PartsSpec {
-    /// Parts of these rooms and bytes (not in monoio). `None` comes exactly where bytes pass their
+    /// Parts of these rooms and bytes (not in monoio). `None` comes exactly when bytes pass their
     /// room, or the rooms' sum passes `usize`.
     #[tactic(auto, using(crate::proofs::Rooms::fit_of_pairs, crate::proofs::Rooms::bounded_of_pairs))]
     pub fn new(parts: Vec<(usize, ByteList)>) -> Option<PartsSpec>

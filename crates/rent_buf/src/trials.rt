@@ -1,4 +1,4 @@
-//! What the tests of several modules share.
+//! What the tests of several modules share; no other code has it.
 ghost use Rattle.std.specs.Prelude.{◌≡◌, ◌+◌, ◌<◌, ◌≤◌, length, slice_set};
 ghost use Rattle.rent_buf.specs.Buffer.{IsRange, shown, put, overwritten};
 

@@ -27,7 +27,7 @@ impl<T: IoVecBuf> Model for IoVecWrapper<T> {
 }
 
 impl<T: IoVecBuf> IoVecWrapper<T> {
-    /// The first part as a buffer (monoio: `new`). The vector comes back exactly where it has no
+    /// The first part as a buffer (monoio: `new`). The vector comes back exactly when it has no
     /// parts.
     pub fn new(buf: T) -> Result<IoVecWrapper<T>, T>
         ensures ok { IfOk result (λ w. w ≡ buf) }
@@ -79,7 +79,7 @@ impl<T: IoVecBufMut> Model for IoVecWrapperMut<T> {
 }
 
 impl<T: IoVecBufMut> IoVecWrapperMut<T> {
-    /// The first part as a buffer (monoio: `new`). The vector comes back exactly where it has no
+    /// The first part as a buffer (monoio: `new`). The vector comes back exactly when it has no
     /// parts.
     pub fn new(buf: T) -> Result<IoVecWrapperMut<T>, T>
         ensures ok { IfOk result (λ w. w ≡ buf) }

@@ -1,6 +1,2 @@
 -- Counts of faults, which never fall.
-use Rattle.std.specs.Prelude.{ℕ, ◌+◌, ◌-◌, ◌^◌, ◌≤◌, min}
-
--- A count rose in a call: it is greater after it, or stands at the last value of a `u64`.
-abbrev pub Rose : ℕ → ℕ → Type 0
-Rose before now = min (before + 1) (2 ^ 64 - 1) ≤ now
+pub use Rattle.rent_buf.specs.Counts.{Rose}
