@@ -7,7 +7,7 @@ use ring_core::{Outcome, Request};
 use thiserror::Error;
 
 /// Names one operation of the driver that gave it. It can't be made, copied or dropped outside: `poll_op` spends it where
-/// it is `Ready`, `drop_op` always, and `forget` spends it with no driver. (monoio's `Op`, which holds its driver too)
+/// it is `Ready`, `drop_op` always, and `forget` spends it with no driver. (monoio: `Op`, which holds its driver too)
 #[derive(Debug)]
 pub struct Op {
     number: u64,
@@ -15,14 +15,14 @@ pub struct Op {
 }
 
 impl Op {
-    /// The operation's number: how many were given before it. (own)
+    /// The operation's number: how many were given before it. (not in monoio)
     pub fn number(&self) -> u64
         ensures { result ≡ number_of self.now }
     {
         self.number
     }
 
-    /// Gives the token up. The operation stays as it is, with its buffer, until its driver goes. (own)
+    /// Drops the token alone. The operation stays as it is, with its buffer, until its driver goes. (not in monoio)
     pub fn forget(self) {
         let Op { number: _, key: _ } = self;
     }
@@ -50,7 +50,7 @@ impl Op {
     }
 }
 
-/// What a submission gave.
+/// What a submission returns.
 #[derive(Debug)]
 pub enum Submitted {
     /// The token of the new operation.
@@ -79,7 +79,7 @@ pub enum SubmitFault {
 pub struct SubmitError<B> {
     /// Why.
     pub why: SubmitFault,
-    /// The request as it was handed in, with its buffer or its parts.
+    /// The request as it was passed in, with its buffer or its parts.
     pub request: Request<B, VecBuf>,
 }
 
@@ -88,7 +88,7 @@ pub struct SubmitError<B> {
 pub struct Done<B> {
     /// How it ended.
     pub outcome: Outcome,
-    /// The request as it was submitted, with its buffer or its parts, in which the bytes of a read stand.
+    /// The request as it was submitted, with its buffer or its parts, in which are the bytes of a read.
     pub request: Request<B, VecBuf>,
 }
 
@@ -101,7 +101,7 @@ pub enum PollOp<B> {
     Ready(Done<B>),
 }
 
-/// What was executed. (own)
+/// What was executed. (not in monoio)
 #[derive(Clone, Copy, Debug, PartialEq, Eq)]
 pub enum Executed {
     /// The operation of this number.
@@ -114,7 +114,7 @@ pub enum Stop {
     /// The ring failed to take its queue: its count of faults rose. Nothing was treated.
     #[error("RingFault")]
     RingFault,
-    /// The ring was busy: its count of busies rose. What stood was treated.
+    /// The ring was busy: its count of busies rose. What was ready was treated.
     #[error("Busy")]
     Busy,
     /// The turn ended at a completion with this data word, which is not reserved and names no slot in flight.

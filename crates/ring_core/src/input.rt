@@ -5,7 +5,7 @@ use rent_buf::OutOfMemory;
 use std::alloc::Global;
 use std::marker::Model;
 
-/// Bytes that wait, oldest first. Taking some away costs nothing that grows with what is left. (own)
+/// Bytes that wait, oldest first. Taking some away costs nothing that grows with what is left. (not in monoio)
 #[derive(Debug, Drop)]
 pub struct Input {
     bytes: Vec<u8>,

@@ -33,7 +33,7 @@ pub enum ExecRefusal {
     OutOfMemory,
 }
 
-/// A ring in memory: three lists and a world of handles. It never fails and is never busy. (own)
+/// A ring in memory: three lists and a world of handles. It never fails and is never busy. (not in monoio)
 #[derive(Debug, Drop)]
 pub struct MemRing {
     entries: u32,
@@ -80,7 +80,7 @@ impl MemRing {
         &self.world
     }
 
-    /// The entry that is in flight at a place; None exactly where the place isn't below the length of the in-flight list.
+    /// The entry that is in flight at a place; None exactly when the place isn't below the length of the in-flight list.
     pub fn flying_at(&self, place: usize) -> Option<Entry>
         ensures { result ≡ entry_at self.now.flying place }
     {

@@ -46,7 +46,7 @@ pub(crate) enum RunError {
     OutOfMemory,
 }
 
-/// What stands on a handle. (own)
+/// What stands on a handle. (not in monoio)
 #[derive(Debug, Drop)]
 pub struct HandleState {
     /// What the handle is.
@@ -59,14 +59,14 @@ pub struct HandleState {
     pub output: ByteList,
 }
 
-/// What looking at a handle shows. (own)
+/// What looking at a handle shows. (not in monoio)
 #[derive(Debug, Drop)]
 pub enum Look {
     /// The bytes that were sent to it.
     Bytes(ByteList),
 }
 
-/// The handles of a machine in memory, by number from 0. (own)
+/// The handles of a machine in memory, by number from 0. (not in monoio)
 #[derive(Debug, Drop)]
 pub struct World {
     alloc: Global,
@@ -83,7 +83,7 @@ impl Model for World {
 }
 
 impl World {
-    /// No handles. It takes no memory. (own)
+    /// No handles. It takes no memory. (not in monoio)
     pub fn new(alloc: Global) -> World
         ensures { result ≡ [] }
     {
@@ -98,14 +98,14 @@ impl World {
         self.alloc
     }
 
-    /// The number of handles. (own)
+    /// The number of handles. (not in monoio)
     pub fn count(&self) -> u64
         ensures { result ≡ length self.now }
     {
         self.handles.len() as u64
     }
 
-    /// A new handle of a kind, and its number: nothing stands on it, and its end isn't marked. (own)
+    /// A new handle of a kind, and its number: nothing stands on it, and its end isn't marked. (not in monoio)
     pub fn give(&mut self, kind: HandleKind) -> Result<u64, OutOfMemory>
         ensures number { IfOk result (λ h. h ≡ length self.old) }
         ensures ok { OnOk result (self.new ≡ self.old ++ fresh kind ∷ []) }
@@ -121,7 +121,7 @@ impl World {
         Ok(h)
     }
 
-    /// Bytes join the input's end of a handle. `BadHandleEvent` comes exactly where its end is marked. (own)
+    /// Bytes join the input's end of a handle. `BadHandleEvent` comes exactly when its end is marked. (not in monoio)
     pub fn feed(&mut self, h: u64, bytes: &[u8]) -> Result<(), WorldError>
         requires { h < length self.old }
         ensures { WorldFeeds bytes.now self.old h self.new result }
@@ -129,8 +129,8 @@ impl World {
         feed_at(&mut self.handles, h as usize, bytes)
     }
 
-    /// Marks a handle's end: no more bytes arrive. `BadHandleEvent` comes exactly where it is marked already. It takes no
-    /// memory. (own)
+    /// Marks a handle's end: no more bytes arrive. `BadHandleEvent` comes exactly when it is marked already. It takes no
+    /// memory. (not in monoio)
     pub fn end(&mut self, h: u64) -> Result<(), WorldError>
         requires { h < length self.old }
         ensures { WorldEnds self.old h self.new result }
@@ -138,7 +138,7 @@ impl World {
         end_at(&mut self.handles, h as usize)
     }
 
-    /// What was sent to a handle, copied once. (own)
+    /// What was sent to a handle, copied once. (not in monoio)
     pub fn look(&self, h: u64) -> Result<Look, OutOfMemory>
         requires { h < length self.now }
         ensures { IfOk result (λ look. look ≡ Look.Bytes (output_at self.now h)) }

@@ -8,14 +8,14 @@ ghost use Rattle.run_laws.specs.Headline.{DroppedOnce, RefusedWhereGone, FirstPo
 ghost use Rattle.run_laws.specs.Headline.{CanceledWhereAsked, GivenOnce, ExecutedOnce, ReapedOnce, OneOwn, GivenInOrder};
 
 /// The laws of whole runs of the machine, read from its definitions alone: for every capacity and every list of
-/// events, with numbers of any size. There is one reply for each event, and it is `Refused` exactly where the
+/// events, with numbers of any size. There is one reply for each event, and it is `Refused` exactly when the
 /// machine names a cause, with that name. A poll that isn't refused is answered `Pending` until its operation's
 /// reap, the first turn after the operation was executed. The first poll after it hands back, once, that
 /// operation's own buffer with its own outcome, as the events that gave and executed it tell them. What was handed
 /// over or dropped is there no more. A turn names exactly the operations that it reaps, and until then each is kept,
 /// also a dropped one. The error of a cancel comes only where that operation's own cancel was asked for, or it was
 /// dropped. Each operation is given, executed and reaped at most once, and numbers are given in order from 0. The
-/// body does nothing. (own)
+/// body does nothing. (not in monoio)
 pub fn headline()
     ensures one_each { (capacity : ℕ) (events : List Event) → OneReplyEach events (replies (empty capacity) events) }
     ensures refused { (capacity : ℕ) (events : List Event) → RefusedExactly capacity events (replies (empty capacity) events) }

@@ -73,7 +73,7 @@ impl<R: Ring> Submissions<R> {
         self.ring.standing()
     }
 
-    /// How many completions stand, and how many entries are queued or due; None where that is no `usize`.
+    /// How many completions are ready, and how many entries are queued or due; None where that is no `usize`.
     pub fn waiting(&self) -> Option<usize>
         ensures some { IfSome result (λ n. n ≡ length (R.view self.now.ring).done + (length (R.view self.now.ring).queue + length self.now.due)) }
         ensures none { IfNone result (2 ^ 64 ≤ length (R.view self.now.ring).done + (length (R.view self.now.ring).queue + length self.now.due)) }
@@ -202,7 +202,7 @@ impl<R: Ring> Submissions<R> {
         self.enter_ring()
     }
 
-    /// The first completion that stands.
+    /// Removes and returns the oldest completion.
     pub fn next(&mut self) -> Option<Completion>
         ensures next { NextFor R.tells (R.view self.old.ring) (R.view self.new.ring) result }
         ensures due { self.new.due ≡ self.old.due }

@@ -152,7 +152,7 @@ pub(crate) fn ready<R: Ring, B: IoBufMut + Drop>(
     ready_with(rt, driver, op, outcome, &[bytes]);
 }
 
-// A token is given up.
+// An operation is dropped.
 fn give_up<R: Ring, B: IoBufMut + Drop>(rt: &impl Abort, driver: &mut IoUringDriver<R, B>, op: Op) {
     assert!(rt; driver.holds(&op));
     driver.drop_op(op);
@@ -292,7 +292,7 @@ fn a_drop_over_a_full_queue(rt: HostRuntime) -> Result<(), Fail> {
     Ok(())
 }
 
-// What is reaped is given up at once.
+// What is reaped goes at once when it is dropped.
 #[test]
 fn a_drop_after_the_reap(rt: HostRuntime) -> Result<(), Fail> {
     let mut driver: IoUringDriver<MemRing, Buf> = IoUringDriver::new_with_entries(rt.alloc(), 4)?;
@@ -307,7 +307,7 @@ fn a_drop_after_the_reap(rt: HostRuntime) -> Result<(), Fail> {
     Ok(())
 }
 
-// An error stores nothing: the submitted buffer comes back, with the bytes that stood in it.
+// An error stores nothing: the submitted buffer comes back, with the bytes that were in it.
 #[test]
 fn an_error_hands_back_the_submitted_buffer(rt: HostRuntime) -> Result<(), Fail> {
     let mut driver: IoUringDriver<MemRing, Buf> = IoUringDriver::new_with_entries(rt.alloc(), 4)?;

@@ -55,7 +55,7 @@ impl<R: Ring, B: IoBufMut> Model for IoUringDriver<R, B> {
 }
 
 impl<R: Ring, B: IoBufMut + Drop> IoUringDriver<R, B> {
-    /// A driver over a ring with nothing queued, in flight or standing. Where memory runs out the ring comes back. (not in monoio)
+    /// A driver over a ring with nothing queued, in flight or ready. If memory runs out, the ring comes back. (not in monoio)
     pub fn over(alloc: Global, ring: R) -> Result<Self, (OutOfMemory, R)>
         requires { IsIdle (R.view ring) }
         ensures stands { IfOk result (λ driver. (R.view ring).world ≡ [] → Stands R.view B.buffer driver (empty (R.view ring).capacity)) }
@@ -88,14 +88,14 @@ impl<R: Ring, B: IoBufMut + Drop> IoUringDriver<R, B> {
         self.ops.len()
     }
 
-    /// How many operations were given, which is the number of the next one. (not in monoio)
+    /// How many operations were submitted, which is the number of the next one. (not in monoio)
     pub fn given(&self) -> u64
         ensures { result ≡ given_by self.now }
     {
         self.ops.given()
     }
 
-    /// How many handles were given. (not in monoio)
+    /// How many handles were created. (not in monoio)
     pub fn handles(&self) -> u64
         ensures { result ≡ handles_of self.now }
     {
@@ -109,16 +109,16 @@ impl<R: Ring, B: IoBufMut + Drop> IoUringDriver<R, B> {
         h >= self.first && h - self.first < self.held
     }
 
-    /// The token is that of an operation of this driver that is neither handed back nor dropped. (not in monoio)
+    /// The token is that of an operation of this driver that is neither returned nor dropped. (not in monoio)
     pub fn holds(&self, op: &Op) -> bool
         ensures { IsTrue result ↔ Holds self.now op.now }
     {
         self.ops.holds(op)
     }
 
-    /// Submits a request of handles that the user holds, and gives the new operation's token. What is due goes in first, and a
+    /// Submits a request of handles that the user holds, and returns the new operation's token. What is due goes in first, and a
     /// queue at capacity is entered. The memory that it needs, and that of one cancel, is taken before anything changes. Fewer
-    /// than `2^62` were given before. (monoio: `submit_with_data`)
+    /// than `2^62` were submitted before. (monoio: `submit_with_data`)
     pub fn submit_with(&mut self, request: Request<B, VecBuf>) -> Result<Submitted, SubmitError<B>>
         requires held { IsTrue (holds_all self.old (named request)) }
         requires counter { given_by self.old < 2 ^ 62 }
@@ -131,7 +131,7 @@ impl<R: Ring, B: IoBufMut + Drop> IoUringDriver<R, B> {
         ensures pending { IsTrue R.tells → SubmitMoves R.view B.buffer request self.old self.new result }
         ensures none_due { IsTrue R.steady → due_in self.old ≡ [] → due_in self.new ≡ [] }
 
-        // It is Full exactly where all slots are live; a fault of the ring comes only where that count rose.
+        // It is Full exactly when all slots are live; a fault of the ring comes only where that count rose.
         ensures full { IsFullError result ↔ (live_slots self.old ≡ 4294967232) }
         ensures err { IfErr result (SubmitRefused R.view B.buffer R.steady request self.old self.new) }
         ensures memory { IfErr result (λ refused. refused.why ≡ SubmitFault.OutOfMemory → IsSameRing R.view self.old self.new) }
@@ -164,7 +164,7 @@ impl<R: Ring, B: IoBufMut + Drop> IoUringDriver<R, B> {
         self.ops.poll(op, task)
     }
 
-    /// Gives an operation of this driver up. It takes no memory. (monoio: `drop_op`)
+    /// Drops an operation of this driver. It takes no memory. (monoio: `drop_op`)
     ///
     /// One that isn't reaped keeps its slot, with its buffer, until its reap, which names it; its cancel joins what is pending.
     pub fn drop_op(&mut self, op: Op)

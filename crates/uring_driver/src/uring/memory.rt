@@ -44,12 +44,12 @@ impl<B: IoBufMut + Drop> IoUringDriver<MemRing, B> {
         }
     }
 
-    /// A new handle of the user: fewer than `2^62` were given before. (not in monoio)
+    /// A new handle of the user: fewer than `2^62` were created before. (not in monoio)
     pub fn give(&mut self, kind: HandleKind) -> Result<SharedFd, OutOfMemory>
         requires { handles_of self.old < 2 ^ 62 }
         ensures answers { IfOk result (λ fd. (L : Ledger) → Stands (λ r. r) B.buffer self.old L →
             Answers (λ r. r) B.buffer L (Give kind) (Handle fd) self.new) }
-        // Over a ring with handles of its own the new one is the user's too, beside those that were given.
+        // Over a ring with handles of its own the new one is the user's too, beside those that were created.
         ensures held { IfOk result (λ fd. IsNextHandle self.old fd →
             (h : ℕ) → holds_handle self.new h ≡ (holds_handle self.old h || h == fd)) }
         // The ring has one handle more, which is the one that is answered.
@@ -142,7 +142,7 @@ impl<B: IoBufMut + Drop> IoUringDriver<MemRing, B> {
     }
 }
 
-// The first handle, once `h` was given after `held` others.
+// The first handle, once `h` was created after `held` others.
 fn first_of(first: u64, held: u64, h: u64) -> u64
     ensures { result ≡ first_with first held h }
 {
