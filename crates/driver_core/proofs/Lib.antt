@@ -7,5 +7,5 @@ pub mod Slots
 pub mod Owned
 pub mod Filling
 mod Polling
-mod Requests
+pub mod Requests
 pub mod Tokens
