@@ -9,14 +9,10 @@ use Rattle.ring_core.specs.Request.{plain_request, room_of}
 use Rattle.driver_core.specs.declared.slot.Slot.{Slot}
 use Rattle.driver_core.specs.Slot.{fits_in, IsFilled, FillsIf, FillsSlot}
 
--- A number that is at most another passes the test.
-at-most : (a b : ℕ) → a ≤ b → nat_le a b ≡ true
-at-most a b h = grind (arith, nat_tests)
-
 -- A slot whose request has room for the bytes is filled.
 pub filled-where-fits : {B : Type 0} (buffer : B → Buffer) (old new : FinMap nat_cmp (Slot B)) (key : ℕ) (bytes : List ℕ) (s : Slot B) →
     FillsSlot buffer old key bytes new → get old key ≡ Some s → length bytes ≤ room_of (plain_request buffer s.request) →
     IsFilled buffer old key bytes new s
 filled-where-fits buffer old new key bytes s fills there fits =
-    let passes = at-most (length bytes) (room_of (plain_request buffer s.request)) fits in
+    let passes : nat_le (length bytes) (room_of (plain_request buffer s.request)) ≡ true = grind (arith, nat_tests) in
     subst (λ b. FillsIf buffer b old key bytes new) (ap (λ x. fits_in buffer x (length bytes)) there ∙ passes) fills s there

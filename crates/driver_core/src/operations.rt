@@ -4,7 +4,7 @@ ghost use Rattle.std.specs.FinMap as map;
 ghost use Rattle.driver_core.specs.Slot.{flies_in, CompletesSlot, KeepsNumbers};
 ghost use Rattle.driver_core.specs.Op.{Holds, HoldsNone, KeepsTokens, DropsToken, AddsToken, PollsTokens};
 ghost use Rattle.driver_core.specs.Operations.{Submits, PollsOp, DropsOp, offered, Stores};
-ghost use Rattle.driver_core.specs.Requests.{request_at, KeepsRequests};
+ghost use Rattle.driver_core.specs.Requests.{request_at, ReturnsRequest, KeepsRequests};
 ghost use Rattle.ring_core.specs.Surroundings.{around};
 
 use crate::op::{Op, PollOp};
@@ -120,6 +120,7 @@ impl<B: Drop> Operations<B> {
         requires { Holds self.old op }
         ensures polls { PollsOp self.old self.new op task result }
         ensures tokens { PollsTokens self.old self.new op result }
+        ensures request { ReturnsRequest self.old op result }
         ensures requests { KeepsRequests self.old self.new }
         ensures given { self.new.given ≡ self.old.given }
     {

@@ -1,9 +1,10 @@
 //! What a slot of a driver holds, and what its calls do to one slot.
-ghost use Rattle.std.specs.Prelude.{◌≡◌, ℕ, false, length, IsSome, IfSome, IfNone, option_copied};
+ghost use Rattle.std.specs.Prelude.{◌≡◌, false, IsSome, IfSome, IfNone, option_copied};
 ghost use Rattle.std.specs.FinMap as map;
 ghost use Rattle.op_slots.specs.Lifecycle.{IsCompleted, IsIgnored};
 ghost use Rattle.ring_core.specs.Surroundings.{around};
-ghost use Rattle.driver_core.specs.Slot.{has_number, flies_in, PollsSlot, PollsAt, DropsSlot, DropsAt, CompletesSlot, KeepsNumbers, fits_in, FillsSlot};
+ghost use Rattle.driver_core.specs.Slot.{has_number, flies_in, fits_in, KeepsNumbers};
+ghost use Rattle.driver_core.specs.Slot.{PollsSlot, PollsAt, DropsSlot, DropsAt, CompletesSlot, FillsSlot};
 ghost use Rattle.driver_core.specs.Requests.{surroundings_in, StaysHeld};
 
 use crate::op::Done;

@@ -14,23 +14,28 @@ use Rattle.driver_core.proofs.Requests.{stays-same}
 
 module _ {B : Type 0} (buffer : B → Buffer) (reader : B → Surroundings) where
   -- What is stored where bytes come, without the surroundings.
-  stores-at : (b : Bool) (before after : Ops B) (word : ℕ) (got : List ℕ) → StoresIf (Stores buffer reader) b before word got after →
-      StoresIf (StoresAt buffer) b before word got after
+  stores-at : (b : Bool) (before after : Ops B) (word : ℕ) (got : List ℕ) →
+      StoresIf (Stores buffer reader) b before word got after → StoresIf (StoresAt buffer) b before word got after
   stores-at true before after word got stores = stores.0
   stores-at false before after word got same = same
 
   -- The surroundings of buffers stay, whether bytes come or not.
-  pub stores-surroundings : (b : Bool) (before after : Ops B) (word : ℕ) (got : List ℕ) → StoresIf (Stores buffer reader) b before word got after →
-      KeepsSurroundings reader before after
-  stores-surroundings true before after word got stores = stores.1
-  stores-surroundings false before after word got same = stays-same (surroundings_in reader) before.slots.values after.slots.values (ap (λ x. x.slots.values) same)
+  stores-keeps : (b : Bool) (before after : Ops B) (word : ℕ) (got : List ℕ) →
+      StoresIf (Stores buffer reader) b before word got after → KeepsSurroundings reader before after
+  stores-keeps true before after word got stores = stores.1
+  stores-keeps false before after word got same =
+      stays-same (surroundings_in reader) before.slots.values after.slots.values (ap (λ x. x.slots.values) same)
 
-  -- What was executed, without the surroundings.
-  pub executed-at : (old new : RingView) (place : ℕ) (told : Told) (before after : Ops B) (c : Completion) →
-      IsExecuted (offered buffer) (Stores buffer reader) old place told new before after c →
-      IsExecuted (offered buffer) (StoresAt buffer) old place told new before after c
-  executed-at old new place told before after c executed = record {
-    got = executed.got;
-    finishes = executed.finishes;
-    stored = stores-at (body_comes executed.finishes.flight.entry.body told) before after c.word executed.got executed.stored;
-  }
+  module _ {old new : RingView} {place : ℕ} {told : Told} {before after : Ops B} {c : Completion}
+      (executed : IsExecuted (offered buffer) (Stores buffer reader) old place told new before after c) where
+    -- What was executed, without the surroundings.
+    pub executed-at : IsExecuted (offered buffer) (StoresAt buffer) old place told new before after c
+    executed-at = record {
+      got = executed.got;
+      finishes = executed.finishes;
+      stored = stores-at (body_comes executed.finishes.flight.entry.body told) before after c.word executed.got executed.stored;
+    }
+
+    -- An execution keeps the surroundings of buffers.
+    pub executed-keeps : KeepsSurroundings reader before after
+    executed-keeps = stores-keeps (body_comes executed.finishes.flight.entry.body told) before after c.word executed.got executed.stored

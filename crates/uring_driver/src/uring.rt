@@ -11,8 +11,9 @@ ghost use Rattle.uring_driver.specs.Submissions.{IsIdle, TakesFront, PendingMove
 ghost use Rattle.uring_driver.specs.Uring.{ring_in, due_in, pending, live_slots, given_by, handles_of, holds_handle, holds_all};
 ghost use Rattle.uring_driver.specs.Stands.{Stands, Answers};
 ghost use Rattle.uring_driver.specs.Dropped.{DropsOp};
-ghost use Rattle.uring_driver.specs.Submitted.{SameSlots, SubmitsFor, SubmitMoves, AddsToken, GivesRequest, IsFullError, IsSameRing, SubmitRefused, IsPrepared, Unprepared};
-ghost use Rattle.uring_driver.specs.PollOp.{PollsFor, PollsOp, PollsTokens, IsPending, IsUnreaped};
+ghost use Rattle.uring_driver.specs.Submitted.{SameSlots, SubmitsFor, SubmitMoves, AddsToken, GivesRequest};
+ghost use Rattle.uring_driver.specs.Submitted.{IsFullError, IsSameRing, SubmitRefused, IsPrepared, Unprepared};
+ghost use Rattle.uring_driver.specs.PollOp.{PollsFor, PollsOp, PollsTokens, ReturnsRequest, IsPending, IsUnreaped};
 
 use crate::submissions::Submissions;
 use driver_core::{Op, Operations, PollOp, SubmitError, SubmitFault, Submitted};
@@ -160,6 +161,7 @@ impl<R: Ring, B: IoBufMut + Drop> IoUringDriver<R, B> {
         // Pending exactly while the slot at the token's key isn't completed; what is ready is that slot's own.
         ensures polls { PollsOp self.old self.new op task result }
         ensures tokens { PollsTokens self.old self.new op result }
+        ensures request { ReturnsRequest self.old op result }
         ensures requests { KeepsRequests self.old self.new }
         ensures ring { ring_in self.new ≡ ring_in self.old }
         ensures due { due_in self.new ≡ due_in self.old }

@@ -94,7 +94,8 @@ invariant_of-self-2 g c =
     )
 
 pub returns-in-Err-clause-requests : goal.returns-in-Err-clause-requests
-returns-in-Err-clause-requests g c = rw (← c.self.view_is) (stays-same request_in c.self.inside.ops.slots.values c.prepare.new.ops.slots.values c.in-Err.ensures.slots)
+returns-in-Err-clause-requests g c =
+    rw (← c.self.view_is) (stays-same request_in c.self.inside.ops.slots.values c.prepare.new.ops.slots.values c.in-Err.ensures.slots)
 
 pub returns-clause-requests : goal.returns-clause-requests
 returns-clause-requests g c = rw (← c.self.view_is)

@@ -8,6 +8,7 @@ returns-in-Ok g c =
     let meets = c.end_turn.ensures.meets c.args.self.now c.in-Ok.ensures.ok in
     record {
       turns = meets;
-      keeps = subst (λ slots. StaysHeld request_in slots c.end_turn.new.self.slots.values) c.in-Ok.ensures.ok.same.slots c.end_turn.ensures.requests;
+      keeps = subst (λ slots. StaysHeld request_in slots c.end_turn.new.self.slots.values) c.in-Ok.ensures.ok.same.slots
+          c.end_turn.ensures.requests;
       stands = turn_stands g.R.Ring.view g.B.IoBufMut.buffer g.R.Ring.tells g.R.Ring.steady _ _ _ meets;
     }
