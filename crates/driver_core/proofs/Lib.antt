@@ -7,4 +7,5 @@ pub mod Slots
 pub mod Owned
 pub mod Filling
 mod Polling
+pub mod Requests
 pub mod Tokens

@@ -7,6 +7,7 @@ use Rattle.op_slots.specs.declared.lifecycle.AfterDrop.{AfterDrop}
 use Rattle.op_slots.specs.declared.lifecycle.Lifecycle.TheVariants.{Submitted}
 use Rattle.ring_core.specs.declared.request.Request.{Request}
 use Rattle.ring_core.specs.Ledger.{Operation}
+use Rattle.ring_core.specs.Surroundings.{Surroundings}
 use Rattle.driver_core.specs.declared.op.Op.{Op}
 use Rattle.driver_core.specs.declared.op.PollOp.{PollOp}
 use Rattle.driver_core.specs.declared.op.PollOp.TheVariants.{Pending, Ready}
@@ -14,6 +15,7 @@ use Rattle.driver_core.specs.declared.slot.Slot.{Slot}
 use Rattle.driver_core.specs.Slot.{PollsAt, DropsAt, FillsSlot, KeepsNumbers, shown_in}
 use Rattle.driver_core.specs.Slots.{SlotsStand}
 use Rattle.driver_core.specs.Ops.{Ops}
+use Rattle.driver_core.specs.Requests.{KeepsSurroundings}
 
 -- A new slot, for a request that is the next operation's.
 abbrev pub new_slot : {B : Type 0} → Ops B → Request B Parts → Slot B
@@ -45,6 +47,10 @@ pub record StoresAt {B : Type 0} (buffer : B → Buffer) (old : Ops B) (word : �
   pub fills : FillsSlot buffer old.slots.values word bytes new.slots.values
   pub numbers : KeepsNumbers old.slots.values new.slots.values
   pub given : new.given ≡ old.given
+
+-- What storing bytes that came for a data word does: they are stored in the slot of that key, and the surroundings of buffers stay.
+abbrev pub Stores : {B : Type 0} → (B → Buffer) → (B → Surroundings) → Ops B → ℕ → List ℕ → Ops B → Type 0
+Stores buffer reader old word bytes new = StoresAt buffer old word bytes new × KeepsSurroundings reader old new
 
 -- Operations stand for those of a ledger: the next one has the next number, and each that isn't finished has exactly one slot.
 pub record OperationsStand {B : Type 0} (buffer : B → Buffer) (ops : Ops B) (operations : List Operation) : Type 0 where

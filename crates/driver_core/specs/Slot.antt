@@ -1,5 +1,5 @@
 -- What each call does to one slot. Cited by the functions that change a slot.
-use Rattle.std.specs.Prelude.{ℕ, ◌≡◌, ◌≤◌, ◌==◌, ◌&&◌, Bool, true, false, List, [], Option, Some, None, length}
+use Rattle.std.specs.Prelude.{ℕ, ◌≡◌, nat_le, ◌==◌, ◌&&◌, Bool, true, false, List, [], Option, Some, None, length}
 use Rattle.std.specs.Ordering.{nat_cmp}
 use Rattle.std.specs.FinMap as map
 use Rattle.rent_buf.specs.Buffer.{Buffer}
@@ -138,9 +138,18 @@ pub record IsFilled {B : Type 0} (buffer : B → Buffer) (old : map.FinMap nat_c
   pub life : after.life ≡ slot.life
   pub request : IsHolding (plain_request buffer slot.request) (held_after (plain_request buffer slot.request) bytes) (plain_request buffer after.request)
 
--- Bytes that fit what the request of a live slot holds are stored in it.
+-- So many bytes fit what the request of the slot that was looked up holds. None do where there is no slot.
+abbrev pub fits_in : {B : Type 0} → (B → Buffer) → Option (Slot B) → ℕ → Bool
+fits_in buffer None count = false
+fits_in buffer (Some slot) count = nat_le count (room_of (plain_request buffer slot.request))
+
+-- What storing bytes that came does to the slot at a key: bytes that fit are stored in it; else nothing changes.
+abbrev pub FillsIf : {B : Type 0} → (B → Buffer) → Bool → map.FinMap nat_cmp (Slot B) → ℕ → List ℕ → map.FinMap nat_cmp (Slot B) → Type 0
+FillsIf {B} buffer true old key bytes new = (slot : Slot B) → map.get old key ≡ Some slot → IsFilled buffer old key bytes new slot
+FillsIf buffer false old key bytes new = new ≡ old
+
 abbrev pub FillsSlot : {B : Type 0} → (B → Buffer) → map.FinMap nat_cmp (Slot B) → ℕ → List ℕ → map.FinMap nat_cmp (Slot B) → Type 0
-FillsSlot {B} buffer old key bytes new = (slot : Slot B) → map.get old key ≡ Some slot → length bytes ≤ room_of (plain_request buffer slot.request) → IsFilled buffer old key bytes new slot
+FillsSlot buffer old key bytes new = FillsIf buffer (fits_in buffer (map.get old key) (length bytes)) old key bytes new
 
 -- At each key the number stays, where the slot's operation is its user's, and no such key comes or goes.
 abbrev pub KeepsNumbers : {B : Type 0} → map.FinMap nat_cmp (Slot B) → map.FinMap nat_cmp (Slot B) → Type 0

@@ -35,6 +35,9 @@ pub trait Driver {
     // What a turn does: the driver before it and after it, and what it answers.
     ghost turns: { Self → Self → Turned → Type 0 };
 
+    // What a turn keeps of its operations: the driver before it and after it.
+    ghost keeps: { Self → Self → Type 0 };
+
     // What a park did with the sleeper, by why its turn stopped and the limit that it has: before and after, and what it drained.
     ghost drains: { Option Stop → Option ℕ → Sleeping → Sleeping → Woken → Type 0 };
 
@@ -44,6 +47,7 @@ pub trait Driver {
     /// A turn: enters what is queued, and treats the completions that are ready, in order.
     fn submit(&mut self) -> Turned
         ensures turns { turns self.old self.new result }
+        ensures keeps { keeps self.old self.new }
         ensures stands { IfNone result.stop ((L : Ledger) → stands self.old L → stands self.new (turned L)) };
 
     /// A turn that walks the sleeper's steps after its enter. If no completion is ready and nothing is drained, it waits until
@@ -55,6 +59,7 @@ pub trait Driver {
         sleeper: &mut Sleeper<P, D>,
     ) -> Parked
         ensures turns { turns self.old self.new result.turned }
+        ensures keeps { keeps self.old self.new }
         ensures stands { IfNone result.turned.stop ((L : Ledger) → stands self.old L → stands self.new (turned L)) }
         // What was drained is what the sleeper's share of drains grew by, and each sender's wakers are in order.
         ensures made { sleeper.new.made ≡ sleeper.old.made }
@@ -72,6 +77,7 @@ pub trait Driver {
         millis: u64,
     ) -> Parked
         ensures turns { turns self.old self.new result.turned }
+        ensures keeps { keeps self.old self.new }
         ensures stands { IfNone result.turned.stop ((L : Ledger) → stands self.old L → stands self.new (turned L)) }
         ensures made { sleeper.new.made ≡ sleeper.old.made }
         ensures taken { sleeper.new.taken ≡ (sleeper.old.taken + length result.remote.first) + length result.remote.again }

@@ -1,9 +1,11 @@
 //! The operations of a driver: each in a slot, with its number and its token.
-ghost use Rattle.std.specs.Prelude.{◌≡◌, ◌≤◌, ◌<◌, ◌^◌, ◌↔◌, ℕ, IsTrue, OnOk, OnErr, IfNone, false, option_copied};
+ghost use Rattle.std.specs.Prelude.{◌≡◌, ◌≤◌, ◌<◌, ◌^◌, ◌↔◌, ℕ, Some, IsTrue, OnOk, OnErr, IfNone, false, option_copied};
 ghost use Rattle.std.specs.FinMap as map;
 ghost use Rattle.driver_core.specs.Slot.{flies_in, CompletesSlot, KeepsNumbers};
 ghost use Rattle.driver_core.specs.Op.{Holds, HoldsNone, KeepsTokens, DropsToken, AddsToken, PollsTokens};
-ghost use Rattle.driver_core.specs.Operations.{Submits, PollsOp, DropsOp, offered, StoresAt};
+ghost use Rattle.driver_core.specs.Operations.{Submits, PollsOp, DropsOp, offered, Stores};
+ghost use Rattle.driver_core.specs.Requests.{request_at, ReturnsRequest, KeepsRequests};
+ghost use Rattle.ring_core.specs.Surroundings.{around};
 
 use crate::op::{Op, PollOp};
 use crate::slot::{Slot, complete_slot, drop_at, is_numbered, poll_at, store_in};
@@ -82,6 +84,7 @@ impl<B: Drop> Operations<B> {
     pub fn reserve_one(&mut self) -> Result<(), op_slots::OutOfMemory>
         ensures slots { self.new.slots.values ≡ self.old.slots.values }
         ensures given { self.new.given ≡ self.old.given }
+        ensures requests { KeepsRequests self.old self.new }
         ensures ok { OnOk result (0 < self.new.slots.room) }
         ensures err { OnErr result (self.new ≡ self.old) }
     {
@@ -95,6 +98,8 @@ impl<B: Drop> Operations<B> {
         requires counter { self.old.given < 2 ^ 62 }
         ensures submits { Submits self.old self.new request result }
         ensures token { AddsToken self.old self.new result }
+        ensures request { request_at self.new result ≡ Some request }
+        ensures requests { KeepsRequests self.old self.new }
     {
         let slot = Slot {
             serial: self.given,
@@ -115,6 +120,8 @@ impl<B: Drop> Operations<B> {
         requires { Holds self.old op }
         ensures polls { PollsOp self.old self.new op task result }
         ensures tokens { PollsTokens self.old self.new op result }
+        ensures request { ReturnsRequest self.old op result }
+        ensures requests { KeepsRequests self.old self.new }
         ensures given { self.new.given ≡ self.old.given }
     {
         match poll_at(&mut self.slots, op.key(), task) {
@@ -131,6 +138,7 @@ impl<B: Drop> Operations<B> {
         requires { Holds self.old op }
         ensures drops { DropsOp self.old self.new op result }
         ensures tokens { DropsToken self.old self.new op }
+        ensures requests { KeepsRequests self.old self.new }
         ensures given { self.new.given ≡ self.old.given }
     {
         drop_at(&mut self.slots, op.spend())
@@ -142,6 +150,7 @@ impl<B: Drop> Operations<B> {
         ensures completes { CompletesSlot self.old.slots.values completion.now self.new.slots.values result }
         ensures stray { IfNone result (flies_in (map.get self.new.slots.values completion.now.word) ≡ false) }
         ensures numbers { KeepsNumbers self.old.slots.values self.new.slots.values }
+        ensures requests { KeepsRequests self.old self.new }
         ensures given { self.new.given ≡ self.old.given }
     {
         complete_slot(&mut self.slots, completion)
@@ -151,7 +160,7 @@ impl<B: Drop> Operations<B> {
 impl<B: IoBufMut + Drop> Payloads for Operations<B> {
     ghost offered = { offered B.buffer };
 
-    ghost stores = { StoresAt B.buffer };
+    ghost stores = { Stores B.buffer (around B.under B.beside) };
 
     ghost takes_memory = { λ count. false };
 

@@ -1,9 +1,11 @@
 //! What a slot of a driver holds, and what its calls do to one slot.
-ghost use Rattle.std.specs.Prelude.{◌≡◌, ◌≤◌, ℕ, false, length, IsSome, IfSome, IfNone, option_copied};
+ghost use Rattle.std.specs.Prelude.{◌≡◌, false, IsSome, IfSome, IfNone, option_copied};
 ghost use Rattle.std.specs.FinMap as map;
 ghost use Rattle.op_slots.specs.Lifecycle.{IsCompleted, IsIgnored};
-ghost use Rattle.ring_core.specs.Request.{plain_request, room_of, held_after, IsHolding};
-ghost use Rattle.driver_core.specs.Slot.{has_number, flies_in, PollsSlot, PollsAt, DropsSlot, DropsAt, CompletesSlot, KeepsNumbers, FillsSlot};
+ghost use Rattle.ring_core.specs.Surroundings.{around};
+ghost use Rattle.driver_core.specs.Slot.{has_number, flies_in, fits_in, KeepsNumbers};
+ghost use Rattle.driver_core.specs.Slot.{PollsSlot, PollsAt, DropsSlot, DropsAt, CompletesSlot, FillsSlot};
+ghost use Rattle.driver_core.specs.Requests.{surroundings_in, StaysHeld};
 
 use crate::op::Done;
 use op_slots::{AfterComplete, AfterDrop, AfterPoll, Lifecycle, Slab};
@@ -144,24 +146,25 @@ pub fn complete_slot<B: Drop>(
     }
 }
 
-/// Stores bytes that came in what the request of a live slot holds, when they fit. What is sent stays.
+/// Stores bytes that came in what the request of the slot at a key holds, when they fit. Else, and where there is no slot, nothing
+/// changes. What is sent stays.
 pub fn store_in<B: IoBufMut + Drop>(slots: &mut Slab<Slot<B>>, key: usize, bytes: &[u8])
     ensures fills { FillsSlot B.buffer slots.old.values key bytes.now slots.new.values }
     ensures numbers { KeepsNumbers slots.old.values slots.new.values }
+    ensures surroundings { StaysHeld (surroundings_in (around B.under B.beside)) slots.old.values slots.new.values }
 {
-    if slots.peek(key).is_none() {
-        return;
+    if fits_in(slots.peek(key), bytes.len()) {
+        let slot = slots.value_mut(key);
+        slot.request.store(bytes);
     }
-    let slot = slots.value_mut(key);
-    fill(&mut slot.request, bytes);
 }
 
-// Stores bytes that came in what a request holds, when they fit.
-fn fill<B: IoBufMut>(request: &mut Request<B, VecBuf>, bytes: &[u8])
-    ensures { length bytes.now ≤ room_of (plain_request B.buffer request.old) →
-        IsHolding (plain_request B.buffer request.old) (held_after (plain_request B.buffer request.old) bytes.now) (plain_request B.buffer request.new) }
+// So many bytes fit what the request of the slot that was looked up holds.
+fn fits_in<B: IoBufMut>(slot: Option<&Slot<B>>, count: usize) -> bool
+    ensures { result ≡ fits_in B.buffer (option_copied slot.entry) count }
 {
-    if bytes.len() <= request.room() {
-        request.store(bytes);
+    match slot {
+        Some(slot) => count <= slot.request.room(),
+        None => false,
     }
 }

@@ -1,6 +1,7 @@
 pub mod Lists
 pub mod World
 pub mod Request
+pub mod Surroundings
 pub mod Outcome
 pub mod Effect
 pub mod Ledger

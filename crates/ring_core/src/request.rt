@@ -5,6 +5,7 @@ ghost use Rattle.rent_buf.specs.Buffer.{shown};
 ghost use Rattle.rent_buf.specs.Parts.{bytes_of};
 ghost use Rattle.ring_core.specs.Request.{named, way_of, held_of, shape_of, call_of, plain_request, room_of, shown_by, held_after};
 ghost use Rattle.ring_core.specs.Request.{request_copied, held_copied, IsMade, HeldFailed};
+ghost use Rattle.ring_core.specs.Surroundings.{around, request_around};
 ghost use Rattle.ring_core.specs.Effect.{count_told};
 
 use crate::payloads::{append_first, append_first_parts};
@@ -257,6 +258,8 @@ impl<B: IoBufMut> Request<B, VecBuf> {
         requires { length bytes.now ≤ room_of (plain_request B.buffer self.old) }
         ensures shape { shape_of self.new ≡ shape_of self.old }
         ensures holds { held_of (plain_request B.buffer self.new) ≡ held_after (plain_request B.buffer self.old) bytes.now }
+        // What surrounds its buffer stays: the ranges under it, and the parts beside it.
+        ensures surroundings { request_around (around B.under B.beside) self.new ≡ request_around (around B.under B.beside) self.old }
     {
         match self {
             Request::Recv { fd: _, buf } => buf.store(0, bytes),

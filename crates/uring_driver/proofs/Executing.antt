@@ -37,6 +37,7 @@ use Rattle.uring_driver.specs.Stands.{Means}
 use Rattle.driver_core.proofs.Lists.{some, skip, skip-not, skip-one, get-removed, map-removed, get-pushed}
 use Rattle.driver_core.proofs.Maps.{put-same, put-self}
 use Rattle.driver_core.proofs.Slots.{slots-replaced, other-slot}
+use Rattle.driver_core.proofs.Filling.{filled-where-fits}
 use Rattle.uring_driver.proofs.Kept.{queued-kept, flight-kept, done-kept, slot-done, done-pushed}
 use Rattle.uring_driver.proofs.Flights.{o, s, slot-there, n-is, there-s, which, flies, request-is, life-is, allows-is, comes-is, here}
 
@@ -61,7 +62,8 @@ executed-slot : {B : Type 0} (buffer : B → Buffer) (before after : Ops B) (key
     (b : Bool) → comes (call_of r) told ≡ b → StoresIf (StoresAt buffer) b before key got after →
     IsExecutedSlot buffer before.slots.values after.slots.values key r told got slot
 executed-slot buffer before after key r told got slot there is fits true brings stored =
-    let filled = stored.fills slot there (subst (λ x. length got ≤ room_of x) (sym is) fits) in
+    let filled = filled-where-fits buffer before.slots.values after.slots.values key got slot stored.fills there
+        (subst (λ x. length got ≤ room_of x) (sym is) fits) in
     record {
       now = filled.after;
       changed = filled.slots;

@@ -11,6 +11,7 @@ mod Turns
 mod Polling
 mod Flights
 mod Executing
+mod Storing
 mod Executions
 mod Handles
 mod Arrivals

@@ -8,6 +8,7 @@ use Rattle.driver_core.specs.declared.op.PollOp.{PollOp}
 use Rattle.driver_core.specs.Answers.{PollsFor as PollsBy}
 use Rattle.driver_core.specs.Operations.{PollsOp as PollsIn}
 use Rattle.driver_core.specs.Op.{PollsTokens as PollsTokensIn}
+use Rattle.driver_core.specs.Requests.{ReturnsRequest as ReturnsIn}
 use Rattle.uring_driver.specs.declared.uring.IoUringDriver.{IoUringDriver}
 use Rattle.uring_driver.specs.Op.{ops_in}
 use Rattle.uring_driver.specs.Stands.{Stands}
@@ -25,6 +26,10 @@ PollsOp old new op task result = PollsIn (ops_in old) (ops_in new) op task resul
 -- A poll that is pending returns its token, and keeps all. One that is ready keeps all but this one.
 abbrev pub PollsTokens : {R B : Type 0} → IoUringDriver R B → IoUringDriver R B → Op → PollOp B → Type 0
 PollsTokens old new op result = PollsTokensIn (ops_in old) (ops_in new) op result
+
+-- What a poll returns, where it is ready, is the request of the token's operation, with what it holds.
+abbrev pub ReturnsRequest : {R B : Type 0} → IoUringDriver R B → Op → PollOp B → Type 0
+ReturnsRequest old op result = ReturnsIn (ops_in old) op result
 
 -- A place before the reap.
 abbrev pub IsUnreapedPlace : Place → Type 0

@@ -21,7 +21,7 @@ use Rattle.uring_driver.specs.declared.uring.IoUringDriver.{IoUringDriver}
 use Rattle.uring_driver.specs.Uring.{ring_in, due_in, pending}
 use Rattle.driver_core.specs.Answers.{SubmitsFor as SubmitsBy}
 use Rattle.driver_core.specs.Op.{AddsToken as AddsTokenIn}
-use Rattle.uring_driver.specs.Op.{ops_in, call_for}
+use Rattle.uring_driver.specs.Op.{ops_in, call_for, HasRequest}
 use Rattle.uring_driver.specs.Pending.{Pending}
 use Rattle.uring_driver.specs.Submissions.{IsSameButRoom, PendingMoves, MustEnter}
 use Rattle.uring_driver.specs.Stands.{Stands}
@@ -36,6 +36,10 @@ AddsTo old new op = AddsTokenIn (ops_in old) (ops_in new) op
 
 abbrev pub AddsToken : {R B : Type 0} → IoUringDriver R B → IoUringDriver R B → Submitted → Type 0
 AddsToken old new (Op op) = AddsTo old new op
+
+-- The new token's operation has the request that was submitted, with what it holds.
+abbrev pub GivesRequest : {R B : Type 0} → IoUringDriver R B → Submitted → Request B Parts → Type 0
+GivesRequest new (Op op) request = HasRequest new op request
 
 -- The new entry joined what is pending, after a prefix of it was entered; a refused submission joined nothing.
 abbrev pub SubmitMoves : {R B : Type 0} → (R → RingView) → (B → Buffer) → Request B Parts → IoUringDriver R B → IoUringDriver R B → Result Submitted (SubmitError B) → Type 0

@@ -6,13 +6,14 @@ ghost use Rattle.ring_core.specs.Ring.{IsLater};
 ghost use Rattle.ring_core.specs.Ledger.{Ledger, empty};
 ghost use Rattle.ring_core.specs.declared.ledger.Event.TheVariants.{Drop, Cancel};
 ghost use Rattle.ring_core.specs.declared.ledger.Reply.TheVariants.{Dropped, Asked};
-ghost use Rattle.uring_driver.specs.Op.{number_of, cancel_for, Holds, HoldsNone, KeepsTokens, DropsToken};
+ghost use Rattle.uring_driver.specs.Op.{number_of, cancel_for, Holds, HoldsNone, KeepsTokens, DropsToken, KeepsRequests};
 ghost use Rattle.uring_driver.specs.Submissions.{IsIdle, TakesFront, PendingMoves, with_spare, room_made, pending_ring};
 ghost use Rattle.uring_driver.specs.Uring.{ring_in, due_in, pending, live_slots, given_by, handles_of, holds_handle, holds_all};
 ghost use Rattle.uring_driver.specs.Stands.{Stands, Answers};
 ghost use Rattle.uring_driver.specs.Dropped.{DropsOp};
-ghost use Rattle.uring_driver.specs.Submitted.{SameSlots, SubmitsFor, SubmitMoves, AddsToken, IsFullError, IsSameRing, SubmitRefused, IsPrepared, Unprepared};
-ghost use Rattle.uring_driver.specs.PollOp.{PollsFor, PollsOp, PollsTokens, IsPending, IsUnreaped};
+ghost use Rattle.uring_driver.specs.Submitted.{SameSlots, SubmitsFor, SubmitMoves, AddsToken, GivesRequest};
+ghost use Rattle.uring_driver.specs.Submitted.{IsFullError, IsSameRing, SubmitRefused, IsPrepared, Unprepared};
+ghost use Rattle.uring_driver.specs.PollOp.{PollsFor, PollsOp, PollsTokens, ReturnsRequest, IsPending, IsUnreaped};
 
 use crate::submissions::Submissions;
 use driver_core::{Op, Operations, PollOp, SubmitError, SubmitFault, Submitted};
@@ -126,6 +127,9 @@ impl<R: Ring, B: IoBufMut + Drop> IoUringDriver<R, B> {
         ensures answers { IfOk result (λ submitted. IsTrue R.tells → (L : Ledger) → Stands R.view B.buffer self.old L →
             SubmitsFor R.view B.buffer L request self.new submitted) }
         ensures token { IfOk result (λ submitted. AddsToken self.old self.new submitted) }
+        // Over every ring the new token's operation has this request, and every other one keeps its own.
+        ensures request { IfOk result (λ submitted. GivesRequest self.new submitted request) }
+        ensures requests { KeepsRequests self.old self.new }
 
         // Nothing passes what is pending. Over a steady ring nothing becomes due.
         ensures pending { IsTrue R.tells → SubmitMoves R.view B.buffer request self.old self.new result }
@@ -157,6 +161,8 @@ impl<R: Ring, B: IoBufMut + Drop> IoUringDriver<R, B> {
         // Pending exactly while the slot at the token's key isn't completed; what is ready is that slot's own.
         ensures polls { PollsOp self.old self.new op task result }
         ensures tokens { PollsTokens self.old self.new op result }
+        ensures request { ReturnsRequest self.old op result }
+        ensures requests { KeepsRequests self.old self.new }
         ensures ring { ring_in self.new ≡ ring_in self.old }
         ensures due { due_in self.new ≡ due_in self.old }
         ensures given { given_by self.new ≡ given_by self.old }
@@ -172,6 +178,7 @@ impl<R: Ring, B: IoBufMut + Drop> IoUringDriver<R, B> {
         ensures answers { IsTrue R.steady → (L : Ledger) → Stands R.view B.buffer self.old L →
             Answers R.view B.buffer L (Drop (number_of op)) Dropped self.new }
         ensures tokens { DropsToken self.old self.new op }
+        ensures requests { KeepsRequests self.old self.new }
         // One that is reaped frees its slot, and nothing is queued. Else its slot stays, and its cancel joins what is pending.
         ensures drops { DropsOp R.view R.tells self.old self.new op }
         ensures none_due { IsTrue R.steady → due_in self.old ≡ [] → due_in self.new ≡ [] }
@@ -192,6 +199,7 @@ impl<R: Ring, B: IoBufMut + Drop> IoUringDriver<R, B> {
             Answers R.view B.buffer L (Cancel (number_of op.now)) Asked self.new) }
         ensures same { SameSlots self.old self.new }
         ensures tokens { KeepsTokens self.old self.new }
+        ensures requests { KeepsRequests self.old self.new }
         ensures pending { OnOk result (IsTrue R.tells → PendingMoves (pending R.view self.old) (pending R.view self.new) (cancel_for op.now ∷ [])) }
         ensures none_due { IsTrue R.steady → due_in self.old ≡ [] → due_in self.new ≡ [] }
         ensures given { given_by self.new ≡ given_by self.old }

@@ -1,10 +1,11 @@
 //! The calls of a driver over the ring in memory: its handles, and what executes its operations.
 ghost use Rattle.std.specs.Prelude.{◌≡◌, ◌≤◌, ◌<◌, ◌+◌, ◌^◌, ◌++◌, ◌||◌, ◌==◌, ℕ, [], ◌∷◌, IsTrue, IfOk, IfErr, OnOk, OnErr, length};
 ghost use Rattle.ring_core.specs.World.{fresh, output_at, WorldFeeds, WorldEnds};
+ghost use Rattle.ring_core.specs.Surroundings.{around};
 ghost use Rattle.ring_core.specs.Ledger.{Ledger, empty};
 ghost use Rattle.ring_core.specs.declared.ledger.Event.TheVariants.{Give};
 ghost use Rattle.ring_core.specs.declared.ledger.Reply.TheVariants.{Handle};
-ghost use Rattle.uring_driver.specs.Op.{HoldsNone, KeepsTokens};
+ghost use Rattle.uring_driver.specs.Op.{HoldsNone, KeepsTokens, KeepsRequests, KeepsSurroundings};
 ghost use Rattle.uring_driver.specs.Submissions.{IsSameButWorld};
 ghost use Rattle.uring_driver.specs.Uring.{ring_in, due_in, pending, given_by, handles_of, holds_handle, first_with, IsNextHandle};
 ghost use Rattle.uring_driver.specs.Stands.{Stands, Answers};
@@ -58,6 +59,7 @@ impl<B: IoBufMut + Drop> IoUringDriver<MemRing, B> {
         ensures rest { IsSameButWorld self.old.ring self.new.ring × SameOps self.old self.new }
         ensures err { OnErr result (self.new ≡ self.old) }
         ensures tokens { KeepsTokens self.old self.new }
+        ensures requests { KeepsRequests self.old self.new }
         ensures pending { pending (λ r. r) self.new ≡ pending (λ r. r) self.old }
         ensures due { due_in self.new ≡ due_in self.old }
         ensures given { given_by self.new ≡ given_by self.old }
@@ -78,6 +80,7 @@ impl<B: IoBufMut + Drop> IoUringDriver<MemRing, B> {
         ensures rest { IsSameButWorld self.old.ring self.new.ring × SameSlots self.old self.new }
         ensures err { OnErr result (self.new ≡ self.old) }
         ensures tokens { KeepsTokens self.old self.new }
+        ensures requests { KeepsRequests self.old self.new }
         ensures pending { pending (λ r. r) self.new ≡ pending (λ r. r) self.old }
         ensures due { due_in self.new ≡ due_in self.old }
         ensures given { given_by self.new ≡ given_by self.old }
@@ -100,6 +103,7 @@ impl<B: IoBufMut + Drop> IoUringDriver<MemRing, B> {
         ensures memory { IfErr result (λ why. why ≡ WorldError.BadHandleEvent) }
         ensures err { OnErr result (self.new ≡ self.old) }
         ensures tokens { KeepsTokens self.old self.new }
+        ensures requests { KeepsRequests self.old self.new }
         ensures pending { pending (λ r. r) self.new ≡ pending (λ r. r) self.old }
         ensures due { due_in self.new ≡ due_in self.old }
         ensures given { given_by self.new ≡ given_by self.old }
@@ -130,6 +134,8 @@ impl<B: IoBufMut + Drop> IoUringDriver<MemRing, B> {
         ensures first { (self.new.first ≡ self.old.first) × (self.new.held ≡ self.old.held) }
         ensures err { OnErr result (self.new ≡ self.old) }
         ensures tokens { KeepsTokens self.old self.new }
+        // Bytes come to a buffer at most: what surrounds it stays.
+        ensures surroundings { KeepsSurroundings (around B.under B.beside) self.old self.new }
         ensures pending { pending (λ r. r) self.new ≡ pending (λ r. r) self.old }
         ensures due { due_in self.new ≡ due_in self.old }
         ensures given { given_by self.new ≡ given_by self.old }

@@ -3,6 +3,7 @@ ghost use Rattle.std.specs.Prelude.{◌≡◌, ◌+◌, [], false, length};
 ghost use Rattle.ring_core.specs.declared.ledger.Event.TheVariants.{Turn};
 ghost use Rattle.ring_core.specs.Step.{step};
 ghost use Rattle.wake_core.specs.WakerList.{IsInOrder};
+ghost use Rattle.uring_driver.specs.Op.{KeepsRequests};
 ghost use Rattle.uring_driver.specs.Stands.{StandsIfTold};
 ghost use Rattle.uring_driver.specs.Turned.{TurnMeets};
 ghost use Rattle.uring_driver.specs.Parked.{DrainsFor};
@@ -23,6 +24,8 @@ impl<R: Ring, B: IoBufMut + Drop> Driver for IoUringDriver<R, B> {
     ghost turned = { λ L. (step L Turn).0 };
 
     ghost turns = { λ old new turned. TurnMeets R.view B.buffer R.tells R.steady old new turned };
+
+    ghost keeps = { KeepsRequests };
 
     ghost drains = { DrainsFor };
 
@@ -71,6 +74,7 @@ fn park_for<R: Ring, B: IoBufMut + Drop, P: Ledger, D: Ledger, T: Wait + Clock>(
     limit: Option<u64>,
 ) -> Parked
     ensures turns { TurnMeets R.view B.buffer R.tells R.steady driver.old driver.new result.turned }
+    ensures keeps { KeepsRequests driver.old driver.new }
     ensures made { sleeper.new.made ≡ sleeper.old.made }
     ensures taken { sleeper.new.taken ≡ (sleeper.old.taken + length result.remote.first) + length result.remote.again }
     ensures order { IsInOrder result.remote.first × IsInOrder result.remote.again }

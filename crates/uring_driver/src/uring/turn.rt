@@ -2,6 +2,8 @@
 ghost use Rattle.std.specs.Prelude.{◌≡◌, ◌≤◌, ◌<◌, ◌+◌, ◌++◌, ◌||◌, ◌∷◌, [], nat_lt, Some, IsTrue, IfOk, IfErr, IfSome, option_to_list, length, vec_len, vec_capacity};
 ghost use Rattle.uring_driver.specs.Submissions.{KeepsPending};
 ghost use Rattle.driver_core.specs.Slot.{KeepsNumbers};
+ghost use Rattle.driver_core.specs.Requests.{KeepsRequests};
+ghost use Rattle.uring_driver.specs.Op.{ops_in};
 ghost use Rattle.uring_driver.specs.Reap.{TookOff, IsStray, HasRoom, EndsAt, TreatsFirst, treat_each, treated_behind, treated_to};
 ghost use Rattle.uring_driver.specs.Uring.{ring_in};
 ghost use Rattle.uring_driver.specs.Begun.{HasBegun, CannotBegin, EndsTurn, HasTreated, why_stopped};
@@ -61,6 +63,7 @@ impl<R: Ring, B: IoBufMut + Drop> IoUringDriver<R, B> {
     // Ends a turn: treats the completions that are ready, in order.
     pub(crate) fn end_turn(&mut self, begun: Begun) -> Turned
         requires { HasRoom begun.named (length (R.view (ring_in self.old)).done) }
+        ensures requests { KeepsRequests (ops_in self.old) (ops_in self.new) }
         ensures meets { EndsTurn R.view B.buffer R.tells R.steady self.old begun self.new result }
         ensures treated { HasTreated result.stop }
     {
@@ -99,6 +102,7 @@ fn reap_one<R: Ring, B: Drop>(
     requires room { HasRoom named.old (length (R.view ring.old.ring).done) }
     ensures room { HasRoom named.new (length (R.view ring.new.ring).done) }
     ensures numbers { KeepsNumbers ops.old.slots.values ops.new.slots.values }
+    ensures requests { KeepsRequests ops.old ops.new }
     ensures given { ops.new.given ≡ ops.old.given }
     ensures took { TookOff 1 (R.view ring.old.ring) (R.view ring.new.ring) }
     ensures same { KeepsPending R.view R.tells ring.old ring.new }
@@ -146,6 +150,7 @@ pub fn reap_all<R: Ring, B: Drop>(
 ) -> Option<u64>
     requires { HasRoom named.old (length (R.view ring.old.ring).done) }
     ensures numbers { KeepsNumbers ops.old.slots.values ops.new.slots.values }
+    ensures requests { KeepsRequests ops.old ops.new }
     ensures given { ops.new.given ≡ ops.old.given }
     ensures ring { EndsAt (R.view ring.old.ring) (R.view ring.new.ring) ops.new.slots.values result }
     ensures same { KeepsPending R.view R.tells ring.old ring.new }

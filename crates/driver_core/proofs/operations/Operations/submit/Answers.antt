@@ -1,6 +1,8 @@
-use Rattle.std.proofs.Common.{refl, ap}
+use Rattle.std.proofs.Common.{refl, sym, ap, subst}
 use Rattle.op_slots.specs.declared.lifecycle.Lifecycle.TheVariants.{Submitted}
 use Rattle.driver_core.specs.declared.slot.Slot.{Slot}
+use Rattle.driver_core.specs.Requests.{request_in, StaysHeld}
+use Rattle.driver_core.proofs.Requests.{request-added, stays-added}
 use Rattle.driver_core.proofs.Tokens.{adds-this, adds-kept, adds-only, numbered-more}
 use Rattle.driver_core.proofs.operations.Operations.submit.Goals as goal
 
@@ -26,3 +28,15 @@ returns-clause-token g c =
       number = number;
       next = refl;
     })
+
+pub returns-clause-request : goal.returns-clause-request
+returns-clause-request g c =
+    let slot : Slot g.row.B.Denot = record { serial = c.self.inside.given; request = c.args.request; life = Submitted } in
+    request-added c.self.inside.slots.values c.insert.new.self.values c.in-Ok.key c.make-op.result.key slot c.in-Ok.ensures.ok
+        (ap (λ o. o.key) c.make-op.ensures)
+
+pub returns-clause-requests : goal.returns-clause-requests
+returns-clause-requests g c =
+    let slot : Slot g.row.B.Denot = record { serial = c.self.inside.given; request = c.args.request; life = Submitted } in
+    rw (← c.self.view_is) (subst (λ m. StaysHeld request_in c.self.inside.slots.values m) (sym c.in-Ok.ensures.ok)
+    (stays-added request_in c.self.inside.slots.values c.in-Ok.key slot c.in-Ok.ensures.fresh))

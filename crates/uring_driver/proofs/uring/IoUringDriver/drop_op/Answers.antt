@@ -71,3 +71,9 @@ returns-in-Left-clause-drops g c =
     let posts = subst (λ e. Posts g.R.Ring.view g.R.Ring.tells g.R.Ring.steady d.ring c.post.new.self e) c.cancel.ensures c.post.ensures.posts in
     let moves = cancel-moves g.R.Ring.view g.R.Ring.tells g.R.Ring.steady d.ring c.post.new.self c.args.op c.key-key.result c.number-number.result c.key-key.ensures c.number-number.ensures some posts in
     rw (← c.self.view_is) (drops-left d c.args.op c.drop_op.new.self.slots.values holds g.R.Ring.view g.R.Ring.tells (record { ring = c.post.new.self; slots = c.drop_op.new.self.slots; given = c.drop_op.new.self.given; first = d.first; held = d.held }) drops refl moves)
+
+pub returns-in-Free-clause-requests : goal.returns-in-Free-clause-requests
+returns-in-Free-clause-requests g c = rw (← c.self.view_is) c.drop_op.ensures.requests
+
+pub returns-in-Left-clause-requests : goal.returns-in-Left-clause-requests
+returns-in-Left-clause-requests g c = rw (← c.self.view_is) c.drop_op.ensures.requests

@@ -28,3 +28,9 @@ poll-requires g c = subst (λ x. Holds x c.args.op) (sym c.self.view_is) c.requi
 
 pub invariant_of-self : goal.invariant_of-self
 invariant_of-self g c = (sound-polled c.self.inside.ring.room c.self.inside.ops c.poll.new.self c.args.op c.poll.result c.self.invariant.0 c.poll.ensures.tokens, c.self.invariant.1)
+
+pub returns-clause-request : goal.returns-clause-request
+returns-clause-request g c = rw (← c.self.view_is) c.poll.ensures.request
+
+pub returns-clause-requests : goal.returns-clause-requests
+returns-clause-requests g c = rw (← c.self.view_is) c.poll.ensures.requests

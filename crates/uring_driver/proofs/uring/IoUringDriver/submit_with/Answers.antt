@@ -5,6 +5,8 @@ use Rattle.ring_core.specs.Request.{named}
 use Rattle.ring_core.specs.declared.entry.Body.TheVariants.{Call}
 use Rattle.driver_core.specs.Slot.{number_at}
 use Rattle.driver_core.specs.Operations.{new_slot}
+use Rattle.driver_core.specs.Requests.{request_in, StaysHeld}
+use Rattle.driver_core.proofs.Requests.{stays-same}
 use Rattle.uring_driver.specs.State.{State}
 use Rattle.uring_driver.specs.Submissions.{PendingMoves, with_spare, pending_ring}
 use Rattle.uring_driver.specs.Uring.{holds_all}
@@ -90,3 +92,11 @@ invariant_of-self-2 g c =
       sound-more c.join.new.self.room c.self.inside.ops.slots.values c.submit-op.new.self.slots.values c.submit-op.result.key (new_slot c.self.inside.ops c.args.request) puts.free puts.slots (omega (arith, room, spare, count)),
       in-world-more c.self.inside.first c.self.inside.held _ _ more c.self.invariant.1,
     )
+
+pub returns-in-Err-clause-requests : goal.returns-in-Err-clause-requests
+returns-in-Err-clause-requests g c =
+    rw (← c.self.view_is) (stays-same request_in c.self.inside.ops.slots.values c.prepare.new.ops.slots.values c.in-Err.ensures.slots)
+
+pub returns-clause-requests : goal.returns-clause-requests
+returns-clause-requests g c = rw (← c.self.view_is)
+    (subst (λ slots. StaysHeld request_in slots c.submit-op.new.self.slots.values) c.in-Ok.ensures.slots c.submit-op.ensures.requests)
