@@ -8,7 +8,7 @@ ghost use Rattle.ring_core.specs.Request.{request_copied, held_copied, IsMade, H
 ghost use Rattle.ring_core.specs.Effect.{count_told};
 
 use crate::payloads::{append_first, append_first_parts};
-use crate::shared_fd::SharedFd;
+use handle_core::SharedFd;
 use rent_buf::{ByteList, Held, IoBuf, IoBufMut, IoVecBuf, IoVecBufMut, OutOfMemory, VecBuf};
 
 /// The most bytes that one request asks for.
