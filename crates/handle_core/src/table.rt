@@ -1,7 +1,9 @@
 //! Who holds each handle, as a finite map from handles to counts.
 ghost use Rattle.std.specs.Prelude.{◌≡◌, ◌+◌, ◌-◌, ◌<◌, ◌^◌, ◌↔◌, max, IsTrue, None, OnOk, OnErr};
 ghost use Rattle.std.specs.FinMap as map;
-ghost use Rattle.handle_core.specs.Table.{IsHeld, AreHeld, holders_at, with_holders, without_handle, nobody, by_user, by_operation, with_user, without_user, with_operation, without_operation};
+ghost use Rattle.handle_core.specs.Table.{IsHeld, AreHeld, holders_at, with_holders, without_handle, nobody, by_user, with_user, without_user};
+
+mod operations;
 
 use std::alloc::Global;
 use std::collections::HashMap;
@@ -40,9 +42,10 @@ impl Holders {
     }
 }
 
-/// The handles that are held, each with its holders. A clause sees the map from handles to their holders, and the reserved room.
+/// The handles that are held, each with its holders: its user, as often as it holds the handle, and each operation that names or made
+/// it. A clause sees the map from handles to their holders, and for how many more handles memory is reserved.
 ///
-/// Each call looks up one handle by its hash, and costs the same however many handles there are.
+/// A call finds its handle by a hash, however many handles there are. `release` and `release_op` find it once more at its last hold.
 ///
 /// monoio: the count of the `Rc` in each `SharedFd`.
 #[derive(Debug, Drop)]
@@ -75,14 +78,14 @@ impl HandleTable {
         }
     }
 
-    /// For how many more handles memory is reserved, for `add_op_reserved`. Not in monoio.
+    /// For how many more handles memory is reserved. Not in monoio.
     pub fn spare(&self) -> usize
         ensures { result ≡ self.now.spare }
     {
         self.reserved
     }
 
-    /// Who holds a handle, and None exactly where nobody does. Not in monoio.
+    /// Who holds a handle, and None exactly if nobody does. Not in monoio.
     pub fn holders(&self, h: u64) -> Option<Holders>
         ensures value { result ≡ map.get self.now.holders h }
         ensures held { AreHeld self.now }
@@ -90,7 +93,7 @@ impl HandleTable {
         self.handles.get(&h).copied()
     }
 
-    /// Its user holds the handle. Not in monoio.
+    /// Its user holds the handle; false also where the handle isn't in the table. Not in monoio.
     pub fn user_holds(&self, h: u64) -> bool
         ensures { IsTrue result ↔ (0 < (holders_at self.now h).user) }
     {
@@ -100,8 +103,7 @@ impl HandleTable {
         }
     }
 
-    /// Reserves memory for `n` more handles at least, to be added by `add_op_reserved`. If memory runs out, nothing changes. Not in
-    /// monoio.
+    /// Reserves memory for at least `n` more handles. Only `add_op_reserved` uses it up. If memory runs out, nothing changes. Not in monoio.
     pub fn reserve(&mut self, n: usize) -> Result<(), OutOfMemory>
         ensures ok { OnOk result (self.new ≡ record self.old { spare = max n self.old.spare }) }
         ensures err { OnErr result (self.new ≡ self.old) }
@@ -114,21 +116,6 @@ impl HandleTable {
         }
         self.reserved = n;
         Ok(())
-    }
-
-    /// An operation holds a handle that nobody held, by memory that `reserve` reserved. It takes none. Not in monoio.
-    pub fn add_op_reserved(&mut self, h: u64)
-        requires fresh { map.get self.old.holders h ≡ None }
-        requires room { 0 < self.old.spare }
-        ensures { self.new ≡ record (with_holders self.old h by_operation) { spare = self.old.spare - 1 } }
-    {
-        self.add_reserved(
-            h,
-            Holders {
-                user: 0,
-                operations: 1,
-            },
-        );
     }
 
     /// Its user holds a handle that nobody held. The reserved room stays. If memory runs out, nothing changes.
@@ -148,22 +135,7 @@ impl HandleTable {
         )
     }
 
-    /// An operation holds a handle that nobody held. The reserved room stays. If memory runs out, nothing changes. Not in monoio.
-    pub fn add_op(&mut self, h: u64) -> Result<(), OutOfMemory>
-        requires fresh { map.get self.old.holders h ≡ None }
-        ensures ok { OnOk result (self.new ≡ with_holders self.old h by_operation) }
-        ensures err { OnErr result (self.new ≡ self.old) }
-    {
-        self.add(
-            h,
-            Holders {
-                user: 0,
-                operations: 1,
-            },
-        )
-    }
-
-    /// The user holds a handle of the table once more.
+    /// The user holds a handle of the table once more. It takes no memory.
     ///
     /// monoio: `SharedFd::clone`, of a stream.
     pub fn hold(&mut self, h: u64)
@@ -177,21 +149,7 @@ impl HandleTable {
         held.user += 1;
     }
 
-    /// One more operation holds a handle of the table.
-    ///
-    /// monoio: `SharedFd::clone`, of an operation.
-    pub fn hold_op(&mut self, h: u64)
-        requires known { IsHeld self.old h }
-        requires counter { (holders_at self.old h).operations < 2 ^ 62 }
-        ensures { self.new ≡ with_holders self.old h (with_operation (holders_at self.old h)) }
-    {
-        let Some(held) = self.handles.get_mut(&h) else {
-            return;
-        };
-        held.operations += 1;
-    }
-
-    /// The user gives one of its holds up. The handle leaves the table with its last hold, and that is when its close is due.
+    /// The user drops one of its holds. The handle leaves the table with its last hold, which is when it is to be closed.
     ///
     /// monoio: the drop of a `SharedFd`, of a stream.
     pub fn release(&mut self, h: u64) -> Released
@@ -209,39 +167,6 @@ impl HandleTable {
         }
         self.handles.remove(&h);
         Released::Last
-    }
-
-    /// An operation gives its hold up. The handle leaves the table with its last hold, and that is when its close is due.
-    ///
-    /// monoio: the drop of a `SharedFd`, of an operation.
-    pub fn release_op(&mut self, h: u64) -> Released
-        requires held { 0 < (holders_at self.old h).operations }
-        ensures last { (result ≡ Released.Last) ↔ (without_operation (holders_at self.old h) ≡ nobody) }
-        ensures left { result ≡ Released.Last → self.new ≡ without_handle self.old h }
-        ensures stays { result ≡ Released.Held → self.new ≡ with_holders self.old h (without_operation (holders_at self.old h)) }
-    {
-        let Some(held) = self.handles.get_mut(&h) else {
-            return Released::Last;
-        };
-        held.operations -= 1;
-        if held.is_held() {
-            return Released::Held;
-        }
-        self.handles.remove(&h);
-        Released::Last
-    }
-
-    /// An operation's hold becomes the user's, as of a handle that the operation made. Not in monoio.
-    pub fn hand_over(&mut self, h: u64)
-        requires held { 0 < (holders_at self.old h).operations }
-        requires counter { (holders_at self.old h).user < 2 ^ 62 }
-        ensures { self.new ≡ with_holders self.old h (with_user (without_operation (holders_at self.old h))) }
-    {
-        let Some(held) = self.handles.get_mut(&h) else {
-            return;
-        };
-        held.operations -= 1;
-        held.user += 1;
     }
 
     // Adds a handle by memory that is taken for it, and leaves the reserved room.
