@@ -10,15 +10,14 @@ pub mod payloads;
 mod ranks;
 pub mod request;
 pub mod ring;
-pub mod shared_fd;
 pub mod world;
 
 pub use entry::{Body, CANCEL_WORD, Completion, Entry, FIRST_RESERVED, Flight, Target};
+pub use handle_core::SharedFd;
 pub use input::Input;
 pub use ledger::{Event, Refusal, Reply};
 pub use mem_ring::{ExecRefusal, MemRing};
 pub use payloads::{Payloads, append_first, append_first_parts};
 pub use request::{CANCELED, Call, LAST_ERROR, MOST_ASKED, Outcome, Request, Told, Way};
 pub use ring::{EnterError, Push, Ring};
-pub use shared_fd::SharedFd;
 pub use world::{HandleKind, HandleState, Look, World, WorldError};

@@ -9,7 +9,7 @@ ghost use Rattle.ring_core.specs.Surroundings.{around, request_around};
 ghost use Rattle.ring_core.specs.Effect.{count_told};
 
 use crate::payloads::{append_first, append_first_parts};
-use crate::shared_fd::SharedFd;
+use handle_core::SharedFd;
 use rent_buf::{ByteList, Held, IoBuf, IoBufMut, IoVecBuf, IoVecBufMut, OutOfMemory, VecBuf};
 
 /// The most bytes that one request asks for.

@@ -2,8 +2,8 @@ use super::*;
 use crate::entry::{CANCEL_WORD, FIRST_RESERVED};
 use crate::payloads::append_first_parts;
 use crate::request::{Call, Request};
-use crate::shared_fd::SharedFd;
 use crate::world::{HandleKind, Look, World, WorldError};
+use handle_core::SharedFd;
 use rent_buf::{Rent, VecBuf};
 use std::test::Fail;
 

@@ -34,3 +34,35 @@ impl SharedFd {
         self.number
     }
 }
+
+/// A handle that a stream lends, by its number. (monoio: `SharedFdWrapper`)
+#[derive(Debug, PartialEq, Eq, Drop)]
+pub struct SharedFdWrapper {
+    fd: SharedFd,
+}
+
+impl Model for SharedFdWrapper {
+    ghost use Rattle.std.specs.Prelude.{ℕ};
+
+    ghost Value = { ℕ };
+
+    ghost view = { λ w. w.fd };
+
+    ghost inverse = { λ n. record { fd = n } };
+}
+
+impl SharedFdWrapper {
+    /// Lends this handle. (monoio: `SharedFdWrapper::new`)
+    pub fn new(fd: SharedFd) -> SharedFdWrapper
+        ensures { result ≡ fd }
+    {
+        SharedFdWrapper { fd }
+    }
+
+    /// The handle. (not in monoio, whose wrapper hands on the calls of its handle)
+    pub fn fd(&self) -> SharedFd
+        ensures { result ≡ self.now }
+    {
+        self.fd
+    }
+}

@@ -1,0 +1,28 @@
+use Rattle.std.proofs.Common.{ap, arith}
+use Rattle.handle_core.specs.declared.table.Holders.{Holders}
+use Rattle.handle_core.proofs.Tables.{found, unfound, written}
+use Rattle.handle_core.proofs.Kept.{kept-written}
+use Rattle.handle_core.proofs.table.HandleTable.hand_over.Goals as goal
+
+pub returns-in_default : goal.returns-in_default
+returns-in_default c =
+    let none = unfound c.self.inside.handles _ _ c.self.view_is _ c.in_default.ensures.value in
+    absurd (omega (arith, c.requires.held, ap (λ (h : Holders). h.operations) none))
+
+pub overflow_sub-held : goal.overflow_sub-held
+overflow_sub-held c =
+    let was = found c.self.inside.handles _ _ c.self.view_is _ _ c.in-Some.ensures.value in
+    omega (arith, c.requires.held, ap (λ (h : Holders). h.operations) was)
+
+pub overflow_add-held : goal.overflow_add-held
+overflow_add-held c =
+    let was = found c.self.inside.handles _ _ c.self.view_is _ _ c.in-Some.ensures.value in
+    omega (arith, c.requires.counter, ap (λ (h : Holders). h.user) was)
+
+pub returns : goal.returns
+returns c = rw (found c.self.inside.handles _ _ c.self.view_is _ _ c.in-Some.ensures.value)
+    (written c.self.inside.handles _ _ c.self.view_is _ _ _ _ c.in-Some.ensures.value (c.get_mut.follows.holds _))
+
+pub invariant_of-self-2 : goal.invariant_of-self-2
+invariant_of-self-2 c =
+    kept-written c.self.inside.handles _ c.self.invariant _ _ _ _ c.in-Some.ensures.value (c.get_mut.follows.holds _) (omega arith)

@@ -1,0 +1,87 @@
+// What operations hold: the handles that they name, and those that they made.
+ghost use Rattle.std.specs.Prelude.{◌≡◌, ◌-◌, ◌<◌, ◌^◌, ◌↔◌, None, OnOk, OnErr};
+ghost use Rattle.std.specs.FinMap as map;
+ghost use Rattle.handle_core.specs.Table.{IsHeld, holders_at, with_holders, without_handle, nobody, by_operation, with_user, with_operation, without_operation};
+
+use super::{HandleTable, Holders, OutOfMemory, Released};
+
+impl HandleTable {
+    /// An operation holds a handle that nobody held, by memory that `reserve` reserved. It takes none. Not in monoio.
+    pub fn add_op_reserved(&mut self, h: u64)
+        requires fresh { map.get self.old.holders h ≡ None }
+        requires room { 0 < self.old.spare }
+        ensures { self.new ≡ record (with_holders self.old h by_operation) { spare = self.old.spare - 1 } }
+    {
+        self.add_reserved(
+            h,
+            Holders {
+                user: 0,
+                operations: 1,
+            },
+        );
+    }
+
+    /// An operation holds a handle that nobody held. The reserved room stays. If memory runs out, nothing changes. Not in monoio.
+    pub fn add_op(&mut self, h: u64) -> Result<(), OutOfMemory>
+        requires fresh { map.get self.old.holders h ≡ None }
+        ensures ok { OnOk result (self.new ≡ with_holders self.old h by_operation) }
+        ensures err { OnErr result (self.new ≡ self.old) }
+    {
+        self.add(
+            h,
+            Holders {
+                user: 0,
+                operations: 1,
+            },
+        )
+    }
+
+    /// One more operation holds a handle of the table. It takes no memory.
+    ///
+    /// monoio: `SharedFd::clone`, of an operation.
+    pub fn hold_op(&mut self, h: u64)
+        requires known { IsHeld self.old h }
+        requires counter { (holders_at self.old h).operations < 2 ^ 62 }
+        ensures { self.new ≡ with_holders self.old h (with_operation (holders_at self.old h)) }
+    {
+        let Some(held) = self.handles.get_mut(&h) else {
+            return;
+        };
+        held.operations += 1;
+    }
+
+    /// An operation drops its hold. The handle leaves the table with its last hold, which is when it is to be closed.
+    ///
+    /// monoio: the drop of a `SharedFd`, of an operation.
+    pub fn release_op(&mut self, h: u64) -> Released
+        requires held { 0 < (holders_at self.old h).operations }
+        ensures last { (result ≡ Released.Last) ↔ (without_operation (holders_at self.old h) ≡ nobody) }
+        ensures left { result ≡ Released.Last → self.new ≡ without_handle self.old h }
+        ensures stays { result ≡ Released.Held → self.new ≡ with_holders self.old h (without_operation (holders_at self.old h)) }
+    {
+        let Some(held) = self.handles.get_mut(&h) else {
+            return Released::Last;
+        };
+        held.operations -= 1;
+        if held.is_held() {
+            return Released::Held;
+        }
+        self.handles.remove(&h);
+        Released::Last
+    }
+
+    /// An operation's hold becomes the user's, as of a handle that the operation made. Not in monoio.
+    pub fn hand_over(&mut self, h: u64)
+        requires held { 0 < (holders_at self.old h).operations }
+        requires counter { (holders_at self.old h).user < 2 ^ 62 }
+        ensures { self.new ≡ with_holders self.old h (with_user (without_operation (holders_at self.old h))) }
+    {
+        let Some(held) = self.handles.get_mut(&h) else {
+            return;
+        };
+        *held = Holders {
+            user: held.user + 1,
+            operations: held.operations - 1,
+        };
+    }
+}
