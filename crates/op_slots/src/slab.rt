@@ -16,7 +16,7 @@ mod ref_mut;
 mod search;
 
 use page::Page;
-use pages::first_key;
+use pages::page_by_digit;
 pub use pages::{NUM_PAGES, PAGE_INITIAL_SIZE, page_of};
 pub use ref_mut::Ref;
 use search::{NoPlace, make_place};
@@ -132,12 +132,16 @@ impl<T: Drop> Slab<T> {
         ensures value { option_copied result ≡ map.get self.now.values key }
         ensures below { OnSome result (key < MAX_LIVE) }
     {
-        let page = page_of(key);
-        if page < self.pages.len() {
-            self.pages[page].get(key - first_key(page))
-        } else {
-            None
+        let count = self.pages.len();
+        if key >= MAX_LIVE {
+            return None;
         }
+        let at = page_by_digit(key);
+        if at >= count {
+            return None;
+        }
+        let page = &self.pages[at];
+        page.get(key - page.first_key())
     }
 
     // The value at a live key.
@@ -156,8 +160,8 @@ impl<T: Drop> Slab<T> {
         ensures below { key < MAX_LIVE }
     {
         let page = page_of(key);
-        let place = key - first_key(page);
-        self.pages[page].value_mut(place)
+        let first = self.pages[page].first_key();
+        self.pages[page].value_mut(key - first)
     }
 
     /// Puts a value at a key that wasn't live, and answers the key.
@@ -178,12 +182,11 @@ impl<T: Drop> Slab<T> {
         ensures made { MakesPage self.old self.new }
         ensures removals { self.new.removals ≡ self.old.removals }
     {
-        match make_place(&mut self.pages, self.first) {
-            Ok(page) => {
-                let place = put_on(&mut self.pages, page, val);
+        match make_place(&mut self.pages, &mut self.first) {
+            Ok(()) => {
+                let place = put_on(&mut self.pages, self.first, val);
                 self.live += 1;
-                self.first = page;
-                Ok(first_key(page) + place)
+                Ok(self.pages[self.first].first_key() + place)
             }
             Err(NoPlace::Full) => Err(InsertError::Full(val)),
             Err(NoPlace::OutOfMemory) => Err(InsertError::OutOfMemory(val)),
@@ -201,13 +204,10 @@ impl<T: Drop> Slab<T> {
         ensures made { MakesPage self.old self.new }
         ensures removals { self.new.removals ≡ self.old.removals }
     {
-        match make_place(&mut self.pages, self.first) {
-            Ok(page) => {
-                self.first = page;
-                Ok(())
-            }
-            Err(_) => Err(OutOfMemory),
+        if make_place(&mut self.pages, &mut self.first).is_err() {
+            return Err(OutOfMemory);
         }
+        Ok(())
     }
 
     /// Lends the slot of a key, and answers None exactly where the key isn't live.
@@ -243,12 +243,16 @@ impl<T: Drop> Slab<T> {
         ensures given { OnSome result (GivesBackPage self.old self.new → self.new.pages + 1 ≡ self.old.pages) }
         ensures kept { OnSome result (¬ GivesBackPage self.old self.new → self.new.pages ≡ self.old.pages) }
     {
-        let page = page_of(key);
-        if page >= self.pages.len() {
+        let count = self.pages.len();
+        if key >= MAX_LIVE {
             return None;
         }
-        let place = key - first_key(page);
-        match take_from(&mut self.pages, page, place) {
+        let page = page_of(key);
+        if page >= count {
+            return None;
+        }
+        let first = self.pages[page].first_key();
+        match take_from(&mut self.pages, page, key - first) {
             None => None,
             Some(value) => {
                 self.live -= 1;

@@ -1,11 +1,11 @@
 //! A page of a slab: a fixed number of places, each empty or with a value.
-ghost use Rattle.std.specs.Prelude.{◌≡◌, ◌<◌, ◌↔◌, ◌≤◌, length, replicate, IsTrue, IsSome, OnOk, OnErr, Some, None, option_copied, slice_set};
+ghost use Rattle.std.specs.Prelude.{◌≡◌, ◌-◌, ◌<◌, ◌↔◌, ◌≤◌, length, replicate, IsTrue, IsSome, OnOk, OnErr, Some, None, option_copied, slice_set};
 ghost use Rattle.std.specs.Borrow.{Lends, sem};
 ghost use Rattle.op_slots.specs.Page.{at, taken, spare};
 ghost use Rattle.op_slots.specs.Entry.{value_of};
 ghost use Rattle.op_slots.specs.LendsPlace.{LendsPlace};
 
-use super::OutOfMemory;
+use super::{OutOfMemory, PAGE_INITIAL_SIZE};
 use std::alloc::Global;
 use std::marker::Model;
 use std::mem;
@@ -79,6 +79,14 @@ impl<T: Drop> Page<T> {
             used: 0,
             next: 0,
         }
+    }
+
+    /// How many places there are, beyond those of page 0: the first key of this page, in a slab.
+    pub fn first_key(&self) -> usize
+        requires { PAGE_INITIAL_SIZE ≤ length self.now.places }
+        ensures { result ≡ length self.now.places - PAGE_INITIAL_SIZE }
+    {
+        self.size - PAGE_INITIAL_SIZE
     }
 
     /// An empty place has memory.

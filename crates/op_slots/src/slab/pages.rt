@@ -14,6 +14,9 @@ pub const NUM_PAGES: usize = 26;
 /// monoio: `PAGE_INITIAL_SIZE`.
 pub const PAGE_INITIAL_SIZE: usize = 64;
 
+// `PAGE_INITIAL_SIZE` is 2 to this power.
+const PAGE_INITIAL_POWER: u32 = 6;
+
 /// The page of a key: how many binary digits `(key + 64) >> 7` has, where 0 has none, and 25 at most. The sum stays at
 /// `usize::MAX` where it would pass it. A key from `MAX_LIVE` on, which no value has, is answered with 25.
 ///
@@ -30,23 +33,21 @@ pub fn page_of(key: usize) -> usize
     if key < PAGE_INITIAL_SIZE {
         return 0;
     }
-    let shifted = key.saturating_add(PAGE_INITIAL_SIZE) >> 7;
-    let digits = (usize::BITS - shifted.leading_zeros()) as usize;
-    digits.min(NUM_PAGES - 1)
+    if key < MAX_LIVE { page_by_digit(key) } else { NUM_PAGES - 1 }
+}
+
+// The page of a number that can be a key, with no branch: how far the highest binary digit of `key + 64` is above that of 64.
+pub(crate) fn page_by_digit(key: usize) -> usize
+    requires { key < MAX_LIVE }
+    ensures { result ≡ page_by_rule key }
+{
+    ((key + PAGE_INITIAL_SIZE).ilog2() - PAGE_INITIAL_POWER) as usize
 }
 
 // How many places a page has.
-pub fn places_on(page: usize) -> usize
+pub(crate) fn places_on(page: usize) -> usize
     requires { page < NUM_PAGES }
     ensures { result ≡ places_by_rule page }
 {
     PAGE_INITIAL_SIZE << page
-}
-
-// The first key of a page.
-pub fn first_key(page: usize) -> usize
-    requires { page < NUM_PAGES }
-    ensures { result ≡ first_by_rule page }
-{
-    (PAGE_INITIAL_SIZE << page) - PAGE_INITIAL_SIZE
 }

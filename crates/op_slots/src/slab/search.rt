@@ -144,16 +144,24 @@ fn search<T: Drop>(pages: &mut Vec<Page<T>>, first: usize) -> Result<usize, NoPl
 
 /// Finds the page for the next value, and sees that it has an empty place with memory: the first page from `first` on that has an
 /// empty place, else a new page, else an earlier one. Where memory runs out it is any page that has an empty place with memory.
-pub fn make_place<T: Drop>(pages: &mut Vec<Page<T>>, first: usize) -> Result<usize, NoPlace>
+/// `first` names that page then.
+pub fn make_place<T: Drop>(pages: &mut Vec<Page<T>>, first: &mut usize) -> Result<(), NoPlace>
     requires few { vec_len pages.old ≤ NUM_PAGES }
-    requires search { first ≤ vec_len pages.old - 1 }
-    ensures ok { IfOk result (FindsPlace pages.old.items pages.new.items) }
+    requires search { first.old ≤ vec_len pages.old - 1 }
+    ensures ok { OnOk result (FindsPlace pages.old.items pages.new.items first.new) }
     ensures why { IfErr result (WhyNoPlace pages.old.items) }
     ensures err { OnErr result (pages.new.items ≡ pages.old.items) }
+    ensures same { OnErr result (first.new ≡ first.old) }
     ensures room { OnErr result (room_in pages.old.items ≡ 0) }
 {
-    if first < pages.len() && pages[first].has_memory() {
-        return Ok(first);
+    if *first < pages.len() && pages[*first].has_memory() {
+        return Ok(());
     }
-    search(pages, first)
+    match search(pages, *first) {
+        Ok(page) => {
+            *first = page;
+            Ok(())
+        }
+        Err(why) => Err(why),
+    }
 }
