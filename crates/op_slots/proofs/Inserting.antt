@@ -13,7 +13,7 @@ use Rattle.op_slots.specs.Places.{all_places, room_in, AreSized, AreKept, slots_
 use Rattle.op_slots.proofs.Pages.{next_first, first-mono, first-bound, page_of-at}
 use Rattle.op_slots.proofs.Places.{map_of, get-places, map-put, map-more, taken-put, taken-append, taken-le, taken-below, held_everywhere}
 use Rattle.op_slots.proofs.AllPlaces.{sized-at, sized-set, sized-push, at-places, set-places, places-push, same-length, same-all, same-sized, full-places, room-at, open-below}
-use Rattle.op_slots.proofs.Kept.{length-all, bound-all, begin-at}
+use Rattle.op_slots.proofs.Kept.{length-all, bound-all, large-at, begin-at}
 
 module _ {T : Type 0} where
   -- nothing was put on the pages that a search left: at most there is one more, with empty places
@@ -90,7 +90,6 @@ module _ {T : Type 0} where
   pub record Inserted (old new : List (Places T)) (live removals i key : ℕ) (v : T) : Type 0 where
     pub kept : AreKept new (live + 1) i removals
     pub few : i < 26
-    pub within : i < length new
     pub below : key < 4294967232
     pub space : live < 4294967232
     pub fresh : get (slots_of old removals).values key ≡ None
@@ -128,7 +127,6 @@ module _ {T : Type 0} where
           interval = h.interval;
         };
         few = omega (arith, f.within, f.few);
-        within = omega (arith, count, f.within);
         below = omega arith;
         space = omega (arith, f.counted, taken-below (all_places mid) k inside empty);
         fresh = ap (λ m. get m k) (sym f.values) ∙ get-places (all_places mid) k ∙ empty;
@@ -181,10 +179,18 @@ module _ {T : Type 0} where
       let less = first-mono (length pages) 25 (omega arith) in
       omega (arith, h.counted, taken-le (all_places pages), length-all pages h.sized, less)
 
-  -- the same, where the first key of the page is known by how many places the page has
+  -- the page that a search found has as many places as page 0 at least
+  pub found-large : (old mid : List (Places T)) (live first removals i : ℕ) (page : Places T) → page ≡ get_or mid i page
+      → AreKept old live first removals → FindsPlace old mid i → 64 ≤ length page.places
+  found-large old mid live first removals i page read h finds =
+      let f = found old mid live first removals i h finds in
+      large-at mid i page f.sized f.within read
+
+  -- what is so once a value was put on, where the first key of the page is known by how many places the page has
   pub inserted_at : (old mid new : List (Places T)) (live first removals i begin q : ℕ) (v : T) (page : Places T)
-      → page ≡ get_or new i page → begin ≡ length page.places - 64 → AreKept old live first removals → FindsPlace old mid i
+      → page ≡ get_or mid i page → begin ≡ length page.places - 64 → AreKept old live first removals → FindsPlace old mid i
       → PutsOn mid i q v new → Inserted old new live removals i (begin + q) v
   inserted_at old mid new live first removals i begin q v page read is h finds put =
-      let there = inserted old mid new live first removals i q v h finds put in
-      subst (λ b. Inserted old new live removals i (b + q) v) (sym (begin-at new i begin page there.kept.sized there.within read is)) there
+      let f = found old mid live first removals i h finds in
+      subst (λ b. Inserted old new live removals i (b + q) v) (sym (begin-at mid i begin page f.sized f.within read is))
+      (inserted old mid new live first removals i q v h finds put)

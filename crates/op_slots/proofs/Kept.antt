@@ -1,12 +1,12 @@
 -- What a slab keeps true, and what its slots are, where a key is looked up or its value replaced.
-use Rattle.std.proofs.Common.{◌≡◌, ℕ, zero, suc, ◌+◌, ◌-◌, ◌^◌, ◌≤◌, ◌<◌, List, [], ◌∷◌, length, Option, None, Some, set, get_or, slice_get, refl, sym, ◌∙◌, ap, subst, arith, length-set}
+use Rattle.std.proofs.Common.{◌≡◌, ℕ, zero, suc, ◌+◌, ◌-◌, ◌^◌, ◌≤◌, ◌<◌, List, [], ◌∷◌, length, Option, None, Some, set, get_or, slice_get, inl, inr, refl, sym, ◌∙◌, ap, subst, arith, length-set}
 use Rattle.std.specs.Prelude.{IsSome, OnSome, option_copied}
 use Rattle.std.specs.Borrow.{Bor}
 use Rattle.std.specs.FinMap.{get, insert, len}
 use Rattle.std.proofs.lemmas.Option.{slice_get_read}
 use Rattle.op_slots.specs.Page.{Places, at, taken, spare}
 use Rattle.op_slots.specs.LendsPlace.{with_place}
-use Rattle.op_slots.specs.Pages.{page_of, first_key}
+use Rattle.op_slots.specs.Pages.{page_of, first_key, IsOnNoPage}
 use Rattle.op_slots.specs.Slots.{IsLive, AreKeysBelow, AreOnPages, with_value}
 use Rattle.op_slots.specs.Places.{all_places, room_in, AreSized, AreKept, slots_of, HasAt}
 use Rattle.op_slots.proofs.Pages.{first-bound, page_of-first}
@@ -91,6 +91,13 @@ module _ {T : Type 0} where
       → i ≡ page_of key → length pages ≤ i → get (slots_of pages removals).values key ≡ None
   peek-past pages live first removals key i h fits is past = get-places (all_places pages) key
       ∙ key-past pages key h.sized fits (omega arith)
+
+  -- where no page is the key's, it has no value
+  pub peek-off : (pages : List (Places T)) (live first removals key count : ℕ) → AreKept pages live first removals → key < 2 ^ 64
+      → count ≡ length pages → IsOnNoPage count key → get (slots_of pages removals).values key ≡ None
+  peek-off pages live first removals key count h fits is (inl over) = peek-over pages live first removals key h over
+  peek-off pages live first removals key count h fits is (inr past) = peek-past pages live first removals key (page_of key) h fits refl
+      (omega (arith, is, past))
 
   -- where a place of a page holds nothing, its key has no value
   pub peek-none : (pages : List (Places T)) (live first removals key i begin : ℕ) → AreKept pages live first removals → key < 2 ^ 64

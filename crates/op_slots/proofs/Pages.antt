@@ -102,6 +102,14 @@ page_of-digit key r below above next =
           | inr ge ↦ (let more : 2 ^ 26 ≤ 2 ^ i = pow-le-pow_right (omega arith) ge in absurd (omega (arith, more, pow)))
         ]
 
+-- the highest binary digit of a number that is no key names none of the 26 pages
+pub past-digit : (key r : ℕ) → 4294967232 ≤ key → key + 64 < 2 * 2 ^ r → 32 ≤ r
+past-digit key r past next =
+    elim (cases_lt r 32) [
+      | inl lt ↦ (let pow : 2 ^ suc r ≤ 2 ^ 32 = pow-le-pow_right (omega arith) lt in absurd (omega (arith, pow, doubled r)))
+      | inr ge ↦ ge
+    ]
+
 -- a number that is no key is answered with the last page
 pub page_of-past : (key : ℕ) → 4294967232 ≤ key → page_of key ≡ 25
 unfolding page_of

@@ -16,7 +16,7 @@ mod ref_mut;
 mod search;
 
 use page::Page;
-use pages::page_by_digit;
+use pages::{near_page_in, page_in};
 pub use pages::{NUM_PAGES, PAGE_INITIAL_SIZE, page_of};
 pub use ref_mut::Ref;
 use search::{NoPlace, make_place};
@@ -132,16 +132,13 @@ impl<T: Drop> Slab<T> {
         ensures value { option_copied result ≡ map.get self.now.values key }
         ensures below { OnSome result (key < MAX_LIVE) }
     {
-        let count = self.pages.len();
-        if key >= MAX_LIVE {
-            return None;
+        match page_in(self.pages.len(), key) {
+            Some(at) => {
+                let page = &self.pages[at];
+                page.get(key - page.first_key())
+            }
+            None => None,
         }
-        let at = page_by_digit(key);
-        if at >= count {
-            return None;
-        }
-        let page = &self.pages[at];
-        page.get(key - page.first_key())
     }
 
     // The value at a live key.
@@ -184,9 +181,10 @@ impl<T: Drop> Slab<T> {
     {
         match make_place(&mut self.pages, &mut self.first) {
             Ok(()) => {
+                let begin = self.pages[self.first].first_key();
                 let place = put_on(&mut self.pages, self.first, val);
                 self.live += 1;
-                Ok(self.pages[self.first].first_key() + place)
+                Ok(begin + place)
             }
             Err(NoPlace::Full) => Err(InsertError::Full(val)),
             Err(NoPlace::OutOfMemory) => Err(InsertError::OutOfMemory(val)),
@@ -243,14 +241,10 @@ impl<T: Drop> Slab<T> {
         ensures given { OnSome result (GivesBackPage self.old self.new → self.new.pages + 1 ≡ self.old.pages) }
         ensures kept { OnSome result (¬ GivesBackPage self.old self.new → self.new.pages ≡ self.old.pages) }
     {
-        let count = self.pages.len();
-        if key >= MAX_LIVE {
-            return None;
-        }
-        let page = page_of(key);
-        if page >= count {
-            return None;
-        }
+        let page = match near_page_in(self.pages.len(), key) {
+            Some(page) => page,
+            None => return None,
+        };
         let first = self.pages[page].first_key();
         match take_from(&mut self.pages, page, key - first) {
             None => None,

@@ -1,6 +1,6 @@
 //! Which keys lie on which page.
-ghost use Rattle.std.specs.Prelude.{◌≡◌, ◌+◌, ◌<◌, ◌≤◌};
-ghost use Rattle.op_slots.specs.Pages.{page_of as page_by_rule, places_on as places_by_rule, first_key as first_by_rule};
+ghost use Rattle.std.specs.Prelude.{◌≡◌, ◌+◌, ◌<◌, ◌≤◌, IfSome, IfNone};
+ghost use Rattle.op_slots.specs.Pages.{page_of as page_by_rule, places_on as places_by_rule, first_key as first_by_rule, IsPageIn, IsOnNoPage};
 
 use super::MAX_LIVE;
 
@@ -14,9 +14,6 @@ pub const NUM_PAGES: usize = 26;
 /// monoio: `PAGE_INITIAL_SIZE`.
 pub const PAGE_INITIAL_SIZE: usize = 64;
 
-// `PAGE_INITIAL_SIZE` is 2 to this power.
-const PAGE_INITIAL_POWER: u32 = 6;
-
 /// The page of a key: how many binary digits `(key + 64) >> 7` has, where 0 has none, and 25 at most. The sum stays at
 /// `usize::MAX` where it would pass it. A key from `MAX_LIVE` on, which no value has, is answered with 25.
 ///
@@ -29,19 +26,36 @@ pub fn page_of(key: usize) -> usize
     ensures first { first_by_rule result ≤ key }
     ensures last { key < MAX_LIVE → key < first_by_rule result + places_by_rule result }
 {
-    // The answer for page 0 waits for no other instruction.
-    if key < PAGE_INITIAL_SIZE {
-        return 0;
+    match near_page_in(NUM_PAGES, key) {
+        Some(page) => page,
+        None => NUM_PAGES - 1,
     }
-    if key < MAX_LIVE { page_by_digit(key) } else { NUM_PAGES - 1 }
 }
 
-// The page of a number that can be a key, with no branch: how far the highest binary digit of `key + 64` is above that of 64.
-pub(crate) fn page_by_digit(key: usize) -> usize
-    requires { key < MAX_LIVE }
-    ensures { result ≡ page_by_rule key }
+// The page of a key, if it is one of the first so many. Its number is how far the highest binary digit of `key + 64` is above that
+// of 64, so that one branch alone is taken.
+pub(crate) fn page_in(count: usize, key: usize) -> Option<usize>
+    requires { count ≤ NUM_PAGES }
+    ensures some { IfSome result (IsPageIn count key) }
+    ensures none { IfNone result (IsOnNoPage count key) }
 {
-    ((key + PAGE_INITIAL_SIZE).ilog2() - PAGE_INITIAL_POWER) as usize
+    if key > usize::MAX - PAGE_INITIAL_SIZE {
+        return None;
+    }
+    let page = ((key + PAGE_INITIAL_SIZE).ilog2() - 6) as usize;
+    if page < count { Some(page) } else { None }
+}
+
+// The same. The answer for page 0 waits for no other instruction.
+pub(crate) fn near_page_in(count: usize, key: usize) -> Option<usize>
+    requires { count ≤ NUM_PAGES }
+    ensures some { IfSome result (IsPageIn count key) }
+    ensures none { IfNone result (IsOnNoPage count key) }
+{
+    if key < PAGE_INITIAL_SIZE && 0 < count {
+        return Some(0);
+    }
+    page_in(count, key)
 }
 
 // How many places a page has.
