@@ -93,7 +93,8 @@ impl<T: Drop> Page<T> {
     pub fn has_memory(&self) -> bool
         ensures { IsTrue result ↔ (0 < spare self.now) }
     {
-        self.used < self.entries.capacity() && self.used < self.size
+        let count = self.entries.len();
+        self.next < count || (count < self.entries.capacity() && count < self.size)
     }
 
     /// No place is empty.

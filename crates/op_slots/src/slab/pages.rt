@@ -52,8 +52,8 @@ pub(crate) fn near_page_in(count: usize, key: usize) -> Option<usize>
     ensures some { IfSome result (IsPageIn count key) }
     ensures none { IfNone result (IsOnNoPage count key) }
 {
-    if key < PAGE_INITIAL_SIZE && 0 < count {
-        return Some(0);
+    if key < PAGE_INITIAL_SIZE {
+        return if 0 < count { Some(0) } else { None };
     }
     page_in(count, key)
 }
