@@ -1,6 +1,6 @@
 use Rattle.std.proofs.Common.{sym, ap, ◌∙◌, arith}
 use Rattle.op_slots.specs.Page.{spare}
-use Rattle.op_slots.proofs.Entries.{full_past_end, fewer_before_end, spare_is}
+use Rattle.op_slots.proofs.Entries.{full_past_end, spare_is}
 use Rattle.op_slots.proofs.slab.page.Page.has_memory.Goals as goal
 
 pub returns-then-count-capacity : goal.returns-then-count-capacity
