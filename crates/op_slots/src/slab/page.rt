@@ -81,7 +81,7 @@ impl<T: Drop> Page<T> {
         }
     }
 
-    /// How many places there are, beyond those of page 0: the first key of this page, in a slab.
+    /// The first key of the page in a slab: how many places it has beyond those of page 0.
     pub fn first_key(&self) -> usize
         requires { PAGE_INITIAL_SIZE ≤ length self.now.places }
         ensures { result ≡ length self.now.places - PAGE_INITIAL_SIZE }
@@ -89,7 +89,7 @@ impl<T: Drop> Page<T> {
         self.size - PAGE_INITIAL_SIZE
     }
 
-    /// An empty place has memory.
+    /// Whether an empty place has memory.
     pub fn has_memory(&self) -> bool
         ensures { IsTrue result ↔ (0 < spare self.now) }
     {
@@ -97,7 +97,7 @@ impl<T: Drop> Page<T> {
         self.next < count || (count < self.entries.capacity() && count < self.size)
     }
 
-    /// No place is empty.
+    /// Whether no place is empty.
     pub fn is_full(&self) -> bool
         ensures full { IsTrue result ↔ (taken self.now.places ≡ length self.now.places) }
         ensures within { taken self.now.places ≤ length self.now.places }
@@ -105,14 +105,14 @@ impl<T: Drop> Page<T> {
         self.used == self.size
     }
 
-    /// All places are empty.
+    /// Whether all places are empty.
     pub fn is_empty(&self) -> bool
         ensures { IsTrue result ↔ (taken self.now.places ≡ 0) }
     {
         self.used == 0
     }
 
-    /// The value of a place, and None where there is none.
+    /// The value of a place, and None if there is none.
     pub fn get(&self, place: usize) -> Option<&T>
         ensures { option_copied result ≡ at self.now.places place }
     {

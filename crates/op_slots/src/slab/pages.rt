@@ -4,20 +4,14 @@ ghost use Rattle.op_slots.specs.Pages.{page_of as page_by_rule, places_on as pla
 
 use super::MAX_LIVE;
 
-/// How many pages there are at most.
-///
-/// monoio: `NUM_PAGES`.
+/// How many pages there are at most (monoio: `NUM_PAGES`).
 pub const NUM_PAGES: usize = 26;
 
-/// How many places page 0 has. Each later page has twice as many as the one before it.
-///
-/// monoio: `PAGE_INITIAL_SIZE`.
+/// How many places page 0 has (monoio: `PAGE_INITIAL_SIZE`). Each later page has twice as many as the one before it.
 pub const PAGE_INITIAL_SIZE: usize = 64;
 
-/// The page of a key: how many binary digits `(key + 64) >> 7` has, where 0 has none, and 25 at most. The sum stays at
-/// `usize::MAX` where it would pass it. A key from `MAX_LIVE` on, which no value has, is answered with 25.
-///
-/// monoio: `get_page_id`.
+/// The page of a key: how many binary digits `(key + 64) >> 7` has, where 0 has none, and 25 at most (monoio: `get_page_id`). The sum
+/// stays at `usize::MAX` if it would pass it. A key from `MAX_LIVE` on, which no value has, is answered with 25.
 pub fn page_of(key: usize) -> usize
     ensures rule { result ≡ page_by_rule key }
     ensures few { result < NUM_PAGES }

@@ -121,7 +121,7 @@ fn widen<T: Drop>(pages: &mut Vec<Page<T>>, first: usize) -> Result<usize, NoPla
     }
 }
 
-// The same, and where memory runs out any page that has an empty place with memory. `first` names the page then.
+// The same; if memory runs out, any page that has an empty place with memory. `first` names the page then.
 #[cold]
 #[inline(never)]
 fn search<T: Drop>(pages: &mut Vec<Page<T>>, first: &mut usize) -> Result<(), NoPlace>
