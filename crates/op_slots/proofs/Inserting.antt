@@ -154,8 +154,8 @@ module _ {T : Type 0} where
       }
 
   -- the same, of a search that wasn't refused
-  pub reserved_ok : {E : Type 0} (r : Result Unit E) (old mid : List (Places T)) (live first removals i : ℕ) → AreKept old live first removals
-      → is_err r ≡ false → OnOk r (FindsPlace old mid i) → Reserved old mid live removals i
+  pub reserved_ok : {E : Type 0} (r : Result Unit E) (old mid : List (Places T)) (live first removals i : ℕ)
+      → AreKept old live first removals → is_err r ≡ false → OnOk r (FindsPlace old mid i) → Reserved old mid live removals i
   reserved_ok (Ok _) old mid live first removals i h accepted finds = reserved old mid live first removals i h finds
   reserved_ok (Err _) old mid live first removals i h accepted finds = absurd (true≢false accepted)
 

@@ -14,32 +14,38 @@ first_key-begin-requires g c = found-large _ _ _ _ _ _ c.index.result.now c.inde
 
 pub overflow_add-result : goal.overflow_add-result
 overflow_add-result g c =
-    let put = inserted_at _ _ _ _ _ _ _ _ _ c.args.val c.index.result.now c.index.ensures c.first_key-begin.ensures c.self.invariant c.in-Ok.ensures.ok c.put_on-place.ensures in
+    let put = inserted_at _ _ _ _ _ _ _ _ _ c.args.val c.index.result.now c.index.ensures c.first_key-begin.ensures c.self.invariant
+    c.in-Ok.ensures.ok c.put_on-place.ensures in
     omega (arith, put.below)
 
 pub invariant_of-self : goal.invariant_of-self
 invariant_of-self g c =
-    (inserted_at _ _ _ _ _ _ _ _ _ c.args.val c.index.result.now c.index.ensures c.first_key-begin.ensures c.self.invariant c.in-Ok.ensures.ok c.put_on-place.ensures).kept
+    (inserted_at _ _ _ _ _ _ _ _ _ c.args.val c.index.result.now c.index.ensures c.first_key-begin.ensures c.self.invariant
+    c.in-Ok.ensures.ok c.put_on-place.ensures).kept
 
 pub returns-in-Ok-clause-fresh : goal.returns-in-Ok-clause-fresh
 returns-in-Ok-clause-fresh g c =
     rw (← c.self.view_is)
-    (inserted_at _ _ _ _ _ _ _ _ _ c.args.val c.index.result.now c.index.ensures c.first_key-begin.ensures c.self.invariant c.in-Ok.ensures.ok c.put_on-place.ensures).fresh
+    (inserted_at _ _ _ _ _ _ _ _ _ c.args.val c.index.result.now c.index.ensures c.first_key-begin.ensures c.self.invariant
+    c.in-Ok.ensures.ok c.put_on-place.ensures).fresh
 
 pub returns-in-Ok-clause-below : goal.returns-in-Ok-clause-below
 returns-in-Ok-clause-below g c =
-    (inserted_at _ _ _ _ _ _ _ _ _ c.args.val c.index.result.now c.index.ensures c.first_key-begin.ensures c.self.invariant c.in-Ok.ensures.ok c.put_on-place.ensures).below
+    (inserted_at _ _ _ _ _ _ _ _ _ c.args.val c.index.result.now c.index.ensures c.first_key-begin.ensures c.self.invariant
+    c.in-Ok.ensures.ok c.put_on-place.ensures).below
 
 pub returns-in-Ok-clause-ok : goal.returns-in-Ok-clause-ok
 returns-in-Ok-clause-ok g c =
     rw (← c.self.view_is)
-    (inserted_at _ _ _ _ _ _ _ _ _ c.args.val c.index.result.now c.index.ensures c.first_key-begin.ensures c.self.invariant c.in-Ok.ensures.ok c.put_on-place.ensures).values
+    (inserted_at _ _ _ _ _ _ _ _ _ c.args.val c.index.result.now c.index.ensures c.first_key-begin.ensures c.self.invariant
+    c.in-Ok.ensures.ok c.put_on-place.ensures).values
 
 pub returns-in-Ok-clause-full : goal.returns-in-Ok-clause-full
 returns-in-Ok-clause-full g c = (
   λ e. cc,
   λ full.
-      let put = inserted_at _ _ _ _ _ _ _ _ _ c.args.val c.index.result.now c.index.ensures c.first_key-begin.ensures c.self.invariant c.in-Ok.ensures.ok c.put_on-place.ensures in
+      let put = inserted_at _ _ _ _ _ _ _ _ _ c.args.val c.index.result.now c.index.ensures c.first_key-begin.ensures c.self.invariant
+      c.in-Ok.ensures.ok c.put_on-place.ensures in
       let live = kept-len _ _ _ _ c.self.invariant ∙ ap (λ s. len s.values) c.self.view_is in
       absurd (omega (arith, put.space, live, full)),
 )
@@ -47,12 +53,14 @@ returns-in-Ok-clause-full g c = (
 pub returns-in-Ok-clause-pages : goal.returns-in-Ok-clause-pages
 returns-in-Ok-clause-pages g c =
     rw (← c.self.view_is)
-    (inserted_at _ _ _ _ _ _ _ _ _ c.args.val c.index.result.now c.index.ensures c.first_key-begin.ensures c.self.invariant c.in-Ok.ensures.ok c.put_on-place.ensures).pages
+    (inserted_at _ _ _ _ _ _ _ _ _ c.args.val c.index.result.now c.index.ensures c.first_key-begin.ensures c.self.invariant
+    c.in-Ok.ensures.ok c.put_on-place.ensures).pages
 
 pub returns-in-Ok-clause-made : goal.returns-in-Ok-clause-made
 returns-in-Ok-clause-made g c =
     rw (← c.self.view_is)
-    (inserted_at _ _ _ _ _ _ _ _ _ c.args.val c.index.result.now c.index.ensures c.first_key-begin.ensures c.self.invariant c.in-Ok.ensures.ok c.put_on-place.ensures).made
+    (inserted_at _ _ _ _ _ _ _ _ _ c.args.val c.index.result.now c.index.ensures c.first_key-begin.ensures c.self.invariant
+    c.in-Ok.ensures.ok c.put_on-place.ensures).made
 
 pub returns-in-Err-Full-clause-full : goal.returns-in-Err-Full-clause-full
 returns-in-Err-Full-clause-full g c =

@@ -33,26 +33,36 @@ index_mut-requires g c =
 
 pub value_mut-requires : goal.value_mut-requires
 value_mut-requires g c =
+    let within = live-within _ _ _ _ c.args.key c.self.invariant (rw (← c.self.view_is) at c.requires) in
+    let is = c.page_of-page.ensures.rule in
+    let inside : c.page_of-page.result < length c.self.inside.pages.items = omega (arith, within.1, is) in
+    let begin = begin-at _ _ _ c.index.result.now c.self.invariant.sized inside c.index.ensures c.first_key-first.ensures in
     (live_place c.self.inside.pages.items _ _ _ c.args.key c.page_of-page.result c.first_key-first.result c.index_mut.result.now
     c.self.invariant (omega (arith, c.ranges.key)) (rw (← c.self.view_is) at c.requires) c.page_of-page.ensures.rule
-    (begin-at _ _ _ c.index.result.now c.self.invariant.sized (omega (arith, (live-within _ _ _ _ c.args.key c.self.invariant (rw (← c.self.view_is) at c.requires)).1, c.page_of-page.ensures.rule)) c.index.ensures c.first_key-first.ensures) c.index_mut.ensures.value).held
+    begin c.index_mut.ensures.value).held
 
 pub invariant_of-self-lent : goal.invariant_of-self-lent
 invariant_of-self-lent g c w =
+    let within = live-within _ _ _ _ c.args.key c.self.invariant (rw (← c.self.view_is) at c.requires) in
+    let is = c.page_of-page.ensures.rule in
+    let inside : c.page_of-page.result < length c.self.inside.pages.items = omega (arith, within.1, is) in
+    let begin = begin-at _ _ _ c.index.result.now c.self.invariant.sized inside c.index.ensures c.first_key-first.ensures in
     let place = live_place c.self.inside.pages.items _ _ _ c.args.key c.page_of-page.result c.first_key-first.result c.index_mut.result.now
     c.self.invariant (omega (arith, c.ranges.key)) (rw (← c.self.view_is) at c.requires) c.page_of-page.ensures.rule
-    (begin-at _ _ _ c.index.result.now c.self.invariant.sized (omega (arith, (live-within _ _ _ _ c.args.key c.self.invariant (rw (← c.self.view_is) at c.requires)).1, c.page_of-page.ensures.rule)) c.index.ensures c.first_key-first.ensures) c.index_mut.ensures.value in
+    begin c.index_mut.ensures.value in
     kept-keep _ _ _ _ _ _ _ w c.self.invariant place.there place.held
 
 pub returns : goal.returns
 returns g c =
-    let place = live_place c.self.inside.pages.items _ _ _ c.args.key c.page_of-page.result c.first_key-first.result c.index_mut.result.now
-    c.self.invariant (omega (arith, c.ranges.key)) (rw (← c.self.view_is) at c.requires) c.page_of-page.ensures.rule
-    (begin-at _ _ _ c.index.result.now c.self.invariant.sized (omega (arith, (live-within _ _ _ _ c.args.key c.self.invariant (rw (← c.self.view_is) at c.requires)).1, c.page_of-page.ensures.rule)) c.index.ensures c.first_key-first.ensures) c.index_mut.ensures.value in
     let within = live-within _ _ _ _ c.args.key c.self.invariant (rw (← c.self.view_is) at c.requires) in
     let is = c.page_of-page.ensures.rule in
+    let inside : c.page_of-page.result < length c.self.inside.pages.items = omega (arith, within.1, is) in
+    let begin = begin-at _ _ _ c.index.result.now c.self.invariant.sized inside c.index.ensures c.first_key-first.ensures in
+    let place = live_place c.self.inside.pages.items _ _ _ c.args.key c.page_of-page.result c.first_key-first.result c.index_mut.result.now
+    c.self.invariant (omega (arith, c.ranges.key)) (rw (← c.self.view_is) at c.requires) c.page_of-page.ensures.rule
+    begin c.index_mut.ensures.value in
     let here = peek-at c.self.inside.pages.items _ _ c.self.inside.removals c.args.key c.page_of-page.result c.first_key-first.result
-    c.index_mut.result.now c.self.invariant (omega (arith, c.ranges.key)) is (begin-at _ _ _ c.index.result.now c.self.invariant.sized (omega (arith, (live-within _ _ _ _ c.args.key c.self.invariant (rw (← c.self.view_is) at c.requires)).1, c.page_of-page.ensures.rule)) c.index.ensures c.first_key-first.ensures) (omega (
+    c.index_mut.result.now c.self.invariant (omega (arith, c.ranges.key)) is begin (omega (
       arith,
       within.1,
       is,
