@@ -6,7 +6,10 @@ use Rattle.op_slots.proofs.slab.pages.page_in.Goals as goal
 pub overflow_sub-page : goal.overflow_sub-page
 overflow_sub-page c =
     elim (cases_lt c.args.key 4294967232) [
-      | inl below ↦ (page_of-digit c.args.key c.ilog2.result below c.ilog2.ensures.power_le c.ilog2.ensures.next_power_gt).0
+      | inl below ↦ omega (
+        arith,
+        (page_of-digit c.args.key c.ilog2.result below c.ilog2.ensures.power_le c.ilog2.ensures.next_power_gt).0,
+      )
       | inr past ↦ omega (arith, past-digit c.args.key c.ilog2.result past c.ilog2.ensures.next_power_gt)
     ]
 
