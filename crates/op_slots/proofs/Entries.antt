@@ -156,6 +156,14 @@ module _ {T : Type 0} where
         | inr found ↦ omega (arith, slice_get_within es next _ found.1)
       ]
 
+  -- so where it isn't one of the entries
+  pub full_past_end : (es : List (Entry T)) (size used next : ℕ) → IsSound es size used next → length es ≤ next → used ≡ length es
+  full_past_end es size used next sound past =
+      elim (next_cases es size used next sound) [
+        | inl full ↦ full.1
+        | inr found ↦ omega (arith, past, slice_get_within es next _ found.1)
+      ]
+
   -- and else it is an empty entry
   pub empty_before_end : (es : List (Entry T)) (size used next : ℕ) → IsSound es size used next → next ≢ length es
       → (after : ℕ) × (slice_get es next ≡ Some (Vacant after))

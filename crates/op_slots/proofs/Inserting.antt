@@ -1,6 +1,7 @@
 -- What a slab keeps true, and what its slots are, as a place is found and a value put in.
-use Rattle.std.proofs.Common.{◌≡◌, ◌⊎◌, ℕ, suc, ◌+◌, ◌-◌, ◌≤◌, ◌<◌, max, List, [], ◌++◌, length, Option, None, Some, is_some, cond, set, get_or, slice_get, inl, inr, sym, ◌∙◌, ap, subst, arith, length-set}
-use Rattle.std.specs.Prelude.{IsSome}
+use Rattle.std.proofs.Common.{◌≡◌, ◌⊎◌, ℕ, suc, ◌+◌, ◌-◌, ◌≤◌, ◌<◌, max, List, [], ◌++◌, length, Option, None, Some, is_some, cond, set, get_or, slice_get, inl, inr, sym, ◌∙◌, ap, subst, arith, length-set, false, true≢false}
+use Rattle.std.specs.Prelude.{IsSome, OnOk, Result, Ok, Err}
+use Rattle.std.specs.Result.{is_err}
 use Rattle.std.specs.FinMap.{get, insert}
 use Rattle.std.proofs.lemmas.List.{length_push, length-replicate}
 use Rattle.std.proofs.lemmas.List.Folds.{sum_by-replicate}
@@ -12,7 +13,7 @@ use Rattle.op_slots.specs.Places.{all_places, room_in, AreSized, AreKept, slots_
 use Rattle.op_slots.proofs.Pages.{next_first, first-mono, first-bound, page_of-at}
 use Rattle.op_slots.proofs.Places.{map_of, get-places, map-put, map-more, taken-put, taken-append, taken-le, taken-below, held_everywhere}
 use Rattle.op_slots.proofs.AllPlaces.{sized-at, sized-set, sized-push, at-places, set-places, places-push, same-length, same-all, same-sized, full-places, room-at, open-below}
-use Rattle.op_slots.proofs.Kept.{length-all, bound-all}
+use Rattle.op_slots.proofs.Kept.{length-all, bound-all, large-at, begin-at}
 
 module _ {T : Type 0} where
   -- nothing was put on the pages that a search left: at most there is one more, with empty places
@@ -141,7 +142,7 @@ module _ {T : Type 0} where
     pub room : 0 < room_in mid
     pub made : MakesPage (slots_of old removals) (slots_of mid removals)
 
-  pub reserved : (old mid : List (Places T)) (live first removals i : ℕ) → AreKept old live first removals → FindsPlace old mid i
+  reserved : (old mid : List (Places T)) (live first removals i : ℕ) → AreKept old live first removals → FindsPlace old mid i
       → Reserved old mid live removals i
   reserved old mid live first removals i h finds =
       let f = found old mid live first removals i h finds in
@@ -151,6 +152,12 @@ module _ {T : Type 0} where
         room = room-at mid i finds.0;
         made = f.made;
       }
+
+  -- the same, of a search that wasn't refused
+  pub reserved_ok : {E : Type 0} (r : Result Unit E) (old mid : List (Places T)) (live first removals i : ℕ)
+      → AreKept old live first removals → is_err r ≡ false → OnOk r (FindsPlace old mid i) → Reserved old mid live removals i
+  reserved_ok (Ok _) old mid live first removals i h accepted finds = reserved old mid live first removals i h finds
+  reserved_ok (Err _) old mid live first removals i h accepted finds = absurd (true≢false accepted)
 
   -- where all pages are there and full, all keys are live
   pub full-live : (pages : List (Places T)) (live first removals : ℕ) → AreKept pages live first removals → AreFullFrom pages 0
@@ -172,8 +179,18 @@ module _ {T : Type 0} where
       let less = first-mono (length pages) 25 (omega arith) in
       omega (arith, h.counted, taken-le (all_places pages), length-all pages h.sized, less)
 
-  -- the same, where the first key of the page is known by another name
-  pub inserted_at : (old mid new : List (Places T)) (live first removals i begin q : ℕ) (v : T) → begin ≡ first_key i
-      → AreKept old live first removals → FindsPlace old mid i → PutsOn mid i q v new → Inserted old new live removals i (begin + q) v
-  inserted_at old mid new live first removals i begin q v is h finds put =
-      subst (λ b. Inserted old new live removals i (b + q) v) (sym is) (inserted old mid new live first removals i q v h finds put)
+  -- the page that a search found has as many places as page 0 at least
+  pub found-large : (old mid : List (Places T)) (live first removals i : ℕ) (page : Places T) → page ≡ get_or mid i page
+      → AreKept old live first removals → FindsPlace old mid i → 64 ≤ length page.places
+  found-large old mid live first removals i page read h finds =
+      let f = found old mid live first removals i h finds in
+      large-at mid i page f.sized f.within read
+
+  -- what is so once a value was put on, where the first key of the page is known by how many places the page has
+  pub inserted_at : (old mid new : List (Places T)) (live first removals i begin q : ℕ) (v : T) (page : Places T)
+      → page ≡ get_or mid i page → begin ≡ length page.places - 64 → AreKept old live first removals → FindsPlace old mid i
+      → PutsOn mid i q v new → Inserted old new live removals i (begin + q) v
+  inserted_at old mid new live first removals i begin q v page read is h finds put =
+      let f = found old mid live first removals i h finds in
+      subst (λ b. Inserted old new live removals i (b + q) v) (sym (begin-at mid i begin page f.sized f.within read is))
+      (inserted old mid new live first removals i q v h finds put)

@@ -1,17 +1,18 @@
 -- What a slab keeps true, and what its slots are, where a key is looked up or its value replaced.
-use Rattle.std.proofs.Common.{◌≡◌, ℕ, zero, suc, ◌+◌, ◌-◌, ◌^◌, ◌≤◌, ◌<◌, List, [], ◌∷◌, length, Option, None, Some, set, get_or, slice_get, refl, sym, ◌∙◌, ap, subst, arith, length-set}
+use Rattle.std.proofs.Common.{◌≡◌, ℕ, zero, suc, ◌+◌, ◌-◌, ◌^◌, ◌≤◌, ◌<◌, List, [], ◌∷◌, length, Option, None, Some, set, get_or, slice_get, inl, inr, refl, sym, ◌∙◌, ap, subst, arith, length-set}
 use Rattle.std.specs.Prelude.{IsSome, OnSome, option_copied}
 use Rattle.std.specs.Borrow.{Bor}
 use Rattle.std.specs.FinMap.{get, insert, len}
 use Rattle.std.proofs.lemmas.Option.{slice_get_read}
 use Rattle.op_slots.specs.Page.{Places, at, taken, spare}
 use Rattle.op_slots.specs.LendsPlace.{with_place}
-use Rattle.op_slots.specs.Pages.{page_of, first_key}
+use Rattle.op_slots.specs.Pages.{page_of, first_key, IsOnNoPage}
 use Rattle.op_slots.specs.Slots.{IsLive, AreKeysBelow, AreOnPages, with_value}
 use Rattle.op_slots.specs.Places.{all_places, room_in, AreSized, AreKept, slots_of, HasAt}
 use Rattle.op_slots.proofs.Pages.{first-bound, page_of-first}
-use Rattle.op_slots.proofs.Places.{map_of, get-places, map-put, len-places, at-live, taken-keep, taken-le}
-use Rattle.op_slots.proofs.AllPlaces.{length-places, sized-set, at-places, set-places, key-at, key-past, key-within}
+use Rattle.std.proofs.lemmas.Nat.{pow_pos}
+use Rattle.op_slots.proofs.Places.{map_of, get-places, map-put, len-places, at-live, at-past, taken-keep, taken-le}
+use Rattle.op_slots.proofs.AllPlaces.{length-places, sized-at, sized-set, at-places, set-places, key-at, key-past, key-within}
 
 module _ {T : Type 0} where
   -- all places are as many as the first key behind them
@@ -54,6 +55,27 @@ module _ {T : Type 0} where
       → AreOnPages (slots_of pages removals)
   on-pages pages live first removals h = (h.few, λ key is_live. (live-within pages live first removals key h is_live).1)
 
+  -- a page has as many places as page 0 at least
+  pub large-at : (pages : List (Places T)) (i : ℕ) (page : Places T) → AreSized 0 pages → i < length pages → page ≡ get_or pages i page
+      → 64 ≤ length page.places
+  large-at pages i page sized within read =
+      let size = sized-at 0 i pages page sized (slice_get_read pages (length pages) i page refl within read) in
+      omega (arith, size, pow_pos (0 + i))
+
+  -- the first key of a page, by how many places it has
+  pub begin-at : (pages : List (Places T)) (i begin : ℕ) (page : Places T) → AreSized 0 pages → i < length pages
+      → page ≡ get_or pages i page → begin ≡ length page.places - 64 → begin ≡ first_key i
+  begin-at pages i begin page sized within read is =
+      let e : 0 + i ≡ i = omega arith in
+      let size = sized-at 0 i pages page sized (slice_get_read pages (length pages) i page refl within read) in
+      is ∙ ap (λ n. n - 64) (rw e at size)
+
+  -- a number that no key can be has no value
+  pub peek-over : (pages : List (Places T)) (live first removals key : ℕ) → AreKept pages live first removals → 4294967232 ≤ key
+      → get (slots_of pages removals).values key ≡ None
+  peek-over pages live first removals key h over = get-places (all_places pages) key
+      ∙ at-past (all_places pages) key (omega (arith, bound-all pages h.sized h.few))
+
   -- what a place of a page holds is the value at its key
   pub peek-at : (pages : List (Places T)) (live first removals key i begin : ℕ) (page : Places T) → AreKept pages live first removals
       → key < 2 ^ 64 → i ≡ page_of key → begin ≡ first_key i → i < length pages → page ≡ get_or pages i page
@@ -69,6 +91,13 @@ module _ {T : Type 0} where
       → i ≡ page_of key → length pages ≤ i → get (slots_of pages removals).values key ≡ None
   peek-past pages live first removals key i h fits is past = get-places (all_places pages) key
       ∙ key-past pages key h.sized fits (omega arith)
+
+  -- where no page is the key's, it has no value
+  pub peek-off : (pages : List (Places T)) (live first removals key count : ℕ) → AreKept pages live first removals → key < 2 ^ 64
+      → count ≡ length pages → IsOnNoPage count key → get (slots_of pages removals).values key ≡ None
+  peek-off pages live first removals key count h fits is (inl over) = peek-over pages live first removals key h over
+  peek-off pages live first removals key count h fits is (inr past) = peek-past pages live first removals key (page_of key) h fits refl
+      (omega (arith, is, past))
 
   -- where a place of a page holds nothing, its key has no value
   pub peek-none : (pages : List (Places T)) (live first removals key i begin : ℕ) → AreKept pages live first removals → key < 2 ^ 64

@@ -1,7 +1,7 @@
 -- Which keys a page has.
-use Rattle.std.proofs.Common.{◌≡◌, ℕ, zero, suc, ◌+◌, ◌-◌, ◌*◌, ◌/◌, ◌^◌, ◌<◌, ◌≤◌, min, inl, inr, arith}
+use Rattle.std.proofs.Common.{◌≡◌, ℕ, zero, suc, ◌+◌, ◌-◌, ◌*◌, ◌/◌, ◌^◌, ◌<◌, ◌≤◌, min, inl, inr, sym, ap, ◌∙◌, arith}
 use Rattle.std.proofs.Math.Nat.{pow-suc, pow-le-pow_right}
-use Rattle.std.proofs.lemmas.Nat.{leading_length, pow_pos}
+use Rattle.std.proofs.lemmas.Nat.{leading_length, pow_pos, pow-add}
 use Rattle.std.proofs.lemmas.Bool.{cases_lt}
 use Rattle.op_slots.specs.Pages.{page_of, places_on, first_key, binary_digits}
 
@@ -82,3 +82,45 @@ page_of-at key i few first last =
     let low : page_of key < suc i = first-less (page_of key) (suc i) (omega arith) in
     let high : i < suc (page_of key) = first-less i (suc (page_of key)) (omega arith) in
     omega arith
+
+-- the highest binary digit of a key and 64 names its page
+pub page_of-digit : (key r : ℕ) → key < 4294967232 → 2 ^ r ≤ key + 64 → key + 64 < 2 * 2 ^ r → (6 ≤ r) × (r - 6 ≡ page_of key)
+page_of-digit key r below above next =
+    elim (cases_lt r 6) [
+      | inl lt ↦ (let pow : 2 ^ suc r ≤ 2 ^ 6 = pow-le-pow_right (omega arith) lt in absurd (omega (arith, pow, doubled r)))
+      | inr ge ↦ (ge, by_page (r - 6) (omega (arith, ge)))
+    ]
+  where
+    by_page : (i : ℕ) → i + 6 ≡ r → i ≡ page_of key
+    by_page i is =
+        let pow : 2 ^ r ≡ 2 ^ i * 64 = ap (λ n. 2 ^ n) (sym is) ∙ pow-add 2 i 6 in
+        sym (page_of-at key i (few i pow) (omega arith) (omega arith))
+      where
+        few : (i : ℕ) → 2 ^ r ≡ 2 ^ i * 64 → i < 26
+        few i pow = elim (cases_lt i 26) [
+          | inl lt ↦ lt
+          | inr ge ↦ (let more : 2 ^ 26 ≤ 2 ^ i = pow-le-pow_right (omega arith) ge in absurd (omega (arith, more, pow)))
+        ]
+
+-- the highest binary digit of a number that is no key names none of the 26 pages
+pub past-digit : (key r : ℕ) → 4294967232 ≤ key → key + 64 < 2 * 2 ^ r → 32 ≤ r
+past-digit key r past next =
+    elim (cases_lt r 32) [
+      | inl lt ↦ (let pow : 2 ^ suc r ≤ 2 ^ 32 = pow-le-pow_right (omega arith) lt in absurd (omega (arith, pow, doubled r)))
+      | inr ge ↦ ge
+    ]
+
+-- a number that is no key is answered with the last page
+pub page_of-past : (key : ℕ) → 4294967232 ≤ key → page_of key ≡ 25
+unfolding page_of
+page_of-past key past = by_digits (min (key + 64) (2 ^ 64 - 1) / 128) (omega arith) (omega arith)
+  where
+    by_digits : (n : ℕ) → n < 2 ^ 64 → 33554432 ≤ n → min (binary_digits n) 25 ≡ 25
+    by_digits n fits many =
+        let d = digits n fits in
+        elim (cases_lt (binary_digits n) 25) [
+          | inl lt ↦ (let ends : binary_digits n ≤ 25 = omega (arith, lt) in
+              let pow : 2 ^ binary_digits n ≤ 2 ^ 25 = pow-le-pow_right (omega arith) ends in
+              absurd (omega (arith, pow, d.above)))
+          | inr ge ↦ omega (arith, ge)
+        ]

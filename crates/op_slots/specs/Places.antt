@@ -28,7 +28,8 @@ abbrev pub AreSized : {T : Type 0} → ℕ → List (Places T) → Type 0
 AreSized i [] = Unit {0}
 AreSized i (page ∷ pages) = (length page.places ≡ places_on i) × AreSized (suc i) pages
 
--- what a slab keeps true: the sizes, the number of pages and of values, where a search begins, and that the removals are fewer than those at which the last page is looked at
+-- what a slab keeps true: the sizes, the number of pages and of values, where a search begins, and that the removals are fewer than
+-- those at which the last page is looked at
 pub record AreKept {T : Type 0} (pages : List (Places T)) (live first removals : ℕ) : Type 0 where
   pub sized : AreSized 0 pages
   pub few : length pages ≤ NUM_PAGES
@@ -70,7 +71,8 @@ AddsPage {T} old new = (page : Places T) × (new ≡ old ++ page ∷ []) × (pag
 abbrev pub IsLastFull : {T : Type 0} → List (Places T) → Type 0
 IsLastFull {T} pages = (page : Places T) → slice_get pages (length pages - 1) ≡ Some page → taken page.places ≡ length page.places
 
--- this page has an empty place with memory now: one of the old pages, of which only the memory changed, or one that was added behind full ones
+-- this page has an empty place with memory now: one of the old pages, of which only the memory changed, or one that was added behind
+-- full ones
 abbrev pub FindsPlace : {T : Type 0} → List (Places T) → List (Places T) → ℕ → Type 0
 FindsPlace old new i = HasMemoryAt new i ×
     (HaveSamePlaces old new ⊎ (AddsPage old new × (i ≡ length old) × (length old < NUM_PAGES) × IsLastFull old))

@@ -41,6 +41,6 @@ module _ (T : RattleType) where
   abbrev pub LendsSlotValue : MutBor (Ref T.Denot) → MutBor T.Denot → Fml
   LendsSlotValue r v = Lends (slot.the_row (record { mir = named 1; lft = [] }) T) T r v (with_slot_value r.now)
 
-  -- where there is no slot, the slab stays as it is
+  -- if there is no slot, the slab stays as it is
   abbrev pub RestsIfNotLive : MutBor (Slots T.Denot) → Option (Ref T.Denot) → Fml
   RestsIfNotLive s r = RestsIfNone (the_row T) s (λ slot. slot.slab.ghost_name) r (λ slots. slots ≡ s.now)

@@ -2,9 +2,8 @@
 ghost use Rattle.std.specs.Prelude.{◌≡◌};
 ghost use Rattle.op_slots.specs.Lifecycle.{IsCompleted, IsIgnored, after_complete, polled, after_poll, dropped, after_drop};
 
-/// Where an operation stands, with `R` for its result. A task is a number that its owner chose.
-///
-/// Ports monoio's `Lifecycle`. A clause sees the variants.
+/// How far an operation is, with `R` for its result (monoio: `Lifecycle`). A task is a number that its owner chose. A clause sees the
+/// variants.
 #[derive(Debug, Drop)]
 pub enum Lifecycle<R> {
     /// Submitted, and no task asked for its result since.
@@ -17,9 +16,7 @@ pub enum Lifecycle<R> {
     Completed(R),
 }
 
-/// What is to be done after an operation completed.
-///
-/// (own)
+/// What is to be done after an operation completed (not in monoio).
 #[derive(Clone, Copy, Debug, PartialEq, Eq)]
 pub enum AfterComplete {
     /// Nothing: the result is kept for the first task that asks.
@@ -30,9 +27,7 @@ pub enum AfterComplete {
     Free,
 }
 
-/// What is to be done after a task asked for a result.
-///
-/// (own)
+/// What is to be done after a task asked for a result (not in monoio).
 #[derive(Clone, Copy, Debug, PartialEq, Eq)]
 pub enum AfterPoll {
     /// Nothing: the task waits from now on.
@@ -41,22 +36,18 @@ pub enum AfterPoll {
     Take,
 }
 
-/// What is to be done after the owner of an operation dropped it.
-///
-/// (own)
+/// What is to be done after the owner of an operation dropped it (not in monoio).
 #[derive(Clone, Copy, Debug, PartialEq, Eq)]
 pub enum AfterDrop {
     /// Nothing: the slot stays until the operation completes.
     Left,
-    /// Free the slot: its result was there, and is given up.
+    /// Free the slot: its result was there, and is dropped.
     Free,
 }
 
 impl<R: Drop> Lifecycle<R> {
     /// Keeps the result of an operation that hasn't completed, and answers which task to wake, or that the slot is to be
-    /// freed, since the owner dropped it.
-    ///
-    /// Ports monoio's `complete` on a slot, which wakes the task and frees the slot itself.
+    /// freed, since the owner dropped it (monoio: `complete`, which wakes the task and frees the slot itself).
     pub fn complete(&mut self, r: R) -> AfterComplete
         requires { ¬ IsCompleted self.old }
         ensures state { self.new ≡ Lifecycle.Completed r }
@@ -71,9 +62,8 @@ impl<R: Drop> Lifecycle<R> {
         answer
     }
 
-    /// Asks for the result. Where there is none yet, `task` waits in place of any task that asked before.
-    ///
-    /// Ports monoio's `poll_op` on a slot, which takes the result out itself.
+    /// Asks for the result (monoio: `poll_op`, which takes it out itself). If there is none yet, `task` waits in place of any task that
+    /// asked before.
     pub fn poll(&mut self, task: u64) -> AfterPoll
         requires { ¬ IsIgnored self.old }
         ensures state { self.new ≡ polled self.old task }
@@ -88,9 +78,8 @@ impl<R: Drop> Lifecycle<R> {
         }
     }
 
-    /// The owner gives the operation up. Without a result it is ignored from then on; a result is to be freed with its slot.
-    ///
-    /// Ports monoio's `drop_op` on a slot, which frees the slot itself.
+    /// The owner drops the operation (monoio: `drop_op`, which frees the slot itself). Without a result it is ignored from then on; a
+    /// result is to be freed with its slot.
     pub fn drop_owner(&mut self) -> AfterDrop
         requires { ¬ IsIgnored self.old }
         ensures state { self.new ≡ dropped self.old }

@@ -16,7 +16,7 @@ mod ref_mut;
 mod search;
 
 use page::Page;
-use pages::first_key;
+use pages::{near_page_in, page_in};
 pub use pages::{NUM_PAGES, PAGE_INITIAL_SIZE, page_of};
 pub use ref_mut::Ref;
 use search::{NoPlace, make_place};
@@ -24,37 +24,31 @@ use std::alloc::Global;
 use std::marker::Model;
 use thiserror::Error;
 
-/// How many keys can be live, and the first number that is never a key.
-///
-/// From monoio's `Slab`, whose 26 pages have so many places.
+/// How many keys can be live, and the first number that is never a key (not in monoio, whose 26 pages have so many places too).
 pub const MAX_LIVE: usize = 4294967232;
 
-/// After so many removals the last page is given back, where it is empty and isn't page 0.
-///
-/// monoio: `COMPACT_INTERVAL`.
+/// After so many removals the last page is given back, if it is empty and isn't page 0 (monoio: `COMPACT_INTERVAL`).
 pub const COMPACT_INTERVAL: usize = 2048;
 
-/// Memory ran out, and nothing changed. Not in monoio.
+/// Memory ran out, and nothing changed (not in monoio, which aborts).
 #[derive(Clone, Copy, Debug, PartialEq, Eq, Error)]
 #[error("OutOfMemory")]
 pub struct OutOfMemory;
 
-/// Why a value was not put into a slab, with that value. The slab is as it was. Not in monoio.
+/// Why a value was not put into a slab, with that value (not in monoio, which panics or aborts). The slab is as it was.
 #[derive(Debug, Drop)]
 pub enum InsertError<T> {
     /// `MAX_LIVE` keys are live.
     Full(T),
-    /// Memory ran out. It doesn't come where there was room, and so not right after a `reserve_one` that was Ok.
+    /// Memory ran out. It doesn't come when there was room, and so not right after a `reserve_one` that was Ok.
     OutOfMemory(T),
 }
 
-/// Values at keys that the slab chooses, each below `MAX_LIVE`. A clause sees the map from keys to values, the room for more values,
-/// the number of pages, and how many values were taken out since the last page was looked at.
+/// Values at keys that the slab chooses, each below `MAX_LIVE` (monoio: `Slab`). A clause sees the map from keys to values, the room
+/// for more values, the number of pages, and how many values were taken out since the last page was looked at.
 ///
 /// A key lies on the page that `page_of` says. Page i has `64 << i` places, and its first key is `(64 << i) - 64`. Of a page the
 /// place that was emptied last is used first, else the first that was never used. A page gets memory as its places are used.
-///
-/// monoio: `Slab`.
 #[derive(Debug, Drop)]
 pub struct Slab<T> {
     pages: Vec<Page<T>>,
@@ -80,9 +74,7 @@ impl<T> Model for Slab<T> {
 }
 
 impl<T: Drop> Slab<T> {
-    /// An empty slab, whose memory comes from `alloc`. Takes none yet.
-    ///
-    /// monoio: `Slab::new`.
+    /// An empty slab, whose memory comes from `alloc` (monoio: `Slab::new`). It takes none yet.
     pub fn new(alloc: Global) -> Self
         ensures { result.values ≡ map.empty }
     {
@@ -94,9 +86,7 @@ impl<T: Drop> Slab<T> {
         }
     }
 
-    /// How many keys are live.
-    ///
-    /// monoio: `Slab::len`.
+    /// How many keys are live (monoio: `Slab::len`).
     pub fn len(&self) -> usize
         ensures count { result ≡ map.len self.now.values }
         ensures bound { result ≤ MAX_LIVE }
@@ -106,37 +96,38 @@ impl<T: Drop> Slab<T> {
         self.live
     }
 
-    /// How many pages there are: page 0 and those behind it. A new slab has none. Not in monoio.
+    /// How many pages there are: page 0 and those behind it (not in monoio). A new slab has none.
     pub fn page_count(&self) -> usize
         ensures { result ≡ self.now.pages }
     {
         self.pages.len()
     }
 
-    /// No key is live. Not in monoio.
+    /// Whether no key is live (not in monoio).
     pub fn is_empty(&self) -> bool
         ensures { IsTrue result ↔ (map.len self.now.values ≡ 0) }
     {
         self.len() == 0
     }
 
-    /// The key is live. Not in monoio.
+    /// Whether the key is live (not in monoio).
     pub fn contains(&self, key: usize) -> bool
         ensures { IsTrue result ↔ IsLive self.now key }
     {
         self.peek(key).is_some()
     }
 
-    /// The value at a key, and None exactly where the key isn't live. Not in monoio.
+    /// The value at a key, and None exactly when the key isn't live (not in monoio).
     pub fn peek(&self, key: usize) -> Option<&T>
         ensures value { option_copied result ≡ map.get self.now.values key }
         ensures below { OnSome result (key < MAX_LIVE) }
     {
-        let page = page_of(key);
-        if page < self.pages.len() {
-            self.pages[page].get(key - first_key(page))
-        } else {
-            None
+        match page_in(self.pages.len(), key) {
+            Some(at) => {
+                let page = &self.pages[at];
+                page.get(key - page.first_key())
+            }
+            None => None,
         }
     }
 
@@ -148,7 +139,7 @@ impl<T: Drop> Slab<T> {
         self.peek(key).unwrap()
     }
 
-    /// The value at a live key, to be changed. All else stays, the room too. Not in monoio.
+    /// The value at a live key, to be changed (not in monoio). All else stays, the room too.
     pub fn value_mut(&mut self, key: usize) -> &mut T
         requires { IsLive self.old key }
         ensures* writes_back { sem 𝓛 (LendsValue T.row self.entry key result) }
@@ -156,13 +147,11 @@ impl<T: Drop> Slab<T> {
         ensures below { key < MAX_LIVE }
     {
         let page = page_of(key);
-        let place = key - first_key(page);
-        self.pages[page].value_mut(place)
+        let first = self.pages[page].first_key();
+        self.pages[page].value_mut(key - first)
     }
 
-    /// Puts a value at a key that wasn't live, and answers the key.
-    ///
-    /// monoio: `Slab::insert`.
+    /// Puts a value at a key that wasn't live, and answers the key (monoio: `Slab::insert`).
     #[inline]
     pub fn insert(&mut self, val: T) -> Result<usize, InsertError<T>>
         ensures fresh { IfOk result (λ key. map.get self.old.values key ≡ None) }
@@ -178,20 +167,20 @@ impl<T: Drop> Slab<T> {
         ensures made { MakesPage self.old self.new }
         ensures removals { self.new.removals ≡ self.old.removals }
     {
-        match make_place(&mut self.pages, self.first) {
-            Ok(page) => {
-                let place = put_on(&mut self.pages, page, val);
+        match make_place(&mut self.pages, &mut self.first) {
+            Ok(()) => {
+                let begin = self.pages[self.first].first_key();
+                let place = put_on(&mut self.pages, self.first, val);
                 self.live += 1;
-                self.first = page;
-                Ok(first_key(page) + place)
+                Ok(begin + place)
             }
             Err(NoPlace::Full) => Err(InsertError::Full(val)),
             Err(NoPlace::OutOfMemory) => Err(InsertError::OutOfMemory(val)),
         }
     }
 
-    /// Takes the memory for one more value. The next `insert` doesn't answer `OutOfMemory`, if no call has changed the slab since. It
-    /// is also an error where `MAX_LIVE` keys are live. Not in monoio.
+    /// Takes the memory for one more value (not in monoio). The next `insert` doesn't answer `OutOfMemory`, if no call has changed the
+    /// slab since. It is also an error when `MAX_LIVE` keys are live.
     pub fn reserve_one(&mut self) -> Result<(), OutOfMemory>
         ensures values { self.new.values ≡ self.old.values }
         ensures ok { OnOk result (0 < self.new.room) }
@@ -201,23 +190,18 @@ impl<T: Drop> Slab<T> {
         ensures made { MakesPage self.old self.new }
         ensures removals { self.new.removals ≡ self.old.removals }
     {
-        match make_place(&mut self.pages, self.first) {
-            Ok(page) => {
-                self.first = page;
-                Ok(())
-            }
-            Err(_) => Err(OutOfMemory),
+        if make_place(&mut self.pages, &mut self.first).is_err() {
+            return Err(OutOfMemory);
         }
+        Ok(())
     }
 
-    /// Lends the slot of a key, and answers None exactly where the key isn't live.
-    ///
-    /// monoio: `Slab::get`.
+    /// Lends the slot of a key, and answers None exactly when the key isn't live (monoio: `Slab::get`).
     pub fn get(&mut self, key: usize) -> Option<Ref<'_, T>>
         ensures found { IsSome result ↔ IsLive self.old key }
         ensures below { OnSome result (key < MAX_LIVE) }
 
-        // The slot lends this slab, as it is. Where there is none the slab stays.
+        // The slot lends this slab, as it is. If there is none, the slab stays.
         ensures slot { IfSome result (λ slot. (slots_lent slot ≡ self.old) × (key_lent slot ≡ key)) }
         ensures same_slab { IfSome result (λ slot. (slab_lent slot).ghost_name ≡ self.entry.ghost_name) }
         ensures* rests { sem 𝓛 (RestsIfNotLive T.row self.entry result) }
@@ -229,10 +213,8 @@ impl<T: Drop> Slab<T> {
         }
     }
 
-    /// Takes out the value at a key, and answers None exactly where the key isn't live. Each 2048th removal gives the last page back,
-    /// if no key of it is live and it isn't page 0.
-    ///
-    /// monoio: `Slab::remove`.
+    /// Takes out the value at a key, and answers None exactly when the key isn't live (monoio: `Slab::remove`). Each 2048th removal
+    /// gives the last page back, if no key of it is live and it isn't page 0.
     pub fn remove(&mut self, key: usize) -> Option<T>
         ensures value { result ≡ map.get self.old.values key }
         ensures new { self.new.values ≡ map.remove self.old.values key }
@@ -243,12 +225,12 @@ impl<T: Drop> Slab<T> {
         ensures given { OnSome result (GivesBackPage self.old self.new → self.new.pages + 1 ≡ self.old.pages) }
         ensures kept { OnSome result (¬ GivesBackPage self.old self.new → self.new.pages ≡ self.old.pages) }
     {
-        let page = page_of(key);
-        if page >= self.pages.len() {
-            return None;
-        }
-        let place = key - first_key(page);
-        match take_from(&mut self.pages, page, place) {
+        let page = match near_page_in(self.pages.len(), key) {
+            Some(page) => page,
+            None => return None,
+        };
+        let first = self.pages[page].first_key();
+        match take_from(&mut self.pages, page, key - first) {
             None => None,
             Some(value) => {
                 self.live -= 1;
@@ -273,7 +255,7 @@ fn put_on<T: Drop>(pages: &mut Vec<Page<T>>, page: usize, val: T) -> usize
     pages[page].put(val)
 }
 
-// Takes the value out of a place of a page, and answers None where there is none.
+// Takes the value out of a place of a page, and answers None if there is none.
 fn take_from<T: Drop>(pages: &mut Vec<Page<T>>, page: usize, place: usize) -> Option<T>
     requires { page < vec_len pages.old }
     ensures some { IfSome result (λ value. TakesFrom pages.old.items page place value pages.new.items) }

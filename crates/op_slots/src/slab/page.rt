@@ -1,11 +1,11 @@
 //! A page of a slab: a fixed number of places, each empty or with a value.
-ghost use Rattle.std.specs.Prelude.{◌≡◌, ◌<◌, ◌↔◌, ◌≤◌, length, replicate, IsTrue, IsSome, OnOk, OnErr, Some, None, option_copied, slice_set};
+ghost use Rattle.std.specs.Prelude.{◌≡◌, ◌-◌, ◌<◌, ◌↔◌, ◌≤◌, length, replicate, IsTrue, IsSome, OnOk, OnErr, Some, None, option_copied, slice_set};
 ghost use Rattle.std.specs.Borrow.{Lends, sem};
 ghost use Rattle.op_slots.specs.Page.{at, taken, spare};
 ghost use Rattle.op_slots.specs.Entry.{value_of};
 ghost use Rattle.op_slots.specs.LendsPlace.{LendsPlace};
 
-use super::OutOfMemory;
+use super::{OutOfMemory, PAGE_INITIAL_SIZE};
 use std::alloc::Global;
 use std::marker::Model;
 use std::mem;
@@ -81,14 +81,23 @@ impl<T: Drop> Page<T> {
         }
     }
 
-    /// An empty place has memory.
+    /// The first key of the page in a slab: how many places it has beyond those of page 0.
+    pub fn first_key(&self) -> usize
+        requires { PAGE_INITIAL_SIZE ≤ length self.now.places }
+        ensures { result ≡ length self.now.places - PAGE_INITIAL_SIZE }
+    {
+        self.size - PAGE_INITIAL_SIZE
+    }
+
+    /// Whether an empty place has memory.
     pub fn has_memory(&self) -> bool
         ensures { IsTrue result ↔ (0 < spare self.now) }
     {
-        self.used < self.entries.capacity() && self.used < self.size
+        let count = self.entries.len();
+        self.next < count || (count < self.entries.capacity() && count < self.size)
     }
 
-    /// No place is empty.
+    /// Whether no place is empty.
     pub fn is_full(&self) -> bool
         ensures full { IsTrue result ↔ (taken self.now.places ≡ length self.now.places) }
         ensures within { taken self.now.places ≤ length self.now.places }
@@ -96,14 +105,14 @@ impl<T: Drop> Page<T> {
         self.used == self.size
     }
 
-    /// All places are empty.
+    /// Whether all places are empty.
     pub fn is_empty(&self) -> bool
         ensures { IsTrue result ↔ (taken self.now.places ≡ 0) }
     {
         self.used == 0
     }
 
-    /// The value of a place, and None where there is none.
+    /// The value of a place, and None if there is none.
     pub fn get(&self, place: usize) -> Option<&T>
         ensures { option_copied result ≡ at self.now.places place }
     {

@@ -5,9 +5,8 @@ ghost use Rattle.op_slots.specs.Slots.{IsLive, GivesBackPage};
 
 use super::{COMPACT_INTERVAL, Slab};
 
-/// A live slot of a slab, which is lent until this goes. A clause sees the slab's slots (`slots_lent`) and the key (`key_lent`).
-///
-/// monoio: `Ref`.
+/// A live slot of a slab, which is lent until this goes (monoio: `Ref`). A clause sees the slab's slots (`slots_lent`) and the key
+/// (`key_lent`).
 #[derive(Drop)]
 pub struct Ref<'a, T> {
     pub(super) slab: &'a mut Slab<T>,
@@ -19,18 +18,14 @@ impl<'a, T: Drop> Ref<'a, T> {
     ghost use Rattle.std.specs.Borrow.{sem};
     ghost use Rattle.op_slots.specs.Ref.{slots_lent, key_lent, LendsSlotValue};
 
-    /// The slot's value.
-    ///
-    /// monoio: `Ref::as_ref`.
+    /// The slot's value (monoio: `Ref::as_ref`).
     pub fn as_ref(&self) -> &T
         ensures { map.get (slots_lent self.now).values (key_lent self.now) ≡ Some result.now }
     {
         self.slab.value(self.key)
     }
 
-    /// The slot's value, to be changed. All else in the slab stays, its room too.
-    ///
-    /// monoio: `Ref::as_mut`.
+    /// The slot's value, to be changed (monoio: `Ref::as_mut`). All else in the slab stays, its room too.
     pub fn as_mut(&mut self) -> &mut T
         ensures* writes_back { sem 𝓛 (LendsSlotValue T.row self.entry result) }
         ensures value { map.get (slots_lent self.old).values (key_lent self.old) ≡ Some result.now }
@@ -39,9 +34,7 @@ impl<'a, T: Drop> Ref<'a, T> {
         self.slab.value_mut(key)
     }
 
-    /// Takes the value out, so that the key is no longer live. It is counted as a removal (`Slab::remove`).
-    ///
-    /// monoio: `Ref::remove`.
+    /// Takes the value out, so that the key is no longer live (monoio: `Ref::remove`). It is counted as a removal (`Slab::remove`).
     pub fn remove(self) -> T
         ensures value { map.get (slots_lent self.entry).values (key_lent self.entry) ≡ Some result }
         ensures new { self.exit.0.now.values ≡ map.remove (slots_lent self.entry).values (key_lent self.entry) }

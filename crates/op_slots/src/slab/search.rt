@@ -121,39 +121,48 @@ fn widen<T: Drop>(pages: &mut Vec<Page<T>>, first: usize) -> Result<usize, NoPla
     }
 }
 
-// The same, and where memory runs out any page that has an empty place with memory.
+// The same; if memory runs out, any page that has an empty place with memory. `first` names the page then.
 #[cold]
 #[inline(never)]
-fn search<T: Drop>(pages: &mut Vec<Page<T>>, first: usize) -> Result<usize, NoPlace>
+fn search<T: Drop>(pages: &mut Vec<Page<T>>, first: &mut usize) -> Result<(), NoPlace>
     requires few { vec_len pages.old ≤ NUM_PAGES }
-    requires search { first ≤ vec_len pages.old - 1 }
-    ensures ok { IfOk result (FindsPlace pages.old.items pages.new.items) }
+    requires search { first.old ≤ vec_len pages.old - 1 }
+    ensures ok { OnOk result (FindsPlace pages.old.items pages.new.items first.new) }
     ensures why { IfErr result (WhyNoPlace pages.old.items) }
     ensures err { OnErr result (pages.new.items ≡ pages.old.items) }
+    ensures same { OnErr result (first.new ≡ first.old) }
     ensures room { OnErr result (room_in pages.old.items ≡ 0) }
 {
-    match widen(pages, first) {
-        Ok(page) => Ok(page),
+    match widen(pages, *first) {
+        Ok(page) => {
+            *first = page;
+            Ok(())
+        }
         Err(NoPlace::Full) => Err(NoPlace::Full),
         Err(NoPlace::OutOfMemory) => match ready_page(pages) {
-            Some(page) => Ok(page),
+            Some(page) => {
+                *first = page;
+                Ok(())
+            }
             None => Err(NoPlace::OutOfMemory),
         },
     }
 }
 
 /// Finds the page for the next value, and sees that it has an empty place with memory: the first page from `first` on that has an
-/// empty place, else a new page, else an earlier one. Where memory runs out it is any page that has an empty place with memory.
-pub fn make_place<T: Drop>(pages: &mut Vec<Page<T>>, first: usize) -> Result<usize, NoPlace>
+/// empty place, else a new page, else an earlier one. If memory runs out, it is any page that has an empty place with memory.
+/// `first` names that page then.
+pub fn make_place<T: Drop>(pages: &mut Vec<Page<T>>, first: &mut usize) -> Result<(), NoPlace>
     requires few { vec_len pages.old ≤ NUM_PAGES }
-    requires search { first ≤ vec_len pages.old - 1 }
-    ensures ok { IfOk result (FindsPlace pages.old.items pages.new.items) }
+    requires search { first.old ≤ vec_len pages.old - 1 }
+    ensures ok { OnOk result (FindsPlace pages.old.items pages.new.items first.new) }
     ensures why { IfErr result (WhyNoPlace pages.old.items) }
     ensures err { OnErr result (pages.new.items ≡ pages.old.items) }
+    ensures same { OnErr result (first.new ≡ first.old) }
     ensures room { OnErr result (room_in pages.old.items ≡ 0) }
 {
-    if first < pages.len() && pages[first].has_memory() {
-        return Ok(first);
+    if *first < pages.len() && pages[*first].has_memory() {
+        return Ok(());
     }
     search(pages, first)
 }

@@ -4,7 +4,7 @@ use super::Slab;
 use std::test::Fail;
 use std::time::CpuClock;
 
-// How many values are live where keys are chosen at random.
+// How many values are live when keys are chosen at random.
 const LIVE: u64 = 1_000;
 
 // How often each kind of turn is made.

@@ -1,4 +1,4 @@
-//! That the calls succeed where memory is at hand, which places are used again, when a page is given back, and the text of an error.
+//! That the calls succeed with memory at hand, which places are used again, when a page is given back, and the text of an error.
 use super::{COMPACT_INTERVAL, OutOfMemory, Slab, page_of};
 use std::test::Fail;
 

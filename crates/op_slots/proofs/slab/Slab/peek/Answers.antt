@@ -1,24 +1,33 @@
-use Rattle.std.proofs.Common.{sym, ap, ◌∙◌, arith}
+use Rattle.std.proofs.Common.{◌<◌, length, sym, ap, ◌∙◌, arith}
 use Rattle.std.specs.FinMap.{get}
-use Rattle.op_slots.proofs.Kept.{peek-at, peek-past, on_copied, live-within}
+use Rattle.op_slots.proofs.Pages.{page_of-first}
+use Rattle.op_slots.proofs.Kept.{large-at, begin-at, peek-at, peek-off}
 use Rattle.op_slots.proofs.slab.Slab.peek.Goals as goal
 
-pub returns-then-page-len-clause-value : goal.returns-then-page-len-clause-value
-returns-then-page-len-clause-value g c =
+pub first_key-requires : goal.first_key-requires
+first_key-requires g c =
+    let within : c.in-Some.at < length c.self.inside.pages.items = omega (arith, c.in-Some.ensures.some.1) in
+    large-at _ _ c.index-page.result.now c.self.invariant.sized within c.index-page.ensures
+
+pub overflow_sub-key : goal.overflow_sub-key
+overflow_sub-key g c =
+    let within : c.in-Some.at < length c.self.inside.pages.items = omega (arith, c.in-Some.ensures.some.1) in
+    let begin = begin-at _ _ _ c.index-page.result.now c.self.invariant.sized within c.index-page.ensures c.first_key.ensures in
+    rw (begin, c.in-Some.ensures.some.0) (page_of-first c.args.key (omega (arith, c.ranges.key)))
+
+pub returns-in-Some-clause-value : goal.returns-in-Some-clause-value
+returns-in-Some-clause-value g c =
+    let within : c.in-Some.at < length c.self.inside.pages.items = omega (arith, c.in-Some.ensures.some.1) in
+    let begin = begin-at _ _ _ c.index-page.result.now c.self.invariant.sized within c.index-page.ensures c.first_key.ensures in
     c.get.ensures
-    ∙ peek-at c.self.inside.pages.items _ _ c.self.inside.removals c.args.key c.page_of-page.result c.first_key.result c.index.result.now
-    c.self.invariant (omega (arith, c.ranges.key)) c.page_of-page.ensures.rule c.first_key.ensures (omega arith) c.index.ensures
+    ∙ peek-at c.self.inside.pages.items _ _ c.self.inside.removals c.args.key c.in-Some.at _ c.index-page.result.now
+    c.self.invariant (omega (arith, c.ranges.key)) c.in-Some.ensures.some.0 begin within c.index-page.ensures
     ∙ ap (λ s. get s.values c.args.key) c.self.view_is
 
-pub returns-then-page-len-clause-below : goal.returns-then-page-len-clause-below
-returns-then-page-len-clause-below g c =
-    on_copied c.get.result _ (returns-then-page-len-clause-value g c
-    ∙ sym (ap (λ s. get s.values c.args.key) c.self.view_is)) (λ live. (live-within _ _ _ _ c.args.key c.self.invariant live).0)
-
-pub returns-else-page-len-clause-value : goal.returns-else-page-len-clause-value
-returns-else-page-len-clause-value g c =
-    sym (peek-past c.self.inside.pages.items _ _ c.self.inside.removals c.args.key c.page_of-page.result c.self.invariant (omega (
+pub returns-in-None-clause-value : goal.returns-in-None-clause-value
+returns-in-None-clause-value g c =
+    sym (peek-off c.self.inside.pages.items _ _ c.self.inside.removals c.args.key c.len.result c.self.invariant (omega (
       arith,
       c.ranges.key,
-    )) c.page_of-page.ensures.rule (omega arith))
+    )) (omega arith) c.in-None.ensures.none)
     ∙ ap (λ s. get s.values c.args.key) c.self.view_is

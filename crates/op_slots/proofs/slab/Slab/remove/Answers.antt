@@ -1,100 +1,130 @@
-use Rattle.std.proofs.Common.{sym, arith}
+use Rattle.std.proofs.Common.{◌<◌, length, sym, arith}
+use Rattle.op_slots.proofs.Pages.{page_of-first}
 use Rattle.op_slots.proofs.Places.{map-absent}
-use Rattle.op_slots.proofs.Kept.{peek-past, peek-none}
+use Rattle.op_slots.proofs.Kept.{large-at, begin-at, peek-off, peek-none}
 use Rattle.op_slots.proofs.Removing.{removed, removed-kept, looked}
 use Rattle.op_slots.proofs.slab.Slab.remove.Goals as goal
 
-pub returns-then-page-len-clause-value : goal.returns-then-page-len-clause-value
-returns-then-page-len-clause-value g c =
-    let absent = peek-past c.self.inside.pages.items _ _ c.self.inside.removals c.args.key c.page_of-page.result c.self.invariant
-    (omega (arith, c.ranges.key)) c.page_of-page.ensures.rule (omega arith) in
+pub returns-in-None-clause-value : goal.returns-in-None-clause-value
+returns-in-None-clause-value g c =
+    let absent = peek-off c.self.inside.pages.items _ _ c.self.inside.removals c.args.key c.len.result c.self.invariant (omega (
+      arith,
+      c.ranges.key,
+    )) (omega arith) c.in-None.ensures.none in
     rw (← c.self.view_is) (sym absent)
 
-pub returns-then-page-len-clause-new : goal.returns-then-page-len-clause-new
-returns-then-page-len-clause-new g c =
-    let absent = peek-past c.self.inside.pages.items _ _ c.self.inside.removals c.args.key c.page_of-page.result c.self.invariant
-    (omega (arith, c.ranges.key)) c.page_of-page.ensures.rule (omega arith) in
+pub returns-in-None-clause-new : goal.returns-in-None-clause-new
+returns-in-None-clause-new g c =
+    let absent = peek-off c.self.inside.pages.items _ _ c.self.inside.removals c.args.key c.len.result c.self.invariant (omega (
+      arith,
+      c.ranges.key,
+    )) (omega arith) c.in-None.ensures.none in
     rw (← c.self.view_is) (sym (map-absent _ _ absent))
+
+pub first_key-first-requires : goal.first_key-first-requires
+first_key-first-requires g c =
+    let within : c.in-Some.page < length c.self.inside.pages.items = omega (arith, c.in-Some.ensures.some.1) in
+    large-at _ _ c.index.result.now c.self.invariant.sized within c.index.ensures
+
+pub overflow_sub-key : goal.overflow_sub-key
+overflow_sub-key g c =
+    let within : c.in-Some.page < length c.self.inside.pages.items = omega (arith, c.in-Some.ensures.some.1) in
+    let begin = begin-at _ _ _ c.index.result.now c.self.invariant.sized within c.index.ensures c.first_key-first.ensures in
+    rw (begin, c.in-Some.ensures.some.0) (page_of-first c.args.key (omega (arith, c.ranges.key)))
 
 pub overflow_sub-self : goal.overflow_sub-self
 overflow_sub-self g c =
-    let r = removed _ _ _ _ _ c.args.key c.page_of-page.result c.first_key.result c.in-Some.value c.self.invariant (omega (
+    let within : c.in-Some.page < length c.self.inside.pages.items = omega (arith, c.in-Some.ensures.some.1) in
+    let begin = begin-at _ _ _ c.index.result.now c.self.invariant.sized within c.index.ensures c.first_key-first.ensures in
+    let r = removed _ _ _ _ _ c.args.key c.in-Some.page _ c.in-Some-take_from.value c.self.invariant (omega (
       arith,
       c.ranges.key,
-    )) c.page_of-page.ensures.rule c.first_key.ensures c.in-Some.ensures.some in
+    )) c.in-Some.ensures.some.0 begin c.in-Some-take_from.ensures.some in
     r.some
 
 pub invariant_of-self-then-self-lt-COMPACT_INTERVAL : goal.invariant_of-self-then-self-lt-COMPACT_INTERVAL
 invariant_of-self-then-self-lt-COMPACT_INTERVAL g c =
-    let r = removed _ _ _ _ _ c.args.key c.page_of-page.result c.first_key.result c.in-Some.value c.self.invariant (omega (
+    let within : c.in-Some.page < length c.self.inside.pages.items = omega (arith, c.in-Some.ensures.some.1) in
+    let begin = begin-at _ _ _ c.index.result.now c.self.invariant.sized within c.index.ensures c.first_key-first.ensures in
+    let r = removed _ _ _ _ _ c.args.key c.in-Some.page _ c.in-Some-take_from.value c.self.invariant (omega (
       arith,
       c.ranges.key,
-    )) c.page_of-page.ensures.rule c.first_key.ensures c.in-Some.ensures.some in
+    )) c.in-Some.ensures.some.0 begin c.in-Some-take_from.ensures.some in
     removed-kept _ _ _ _ _ _ _ c.self.invariant r (omega arith)
 
 pub returns-then-self-lt-COMPACT_INTERVAL-clause-value : goal.returns-then-self-lt-COMPACT_INTERVAL-clause-value
 returns-then-self-lt-COMPACT_INTERVAL-clause-value g c =
-    let r = removed _ _ _ _ _ c.args.key c.page_of-page.result c.first_key.result c.in-Some.value c.self.invariant (omega (
+    let within : c.in-Some.page < length c.self.inside.pages.items = omega (arith, c.in-Some.ensures.some.1) in
+    let begin = begin-at _ _ _ c.index.result.now c.self.invariant.sized within c.index.ensures c.first_key-first.ensures in
+    let r = removed _ _ _ _ _ c.args.key c.in-Some.page _ c.in-Some-take_from.value c.self.invariant (omega (
       arith,
       c.ranges.key,
-    )) c.page_of-page.ensures.rule c.first_key.ensures c.in-Some.ensures.some in
+    )) c.in-Some.ensures.some.0 begin c.in-Some-take_from.ensures.some in
     rw (← c.self.view_is) (sym r.value)
 
 pub returns-then-self-lt-COMPACT_INTERVAL-clause-new : goal.returns-then-self-lt-COMPACT_INTERVAL-clause-new
 returns-then-self-lt-COMPACT_INTERVAL-clause-new g c =
-    let r = removed _ _ _ _ _ c.args.key c.page_of-page.result c.first_key.result c.in-Some.value c.self.invariant (omega (
+    let within : c.in-Some.page < length c.self.inside.pages.items = omega (arith, c.in-Some.ensures.some.1) in
+    let begin = begin-at _ _ _ c.index.result.now c.self.invariant.sized within c.index.ensures c.first_key-first.ensures in
+    let r = removed _ _ _ _ _ c.args.key c.in-Some.page _ c.in-Some-take_from.value c.self.invariant (omega (
       arith,
       c.ranges.key,
-    )) c.page_of-page.ensures.rule c.first_key.ensures c.in-Some.ensures.some in
+    )) c.in-Some.ensures.some.0 begin c.in-Some-take_from.ensures.some in
     rw (← c.self.view_is) r.values
 
 pub returns-then-self-lt-COMPACT_INTERVAL-clause-below : goal.returns-then-self-lt-COMPACT_INTERVAL-clause-below
 returns-then-self-lt-COMPACT_INTERVAL-clause-below g c =
-    let r = removed _ _ _ _ _ c.args.key c.page_of-page.result c.first_key.result c.in-Some.value c.self.invariant (omega (
-      arith,
-      c.ranges.key,
-    )) c.page_of-page.ensures.rule c.first_key.ensures c.in-Some.ensures.some in
-    r.below
+    c.in-Some.ensures.some.2
 
-pub invariant_of-self-in-Some : goal.invariant_of-self-in-Some
-invariant_of-self-in-Some g c =
-    let r = removed _ _ _ _ _ c.args.key c.page_of-page.result c.first_key.result c.in-Some.value c.self.invariant (omega (
+pub invariant_of-self-in-Some-take_from : goal.invariant_of-self-in-Some-take_from
+invariant_of-self-in-Some-take_from g c =
+    let within : c.in-Some.page < length c.self.inside.pages.items = omega (arith, c.in-Some.ensures.some.1) in
+    let begin = begin-at _ _ _ c.index.result.now c.self.invariant.sized within c.index.ensures c.first_key-first.ensures in
+    let r = removed _ _ _ _ _ c.args.key c.in-Some.page _ c.in-Some-take_from.value c.self.invariant (omega (
       arith,
       c.ranges.key,
-    )) c.page_of-page.ensures.rule c.first_key.ensures c.in-Some.ensures.some in
-    let l = looked _ _ _ _ _ _ c.args.key c.in-Some.value c.self.invariant r (omega (
+    )) c.in-Some.ensures.some.0 begin c.in-Some-take_from.ensures.some in
+    let l = looked _ _ _ _ _ _ c.args.key c.in-Some-take_from.value c.self.invariant r (omega (
       arith,
       c.self.invariant.interval,
     )) c.give_back.ensures in
     l.kept
 
-pub returns-in-None-clause-value : goal.returns-in-None-clause-value
-returns-in-None-clause-value g c =
-    let absent = peek-none c.self.inside.pages.items _ _ c.self.inside.removals c.args.key c.page_of-page.result c.first_key.result
-    c.self.invariant (omega (arith, c.ranges.key)) c.page_of-page.ensures.rule c.first_key.ensures c.in-None.ensures.none in
+pub returns-in-None-take_from-clause-value : goal.returns-in-None-take_from-clause-value
+returns-in-None-take_from-clause-value g c =
+    let within : c.in-Some.page < length c.self.inside.pages.items = omega (arith, c.in-Some.ensures.some.1) in
+    let begin = begin-at _ _ _ c.index.result.now c.self.invariant.sized within c.index.ensures c.first_key-first.ensures in
+    let absent = peek-none c.self.inside.pages.items _ _ c.self.inside.removals c.args.key c.in-Some.page _ c.self.invariant
+    (omega (arith, c.ranges.key)) c.in-Some.ensures.some.0 begin c.in-None-take_from.ensures.none in
     rw (← c.self.view_is) (sym absent)
 
-pub returns-in-None-clause-new : goal.returns-in-None-clause-new
-returns-in-None-clause-new g c =
-    let absent = peek-none c.self.inside.pages.items _ _ c.self.inside.removals c.args.key c.page_of-page.result c.first_key.result
-    c.self.invariant (omega (arith, c.ranges.key)) c.page_of-page.ensures.rule c.first_key.ensures c.in-None.ensures.none in
-    rw (← c.self.view_is, c.in-None.ensures.same) (sym (map-absent _ _ absent))
+pub returns-in-None-take_from-clause-new : goal.returns-in-None-take_from-clause-new
+returns-in-None-take_from-clause-new g c =
+    let within : c.in-Some.page < length c.self.inside.pages.items = omega (arith, c.in-Some.ensures.some.1) in
+    let begin = begin-at _ _ _ c.index.result.now c.self.invariant.sized within c.index.ensures c.first_key-first.ensures in
+    let absent = peek-none c.self.inside.pages.items _ _ c.self.inside.removals c.args.key c.in-Some.page _ c.self.invariant
+    (omega (arith, c.ranges.key)) c.in-Some.ensures.some.0 begin c.in-None-take_from.ensures.none in
+    rw (← c.self.view_is, c.in-None-take_from.ensures.same) (sym (map-absent _ _ absent))
 
 pub returns-else-self-lt-COMPACT_INTERVAL-clause-value : goal.returns-else-self-lt-COMPACT_INTERVAL-clause-value
 returns-else-self-lt-COMPACT_INTERVAL-clause-value g c =
-    let r = removed _ _ _ _ _ c.args.key c.page_of-page.result c.first_key.result c.in-Some.value c.self.invariant (omega (
+    let within : c.in-Some.page < length c.self.inside.pages.items = omega (arith, c.in-Some.ensures.some.1) in
+    let begin = begin-at _ _ _ c.index.result.now c.self.invariant.sized within c.index.ensures c.first_key-first.ensures in
+    let r = removed _ _ _ _ _ c.args.key c.in-Some.page _ c.in-Some-take_from.value c.self.invariant (omega (
       arith,
       c.ranges.key,
-    )) c.page_of-page.ensures.rule c.first_key.ensures c.in-Some.ensures.some in
+    )) c.in-Some.ensures.some.0 begin c.in-Some-take_from.ensures.some in
     rw (← c.self.view_is) (sym r.value)
 
 pub returns-else-self-lt-COMPACT_INTERVAL-clause-new : goal.returns-else-self-lt-COMPACT_INTERVAL-clause-new
 returns-else-self-lt-COMPACT_INTERVAL-clause-new g c =
-    let r = removed _ _ _ _ _ c.args.key c.page_of-page.result c.first_key.result c.in-Some.value c.self.invariant (omega (
+    let within : c.in-Some.page < length c.self.inside.pages.items = omega (arith, c.in-Some.ensures.some.1) in
+    let begin = begin-at _ _ _ c.index.result.now c.self.invariant.sized within c.index.ensures c.first_key-first.ensures in
+    let r = removed _ _ _ _ _ c.args.key c.in-Some.page _ c.in-Some-take_from.value c.self.invariant (omega (
       arith,
       c.ranges.key,
-    )) c.page_of-page.ensures.rule c.first_key.ensures c.in-Some.ensures.some in
-    let l = looked _ _ _ _ _ _ c.args.key c.in-Some.value c.self.invariant r (omega (
+    )) c.in-Some.ensures.some.0 begin c.in-Some-take_from.ensures.some in
+    let l = looked _ _ _ _ _ _ c.args.key c.in-Some-take_from.value c.self.invariant r (omega (
       arith,
       c.self.invariant.interval,
     )) c.give_back.ensures in
@@ -102,19 +132,17 @@ returns-else-self-lt-COMPACT_INTERVAL-clause-new g c =
 
 pub returns-else-self-lt-COMPACT_INTERVAL-clause-below : goal.returns-else-self-lt-COMPACT_INTERVAL-clause-below
 returns-else-self-lt-COMPACT_INTERVAL-clause-below g c =
-    let r = removed _ _ _ _ _ c.args.key c.page_of-page.result c.first_key.result c.in-Some.value c.self.invariant (omega (
-      arith,
-      c.ranges.key,
-    )) c.page_of-page.ensures.rule c.first_key.ensures c.in-Some.ensures.some in
-    r.below
+    c.in-Some.ensures.some.2
 
 pub returns-else-self-lt-COMPACT_INTERVAL-clause-given : goal.returns-else-self-lt-COMPACT_INTERVAL-clause-given
 returns-else-self-lt-COMPACT_INTERVAL-clause-given g c =
-    let r = removed _ _ _ _ _ c.args.key c.page_of-page.result c.first_key.result c.in-Some.value c.self.invariant (omega (
+    let within : c.in-Some.page < length c.self.inside.pages.items = omega (arith, c.in-Some.ensures.some.1) in
+    let begin = begin-at _ _ _ c.index.result.now c.self.invariant.sized within c.index.ensures c.first_key-first.ensures in
+    let r = removed _ _ _ _ _ c.args.key c.in-Some.page _ c.in-Some-take_from.value c.self.invariant (omega (
       arith,
       c.ranges.key,
-    )) c.page_of-page.ensures.rule c.first_key.ensures c.in-Some.ensures.some in
-    let l = looked _ _ _ _ _ _ c.args.key c.in-Some.value c.self.invariant r (omega (
+    )) c.in-Some.ensures.some.0 begin c.in-Some-take_from.ensures.some in
+    let l = looked _ _ _ _ _ _ c.args.key c.in-Some-take_from.value c.self.invariant r (omega (
       arith,
       c.self.invariant.interval,
     )) c.give_back.ensures in
@@ -122,11 +150,13 @@ returns-else-self-lt-COMPACT_INTERVAL-clause-given g c =
 
 pub returns-else-self-lt-COMPACT_INTERVAL-clause-kept : goal.returns-else-self-lt-COMPACT_INTERVAL-clause-kept
 returns-else-self-lt-COMPACT_INTERVAL-clause-kept g c =
-    let r = removed _ _ _ _ _ c.args.key c.page_of-page.result c.first_key.result c.in-Some.value c.self.invariant (omega (
+    let within : c.in-Some.page < length c.self.inside.pages.items = omega (arith, c.in-Some.ensures.some.1) in
+    let begin = begin-at _ _ _ c.index.result.now c.self.invariant.sized within c.index.ensures c.first_key-first.ensures in
+    let r = removed _ _ _ _ _ c.args.key c.in-Some.page _ c.in-Some-take_from.value c.self.invariant (omega (
       arith,
       c.ranges.key,
-    )) c.page_of-page.ensures.rule c.first_key.ensures c.in-Some.ensures.some in
-    let l = looked _ _ _ _ _ _ c.args.key c.in-Some.value c.self.invariant r (omega (
+    )) c.in-Some.ensures.some.0 begin c.in-Some-take_from.ensures.some in
+    let l = looked _ _ _ _ _ _ c.args.key c.in-Some-take_from.value c.self.invariant r (omega (
       arith,
       c.self.invariant.interval,
     )) c.give_back.ensures in

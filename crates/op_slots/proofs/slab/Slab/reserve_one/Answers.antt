@@ -1,14 +1,23 @@
-use Rattle.op_slots.proofs.Inserting.{reserved}
+use Rattle.std.proofs.Common.{sym, ◌∙◌}
+use Rattle.op_slots.proofs.Inserting.{reserved_ok}
 use Rattle.op_slots.proofs.slab.Slab.reserve_one.Goals as goal
 
-pub invariant_of-self : goal.invariant_of-self
-invariant_of-self g c = (reserved _ _ _ _ _ _ c.self.invariant c.in-Ok.ensures.ok).kept
+pub invariant_of-self-2 : goal.invariant_of-self-2
+invariant_of-self-2 g c =
+    (reserved_ok _ _ c.make_place.new.pages.items _ _ _ c.make_place.new.first c.self.invariant
+    (sym c.is_err.ensures.value ∙ c.if-is_err.false) c.make_place.ensures.ok).kept
 
-pub returns-in-Ok-clause-values : goal.returns-in-Ok-clause-values
-returns-in-Ok-clause-values g c = rw (← c.self.view_is) (reserved _ _ _ _ _ _ c.self.invariant c.in-Ok.ensures.ok).values
+pub returns-clause-values : goal.returns-clause-values
+returns-clause-values g c = rw (← c.self.view_is)
+    (reserved_ok _ _ c.make_place.new.pages.items _ _ _ c.make_place.new.first c.self.invariant
+    (sym c.is_err.ensures.value ∙ c.if-is_err.false) c.make_place.ensures.ok).values
 
-pub returns-in-Ok-clause-ok : goal.returns-in-Ok-clause-ok
-returns-in-Ok-clause-ok g c = (reserved _ _ _ _ _ _ c.self.invariant c.in-Ok.ensures.ok).room
+pub returns-clause-ok : goal.returns-clause-ok
+returns-clause-ok g c =
+    (reserved_ok _ _ c.make_place.new.pages.items _ _ _ c.make_place.new.first c.self.invariant
+    (sym c.is_err.ensures.value ∙ c.if-is_err.false) c.make_place.ensures.ok).room
 
-pub returns-in-Ok-clause-made : goal.returns-in-Ok-clause-made
-returns-in-Ok-clause-made g c = rw (← c.self.view_is) (reserved _ _ _ _ _ _ c.self.invariant c.in-Ok.ensures.ok).made
+pub returns-clause-made : goal.returns-clause-made
+returns-clause-made g c = rw (← c.self.view_is)
+    (reserved_ok _ _ c.make_place.new.pages.items _ _ _ c.make_place.new.first c.self.invariant
+    (sym c.is_err.ensures.value ∙ c.if-is_err.false) c.make_place.ensures.ok).made
