@@ -3,5 +3,7 @@ pub mod Fronts
 pub mod Lines
 pub mod Pieces
 pub mod Rests
+pub mod Scatters
 pub mod Sends
+pub mod SingleParts
 pub mod Texts

@@ -3,11 +3,13 @@ pub mod Counts
 pub mod FileAt
 pub mod ItemSink
 pub mod MemSource
+pub mod PartRoom
 pub mod Polls
 pub mod ReadExact
 pub mod ReadLine
 pub mod ReadNumber
 pub mod ReadUntil
+pub mod ReadVectoredExact
 pub mod Reader
 pub mod Scripted
 pub mod Sink

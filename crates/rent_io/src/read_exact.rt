@@ -1,7 +1,7 @@
 // A read that fills its buffer.
 ghost use Rattle.std.specs.Prelude.{◌≡◌, ◌+◌, ◌<◌, ◌≤◌};
 ghost use Rattle.rent_io.specs.Counts.{AfterCall};
-ghost use Rattle.rent_io.specs.ReadExact.{Filling, ReadsExact};
+ghost use Rattle.rent_io.specs.ReadExact.{ReadsExact, filling};
 
 use crate::async_read_rent::AsyncReadRent;
 use crate::calls::{Plain, ReadCall};
@@ -25,7 +25,7 @@ impl<T: IoBufMut> Model for ReadExact<T> {
 
     ghost Value = { Filling };
 
-    ghost view = { λ s. record { buffer = T.buffer s.buf; under = T.under s.buf; filled = s.filled } };
+    ghost view = { λ s. record { buffer = T.buffer s.buf; under = T.under s.buf; beside = T.beside s.buf; filled = s.filled } };
 
     ghost invariant = { λ s. (s.filled ≤ room (T.buffer s.buf)) × (s.filled ≤ length (shown (T.buffer s.buf))) };
 }
@@ -33,7 +33,7 @@ impl<T: IoBufMut> Model for ReadExact<T> {
 impl<T: IoBufMut> ReadExact<T> {
     /// A read that fills this buffer's range from its start.
     pub fn new(buf: T) -> ReadExact<T>
-        ensures { result ≡ record { buffer = T.buffer buf; under = T.under buf; filled = 0 } }
+        ensures { result ≡ filling (T.buffer buf) (T.under buf) (T.beside buf) }
     {
         ReadExact { buf, filled: 0 }
     }
@@ -46,7 +46,7 @@ impl<T: IoBufMut> ReadExact<T> {
         io: &mut A,
         task: u64,
     ) -> Step<ReadExact<T>, BufResult<usize, T>>
-        ensures answer { ReadsExact A.tells (A.reader io.old) (A.reader io.new) T.buffer T.under self result }
+        ensures answer { ReadsExact A.tells (A.reader io.old) (A.reader io.new) T.buffer T.under T.beside self result }
         ensures counts { AfterCall (A.reader io.old).counts (A.reader io.new).counts }
     {
         self.poll_by(io, &Plain, task)
@@ -59,7 +59,7 @@ impl<T: IoBufMut> ReadExact<T> {
         call: &C,
         task: u64,
     ) -> Step<ReadExact<T>, BufResult<usize, T>>
-        ensures answer { ReadsExact A.tells (A.reader io.old) (A.reader io.new) T.buffer T.under self result }
+        ensures answer { ReadsExact A.tells (A.reader io.old) (A.reader io.new) T.buffer T.under T.beside self result }
         ensures counts { AfterCall (A.reader io.old).counts (A.reader io.new).counts }
     {
         let ReadExact { buf, filled } = self;
