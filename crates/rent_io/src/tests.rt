@@ -166,7 +166,9 @@ fn a_vector_is_written_part_by_part(rt: HostRuntime) -> Result<(), Fail> {
     if !Ranges::read_fits(&parts) {
         return Err(Fail::from("too long"));
     }
-    let mut state = io.write_vectored_all(parts);
+    let Ok(mut state) = io.write_vectored_all(parts) else {
+        return Err(Fail::from("out of memory"));
+    };
     for _ in 0..9 {
         match state.poll(&mut io, 0) {
             Step::Ready((outcome, _)) => {

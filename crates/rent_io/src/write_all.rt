@@ -1,7 +1,7 @@
 // A write of all bytes of a buffer.
 ghost use Rattle.std.specs.Prelude.{◌≡◌, ◌+◌, ◌<◌, ◌≤◌, length, drop};
 ghost use Rattle.rent_io.specs.Counts.{AfterCall};
-ghost use Rattle.rent_io.specs.WriteAll.{Sending, WritesAll};
+ghost use Rattle.rent_io.specs.WriteAll.{WritesAll, sending};
 ghost use Rattle.rent_io.specs.Writer.{EndsStay};
 
 use crate::async_write_rent::AsyncWriteRent;
@@ -33,7 +33,7 @@ impl<T: IoBuf> Model for WriteAll<T> {
 impl<T: IoBuf> WriteAll<T> {
     /// A write of this buffer's bytes.
     pub fn new(buf: T) -> WriteAll<T>
-        ensures { result ≡ record { buf = buf; rest = T.content buf; total = length (T.content buf) } }
+        ensures { result ≡ sending buf (T.content buf) }
     {
         WriteAll { buf, sent: 0 }
     }
