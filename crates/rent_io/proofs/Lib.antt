@@ -1,3 +1,4 @@
+pub mod ExactRuns
 pub mod FirstParts
 pub mod Fronts
 pub mod Lines
@@ -6,4 +7,5 @@ pub mod Rests
 pub mod Scatters
 pub mod Sends
 pub mod SingleParts
+pub mod Stored
 pub mod Texts

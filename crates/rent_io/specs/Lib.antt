@@ -11,6 +11,7 @@ pub mod ReadNumber
 pub mod ReadUntil
 pub mod ReadVectoredExact
 pub mod Reader
+pub mod Runs
 pub mod Scripted
 pub mod Sink
 pub mod Source

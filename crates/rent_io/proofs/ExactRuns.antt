@@ -1,0 +1,123 @@
+-- Polls of an exact read, one behind the other.
+use Rattle.std.proofs.Common.{◌≡◌, ◌∙◌, ℕ, ◌+◌, ◌-◌, ◌<◌, ◌≤◌, ◌⊎◌, inl, inr, List, [], ◌++◌, Bool, length, take, drop, refl, sym, ap, subst, arith}
+use Rattle.std.proofs.Common.{add-zero, append_assoc, append-nil, length-append}
+use Rattle.std.specs.Prelude.{IsTrue, Result, Ok, Err}
+use Rattle.std.proofs.lemmas.List.{length-take, length-drop}
+use Rattle.rent_buf.specs.Buffer.{Buffer, BufferBounds, room, put, shown}
+use Rattle.rent_buf.specs.declared.fault.IoFault.{IoFault}
+use Rattle.rent_io.specs.Counts.{Counts, AfterCall, Rose}
+use Rattle.rent_io.specs.Reader.{Reader, WasFront}
+use Rattle.rent_io.specs.ReadExact.{Filling, lacks, with_more, filled_with, GoesOn, IsFilled, EndsEarly, IsExactEnd, Paused}
+use Rattle.rent_io.specs.Runs.{AfterCalls, HasFilled, StopsFilling, ExactRunEnd}
+use Rattle.rent_io.proofs.Stored.{more_twice, filled_twice, nothing_behind, room_more}
+
+-- Before any poll nothing was called.
+pub no_calls : (counts : Counts) → AfterCalls 0 counts counts
+no_calls counts = record { faults_stay = omega arith; pauses_stay = omega arith; most_calls = omega arith }
+
+-- One call more.
+pub one_more : (i most : ℕ) (before mid now : Counts) → i + 1 ≤ most → AfterCalls i before mid → AfterCall mid now → AfterCalls most before now
+one_more i most before mid now less calls call = record {
+  faults_stay = omega (arith, calls.faults_stay, call.faults_stay);
+  pauses_stay = omega (arith, calls.pauses_stay, call.pauses_stay);
+  most_calls = omega (arith, calls.most_calls, call.one_call, less);
+}
+
+-- Faults that rose later rose.
+pub rose_later : (before mid now : ℕ) → before ≤ mid → Rose mid now → Rose before now
+rose_later before mid now stay rose = omega (arith, stay, rose)
+
+-- Bytes that were first, and then those that were first of the rest, joined.
+pub front_twice : (tells : Bool) (left mid rest u v : List ℕ) → WasFront tells left u mid → WasFront tells mid v rest
+    → WasFront tells left (u ++ v) rest
+front_twice tells left mid rest u v first second = λ t. first t ∙ ap (λ l. u ++ l) (second t) ∙ sym (append_assoc u v rest)
+
+-- The same where the stream paused.
+pub front_paused : (tells : Bool) (left mid rest u : List ℕ) → WasFront tells left u mid → (IsTrue tells → mid ≡ rest)
+    → WasFront tells left u rest
+front_paused tells left mid rest u first same = λ t. first t ∙ ap (λ l. u ++ l) (same t)
+
+-- Before any poll an exact read is as it was.
+pub fill_starts : (tells : Bool) (left : List ℕ) (f : Filling) → HasFilled tells left left f f
+fill_starts tells left f = record {
+  got = [];
+  within = omega arith;
+  is_next = ap (λ n. record f { filled = n }) (sym (add-zero f.filled));
+  front = λ t. refl;
+}
+
+-- What is lacking behind u.
+lacks_behind : (f : Filling) (u : List ℕ) → lacks (filled_with f u) ≡ lacks f - length u
+lacks_behind f u = omega (arith, room_more f u)
+
+-- A poll that goes on adds its bytes.
+pub fill_goes_on : (tells : Bool) (before mid now : Reader) (f g next : Filling) → f.buffer.begin + f.filled ≤ length f.buffer.bytes
+    → HasFilled tells before.left mid.left f g → Paused tells mid now g next ⊎ GoesOn tells mid.left now.left g next
+    → HasFilled tells before.left now.left f next
+fill_goes_on tells before mid now f g next bound has (inl paused) = record {
+  got = has.got;
+  within = has.within;
+  is_next = paused.0 ∙ has.is_next;
+  front = front_paused tells before.left mid.left now.left has.got has.front paused.1;
+}
+fill_goes_on tells before mid now f g next bound has (inr goes) =
+    let u = has.got in
+    let v = goes.got in
+    let lacking : lacks g ≡ lacks f - length u = ap lacks has.is_next ∙ lacks_behind f u in
+    record {
+      got = u ++ v;
+      within = omega (arith, has.within, goes.more, lacking, length-append u v);
+      is_next = goes.is_next ∙ ap (λ x. filled_with x v) has.is_next ∙ filled_twice f u v bound;
+      front = front_twice tells before.left mid.left now.left u v has.front goes.front;
+    }
+
+-- A poll that fills the range ends a full range.
+fill_is_done : (tells : Bool) (before mid now : Reader) (f g : Filling) (back : Buffer) (n : ℕ)
+    → f.buffer.begin + f.filled ≤ length f.buffer.bytes → HasFilled tells before.left mid.left f g
+    → IsFilled tells mid.left now.left g back n → IsFilled tells before.left now.left f back n
+fill_is_done tells before mid now f g back n bound has done =
+    let u = has.got in
+    let v = done.got in
+    let lacking : lacks g ≡ lacks f - length u = ap lacks has.is_next ∙ lacks_behind f u in
+    record {
+      got = u ++ v;
+      all = omega (arith, has.within, done.all, lacking, length-append u v);
+      total = done.total ∙ ap (λ x. room x.buffer) has.is_next ∙ room_more f u;
+      is_full = done.is_full ∙ ap (λ x. with_more x v) has.is_next ∙ more_twice f u v bound;
+      front = front_twice tells before.left mid.left now.left u v has.front done.front;
+    }
+
+-- What a fault leaves, behind bytes that were read before.
+fill_cause : (tells : Bool) (before mid now : Reader) (f g : Filling) (back : Buffer) (fault : IoFault)
+    → f.buffer.begin + f.filled ≤ length f.buffer.bytes → before.counts.faults ≤ mid.counts.faults
+    → (has : HasFilled tells before.left mid.left f g) → (IsTrue tells → mid.left ≡ now.left)
+    → (back ≡ g.buffer) × Rose mid.counts.faults now.counts.faults ⊎ EndsEarly tells mid.left g back fault
+    → StopsFilling tells before now f back fault
+fill_cause tells before mid now f g back fault bound stay has same (inl failed) = record {
+  got = has.got;
+  front = front_paused tells before.left mid.left now.left has.got has.front same;
+  cause = inl (failed.0 ∙ ap (λ x. x.buffer) has.is_next, rose_later before.counts.faults mid.counts.faults now.counts.faults stay failed.1);
+}
+fill_cause tells before mid now f g back fault bound stay has same (inr early) =
+    let u = has.got in
+    let lacking : lacks g ≡ lacks f - length u = ap lacks has.is_next ∙ lacks_behind f u in
+    let nothing = early.nothing ∙ ap (λ (x : Filling). put x.buffer (x.buffer.begin + x.filled) []) has.is_next
+        ∙ nothing_behind f u bound in
+    record {
+      got = u;
+      front = front_paused tells before.left mid.left now.left u has.front same;
+      cause = inr (early.is_eof, omega (arith, early.more, lacking), (λ t. sym (same t) ∙ early.none_left t), nothing);
+    }
+
+-- How a poll ends is how the polls end.
+pub fill_ends : (tells : Bool) (before mid now : Reader) (f g : Filling) (back : Buffer) (end : Result ℕ IoFault)
+    → f.buffer.begin + f.filled ≤ length f.buffer.bytes → before.counts.faults ≤ mid.counts.faults
+    → HasFilled tells before.left mid.left f g → IsExactEnd tells mid now g back end → ExactRunEnd tells before now f back end
+fill_ends tells before mid now f g back (Ok n) bound stay has end = fill_is_done tells before mid now f g back n bound has end
+fill_ends tells before mid now f g back (Err fault) bound stay has end =
+    fill_cause tells before mid now f g back fault bound stay has end.0 end.1
+
+-- Bytes that a range shows are among the buffer's.
+pub filled_within : (b : Buffer) (n : ℕ) → BufferBounds b → n ≤ length (shown b) → b.begin + n ≤ length b.bytes
+filled_within b n bounds among =
+    omega (arith, bounds.within, among, length-drop b.begin (take b.end b.bytes), length-take b.end b.bytes)
