@@ -2,6 +2,7 @@ pub mod BufReader
 pub mod Counts
 pub mod FileAt
 pub mod ItemSink
+pub mod LineRuns
 pub mod MemSource
 pub mod PartRoom
 pub mod Polls
@@ -12,6 +13,7 @@ pub mod ReadUntil
 pub mod ReadVectoredExact
 pub mod Reader
 pub mod Runs
+pub mod ScatterRuns
 pub mod Scripted
 pub mod Sink
 pub mod Source

@@ -4,14 +4,13 @@ use Rattle.std.specs.Prelude.{ℕ, ◌≡◌, ◌+◌, ◌<◌, ◌≤◌, ◌�
 use Rattle.rent_buf.specs.Buffer.{Buffer, put}
 use Rattle.rent_buf.specs.Parts.{Parts}
 use Rattle.rent_buf.specs.declared.fault.IoFault.{IoFault}
-use Rattle.rent_buf.specs.declared.fault.IoFault.TheVariants.{UnexpectedEof, WriteZero, OutOfMemory}
+use Rattle.rent_buf.specs.declared.fault.IoFault.TheVariants.{UnexpectedEof, WriteZero}
 use Rattle.rent_io.specs.declared.poll.Step.{Step}
 use Rattle.rent_io.specs.declared.poll.Step.TheVariants.{Ready, Pending, Again}
 use Rattle.rent_io.specs.Counts.{Counts, Rose}
 use Rattle.rent_io.specs.Reader.{Reader, WasFront}
 use Rattle.rent_io.specs.Writer.{Writer}
 use Rattle.rent_io.specs.ReadExact.{Filling, lacks, with_more, filled_with, IsFilled}
-use Rattle.rent_io.specs.ReadUntil.{Until, Lacks, IsLine}
 use Rattle.rent_io.specs.WriteAll.{Sending}
 
 -- What so many calls at most make of the counts: no fault and no pause is forgotten, and each call counts once.
@@ -74,37 +73,3 @@ abbrev pub RunsAll : {T : Type 0} → Bool → Writer → Writer → Sending T �
 RunsAll tells before now s (Ready end) = AllRunEnd tells before now s end.0 × (end.1 ≡ s.buf)
 RunsAll tells before now s (Pending next) = HasSent tells before.delivered now.delivered s next
 RunsAll tells before now s (Again next) = HasSent tells before.delivered now.delivered s next
-
--- A read up to a delimiter that isn't done: the bytes that left the stream were added, and none of them is the delimiter.
-pub record HasAdded (tells : Bool) (left rest : List ℕ) (u next : Until) : Type 0 where
-  pub got : List ℕ
-  pub others : Lacks u.delim got
-  pub is_next : next ≡ record u { bytes = u.bytes ++ got; added = u.added + length got }
-  pub front : WasFront tells left got rest
-
--- A read up to a delimiter that is done: the bytes up to and with the first one were added, or all, where there is none.
-pub record AddsLine (tells : Bool) (left rest : List ℕ) (u : Until) (back : List ℕ) (n : ℕ) : Type 0 where
-  pub got : List ℕ
-  pub is_line : IsLine u.delim got ⊎ (Lacks u.delim got × (IsTrue tells → rest ≡ []))
-  pub is_back : back ≡ u.bytes ++ got
-  pub count : n ≡ u.added + length got
-  pub front : WasFront tells left got rest
-
--- A read up to a delimiter that ended at a fault: the bytes that left the stream stay, and none of them is the delimiter.
-pub record StopsAdding (tells : Bool) (before now : Reader) (u : Until) (back : List ℕ) (fault : IoFault) : Type 0 where
-  pub got : List ℕ
-  pub others : Lacks u.delim got
-  pub is_back : back ≡ u.bytes ++ got
-  pub front : WasFront tells before.left got now.left
-  pub cause : Rose before.counts.faults now.counts.faults ⊎ (fault ≡ OutOfMemory)
-
--- How polls of a read up to a delimiter end: with the line, or at a fault.
-abbrev pub UntilRunEnd : Bool → Reader → Reader → Until → List ℕ → Result ℕ IoFault → Type 0
-UntilRunEnd tells before now u back (Ok n) = AddsLine tells before.left now.left u back n
-UntilRunEnd tells before now u back (Err fault) = StopsAdding tells before now u back fault
-
--- Polls of a read up to a delimiter, however the stream answered them.
-abbrev pub RunsUntil : Bool → Reader → Reader → Until → Step Until (Result ℕ IoFault × List ℕ) → Type 0
-RunsUntil tells before now u (Ready end) = UntilRunEnd tells before now u end.1 end.0
-RunsUntil tells before now u (Pending next) = HasAdded tells before.left now.left u next
-RunsUntil tells before now u (Again next) = HasAdded tells before.left now.left u next

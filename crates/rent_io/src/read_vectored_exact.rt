@@ -3,6 +3,8 @@ ghost use Rattle.std.specs.Prelude.{◌≡◌, ◌<◌, ◌≤◌, length, IsOk,
 ghost use Rattle.rent_buf.specs.Parts.{part_at};
 ghost use Rattle.rent_io.specs.Counts.{AfterCall};
 ghost use Rattle.rent_io.specs.ReadVectoredExact.{AreFullBefore, ReadsScattered, read_of, scattering};
+ghost use Rattle.rent_io.specs.Runs.{AfterCalls};
+ghost use Rattle.rent_io.specs.ScatterRuns.{RunsScattered};
 
 use crate::async_read_rent::AsyncReadRent;
 use crate::calls::{Plain, ReadCall};
@@ -65,6 +67,29 @@ impl<T: IoVecBufMut> ReadVectoredExact<T> {
         ensures counts { AfterCall (A.reader io.old).counts (A.reader io.new).counts }
     {
         self.poll_by(io, &Plain, task)
+    }
+
+    /// Polls it until it is done, `polls` times at most (not in monoio). Whatever the stream answered, the bytes that left
+    /// it stand in the parts, one behind the other, each once.
+    /// `Again` means that the polls are used up.
+    pub fn drive<A: AsyncReadRent>(
+        self,
+        io: &mut A,
+        task: u64,
+        polls: u64,
+    ) -> Step<ReadVectoredExact<T>, BufResult<usize, T>>
+        ensures run { RunsScattered A.tells (A.reader io.old) (A.reader io.new) T.held self result }
+        ensures counts { AfterCalls polls (A.reader io.old).counts (A.reader io.new).counts }
+    {
+        let mut state = self;
+        for _ in 0..polls {
+            match state.poll(io, task) {
+                Step::Ready((outcome, buf)) => return Step::Ready((outcome, buf)),
+                Step::Pending(next) => state = next,
+                Step::Again(next) => state = next,
+            }
+        }
+        Step::Again(state)
     }
 
     // A poll by this call.

@@ -1,6 +1,7 @@
 // A write of all bytes of a vector of buffers.
 ghost use Rattle.std.specs.Prelude.{◌≡◌, ◌^◌, ◌<◌, ◌≤◌, [], length, sum_by, slice_index_or, IsOk, IfOk};
 ghost use Rattle.rent_io.specs.Counts.{AfterCall};
+ghost use Rattle.rent_io.specs.Runs.{AfterCalls, RunsAll};
 ghost use Rattle.rent_io.specs.WriteAll.{WritesAll, sending_parts};
 ghost use Rattle.rent_io.specs.WriteVectoredAll.{rest_from};
 ghost use Rattle.rent_io.specs.Writer.{EndsStay};
@@ -68,6 +69,30 @@ impl<T: IoVecBuf> WriteVectoredAll<T> {
         ensures counts { AfterCall (A.writer io.old).counts (A.writer io.new).counts }
     {
         self.poll_by(io, &Plain, task)
+    }
+
+    /// Polls it until it is done, `polls` times at most (not in monoio). Whatever the stream answered, the bytes that it
+    /// took are the first ones, each once and in order.
+    /// `Again` means that the polls are used up.
+    pub fn drive<A: AsyncWriteRent>(
+        self,
+        io: &mut A,
+        task: u64,
+        polls: u64,
+    ) -> Step<WriteVectoredAll<T>, BufResult<usize, T>>
+        ensures run { RunsAll A.tells (A.writer io.old) (A.writer io.new) self result }
+        ensures ends { EndsStay (A.writer io.old) (A.writer io.new) }
+        ensures counts { AfterCalls polls (A.writer io.old).counts (A.writer io.new).counts }
+    {
+        let mut state = self;
+        for _ in 0..polls {
+            match state.poll(io, task) {
+                Step::Ready((outcome, buf)) => return Step::Ready((outcome, buf)),
+                Step::Pending(next) => state = next,
+                Step::Again(next) => state = next,
+            }
+        }
+        Step::Again(state)
     }
 
     // A poll by this call.

@@ -1,6 +1,7 @@
 use Rattle.std.proofs.Common.{◌∙◌, ◌+◌, ap, inl, arith}
 use Rattle.rent_io.specs.ReadExact.{Filling}
-use Rattle.rent_io.proofs.ExactRuns.{fill_ends, fill_goes_on, one_more}
+use Rattle.rent_io.proofs.Runs.{one_more}
+use Rattle.rent_io.proofs.ExactRuns.{fill_ends, fill_goes_on}
 use Rattle.rent_io.proofs.read_exact.ReadExact.drive.Goals as goal
 use Rattle.rent_io.proofs.read_exact.ReadExact.drive.Goals.{in-Pending, in-Again}
 
