@@ -12,15 +12,6 @@ use Rattle.rent_io.specs.Runs.{HasFilled, StopsFilling, ExactRunEnd}
 use Rattle.rent_io.proofs.Runs.{rose_later, front_twice, front_paused}
 use Rattle.rent_io.proofs.Stored.{more_twice, filled_twice, nothing_behind, room_more}
 
--- Before any poll an exact read is as it was.
-pub fill_starts : (tells : Bool) (left : List ℕ) (f : Filling) → HasFilled tells left left f f
-fill_starts tells left f = record {
-  got = [];
-  within = omega arith;
-  is_next = ap (λ n. record f { filled = n }) (sym (add-zero f.filled));
-  front = λ t. refl;
-}
-
 -- What is lacking behind u.
 lacks_behind : (f : Filling) (u : List ℕ) → lacks (filled_with f u) ≡ lacks f - length u
 lacks_behind f u = omega (arith, room_more f u)

@@ -41,17 +41,6 @@ added_twice u got more =
     ap (λ b. make b ((u.added + length got) + length more)) (append_assoc u.bytes got more)
     ∙ ap (make (u.bytes ++ (got ++ more))) count
 
--- Before any poll a read up to a delimiter is as it was.
-pub until_starts : (tells : Bool) (left : List ℕ) (u : Until) → HasAdded tells left left u u
-until_starts tells left u =
-    let make : List ℕ → ℕ → Until = λ b n. record u { bytes = b; added = n } in
-    record {
-      got = [];
-      others = All-nil (λ byte. byte ≢ u.delim);
-      is_next = ap (λ b. make b u.added) (sym (append-nil u.bytes)) ∙ ap (make (u.bytes ++ [])) (sym (add-zero u.added));
-      front = λ t. refl;
-    }
-
 -- A poll that goes on adds its bytes.
 pub until_goes_on : (tells : Bool) (before mid now : Reader) (u g next : Until) → HasAdded tells before.left mid.left u g
     → Paused tells mid now g next ⊎ ReadsOn tells mid.left now.left g next → HasAdded tells before.left now.left u next
@@ -101,15 +90,6 @@ lined l got = record l { added = l.added ++ got }
 -- Bytes that are added to a line in two steps are added in one.
 lined_twice : (l : Lining) (got more : List ℕ) → lined (lined l got) more ≡ lined l (got ++ more)
 lined_twice l got more = ap (λ b. record l { added = b }) (append_assoc l.added got more)
-
--- Before any poll a read of a line is as it was.
-pub line_starts : (tells : Bool) (left : List ℕ) (l : Lining) → HasLined tells left left l l
-line_starts tells left l = record {
-  got = [];
-  others = All-nil (λ byte. byte ≢ 10);
-  is_next = ap (λ b. record l { added = b }) (sym (append-nil l.added));
-  front = λ t. refl;
-}
 
 -- A poll that goes on adds its bytes to the line.
 pub line_runs_on : (tells : Bool) (before mid now : Reader) (l g next : Lining) → HasLined tells before.left mid.left l g

@@ -17,11 +17,6 @@ with_digits r got = record r { bytes = r.bytes ++ got }
 digits_twice : (r : Numbering) (got more : List ℕ) → with_digits (with_digits r got) more ≡ with_digits r (got ++ more)
 digits_twice r got more = ap (λ b. record r { bytes = b }) (append_assoc r.bytes got more)
 
--- Before any poll a read of a number is as it was.
-pub number_starts : (tells : Bool) (left : List ℕ) (r : Numbering) → HasDigits tells left left r r
-number_starts tells left r =
-    record { got = []; is_next = ap (λ b. record r { bytes = b }) (sym (append-nil r.bytes)); front = λ t. refl }
-
 -- A poll that goes on adds its bytes.
 pub number_goes_on : (tells : Bool) (before mid now : Reader) (r g next : Numbering) → HasDigits tells before.left mid.left r g
     → Paused tells mid now g next ⊎ HasMore tells mid.left now.left g next → HasDigits tells before.left now.left r next

@@ -5,10 +5,6 @@ use Rattle.rent_io.specs.Counts.{Counts, AfterCall, Rose}
 use Rattle.rent_io.specs.Reader.{WasFront}
 use Rattle.rent_io.specs.Runs.{AfterCalls}
 
--- Before any poll nothing was called.
-pub no_calls : (counts : Counts) → AfterCalls 0 counts counts
-no_calls counts = record { faults_stay = omega arith; pauses_stay = omega arith; most_calls = omega arith }
-
 -- One call more.
 pub one_more : (i most : ℕ) (before mid now : Counts) → i + 1 ≤ most → AfterCalls i before mid → AfterCall mid now → AfterCalls most before now
 one_more i most before mid now less calls call = record {

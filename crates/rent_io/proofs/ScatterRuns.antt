@@ -13,11 +13,6 @@ use Rattle.rent_io.specs.ScatterRuns.{HasScattered, StopsScattering, ScatterRunE
 use Rattle.rent_io.proofs.Runs.{rose_later, front_twice, front_paused}
 use Rattle.rent_io.proofs.Scatters.{put_rooms}
 
--- Before any poll a read into all parts is as it was.
-pub scatter_starts : (tells : Bool) (left : List ℕ) (s : Scattering) → HasScattered tells left left s s
-scatter_starts tells left s =
-    record { got = []; is_read = sym (append-nil (has_read s)); same_rooms = refl; same_total = refl; front = λ t. refl }
-
 -- A poll that goes on adds its bytes.
 pub scatter_goes_on : (tells : Bool) (before mid now : Reader) (s g next : Scattering) → HasScattered tells before.left mid.left s g
     → Paused tells mid now g next ⊎ ScatterGoesOn tells mid.left now.left g next → HasScattered tells before.left now.left s next

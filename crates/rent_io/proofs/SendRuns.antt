@@ -7,10 +7,6 @@ use Rattle.rent_io.specs.WriteAll.{Sending, SendsOn, WaitsAll, IsAllEnd}
 use Rattle.rent_io.specs.Runs.{HasSent, AllRunEnd}
 use Rattle.rent_io.proofs.Runs.{rose_later}
 
--- Before any poll a write of all bytes is as it was.
-pub send_starts : {T : Type 0} (tells : Bool) (before : List ℕ) (s : Sending T) → HasSent tells before before s s
-send_starts tells before s = record { sent = []; cut = refl; same_buf = refl; same_total = refl; joined = λ t. sym (append-nil before) }
-
 -- A poll that goes on sends the next bytes.
 pub send_goes_on : {T : Type 0} (tells : Bool) (before mid now : Writer) (s g next : Sending T)
     → HasSent tells before.delivered mid.delivered s g
