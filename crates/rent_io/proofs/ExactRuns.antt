@@ -1,6 +1,6 @@
 -- Polls of an exact read, one behind the other.
-use Rattle.std.proofs.Common.{◌≡◌, ◌∙◌, ℕ, ◌+◌, ◌-◌, ◌<◌, ◌≤◌, ◌⊎◌, inl, inr, List, [], ◌++◌, Bool, length, take, drop, refl, sym, ap, subst, arith}
-use Rattle.std.proofs.Common.{add-zero, length-append}
+use Rattle.std.proofs.Common.{◌≡◌, ◌∙◌, ℕ, ◌+◌, ◌-◌, ◌≤◌, ◌⊎◌, inl, inr, List, [], ◌++◌, Bool, length, take, sym, ap, arith}
+use Rattle.std.proofs.Common.{length-append}
 use Rattle.std.specs.Prelude.{IsTrue, Result, Ok, Err}
 use Rattle.std.proofs.lemmas.List.{length-take, length-drop}
 use Rattle.rent_buf.specs.Buffer.{Buffer, BufferBounds, room, put, shown}

@@ -1,12 +1,12 @@
 -- Polls of reads of lines, one behind the other.
-use Rattle.std.proofs.Common.{◌≡◌, ◌∙◌, ℕ, ◌+◌, ◌≤◌, ◌⊎◌, inl, inr, List, [], ◌∷◌, ◌++◌, Bool, length, refl, sym, ap, subst, arith}
-use Rattle.std.proofs.Common.{add-zero, append_assoc, append-nil, length-append}
+use Rattle.std.proofs.Common.{◌≡◌, ◌∙◌, ℕ, ◌+◌, ◌≤◌, ◌⊎◌, inl, inr, List, [], ◌∷◌, ◌++◌, Bool, length, sym, ap, subst, arith}
+use Rattle.std.proofs.Common.{append_assoc, append-nil, length-append}
 use Rattle.std.specs.Prelude.{◌≢◌, IsTrue, Result, Ok, Err}
-use Rattle.std.proofs.lemmas.List.Elements.{All-nil, All-append}
+use Rattle.std.proofs.lemmas.List.Elements.{All-append}
 use Rattle.rent_buf.specs.declared.fault.IoFault.{IoFault}
 use Rattle.rent_io.specs.Reader.{Reader, WasFront}
 use Rattle.rent_io.specs.ReadExact.{Paused}
-use Rattle.rent_io.specs.ReadUntil.{Until, Lacks, IsLine, ReadsOn, HasRead, IsUntilEnd}
+use Rattle.rent_io.specs.ReadUntil.{Until, Lacks, IsLine, ReadsOn, IsUntilEnd}
 use Rattle.rent_io.specs.ReadLine.{Lining, TextOf, LineGoesOn, HasLine, LineFails}
 use Rattle.rent_io.specs.LineRuns.{IsWholeLine, HasAdded, UntilRunEnd, HasLined, EndsLine, StopsLine}
 use Rattle.rent_io.proofs.Runs.{rose_later, front_twice, front_paused}

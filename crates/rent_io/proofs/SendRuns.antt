@@ -1,6 +1,6 @@
 -- Polls of a write of all bytes, one behind the other.
-use Rattle.std.proofs.Common.{◌≡◌, ◌∙◌, ℕ, ◌≤◌, ◌⊎◌, inl, inr, List, [], ◌++◌, Bool, refl, sym, ap, append_assoc, append-nil}
-use Rattle.std.specs.Prelude.{IsTrue, Result, Ok, Err}
+use Rattle.std.proofs.Common.{◌∙◌, ℕ, ◌≤◌, ◌⊎◌, inl, inr, ◌++◌, Bool, sym, ap, append_assoc}
+use Rattle.std.specs.Prelude.{Result, Ok, Err}
 use Rattle.rent_buf.specs.declared.fault.IoFault.{IoFault}
 use Rattle.rent_io.specs.Writer.{Writer}
 use Rattle.rent_io.specs.WriteAll.{Sending, SendsOn, WaitsAll, IsAllEnd}

@@ -4,14 +4,14 @@ use Rattle.std.proofs.Common.{subst, arith, zero-add, Bool, inl, inr}
 use Rattle.std.specs.Prelude.{slice_index_or, slice_set, IsTrue, Result, Ok, Err}
 use Rattle.std.proofs.Math.ListN.{get_or-map}
 use Rattle.std.proofs.lemmas.List.{length-map, get_or-set_same, set-get_or}
-use Rattle.rent_buf.specs.Buffer.{BufferBounds, put, room, stored}
+use Rattle.rent_buf.specs.Buffer.{BufferBounds, put}
 use Rattle.rent_buf.specs.Rent.{Rented, buffer_of_rent}
 use Rattle.rent_buf.specs.SliceMut.{Sliced, sliced, whole}
 use Rattle.rent_buf.specs.declared.fault.IoFault.{IoFault}
 use Rattle.rent_io.specs.declared.poll.PollBuf.TheVariants.{Ready}
 use Rattle.rent_buf.specs.Parts.{Parts, IsParts, bytes_of, part_at, part_put}
 use Rattle.rent_io.specs.Reader.{Taken, Reads}
-use Rattle.rent_io.specs.PartRoom.{buffer_at, blank, others, PartRoom, PartTaken, ReadsPart}
+use Rattle.rent_io.specs.PartRoom.{buffer_at, blank, others, PartTaken, ReadsPart}
 
 -- There are as many lists of bytes as parts.
 pub length_bytes : (parts : Parts) → length (bytes_of parts) ≡ length parts

@@ -1,5 +1,4 @@
 use Rattle.std.proofs.Common.{◌<◌, ◌∙◌, ap, subst, sym}
-use Rattle.rent_io.specs.PartRoom.{PartRoom}
 use Rattle.rent_io.proofs.SingleParts.{WayBack, part_cut, ready_part, paused_part}
 use Rattle.rent_io.proofs.part_room.read_part.Goals as goal
 

@@ -1,4 +1,4 @@
-use Rattle.std.proofs.Common.{◌∙◌, ◌+◌, ap, inl, arith}
+use Rattle.std.proofs.Common.{◌+◌, inl, arith}
 use Rattle.std.specs.Prelude.{string_bytes}
 use Rattle.rent_io.proofs.Runs.{one_more}
 use Rattle.rent_io.proofs.LineRuns.{line_run_ends, line_runs_on}

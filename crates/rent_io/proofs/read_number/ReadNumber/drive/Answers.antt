@@ -1,4 +1,4 @@
-use Rattle.std.proofs.Common.{◌∙◌, ◌+◌, ap, inl, arith}
+use Rattle.std.proofs.Common.{◌+◌, inl, arith}
 use Rattle.rent_io.proofs.Runs.{one_more}
 use Rattle.rent_io.proofs.NumberRuns.{number_ends, number_goes_on}
 use Rattle.rent_io.proofs.read_number.ReadNumber.drive.Goals as goal

@@ -1,4 +1,4 @@
-use Rattle.std.proofs.Common.{◌∙◌, ◌+◌, ap, inl, arith}
+use Rattle.std.proofs.Common.{◌+◌, inl, arith}
 use Rattle.rent_io.proofs.Runs.{one_more}
 use Rattle.rent_io.proofs.LineRuns.{until_ends, until_goes_on}
 use Rattle.rent_io.proofs.read_until.ReadUntil.drive.Goals as goal

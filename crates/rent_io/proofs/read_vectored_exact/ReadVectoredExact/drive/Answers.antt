@@ -1,4 +1,4 @@
-use Rattle.std.proofs.Common.{◌∙◌, ◌+◌, ap, inl, arith}
+use Rattle.std.proofs.Common.{◌+◌, inl, arith}
 use Rattle.rent_io.proofs.Runs.{one_more}
 use Rattle.rent_io.proofs.ScatterRuns.{scatter_ends, scatter_goes_on}
 use Rattle.rent_io.proofs.read_vectored_exact.ReadVectoredExact.drive.Goals as goal

@@ -1,4 +1,4 @@
-use Rattle.std.proofs.Common.{◌≡◌, ◌<◌, ◌≤◌, ◌∙◌, [], length, refl, sym, ap, subst, arith, inr, append-nil}
+use Rattle.std.proofs.Common.{◌<◌, ◌≤◌, ◌∙◌, [], length, refl, sym, ap, subst, arith, inr, append-nil}
 use Rattle.rent_io.specs.PartRoom.{PartTaken}
 use Rattle.rent_io.specs.ReadVectoredExact.{AreFullBefore, read_of}
 use Rattle.rent_io.proofs.Scatters.{Stepped, ends_full, step_ends, step_goes_on, put_full}

@@ -1,4 +1,4 @@
-use Rattle.std.proofs.Common.{◌∙◌, ◌+◌, ap, inl, arith}
+use Rattle.std.proofs.Common.{◌∙◌, ◌+◌, inl, arith}
 use Rattle.rent_io.specs.Writer.{EndsStay}
 use Rattle.rent_io.proofs.Runs.{one_more}
 use Rattle.rent_io.proofs.SendRuns.{send_ends, send_goes_on}
