@@ -62,7 +62,11 @@ fill_cause : (tells : Bool) (before mid now : Reader) (f g : Filling) (back : Bu
 fill_cause tells before mid now f g back fault bound stay has same (inl failed) = record {
   got = has.got;
   front = front_paused tells before.left mid.left now.left has.got has.front same;
-  cause = inl (failed.0 ∙ ap (λ x. x.buffer) has.is_next, rose_later before.counts.faults mid.counts.faults now.counts.faults stay failed.1);
+  cause = inl
+      (
+        failed.0 ∙ ap (λ x. x.buffer) has.is_next,
+        rose_later before.counts.faults mid.counts.faults now.counts.faults stay failed.1,
+      );
 }
 fill_cause tells before mid now f g back fault bound stay has same (inr early) =
     let u = has.got in

@@ -12,5 +12,6 @@ pub mod Scatters
 pub mod SendRuns
 pub mod Sends
 pub mod SingleParts
+pub mod SinkRuns
 pub mod Stored
 pub mod Texts

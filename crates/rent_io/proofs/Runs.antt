@@ -6,7 +6,8 @@ use Rattle.rent_io.specs.Reader.{WasFront}
 use Rattle.rent_io.specs.Runs.{AfterCalls}
 
 -- One call more.
-pub one_more : (i most : ℕ) (before mid now : Counts) → i + 1 ≤ most → AfterCalls i before mid → AfterCall mid now → AfterCalls most before now
+pub one_more : (i most : ℕ) (before mid now : Counts) → i + 1 ≤ most → AfterCalls i before mid → AfterCall mid now
+    → AfterCalls most before now
 one_more i most before mid now less calls call = record {
   faults_stay = omega (arith, calls.faults_stay, call.faults_stay);
   pauses_stay = omega (arith, calls.pauses_stay, call.pauses_stay);

@@ -83,7 +83,8 @@ place-start k k' ranges here there =
 
 -- A read into a part's range is a read into the part.
 taken_part : (tells : Bool) (left rest : List ℕ) (parts back : Parts) (k k' at end n : ℕ) (slice : Sliced)
-    → end ≡ (part_at parts k).total → at < end → WayBack slice back k' → Taken tells left rest (part_cut parts k at end).buffer slice.buffer n
+    → end ≡ (part_at parts k).total → at < end → WayBack slice back k'
+    → Taken tells left rest (part_cut parts k at end).buffer slice.buffer n
     → slice.under ≡ (part_cut parts k at end).under → slice.beside ≡ others parts k → PartTaken tells left rest parts back k at n
 taken_part tells left rest parts back k k' at end n slice is_total some way taken under beside =
     let part = part_at parts k in

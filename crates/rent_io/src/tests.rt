@@ -50,6 +50,8 @@ fn answer<T: Drop>(poll: PollBuf<T>) -> PollCount {
 
 use Turned1::{Fault, Grant, Interrupt, Pause};
 
+const FAILED: PollCount = PollCount::Ready(Err(IoFault::Os(5)));
+
 // What the row shows, the turn, what a read of 4 over three bytes answers, and what a write of three bytes and a flush do.
 #[rattlefmt::skip]
 const TURNS: [(&str, Turned1, PollCount, PollCount, PollCount); 6] = [
@@ -58,7 +60,7 @@ const TURNS: [(&str, Turned1, PollCount, PollCount, PollCount); 6] = [
     ("a grant of none is a read of one", Grant(0), PollCount::Ready(Ok(1)), PollCount::Ready(Ok(0)), PollCount::Ready(Ok(0))),
     ("a pause", Pause, PollCount::Pending, PollCount::Pending, PollCount::Pending),
     ("an interrupt", Interrupt, PollCount::Again, PollCount::Again, PollCount::Again),
-    ("a fault", Fault(5), PollCount::Ready(Err(IoFault::Os(5))), PollCount::Ready(Err(IoFault::Os(5))), PollCount::Ready(Err(IoFault::Os(5)))),
+    ("a fault", Fault(5), FAILED, FAILED, FAILED),
 ];
 
 #[test]

@@ -1,7 +1,5 @@
 // Sources and sinks as streams, and sends that are flushed: worked rows.
-ghost use Rattle.std.specs.Prelude.{◌≡◌, ◌≤◌};
 ghost use Rattle.rent_io.specs.Counts.{no_counts};
-ghost use Rattle.rent_io.specs.ItemSink.{ItemSink};
 
 use super::{answer, ended, parts_of};
 use crate::{

@@ -27,6 +27,14 @@ loop-preserved g c =
         c.poll.ensures.counts in
     let goes = fill_goes_on g.A.AsyncReadRent.tells before mid now c.args.self c.loop.state in
     elim c.match-poll.branch [
-      | in-Pending w ↦ (rw w.state-is (goes w.in-Pending.next c.keeps_bounds.ensures c.loop.invariant.0 (inl w.in-Pending.ensures.answer)), calls)
-      | in-Again w ↦ (rw w.state-is (goes w.in-Again.next c.keeps_bounds.ensures c.loop.invariant.0 w.in-Again.ensures.answer), calls)
+      | in-Pending w ↦
+        (
+          rw w.state-is (goes w.in-Pending.next c.keeps_bounds.ensures c.loop.invariant.0 (inl w.in-Pending.ensures.answer)),
+          calls,
+        )
+      | in-Again w ↦
+        (
+          rw w.state-is (goes w.in-Again.next c.keeps_bounds.ensures c.loop.invariant.0 w.in-Again.ensures.answer),
+          calls,
+        )
     ]

@@ -10,7 +10,8 @@ returns-in-Ready-clause-run g c =
     let reader = g.A.AsyncReadRent.reader in
     let has = c.loop.invariant.0 in
     let answer = c.in-Ready.ensures.answer in
-    line_run_ends g.A.AsyncReadRent.tells (reader c.args.io.now) (reader c.loop.io) (reader c.poll.new.io) c.args.self c.loop.state (string_bytes c.in-Ready.buf) c.in-Ready.outcome
+    line_run_ends g.A.AsyncReadRent.tells (reader c.args.io.now) (reader c.loop.io) (reader c.poll.new.io)
+    c.args.self c.loop.state (string_bytes c.in-Ready.buf) c.in-Ready.outcome
     c.loop.invariant.1.faults_stay has answer
 
 pub loop-preserved : goal.loop-preserved
@@ -23,6 +24,14 @@ loop-preserved g c =
         c.poll.ensures.counts in
     let goes = line_runs_on g.A.AsyncReadRent.tells before mid now c.args.self c.loop.state in
     elim c.match-poll.branch [
-      | in-Pending w ↦ (rw w.state-is (goes w.in-Pending.next c.loop.invariant.0 (inl w.in-Pending.ensures.answer)), calls)
-      | in-Again w ↦ (rw w.state-is (goes w.in-Again.next c.loop.invariant.0 w.in-Again.ensures.answer), calls)
+      | in-Pending w ↦
+        (
+          rw w.state-is (goes w.in-Pending.next c.loop.invariant.0 (inl w.in-Pending.ensures.answer)),
+          calls,
+        )
+      | in-Again w ↦
+        (
+          rw w.state-is (goes w.in-Again.next c.loop.invariant.0 w.in-Again.ensures.answer),
+          calls,
+        )
     ]

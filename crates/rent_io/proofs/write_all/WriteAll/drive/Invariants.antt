@@ -6,4 +6,5 @@ abbrev pub invariant-loop : goal.invariant-loop
 invariant-loop g l =
     let start = g.A.AsyncWriteRent.writer l.initial.io in
     let now = g.A.AsyncWriteRent.writer l.io in
-    HasSent g.A.AsyncWriteRent.tells start.delivered now.delivered l.initial.state l.state × AfterCalls l.counter start.counts now.counts × EndsStay start now
+    HasSent g.A.AsyncWriteRent.tells start.delivered now.delivered l.initial.state l.state
+    × AfterCalls l.counter start.counts now.counts × EndsStay start now

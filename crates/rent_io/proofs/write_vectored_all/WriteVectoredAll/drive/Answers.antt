@@ -27,6 +27,16 @@ loop-preserved g c =
     let ends : EndsStay before now = (c.poll.ensures.ends.0 ∙ c.loop.invariant.2.0, c.poll.ensures.ends.1 ∙ c.loop.invariant.2.1) in
     let goes = send_goes_on g.A.AsyncWriteRent.tells before mid now c.args.self c.loop.state in
     elim c.match-poll.branch [
-      | in-Pending w ↦ (rw w.state-is (goes w.in-Pending.next c.loop.invariant.0 (inl w.in-Pending.ensures.answer)), calls, ends)
-      | in-Again w ↦ (rw w.state-is (goes w.in-Again.next c.loop.invariant.0 w.in-Again.ensures.answer), calls, ends)
+      | in-Pending w ↦
+        (
+          rw w.state-is (goes w.in-Pending.next c.loop.invariant.0 (inl w.in-Pending.ensures.answer)),
+          calls,
+          ends,
+        )
+      | in-Again w ↦
+        (
+          rw w.state-is (goes w.in-Again.next c.loop.invariant.0 w.in-Again.ensures.answer),
+          calls,
+          ends,
+        )
     ]
