@@ -28,7 +28,7 @@ fn whole_reads_and_writes_are_canceled_by_group(rt: HostRuntime) -> Result<(), F
     assert_eq!(rt; outcome, Ok(2));
     assert_eq!(rt; io.left(), b"e".as_slice());
     let state = CancelableAsyncWriteRentExt::write_all(&io, buf, c);
-    let (outcome, buf) = ended(state.poll(&mut io, 0))?;
+    let (outcome, _) = ended(state.poll(&mut io, 0))?;
     assert_eq!(rt; outcome, Ok(2));
     if !Ranges::read_fits(&parts) {
         return Err(Fail::from("too long"));
@@ -36,13 +36,30 @@ fn whole_reads_and_writes_are_canceled_by_group(rt: HostRuntime) -> Result<(), F
     let Ok(state) = CancelableAsyncWriteRentExt::write_vectored_all(&io, parts, c) else {
         return Err(Fail::from("out of memory"));
     };
-    let (outcome, parts) = ended(state.poll(&mut io, 0))?;
+    let (outcome, _) = ended(state.poll(&mut io, 0))?;
     assert_eq!(rt; outcome, Ok(2));
     assert_eq!(rt; io.delivered(), b"abcd".as_slice());
+    Ok(())
+}
+
+#[test]
+fn each_call_is_made_under_a_group(rt: HostRuntime) -> Result<(), Fail> {
+    let mut groups = Groups::new(rt.alloc());
+    let canceller = groups.new_canceller()?;
+    let c = groups.handle(&canceller);
+    let mut io = stream(rt.alloc(), b"abcd", &[])?;
+    let room = Rent::with_total(rt.alloc(), 1)?;
+    assert_eq!(rt; answer(io.poll_cancelable_read(room, c, 0)), PollCount::Ready(Ok(1)));
+    let parts = parts_of(rt.alloc(), [b"", b"..", b""])?;
+    assert_eq!(rt; answer(io.poll_cancelable_readv(parts, c, 0)), PollCount::Ready(Ok(2)));
+    assert_eq!(rt; io.left(), b"d".as_slice());
+    let bytes = b"x".to_vec(rt.alloc())?;
+    assert_eq!(rt; answer(io.poll_cancelable_write(bytes, c, 0)), PollCount::Ready(Ok(1)));
+    let parts = parts_of(rt.alloc(), [b"", b"yz", b""])?;
     assert_eq!(rt; answer(io.poll_cancelable_writev(parts, c, 0)), PollCount::Ready(Ok(2)));
+    assert_eq!(rt; io.delivered(), b"xyz".as_slice());
     assert_eq!(rt; io.poll_cancelable_flush(c, 0), PollCount::Ready(Ok(0)));
     assert_eq!(rt; io.poll_cancelable_shutdown(c, 0), PollCount::Ready(Ok(0)));
-    assert_eq!(rt; answer(io.poll_cancelable_read(buf, c, 0)), PollCount::Ready(Ok(1)));
     Ok(())
 }
 

@@ -82,7 +82,7 @@ fn an_item_is_sent_and_then_flushed(rt: HostRuntime) -> Result<(), Fail> {
         return Err(Fail::from("not again"));
     };
     assert_eq!(rt; (sink.item, sink.sends, sink.flushes), (7, 1, 0));
-    assert!(rt; ended(state.poll(&mut sink, 0))?.is_ok());
+    assert!(rt; ended(state.drive(&mut sink, 0, 9))?.is_ok());
     assert_eq!(rt; (sink.sends, sink.flushes), (1, 1));
     Ok(())
 }
