@@ -1,8 +1,10 @@
 -- Reads that take the first bytes that are left.
-use Rattle.std.proofs.Common.{◌≡◌, ◌∙◌, ℕ, ◌+◌, ◌≤◌, ◌⊎◌, List, [], length, take, drop, sym, ap, arith, add-zero, true}
-use Rattle.std.proofs.lemmas.List.{length-take, take-append-drop}
+use Rattle.std.proofs.Common.{◌≡◌, ◌∙◌, ℕ, ◌+◌, ◌≤◌, ◌⊎◌, Bool, List, [], ◌++◌, length, take, drop, min, sym, ap, arith}
+use Rattle.std.proofs.Common.{add-zero, append-nil, true}
+use Rattle.std.proofs.lemmas.List.{drop_min, length-take, take-append-drop}
 use Rattle.rent_buf.specs.Buffer.{Buffer, room, put}
 use Rattle.rent_buf.specs.Parts.{Parts, parts_stored}
+use Rattle.rent_io.specs.BufReader.{IsFront}
 use Rattle.rent_io.specs.Reader.{Taken, Scattered, first_room}
 
 -- A reader that tells what is left took the first n of it, and stored them at the start of the range.
@@ -29,3 +31,11 @@ scattered_front left parts back n fits there is none = record {
   front = λ t. sym (take-append-drop n left);
   at_end = λ t. none;
 }
+
+-- All bytes are the first of them.
+pub all_front : (tells : Bool) (left : List ℕ) → IsFront tells left left
+all_front tells left = λ t. ([], sym (append-nil left))
+
+-- The first n bytes and the rest are all, also where there are fewer.
+pub cut_to_end : (n : ℕ) (left : List ℕ) → left ≡ take n left ++ drop (min n (length left)) left
+cut_to_end n left = sym (take-append-drop n left) ∙ ap (λ l. take n left ++ l) (sym (drop_min n left))

@@ -1,7 +1,17 @@
+pub mod ExactRuns
 pub mod FirstParts
 pub mod Fronts
+pub mod LineRuns
 pub mod Lines
+pub mod NumberRuns
 pub mod Pieces
 pub mod Rests
+pub mod Runs
+pub mod ScatterRuns
+pub mod Scatters
+pub mod SendRuns
 pub mod Sends
+pub mod SingleParts
+pub mod SinkRuns
+pub mod Stored
 pub mod Texts

@@ -24,6 +24,7 @@ line_upto d (x ∷ xs) (suc k) there before here =
     line-cons d x (take (suc k) xs) (λ same. before 0 (omega arith) (eq-eqb x d same))
     (line_upto d xs k (omega arith) (λ j less e. before (suc j) (omega arith) e) here)
 
+-- The same, by the number of the bytes.
 pub line_at : (d : ℕ) (xs : List ℕ) (k : ℕ) → k < length xs → ((j : ℕ) → j < k → (slice_index xs j == d) ≡ true → ⊥)
     → (slice_index xs k == d) ≡ true → IsLine d (take (k + 1) xs)
 line_at d xs k there before here = rw add-one (line_upto d xs k there before here)
@@ -34,5 +35,6 @@ lacks d [] none = All-nil (λ byte. byte ≢ d)
 lacks d (x ∷ xs) none = All-cons (λ byte. byte ≢ d) x xs (λ same. none 0 (omega arith) (eq-eqb x d same))
     (lacks d xs (λ j less e. none (suc j) (omega arith) e))
 
+-- Also where they are cut to their number.
 pub lacks_all : (d : ℕ) (xs : List ℕ) → ((j : ℕ) → j < length xs → (slice_index xs j == d) ≡ true → ⊥) → Lacks d (take (length xs) xs)
 lacks_all d xs none = subst (Lacks d) (sym (take-length xs)) (lacks d xs none)

@@ -39,6 +39,7 @@ line_goes tells left rest u next start is goes = record {
   front = goes.front;
 }
 
+-- Where the read up to a newline pauses or goes on, so does that of the line.
 pub line_again : (tells : Bool) (before now : Reader) (u next : Until) (start : ℕ) → IsLining u start → Paused tells before now u next
     ⊎ ReadsOn tells before.left now.left u next
     → Paused tells before now (lining u start) (lining next start)

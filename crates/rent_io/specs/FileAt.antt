@@ -1,6 +1,7 @@
 -- What is read and written at a position, and what the polls of a read and a write there do.
 use Rattle.std.specs.Prelude.{ℕ, ◌≡◌, ◌≤◌, ◌+◌, ◌-◌, Bool, IsTrue, List, ◌++◌, length, take, drop, replicate, Ok, Err}
 use Rattle.rent_buf.specs.Buffer.{Buffer}
+use Rattle.rent_buf.specs.Parts.{Parts}
 use Rattle.rent_io.specs.declared.poll.PollBuf.{PollBuf}
 use Rattle.rent_io.specs.declared.poll.PollBuf.TheVariants.{Ready, Pending, Again}
 use Rattle.rent_io.specs.Counts.{Counts}
@@ -12,12 +13,12 @@ pub record FileAt : Type 0 where
   pub counts : Counts
 
 -- A poll of a read from a position on: n bytes are read, or the buffer comes back as it was.
-abbrev pub ReadsAt : {T : Type 0} → Bool → List ℕ → ℕ → (T → Buffer) → (T → List (ℕ × ℕ)) → T → PollBuf T → Type 0
-ReadsAt tells bytes pos buffer under buf (Ready (Ok n) back) = Taken tells (drop pos bytes) (drop n (drop pos bytes)) (buffer buf)
-    (buffer back) n × (under back ≡ under buf)
-ReadsAt tells bytes pos buffer under buf (Ready (Err fault) back) = back ≡ buf
-ReadsAt tells bytes pos buffer under buf (Pending back) = back ≡ buf
-ReadsAt tells bytes pos buffer under buf (Again back) = back ≡ buf
+abbrev pub ReadsAt : {T : Type 0} → Bool → List ℕ → ℕ → (T → Buffer) → (T → List (ℕ × ℕ)) → (T → Parts) → T → PollBuf T → Type 0
+ReadsAt tells bytes pos buffer under beside buf (Ready (Ok n) back) = Taken tells (drop pos bytes) (drop n (drop pos bytes)) (buffer buf)
+    (buffer back) n × (under back ≡ under buf) × (beside back ≡ beside buf)
+ReadsAt tells bytes pos buffer under beside buf (Ready (Err fault) back) = back ≡ buf
+ReadsAt tells bytes pos buffer under beside buf (Pending back) = back ≡ buf
+ReadsAt tells bytes pos buffer under beside buf (Again back) = back ≡ buf
 
 -- Bytes with others written over them from a position on, and 0 where bytes are missing before it.
 abbrev pub written_at : List ℕ → ℕ → List ℕ → List ℕ

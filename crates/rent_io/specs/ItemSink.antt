@@ -1,5 +1,5 @@
 -- What takes items, and what the polls of a send and a flush do.
-use Rattle.std.specs.Prelude.{ℕ, ◌≡◌, Option, None, IsSome, Result, Ok, Err}
+use Rattle.std.specs.Prelude.{ℕ, ◌≡◌, ◌⊎◌, Option, None, IsSome, Result, Ok, Err}
 use Rattle.rent_io.specs.declared.sink.SinkPoll.{SinkPoll}
 use Rattle.rent_io.specs.declared.sink.SinkPoll.TheVariants.{Ready as SendReady, Pending as SendPending}
 use Rattle.rent_io.specs.declared.sink.SinkDone.{SinkDone}
@@ -42,3 +42,21 @@ SendsAndFlushes before now item (Ready (Ok done)) = (item ≡ None) × (now.send
 SendsAndFlushes before now item (Ready (Err error)) = NothingDone before now × Rose before.counts.faults now.counts.faults
 SendsAndFlushes before now item (Pending next) = (next ≡ item) × NothingDone before now × Rose before.counts.pauses now.counts.pauses
 SendsAndFlushes before now item (Again next) = IsSome item × (next ≡ None) × (now.flushes ≡ before.flushes) × Rose before.sends now.sends
+
+-- The item was taken, and nothing was flushed since.
+abbrev pub IsTaken : {I : Type 0} → ItemSink → ItemSink → Option I → Type 0
+IsTaken before now item = IsSome item × (now.flushes ≡ before.flushes) × Rose before.sends now.sends
+
+-- Polls of a send and a flush that isn't done: it is as it was, or its item was taken, and only then a flush comes.
+abbrev pub HasSend : {I : Type 0} → ItemSink → ItemSink → Option I → Option I → Type 0
+HasSend before now item next = ((next ≡ item) × NothingDone before now) ⊎ ((next ≡ None) × IsTaken before now item)
+
+-- Polls of a send and a flush, however the sink answered them: one law for every schedule of pauses and errors. The clause `run` of
+-- its `drive` cites it.
+abbrev pub RunsSend : {I E : Type 0} → ItemSink → ItemSink → Option I → Step (Option I) (Result (Unit {0}) E) → Type 0
+RunsSend before now item (Ready (Ok done)) = Rose before.flushes now.flushes
+    × (((item ≡ None) × (now.sends ≡ before.sends)) ⊎ (IsSome item × Rose before.sends now.sends))
+RunsSend before now item (Ready (Err error)) = Rose before.counts.faults now.counts.faults
+    × (NothingDone before now ⊎ IsTaken before now item)
+RunsSend before now item (Pending next) = HasSend before now item next
+RunsSend before now item (Again next) = HasSend before now item next

@@ -1,6 +1,7 @@
 -- A read that fills its buffer: what each poll of it does.
 use Rattle.std.specs.Prelude.{ℕ, ◌≡◌, ◌+◌, ◌-◌, ◌<◌, ◌⊎◌, Bool, IsTrue, List, [], ◌∷◌, length, Result, Ok, Err}
 use Rattle.rent_buf.specs.Buffer.{Buffer, room, put}
+use Rattle.rent_buf.specs.Parts.{Parts}
 use Rattle.rent_buf.specs.declared.fault.IoFault.{IoFault}
 use Rattle.rent_buf.specs.declared.fault.IoFault.TheVariants.{UnexpectedEof}
 use Rattle.rent_io.specs.declared.poll.Step.{Step}
@@ -8,11 +9,16 @@ use Rattle.rent_io.specs.declared.poll.Step.TheVariants.{Ready, Pending, Again}
 use Rattle.rent_io.specs.Counts.{Rose}
 use Rattle.rent_io.specs.Reader.{Reader, WasFront}
 
--- Such a read is its buffer, the ranges of the buffers under it, and how many bytes of its range it has filled.
+-- Such a read is its buffer, the ranges under that and the parts beside it, and how many bytes of the range it has filled.
 pub record Filling : Type 0 where
   pub buffer : Buffer
   pub under : List (ℕ × ℕ)
+  pub beside : Parts
   pub filled : ℕ
+
+-- A read that starts.
+abbrev pub filling : Buffer → List (ℕ × ℕ) → Parts → Filling
+filling buffer under beside = record { buffer = buffer; under = under; beside = beside; filled = 0 }
 
 -- How many bytes are to come.
 abbrev pub lacks : Filling → ℕ
@@ -62,8 +68,10 @@ abbrev pub Paused : {S : Type 0} → Bool → Reader → Reader → S → S → 
 Paused tells before now f next = (next ≡ f) × (IsTrue tells → before.left ≡ now.left) × Rose before.counts.pauses now.counts.pauses
 
 -- A poll of it.
-abbrev pub ReadsExact : {T : Type 0} → Bool → Reader → Reader → (T → Buffer) → (T → List (ℕ × ℕ)) → Filling
+abbrev pub ReadsExact : {T : Type 0} → Bool → Reader → Reader → (T → Buffer) → (T → List (ℕ × ℕ)) → (T → Parts) → Filling
     → Step Filling (Result ℕ IoFault × T) → Type 0
-ReadsExact tells before now buffer under f (Ready end) = IsExactEnd tells before now f (buffer end.1) end.0 × (under end.1 ≡ f.under)
-ReadsExact tells before now buffer under f (Pending next) = Paused tells before now f next
-ReadsExact tells before now buffer under f (Again next) = Paused tells before now f next ⊎ GoesOn tells before.left now.left f next
+ReadsExact tells before now buffer under beside f (Ready end) =
+    IsExactEnd tells before now f (buffer end.1) end.0 × (under end.1 ≡ f.under) × (beside end.1 ≡ f.beside)
+ReadsExact tells before now buffer under beside f (Pending next) = Paused tells before now f next
+ReadsExact tells before now buffer under beside f (Again next) = Paused tells before now f next
+    ⊎ GoesOn tells before.left now.left f next

@@ -28,12 +28,14 @@ pub record Taken (tells : Bool) (left rest : List ℕ) (b back : Buffer) (n : �
   pub front : WasFront tells left got rest
   pub at_end : NoneOnlyAtEnd tells left (room b) n
 
--- A poll of a read: n bytes are read, or nothing moves and the buffer comes back as it was.
-abbrev pub Reads : {T : Type 0} → Bool → List ℕ → List ℕ → (T → Buffer) → (T → List (ℕ × ℕ)) → T → PollBuf T → Type 0
-Reads tells left rest buffer under buf (Ready (Ok n) back) = Taken tells left rest (buffer buf) (buffer back) n × (under back ≡ under buf)
-Reads tells left rest buffer under buf (Ready (Err fault) back) = (back ≡ buf) × (IsTrue tells → left ≡ rest)
-Reads tells left rest buffer under buf (Pending back) = (back ≡ buf) × (IsTrue tells → left ≡ rest)
-Reads tells left rest buffer under buf (Again back) = (back ≡ buf) × (IsTrue tells → left ≡ rest)
+-- A poll of a read: n bytes are read, the ranges under the buffer and the parts beside it stay, or nothing moves and the buffer comes
+-- back as it was.
+abbrev pub Reads : {T : Type 0} → Bool → List ℕ → List ℕ → (T → Buffer) → (T → List (ℕ × ℕ)) → (T → Parts) → T → PollBuf T → Type 0
+Reads tells left rest buffer under beside buf (Ready (Ok n) back) =
+    Taken tells left rest (buffer buf) (buffer back) n × (under back ≡ under buf) × (beside back ≡ beside buf)
+Reads tells left rest buffer under beside buf (Ready (Err fault) back) = (back ≡ buf) × (IsTrue tells → left ≡ rest)
+Reads tells left rest buffer under beside buf (Pending back) = (back ≡ buf) × (IsTrue tells → left ≡ rest)
+Reads tells left rest buffer under beside buf (Again back) = (back ≡ buf) × (IsTrue tells → left ≡ rest)
 
 -- The room of the first part that has any, or 0.
 abbrev pub first_room : Parts → ℕ

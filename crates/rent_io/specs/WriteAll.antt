@@ -1,5 +1,6 @@
 -- A write of all bytes: what each poll of it does.
-use Rattle.std.specs.Prelude.{ℕ, ◌≡◌, ◌<◌, ◌⊎◌, Bool, IsTrue, List, ◌++◌, length, Result, Ok, Err}
+use Rattle.std.specs.Prelude.{ℕ, ◌≡◌, ◌<◌, ◌⊎◌, Bool, IsTrue, List, ◌++◌, length, sum_by, Result, Ok, Err}
+use Rattle.std.specs.List.{concat}
 use Rattle.rent_buf.specs.declared.fault.IoFault.{IoFault}
 use Rattle.rent_buf.specs.declared.fault.IoFault.TheVariants.{WriteZero}
 use Rattle.rent_io.specs.declared.poll.Step.{Step}
@@ -12,6 +13,13 @@ pub record Sending (T : Type 0) : Type 0 where
   pub buf : T
   pub rest : List ℕ
   pub total : ℕ
+
+-- A write that starts, of one buffer's bytes, and of the bytes of parts, in order.
+abbrev pub sending : {T : Type 0} → T → List ℕ → Sending T
+sending buf bytes = record { buf = buf; rest = bytes; total = length bytes }
+
+abbrev pub sending_parts : {T : Type 0} → T → List (List ℕ) → Sending T
+sending_parts buf parts = record { buf = buf; rest = concat parts; total = sum_by length parts }
 
 -- It wrote some bytes, and more are to be written.
 pub record SendsOn {T : Type 0} (tells : Bool) (before now : List ℕ) (s next : Sending T) : Type 0 where

@@ -48,3 +48,24 @@ impl<A: AsyncBufRead> AsyncBufRead for &mut A {
         (**self).consume(n);
     }
 }
+
+// All bytes of a slice that are left are buffered. It never pauses and never fails.
+impl AsyncBufRead for &[u8] {
+    ghost buffered = { λ s. s.now };
+
+    fn poll_fill(&mut self, _task: u64) -> PollCount {
+        PollCount::Ready(Ok(self.len() as u64))
+    }
+
+    #[tactic(auto, using(crate::proofs::Fronts::all_front))]
+    fn buffered(&self) -> &[u8] {
+        *self
+    }
+
+    #[tactic(auto, using(crate::proofs::Fronts::cut_to_end))]
+    fn consume(&mut self, n: usize) {
+        let left = *self;
+        let (_, rest) = left.split_at(n.min(left.len()));
+        *self = rest;
+    }
+}

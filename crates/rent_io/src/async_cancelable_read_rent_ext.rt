@@ -1,20 +1,35 @@
 // The reads of a stream under a cancel group, as calls of the stream.
-ghost use Rattle.std.specs.Prelude.{◌≡◌, true, false, IfOk};
+ghost use Rattle.std.specs.Prelude.{◌≡◌, true, false, IfOk, IsOk};
+ghost use Rattle.rent_io.specs.ReadExact.{filling};
 ghost use Rattle.rent_io.specs.ReadNumber.{number_of};
+ghost use Rattle.rent_io.specs.ReadVectoredExact.{scattering};
 
 use crate::async_rent_cancelable::CancelableAsyncReadRent;
-use crate::cancelable_read::{CancelableReadExact, CancelableReadNumber};
+use crate::cancelable_read::{CancelableReadExact, CancelableReadNumber, CancelableReadVectoredExact};
 use cancel_core::CancelHandle;
-use rent_buf::{IoBufMut, OutOfMemory};
+use rent_buf::{IoBufMut, IoVecBufMut, OutOfMemory};
 use std::alloc::Global;
 
 /// Whole reads of a stream under a cancel group (monoio: `CancelableAsyncReadRentExt`). Each answers a state, to be polled with the stream.
 pub trait CancelableAsyncReadRentExt: CancelableAsyncReadRent {
     /// A read that fills this buffer's range from its start, under the group of `c` (monoio: `cancelable_read_exact`).
     fn cancelable_read_exact<T: IoBufMut>(&self, buf: T, c: CancelHandle) -> CancelableReadExact<T>
-        ensures { result ≡ record { buffer = T.buffer buf; under = T.under buf; filled = 0 } }
+        ensures { result ≡ filling (T.buffer buf) (T.under buf) (T.beside buf) }
     {
         CancelableReadExact::new(buf, c)
+    }
+
+    /// A read that fills these parts, from the first on, under the group of `c` (monoio:
+    /// `cancelable_read_vectored_exact`). It takes no memory, so the answer is always `Ok`.
+    fn cancelable_read_vectored_exact<T: IoVecBufMut>(
+        &self,
+        buf: T,
+        c: CancelHandle,
+    ) -> Result<CancelableReadVectoredExact<T>, (OutOfMemory, T)>
+        ensures made { IsOk result }
+        ensures value { IfOk result (λ s. s ≡ scattering (T.held buf)) }
+    {
+        CancelableReadVectoredExact::new(buf, c)
     }
 
     /// A read of a `u8`, its most significant byte first, under the group of `c`; or `OutOfMemory` (monoio: `cancelable_read_u8`).

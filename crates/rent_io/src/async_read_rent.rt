@@ -20,7 +20,7 @@ pub trait AsyncReadRent {
     /// their number: 0 only where there is no room, or at the end of the stream. At `Pending`, `Again` and a fault
     /// nothing was read.
     fn poll_read<T: IoBufMut>(&mut self, buf: T, task: u64) -> PollBuf<T>
-        ensures reads { Reads tells (reader self.old).left (reader self.new).left T.buffer T.under buf result }
+        ensures reads { Reads tells (reader self.old).left (reader self.new).left T.buffer T.under T.beside buf result }
         ensures cause { IsCaused (reader self.old).counts (reader self.new).counts result }
         ensures counts { AfterCall (reader self.old).counts (reader self.new).counts };
 

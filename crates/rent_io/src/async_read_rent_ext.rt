@@ -1,20 +1,35 @@
 // The reads of a stream, as calls of the stream.
-ghost use Rattle.std.specs.Prelude.{◌≡◌, true, false, IfOk};
+ghost use Rattle.std.specs.Prelude.{◌≡◌, true, false, IfOk, IsOk};
+ghost use Rattle.rent_io.specs.ReadExact.{filling};
 ghost use Rattle.rent_io.specs.ReadNumber.{number_of};
+ghost use Rattle.rent_io.specs.ReadVectoredExact.{scattering};
 
 use crate::async_read_rent::AsyncReadRent;
 use crate::read_exact::ReadExact;
 use crate::read_number::ReadNumber;
-use rent_buf::{IoBufMut, OutOfMemory};
+use crate::read_vectored_exact::ReadVectoredExact;
+use rent_buf::{IoBufMut, IoVecBufMut, OutOfMemory};
 use std::alloc::Global;
 
 /// Whole reads of a stream (monoio: `AsyncReadRentExt`). Each answers a state, to be polled with the stream.
 pub trait AsyncReadRentExt: AsyncReadRent {
     /// A read that fills this buffer's range from its start (monoio: `read_exact`).
     fn read_exact<T: IoBufMut>(&self, buf: T) -> ReadExact<T>
-        ensures { result ≡ record { buffer = T.buffer buf; under = T.under buf; filled = 0 } }
+        ensures { result ≡ filling (T.buffer buf) (T.under buf) (T.beside buf) }
     {
         ReadExact::new(buf)
+    }
+
+    /// A read that fills these parts, from the first on (monoio: `read_vectored_exact`). It takes no memory, so the
+    /// answer is always `Ok`.
+    fn read_vectored_exact<T: IoVecBufMut>(
+        &self,
+        buf: T,
+    ) -> Result<ReadVectoredExact<T>, (OutOfMemory, T)>
+        ensures made { IsOk result }
+        ensures value { IfOk result (λ s. s ≡ scattering (T.held buf)) }
+    {
+        ReadVectoredExact::new(buf)
     }
 
     /// A read of a `u8`, its most significant byte first; or `OutOfMemory` (monoio: `read_u8`).

@@ -19,7 +19,7 @@ pub trait AsyncReadRentAt {
     /// and answers their number: 0 only where there is no room, or where no byte is there. No byte of the file
     /// changes.
     fn poll_read_at<T: IoBufMut>(&mut self, buf: T, pos: u64, task: u64) -> PollBuf<T>
-        ensures reads { ReadsAt tells (file self.old).bytes pos T.buffer T.under buf result }
+        ensures reads { ReadsAt tells (file self.old).bytes pos T.buffer T.under T.beside buf result }
         ensures same { IsTrue tells → (file self.new).bytes ≡ (file self.old).bytes }
         ensures cause { IsCaused (file self.old).counts (file self.new).counts result }
         ensures counts { AfterCall (file self.old).counts (file self.new).counts };

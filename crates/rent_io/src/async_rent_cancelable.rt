@@ -22,7 +22,7 @@ pub trait CancelableAsyncReadRent: AsyncReadRent {
         c: CancelHandle,
         task: u64,
     ) -> PollBuf<T>
-        ensures reads { Reads Self.tells (Self.reader self.old).left (Self.reader self.new).left T.buffer T.under buf result }
+        ensures reads { Reads Self.tells (Self.reader self.old).left (Self.reader self.new).left T.buffer T.under T.beside buf result }
         ensures cause { IsCaused (Self.reader self.old).counts (Self.reader self.new).counts result }
         ensures counts { AfterCall (Self.reader self.old).counts (Self.reader self.new).counts };
 

@@ -18,7 +18,7 @@ pub(crate) struct Plain;
 pub(crate) trait ReadCall<A: AsyncReadRent> {
     /// As `poll_read`.
     fn read<T: IoBufMut>(&self, io: &mut A, buf: T, task: u64) -> PollBuf<T>
-        ensures reads { Reads A.tells (A.reader io.old).left (A.reader io.new).left T.buffer T.under buf result }
+        ensures reads { Reads A.tells (A.reader io.old).left (A.reader io.new).left T.buffer T.under T.beside buf result }
         ensures cause { IsCaused (A.reader io.old).counts (A.reader io.new).counts result }
         ensures counts { AfterCall (A.reader io.old).counts (A.reader io.new).counts };
 }

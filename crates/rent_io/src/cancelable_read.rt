@@ -1,16 +1,18 @@
 // Reads whose calls are put under a cancel group.
-ghost use Rattle.std.specs.Prelude.{◌≡◌, IfOk};
+ghost use Rattle.std.specs.Prelude.{◌≡◌, IfOk, IsOk};
 ghost use Rattle.rent_io.specs.Counts.{AfterCall};
-ghost use Rattle.rent_io.specs.ReadExact.{ReadsExact};
+ghost use Rattle.rent_io.specs.ReadExact.{ReadsExact, filling};
 ghost use Rattle.rent_io.specs.ReadNumber.{number_of, ReadsNumber};
+ghost use Rattle.rent_io.specs.ReadVectoredExact.{ReadsScattered, scattering};
 
 use crate::async_rent_cancelable::CancelableAsyncReadRent;
 use crate::number::Number;
 use crate::poll::Step;
 use crate::read_exact::ReadExact;
 use crate::read_number::ReadNumber;
+use crate::read_vectored_exact::ReadVectoredExact;
 use cancel_core::CancelHandle;
-use rent_buf::{BufResult, IoBufMut, IoFault, OutOfMemory};
+use rent_buf::{BufResult, IoBufMut, IoFault, IoVecBufMut, OutOfMemory};
 use std::alloc::Global;
 use std::marker::Model;
 
@@ -34,7 +36,7 @@ impl<T: IoBufMut> Model for CancelableReadExact<T> {
 impl<T: IoBufMut> CancelableReadExact<T> {
     /// A read that fills this buffer's range from its start, under the group of `c`.
     pub fn new(buf: T, c: CancelHandle) -> CancelableReadExact<T>
-        ensures { result ≡ record { buffer = T.buffer buf; under = T.under buf; filled = 0 } }
+        ensures { result ≡ filling (T.buffer buf) (T.under buf) (T.beside buf) }
     {
         CancelableReadExact {
             state: ReadExact::new(buf),
@@ -48,7 +50,7 @@ impl<T: IoBufMut> CancelableReadExact<T> {
         io: &mut A,
         task: u64,
     ) -> Step<CancelableReadExact<T>, BufResult<usize, T>>
-        ensures answer { ReadsExact A.tells (A.reader io.old) (A.reader io.new) T.buffer T.under self result }
+        ensures answer { ReadsExact A.tells (A.reader io.old) (A.reader io.new) T.buffer T.under T.beside self result }
         ensures counts { AfterCall (A.reader io.old).counts (A.reader io.new).counts }
     {
         let CancelableReadExact { state, handle } = self;
@@ -56,6 +58,52 @@ impl<T: IoBufMut> CancelableReadExact<T> {
             Step::Ready(end) => Step::Ready(end),
             Step::Pending(state) => Step::Pending(CancelableReadExact { state, handle }),
             Step::Again(state) => Step::Again(CancelableReadExact { state, handle }),
+        }
+    }
+}
+
+/// A `ReadVectoredExact` whose reads are put under a cancel group (monoio: the future of
+/// `cancelable_read_vectored_exact`). A clause sees the `ReadVectoredExact`.
+#[derive(Drop)]
+#[must_use]
+pub struct CancelableReadVectoredExact<T: IoVecBufMut> {
+    state: ReadVectoredExact<T>,
+    handle: CancelHandle,
+}
+
+impl<T: IoVecBufMut> Model for CancelableReadVectoredExact<T> {
+    ghost use Rattle.rent_io.specs.ReadVectoredExact.{Scattering};
+
+    ghost Value = { Scattering };
+
+    ghost view = { λ s. s.state };
+}
+
+impl<T: IoVecBufMut> CancelableReadVectoredExact<T> {
+    /// A read that fills these parts, from the first on, under the group of `c`. It takes no memory, so the answer is
+    /// always `Ok`.
+    pub fn new(buf: T, c: CancelHandle) -> Result<CancelableReadVectoredExact<T>, (OutOfMemory, T)>
+        ensures made { IsOk result }
+        ensures value { IfOk result (λ s. s ≡ scattering (T.held buf)) }
+    {
+        let state = ReadVectoredExact::new(buf)?;
+        Ok(CancelableReadVectoredExact { state, handle: c })
+    }
+
+    /// As `ReadVectoredExact::poll`, by a cancelable read.
+    pub fn poll<A: CancelableAsyncReadRent>(
+        self,
+        io: &mut A,
+        task: u64,
+    ) -> Step<CancelableReadVectoredExact<T>, BufResult<usize, T>>
+        ensures answer { ReadsScattered A.tells (A.reader io.old) (A.reader io.new) T.held self result }
+        ensures counts { AfterCall (A.reader io.old).counts (A.reader io.new).counts }
+    {
+        let CancelableReadVectoredExact { state, handle } = self;
+        match state.poll_by(io, &handle, task) {
+            Step::Ready(end) => Step::Ready(end),
+            Step::Pending(state) => Step::Pending(CancelableReadVectoredExact { state, handle }),
+            Step::Again(state) => Step::Again(CancelableReadVectoredExact { state, handle }),
         }
     }
 }

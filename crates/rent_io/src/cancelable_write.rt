@@ -1,8 +1,7 @@
 // Writes whose calls are put under a cancel group.
-ghost use Rattle.std.specs.Prelude.{◌≡◌, ◌^◌, ◌<◌, length, sum_by};
-ghost use Rattle.std.specs.List.{concat};
+ghost use Rattle.std.specs.Prelude.{◌≡◌, ◌^◌, ◌<◌, length, sum_by, IsOk, IfOk};
 ghost use Rattle.rent_io.specs.Counts.{AfterCall};
-ghost use Rattle.rent_io.specs.WriteAll.{WritesAll};
+ghost use Rattle.rent_io.specs.WriteAll.{WritesAll, sending, sending_parts};
 ghost use Rattle.rent_io.specs.Writer.{EndsStay};
 
 use crate::async_rent_cancelable::CancelableAsyncWriteRent;
@@ -10,7 +9,7 @@ use crate::poll::Step;
 use crate::write_all::WriteAll;
 use crate::write_vectored_all::WriteVectoredAll;
 use cancel_core::CancelHandle;
-use rent_buf::{BufResult, IoBuf, IoVecBuf};
+use rent_buf::{BufResult, IoBuf, IoVecBuf, OutOfMemory};
 use std::marker::Model;
 
 /// A `WriteAll` whose writes are put under a cancel group (monoio: the future of `write_all` of
@@ -33,7 +32,7 @@ impl<T: IoBuf> Model for CancelableWriteAll<T> {
 impl<T: IoBuf> CancelableWriteAll<T> {
     /// A write of this buffer's bytes, under the group of `c`.
     pub fn new(buf: T, c: CancelHandle) -> CancelableWriteAll<T>
-        ensures { result ≡ record { buf = buf; rest = T.content buf; total = length (T.content buf) } }
+        ensures { result ≡ sending buf (T.content buf) }
     {
         CancelableWriteAll {
             state: WriteAll::new(buf),
@@ -78,15 +77,15 @@ impl<T: IoVecBuf> Model for CancelableWriteVectoredAll<T> {
 }
 
 impl<T: IoVecBuf> CancelableWriteVectoredAll<T> {
-    /// A write of the bytes of the parts, in order, under the group of `c`.
-    pub fn new(buf: T, c: CancelHandle) -> CancelableWriteVectoredAll<T>
+    /// A write of the bytes of the parts, in order, under the group of `c`. It takes no memory, so the answer is
+    /// always `Ok`.
+    pub fn new(buf: T, c: CancelHandle) -> Result<CancelableWriteVectoredAll<T>, (OutOfMemory, T)>
         requires { sum_by length (T.parts buf) < 2 ^ 64 }
-        ensures { result ≡ record { buf = buf; rest = concat (T.parts buf); total = sum_by length (T.parts buf) } }
+        ensures made { IsOk result }
+        ensures value { IfOk result (λ s. s ≡ sending_parts buf (T.parts buf)) }
     {
-        CancelableWriteVectoredAll {
-            state: WriteVectoredAll::new(buf),
-            handle: c,
-        }
+        let state = WriteVectoredAll::new(buf)?;
+        Ok(CancelableWriteVectoredAll { state, handle: c })
     }
 
     /// As `WriteVectoredAll::poll`, by a cancelable write.

@@ -10,17 +10,20 @@ pub(crate) struct PartFrom<T: IoVecBuf> {
     buf: T,
     part: usize,
     begin: usize,
+    // The part's length.
+    len: usize,
 }
 
 impl<T: IoVecBuf> Model for PartFrom<T> {
-    ghost use Rattle.std.specs.Prelude.{◌<◌, ◌≤◌, [], length, slice_index_or};
+    ghost use Rattle.std.specs.Prelude.{◌≡◌, ◌^◌, ◌<◌, ◌≤◌, [], length, slice_index_or};
     ghost use Rattle.rent_io.specs.WriteVectoredAll.{PartCut};
 
     ghost Value = { PartCut T };
 
     ghost view = { λ p. record { inner = p.buf; part = p.part; begin = p.begin } };
 
-    ghost invariant = { λ p. (p.part < length (T.parts p.buf)) × (p.begin ≤ length (slice_index_or (T.parts p.buf) p.part [])) };
+    ghost invariant = { λ p. (p.part < length (T.parts p.buf)) × (p.begin ≤ p.len)
+        × (p.len ≡ length (slice_index_or (T.parts p.buf) p.part [])) × (p.len < 2 ^ 64) };
 }
 
 impl<T: IoVecBuf> PartFrom<T> {
@@ -30,7 +33,13 @@ impl<T: IoVecBuf> PartFrom<T> {
         requires within { begin ≤ length (slice_index_or (T.parts buf) part []) }
         ensures { result ≡ record { inner = buf; part = part; begin = begin } }
     {
-        PartFrom { buf, part, begin }
+        let len = buf.part(part).len();
+        PartFrom {
+            buf,
+            part,
+            begin,
+            len,
+        }
     }
 
     /// The place in the part behind its next `n` bytes.
@@ -39,7 +48,6 @@ impl<T: IoVecBuf> PartFrom<T> {
         ensures place { result ≡ self.now.begin + n }
         ensures within { result ≤ length (slice_index_or (T.parts self.now.inner) self.now.part []) }
     {
-        let _ = self.buf.part(self.part).len();
         self.begin + n
     }
 
@@ -51,6 +59,7 @@ impl<T: IoVecBuf> PartFrom<T> {
             buf,
             part: _,
             begin: _,
+            len: _,
         } = self;
         buf
     }
@@ -66,8 +75,6 @@ impl<T: IoVecBuf> IoBuf for PartFrom<T> {
     }
 
     fn bytes_init(&self) -> usize {
-        let part = self.buf.part(self.part);
-        let (_, rest) = part.split_at(self.begin);
-        rest.len()
+        self.len - self.begin
     }
 }

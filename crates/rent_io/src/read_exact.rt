@@ -1,7 +1,8 @@
 // A read that fills its buffer.
-ghost use Rattle.std.specs.Prelude.{◌≡◌, ◌+◌, ◌<◌, ◌≤◌};
+ghost use Rattle.std.specs.Prelude.{◌≡◌, ◌+◌, ◌≤◌, length};
 ghost use Rattle.rent_io.specs.Counts.{AfterCall};
-ghost use Rattle.rent_io.specs.ReadExact.{Filling, ReadsExact};
+ghost use Rattle.rent_io.specs.ReadExact.{ReadsExact, filling};
+ghost use Rattle.rent_io.specs.Runs.{AfterCalls, RunsExact};
 
 use crate::async_read_rent::AsyncReadRent;
 use crate::calls::{Plain, ReadCall};
@@ -25,7 +26,7 @@ impl<T: IoBufMut> Model for ReadExact<T> {
 
     ghost Value = { Filling };
 
-    ghost view = { λ s. record { buffer = T.buffer s.buf; under = T.under s.buf; filled = s.filled } };
+    ghost view = { λ s. record { buffer = T.buffer s.buf; under = T.under s.buf; beside = T.beside s.buf; filled = s.filled } };
 
     ghost invariant = { λ s. (s.filled ≤ room (T.buffer s.buf)) × (s.filled ≤ length (shown (T.buffer s.buf))) };
 }
@@ -33,7 +34,7 @@ impl<T: IoBufMut> Model for ReadExact<T> {
 impl<T: IoBufMut> ReadExact<T> {
     /// A read that fills this buffer's range from its start.
     pub fn new(buf: T) -> ReadExact<T>
-        ensures { result ≡ record { buffer = T.buffer buf; under = T.under buf; filled = 0 } }
+        ensures { result ≡ filling (T.buffer buf) (T.under buf) (T.beside buf) }
     {
         ReadExact { buf, filled: 0 }
     }
@@ -46,10 +47,41 @@ impl<T: IoBufMut> ReadExact<T> {
         io: &mut A,
         task: u64,
     ) -> Step<ReadExact<T>, BufResult<usize, T>>
-        ensures answer { ReadsExact A.tells (A.reader io.old) (A.reader io.new) T.buffer T.under self result }
+        ensures answer { ReadsExact A.tells (A.reader io.old) (A.reader io.new) T.buffer T.under T.beside self result }
         ensures counts { AfterCall (A.reader io.old).counts (A.reader io.new).counts }
     {
         self.poll_by(io, &Plain, task)
+    }
+
+    /// Polls it until it is done, `polls` times at most (not in monoio). Whatever the stream answered, the bytes that left
+    /// it are stored in the range, one behind the other, each once. `Again` means that the polls are used up.
+    pub fn drive<A: AsyncReadRent>(
+        self,
+        io: &mut A,
+        task: u64,
+        polls: u64,
+    ) -> Step<ReadExact<T>, BufResult<usize, T>>
+        ensures run { RunsExact A.tells (A.reader io.old) (A.reader io.new) T.buffer T.under T.beside self result }
+        ensures counts { AfterCalls polls (A.reader io.old).counts (A.reader io.new).counts }
+    {
+        self.keeps_bounds();
+        let mut state = self;
+        for _ in 0..polls {
+            match state.poll(io, task) {
+                Step::Ready((outcome, buf)) => return Step::Ready((outcome, buf)),
+                Step::Pending(next) => state = next,
+                Step::Again(next) => state = next,
+            }
+        }
+        Step::Again(state)
+    }
+
+    // Does nothing, and tells that the filled bytes are among the initialised ones.
+    #[tactic(auto, using(crate::proofs::ExactRuns::filled_within))]
+    fn keeps_bounds(&self)
+        ensures { self.now.buffer.begin + self.now.filled ≤ length self.now.buffer.bytes }
+    {
+        self.buf.keeps_bounds();
     }
 
     // A poll by this call.
@@ -59,7 +91,7 @@ impl<T: IoBufMut> ReadExact<T> {
         call: &C,
         task: u64,
     ) -> Step<ReadExact<T>, BufResult<usize, T>>
-        ensures answer { ReadsExact A.tells (A.reader io.old) (A.reader io.new) T.buffer T.under self result }
+        ensures answer { ReadsExact A.tells (A.reader io.old) (A.reader io.new) T.buffer T.under T.beside self result }
         ensures counts { AfterCall (A.reader io.old).counts (A.reader io.new).counts }
     {
         let ReadExact { buf, filled } = self;

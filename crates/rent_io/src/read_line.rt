@@ -1,6 +1,8 @@
 // A read of a line.
 ghost use Rattle.std.specs.Prelude.{◌≡◌, ◌≤◌, [], IsUtf8, MatchBool, length, take, drop, string_bytes};
 ghost use Rattle.rent_io.specs.Counts.{AfterCall};
+ghost use Rattle.rent_io.specs.LineRuns.{RunsLine};
+ghost use Rattle.rent_io.specs.Runs.{AfterCalls};
 ghost use Rattle.rent_io.specs.ReadLine.{ReadsLine, TextOf};
 
 use crate::async_buf_read::AsyncBufRead;
@@ -97,5 +99,28 @@ impl ReadLine {
             Step::Pending(until) => Step::Pending(ReadLine { until, start }),
             Step::Again(until) => Step::Again(ReadLine { until, start }),
         }
+    }
+
+    /// Polls it until it is done, `polls` times at most (not in monoio). Whatever the stream answered, the bytes that left
+    /// it were added, up to and with the first newline, and are taken back where they aren't UTF-8.
+    /// `Again` means that the polls are used up.
+    pub fn drive<A: AsyncBufRead>(
+        self,
+        io: &mut A,
+        task: u64,
+        polls: u64,
+    ) -> Step<ReadLine, BufResult<usize, String>>
+        ensures run { RunsLine A.tells (A.reader io.old) (A.reader io.new) string_bytes self result }
+        ensures counts { AfterCalls polls (A.reader io.old).counts (A.reader io.new).counts }
+    {
+        let mut state = self;
+        for _ in 0..polls {
+            match state.poll(io, task) {
+                Step::Ready((outcome, buf)) => return Step::Ready((outcome, buf)),
+                Step::Pending(next) => state = next,
+                Step::Again(next) => state = next,
+            }
+        }
+        Step::Again(state)
     }
 }

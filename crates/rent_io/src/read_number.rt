@@ -1,6 +1,8 @@
 // A read of a number.
 ghost use Rattle.std.specs.Prelude.{◌≡◌, IfOk};
 ghost use Rattle.rent_io.specs.Counts.{AfterCall};
+ghost use Rattle.rent_io.specs.LineRuns.{RunsNumber};
+ghost use Rattle.rent_io.specs.Runs.{AfterCalls};
 ghost use Rattle.rent_io.specs.ReadNumber.{number_of, ReadsNumber};
 
 use crate::async_read_rent::AsyncReadRent;
@@ -58,6 +60,29 @@ impl<N: Number> ReadNumber<N> {
         ensures counts { AfterCall (A.reader io.old).counts (A.reader io.new).counts }
     {
         self.poll_by(io, &Plain, task)
+    }
+
+    /// Polls it until it is done, `polls` times at most (not in monoio). Whatever the stream answered, the number is that
+    /// of the bytes that left it.
+    /// `Again` means that the polls are used up.
+    pub fn drive<A: AsyncReadRent>(
+        self,
+        io: &mut A,
+        task: u64,
+        polls: u64,
+    ) -> Step<ReadNumber<N>, Result<N, IoFault>>
+        ensures run { RunsNumber A.tells (A.reader io.old) (A.reader io.new) N.value self result }
+        ensures counts { AfterCalls polls (A.reader io.old).counts (A.reader io.new).counts }
+    {
+        let mut state = self;
+        for _ in 0..polls {
+            match state.poll(io, task) {
+                Step::Ready(outcome) => return Step::Ready(outcome),
+                Step::Pending(next) => state = next,
+                Step::Again(next) => state = next,
+            }
+        }
+        Step::Again(state)
     }
 
     // A poll by this call.

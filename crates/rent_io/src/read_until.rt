@@ -1,6 +1,8 @@
 // A read up to a delimiter.
 ghost use Rattle.std.specs.Prelude.{◌≡◌, ◌+◌, ◌<◌, ◌≤◌, length, take, MatchBool};
 ghost use Rattle.rent_io.specs.Counts.{AfterCall};
+ghost use Rattle.rent_io.specs.LineRuns.{RunsUntil};
+ghost use Rattle.rent_io.specs.Runs.{AfterCalls};
 ghost use Rattle.rent_io.specs.ReadUntil.{Lacks, IsLine, ReadsUntil};
 
 use crate::async_buf_read::AsyncBufRead;
@@ -105,5 +107,28 @@ impl ReadUntil {
             PollCount::Pending => Step::Pending(ReadUntil { delim, buf, added }),
             PollCount::Again => Step::Again(ReadUntil { delim, buf, added }),
         }
+    }
+
+    /// Polls it until it is done, `polls` times at most (not in monoio). Whatever the stream answered, the bytes that left
+    /// it were added, up to and with the first delimiter.
+    /// `Again` means that the polls are used up.
+    pub fn drive<A: AsyncBufRead>(
+        self,
+        io: &mut A,
+        task: u64,
+        polls: u64,
+    ) -> Step<ReadUntil, BufResult<usize, ByteList>>
+        ensures run { RunsUntil A.tells (A.reader io.old) (A.reader io.new) self result }
+        ensures counts { AfterCalls polls (A.reader io.old).counts (A.reader io.new).counts }
+    {
+        let mut state = self;
+        for _ in 0..polls {
+            match state.poll(io, task) {
+                Step::Ready((outcome, buf)) => return Step::Ready((outcome, buf)),
+                Step::Pending(next) => state = next,
+                Step::Again(next) => state = next,
+            }
+        }
+        Step::Again(state)
     }
 }

@@ -1,7 +1,8 @@
 // Sinks of items, and a send that is flushed.
 ghost use Rattle.std.specs.Prelude.{◌≡◌, Some};
 ghost use Rattle.rent_io.specs.Counts.{AfterCall};
-ghost use Rattle.rent_io.specs.ItemSink.{ItemSink, IsSent, IsDone, CausesDone, SendsAndFlushes};
+ghost use Rattle.rent_io.specs.ItemSink.{ItemSink, IsSent, IsDone, CausesDone, SendsAndFlushes, RunsSend};
+ghost use Rattle.rent_io.specs.Runs.{AfterCalls};
 
 use crate::poll::Step;
 use std::marker::Model;
@@ -118,5 +119,27 @@ impl<I> SendAndFlush<I> {
                 SinkDone::Pending => Step::Pending(SendAndFlush { item: None }),
             },
         }
+    }
+
+    /// Polls it until it is done, `polls` times at most (not in monoio). Whatever the sink answered, the item is taken in
+    /// one poll, and a flush comes in a later one. `Again` means that the polls are used up.
+    pub fn drive<S: Sink<I>>(
+        self,
+        sink: &mut S,
+        task: u64,
+        polls: u64,
+    ) -> Step<SendAndFlush<I>, Result<(), S::Error>>
+        ensures run { RunsSend (S.sink sink.old) (S.sink sink.new) self result }
+        ensures counts { AfterCalls polls (S.sink sink.old).counts (S.sink sink.new).counts }
+    {
+        let mut state = self;
+        for _ in 0..polls {
+            match state.poll(sink, task) {
+                Step::Ready(outcome) => return Step::Ready(outcome),
+                Step::Pending(next) => state = next,
+                Step::Again(next) => state = next,
+            }
+        }
+        Step::Again(state)
     }
 }

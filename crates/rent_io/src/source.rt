@@ -43,11 +43,13 @@ pub trait ByteSink {
 
     /// Takes a prefix of the bytes, and returns how many: at least 1 if there are some.
     fn write(&mut self, bytes: &[u8]) -> Result<usize, Failed>
-        ensures { WritesFor tells (taken self.old) (taken self.new) (faults self.old) (faults self.new) (is_flushed self.old) (is_flushed self.new) bytes.now result };
+        ensures { WritesFor tells (taken self.old) (taken self.new) (faults self.old) (faults self.new) (is_flushed self.old)
+            (is_flushed self.new) bytes.now result };
 
     /// Passes on what was taken.
     fn flush(&mut self) -> Result<(), Failed>
-        ensures { FlushesFor tells (taken self.old) (taken self.new) (faults self.old) (faults self.new) (is_flushed self.old) (is_flushed self.new) result };
+        ensures { FlushesFor tells (taken self.old) (taken self.new) (faults self.old) (faults self.new) (is_flushed self.old)
+            (is_flushed self.new) result };
 }
 
 impl<S: ByteSource> ByteSource for &mut S {

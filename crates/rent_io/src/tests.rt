@@ -1,13 +1,16 @@
-// That the calls succeed where memory is at hand, worked runs, and the texts of faults.
+// Worked runs over scripted streams, and that each call succeeds where memory is at hand.
 use crate::{
-    AsyncReadRent, AsyncReadRentExt, AsyncWriteRentExt, IoFault, Number, PollBuf, ReadExact,
-    ReadNumber, ScriptedStream, Step, Turned1, WriteAll,
+    AsyncReadRent, AsyncReadRentExt, AsyncWriteRent, AsyncWriteRentExt, IoFault, PollBuf,
+    PollCount, ScriptedStream, Step, Turned1, WriteAll,
 };
-use rent_buf::{ByteList, IoBuf, OutOfMemory, Ranges, Rent, VecBuf};
+use rent_buf::{ByteList, IoBuf, Ranges, Rent, VecBuf};
 use std::alloc::{AllocError, Global};
-use std::fmt::Debug;
-use std::process::Abort;
 use std::test::Fail;
+
+mod cancelable;
+mod ends;
+mod lines;
+mod numbers;
 
 // A stream of these bytes with this script.
 fn stream(alloc: Global, bytes: &[u8], script: &[Turned1]) -> Result<ScriptedStream, AllocError> {
@@ -15,42 +18,117 @@ fn stream(alloc: Global, bytes: &[u8], script: &[Turned1]) -> Result<ScriptedStr
     Ok(ScriptedStream::new(alloc, input, script.to_vec(alloc)?))
 }
 
-// Polls a read until it is ready, at most so many times.
-fn drive_read<A: AsyncReadRent>(
-    io: &mut A,
-    state: ReadExact<Rent>,
-    tries: u32,
-) -> Option<(Result<usize, IoFault>, Rent)> {
-    let mut state = state;
-    for _ in 0..tries {
-        match state.poll(io, 0) {
-            Step::Ready(end) => return Some(end),
-            Step::Pending(next) => state = next,
-            Step::Again(next) => state = next,
-        }
+// Parts of these bytes.
+fn parts_of(alloc: Global, texts: [&[u8]; 3]) -> Result<VecBuf, Fail> {
+    let mut lists = Vec::new(alloc);
+    for text in texts {
+        lists.push(text.to_vec(alloc)?)?;
     }
-    None
+    match VecBuf::from_parts(lists) {
+        Ok(parts) => Ok(parts),
+        Err(_) => Err(Fail::from("out of memory")),
+    }
 }
+
+// The end of polls that are done.
+fn ended<S: Drop, R>(step: Step<S, R>) -> Result<R, Fail> {
+    match step {
+        Step::Ready(end) => Ok(end),
+        _ => Err(Fail::from("not ready")),
+    }
+}
+
+// What a poll answered, without the buffer.
+fn answer<T: Drop>(poll: PollBuf<T>) -> PollCount {
+    match poll {
+        PollBuf::Ready(Ok(n), _) => PollCount::Ready(Ok(n as u64)),
+        PollBuf::Ready(Err(fault), _) => PollCount::Ready(Err(fault)),
+        PollBuf::Pending(_) => PollCount::Pending,
+        PollBuf::Again(_) => PollCount::Again,
+    }
+}
+
+use Turned1::{Fault, Grant, Interrupt, Pause};
+
+const FAILED: PollCount = PollCount::Ready(Err(IoFault::Os(5)));
+
+// What the row shows, the turn, what a read of 4 over three bytes answers, and what a write of three bytes and a flush do.
+#[rattlefmt::skip]
+const TURNS: [(&str, Turned1, PollCount, PollCount, PollCount); 6] = [
+    ("a grant of some", Grant(2), PollCount::Ready(Ok(2)), PollCount::Ready(Ok(2)), PollCount::Ready(Ok(0))),
+    ("a grant of more than there are", Grant(9), PollCount::Ready(Ok(3)), PollCount::Ready(Ok(3)), PollCount::Ready(Ok(0))),
+    ("a grant of none is a read of one", Grant(0), PollCount::Ready(Ok(1)), PollCount::Ready(Ok(0)), PollCount::Ready(Ok(0))),
+    ("a pause", Pause, PollCount::Pending, PollCount::Pending, PollCount::Pending),
+    ("an interrupt", Interrupt, PollCount::Again, PollCount::Again, PollCount::Again),
+    ("a fault", Fault(5), FAILED, FAILED, FAILED),
+];
+
+#[test]
+fn a_stream_follows_its_script(rt: HostRuntime) -> Result<(), Fail> {
+    for (name, turn, read, written, flushed) in TURNS {
+        let mut io = stream(rt.alloc(), b"abc", &[turn, turn, turn])?;
+        let room = Rent::with_total(rt.alloc(), 4)?;
+        assert_eq!(rt; answer(io.poll_read(room, 0)), read, "in the row {name:?}");
+        let bytes = b"xyz".to_vec(rt.alloc())?;
+        assert_eq!(rt; answer(io.poll_write(bytes, 0)), written, "in the row {name:?}");
+        assert_eq!(rt; io.poll_flush(0), flushed, "in the row {name:?}");
+        assert_eq!(rt; io.poll_shutdown(0), PollCount::Ready(Ok(0)));
+        assert_eq!(rt; io.calls(), 4);
+    }
+    Ok(())
+}
+
+// What the row shows, the room, the script, the outcome, the bytes in the buffer and those left, and how many calls it takes.
+#[rattlefmt::skip]
+const EXACT: [(&str, usize, &[Turned1], Result<usize, IoFault>, &str, &str, u64); 6] = [
+    ("one read", 6, &[], Ok(6), "hello ", "world", 1),
+    ("all that is left", 11, &[], Ok(11), "hello world", "", 1),
+    ("short reads, a pause and an interrupt", 6, &[Grant(2), Pause, Grant(0), Interrupt], Ok(6), "hello ", "world", 5),
+    ("no room", 0, &[], Ok(0), "", "hello world", 0),
+    ("more room than bytes", 12, &[], Err(IoFault::UnexpectedEof), "hello world", "", 2),
+    ("a fault of the stream", 6, &[Grant(2), Fault(5)], Err(IoFault::Os(5)), "he", "llo world", 2),
+];
 
 #[test]
 fn an_exact_read_fills_whatever_the_script(rt: HostRuntime) -> Result<(), Fail> {
-    let script = [
-        Turned1::Grant(2),
-        Turned1::Pause,
-        Turned1::Grant(0),
-        Turned1::Interrupt,
-    ];
-    let mut io = stream(rt.alloc(), b"hello world", &script)?;
-    let state = io.read_exact(Rent::with_total(rt.alloc(), 6)?);
-    let (outcome, buf) = drive_read(&mut &mut io, state, 9).ok_or("not ready")?;
-    assert_eq!(rt; outcome, Ok(6));
-    assert_eq!(rt; buf.bytes(), b"hello ".as_slice());
-    assert_eq!(rt; io.left(), b"world".as_slice());
-    assert_eq!(rt; io.calls(), 5);
-    let state = io.read_exact(Rent::with_total(rt.alloc(), 6)?);
-    let (outcome, buf) = drive_read(&mut io, state, 9).ok_or("not ready")?;
-    assert_eq!(rt; outcome, Err(IoFault::UnexpectedEof));
-    assert_eq!(rt; buf.bytes(), b"world".as_slice());
+    for (name, room, script, want, read, left, calls) in EXACT {
+        let mut io = stream(rt.alloc(), b"hello world", script)?;
+        let state = io.read_exact(Rent::with_total(rt.alloc(), room)?);
+        let (outcome, buf) = ended(state.drive(&mut &mut io, 0, 9))?;
+        assert_eq!(rt; outcome, want, "in the row {name:?}");
+        assert_eq!(rt; buf.bytes(), read.as_bytes(), "in the row {name:?}");
+        assert_eq!(rt; io.left(), left.as_bytes(), "in the row {name:?}");
+        assert_eq!(rt; io.calls(), calls, "in the row {name:?}");
+    }
+    Ok(())
+}
+
+// What the row shows, the script, the outcome, and the bytes of the parts, whose rooms are 2, 0 and 1.
+#[rattlefmt::skip]
+const SCATTERED: [(&str, &[Turned1], &str, Result<usize, IoFault>, [&str; 3]); 4] = [
+    ("a read a part", &[], "abcd", Ok(3), ["ab", "", "c"]),
+    ("short reads and a pause", &[Grant(1), Pause], "abc", Ok(3), ["ab", "", "c"]),
+    ("more room than bytes", &[], "ab", Err(IoFault::UnexpectedEof), ["ab", "", ""]),
+    ("a fault of the stream", &[Grant(1), Fault(5)], "abc", Err(IoFault::Os(5)), ["a", "", "."]),
+];
+
+#[test]
+fn a_vector_is_filled_part_by_part(rt: HostRuntime) -> Result<(), Fail> {
+    for (name, script, bytes, want, read) in SCATTERED {
+        let mut io = stream(rt.alloc(), bytes.as_bytes(), script)?;
+        let Ok(state) = io.read_vectored_exact(parts_of(rt.alloc(), [b"..", b"", b"."])?) else {
+            return Err(Fail::from("out of memory"));
+        };
+        let (outcome, parts) = ended(state.drive(&mut io, 0, 9))?;
+        assert_eq!(rt; outcome, want, "in the row {name:?}");
+        let Ok(lists) = parts.into_parts() else {
+            return Err(Fail::from("out of memory"));
+        };
+        assert_eq!(rt; lists.len(), read.len());
+        for (list, text) in lists.iter().zip(read) {
+            assert_eq!(rt; list.as_slice(), text.as_bytes(), "in the row {name:?}");
+        }
+    }
     Ok(())
 }
 
@@ -65,121 +143,54 @@ fn a_slice_is_read_into_a_rent(rt: HostRuntime) -> Result<(), Fail> {
     };
     assert_eq!(rt; outcome, Ok(2));
     assert_eq!(rt; buf.bytes(), b"ab".as_slice());
+    let parts = parts_of(rt.alloc(), [b"", b"..", b"."])?;
+    assert_eq!(rt; answer(b"xyz".as_slice().poll_readv(parts, 0)), PollCount::Ready(Ok(2)));
     Ok(())
 }
 
-// Polls the read of a number over bytes that are all there, and compares its end.
-fn reads<N: Number + PartialEq + Debug>(
-    rt: &impl Abort,
-    state: Result<ReadNumber<N>, OutOfMemory>,
-    bytes: &[u8],
-    want: Result<N, IoFault>,
-) {
-    let mut bytes = bytes;
-    let Ok(mut state) = state else {
-        return rt.panic("out of memory");
-    };
-    for _ in 0..3 {
-        match state.poll(&mut bytes, 0) {
-            Step::Ready(outcome) => {
-                assert_eq!(rt; outcome, want);
-                return;
-            }
-            Step::Pending(next) => state = next,
-            Step::Again(next) => state = next,
+// What the row shows, the script, the outcome, and the bytes that were delivered.
+#[rattlefmt::skip]
+const WRITTEN: [(&str, &[Turned1], Result<usize, IoFault>, &str); 4] = [
+    ("whole writes", &[], Ok(3), "abc"),
+    ("short writes, a pause and an interrupt", &[Grant(1), Pause, Interrupt], Ok(3), "abc"),
+    ("a write that takes none", &[Grant(2), Grant(0)], Err(IoFault::WriteZero), "ab"),
+    ("a fault of the stream", &[Grant(1), Fault(5)], Err(IoFault::Os(5)), "a"),
+];
+
+#[test]
+fn all_bytes_are_written_in_order(rt: HostRuntime) -> Result<(), Fail> {
+    for (name, script, want, delivered) in WRITTEN {
+        let mut io = stream(rt.alloc(), b"", script)?;
+        let state = AsyncWriteRentExt::write_all(&io, b"abc".to_vec(rt.alloc())?);
+        let (outcome, buf) = ended(state.drive(&mut &mut io, 0, 9))?;
+        assert_eq!(rt; outcome, want, "in the row {name:?}");
+        assert_eq!(rt; buf.as_slice(), b"abc".as_slice());
+        assert_eq!(rt; io.delivered(), delivered.as_bytes(), "in the row {name:?}");
+        let mut io = stream(rt.alloc(), b"", script)?;
+        let parts = parts_of(rt.alloc(), [b"ab", b"", b"c"])?;
+        if !Ranges::read_fits(&parts) {
+            return Err(Fail::from("too long"));
         }
+        let Ok(state) = AsyncWriteRentExt::write_vectored_all(&io, parts) else {
+            return Err(Fail::from("out of memory"));
+        };
+        let (outcome, _) = ended(state.drive(&mut io, 0, 9))?;
+        assert_eq!(rt; outcome, want, "in the row {name:?}");
+        assert_eq!(rt; io.delivered(), delivered.as_bytes(), "in the row {name:?}");
     }
-    rt.panic("not ready")
-}
-
-const UP: [u8; 8] = [1, 2, 3, 4, 5, 6, 7, 8];
-
-const ONES: [u8; 16] = [255; 16];
-
-#[test]
-fn numbers_have_their_order(rt: HostRuntime) -> Result<(), Fail> {
-    let io = stream(rt.alloc(), b"", &[])?;
-    reads(&rt, io.read_u8(rt.alloc()), &UP, Ok(1));
-    reads(&rt, io.read_u16(rt.alloc()), &UP, Ok(258));
-    reads(&rt, io.read_u16_le(rt.alloc()), &UP, Ok(513));
-    reads(&rt, io.read_u32(rt.alloc()), &UP, Ok(16909060));
-    reads(&rt, io.read_u64_le(rt.alloc()), &UP, Ok(578437695752307201));
     Ok(())
 }
 
 #[test]
-fn numbers_have_their_sign(rt: HostRuntime) -> Result<(), Fail> {
-    let io = stream(rt.alloc(), b"", &[])?;
-    reads(&rt, io.read_i8(rt.alloc()), &ONES, Ok(-1));
-    reads(&rt, io.read_i16_le(rt.alloc()), &[254, 255], Ok(-2));
-    reads(&rt, io.read_i32(rt.alloc()), &ONES, Ok(-1));
-    reads(&rt, io.read_i64(rt.alloc()), &ONES, Ok(-1));
-    reads(&rt, io.read_i128(rt.alloc()), &ONES, Ok(-1));
-    Ok(())
-}
-
-#[test]
-fn a_number_takes_all_its_bytes(rt: HostRuntime) -> Result<(), Fail> {
-    let io = stream(rt.alloc(), b"", &[])?;
-    reads(
-        &rt,
-        io.read_u128(rt.alloc()),
-        &ONES,
-        Ok(340282366920938463463374607431768211455),
-    );
-    reads(
-        &rt,
-        io.read_u128(rt.alloc()),
-        &ONES[..15],
-        Err(IoFault::UnexpectedEof),
-    );
-    Ok(())
-}
-
-#[test]
-fn a_write_of_all_bytes_stops_where_none_is_taken(rt: HostRuntime) -> Result<(), Fail> {
-    let mut io = stream(rt.alloc(), b"", &[Turned1::Grant(2), Turned1::Grant(0)])?;
-    let state = WriteAll::new(b"abc".to_vec(rt.alloc())?);
-    let Step::Again(state) = state.poll(&mut io, 0) else {
+fn a_write_of_some_bytes_asks_for_another_poll(rt: HostRuntime) -> Result<(), Fail> {
+    let mut io = stream(rt.alloc(), b"", &[Grant(2), Grant(0)])?;
+    let Step::Again(state) = WriteAll::new(b"abc".to_vec(rt.alloc())?).poll(&mut io, 0) else {
         return Err(Fail::from("not again"));
     };
-    let Step::Ready((outcome, buf)) = state.poll(&mut io, 0) else {
-        return Err(Fail::from("not ready"));
-    };
+    let (outcome, _) = ended(state.poll(&mut io, 0))?;
     assert_eq!(rt; outcome, Err(IoFault::WriteZero));
-    assert_eq!(rt; buf.as_slice(), b"abc".as_slice());
     assert_eq!(rt; io.delivered(), b"ab".as_slice());
     Ok(())
-}
-
-#[test]
-fn a_vector_is_written_part_by_part(rt: HostRuntime) -> Result<(), Fail> {
-    let parts = vec![in rt.alloc();
-        b"ab".to_vec(rt.alloc())?,
-        b"".to_vec(rt.alloc())?,
-        b"c".to_vec(rt.alloc())?,
-    ]?;
-    let Ok(parts) = VecBuf::from_parts(parts) else {
-        return Err(Fail::from("out of memory"));
-    };
-    let mut io = stream(rt.alloc(), b"", &[Turned1::Grant(1), Turned1::Pause])?;
-    if !Ranges::read_fits(&parts) {
-        return Err(Fail::from("too long"));
-    }
-    let mut state = io.write_vectored_all(parts);
-    for _ in 0..9 {
-        match state.poll(&mut io, 0) {
-            Step::Ready((outcome, _)) => {
-                assert_eq!(rt; outcome, Ok(3));
-                assert_eq!(rt; io.delivered(), b"abc".as_slice());
-                assert_eq!(rt; io.calls(), 4);
-                return Ok(());
-            }
-            Step::Pending(next) => state = next,
-            Step::Again(next) => state = next,
-        }
-    }
-    Err(Fail::from("not ready"))
 }
 
 // A fault, and its text.

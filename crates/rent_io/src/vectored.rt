@@ -11,7 +11,7 @@ pub(crate) fn first_room<T: IoVecBufMut>(buf: &T) -> usize
     ensures room { result ≡ read.first_room (T.held buf.now) }
     ensures within { result ≤ rooms_of (T.held buf.now) }
 {
-    let _ = buf.total_room();
+    buf.keeps_bounds();
     for i in 0..buf.parts_len() {
         let room = buf.room(i);
         if room > 0 {

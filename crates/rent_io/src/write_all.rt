@@ -1,7 +1,8 @@
 // A write of all bytes of a buffer.
 ghost use Rattle.std.specs.Prelude.{◌≡◌, ◌+◌, ◌<◌, ◌≤◌, length, drop};
 ghost use Rattle.rent_io.specs.Counts.{AfterCall};
-ghost use Rattle.rent_io.specs.WriteAll.{Sending, WritesAll};
+ghost use Rattle.rent_io.specs.Runs.{AfterCalls, RunsAll};
+ghost use Rattle.rent_io.specs.WriteAll.{WritesAll, sending};
 ghost use Rattle.rent_io.specs.Writer.{EndsStay};
 
 use crate::async_write_rent::AsyncWriteRent;
@@ -33,7 +34,7 @@ impl<T: IoBuf> Model for WriteAll<T> {
 impl<T: IoBuf> WriteAll<T> {
     /// A write of this buffer's bytes.
     pub fn new(buf: T) -> WriteAll<T>
-        ensures { result ≡ record { buf = buf; rest = T.content buf; total = length (T.content buf) } }
+        ensures { result ≡ sending buf (T.content buf) }
     {
         WriteAll { buf, sent: 0 }
     }
@@ -51,6 +52,30 @@ impl<T: IoBuf> WriteAll<T> {
         ensures counts { AfterCall (A.writer io.old).counts (A.writer io.new).counts }
     {
         self.poll_by(io, &Plain, task)
+    }
+
+    /// Polls it until it is done, `polls` times at most (not in monoio). Whatever the stream answered, the bytes that it
+    /// took are the first ones, each once and in order.
+    /// `Again` means that the polls are used up.
+    pub fn drive<A: AsyncWriteRent>(
+        self,
+        io: &mut A,
+        task: u64,
+        polls: u64,
+    ) -> Step<WriteAll<T>, BufResult<usize, T>>
+        ensures run { RunsAll A.tells (A.writer io.old) (A.writer io.new) self result }
+        ensures ends { EndsStay (A.writer io.old) (A.writer io.new) }
+        ensures counts { AfterCalls polls (A.writer io.old).counts (A.writer io.new).counts }
+    {
+        let mut state = self;
+        for _ in 0..polls {
+            match state.poll(io, task) {
+                Step::Ready((outcome, buf)) => return Step::Ready((outcome, buf)),
+                Step::Pending(next) => state = next,
+                Step::Again(next) => state = next,
+            }
+        }
+        Step::Again(state)
     }
 
     // A poll by this call.

@@ -1,8 +1,8 @@
 // A write of all bytes of a vector of buffers.
-ghost use Rattle.std.specs.Prelude.{◌≡◌, ◌+◌, ◌^◌, ◌<◌, ◌≤◌, [], length, sum_by, slice_index_or};
-ghost use Rattle.std.specs.List.{concat};
+ghost use Rattle.std.specs.Prelude.{◌≡◌, ◌^◌, ◌<◌, ◌≤◌, [], length, sum_by, slice_index_or, IsOk, IfOk};
 ghost use Rattle.rent_io.specs.Counts.{AfterCall};
-ghost use Rattle.rent_io.specs.WriteAll.{Sending, WritesAll};
+ghost use Rattle.rent_io.specs.Runs.{AfterCalls, RunsAll};
+ghost use Rattle.rent_io.specs.WriteAll.{WritesAll, sending_parts};
 ghost use Rattle.rent_io.specs.WriteVectoredAll.{rest_from};
 ghost use Rattle.rent_io.specs.Writer.{EndsStay};
 
@@ -10,7 +10,7 @@ use crate::async_write_rent::AsyncWriteRent;
 use crate::calls::{Plain, WriteCall};
 use crate::part::PartFrom;
 use crate::poll::{PollBuf, Step};
-use rent_buf::{BufResult, IoFault, IoVecBuf};
+use rent_buf::{BufResult, IoFault, IoVecBuf, OutOfMemory};
 use std::marker::Model;
 
 /// A write of all bytes of a vector of buffers, as `write_vectored_all` starts it (monoio: the future of
@@ -39,18 +39,20 @@ impl<T: IoVecBuf> Model for WriteVectoredAll<T> {
 }
 
 impl<T: IoVecBuf> WriteVectoredAll<T> {
-    /// A write of the bytes of the parts, in order. `Ranges::read_fits` tests whether their number fits `usize`.
-    pub fn new(buf: T) -> WriteVectoredAll<T>
+    /// A write of the bytes of the parts, in order. `Ranges::read_fits` tests whether their number fits `usize`. It
+    /// takes no memory, so the answer is always `Ok`.
+    pub fn new(buf: T) -> Result<WriteVectoredAll<T>, (OutOfMemory, T)>
         requires { sum_by length (T.parts buf) < 2 ^ 64 }
-        ensures { result ≡ record { buf = buf; rest = concat (T.parts buf); total = sum_by length (T.parts buf) } }
+        ensures made { IsOk result }
+        ensures value { IfOk result (λ s. s ≡ sending_parts buf (T.parts buf)) }
     {
         let total = total_len(&buf);
-        WriteVectoredAll {
+        Ok(WriteVectoredAll {
             buf,
             part: 0,
             sent: 0,
             total,
-        }
+        })
     }
 
     /// Makes one write at most, of a part that has bytes left. It is done with the number of the vector's bytes, once
@@ -67,6 +69,30 @@ impl<T: IoVecBuf> WriteVectoredAll<T> {
         ensures counts { AfterCall (A.writer io.old).counts (A.writer io.new).counts }
     {
         self.poll_by(io, &Plain, task)
+    }
+
+    /// Polls it until it is done, `polls` times at most (not in monoio). Whatever the stream answered, the bytes that it
+    /// took are the first ones, each once and in order.
+    /// `Again` means that the polls are used up.
+    pub fn drive<A: AsyncWriteRent>(
+        self,
+        io: &mut A,
+        task: u64,
+        polls: u64,
+    ) -> Step<WriteVectoredAll<T>, BufResult<usize, T>>
+        ensures run { RunsAll A.tells (A.writer io.old) (A.writer io.new) self result }
+        ensures ends { EndsStay (A.writer io.old) (A.writer io.new) }
+        ensures counts { AfterCalls polls (A.writer io.old).counts (A.writer io.new).counts }
+    {
+        let mut state = self;
+        for _ in 0..polls {
+            match state.poll(io, task) {
+                Step::Ready((outcome, buf)) => return Step::Ready((outcome, buf)),
+                Step::Pending(next) => state = next,
+                Step::Again(next) => state = next,
+            }
+        }
+        Step::Again(state)
     }
 
     // A poll by this call.

@@ -1,0 +1,162 @@
+-- Places in parts before which all is full.
+use Rattle.std.proofs.Common.{◌≡◌, ◌∙◌, ℕ, zero, suc, ◌+◌, ◌<◌, ◌≤◌, ◌≢◌, Bool, List, [], ◌∷◌, ◌++◌, length, take, refl, sym, ap}
+use Rattle.std.proofs.Common.{arith, add-one, append-nil, append_assoc, length-append}
+use Rattle.std.specs.Prelude.{All}
+use Rattle.std.specs.List.{concat}
+use Rattle.std.proofs.lemmas.List.{take_all, length-take}
+use Rattle.std.proofs.lemmas.List.Sums.{sum_by-cons}
+use Rattle.std.proofs.lemmas.List.Elements.{All-nil, All-cons}
+use Rattle.rent_buf.specs.Rent.{Rented}
+use Rattle.rent_buf.specs.Parts.{Parts, IsParts, bytes_of, rooms_of, part_at, part_put}
+use Rattle.rent_io.specs.PartRoom.{PartTaken}
+use Rattle.rent_io.specs.ReadVectoredExact.{Scattering, has_read, read_of, AreFullBefore, rooms, IsScattered, ScatterGoesOn}
+use Rattle.rent_io.specs.Reader.{WasFront}
+
+-- Behind a part whose bytes are all filled the same bytes were read.
+passed : (parts : Parts) (k n : ℕ) → k < length parts → n ≤ length (part_at parts k).bytes → length (part_at parts k).bytes ≤ n
+    → read_of parts (suc k) 0 ≡ read_of parts k n
+passed [] k n there within whole = absurd (omega arith)
+passed (part ∷ []) zero n there within whole = append-nil part.bytes ∙ sym (take_all n part.bytes whole)
+passed (part ∷ p ∷ parts) zero n there within whole = append-nil part.bytes ∙ sym (take_all n part.bytes whole)
+passed (part ∷ parts) (suc k) n there within whole = ap (λ l. part.bytes ++ l) (passed parts k n (omega arith) within whole)
+
+-- Behind a part whose filled bytes leave no room the same bytes were read.
+pub passed_read : (parts : Parts) (k n : ℕ) → k < length parts → IsParts parts → n ≤ length (part_at parts k).bytes
+    → (part_at parts k).total ≤ n → read_of parts (k + 1) 0 ≡ read_of parts k n
+passed_read parts k n there are within whole = rw add-one
+    (passed parts k n there within (omega (arith, are.fit k (record { bytes = []; total = 0 }) there, within, whole)))
+
+-- Behind a part that is full all parts are full.
+full-next : (parts : Parts) (k : ℕ) → k < length parts → AreFullBefore parts k → length (part_at parts k).bytes ≡ (part_at parts k).total
+    → AreFullBefore parts (suc k)
+full-next [] k there full is = absurd (omega arith)
+full-next (part ∷ []) zero there full is = (is, tt)
+full-next (part ∷ p ∷ parts) zero there full is = (is, tt)
+full-next (part ∷ parts) (suc k) there full is = (full.0, full-next parts k (omega arith) full.1 is)
+
+-- And all parts before the next are full.
+pub passed_full : (parts : Parts) (k n : ℕ) → k < length parts → IsParts parts → AreFullBefore parts k
+    → n ≤ length (part_at parts k).bytes → (part_at parts k).total ≤ n → AreFullBefore parts (k + 1)
+passed_full parts k n there are full within whole = rw add-one
+    (full-next parts k there full (omega (arith, are.fit k (record { bytes = []; total = 0 }) there, within, whole)))
+
+-- Behind all parts all their bytes were read.
+pub all_read : (parts : Parts) (k n : ℕ) → length parts ≤ k → read_of parts k n ≡ concat (bytes_of parts)
+all_read [] k n behind = refl
+all_read (part ∷ parts) zero n behind = absurd (omega arith)
+all_read (part ∷ parts) (suc k) n behind = ap (λ l. part.bytes ++ l) (all_read parts k n (omega arith))
+
+-- So it doesn't matter how many bytes of the next are filled.
+pub end_read : (parts : Parts) (k n : ℕ) → length parts ≤ k → read_of parts k 0 ≡ read_of parts k n
+end_read parts k n behind = all_read parts k 0 behind ∙ sym (all_read parts k n behind)
+
+-- And all are full.
+pub all_full : (parts : Parts) (k : ℕ) → length parts ≤ k → AreFullBefore parts k → All (λ part. length part.bytes ≡ part.total) parts
+all_full [] k behind full = All-nil (λ part. length part.bytes ≡ part.total)
+all_full (part ∷ parts) zero behind full = absurd (omega arith)
+all_full (part ∷ parts) (suc k) behind full = All-cons (λ part. length part.bytes ≡ part.total) part parts full.0
+    (all_full parts k (omega arith) full.1)
+
+-- Bytes stored behind the filled ones of a part were read behind those that were.
+pub put_read : (parts : Parts) (k at n : ℕ) (got : List ℕ) → k < length parts → at ≤ length (part_at parts k).bytes → n ≡ length got
+    → read_of (part_put parts k at got) k (at + n) ≡ read_of parts k at ++ got
+put_read [] k at n got there within long = absurd (omega arith)
+put_read (part ∷ parts) zero at n got there within long =
+    take_all (at + n) (take at part.bytes ++ got) (omega (arith, length-append (take at part.bytes) got, length-take at part.bytes, long))
+put_read (part ∷ parts) (suc k) at n got there within long =
+    ap (λ l. part.bytes ++ l) (put_read parts k at n got (omega arith) within long) ∙ sym (append_assoc part.bytes (read_of parts k at) got)
+
+-- The parts before stay full.
+pub put_full : (parts : Parts) (k at : ℕ) (got : List ℕ) → AreFullBefore parts k → AreFullBefore (part_put parts k at got) k
+put_full [] k at got full = tt
+put_full (part ∷ parts) zero at got full = tt
+put_full (part ∷ parts) (suc k) at got full = (full.0, put_full parts k at got full.1)
+
+-- The rooms stay.
+pub put_rooms : (parts : Parts) (k at : ℕ) (got : List ℕ) → rooms (part_put parts k at got) ≡ rooms parts
+put_rooms [] k at got = refl
+put_rooms (part ∷ parts) zero at got = refl
+put_rooms (part ∷ parts) (suc k) at got = ap (λ l. part.total ∷ l) (put_rooms parts k at got)
+
+-- Before the first part there is none.
+pub none_before : (parts : Parts) → AreFullBefore parts 0
+none_before [] = tt
+none_before (part ∷ parts) = tt
+
+-- A place with room has fewer bytes before it than there are rooms.
+read_less : (parts : Parts) (k n : ℕ) → k < length parts → AreFullBefore parts k → n < (part_at parts k).total
+    → length (read_of parts k n) < rooms_of parts
+read_less [] k n there full less = absurd (omega arith)
+read_less (part ∷ parts) zero n there full less =
+    let here : n < part.total = less in
+    let sum = sum_by-cons (λ (p : Rented). p.total) part parts in
+    omega (arith, length-take n part.bytes, here, sum)
+read_less (part ∷ parts) (suc k) n there full less =
+    let behind = read_less parts k n (omega arith) full.1 less in
+    let sum = sum_by-cons (λ (p : Rented). p.total) part parts in
+    omega (arith, length-append part.bytes (read_of parts k n), full.0, behind, sum)
+
+-- A read of parts at a place.
+abbrev pub scatter_at : Parts → ℕ → ℕ → ℕ → Scattering
+scatter_at parts part filled total = record { parts = parts; part = part; filled = filled; total = total }
+
+-- A place behind all parts is the end of the read.
+pub ends_full : (tells : Bool) (left rest got : List ℕ) (s : Scattering) (parts back : Parts) (part filled k n total : ℕ)
+    → scatter_at parts part filled total ≡ s → read_of back k n ≡ read_of parts part filled ++ got → length back ≤ k
+    → AreFullBefore back k → rooms back ≡ rooms parts → WasFront tells left got rest → IsScattered tells left rest s back total
+ends_full tells left rest got s parts back part filled k n total is read behind full same front = record {
+  got = got;
+  is_read = sym (all_read back k n behind) ∙ read ∙ ap (λ x. has_read x ++ got) is;
+  full = all_full back k behind full;
+  same_rooms = same ∙ ap (λ x. rooms x.parts) is;
+  total = ap (λ x. x.total) is;
+  front = front;
+}
+
+-- A read of n bytes into the part at a place, and the next place.
+pub record Stepped (tells : Bool) (left rest : List ℕ) (s : Scattering) (parts back : Parts) (part filled total into at n k m : ℕ) : Type 0
+  where
+    pub state : scatter_at parts part filled total ≡ s
+    pub there : into < length parts
+    pub within : at ≤ length (part_at parts into).bytes
+    pub same : read_of parts into at ≡ read_of parts part filled
+    pub taken : PartTaken tells left rest parts back into at n
+    pub next : read_of back k m ≡ read_of back into (at + n)
+    pub full : AreFullBefore back k
+
+-- After it the bytes that were read are those before and those that it read.
+taken_read : (tells : Bool) (left rest : List ℕ) (s : Scattering) (parts back : Parts) (part filled total into at n k m : ℕ)
+    (st : Stepped tells left rest s parts back part filled total into at n k m)
+    → read_of back k m ≡ read_of parts part filled ++ st.taken.got
+taken_read tells left rest s parts back part filled total into at n k m st =
+    let t = st.taken in
+    st.next ∙ ap (λ l. read_of l into (at + n)) t.is_put ∙ put_read parts into at n t.got st.there st.within (sym t.count)
+    ∙ ap (λ l. l ++ t.got) st.same
+
+-- It is done where the next place is behind all parts.
+pub step_ends : (tells : Bool) (left rest : List ℕ) (s : Scattering) (parts back : Parts) (part filled total into at n k m : ℕ)
+    → Stepped tells left rest s parts back part filled total into at n k m → length back ≤ k → IsScattered tells left rest s back total
+step_ends tells left rest s parts back part filled total into at n k m st behind =
+    let t = st.taken in
+    ends_full tells left rest t.got s parts back part filled k m total st.state
+    (taken_read tells left rest s parts back part filled total into at n k m st) behind st.full
+    (ap rooms t.is_put ∙ put_rooms parts into at t.got) t.front
+
+-- And more are to come, where the next place has room.
+pub step_goes_on : (tells : Bool) (left rest : List ℕ) (s : Scattering) (parts back : Parts) (part filled total into at n k m : ℕ)
+    → Stepped tells left rest s parts back part filled total into at n k m → n ≢ 0 → k < length back → m < (part_at back k).total
+    → ScatterGoesOn tells left rest s (scatter_at back k m total)
+step_goes_on tells left rest s parts back part filled total into at n k m st some there less =
+    let t = st.taken in
+    record {
+      got = t.got;
+      some = omega (arith, t.count, some);
+      into = into;
+      at = at;
+      is_put = t.is_put ∙ ap (λ x. part_put x.parts into at t.got) st.state;
+      is_read = taken_read tells left rest s parts back part filled total into at n k m st ∙ ap (λ x. has_read x ++ t.got) st.state;
+      same_rooms = ap rooms t.is_put ∙ put_rooms parts into at t.got ∙ ap (λ x. rooms x.parts) st.state;
+      same_total = ap (λ x. x.total) st.state;
+      more = read_less back k m there st.full less;
+      front = t.front;
+    }

@@ -1,0 +1,49 @@
+-- Polls of a write of all bytes, one behind the other.
+use Rattle.std.proofs.Common.{◌∙◌, ℕ, ◌≤◌, ◌⊎◌, inl, inr, ◌++◌, Bool, sym, ap, append_assoc}
+use Rattle.std.specs.Prelude.{Result, Ok, Err}
+use Rattle.rent_buf.specs.declared.fault.IoFault.{IoFault}
+use Rattle.rent_io.specs.Writer.{Writer}
+use Rattle.rent_io.specs.WriteAll.{Sending, SendsOn, WaitsAll, IsAllEnd}
+use Rattle.rent_io.specs.Runs.{HasSent, AllRunEnd}
+use Rattle.rent_io.proofs.Runs.{rose_later}
+
+-- A poll that goes on sends the next bytes.
+pub send_goes_on : {T : Type 0} (tells : Bool) (before mid now : Writer) (s g next : Sending T)
+    → HasSent tells before.delivered mid.delivered s g
+    → WaitsAll tells mid now g next ⊎ SendsOn tells mid.delivered now.delivered g next
+    → HasSent tells before.delivered now.delivered s next
+send_goes_on tells before mid now s g next has (inl waits) = record {
+  sent = has.sent;
+  cut = has.cut ∙ ap (λ x. has.sent ++ x.rest) (sym waits.0);
+  same_buf = ap (λ x. x.buf) waits.0 ∙ has.same_buf;
+  same_total = ap (λ x. x.total) waits.0 ∙ has.same_total;
+  joined = λ t. waits.1 t ∙ has.joined t;
+}
+send_goes_on tells before mid now s g next has (inr sends) = record {
+  sent = has.sent ++ sends.sent;
+  cut = has.cut ∙ ap (λ l. has.sent ++ l) sends.cut ∙ sym (append_assoc has.sent sends.sent next.rest);
+  same_buf = sends.same_buf ∙ has.same_buf;
+  same_total = sends.same_total ∙ has.same_total;
+  joined = λ t. sends.joined t ∙ ap (λ l. l ++ sends.sent) (has.joined t) ∙ append_assoc before.delivered has.sent sends.sent;
+}
+
+-- How a poll ends is how the polls end.
+pub send_ends : {T : Type 0} (tells : Bool) (before mid now : Writer) (s g : Sending T) (end : Result ℕ IoFault)
+    → before.counts.faults ≤ mid.counts.faults → HasSent tells before.delivered mid.delivered s g → IsAllEnd tells mid now g end
+    → AllRunEnd tells before now s end
+send_ends tells before mid now s g (Ok n) stay has all =
+    (
+      all.0 ∙ has.same_total,
+      λ t. all.1 t ∙ ap (λ l. l ++ g.rest) (has.joined t) ∙ append_assoc before.delivered has.sent g.rest
+          ∙ ap (λ l. before.delivered ++ l) (sym has.cut),
+    )
+send_ends tells before mid now s g (Err fault) stay has failed = record {
+  sent = has.sent;
+  unsent = g.rest;
+  cut = has.cut;
+  joined = λ t. failed.0 t ∙ has.joined t;
+  cause = elim failed.1 [
+    | inl rose ↦ inl (rose_later before.counts.faults mid.counts.faults now.counts.faults stay rose)
+    | inr none ↦ inr none
+  ];
+}

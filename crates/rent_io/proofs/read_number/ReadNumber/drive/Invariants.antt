@@ -1,0 +1,9 @@
+use Rattle.rent_io.specs.Runs.{AfterCalls}
+use Rattle.rent_io.specs.LineRuns.{HasDigits}
+use Rattle.rent_io.proofs.read_number.ReadNumber.drive.Given as goal
+
+abbrev pub invariant-loop : goal.invariant-loop
+invariant-loop g l =
+    let start = g.A.AsyncReadRent.reader l.initial.io in
+    let now = g.A.AsyncReadRent.reader l.io in
+    HasDigits g.A.AsyncReadRent.tells start.left now.left l.initial.state l.state × AfterCalls l.counter start.counts now.counts

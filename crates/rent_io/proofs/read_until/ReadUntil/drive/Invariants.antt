@@ -1,0 +1,9 @@
+use Rattle.rent_io.specs.Runs.{AfterCalls}
+use Rattle.rent_io.specs.LineRuns.{HasAdded}
+use Rattle.rent_io.proofs.read_until.ReadUntil.drive.Given as goal
+
+abbrev pub invariant-loop : goal.invariant-loop
+invariant-loop g l =
+    let start = g.A.AsyncReadRent.reader l.initial.io in
+    let now = g.A.AsyncReadRent.reader l.io in
+    HasAdded g.A.AsyncReadRent.tells start.left now.left l.initial.state l.state × AfterCalls l.counter start.counts now.counts

@@ -1,0 +1,10 @@
+use Rattle.rent_io.specs.Runs.{AfterCalls, HasSent}
+use Rattle.rent_io.specs.Writer.{EndsStay}
+use Rattle.rent_io.proofs.write_vectored_all.WriteVectoredAll.drive.Given as goal
+
+abbrev pub invariant-loop : goal.invariant-loop
+invariant-loop g l =
+    let start = g.A.AsyncWriteRent.writer l.initial.io in
+    let now = g.A.AsyncWriteRent.writer l.io in
+    HasSent g.A.AsyncWriteRent.tells start.delivered now.delivered l.initial.state l.state
+    × AfterCalls l.counter start.counts now.counts × EndsStay start now

@@ -1,0 +1,75 @@
+-- What a state has done after many polls: one law for every schedule of pauses, short calls, interrupts and faults. The clause `run` of
+-- each `drive` cites it.
+use Rattle.std.specs.Prelude.{ℕ, ◌≡◌, ◌+◌, ◌<◌, ◌≤◌, ◌⊎◌, Bool, IsTrue, List, [], ◌++◌, length, Result, Ok, Err}
+use Rattle.rent_buf.specs.Buffer.{Buffer, put}
+use Rattle.rent_buf.specs.Parts.{Parts}
+use Rattle.rent_buf.specs.declared.fault.IoFault.{IoFault}
+use Rattle.rent_buf.specs.declared.fault.IoFault.TheVariants.{UnexpectedEof, WriteZero}
+use Rattle.rent_io.specs.declared.poll.Step.{Step}
+use Rattle.rent_io.specs.declared.poll.Step.TheVariants.{Ready, Pending, Again}
+use Rattle.rent_io.specs.Counts.{Counts, Rose}
+use Rattle.rent_io.specs.Reader.{Reader, WasFront}
+use Rattle.rent_io.specs.Writer.{Writer}
+use Rattle.rent_io.specs.ReadExact.{Filling, lacks, with_more, filled_with, IsFilled}
+use Rattle.rent_io.specs.WriteAll.{Sending}
+
+-- What so many calls at most make of the counts: no fault and no pause is forgotten, and each call counts once.
+pub record AfterCalls (most : ℕ) (before now : Counts) : Type 0 where
+  pub faults_stay : before.faults ≤ now.faults
+  pub pauses_stay : before.pauses ≤ now.pauses
+  pub most_calls : now.calls ≤ before.calls + most
+
+-- An exact read that isn't done: the bytes that left the stream stand behind those before them, each once and in order.
+pub record HasFilled (tells : Bool) (left rest : List ℕ) (f next : Filling) : Type 0 where
+  pub got : List ℕ
+  pub within : length got ≤ lacks f
+  pub is_next : next ≡ filled_with f got
+  pub front : WasFront tells left got rest
+
+-- An exact read that ended at a fault: the bytes that left the stream are stored, and the stream's faults rose, or it ended too early.
+pub record StopsFilling (tells : Bool) (before now : Reader) (f : Filling) (back : Buffer) (fault : IoFault) : Type 0 where
+  pub got : List ℕ
+  pub front : WasFront tells before.left got now.left
+  pub cause : (back ≡ with_more f got) × Rose before.counts.faults now.counts.faults
+      ⊎ ((fault ≡ UnexpectedEof) × (length got < lacks f) × (IsTrue tells → now.left ≡ [])
+      × (back ≡ put f.buffer (f.buffer.begin + f.filled) got))
+
+-- How polls of an exact read end: with the full range, or at a fault.
+abbrev pub ExactRunEnd : Bool → Reader → Reader → Filling → Buffer → Result ℕ IoFault → Type 0
+ExactRunEnd tells before now f back (Ok n) = IsFilled tells before.left now.left f back n
+ExactRunEnd tells before now f back (Err fault) = StopsFilling tells before now f back fault
+
+-- Polls of an exact read, however the stream answered them.
+abbrev pub RunsExact : {T : Type 0} → Bool → Reader → Reader → (T → Buffer) → (T → List (ℕ × ℕ)) → (T → Parts) → Filling
+    → Step Filling (Result ℕ IoFault × T) → Type 0
+RunsExact tells before now buffer under beside f (Ready end) =
+    ExactRunEnd tells before now f (buffer end.1) end.0 × (under end.1 ≡ f.under) × (beside end.1 ≡ f.beside)
+RunsExact tells before now buffer under beside f (Pending next) = HasFilled tells before.left now.left f next
+RunsExact tells before now buffer under beside f (Again next) = HasFilled tells before.left now.left f next
+
+-- A write of all bytes that isn't done: those that were delivered are the first ones, each once and in order.
+pub record HasSent {T : Type 0} (tells : Bool) (before now : List ℕ) (s next : Sending T) : Type 0 where
+  pub sent : List ℕ
+  pub cut : s.rest ≡ sent ++ next.rest
+  pub same_buf : next.buf ≡ s.buf
+  pub same_total : next.total ≡ s.total
+  pub joined : IsTrue tells → now ≡ before ++ sent
+
+-- A write of all bytes that ended at a fault: the first ones were delivered, and the stream's faults rose, or it took none of the rest.
+pub record StopsSending {T : Type 0} (tells : Bool) (before now : Writer) (s : Sending T) (fault : IoFault) : Type 0 where
+  pub sent : List ℕ
+  pub unsent : List ℕ
+  pub cut : s.rest ≡ sent ++ unsent
+  pub joined : IsTrue tells → now.delivered ≡ before.delivered ++ sent
+  pub cause : Rose before.counts.faults now.counts.faults ⊎ ((fault ≡ WriteZero) × (0 < length unsent))
+
+-- How polls of a write of all bytes end: with all delivered, or at a fault.
+abbrev pub AllRunEnd : {T : Type 0} → Bool → Writer → Writer → Sending T → Result ℕ IoFault → Type 0
+AllRunEnd tells before now s (Ok n) = (n ≡ s.total) × (IsTrue tells → now.delivered ≡ before.delivered ++ s.rest)
+AllRunEnd tells before now s (Err fault) = StopsSending tells before now s fault
+
+-- Polls of a write of all bytes, however the stream answered them.
+abbrev pub RunsAll : {T : Type 0} → Bool → Writer → Writer → Sending T → Step (Sending T) (Result ℕ IoFault × T) → Type 0
+RunsAll tells before now s (Ready end) = AllRunEnd tells before now s end.0 × (end.1 ≡ s.buf)
+RunsAll tells before now s (Pending next) = HasSent tells before.delivered now.delivered s next
+RunsAll tells before now s (Again next) = HasSent tells before.delivered now.delivered s next
