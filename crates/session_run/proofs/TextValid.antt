@@ -156,8 +156,8 @@ parts_seen-more all ws next rest first second count left fewer rooms sum seen is
       number = (let lengths = length-append seen.parts (p ∷ []) in omega (arith, lengths, number));
       sum =
           (let sums = sum_by-append (λ (q : Rented). q.total) seen.parts (p ∷ []) in
-           let one = sum_by-cons (λ (q : Rented). q.total) p [] in
-           let same = adds.sum_is in omega (arith, sums, one, same, before));
+          let one = sum_by-cons (λ (q : Rented). q.total) p [] in
+          let same = adds.sum_is in omega (arith, sums, one, same, before));
       small = adds.small;
       fit = All-append (λ (q : Rented). length q.bytes ≤ q.total) seen.parts (p ∷ []) seen.fit (All-cons (λ (q : Rented). length q.bytes ≤ q.total) p [] adds.fits (λ k d few. absurd (omega arith)));
     }

@@ -12,7 +12,7 @@ use Rattle.session_run.specs.declared.top.Kept.{Kept}
 use Rattle.session_run.specs.declared.top.Kept.TheVariants.{Run}
 use Rattle.session_run.specs.declared.top.Status.{Status}
 use Rattle.session_run.specs.declared.top.Status.TheVariants.{Done, BadWords, BadLine, TooLong, ReadFault, WriteFault, OutOfMemory}
-use Rattle.session_run.specs.declared.input.TheConstants.{MOST_INPUT}
+use Rattle.session_run.specs.declared.input.TheConstants.{MOST_INPUT, PIECE}
 use Rattle.session_run.specs.Session.{SessionStands}
 use Rattle.session_run.specs.TextEvent.{StandsFor}
 use Rattle.session_run.specs.TextReply.{reply_text}
@@ -99,18 +99,29 @@ pub record LineRefused (tells_source tells_sink : Bool) (left rest taken now : L
   pub bad : IsTrue tells_source → IsBadLine left rest n
   pub written : IsTrue tells_sink → now ≡ taken ++ bad_line_text n
 
--- More bytes were taken than the input may have.
-pub record TookTooMany (left rest : List ℕ) : Type 0 where
+-- More bytes were taken than this many.
+pub record TookMore (bound : ℕ) (left rest : List ℕ) : Type 0 where
   pub count : ℕ
-  pub many : most_input < count
+  pub many : bound < count
   pub there : count ≤ length left
   pub taken : rest ≡ drop count left
+
+-- More bytes were taken than the input may have.
+abbrev pub TookTooMany : List ℕ → List ℕ → Type 0
+TookTooMany left rest = TookMore most_input left rest
 
 -- No more bytes were taken than the input may have.
 pub record TookFew (left rest : List ℕ) : Type 0 where
   pub count : ℕ
   pub few : count ≤ most_input
   pub taken : rest ≡ drop count left
+
+-- Memory ran out, and no line that could be looked at is wrong: nothing was taken; or more bytes than memory was taken for before
+-- the first read; or all was read, and each line stands for an event.
+pub data NoLineWrong (left rest : List ℕ) : Type 0 where
+  unread : rest ≡ left → NoLineWrong left rest
+  half_read : TookMore PIECE left rest → NoLineWrong left rest
+  all_right : (events : List Event) → WasRead left rest events → NoLineWrong left rest
 
 -- A prefix of a text was written.
 pub record WrotePrefix (text taken now : List ℕ) : Type 0 where

@@ -66,7 +66,10 @@ pub(crate) fn is_event_line(line: &[u8]) -> bool
 fn is_one_number(word: &[u8]) -> bool
     ensures { result ≡ (bytes_eq word.now (codes "drop") || bytes_eq word.now (codes "cancel") || bytes_eq word.now (codes "end") || bytes_eq word.now (codes "look")) }
 {
-    is_word(word, b"drop") || is_word(word, b"cancel") || is_word(word, b"end") || is_word(word, b"look")
+    is_word(word, b"drop")
+        || is_word(word, b"cancel")
+        || is_word(word, b"end")
+        || is_word(word, b"look")
 }
 
 // Whether the words behind `feed` are a handle and bytes.
