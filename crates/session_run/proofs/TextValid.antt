@@ -1,16 +1,13 @@
 -- Lines and their words looked through without keeping what they write.
 use Rattle.std.proofs.Common.{◌≡◌, ◌∙◌, ℕ, zero, suc, ◌+◌, ◌*◌, ◌/◌, ◌^◌, ◌<◌, ◌≤◌, List, [], ◌∷◌, ◌++◌, length, drop, get_or, refl, ap, sym, arith, length-append}
 use Rattle.std.specs.Prelude.{Bool, true, false, ◌==◌, ◌⊎◌, All, Option, Some, None, option_and_then, option_map, if◌then◌else◌}
-use Rattle.std.specs.List.{slice_get}
 use Rattle.std.specs.Option.{is_some}
 use Rattle.std.proofs.lemmas.Bool.{ne_eqb}
-use Rattle.std.proofs.lemmas.List.{append-nil}
 use Rattle.std.proofs.lemmas.List.Elements.{All-append, All-cons}
 use Rattle.std.proofs.lemmas.List.Sums.{sum_by-append, sum_by-cons}
 use Rattle.rent_buf.specs.Parts.{Parts, IsParts, rooms_of}
 use Rattle.rent_buf.specs.Rent.{Rented}
 use Rattle.ring_core.specs.declared.ledger.Event.{Event}
-use Rattle.session_run.specs.TextEvent.{StandsFor}
 use Rattle.session_run.specs.TextLines.{lines, AreEvents, IsFirstWrong}
 use Rattle.session_run.specs.TextReads.{words, digit_value_of, pairs_of, number_of, bytes_of, part_onto, parts_end, counted}
 use Rattle.session_run.specs.TextEventReads.{event_of}

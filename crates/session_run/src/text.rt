@@ -26,13 +26,13 @@ use valid::first_wrong;
 use word::first_line;
 pub(crate) use word::number::{put_number, read_number};
 
-/// Why lines gave no events.
+/// Why lines gave no events. (not in monoio)
 #[derive(Clone, Copy, Debug, PartialEq, Eq, Error)]
 pub enum LinesError {
     /// The line of this number, counted from 1, is the first that is no event's text.
     #[error("BadLine")]
     BadLine(u64),
-    /// Memory ran out.
+    /// Memory ran out, and no line is wrong.
     #[error("OutOfMemory")]
     OutOfMemory,
 }

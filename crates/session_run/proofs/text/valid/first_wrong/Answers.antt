@@ -1,5 +1,5 @@
 use Rattle.std.proofs.Common.{◌∙◌, arith, sym}
-use Rattle.session_run.proofs.TextValid.{have_seen-none, have_seen-more, have_seen-wrong, have_seen-all}
+use Rattle.session_run.proofs.TextValid.{have_seen-more, have_seen-wrong}
 use Rattle.session_run.proofs.text.valid.first_wrong.Goals as goal
 
 pub returns-then-not-is_event_line : goal.returns-then-not-is_event_line
