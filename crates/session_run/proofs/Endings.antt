@@ -11,7 +11,7 @@ use Rattle.session_run.specs.declared.top.Status.{Status}
 use Rattle.session_run.specs.declared.top.Status.TheVariants.{Done, BadWords, BadLine, TooLong, ReadFault, WriteFault, OutOfMemory}
 use Rattle.session_run.specs.Command.{IsRun, IsGenerate, IsWake, ReadsCommand}
 use Rattle.session_run.specs.Generated.{generated_events}
-use Rattle.session_run.specs.Top.{SumsFor, WakesFor, WasRead, IsBadLine, of_replies, of_bad_line, bad_line_text, reply_lines}
+use Rattle.session_run.specs.Top.{SumsFor, WakesFor, WasRead, IsBadLine, all_right, of_replies, of_bad_line, bad_line_text, reply_lines, unread}
 use Rattle.session_run.specs.Ends.{Reading, Writing, RunEnds, RunsEvents, RefusesFor, SinkEnds, CommandEnds, StatusFor, WhyNoEvents, WritesLine}
 use Rattle.session_run.proofs.Commands.{same-capacity, same-rounds, same-counts, not-both, not-run-generate, not-wake-generate}
 use Rattle.session_run.proofs.Reading.{few-read}
@@ -30,6 +30,7 @@ ends-run ts tk capacity source sink kept events WriteFault read calm runs =
 ends-run ts tk capacity source sink kept events OutOfMemory read calm runs = (
   record {
     few = λ told. few-read source.left source.rest events (read told);
+    lines = λ told. all_right events (read told);
     calm = record { read = calm; wrote = λ told. (runs told).calm };
   },
   inr (record { text = reply_lines (replies (empty capacity) events); may = of_replies events read; prefix = λ told. (runs told).prefix }),
@@ -59,6 +60,7 @@ ends-refused ts tk capacity source sink kept NoEvents.OutOfMemory status why ref
     subst (λ s. RunEnds ts tk capacity source sink kept s) (sym refuses.0) (
       record {
         few = λ told. (why told).few;
+        lines = λ told. (why told).lines;
         calm = record { read = λ told. (why told).calm; wrote = refuses.1.calm };
       },
       inl refuses.1.nothing,
@@ -113,5 +115,6 @@ status-sink ts tk left faults sink ReadFault ends = absurd ends
 status-sink ts tk left faults sink WriteFault ends = ends
 status-sink ts tk left faults sink OutOfMemory ends = record {
   few = λ told. record { count = 0; few = omega arith; taken = refl };
+  lines = λ told. unread refl;
   calm = record { read = λ told. refl; wrote = ends };
 }

@@ -9,6 +9,7 @@ mod TextParts
 mod TextRequests
 mod TextEvents
 mod TextLinesRead
+mod TextValid
 mod Commands
 mod KeptTokens
 mod Refusals

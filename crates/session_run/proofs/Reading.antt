@@ -5,9 +5,9 @@ use Rattle.ring_core.specs.declared.ledger.Event.{Event}
 use Rattle.session_run.specs.declared.input.NoEvents.{NoEvents}
 use Rattle.rent_io.specs.Source.{Gives}
 use Rattle.session_run.specs.TextEvent.{StandsFor}
-use Rattle.session_run.specs.TextLines.{lines, IsFirstWrong}
-use Rattle.session_run.specs.Top.{TookFew, WasRead, IsBadLine}
-use Rattle.session_run.specs.Ends.{IsAll, Took, WhyStopped, WhyUnread}
+use Rattle.session_run.specs.TextLines.{lines, AreEvents, IsFirstWrong}
+use Rattle.session_run.specs.Top.{TookFew, WasRead, IsBadLine, half_read, all_right}
+use Rattle.session_run.specs.Ends.{IsAll, ReadShort, Took, WhyStopped, WhyUnread}
 use Rattle.session_run.proofs.TextCuts.{drop-whole}
 use Rattle.session_run.proofs.Writing.{rose-later}
 
@@ -53,8 +53,12 @@ unread-later tells text left rest all before f g h NoEvents.TooLong is order cal
 unread-later tells text left rest all before f g h NoEvents.Fault is order calm joined why = rose-later f g h order why
 unread-later tells text left rest all before f g h NoEvents.OutOfMemory is order calm joined why = λ told.
     let stopped = why told in
-    let took = taken-behind text left rest all before stopped.0 is stopped.2 (joined told) in
-    record { few = record { count = before + stopped.0; few = stopped.1; taken = took.1 }; calm = stopped.3 ∙ calm told }
+    let took = taken-behind text left rest all before stopped.0 is stopped.3 (joined told) in
+    record {
+      few = record { count = before + stopped.0; few = stopped.1; taken = took.1 };
+      lines = half_read (record { count = before + stopped.0; many = stopped.2; there = took.0; taken = took.1 });
+      calm = stopped.4 ∙ calm told;
+    }
 
 -- What was read whole is no more than the input may have.
 pub few-all : (left rest text : List ℕ) → IsAll left rest text → TookFew left rest
@@ -75,6 +79,15 @@ was-read left rest text seen events all same stand = record {
   within = (let within = all.within in let lengths = ap length all.all in omega arith);
   to_its_end = all.to_its_end;
   stand = subst (λ xs. AllZip StandsFor (lines xs) events) (same ∙ all.all) stand;
+}
+
+-- All was read, and no line is wrong.
+pub right-short : (left rest text seen : List ℕ) (faults later : ℕ) → IsAll left rest text → seen ≡ text → AreEvents (lines seen) → later ≡ faults →
+    ReadShort left rest faults later
+right-short left rest text seen faults later all same right calm = record {
+  few = few-all left rest text all;
+  lines = all_right right.events (was-read left rest text seen right.events all same right.stand);
+  calm = calm;
 }
 
 -- An input with a wrong line has that one.

@@ -1,4 +1,4 @@
--- A line is read as an event exactly where it is its text.
+-- A line is read as an event exactly when it is its text.
 use Rattle.std.proofs.Common.{◌≡◌, ◌∙◌, ℕ, ◌^◌, ◌<◌, List, [], ◌∷◌, refl, ap, sym, subst, arith, inl, inr}
 use Rattle.std.specs.Prelude.{true, nat_lt, if◌then◌else◌, Option, Some, None, option_and_then, option_map, bytes_eq, codes, decimal}
 use Rattle.std.proofs.lemmas.Bool.{ltb-true, lt-ltb}

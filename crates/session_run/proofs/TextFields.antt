@@ -1,4 +1,4 @@
--- What the words of a line are read as, part by part: each is read exactly where it is written.
+-- What the words of a line are read as, part by part: each is read exactly when it is written.
 use Rattle.std.proofs.Common.{◌≡◌, ◌∙◌, ℕ, ◌^◌, ◌<◌, List, [], ◌∷◌, length, refl, ap, sym, subst, arith, inl, inr}
 use Rattle.std.specs.Prelude.{Bool, true, false, ◌⊎◌, ◌&&◌, if◌then◌else◌, nat_le, Option, Some, None, option_and_then, option_map, bytes_eq, codes, decimal}
 use Rattle.std.proofs.lemmas.Bool.{leb-true, le-leb, eq-eqb, eqb-true}

@@ -1,4 +1,4 @@
--- What the words of parts are read as: parts are read exactly where they are written.
+-- What the words of parts are read as: parts are read exactly when they are written.
 use Rattle.std.proofs.Common.{◌≡◌, ◌∙◌, ℕ, zero, suc, ◌^◌, ◌<◌, ◌≤◌, List, [], ◌∷◌, ◌++◌, length, refl, ap, sym, subst, arith, append_assoc}
 use Rattle.std.specs.Prelude.{Bool, true, false, ◌==◌, ◌&&◌, ◌↔◌, All, IfSome, IsSome, nat_le, nat_lt, Option, Some, None, option_and_then, option_map, bytes_eq, codes, decimal}
 use Rattle.std.proofs.lemmas.Bool.{leb-true, le-leb, eq-eqb, eqb-true, ltb-true, lt-ltb}

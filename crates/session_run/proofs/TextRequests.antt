@@ -1,4 +1,4 @@
--- What the words of a request are read as: a request is read exactly where it is written.
+-- What the words of a request are read as: a request is read exactly when it is written.
 use Rattle.std.proofs.Common.{◌≡◌, ◌∙◌, ℕ, ◌^◌, ◌<◌, List, [], ◌∷◌, refl, ap, subst, arith, inl, inr}
 use Rattle.std.specs.Prelude.{true, Option, Some, option_map, bytes_eq, codes, decimal}
 use Rattle.std.proofs.lemmas.Slice.Eq.{bytes_eq-Decides}

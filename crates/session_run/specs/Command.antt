@@ -34,13 +34,13 @@ pub record IsCapacity (word : List ℕ) (capacity : ℕ) : Type 0 where
   pub fits : capacity ≤ MOST_ENTRIES
   pub word_is : word ≡ decimal capacity
 
--- The command of a capacity's word: none exactly where it is no capacity.
+-- The command of a capacity's word: none exactly when it is no capacity.
 abbrev pub ReadsCapacity : List ℕ → Option Command → Type 0
 ReadsCapacity word None = (capacity : ℕ) → IsCapacity word capacity → ⊥
 ReadsCapacity word (Some (Run capacity)) = IsCapacity word capacity
 ReadsCapacity word (Some _) = ⊥
 
--- The number of a word, at most this one: none exactly where it is no such number.
+-- The number of a word, at most this one: none exactly when it is no such number.
 abbrev pub ReadsUpTo : ℕ → List ℕ → Option ℕ → Type 0
 ReadsUpTo most word None = (number : ℕ) → number ≤ most → word ≡ decimal number → ⊥
 ReadsUpTo most word (Some number) = (number ≤ most) × (word ≡ decimal number)
@@ -52,7 +52,7 @@ pub record AreCounts (first second : List ℕ) (senders count : ℕ) : Type 0 wh
   pub first_is : first ≡ decimal senders
   pub second_is : second ≡ decimal count
 
--- The command of these two words: none exactly where they are no such numbers.
+-- The command of these two words: none exactly when they are no such numbers.
 abbrev pub ReadsCounts : List ℕ → List ℕ → Option Command → Type 0
 ReadsCounts first second None = (senders count : ℕ) → AreCounts first second senders count → ⊥
 ReadsCounts first second (Some (Wake senders count)) = AreCounts first second senders count
@@ -65,13 +65,13 @@ pub record AreRounds (first second : List ℕ) (seed rounds : ℕ) : Type 0 wher
   pub first_is : first ≡ decimal seed
   pub second_is : second ≡ decimal rounds
 
--- The command of these two words: none exactly where they are no such numbers.
+-- The command of these two words: none exactly when they are no such numbers.
 abbrev pub ReadsRounds : List ℕ → List ℕ → Option Command → Type 0
 ReadsRounds first second None = (seed rounds : ℕ) → AreRounds first second seed rounds → ⊥
 ReadsRounds first second (Some (Generate seed rounds)) = AreRounds first second seed rounds
 ReadsRounds first second (Some _) = ⊥
 
--- The command of words: none exactly where they are no command's.
+-- The command of words: none exactly when they are no command's.
 abbrev pub ReadsCommand : List (List ℕ) → Option Command → Type 0
 ReadsCommand words None = IsNoCommand words
 ReadsCommand words (Some (Run capacity)) = IsRun words capacity

@@ -9,6 +9,7 @@ use Rattle.session_run.specs.declared.session.Session.{Session}
 use Rattle.session_run.specs.declared.top.Status.{Status}
 use Rattle.session_run.specs.declared.top.Status.TheVariants.{Done, BadWords, BadLine, TooLong, ReadFault, WriteFault, OutOfMemory}
 use Rattle.session_run.specs.declared.input.NoEvents.{NoEvents}
+use Rattle.session_run.specs.declared.input.TheConstants.{PIECE}
 use Rattle.session_run.specs.declared.output.Unwritten.{Unwritten}
 use Rattle.session_run.specs.declared.top.Kept.{Kept}
 use Rattle.session_run.specs.declared.top.Kept.TheVariants.{Run}
@@ -16,7 +17,7 @@ use Rattle.session_run.specs.declared.command.Command.{Command}
 use Rattle.session_run.specs.declared.command.Command.TheVariants.{Run as RunOf, Generate, Wake}
 use Rattle.session_run.specs.Session.{SessionStands}
 use Rattle.session_run.specs.Generated.{generated_events}
-use Rattle.session_run.specs.Top.{most_input, RunDone, LineRefused, TookTooMany, IsBadLine, WrotePrefix, WroteSome, SumsFor, TookFew, WakesFor, bad_line_text, reply_lines}
+use Rattle.session_run.specs.Top.{most_input, RunDone, LineRefused, NoLineWrong, TookTooMany, IsBadLine, WrotePrefix, WroteSome, SumsFor, TookFew, WakesFor, bad_line_text, reply_lines}
 
 -- What a source had left and has left, and its count of faults before and after.
 pub record Reading : Type 0 where
@@ -47,9 +48,11 @@ pub record NoFaults (tells_source tells_sink : Bool) (source : Reading) (sink : 
   pub read : IsTrue tells_source → source.later ≡ source.faults
   pub wrote : IsTrue tells_sink → sink.later ≡ sink.faults
 
--- Memory ran out, and nothing gives another status: no more was taken than the input may have, and no count of faults rose.
+-- Memory ran out, and nothing gives another status: no more was taken than the input may have, no line that could be looked at is
+-- wrong, and no count of faults rose.
 pub record RanShort (tells_source tells_sink : Bool) (source : Reading) (sink : Writing) : Type 0 where
   pub few : IsTrue tells_source → TookFew source.left source.rest
+  pub lines : IsTrue tells_source → NoLineWrong source.left source.rest
   pub calm : NoFaults tells_source tells_sink source sink
 
 -- All that was left was read.
@@ -63,9 +66,11 @@ pub record Took (left rest : List ℕ) (n : ℕ) : Type 0 where
   pub there : n ≤ length left
   pub taken : rest ≡ drop n left
 
--- Memory ran out for what was read of a source that tells its bytes: no more than it may have, and no fault was counted.
+-- Memory ran out for what was read of a source that tells its bytes: no more than it may have, no line that could be looked at is
+-- wrong, and no fault was counted.
 pub record ReadShort (left rest : List ℕ) (faults later : ℕ) : Type 0 where
   pub few : TookFew left rest
+  pub lines : NoLineWrong left rest
   pub calm : later ≡ faults
 
 -- Why a source gave no bytes: too many, a fault, or no memory.
@@ -85,7 +90,7 @@ abbrev pub WhyStopped : Bool → ℕ → List ℕ → List ℕ → ℕ → ℕ �
 WhyStopped tells before left rest faults later (NoEvents.BadLine n) = ⊥
 WhyStopped tells before left rest faults later NoEvents.TooLong = IsTrue tells → (n : ℕ) × (most_input < before + n) × Took left rest n
 WhyStopped tells before left rest faults later NoEvents.Fault = Rose faults later
-WhyStopped tells before left rest faults later NoEvents.OutOfMemory = IsTrue tells → (n : ℕ) × (before + n ≤ most_input) × Took left rest n × (later ≡ faults)
+WhyStopped tells before left rest faults later NoEvents.OutOfMemory = IsTrue tells → (n : ℕ) × (before + n ≤ most_input) × (PIECE < before + n) × Took left rest n × (later ≡ faults)
 
 -- All bytes were written, with no fault counted where the sink tells its bytes.
 pub record Wrote (tells : Bool) (bytes taken now : List ℕ) (faults later : ℕ) : Type 0 where

@@ -5,23 +5,25 @@ use Rattle.rent_buf.specs.Parts.{Parts}
 use Rattle.rent_buf.specs.declared.kind.Kind.TheVariants.{Vector}
 use Rattle.ring_core.specs.declared.ledger.Event.{Event}
 use Rattle.ring_core.specs.declared.ledger.Event.TheVariants.{Give, Feed, Submit, Poll, Drop, Cancel, Turn, Exec}
+use Rattle.ring_core.specs.declared.request.TheConstants.{CANCELED}
 use Rattle.ring_core.specs.declared.request.Request.{Request}
 use Rattle.ring_core.specs.declared.request.Request.TheVariants.{Recv}
 use Rattle.ring_core.specs.declared.request.Told.{Told}
 use Rattle.ring_core.specs.declared.request.Told.TheVariants.{Count, Fail}
 use Rattle.ring_core.specs.declared.world.HandleKind.TheVariants.{Stream}
+use Rattle.session_run.specs.declared.generated.TheConstants.{DIVISOR, FACTOR, READ, STATES, SUMMAND}
 
 -- The state after one more draw.
 abbrev pub next_state : ℕ → ℕ
-next_state x = (x * 1103515245 + 12345) % 2147483648
+next_state x = (x * FACTOR + SUMMAND) % STATES
 
 -- What a state draws.
 abbrev pub drawn : ℕ → ℕ
-drawn x = x / 65536
+drawn x = x / DIVISOR
 
--- A read of at most 8 bytes into an empty vector.
+-- A read of at most `READ` bytes into an empty vector.
 abbrev pub small_read : Request Buffer Parts
-small_read = Recv 0 (record { kind = Vector; bytes = []; total = 8; begin = 0; end = 8 })
+small_read = Recv 0 (record { kind = Vector; bytes = []; total = READ; begin = 0; end = READ })
 
 -- What is asked of operation i, by a choice from 0 to 3.
 abbrev pub asked : ℕ → ℕ → Event
@@ -29,7 +31,7 @@ asked choice i = if choice == 0 then Drop i else if choice == 1 then Cancel i el
 
 -- What is told of the operation, by the same choice and a count of bytes.
 abbrev pub told : ℕ → ℕ → Told
-told choice count = if nat_lt choice 2 then Fail 125 else Count count
+told choice count = if nat_lt choice 2 then Fail CANCELED else Count count
 
 -- The seven events of round i.
 abbrev pub round_events : ℕ → ℕ → ℕ → List Event

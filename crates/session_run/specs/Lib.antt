@@ -5,6 +5,7 @@ pub mod TextLines
 pub mod TextWrites
 pub mod TextReads
 pub mod TextEventReads
+pub mod TextValid
 pub mod Token
 pub mod Session
 pub mod Executed

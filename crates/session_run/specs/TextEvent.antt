@@ -107,7 +107,7 @@ IsEvent (Cancel n) = n < 2 ^ 64
 IsEvent Turn = Unit {0}
 IsEvent (Exec place told) = (place < 2 ^ 64) × IsTold told
 
--- A line stands for an event exactly where it is its text.
+-- A line stands for an event exactly when it is its text.
 pub record StandsFor (line : List ℕ) (event : Event) : Type 0 where
   pub typed : IsEvent event
   pub text : line ≡ event_text event

@@ -1,5 +1,5 @@
 -- What the readers of a line's requests and events answer. Only contracts of private functions cite these: `event_of-stands` and
--- `stands-event_of` (proofs/TextEvents.antt) prove that a line is read as an event exactly where it stands for it.
+-- `stands-event_of` (proofs/TextEvents.antt) prove that a line is read as an event exactly when it stands for it.
 use Rattle.std.specs.Prelude.{ℕ, ◌^◌, nat_lt, if◌then◌else◌, List, [], ◌∷◌, codes, bytes_eq, Option, Some, None, option_and_then, option_map}
 use Rattle.rent_buf.specs.Buffer.{Buffer}
 use Rattle.rent_buf.specs.Parts.{Parts}

@@ -31,7 +31,17 @@ pub record IsFirstWrong (all : List (List ℕ)) (n : ℕ) : Type 0 where
   pub right : AllZip StandsFor before events
   pub wrong : IsWrong line
 
+-- Each line stands for an event.
+pub record AreEvents (all : List (List ℕ)) : Type 0 where
+  pub events : List Event
+  pub stand : AllZip StandsFor all events
+
 -- A fact of the number of a bad line.
 abbrev pub IfBadLine : (ℕ → Type 0) → LinesError → Type 0
 IfBadLine P (BadLine number) = P number
 IfBadLine P OutOfMemory = Unit {0}
+
+-- A fact that holds if memory ran out.
+abbrev pub IfShort : Type 0 → LinesError → Type 0
+IfShort P (BadLine number) = Unit {0}
+IfShort P OutOfMemory = P

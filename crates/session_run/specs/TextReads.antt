@@ -1,5 +1,5 @@
 -- What the readers of a line's words answer: numbers, bytes, buffers and parts. Only contracts of private functions cite these:
--- `event_of-stands` and `stands-event_of` (proofs/TextEvents.antt) prove that a line is read as an event exactly where it
+-- `event_of-stands` and `stands-event_of` (proofs/TextEvents.antt) prove that a line is read as an event exactly when it
 -- stands for it.
 use Rattle.std.specs.Prelude.{ℕ, Bool, true, ◌+◌, ◌-◌, ◌*◌, ◌^◌, ◌==◌, ◌&&◌, ◌||◌, nat_lt, nat_le, if◌then◌else◌, List, [], ◌∷◌, length, codes, bytes_eq, decimal, Option, Some, None, option_and_then, option_map}
 use Rattle.std.specs.Str.Parse.{digits_value}

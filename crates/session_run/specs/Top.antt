@@ -12,7 +12,8 @@ use Rattle.session_run.specs.declared.top.Kept.{Kept}
 use Rattle.session_run.specs.declared.top.Kept.TheVariants.{Run}
 use Rattle.session_run.specs.declared.top.Status.{Status}
 use Rattle.session_run.specs.declared.top.Status.TheVariants.{Done, BadWords, BadLine, TooLong, ReadFault, WriteFault, OutOfMemory}
-use Rattle.session_run.specs.declared.input.TheConstants.{MOST_INPUT}
+use Rattle.session_run.specs.declared.generated.TheConstants.{ENTRIES}
+use Rattle.session_run.specs.declared.input.TheConstants.{MOST_INPUT, PIECE}
 use Rattle.session_run.specs.Session.{SessionStands}
 use Rattle.session_run.specs.TextEvent.{StandsFor}
 use Rattle.session_run.specs.TextReply.{reply_text}
@@ -65,10 +66,10 @@ abbrev pub generated_text : ℕ → ℕ → ℕ → List ℕ
 generated_text events refused ready =
     ended (codes "events " ++ decimal events ++ codes " refused " ++ decimal refused ++ codes " ready " ++ decimal ready)
 
--- What is written of these events, run over a queue of 8 entries.
+-- What is written of these events, run over a queue of `ENTRIES` entries.
 abbrev pub summary_text : List Event → List ℕ
 summary_text events =
-    generated_text (length events) (count_by is_refused (replies (empty 8) events)) (count_by is_ready (replies (empty 8) events))
+    generated_text (length events) (count_by is_refused (replies (empty ENTRIES) events)) (count_by is_ready (replies (empty ENTRIES) events))
 
 -- The input, of at most so many bytes, was read to its end, and its lines stand for these events, one each.
 pub record WasRead (left rest : List ℕ) (events : List Event) : Type 0 where
@@ -99,18 +100,29 @@ pub record LineRefused (tells_source tells_sink : Bool) (left rest taken now : L
   pub bad : IsTrue tells_source → IsBadLine left rest n
   pub written : IsTrue tells_sink → now ≡ taken ++ bad_line_text n
 
--- More bytes were taken than the input may have.
-pub record TookTooMany (left rest : List ℕ) : Type 0 where
+-- More bytes were taken than this many.
+pub record TookMore (bound : ℕ) (left rest : List ℕ) : Type 0 where
   pub count : ℕ
-  pub many : most_input < count
+  pub many : bound < count
   pub there : count ≤ length left
   pub taken : rest ≡ drop count left
+
+-- More bytes were taken than the input may have.
+abbrev pub TookTooMany : List ℕ → List ℕ → Type 0
+TookTooMany left rest = TookMore most_input left rest
 
 -- No more bytes were taken than the input may have.
 pub record TookFew (left rest : List ℕ) : Type 0 where
   pub count : ℕ
   pub few : count ≤ most_input
   pub taken : rest ≡ drop count left
+
+-- Memory ran out, and no line that could be looked at is wrong: nothing was taken; or more bytes than memory was taken for before
+-- the first read; or all was read, and each line stands for an event.
+pub data NoLineWrong (left rest : List ℕ) : Type 0 where
+  unread : rest ≡ left → NoLineWrong left rest
+  half_read : TookMore PIECE left rest → NoLineWrong left rest
+  all_right : (events : List Event) → WasRead left rest events → NoLineWrong left rest
 
 -- A prefix of a text was written.
 pub record WrotePrefix (text taken now : List ℕ) : Type 0 where
@@ -136,12 +148,12 @@ WakesFor tells total taken now WriteFault = IsTrue tells → WrotePrefix (draine
 WakesFor tells total taken now OutOfMemory = IsTrue tells → now ≡ taken
 WakesFor tells total taken now _ = ⊥
 
--- Events were run over a queue of 8 entries, and their summary written: a session is kept that stands for the ledger they lead to.
+-- Events were run over a queue of `ENTRIES` entries, and their summary written: a session is kept that stands for the ledger they lead to.
 pub record Summed (tells : Bool) (events : List Event) (taken now : List ℕ) (kept : Option Kept) : Type 0 where
   pub written : IsTrue tells → now ≡ taken ++ summary_text events
   pub session : Session
   pub kept_is : kept ≡ Some (Run session)
-  pub stands : SessionStands session (ledger 8 events)
+  pub stands : SessionStands session (ledger ENTRIES events)
 
 -- What `gen` wrote and kept of generated events, by the status. It has no other status than these three.
 abbrev pub SumsFor : Bool → List Event → List ℕ → List ℕ → Option Kept → Status → Type 0

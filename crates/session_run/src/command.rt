@@ -4,22 +4,22 @@ ghost use Rattle.session_run.specs.Command.{ReadsCapacity, ReadsCounts, ReadsRou
 
 use crate::text::read_number;
 
-/// The most entries of `run`'s queue.
+/// The most entries of `run`'s queue. (not in monoio)
 pub const MOST_ENTRIES: u64 = 4294967295;
 
-/// The greatest seed of `gen`.
+/// The greatest seed of `gen`. (not in monoio)
 pub const MOST_SEED: u64 = 2147483647;
 
-/// The most rounds of `gen`.
+/// The most rounds of `gen`. (not in monoio)
 pub const MOST_ROUNDS: u64 = 100000;
 
-/// The most senders of `wake`.
+/// The most senders of `wake`. (not in monoio)
 pub const MOST_SENDERS: u64 = 64;
 
-/// The most wakers of each sender of `wake`.
+/// The most wakers of each sender of `wake`. (not in monoio)
 pub const MOST_COUNT: u64 = 100000;
 
-/// A command of the program.
+/// A command of the program. (not in monoio)
 #[derive(Clone, Copy, Debug, PartialEq, Eq)]
 pub enum Command {
     /// `run CAP`: runs the events that are read, over a queue of so many entries, at least one.
@@ -30,7 +30,7 @@ pub enum Command {
     Wake(u64, u32),
 }
 
-/// The command that words write; None where they are no command's. Words are exact.
+/// The command that words write; `None` if they write none. Numbers have no sign and no leading zero. (not in monoio)
 pub fn command_of(words: &[String]) -> Option<Command>
     ensures { ReadsCommand (map string_bytes words.now) result }
 {

@@ -1,18 +1,31 @@
 //! Events that a seed generates.
-ghost use Rattle.std.specs.Prelude.{◌≡◌, ◌+◌, ◌*◌, ◌≤◌, ◌<◌, ◌^◌, ◌++◌, IfOk, OnOk, if◌then◌else◌, replicate};
+ghost use Rattle.std.specs.Prelude.{◌≡◌, ◌+◌, ◌*◌, ◌<◌, ◌^◌, ◌++◌, IfOk, OnOk, if◌then◌else◌, replicate};
 ghost use Rattle.ring_core.specs.Run.{ledger};
 ghost use Rattle.session_run.specs.Session.{SessionStands};
 ghost use Rattle.session_run.specs.Top.{generated_text, is_ready, is_refused, summary_text};
-ghost use Rattle.session_run.specs.Generated.{asked, drawn, generated_events, next_state, round_events, small_read, told};
+ghost use Rattle.session_run.specs.Generated.{asked, generated_events, next_state, round_events, small_read, told};
 
 use crate::session::Session;
 use crate::text::put_number;
 use rent_buf::{BufSpec, ByteList, Kind, OutOfMemory, PartsSpec};
-use ring_core::{Event, HandleKind, Reply, Request, SharedFd, Told};
+use ring_core::{CANCELED, Event, HandleKind, Reply, Request, SharedFd, Told};
 use std::alloc::Global;
 
-// How many entries the queue has over which generated events run.
-const ENTRIES: u32 = 8;
+/// How many entries the queue has over which generated events run. (not in monoio)
+pub const ENTRIES: u32 = 8;
+
+// The factor and the summand of a draw, and how many states there are.
+const FACTOR: u64 = 1103515245;
+
+const SUMMAND: u64 = 12345;
+
+const STATES: u64 = 2147483648;
+
+// What a state is divided by.
+const DIVISOR: u64 = 65536;
+
+// The most bytes of a round's read.
+const READ: usize = 8;
 
 // How many events a round has.
 const ROUND: usize = 7;
@@ -27,9 +40,9 @@ pub fn generated(alloc: Global, seed: u32, rounds: u32) -> Result<Vec<Event>, Ou
     let mut x = seed as u64;
     for i in 0..rounds {
         x = next(x);
-        let choice = x / 65536 % 4;
+        let choice = x / DIVISOR % 4;
         x = next(x);
-        let count = x / 65536 % 8 + 1;
+        let count = x / DIVISOR % 8 + 1;
         push_round(alloc, i as u64, choice, count as u32, &mut events)?;
     }
     Ok(events)
@@ -74,13 +87,13 @@ impl Summary {
     }
 }
 
-/// Runs events over a queue of 8 entries, and counts their replies.
+/// Runs events over a queue of `ENTRIES` entries, and counts their replies.
 pub(crate) fn run_counted(
     alloc: Global,
     events: Vec<Event>,
 ) -> Result<(Summary, Session), OutOfMemory>
     ensures summary { IfOk result (λ run. generated_text run.0.events run.0.refused run.0.ready ≡ summary_text events.items) }
-    ensures stands { IfOk result (λ run. SessionStands run.1 (ledger 8 events.items)) }
+    ensures stands { IfOk result (λ run. SessionStands run.1 (ledger ENTRIES events.items)) }
 {
     let mut session = Session::new(alloc, ENTRIES)?;
     let mut summary = Summary {
@@ -101,7 +114,7 @@ fn next(x: u64) -> u64
     ensures value { result ≡ next_state x }
     ensures small { result < 2 ^ 32 }
 {
-    (x * 1103515245 + 12345) % 2147483648
+    (x * FACTOR + SUMMAND) % STATES
 }
 
 // Appends the events of round i.
@@ -131,12 +144,12 @@ fn bytes_of_round(alloc: Global, byte: u8, count: usize) -> Result<ByteList, Out
     Ok(ByteList::from_vec(vec![in alloc; byte; count]?))
 }
 
-// A read of at most 8 bytes into an empty vector.
+// A read of at most `READ` bytes into an empty vector.
 fn read_of_round(alloc: Global) -> Result<Request<BufSpec, PartsSpec>, OutOfMemory>
     ensures { IfOk result (λ request. request ≡ small_read) }
 {
     let none = ByteList::from_vec(Vec::new(alloc));
-    match BufSpec::new(Kind::Vector, 8, 0, 8, none) {
+    match BufSpec::new(Kind::Vector, READ, 0, READ, none) {
         Some(buf) => Ok(Request::Recv {
             fd: SharedFd::new(0),
             buf,
@@ -161,7 +174,7 @@ fn told_of_round(choice: u64, count: u32) -> Told
     ensures { result ≡ told choice count }
 {
     if choice < 2 {
-        Told::Fail(125)
+        Told::Fail(CANCELED)
     } else {
         Told::Count(count)
     }

@@ -1,5 +1,5 @@
 //! Reading all lines of a source.
-ghost use Rattle.std.specs.Prelude.{◌≡◌, ◌≤◌, ◌<◌, ◌+◌, ◌++◌, length, IfOk, IfErr, OnOk, IsTrue, vec_len, []};
+ghost use Rattle.std.specs.Prelude.{◌≡◌, ◌≤◌, ◌<◌, ◌+◌, ◌++◌, length, IfOk, IfErr, OnOk, OnErr, IsTrue, vec_len, vec_capacity, []};
 ghost use Rattle.session_run.specs.Top.{WasRead};
 ghost use Rattle.session_run.specs.Ends.{IsAll, WhyNoEvents, WhyStopped, WhyUnread};
 
@@ -14,8 +14,8 @@ pub const MOST_INPUT: usize = 16777216;
 // The most reads that find bytes in an input that isn't too long, and one more.
 const READS: usize = 16777217;
 
-// How many bytes one read asks for.
-const PIECE: usize = 65536;
+/// How many bytes one read asks for, and for how many memory is taken before the first.
+pub const PIECE: usize = 65536;
 
 /// Why a source gave no events.
 pub(crate) enum NoEvents {
@@ -25,7 +25,7 @@ pub(crate) enum NoEvents {
     TooLong,
     /// The source failed.
     Fault,
-    /// Memory ran out.
+    /// Memory ran out: before anything was read, once more than `PIECE` bytes were read, or once all was read and no line is wrong.
     OutOfMemory,
 }
 
@@ -55,8 +55,10 @@ fn read_all<S: ByteSource>(alloc: Global, source: &mut S) -> Result<Vec<u8>, NoE
     ensures calm { OnOk result (IsTrue S.tells → S.faults source.new ≡ S.faults source.old) }
     ensures why { IfErr result (WhyUnread S.tells (S.left source.old) (S.left source.new) (S.faults source.old) (S.faults source.new)) }
 {
-    let mut text = Vec::new(alloc);
     let Ok(mut piece) = zeros(alloc, PIECE) else {
+        return Err(NoEvents::OutOfMemory);
+    };
+    let Ok(mut text) = Vec::with_capacity(alloc, PIECE) else {
         return Err(NoEvents::OutOfMemory);
     };
     // Each turn takes a byte at least, so the budget is one more than what may be read.
@@ -70,18 +72,21 @@ fn read_all<S: ByteSource>(alloc: Global, source: &mut S) -> Result<Vec<u8>, NoE
     Err(NoEvents::TooLong)
 }
 
-// Reads once, and joins what came to the text; 0 is the end. Memory is taken only for what the input may have.
+// Reads once, and joins what came to the text; 0 is the end. Memory is taken only for what the input may have, and only where the
+// text has no room for it.
 fn read_some<S: ByteSource>(
     source: &mut S,
     piece: &mut Vec<u8>,
     text: &mut Vec<u8>,
 ) -> Result<usize, NoEvents>
     requires piece { 0 < vec_len piece.old }
-    requires few { vec_len text.old ≤ 16777216 }
+    requires few { vec_len text.old ≤ MOST_INPUT }
+    requires room { PIECE ≤ vec_capacity text.old }
     ensures piece { vec_len piece.new ≡ vec_len piece.old }
     ensures joined { OnOk result (IsTrue S.tells → text.new.items ++ S.left source.new ≡ text.old.items ++ S.left source.old) }
     ensures count { IfOk result (λ n. vec_len text.new ≡ vec_len text.old + n) }
-    ensures few { OnOk result (vec_len text.new ≤ 16777216) }
+    ensures few { OnOk result (vec_len text.new ≤ MOST_INPUT) }
+    ensures room { OnOk result (PIECE ≤ vec_capacity text.new) }
     ensures end { IfOk result (λ n. n ≡ 0 → IsTrue S.tells → S.left source.new ≡ []) }
     ensures calm { OnOk result (IsTrue S.tells → S.faults source.new ≡ S.faults source.old) }
     ensures faults { OnOk result (S.faults source.old ≤ S.faults source.new) }
@@ -104,6 +109,8 @@ fn read_some<S: ByteSource>(
 fn append(text: &mut Vec<u8>, bytes: &[u8]) -> Result<(), AllocError>
     ensures ok { OnOk result (text.new.items ≡ text.old.items ++ bytes.now) }
     ensures count { OnOk result (vec_len text.new ≡ vec_len text.old + length bytes.now) }
+    ensures room { OnOk result (vec_capacity text.old ≤ vec_capacity text.new) }
+    ensures full { OnErr result (vec_capacity text.old < vec_len text.old + length bytes.now) }
 {
     text.extend_from_slice(bytes)?;
     Ok(())

@@ -1,5 +1,5 @@
 //! Writing replies and lines to a sink.
-ghost use Rattle.std.specs.Prelude.{◌≡◌, ◌<◌, ◌≤◌, ◌++◌, ◌∷◌, [], IfOk, IfErr, OnOk, IsTrue, decimal};
+ghost use Rattle.std.specs.Prelude.{◌≡◌, ◌<◌, ◌≤◌, ◌++◌, [], IfOk, IfErr, OnOk, IsTrue, decimal};
 ghost use Rattle.ring_core.specs.Ledger.{empty};
 ghost use Rattle.ring_core.specs.Run.{ledger, replies};
 ghost use Rattle.session_run.specs.Session.{SessionStands};

@@ -24,7 +24,7 @@ use uring_driver::{Driver, Executed, IoUringDriver, Op, PollOp, Submitted};
 // No counter of a session passes this number: memory would run out long before.
 const MOST_GIVEN: u64 = 1 << 62;
 
-/// Why a run gave no replies.
+/// Why a run gave no replies. (not in monoio)
 #[derive(Clone, Copy, Debug, PartialEq, Eq, Error)]
 pub enum RunError {
     /// Memory ran out.
@@ -44,7 +44,7 @@ impl From<AllocError> for RunError {
     }
 }
 
-/// A driver over the ring in memory, which events step. It keeps the token of each operation that isn't handed back, by the
+/// A driver over the ring in memory, which events step. It keeps the token of each operation that isn't returned, by the
 /// operation's number. (not in monoio)
 pub struct Session {
     driver: IoUringDriver<MemRing, Buf>,
@@ -59,7 +59,8 @@ impl Drop for Session {
 }
 
 impl Session {
-    /// A session over a ring whose queue holds `capacity` entries.
+    /// A session over a ring whose queue holds `capacity` entries, at least one; `OutOfMemory` comes if memory runs out. (not in
+    /// monoio)
     pub fn new(alloc: Global, capacity: u32) -> Result<Session, OutOfMemory>
         requires { 0 < capacity }
         ensures { IfOk result (λ session. SessionStands session (empty capacity)) }
@@ -71,7 +72,7 @@ impl Session {
         })
     }
 
-    /// Its driver.
+    /// Its driver. (not in monoio)
     pub fn driver(&self) -> &IoUringDriver<MemRing, Buf>
         ensures { result.now ≡ driver_in self.now }
     {
@@ -79,6 +80,7 @@ impl Session {
     }
 
     /// Its driver and its tokens, which stand for each ledger that the session stands for. It takes no memory.
+    /// (not in monoio)
     pub fn into_parts(self) -> (IoUringDriver<MemRing, Buf>, Tokens)
         ensures driver { result.0 ≡ driver_in self }
         ensures stands { (L : Ledger) → SessionStands self L → PartsStand result.0 result.1 L }
@@ -88,7 +90,7 @@ impl Session {
     }
 
     /// A session of a driver and tokens that stand for some ledger: it stands for each ledger for which they do. The driver may
-    /// have been called since it was taken from its session. It takes no memory.
+    /// have been called since it was taken from its session. It takes no memory. (not in monoio)
     pub fn from_parts(driver: IoUringDriver<MemRing, Buf>, tokens: Tokens) -> Session
         requires { AreParts driver tokens }
         ensures driver { driver_in result ≡ driver }
@@ -97,9 +99,9 @@ impl Session {
         Session { driver, tokens }
     }
 
-    /// One step of the machine: does what the event says on the driver, and answers what the machine replies. If memory runs
-    /// out nothing has happened. That comes only of an event that the machine doesn't refuse, and never of a poll, a drop or an
-    /// end.
+    /// One step of the machine: does what the event says on the driver, and answers what the machine replies. `OutOfMemory`
+    /// comes if memory runs out, and then nothing has happened. It comes only at an event that the machine doesn't refuse, and
+    /// never at a poll, a drop or an end. (not in monoio)
     pub fn step(&mut self, event: &Event) -> Result<Reply, OutOfMemory>
         ensures answers { (L : Ledger) → SessionStands self.old L → StepsFor L event.now self.new result }
         ensures memory { TakesNoMemory event.now → IsOk result }
@@ -129,8 +131,8 @@ impl Session {
         }
     }
 
-    /// Runs events from an empty session on: the replies, one for each event, and the session after the last. The memory of
-    /// the replies is taken first.
+    /// Runs fewer than 2^62 events from an empty session on, over a queue of at least one entry: the replies, one for each event,
+    /// and the session after the last. The memory of the replies is taken first. (not in monoio)
     pub fn run(
         alloc: Global,
         capacity: u32,
@@ -142,17 +144,17 @@ impl Session {
         ensures replies { IfOk result (λ run. run.0.items ≡ replies (empty capacity) events.now) }
         ensures stands { IfOk result (λ run. SessionStands run.1 (ledger capacity events.now)) }
 
-        // There is one reply for each event, and it is Refused exactly where the machine names a cause, with that name.
+        // There is one reply for each event, and it is Refused exactly when the machine refuses the event, with that name.
         ensures one_each { IfOk result (λ run. OneReplyEach events.now run.0.items) }
         ensures refused { IfOk result (λ run. RefusedExactly capacity events.now run.0.items) }
 
-        // An unrefused poll is Pending exactly until its operation's reap. Else it hands back that operation's own buffer, with
-        // its own outcome; the first poll after the reap does so where the operation wasn't dropped.
+        // An unrefused poll is Pending exactly until its operation's reap. Else it returns that operation's own buffer, with its
+        // own outcome; the first poll after the reap does so if the operation wasn't dropped.
         ensures pending { IfOk result (λ run. PendingUntilReaped capacity events.now run.0.items) }
         ensures own { IfOk result (λ run. HandsBackOwn capacity events.now run.0.items) }
         ensures first { IfOk result (λ run. FirstPollHands capacity events.now run.0.items) }
 
-        // After an operation was handed back or dropped, each poll, drop and cancel of it is refused.
+        // After an operation was returned or dropped, each poll, drop and cancel of it is refused.
         ensures once { IfOk result (λ run. HandedOnce events.now run.0.items) }
         ensures dropped { IfOk result (λ run. DroppedOnce events.now run.0.items) }
 
@@ -324,7 +326,7 @@ impl Session {
         }
     }
 
-    // An operation is given up.
+    // An operation is dropped.
     fn give_up(&mut self, n: u64) -> Reply
         ensures { (L : Ledger) → SessionStands self.old L → SessionAnswers L (Drop n) result self.new }
     {

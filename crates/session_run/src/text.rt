@@ -3,7 +3,7 @@ ghost use Rattle.std.specs.Prelude.{◌≡◌, ◌+◌, List, ℕ, IfOk, IfErr};
 ghost use Rattle.std.specs.List.{AllZip};
 ghost use Rattle.ring_core.specs.declared.ledger.Event.{Event};
 ghost use Rattle.session_run.specs.TextEvent.{IsEvent, StandsFor, event_text};
-ghost use Rattle.session_run.specs.TextLines.{lines, IfBadLine, IsFirstWrong};
+ghost use Rattle.session_run.specs.TextLines.{lines, AreEvents, IfBadLine, IfShort, IsFirstWrong};
 ghost use Rattle.session_run.specs.declared.text.LinesError.TheVariants.{OutOfMemory};
 
 mod buffer;
@@ -12,6 +12,7 @@ mod reply;
 mod request;
 #[cfg(test)]
 mod tests;
+mod valid;
 mod word;
 
 use event::event_of_line;
@@ -21,16 +22,17 @@ pub use reply::write_reply;
 use ring_core::Event;
 use std::alloc::{AllocError, AllocFailed, Global};
 use thiserror::Error;
+use valid::first_wrong;
 use word::first_line;
 pub(crate) use word::number::{put_number, read_number};
 
-/// Why lines gave no events.
+/// Why lines gave no events. (not in monoio)
 #[derive(Clone, Copy, Debug, PartialEq, Eq, Error)]
 pub enum LinesError {
     /// The line of this number, counted from 1, is the first that is no event's text.
     #[error("BadLine")]
     BadLine(u64),
-    /// Memory ran out.
+    /// Memory ran out, and no line is wrong.
     #[error("OutOfMemory")]
     OutOfMemory,
 }
@@ -60,8 +62,33 @@ impl<T: Drop> From<AllocFailed<T>> for LinesError {
 }
 
 /// The events that the lines of a text stand for, one for each line, in order. Memory is taken line by line, so a wrong line is
-/// found before memory for the lines behind it. (not in monoio)
+/// found before memory for the lines behind it. `OutOfMemory` comes only if no line is wrong: once memory runs out, the lines are
+/// looked through with none. (not in monoio)
 pub fn read_events(alloc: Global, text: &[u8]) -> Result<Vec<Event>, LinesError>
+    ensures events { IfOk result (λ events. AllZip StandsFor (lines text.now) events.items) }
+    ensures bad_line { IfErr result (IfBadLine (IsFirstWrong (lines text.now))) }
+    ensures memory { IfErr result (IfShort (AreEvents (lines text.now))) }
+{
+    match read_lines(alloc, text) {
+        Ok(events) => Ok(events),
+        Err(LinesError::BadLine(line)) => Err(LinesError::BadLine(line)),
+        Err(LinesError::OutOfMemory) => Err(why_short(text)),
+    }
+}
+
+// Why lines gave no events, if memory ran out: a wrong line, or memory alone.
+fn why_short(text: &[u8]) -> LinesError
+    ensures bad_line { IfBadLine (IsFirstWrong (lines text.now)) result }
+    ensures memory { IfShort (AreEvents (lines text.now)) result }
+{
+    match first_wrong(text) {
+        Some(line) => LinesError::BadLine(line),
+        None => LinesError::OutOfMemory,
+    }
+}
+
+// The events that the lines of a text stand for, up to the first wrong line, or to where memory runs out.
+fn read_lines(alloc: Global, text: &[u8]) -> Result<Vec<Event>, LinesError>
     ensures events { IfOk result (λ events. AllZip StandsFor (lines text.now) events.items) }
     ensures bad_line { IfErr result (IfBadLine (IsFirstWrong (lines text.now))) }
 {

@@ -10,7 +10,7 @@ use uring_driver::Op;
 /// The tokens of a session that was taken apart, each under its operation's number. They can't be made, copied or dropped
 /// outside: `Session::from_parts` spends them. (not in monoio)
 pub struct Tokens {
-    // A place for each operation that was given, by its number: with its token, where it was neither handed back nor dropped.
+    // A place for each operation that was submitted, by its number: with its token, if it was neither returned nor dropped.
     ops: Vec<Option<Op>>,
 }
 

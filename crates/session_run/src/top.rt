@@ -8,8 +8,8 @@ ghost use Rattle.session_run.specs.Generated.{generated_events};
 ghost use Rattle.session_run.specs.Top.{LineRefused, SumsFor, TookTooMany, WakesFor, exit_number, summary_text};
 ghost use Rattle.session_run.specs.Ends.{CommandEnds, RanShort, RefusesFor, RunEnds, RunsEvents, SinkEnds, StatusFor, reading, writing};
 
-use crate::command::{Command, command_of};
-use crate::generated::{generated, run_counted};
+use crate::command::{Command, MOST_SENDERS, command_of};
+use crate::generated::{ENTRIES, generated, run_counted};
 use crate::input::{NoEvents, source_events};
 use crate::output::{Unwritten, write_last, write_number, write_replies};
 use crate::session::Session;
@@ -25,12 +25,12 @@ use std::sync::ledger::Blank;
 use std::thread::Threads;
 use wake_core::OpenGate;
 
-/// How the program ends.
+/// How the program ends. (not in monoio)
 #[derive(Clone, Copy, Debug, PartialEq, Eq)]
 pub enum Status {
     /// All was written and flushed, and the input of a command that reads was read to its end.
     Done,
-    /// The words are no command. Nothing was read or written.
+    /// The words are no command's. Nothing was read or written.
     BadWords,
     /// The whole input was read, and a line of it is no event's text. Nothing was run, and `line N` was written.
     BadLine,
@@ -40,12 +40,12 @@ pub enum Status {
     ReadFault,
     /// The sink failed. A prefix of the text was written.
     WriteFault,
-    /// Memory ran out. A prefix of the text may have been written.
+    /// Memory ran out, and nothing that was seen gives another status. A prefix of the text may have been written.
     OutOfMemory,
 }
 
 impl Status {
-    /// The program's exit status.
+    /// The program's exit status. (not in monoio)
     pub fn number(self) -> u8
         ensures { result ≡ exit_number self }
     {
@@ -61,7 +61,7 @@ impl Status {
     }
 }
 
-/// What a command leaves where its status is Done.
+/// What a command leaves if its status is Done. (not in monoio)
 pub enum Kept {
     /// The session after the last event.
     Run(Session),
@@ -79,7 +79,7 @@ impl Drop for Kept {
 /// each reply and a newline as it comes. `gen SEED COUNT` reads nothing: it runs the events that the seed generates over a
 /// queue of 8 entries, and writes how many there are, how many were refused, and how many polls were ready. `wake SENDERS
 /// COUNT` reads nothing: each sender sends so many wakers from a thread of its own, and `drained N` and a newline are written.
-/// The condition is that nothing is kept yet.
+/// The condition is that nothing is kept yet. (not in monoio)
 pub fn top<R: Threads + Wait + Clock + Sync, S: ByteSource, K: ByteSink>(
     rt: &R,
     alloc: Global,
@@ -231,7 +231,7 @@ fn run_generated<K: ByteSink>(
 // Runs the events that a seed generates: the line of their summary, and the session after them.
 fn summary_line(alloc: Global, seed: u32, rounds: u32) -> Result<(Vec<u8>, Session), OutOfMemory>
     ensures line { IfOk result (λ run. run.0.items ≡ summary_text (generated_events seed rounds)) }
-    ensures stands { IfOk result (λ run. SessionStands run.1 (ledger 8 (generated_events seed rounds))) }
+    ensures stands { IfOk result (λ run. SessionStands run.1 (ledger ENTRIES (generated_events seed rounds))) }
 {
     let (summary, session) = run_counted(alloc, generated(alloc, seed, rounds)?)?;
     let mut line = Vec::new(alloc);
@@ -247,7 +247,7 @@ fn run_wake<R: Threads + Wait + Clock + Sync, K: ByteSink>(
     count: u32,
     sink: &mut K,
 ) -> Status
-    requires few { senders ≤ 64 }
+    requires few { senders ≤ MOST_SENDERS }
     ensures wakes { WakesFor K.tells (senders * count) (K.taken sink.old) (K.taken sink.new) result }
     ensures ends { SinkEnds K.tells (writing K.taken K.faults K.is_flushed sink.old sink.new) result }
 {

@@ -2,6 +2,7 @@
 ghost use Rattle.std.specs.Prelude.{◌≡◌, ◌+◌, ◌*◌, ◌≤◌, length, vec_len, true, IfOk};
 ghost use Rattle.wake_core.specs.Remote.{sent_by};
 
+use crate::command::MOST_SENDERS;
 use rent_buf::{Buf, OutOfMemory};
 use ring_core::MemRing;
 use std::alloc::Global;
@@ -40,7 +41,7 @@ where
     R: Threads + Wait + Clock + Sync,
     requires pushes { (pushes.name ≡ P.name) × (pushes.parts ≡ P.parts) × (pushes.parts ≡ 65537) }
     requires drains { (drains.name ≡ D.name) × (drains.parts ≡ D.parts) × (drains.parts ≡ 1) }
-    requires few { senders ≤ 64 }
+    requires few { senders ≤ MOST_SENDERS }
     ensures { IfOk result (λ settled. settled.drained ≡ senders * count) }
 {
     let Ok((_, mut sleeper)) = WakeCell::<P, D>::new(alloc, pushes, drains) else {
@@ -52,7 +53,7 @@ where
         rt,
         move |scope| -> Result<Settled, OutOfMemory>
             requires made { vec_len jobs ≡ sleeper.made }
-            requires few { vec_len jobs ≤ 64 }
+            requires few { vec_len jobs ≤ MOST_SENDERS }
             ensures { IfOk result (λ settled. settled.drained ≡ vec_len jobs * count) }
         { send_park_settle(rt, alloc, scope, sleeper, jobs, count, gate) },
     )
@@ -93,7 +94,7 @@ where
     G: Gate,
     R: Threads + Wait + Clock + Sync,
     requires made { vec_len jobs ≡ sleeper.made }
-    requires few { vec_len jobs ≤ 64 }
+    requires few { vec_len jobs ≤ MOST_SENDERS }
     ensures { IfOk result (λ settled. settled.drained ≡ vec_len jobs * count) }
 {
     let mut driver: IoUringDriver<MemRing, Buf> = IoUringDriver::new(alloc)?;

@@ -72,7 +72,7 @@ pub fn write_event(event: &Event, out: &mut Vec<u8>) -> Result<(), OutOfMemory>
 
 // The events by the words behind their first one.
 
-fn turn_event(rest: &[u8]) -> Option<Event>
+pub(crate) fn turn_event(rest: &[u8]) -> Option<Event>
     ensures { result ≡ turn_of (words_behind rest.now) }
 {
     match next_word(rest) {
@@ -81,7 +81,7 @@ fn turn_event(rest: &[u8]) -> Option<Event>
     }
 }
 
-fn give_event(rest: &[u8]) -> Option<Event>
+pub(crate) fn give_event(rest: &[u8]) -> Option<Event>
     ensures { result ≡ give_of (words_behind rest.now) }
 {
     let (word, rest) = next_word(rest)?;
@@ -113,7 +113,7 @@ fn submit_event(alloc: Global, rest: &[u8]) -> Result<Option<Event>, OutOfMemory
     }
 }
 
-fn poll_event(rest: &[u8]) -> Option<Event>
+pub(crate) fn poll_event(rest: &[u8]) -> Option<Event>
     ensures { result ≡ poll_of (words_behind rest.now) }
 {
     let (n, rest) = next_number(rest)?;
@@ -124,7 +124,7 @@ fn poll_event(rest: &[u8]) -> Option<Event>
     }
 }
 
-fn exec_event(rest: &[u8]) -> Option<Event>
+pub(crate) fn exec_event(rest: &[u8]) -> Option<Event>
     ensures { result ≡ exec_of (words_behind rest.now) }
 {
     let (place, rest) = next_number(rest)?;

@@ -7,7 +7,7 @@ ghost use Rattle.session_run.specs.TextWords.{numbers_word};
 use crate::text::buffer::put_held;
 use crate::text::word::number::put_number;
 use crate::text::word::{put, put_byte, put_counted, put_next_bytes};
-use rent_buf::{HeldBuf, NumList, OutOfMemory};
+use rent_buf::{HeldBuf, OutOfMemory};
 use ring_core::{Outcome, Refusal, Reply};
 
 /// Appends the text of a reply, with no newline. If memory runs out, `out` is unchanged. (not in monoio)

@@ -1,5 +1,5 @@
 //! Lines cut into words, and words of numbers and bytes; appending to a text.
-ghost use Rattle.std.specs.Prelude.{◌≡◌, ◌≢◌, ◌∷◌, ◌++◌, ◌<◌, ◌≤◌, ℕ, IfOk, OnOk, OnErr, MatchOption, Some, None, [], bytes_eq, decimal, length, slice_index};
+ghost use Rattle.std.specs.Prelude.{◌≡◌, ◌≢◌, ◌∷◌, ◌++◌, ◌<◌, ◌≤◌, ℕ, IfOk, OnOk, OnErr, MatchOption, Some, None, [], bytes_eq, decimal, length, option_map, slice_index};
 ghost use Rattle.session_run.specs.TextLines.{lines};
 ghost use Rattle.session_run.specs.TextReads.{words, words_behind, number_field, last_number_of, bytes_end};
 ghost use Rattle.session_run.specs.TextWords.{bytes_word};
@@ -8,7 +8,7 @@ ghost use Rattle.session_run.specs.TextWrites.{Starts};
 pub(crate) mod hex;
 pub(crate) mod number;
 
-use hex::{put_bytes, read_bytes};
+use hex::{count_bytes, put_bytes, read_bytes};
 use memchr::memchr;
 use number::{put_number, read_number};
 use rent_buf::{ByteList, OutOfMemory};
@@ -91,6 +91,17 @@ pub(crate) fn last_bytes(alloc: Global, rest: &[u8]) -> Result<Option<ByteList>,
     match next_word(rest) {
         None => read_bytes(alloc, word),
         Some(_) => Ok(None),
+    }
+}
+
+/// How many bytes the one word behind another writes, if it writes bytes. It takes no memory.
+pub(crate) fn count_last_bytes(rest: &[u8]) -> Option<usize>
+    ensures { result ≡ option_map length (bytes_end (words_behind rest.now)) }
+{
+    let (word, rest) = next_word(rest)?;
+    match next_word(rest) {
+        None => count_bytes(word),
+        Some(_) => None,
     }
 }
 

@@ -4,7 +4,69 @@ use crate::session::RunError;
 use crate::text::LinesError;
 use rent_io::Failed;
 use std::alloc::{AllocError, Global};
+use std::cell::Cell;
+use std::fmt::Display;
 use std::test::Fail;
+
+// A terminal that keeps the last line of each kind, and may refuse those of standard output.
+#[derive(Drop)]
+struct Terminal {
+    alloc: Global,
+    refuses: bool,
+    output: Cell<Option<String>>,
+    error: Cell<Option<String>>,
+}
+
+fn new_terminal(alloc: Global, refuses: bool) -> Terminal {
+    Terminal {
+        alloc,
+        refuses,
+        output: Cell::new(None),
+        error: Cell::new(None),
+    }
+}
+
+impl Print for Terminal {
+    fn print<D: Display + Drop>(&self, value: D) -> io::Result<()> {
+        self.println(value)
+    }
+
+    fn println<D: Display + Drop>(&self, value: D) -> io::Result<()> {
+        if self.refuses {
+            return Err(io::Error::from(io::ErrorKind::Unsupported));
+        }
+        self.output.set(Some(format!(in self.alloc; "{value}")?));
+        Ok(())
+    }
+
+    fn write_all(&self, bytes: &[u8]) -> io::Result<()> {
+        Err(io::Error::from(io::ErrorKind::Unsupported))
+    }
+
+    fn write_some(&self, bytes: &[u8]) -> io::Result<usize> {
+        Err(io::Error::from(io::ErrorKind::Unsupported))
+    }
+}
+
+impl Eprint for Terminal {
+    fn eprint<D: Display + Drop>(&self, value: D) -> io::Result<()> {
+        self.eprintln(value)
+    }
+
+    fn eprintln<D: Display + Drop>(&self, value: D) -> io::Result<()> {
+        self.error.set(Some(format!(in self.alloc; "{value}")?));
+        Ok(())
+    }
+}
+
+// What a terminal keeps is this line, or none.
+fn is_line(kept: &Cell<Option<String>>, line: Option<&str>) -> bool {
+    match (kept.take(), line) {
+        (Some(kept), Some(line)) => kept.as_str() == line,
+        (None, None) => true,
+        _ => false,
+    }
+}
 
 // Each status, its number, and the line that standard error gets.
 #[rattlefmt::skip]
@@ -20,13 +82,15 @@ const STATUSES: [(Status, u8, Option<&str>); 7] = [
 
 #[test]
 fn each_status_has_its_number_and_line(rt: HostRuntime) -> Result<(), Fail> {
+    let terminal = new_terminal(rt.alloc(), false);
     for (status, number, line) in STATUSES {
         assert_eq!(rt; status.number(), number, "of {status:?}");
         assert!(rt;
-            end_with(&rt, status) == ExitCode::from(number),
+            end_with(&terminal, status) == ExitCode::from(number),
             "of {status:?}"
         );
-        assert_eq!(rt; reason(status), line, "of {status:?}");
+        assert!(rt; is_line(&terminal.error, line), "of {status:?}");
+        assert!(rt; is_line(&terminal.output, None), "of {status:?}");
     }
     Ok(())
 }
@@ -65,8 +129,24 @@ fn the_help_and_the_version_are_these(rt: HostRuntime) -> Result<(), Fail> {
         assert_eq!(rt; lines.next(), Some(line));
     }
     assert_eq!(rt; lines.next(), None);
-    assert_eq!(rt; VERSION, "session_run 0.1.0");
-    assert!(rt; answer(&rt, Asked::Version) == ExitCode::from(0));
+    let works = new_terminal(rt.alloc(), false);
+    let refuses = new_terminal(rt.alloc(), true);
+    for (asked, text) in [(Asked::Help, HELP), (Asked::Version, "session_run 0.1.0")] {
+        assert!(rt; answer(&works, asked) == ExitCode::from(0), "of {asked:?}");
+        assert!(rt; is_line(&works.output, Some(text)), "of {asked:?}");
+        assert!(rt; is_line(&works.error, None), "of {asked:?}");
+        assert!(rt;
+            answer(&refuses, asked) == ExitCode::from(5),
+            "of {asked:?}"
+        );
+        assert!(rt;
+            is_line(
+                &refuses.error,
+                Some("session_run: writing the output failed")
+            ),
+            "of {asked:?}"
+        );
+    }
     Ok(())
 }
 

@@ -1,5 +1,5 @@
 //! Bytes, in lower-case hexadecimal digits.
-ghost use Rattle.std.specs.Prelude.{◌≡◌, ◌<◌, ◌%◌, ◌++◌, length, IfOk, OnOk, OnErr};
+ghost use Rattle.std.specs.Prelude.{◌≡◌, ◌<◌, ◌%◌, ◌++◌, length, option_map, IfOk, OnOk, OnErr};
 ghost use Rattle.session_run.specs.TextWords.{bytes_word, hex_digit};
 ghost use Rattle.session_run.specs.TextWrites.{Starts};
 ghost use Rattle.session_run.specs.TextReads.{bytes_of, digit_value_of, pairs_of};
@@ -67,6 +67,39 @@ fn read_pairs(alloc: Global, word: &[u8]) -> Result<Option<ByteList>, OutOfMemor
         at += 2;
     }
     Ok(Some(ByteList::from_vec(bytes)))
+}
+
+/// How many bytes a word writes, if it writes bytes. It takes no memory.
+pub(crate) fn count_bytes(word: &[u8]) -> Option<usize>
+    ensures { result ≡ option_map length (bytes_of word.now) }
+{
+    if is_word(word, b"-") {
+        return Some(0);
+    }
+    if word.is_empty() {
+        return None;
+    }
+    if word.len() % 2 != 0 {
+        return None;
+    }
+    count_pairs(word)
+}
+
+// How many bytes pairs of digits write.
+fn count_pairs(word: &[u8]) -> Option<usize>
+    requires { length word.now % 2 ≡ 0 }
+    ensures { result ≡ option_map length (pairs_of word.now) }
+{
+    let mut at = 0;
+    while at + 1 < word.len() {
+        let high = digit_value(word[at]);
+        let low = digit_value(word[at + 1]);
+        if high == NO_DIGIT || low == NO_DIGIT {
+            return None;
+        }
+        at += 2;
+    }
+    Some(at / 2)
 }
 
 // The value of a lower-case digit, or `NO_DIGIT`.

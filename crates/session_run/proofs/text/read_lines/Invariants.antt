@@ -1,6 +1,6 @@
 use Rattle.std.proofs.Common.{length}
 use Rattle.session_run.proofs.TextLinesRead.{HaveRead}
-use Rattle.session_run.proofs.text.read_events.Given as goal
+use Rattle.session_run.proofs.text.read_lines.Given as goal
 
 -- The events so far stand for the lines in front of the rest.
 abbrev pub invariant-loop-rest : goal.invariant-loop-rest

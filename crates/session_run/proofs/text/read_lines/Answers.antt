@@ -2,7 +2,7 @@ use Rattle.std.proofs.Common.{◌∙◌, sym, arith}
 use Rattle.std.proofs.lemmas.Bool.Decides.{nat_tests}
 use Rattle.session_run.proofs.TextEvents.{event_of-stands, event_of-wrong}
 use Rattle.session_run.proofs.TextLinesRead.{have_read-none, have_read-more, have_read-wrong, have_read-all}
-use Rattle.session_run.proofs.text.read_events.Goals as goal
+use Rattle.session_run.proofs.text.read_lines.Goals as goal
 
 pub returns-in-None-clause-bad_line : goal.returns-in-None-clause-bad_line
 returns-in-None-clause-bad_line c =
