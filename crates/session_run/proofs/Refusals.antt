@@ -79,7 +79,7 @@ pub cause-submit_full : (session : Session) (L : Ledger) (request : Request Buff
 cause-submit_full session L request live stands held count full =
     ap (λ lacks. refused_if lacks NoHandle (refused_if (nat_le MOST_LIVE (length (live_ops L))) Full None))
     (lacks_handle-holds_all session.driver L stands.driver.handles (named request) ∙ ap not held)
-    ∙ ap (λ b. refused_if b Full None) (ap (λ k. nat_le MOST_LIVE k) (sym stands.driver.means.in_slots.counted ∙ sym count) ∙ nat_le-true MOST_LIVE live full)
+    ∙ ap (λ b. refused_if b Full None) (ap (λ k. nat_le MOST_LIVE k) (sym stands.driver.operations.in_slots.counted ∙ sym count) ∙ nat_le-true MOST_LIVE live full)
 
 -- A submission of handles that the user holds isn't refused where fewer operations are live.
 pub unrefused-submit : (session : Session) (L : Ledger) (request : Request Buffer Parts) (live : ℕ) → SessionStands session L →
@@ -87,7 +87,7 @@ pub unrefused-submit : (session : Session) (L : Ledger) (request : Request Buffe
 unrefused-submit session L request live stands held count fewer =
     ap (λ lacks. refused_if lacks NoHandle (refused_if (nat_le MOST_LIVE (length (live_ops L))) Full None))
     (lacks_handle-holds_all session.driver L stands.driver.handles (named request) ∙ ap not held)
-    ∙ ap (λ b. refused_if b Full None) (ap (λ k. nat_le MOST_LIVE k) (sym stands.driver.means.in_slots.counted ∙ sym count) ∙ nat_le-false MOST_LIVE live fewer)
+    ∙ ap (λ b. refused_if b Full None) (ap (λ k. nat_le MOST_LIVE k) (sym stands.driver.operations.in_slots.counted ∙ sym count) ∙ nat_le-false MOST_LIVE live fewer)
 
 -- A poll, a drop or a cancel of what isn't its user's is refused.
 pub cause-poll : (L : Ledger) (n task : ℕ) → passes is_owned (slice_get L.ops n) ≡ false → cause L (Poll n task) ≡ Some NoOp
@@ -128,8 +128,8 @@ holds-owned : (session : Session) (L : Ledger) (n : ℕ) (operation : Operation)
     slice_get L.ops n ≡ Some operation → is_owned operation ≡ true → (op : Op) × Holds session.driver op × (number_of op ≡ n)
 holds-owned session L n operation stands is owned =
     let parts = and-true (is_live operation) (not operation.dropped) owned in
-    let slot = stands.driver.means.in_slots.each n operation is parts.0 in
-    let for = stands.driver.means.in_slots.holds slot.key slot.slot slot.there in
+    let slot = stands.driver.operations.in_slots.each n operation is parts.0 in
+    let for = stands.driver.operations.in_slots.holds slot.key slot.slot slot.there in
     let same : for.operation ≡ operation = one-there L.ops slot.slot.serial n for.operation operation slot.serial for.there is in
     (record { number = n; key = slot.key }, ap serial_of slot.there ∙ serial_of-owned slot.slot operation n slot.serial (for.life ∙ ap life_at same) parts.1, refl)
 
@@ -164,7 +164,7 @@ pub token-owns : (session : Session) (L : Ledger) (n : ℕ) (op : Op) → Sessio
     passes is_owned (slice_get L.ops n) ≡ true
 token-owns session L n op stands holds is =
     let found = slot-numbered (get session.driver.slots.values op.key) (number_of op) holds in
-    let for = stands.driver.means.in_slots.holds op.key found.0 found.1 in
+    let for = stands.driver.operations.in_slots.holds op.key found.0 found.1 in
     let operation = for.operation in
     let kept = undropped operation.dropped operation.place operation.task (sym (ap is_owned_life for.life) ∙ found.2) in
     ap (λ k. passes is_owned (slice_get L.ops k)) (sym (found.3 ∙ is)) ∙ ap (passes is_owned) for.there

@@ -24,12 +24,13 @@ use Rattle.ring_core.specs.Entry.{cancel_entry}
 use Rattle.uring_driver.specs.Submissions.{with_spare, room_made, pending_ring}
 use Rattle.driver_core.specs.Slot.{with_life, is_owned_life}
 use Rattle.driver_core.specs.Slots.{SlotFor, waiting, owned_life}
-use Rattle.uring_driver.specs.Stands.{Means, Stands, Answers}
+use Rattle.uring_driver.specs.Stands.{Stands, Answers}
 use Rattle.driver_core.proofs.Lists.{amended-twice}
 use Rattle.driver_core.proofs.Maps.{put-same}
 use Rattle.driver_core.proofs.Counts.{where-less, where-within, owned-lives}
 use Rattle.uring_driver.proofs.Steps.{is_waiting, reached-more, step-drop-waiting, step-drop-reaped, step-cancel}
 use Rattle.driver_core.proofs.Owned.{Owned, owned-slot}
+use Rattle.uring_driver.proofs.Means.{Means, means-of, ring-of}
 use Rattle.uring_driver.proofs.Changing.{means-changed, means-freed, means-canceled}
 use Rattle.uring_driver.proofs.Heads.{means-view}
 use Rattle.uring_driver.proofs.Taking.{means-room, owned-room}
@@ -67,7 +68,7 @@ and-false false = refl
 module _ {R B : Type 0} (view : R → RingView) (buffer : B → Buffer) (d new : IoUringDriver R B) (L : Ledger) (key : ℕ) (s : Slot B)
     (old : Stands view buffer d L) (there : get d.slots.values key ≡ Some s) (mine : is_owned_life s.life ≡ true) (given : new.given ≡ d.given) (first : new.first ≡ d.first) (held : new.held ≡ d.held) where
   my : Owned buffer L s
-  my = owned-slot buffer L s (old.means.in_slots.holds key s there) mine
+  my = owned-slot buffer L s (old.operations.in_slots.holds key s there) mine
 
   -- Of each operation that its user may drop, the cancel has room.
   pub has-room : 0 < room_in d
@@ -102,16 +103,23 @@ module _ {R B : Type 0} (view : R → RingView) (buffer : B → Buffer) (d new :
         let v = whole_ring view d in
         let slots = insert d.slots.values key t in
         let e = step-drop-waiting L s.serial o my.fit.there my.owned (left-waits o.place o.task my.fit.live (sym (ap after_drop my.life) ∙ left)) in
-        let a = means-changed buffer v d.slots.values L key s (dropped s.life) with_drop o old.means there my.fit.there (λ p. (refl, refl)) fits in
+        let a = means-changed buffer v d.slots.values L key s (dropped s.life) with_drop o (means-of old) there my.fit.there (λ p. (refl, refl)) fits in
         let b = means-room buffer v slots M a in
         let c = means-canceled buffer (room_made v) slots (make_room M) key t s.serial b (put-same d.slots.values key t) refl in
         let capacity : (view (ring_in new)).capacity ≡ v.capacity = ap (λ x. x.capacity) ring ∙ room-capacity v in
+        let means = subst (λ K. Means buffer (whole_ring view new) new.slots.values K) (sym (ap (λ x. x.0) e))
+            (subst (λ x. Means buffer x new.slots.values (push M (Cancel s.serial))) (sym ring)
+            (subst (λ x. Means buffer (with_spare (pushed (room_made v) (cancel_entry key s.serial)) spare) x (push M (Cancel s.serial))) (sym put)
+            (means-view buffer (record (room_made v) { queue = (room_made v).queue ++ cancel_entry key s.serial ∷ [] }) (with_spare (pushed (room_made v) (cancel_entry key s.serial)) spare) slots (push M (Cancel s.serial)) refl refl refl refl refl c))) in
         record {
           reply_is = ap (λ x. x.1) e;
           stands = record {
             events = old.events ++ Drop s.serial ∷ [];
             reached = reached-more L (view (ring_in new)).capacity old.events (Drop s.serial) (old.reached ∙ ap (λ x. ledger x old.events) (sym capacity));
-            numbered = given ∙ old.numbered ∙ sym (room-length M ∙ length-amended with_drop L.ops s.serial) ∙ ap (λ x. length x.0.ops) (sym e);
+            operations = record {
+              numbered = given ∙ old.operations.numbered ∙ sym (room-length M ∙ length-amended with_drop L.ops s.serial) ∙ ap (λ x. length x.0.ops) (sym e);
+              in_slots = means.in_slots;
+            };
             handles = λ h. ap (λ k. is_among k new.held h) first ∙ ap (λ k. is_among d.first k h) held ∙ old.handles h ∙ ap (λ w. nat_lt h (length w)) (sym (room-world M)) ∙ ap (λ x. user_holds x.0 h) (sym e);
             room = (
                 let x = where-less is_owned with_drop L.ops s.serial o my.fit.there my.owned (and-false (is_live o)) in
@@ -120,10 +128,7 @@ module _ {R B : Type 0} (view : R → RingView) (buffer : B → Buffer) (d new :
                 let r = old.room in
                 omega (arith, x, y, z, r, room));
             fits = still;
-            means = subst (λ K. Means buffer (whole_ring view new) new.slots.values K) (sym (ap (λ x. x.0) e))
-                (subst (λ x. Means buffer x new.slots.values (push M (Cancel s.serial))) (sym ring)
-                (subst (λ x. Means buffer (with_spare (pushed (room_made v) (cancel_entry key s.serial)) spare) x (push M (Cancel s.serial))) (sym put)
-                (means-view buffer (record (room_made v) { queue = (room_made v).queue ++ cancel_entry key s.serial ∷ [] }) (with_spare (pushed (room_made v) (cancel_entry key s.serial)) spare) slots (push M (Cancel s.serial)) refl refl refl refl refl c)));
+            ring = ring-of means;
           };
         }
 
@@ -136,19 +141,23 @@ module _ {R B : Type 0} (view : R → RingView) (buffer : B → Buffer) (d new :
       let f : Operation → Operation = λ x. at_place Gone (with_drop x) in
       let K = with_op L s.serial f in
       let e = step-drop-reaped L s.serial o my.fit.there my.owned at.0 at.1 ∙ ap (λ ops. (record L { ops = ops }, Dropped)) (amended-twice L.ops s.serial with_drop (at_place Gone)) in
+      let means = subst (λ x. Means buffer (whole_ring view new) new.slots.values x) (sym (ap (λ x. x.0) e))
+          (subst (λ x. Means buffer (pending_ring view x) new.slots.values K) (sym ring)
+          (subst (λ x. Means buffer (pending_ring view d.ring) x K) (sym gone)
+          (means-freed buffer (pending_ring view d.ring) d.slots.values L key s f o at.0 (means-of old) there my.fit.there at.1 refl))) in
       record {
         reply_is = ap (λ x. x.1) e;
         stands = record {
           events = old.events ++ Drop s.serial ∷ [];
           reached = reached-more L (view (ring_in new)).capacity old.events (Drop s.serial) (old.reached ∙ ap (λ x. ledger (view x.ring).capacity old.events) (sym ring));
-          numbered = given ∙ old.numbered ∙ sym (length-amended f L.ops s.serial) ∙ ap (λ x. length x.0.ops) (sym e);
+          operations = record {
+            numbered = given ∙ old.operations.numbered ∙ sym (length-amended f L.ops s.serial) ∙ ap (λ x. length x.0.ops) (sym e);
+            in_slots = means.in_slots;
+          };
           handles = λ h. ap (λ k. is_among k new.held h) first ∙ ap (λ k. is_among d.first k h) held ∙ old.handles h ∙ ap (λ x. user_holds x.0 h) (sym e);
           room = (let a = where-less is_owned f L.ops s.serial o my.fit.there my.owned refl in let b = ap (λ x. length (numbers_where is_owned 0 x.0.ops)) e in let c = ap (λ p. p.room) ring in let r = old.room in omega (arith, a, b, c, r));
           fits = subst (λ p. length (pending_ring view p).queue ≤ (view p.ring).capacity) (sym ring) old.fits;
-          means = subst (λ x. Means buffer (whole_ring view new) new.slots.values x) (sym (ap (λ x. x.0) e))
-              (subst (λ x. Means buffer (pending_ring view x) new.slots.values K) (sym ring)
-              (subst (λ x. Means buffer (pending_ring view d.ring) x K) (sym gone)
-              (means-freed buffer (pending_ring view d.ring) d.slots.values L key s f o at.0 old.means there my.fit.there at.1 refl)));
+          ring = ring-of means;
         };
       }
 
@@ -159,26 +168,30 @@ module _ {R B : Type 0} (view : R → RingView) (buffer : B → Buffer) (d new :
   stands-asks spare same ring still room =
       let v = whole_ring view d in
       let e = step-cancel L s.serial my.fit.operation my.fit.there my.owned in
-      let b = means-room buffer v d.slots.values L old.means in
+      let b = means-room buffer v d.slots.values L (means-of old) in
       let c = means-canceled buffer (room_made v) d.slots.values (make_room L) key s s.serial b there refl in
       let capacity : (view (ring_in new)).capacity ≡ v.capacity = ap (λ x. x.capacity) ring ∙ room-capacity v in
+      let means = subst (λ K. Means buffer (whole_ring view new) new.slots.values K) (sym (ap (λ x. x.0) e))
+          (subst (λ x. Means buffer x new.slots.values (push L (Cancel s.serial))) (sym ring)
+          (subst (λ x. Means buffer (with_spare (pushed (room_made v) (cancel_entry key s.serial)) spare) x (push L (Cancel s.serial))) (sym same)
+          (means-view buffer (record (room_made v) { queue = (room_made v).queue ++ cancel_entry key s.serial ∷ [] }) (with_spare (pushed (room_made v) (cancel_entry key s.serial)) spare) d.slots.values (push L (Cancel s.serial)) refl refl refl refl refl c))) in
       record {
         reply_is = ap (λ x. x.1) e;
         stands = record {
           events = old.events ++ Asks s.serial ∷ [];
           reached = reached-more L (view (ring_in new)).capacity old.events (Asks s.serial) (old.reached ∙ ap (λ x. ledger x old.events) (sym capacity));
-          numbered = given ∙ old.numbered ∙ sym (room-length L) ∙ ap (λ x. length x.0.ops) (sym e);
+          operations = record {
+            numbered = given ∙ old.operations.numbered ∙ sym (room-length L) ∙ ap (λ x. length x.0.ops) (sym e);
+            in_slots = means.in_slots;
+          };
           handles = λ h. ap (λ k. is_among k new.held h) first ∙ ap (λ k. is_among d.first k h) held ∙ old.handles h ∙ ap (λ w. nat_lt h (length w)) (sym (room-world L)) ∙ ap (λ x. user_holds x.0 h) (sym e);
           room = (
-              let y = owned-room buffer v d.slots.values L old.means in
+              let y = owned-room buffer v d.slots.values L (means-of old) in
               let w = where-within is_owned is_live L.ops owned-lives in
-              let k = old.means.in_slots.counted in
+              let k = old.operations.in_slots.counted in
               let z = ap (λ x. length (numbers_where is_owned 0 x.0.ops)) e in
               omega (arith, y, w, k, z, room));
           fits = still;
-          means = subst (λ K. Means buffer (whole_ring view new) new.slots.values K) (sym (ap (λ x. x.0) e))
-              (subst (λ x. Means buffer x new.slots.values (push L (Cancel s.serial))) (sym ring)
-              (subst (λ x. Means buffer (with_spare (pushed (room_made v) (cancel_entry key s.serial)) spare) x (push L (Cancel s.serial))) (sym same)
-              (means-view buffer (record (room_made v) { queue = (room_made v).queue ++ cancel_entry key s.serial ∷ [] }) (with_spare (pushed (room_made v) (cancel_entry key s.serial)) spare) d.slots.values (push L (Cancel s.serial)) refl refl refl refl refl c)));
+          ring = ring-of means;
         };
       }

@@ -19,7 +19,7 @@ use Rattle.uring_driver.specs.Uring.{ring_in, due_in, pending, whole_ring}
 use Rattle.uring_driver.specs.Submissions.{Enters, KeepsPending}
 use Rattle.driver_core.specs.declared.slot.Slot.{Slot}
 use Rattle.driver_core.specs.Slot.{KeepsNumbers}
-use Rattle.uring_driver.specs.Stands.{Means, Stands, StandsIfTold}
+use Rattle.uring_driver.specs.Stands.{Stands, StandsIfTold}
 use Rattle.uring_driver.specs.declared.uring.turn.Named.{Named}
 use Rattle.uring_driver.specs.Reap.{EndsAt, Treated, treat_each, treated_behind, treated_to}
 use Rattle.uring_driver.specs.Lists.{queued_of}
@@ -27,10 +27,11 @@ use Rattle.uring_driver.specs.Submitted.{SameSlots}
 use Rattle.uring_driver.specs.Turned.{StopsFor, TreatsFor, TreatsReady, TurnsFor, TurnsFront, TurnMeets, taken_front}
 use Rattle.uring_driver.specs.Begun.{EnteredFor, HasBegun, why_stopped}
 use Rattle.driver_core.proofs.Lists.{emptied}
+use Rattle.uring_driver.proofs.Means.{Means, means-of, ring-of}
 use Rattle.uring_driver.proofs.Entering.{later-behind, none-pending, still-pending, moves-front, taken-behind}
 use Rattle.uring_driver.proofs.Taking.{means-took-all, means-took-front}
 use Rattle.driver_core.proofs.Tokens.{tokens-kept}
-use Rattle.uring_driver.proofs.Turns.{TreatsAll, treats-all, stands-turns}
+use Rattle.uring_driver.proofs.Turns.{TreatsAll, treats-all, stands-turns, length-front}
 
 -- A count that rose and doesn't fall has risen.
 rose-later : (a b c : ℕ) → Rose a b → b ≤ c → Rose a c
@@ -90,20 +91,24 @@ module _ {R B : Type 0} (view : R → RingView) (buffer : B → Buffer) (tells s
           let front = enter.0.told shows in
           let later = later-behind (view (ring_in old)) (view (ring_in mid)) (due_in old) (due_in mid) enter.0.later in
           subst (λ x. Means buffer (whole_ring view mid) x (take_all L)) (sym same.slots)
-          (means-took-all buffer (whole_ring view old) old.slots.values L stands.means (whole_ring view mid) front.count later front.took (none-pending (view (ring_in mid)).queue (due_in mid) enter.1 enter.2))
+          (means-took-all buffer (whole_ring view old) old.slots.values L (means-of stands) (whole_ring view mid) front.count later front.took (none-pending (view (ring_in mid)).queue (due_in mid) enter.1 enter.2))
 
       turns-front : (enter : Enters view tells old.ring mid.ring) → Ready None → TurnsFront view buffer L new turned
       turns-front enter ready =
           let took = enter.told shows in
           let later = later-behind (view (ring_in old)) (view (ring_in mid)) (due_in old) (due_in mid) enter.later in
-          let front = means-took-front buffer (whole_ring view old) old.slots.values L stands.means (whole_ring view mid) took.count later took.took in
+          let front = means-took-front buffer (whole_ring view old) old.slots.values L (means-of stands) (whole_ring view mid) took.count later took.took in
           let all = all-treated None (taken_front took.count L) shows ready (subst (λ x. Means buffer (whole_ring view mid) x (taken_front took.count L)) (sym same.slots) front) in
           record {
             count = took.count;
-            within = (let w = took.took.within in let l = ap length stands.means.in_lists.queue ∙ length-map (whole_ring view old).queue queued_of in omega (arith, w, l));
+            within = (let w = took.took.within in let l = ap length stands.ring.in_lists.queue ∙ length-map (whole_ring view old).queue queued_of in omega (arith, w, l));
             reaped = all.named;
             woken = all.woken;
-            means = all.means;
+            operations = record {
+              numbered = given ∙ same.given ∙ stands.operations.numbered ∙ sym (length-front took.count L);
+              in_slots = all.means.in_slots;
+            };
+            ring = ring-of all.means;
           }
 
       -- What the turn of a driver that stands for a ledger answers.
@@ -117,7 +122,7 @@ module _ {R B : Type 0} (view : R → RingView) (buffer : B → Buffer) (tells s
       turns true (Some word) enter ready = (
           let took = enter.0.told shows in
           let later = later-behind (view (ring_in old)) (view (ring_in mid)) (due_in old) (due_in mid) enter.0.later in
-          let front = means-took-front buffer (whole_ring view old) old.slots.values L stands.means (whole_ring view mid) took.count later took.took in
+          let front = means-took-front buffer (whole_ring view old) old.slots.values L (means-of stands) (whole_ring view mid) took.count later took.took in
           let all = all-treated (Some word) (taken_front took.count L) shows ready (subst (λ x. Means buffer (whole_ring view mid) x (taken_front took.count L)) (sym same.slots) front) in
           let z = all.no_bad in cc)
 

@@ -25,7 +25,7 @@ use Rattle.ring_core.proofs.Requests.{holding-same, effect-shown}
 use Rattle.driver_core.specs.declared.slot.Slot.{Slot}
 use Rattle.driver_core.specs.Slots.{SlotFor, is_early, life_of}
 use Rattle.uring_driver.specs.Lists.{EntryFor, IsFlown, is_call}
-use Rattle.uring_driver.specs.Stands.{Means}
+use Rattle.uring_driver.proofs.Means.{Means}
 use Rattle.driver_core.proofs.Lists.{some}
 use Rattle.uring_driver.proofs.Kept.{call-flown}
 

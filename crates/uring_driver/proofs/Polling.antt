@@ -34,8 +34,9 @@ use Rattle.driver_core.proofs.Numbers.{Owner}
 use Rattle.driver_core.proofs.Tokens.{held-slot}
 use Rattle.uring_driver.specs.Op.{Holds, number_of}
 use Rattle.uring_driver.specs.PollOp.{PollsFor, PollsOp, IsPending, IsUnreaped, IsUnreapedOp, IsUnreapedPlace}
-use Rattle.uring_driver.specs.Stands.{Means, Stands, Answers}
+use Rattle.uring_driver.specs.Stands.{Stands, Answers}
 use Rattle.uring_driver.proofs.Steps.{is_waiting, step-poll-waiting, step-poll-reaped, reached-more}
+use Rattle.uring_driver.proofs.Means.{Means, means-of, ring-of}
 use Rattle.uring_driver.proofs.Changing.{means-changed, means-freed}
 use Rattle.driver_core.proofs.Counts.{where-all, where-less}
 use Rattle.driver_core.proofs.Owned.{Owned, owned-slot}
@@ -91,7 +92,7 @@ life-waits Gone t task h = (let f : ⊥ = cc in absurd f)
 module _ {R B : Type 0} (view : R → RingView) (buffer : B → Buffer) (d new : IoUringDriver R B) (L : Ledger) (key task : ℕ) (s : Slot B)
     (old : Stands view buffer d L) (there : get d.slots.values key ≡ Some s) (mine : is_owned_life s.life ≡ true) (ring : new.ring ≡ d.ring) (given : new.given ≡ d.given) (first : new.first ≡ d.first) (held : new.held ≡ d.held) where
   my : Owned buffer L s
-  my = owned-slot buffer L s (old.means.in_slots.holds key s there) mine
+  my = owned-slot buffer L s (old.operations.in_slots.holds key s there) mine
 
   -- What is pending fits as it did.
   fits-still : length (pending view new) ≤ (view (ring_in new)).capacity
@@ -113,19 +114,23 @@ module _ {R B : Type 0} (view : R → RingView) (buffer : B → Buffer) (d new :
         fresh = my.fit.fresh;
         uncanceled = my.fit.uncanceled;
       } in
+      let means = subst (λ K. Means buffer (pending_ring view new.ring) new.slots.values K) (sym (ap (λ x. x.0) e))
+          (subst (λ x. Means buffer (pending_ring view x) new.slots.values (with_op L s.serial (with_task task))) (sym ring)
+          (subst (λ x. Means buffer (pending_ring view d.ring) x (with_op L s.serial (with_task task))) (sym slots)
+          (means-changed buffer (pending_ring view d.ring) d.slots.values L key s (polled s.life task) (with_task task) o (means-of old) there my.fit.there (λ p. (refl, refl)) fits))) in
       record {
         reply_is = ap (λ x. x.1) e;
         stands = record {
           events = old.events ++ Poll s.serial task ∷ [];
           reached = reached-more L (view (ring_in new)).capacity old.events (Poll s.serial task) (old.reached ∙ ap (λ x. ledger (view x.ring).capacity old.events) (sym ring));
-          numbered = given ∙ old.numbered ∙ sym (length-amended (with_task task) L.ops s.serial) ∙ ap (λ x. length x.0.ops) (sym e);
+          operations = record {
+            numbered = given ∙ old.operations.numbered ∙ sym (length-amended (with_task task) L.ops s.serial) ∙ ap (λ x. length x.0.ops) (sym e);
+            in_slots = means.in_slots;
+          };
           handles = λ h. ap (λ k. is_among k new.held h) first ∙ ap (λ k. is_among d.first k h) held ∙ old.handles h ∙ ap (λ x. user_holds x.0 h) (sym e);
           room = (let a = where-all is_owned (with_task task) L.ops s.serial (λ p. refl) in let b = ap (λ x. length (numbers_where is_owned 0 x.0.ops)) e in let c = ap (λ p. p.room) ring in let r = old.room in omega (arith, a, b, c, r));
           fits = fits-still;
-          means = subst (λ K. Means buffer (pending_ring view new.ring) new.slots.values K) (sym (ap (λ x. x.0) e))
-              (subst (λ x. Means buffer (pending_ring view x) new.slots.values (with_op L s.serial (with_task task))) (sym ring)
-              (subst (λ x. Means buffer (pending_ring view d.ring) x (with_op L s.serial (with_task task))) (sym slots)
-              (means-changed buffer (pending_ring view d.ring) d.slots.values L key s (polled s.life task) (with_task task) o old.means there my.fit.there (λ p. (refl, refl)) fits)));
+          ring = ring-of means;
         };
       }
 
@@ -141,19 +146,23 @@ module _ {R B : Type 0} (view : R → RingView) (buffer : B → Buffer) (d new :
       let w = take-reaped o.place o.task r my.fit.live (sym my.life ∙ life) in
       let e = step-poll-reaped L s.serial task o my.fit.there my.owned r w in
       let buf : o.buffer ≡ held_of (plain_request buffer s.request) = sym my.fit.request.holds in
+      let means = subst (λ K. Means buffer (pending_ring view new.ring) new.slots.values K) (sym (ap (λ x. x.0) e))
+          (subst (λ x. Means buffer (pending_ring view x) new.slots.values (with_op L s.serial (at_place Gone))) (sym ring)
+          (subst (λ x. Means buffer (pending_ring view d.ring) x (with_op L s.serial (at_place Gone))) (sym slots)
+          (means-freed buffer (pending_ring view d.ring) d.slots.values L key s (at_place Gone) o r (means-of old) there my.fit.there w refl))) in
       record {
         reply_is = ap (λ x. x.1) e ∙ ap (λ x. Handed r x) buf;
         stands = record {
           events = old.events ++ Poll s.serial task ∷ [];
           reached = reached-more L (view (ring_in new)).capacity old.events (Poll s.serial task) (old.reached ∙ ap (λ x. ledger (view x.ring).capacity old.events) (sym ring));
-          numbered = given ∙ old.numbered ∙ sym (length-amended (at_place Gone) L.ops s.serial) ∙ ap (λ x. length x.0.ops) (sym e);
+          operations = record {
+            numbered = given ∙ old.operations.numbered ∙ sym (length-amended (at_place Gone) L.ops s.serial) ∙ ap (λ x. length x.0.ops) (sym e);
+            in_slots = means.in_slots;
+          };
           handles = λ h. ap (λ k. is_among k new.held h) first ∙ ap (λ k. is_among d.first k h) held ∙ old.handles h ∙ ap (λ x. user_holds x.0 h) (sym e);
           room = (let a = where-less is_owned (at_place Gone) L.ops s.serial o my.fit.there my.owned refl in let b = ap (λ x. length (numbers_where is_owned 0 x.0.ops)) e in let c = ap (λ p. p.room) ring in let r = old.room in omega (arith, a, b, c, r));
           fits = fits-still;
-          means = subst (λ K. Means buffer (pending_ring view new.ring) new.slots.values K) (sym (ap (λ x. x.0) e))
-              (subst (λ x. Means buffer (pending_ring view x) new.slots.values (with_op L s.serial (at_place Gone))) (sym ring)
-              (subst (λ x. Means buffer (pending_ring view d.ring) x (with_op L s.serial (at_place Gone))) (sym slots)
-              (means-freed buffer (pending_ring view d.ring) d.slots.values L key s (at_place Gone) o r old.means there my.fit.there w refl)));
+          ring = ring-of means;
         };
       }
 
@@ -185,7 +194,7 @@ module _ {R B : Type 0} (view : R → RingView) (buffer : B → Buffer) (d new :
   owns : (done : Done B) → PollsAt d.slots.values op.key task new.slots.values (Some done) → IsOwnRequest buffer L (number_of op) done.request
   owns done polls =
       let s = has.slot in
-      let fit = old.means.in_slots.holds op.key s has.there in
+      let fit = old.operations.in_slots.holds op.key s has.there in
       record { operation = fit.operation; there = ap (slice_get L.ops) (sym has.serial) ∙ fit.there; own = subst (λ r. IsHolding fit.operation.request fit.operation.buffer (plain_request buffer r)) (sym (polls s has.there).1) fit.request }
 
   pub polls-for : (result : PollOp B) → PollsOp d new op task result → PollsFor view buffer L op task new result

@@ -37,10 +37,11 @@ use Rattle.driver_core.specs.Operations.{Submits, new_slot}
 use Rattle.driver_core.specs.Slot.{number_at}
 use Rattle.uring_driver.specs.Submissions.{with_spare, room_made, PendingMoves}
 use Rattle.uring_driver.specs.Lists.{queued_of, queued_in, is_call}
-use Rattle.uring_driver.specs.Stands.{Means, Stands, Answers}
+use Rattle.uring_driver.specs.Stands.{Stands, Answers}
 use Rattle.uring_driver.specs.Submitted.{IsSameRing, WhyRefused, Unprepared}
 use Rattle.driver_core.proofs.Lists.{amended-append, amended-fixed, map-get}
 use Rattle.driver_core.proofs.Counts.{where-more, where-within, owned-lives}
+use Rattle.uring_driver.proofs.Means.{Means, means-of, ring-of}
 use Rattle.uring_driver.proofs.Kept.{call-queued}
 use Rattle.uring_driver.proofs.Handles.{lacks-none}
 use Rattle.uring_driver.proofs.Starting.{stands-same}
@@ -116,37 +117,43 @@ module _ {R B : Type 0} (view : R → RingView) (buffer : B → Buffer) where
   stands-submits d new L request key spare spare' mid old user few free below put made has_room ring more given first held number is =
       let r = plain_request buffer request in
       let v = whole_ring view d in
+      let before = means-of old in
       let entry : Entry = record { word = key; serial = d.given; body = Calls (call_of r) } in
       let user' = lacks-none d L (named r) old.handles (ap (holds_all d) (named-plain buffer request) ∙ user) in
-      let s = step-submit L r user' (is-room (length (live_ops L)) (subst (λ n. n < 4294967232) old.means.in_slots.counted few)) in
+      let s = step-submit L r user' (is-room (length (live_ops L)) (subst (λ n. n < 4294967232) old.operations.in_slots.counted few)) in
       let M = make_room L in
       let order : submit_step L r ≡ append (with_new_op M (new_operation r)) (Req d.given) =
-      push-new_op (new_operation r) refl L (Req (length L.ops)) (all-known (length L.ops) L.queue (queue-numbers buffer v d.slots.values L old.means)) ∙ ap (λ n. append (with_new_op M (new_operation r)) (Req n)) (sym old.numbered) in
+      push-new_op (new_operation r) refl L (Req (length L.ops)) (all-known (length L.ops) L.queue (queue-numbers buffer v d.slots.values L before)) ∙ ap (λ n. append (with_new_op M (new_operation r)) (Req n)) (sym old.operations.numbered) in
       let e = s ∙ ap (λ K. (K, Submitted (length L.ops))) order in
       let long : length M.ops ≡ length L.ops = room-length L in
-      let roomy = means-room buffer v d.slots.values L old.means in
+      let roomy = means-room buffer v d.slots.values L before in
       let m : Means buffer mid d.slots.values M = subst (λ x. Means buffer x d.slots.values M) (sym made) (means-view buffer (room_made v) (with_spare (room_made v) spare) d.slots.values M refl refl refl refl refl roomy) in
-      let p = means-pushed buffer mid d.slots.values M d.given key request m (old.numbered ∙ sym long) free below in
+      let p = means-pushed buffer mid d.slots.values M d.given key request m (old.operations.numbered ∙ sym long) free below in
       let capacity : (view (ring_in new)).capacity ≡ v.capacity = ap (λ x. x.capacity) ring ∙ ap (λ x. x.capacity) made ∙ room-capacity v in
+      let means = subst (λ K. Means buffer (whole_ring view new) new.slots.values K) (sym (ap (λ x. x.0) e))
+          (subst (λ x. Means buffer x new.slots.values (append (with_new_op M (new_operation r)) (Req d.given))) (sym ring)
+          (subst (λ x. Means buffer (with_spare (pushed mid entry) spare') x (append (with_new_op M (new_operation r)) (Req d.given))) (sym put)
+          (means-view buffer (pushed mid entry) (with_spare (pushed mid entry) spare') (insert d.slots.values key (record { serial = d.given; request = request; life = Fresh })) (append (with_new_op M (new_operation r)) (Req d.given)) refl refl refl refl refl p))) in
       record {
-        reply_is = ap (λ x. x.1) s ∙ ap (λ x. Submitted x) (sym (is ∙ old.numbered));
+        reply_is = ap (λ x. x.1) s ∙ ap (λ x. Submitted x) (sym (is ∙ old.operations.numbered));
         stands = record {
           events = old.events ++ Submit r ∷ [];
           reached = reached-more L (view (ring_in new)).capacity old.events (Submit r) (old.reached ∙ ap (λ x. ledger x old.events) (sym capacity));
-          numbered = given ∙ ap (λ n. n + 1) (old.numbered ∙ sym long) ∙ sym (length-append M.ops (new_operation r ∷ [])) ∙ ap (λ x. length x.0.ops) (sym e);
+          operations = record {
+            numbered = given ∙ ap (λ n. n + 1) (old.operations.numbered ∙ sym long) ∙ sym (length-append M.ops (new_operation r ∷ []))
+                ∙ ap (λ x. length x.0.ops) (sym e);
+            in_slots = means.in_slots;
+          };
           handles = λ h. ap (λ k. is_among k new.held h) first ∙ ap (λ k. is_among d.first k h) held ∙ old.handles h ∙ ap (λ w. nat_lt h (length w)) (sym (room-world L)) ∙ ap (λ x. user_holds x.0 h) (sym e);
           room = (
               let a = where-more is_owned M.ops (new_operation r) refl in
-              let b = owned-room buffer v d.slots.values L old.means in
+              let b = owned-room buffer v d.slots.values L before in
               let c = where-within is_owned is_live L.ops owned-lives in
-              let k = old.means.in_slots.counted in
+              let k = old.operations.in_slots.counted in
               let f = ap (λ x. length (numbers_where is_owned 0 x.0.ops)) e in
               omega (arith, a, b, c, k, f, more));
           fits = (let a = ap (λ x. length x.queue) ring in let b = length-append mid.queue (entry ∷ []) in let k = ap (λ x. x.capacity) ring in omega (arith, a, b, k, has_room));
-          means = subst (λ K. Means buffer (whole_ring view new) new.slots.values K) (sym (ap (λ x. x.0) e))
-              (subst (λ x. Means buffer x new.slots.values (append (with_new_op M (new_operation r)) (Req d.given))) (sym ring)
-              (subst (λ x. Means buffer (with_spare (pushed mid entry) spare') x (append (with_new_op M (new_operation r)) (Req d.given))) (sym put)
-              (means-view buffer (pushed mid entry) (with_spare (pushed mid entry) spare') (insert d.slots.values key (record { serial = d.given; request = request; life = Fresh })) (append (with_new_op M (new_operation r)) (Req d.given)) refl refl refl refl refl p)));
+          ring = ring-of means;
         };
       }
 

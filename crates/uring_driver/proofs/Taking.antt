@@ -15,7 +15,7 @@ use Rattle.ring_core.specs.Queue.{take_one, take_each, take_all, make_room, with
 use Rattle.driver_core.specs.declared.slot.Slot.{Slot}
 use Rattle.uring_driver.specs.Lists.{queued_of, queued_in}
 use Rattle.uring_driver.specs.Submissions.{room_made}
-use Rattle.uring_driver.specs.Stands.{Means}
+use Rattle.uring_driver.proofs.Means.{Means}
 use Rattle.uring_driver.specs.Turned.{taken_front}
 use Rattle.driver_core.proofs.Counts.{where-all}
 use Rattle.uring_driver.proofs.Heads.{means-view}

@@ -12,11 +12,12 @@ use Rattle.ring_core.specs.Ring.{RingView}
 use Rattle.driver_core.specs.declared.op.Stop.{Stop}
 use Rattle.driver_core.specs.declared.op.Stop.TheVariants.{RingFault, Busy, BadCompletion, OutOfMemory}
 use Rattle.driver_core.specs.declared.op.Turned.{Turned}
+use Rattle.driver_core.specs.Operations.{OperationsStand}
 use Rattle.uring_driver.specs.declared.uring.IoUringDriver.{IoUringDriver}
 use Rattle.uring_driver.specs.Uring.{ring_in, due_in, pending, whole_ring, given_by}
-use Rattle.uring_driver.specs.Op.{KeepsTokens}
+use Rattle.uring_driver.specs.Op.{KeepsTokens, ops_in as operations_in}
 use Rattle.uring_driver.specs.Submissions.{PendingMoves, TakesFront}
-use Rattle.uring_driver.specs.Stands.{Means, Stands, Answers}
+use Rattle.uring_driver.specs.Stands.{RingStands, Stands, Answers}
 use Rattle.uring_driver.specs.Reap.{IsStray, treat_each}
 use Rattle.uring_driver.specs.Submitted.{SameSlots}
 
@@ -66,14 +67,15 @@ taken_front count L = take_each (record L { queue = drop count L.queue }) (take 
 abbrev pub reaped_out : Ledger → Ledger
 reaped_out L = reap_each (record L { done = [] }) L.done
 
--- What a turn treated that took only the first entries of the queue: the machine's operations and tasks are named, and the ring and
--- the slots mean the machine's ledger.
+-- What a turn treated that took only the first entries of the queue: the machine's operations and tasks are named, and the driver's
+-- operations and its ring stand for those of the machine's ledger.
 pub record TurnsFront {R B : Type 0} (view : R → RingView) (buffer : B → Buffer) (L : Ledger) (new : IoUringDriver R B) (turned : Turned) : Type 0 where
   pub count : ℕ
   pub within : count ≤ length L.queue
   pub reaped : turned.reaped ≡ ops_in (taken_front count L).done
   pub woken : turned.woken ≡ tasks_woken (taken_front count L).ops (ops_in (taken_front count L).done)
-  pub means : Means buffer (whole_ring view new) new.slots.values (reaped_out (taken_front count L))
+  pub operations : OperationsStand buffer (operations_in new) (reaped_out (taken_front count L)).ops
+  pub ring : RingStands buffer new.slots.values (whole_ring view new) (reaped_out (taken_front count L))
 
 -- A turn of a driver that stands for a ledger answers what the machine does, or ran out of memory and changed nothing.
 -- Its completions are never bad. Only a ring that isn't steady makes it stop otherwise; a busy one that took a prefix of the queue.
