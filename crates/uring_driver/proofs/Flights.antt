@@ -38,7 +38,8 @@ length-effect world (Out h offered) sent (Count k) = length-amended (with_output
 length-effect world (Out h offered) sent (Fail e) = refl
 
 -- So does an executed entry.
-pub length-body-effect : (world : List HandleState) (body : Body) (sent : List ℕ) (told : Told) → length (body_effect world body sent told).world ≡ length world
+pub length-body-effect : (world : List HandleState) (body : Body) (sent : List ℕ) (told : Told) →
+    length (body_effect world body sent told).world ≡ length world
 length-body-effect world (Calls call) sent told = length-effect world call sent told
 length-body-effect world (Cancels key) sent told = refl
 

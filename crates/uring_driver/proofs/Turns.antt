@@ -68,7 +68,7 @@ task-by true o = refl
 task-by false o = refl
 
 -- A test and one that fails.
-and-false : (b : Bool) → (b && false) ≡ false
+pub and-false : (b : Bool) → (b && false) ≡ false
 and-false true = refl
 and-false false = refl
 

@@ -17,7 +17,7 @@ use Rattle.uring_driver.specs.Uring.{ring_in, room_in, pending, whole_ring, hold
 use Rattle.uring_driver.specs.Op.{ops_in}
 use Rattle.uring_driver.specs.Lists.{ListsStand}
 
--- A ring, read with the slots whose keys it has, means a ledger's capacity, its handles and what stands on them, and its lists.
+-- A ring, read with the slots that its words are keys of, means a ledger's capacity, its handles and its lists.
 pub record RingStands {B : Type 0} (buffer : B → Buffer) (slots : map.FinMap nat_cmp (Slot B)) (view : RingView) (L : Ledger) : Type 0 where
   pub capacity : view.capacity ≡ L.capacity
   pub world : view.world ≡ L.world

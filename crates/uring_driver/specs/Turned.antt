@@ -49,7 +49,13 @@ StopsFor view old new turned (Some OutOfMemory) = (new ≡ old) × TreatsNone ol
 pub record TreatsReady {R B : Type 0} (view : R → RingView) (old new : IoUringDriver R B) (turned : Turned) (bad : Option ℕ) : Type 0 where
   pub mid : RingView
   pub front : TakesFront (whole_ring view old) mid
-  pub treated : treat_each old.slots.values mid.done ≡ record { slots = new.slots.values; reaped = turned.reaped; woken = turned.woken; bad = bad; left = (view (ring_in new)).done }
+  pub treated : treat_each old.slots.values mid.done ≡ record {
+    slots = new.slots.values;
+    reaped = turned.reaped;
+    woken = turned.woken;
+    bad = bad;
+    left = (view (ring_in new)).done;
+  }
 
 -- What a turn treated, by why it stopped: at a bad completion as at none.
 abbrev pub TreatsFor : {R B : Type 0} → (R → RingView) → IoUringDriver R B → IoUringDriver R B → Turned → Option Stop → Type 0
@@ -68,8 +74,9 @@ abbrev pub reaped_out : Ledger → Ledger
 reaped_out L = reap_each (record L { done = [] }) L.done
 
 -- What a turn treated that took only the first entries of the queue: the machine's operations and tasks are named, and the driver's
--- operations and its ring stand for those of the machine's ledger.
-pub record TurnsFront {R B : Type 0} (view : R → RingView) (buffer : B → Buffer) (L : Ledger) (new : IoUringDriver R B) (turned : Turned) : Type 0 where
+-- operations and its ring stand for the machine's ledger.
+pub record TurnsFront {R B : Type 0} (view : R → RingView) (buffer : B → Buffer) (L : Ledger) (new : IoUringDriver R B)
+    (turned : Turned) : Type 0 where
   pub count : ℕ
   pub within : count ≤ length L.queue
   pub reaped : turned.reaped ≡ ops_in (taken_front count L).done
@@ -79,7 +86,8 @@ pub record TurnsFront {R B : Type 0} (view : R → RingView) (buffer : B → Buf
 
 -- A turn of a driver that stands for a ledger answers what the machine does, or ran out of memory and changed nothing.
 -- Its completions are never bad. Only a ring that isn't steady makes it stop otherwise; a busy one that took a prefix of the queue.
-abbrev pub TurnsFor : {R B : Type 0} → (R → RingView) → (B → Buffer) → Bool → Ledger → IoUringDriver R B → IoUringDriver R B → Turned → Option Stop → Type 0
+abbrev pub TurnsFor : {R B : Type 0} → (R → RingView) → (B → Buffer) → Bool → Ledger → IoUringDriver R B → IoUringDriver R B → Turned →
+    Option Stop → Type 0
 TurnsFor view buffer steady L old new turned None = Answers view buffer L Turn (TurnReply turned.reaped turned.closed turned.woken) new
 TurnsFor view buffer steady L old new turned (Some RingFault) = IsTrue steady → ⊥
 TurnsFor view buffer steady L old new turned (Some Busy) = (IsTrue steady → ⊥) × TurnsFront view buffer L new turned
@@ -87,7 +95,8 @@ TurnsFor view buffer steady L old new turned (Some (BadCompletion word)) = ⊥
 TurnsFor view buffer steady L old new turned (Some OutOfMemory) = new ≡ old
 
 -- What every turn of the completion driver does, a park's too.
-pub record TurnMeets {R B : Type 0} (view : R → RingView) (buffer : B → Buffer) (tells steady : Bool) (old new : IoUringDriver R B) (turned : Turned) : Type 0 where
+pub record TurnMeets {R B : Type 0} (view : R → RingView) (buffer : B → Buffer) (tells steady : Bool) (old new : IoUringDriver R B)
+    (turned : Turned) : Type 0 where
   -- Over each ring that tells its lists the answer is the machine's, and no completion is bad.
   pub turns : IsTrue tells → (L : Ledger) → Stands view buffer old L → TurnsFor view buffer steady L old new turned turned.stop
   pub stops : StopsFor view old new turned turned.stop
