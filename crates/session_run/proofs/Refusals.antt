@@ -1,5 +1,6 @@
 -- Which events a session refuses, by the causes that the machine names.
-use Rattle.std.proofs.Common.{◌≡◌, ◌<◌, ◌≤◌, ℕ, Bool, true, false, not, ◌||◌, ◌&&◌, List, [], ◌∷◌, length, Option, None, Some, refl, sym, ◌∙◌, ap, arith}
+use Rattle.std.proofs.Common.{◌≡◌, ◌<◌, ◌≤◌, ℕ, Bool, true, false, not, ◌||◌, ◌&&◌, List}
+use Rattle.std.proofs.Common.{[], ◌∷◌, length, Option, None, Some, refl, sym, ◌∙◌, ap, arith}
 use Rattle.std.specs.Prelude.{slice_get, nat_le}
 use Rattle.std.proofs.lemmas.Bool.Decides.{nat_tests}
 use Rattle.rent_buf.specs.Buffer.{Buffer}
@@ -7,7 +8,8 @@ use Rattle.rent_buf.specs.Parts.{Parts}
 use Rattle.rent_buf.specs.declared.plain.Buf.{Buf}
 use Rattle.ring_core.specs.Lists.{passes}
 use Rattle.ring_core.specs.Ring.{RingView}
-use Rattle.ring_core.specs.Ledger.{Ledger, Operation, Place, InQueue, InFlight, InDone, Reaped, Gone, is_kept, is_live, is_owned, live_ops, user_holds}
+use Rattle.ring_core.specs.Ledger.{Ledger, Operation, Place, InQueue, InFlight, InDone, Reaped}
+use Rattle.ring_core.specs.Ledger.{Gone, is_kept, is_live, is_owned, live_ops, user_holds}
 use Rattle.ring_core.specs.Request.{named}
 use Rattle.ring_core.specs.declared.ledger.TheConstants.{MOST_LIVE}
 use Rattle.ring_core.specs.Refusal.{cause, refused_if, lacks_handle}
@@ -29,13 +31,16 @@ use Rattle.session_run.specs.Session.{SessionStands}
 use Rattle.session_run.proofs.TextFields.{and-true}
 use Rattle.session_run.proofs.TextHex.{false-from}
 
--- A feed, an end or a look of a handle that the user doesn't hold is refused.
+-- A feed of a handle that the user doesn't hold is refused.
 pub cause-feed : (L : Ledger) (h : ℕ) (bytes : List ℕ) → user_holds L h ≡ false → cause L (Feed h bytes) ≡ Some NoHandle
-cause-feed L h bytes absent = ap (λ held. refused_if (not held || false) NoHandle (refused_if (is_ended_at L.world h) BadHandleEvent None)) absent
+cause-feed L h bytes absent = ap (λ held. refused_if (not held || false) NoHandle
+    (refused_if (is_ended_at L.world h) BadHandleEvent None)) absent
 
+-- So is its end.
 pub cause-end : (L : Ledger) (h : ℕ) → user_holds L h ≡ false → cause L (End h) ≡ Some NoHandle
 cause-end L h absent = ap (λ held. refused_if (not held || false) NoHandle (refused_if (is_ended_at L.world h) BadHandleEvent None)) absent
 
+-- So is a look at it.
 pub cause-look : (L : Ledger) (h : ℕ) → user_holds L h ≡ false → cause L (Look h) ≡ Some NoHandle
 cause-look L h absent = ap (λ held. refused_if (not held || false) NoHandle None) absent
 
@@ -79,7 +84,8 @@ pub cause-submit_full : (session : Session) (L : Ledger) (request : Request Buff
 cause-submit_full session L request live stands held count full =
     ap (λ lacks. refused_if lacks NoHandle (refused_if (nat_le MOST_LIVE (length (live_ops L))) Full None))
     (lacks_handle-holds_all session.driver L stands.driver.handles (named request) ∙ ap not held)
-    ∙ ap (λ b. refused_if b Full None) (ap (λ k. nat_le MOST_LIVE k) (sym stands.driver.means.in_slots.counted ∙ sym count) ∙ nat_le-true MOST_LIVE live full)
+    ∙ ap (λ b. refused_if b Full None) (ap (λ k. nat_le MOST_LIVE k) (sym stands.driver.operations.in_slots.counted ∙ sym count)
+    ∙ nat_le-true MOST_LIVE live full)
 
 -- A submission of handles that the user holds isn't refused where fewer operations are live.
 pub unrefused-submit : (session : Session) (L : Ledger) (request : Request Buffer Parts) (live : ℕ) → SessionStands session L →
@@ -87,23 +93,27 @@ pub unrefused-submit : (session : Session) (L : Ledger) (request : Request Buffe
 unrefused-submit session L request live stands held count fewer =
     ap (λ lacks. refused_if lacks NoHandle (refused_if (nat_le MOST_LIVE (length (live_ops L))) Full None))
     (lacks_handle-holds_all session.driver L stands.driver.handles (named request) ∙ ap not held)
-    ∙ ap (λ b. refused_if b Full None) (ap (λ k. nat_le MOST_LIVE k) (sym stands.driver.means.in_slots.counted ∙ sym count) ∙ nat_le-false MOST_LIVE live fewer)
+    ∙ ap (λ b. refused_if b Full None) (ap (λ k. nat_le MOST_LIVE k) (sym stands.driver.operations.in_slots.counted ∙ sym count)
+    ∙ nat_le-false MOST_LIVE live fewer)
 
--- A poll, a drop or a cancel of what isn't its user's is refused.
+-- A poll of what isn't its user's is refused.
 pub cause-poll : (L : Ledger) (n task : ℕ) → passes is_owned (slice_get L.ops n) ≡ false → cause L (Poll n task) ≡ Some NoOp
 cause-poll L n task absent = ap (λ owned. refused_if (not owned) NoOp None) absent
 
+-- So is a drop.
 pub cause-drop : (L : Ledger) (n : ℕ) → passes is_owned (slice_get L.ops n) ≡ false → cause L (Drop n) ≡ Some NoOp
 cause-drop L n absent = ap (λ owned. refused_if (not owned) NoOp None) absent
 
+-- So is a cancel.
 pub cause-cancel : (L : Ledger) (n : ℕ) → passes is_owned (slice_get L.ops n) ≡ false → cause L (Cancel n) ≡ Some NoOp
 cause-cancel L n absent = ap (λ owned. refused_if (not owned) NoOp None) absent
 
--- The slot of an operation that wasn't dropped is its user's.
+-- A slot that waits is its user's.
 owned-waiting : (task : Option ℕ) → is_owned_life (waiting task) ≡ true
 owned-waiting None = refl
 owned-waiting (Some task) = refl
 
+-- So is the slot of an operation that wasn't dropped, wherever it is.
 owned-undropped : (was_dropped : Bool) (place : Place) (task : Option ℕ) → not was_dropped ≡ true →
     is_owned_life (life_of was_dropped place task) ≡ true
 owned-undropped true place task is = absurd (let never : ◌≡◌ {A = Bool} false true = is in cc)
@@ -117,7 +127,8 @@ owned-undropped false Gone task is = refl
 serial_of-owned : (slot : Slot Buf) (operation : Operation) (n : ℕ) → slot.serial ≡ n → slot.life ≡ life_at operation →
     not operation.dropped ≡ true → serial_of (Some slot) ≡ Some n
 serial_of-owned slot operation n serial life undropped =
-    ap (λ b. number_if b slot.serial) (ap is_owned_life life ∙ owned-undropped operation.dropped operation.place operation.task undropped) ∙ ap (λ k. Some k) serial
+    ap (λ b. number_if b slot.serial) (ap is_owned_life life ∙ owned-undropped operation.dropped operation.place operation.task undropped)
+    ∙ ap (λ k. Some k) serial
 
 -- What stands at one number is one.
 one-there : (ops : List Operation) (k n : ℕ) (x y : Operation) → k ≡ n → slice_get ops k ≡ Some x → slice_get ops n ≡ Some y → x ≡ y
@@ -128,10 +139,13 @@ holds-owned : (session : Session) (L : Ledger) (n : ℕ) (operation : Operation)
     slice_get L.ops n ≡ Some operation → is_owned operation ≡ true → (op : Op) × Holds session.driver op × (number_of op ≡ n)
 holds-owned session L n operation stands is owned =
     let parts = and-true (is_live operation) (not operation.dropped) owned in
-    let slot = stands.driver.means.in_slots.each n operation is parts.0 in
-    let for = stands.driver.means.in_slots.holds slot.key slot.slot slot.there in
-    let same : for.operation ≡ operation = one-there L.ops slot.slot.serial n for.operation operation slot.serial for.there is in
-    (record { number = n; key = slot.key }, ap serial_of slot.there ∙ serial_of-owned slot.slot operation n slot.serial (for.life ∙ ap life_at same) parts.1, refl)
+    let slot = stands.driver.operations.in_slots.each n operation is parts.0 in
+    let for = stands.driver.operations.in_slots.holds slot.key slot.slot slot.there in
+    let same : for.operation ≡ operation = one-there L.ops slot.slot.serial n for.operation operation slot.serial for.there is in (
+      record { number = n; key = slot.key },
+      ap serial_of slot.there ∙ serial_of-owned slot.slot operation n slot.serial (for.life ∙ ap life_at same) parts.1,
+      refl,
+    )
 
 -- An operation whose token isn't kept isn't its user's.
 pub no_token-lacks : (session : Session) (L : Ledger) (n : ℕ) → SessionStands session L → token_at (by_number session.tokens) n ≡ None →
@@ -164,7 +178,7 @@ pub token-owns : (session : Session) (L : Ledger) (n : ℕ) (op : Op) → Sessio
     passes is_owned (slice_get L.ops n) ≡ true
 token-owns session L n op stands holds is =
     let found = slot-numbered (get session.driver.slots.values op.key) (number_of op) holds in
-    let for = stands.driver.means.in_slots.holds op.key found.0 found.1 in
+    let for = stands.driver.operations.in_slots.holds op.key found.0 found.1 in
     let operation = for.operation in
     let kept = undropped operation.dropped operation.place operation.task (sym (ap is_owned_life for.life) ∙ found.2) in
     ap (λ k. passes is_owned (slice_get L.ops k)) (sym (found.3 ∙ is)) ∙ ap (passes is_owned) for.there

@@ -20,7 +20,7 @@ use Rattle.driver_core.specs.Slot.{with_life}
 use Rattle.driver_core.specs.Slots.{SlotFor}
 use Rattle.uring_driver.specs.Lists.{EntryFor, IsAt, QueuedFor, Meets, CancelsMean, is_call, queued_of}
 use Rattle.ring_core.specs.Entry.{cancel_entry}
-use Rattle.uring_driver.specs.Stands.{Means}
+use Rattle.uring_driver.proofs.Means.{Means}
 use Rattle.driver_core.proofs.Lists.{some, same-or-not, get-pushed}
 use Rattle.driver_core.proofs.Maps.{put-same, put-other}
 use Rattle.driver_core.proofs.Slots.{slots-replaced, slots-freed, other-left}

@@ -33,7 +33,7 @@ use Rattle.driver_core.specs.Slots.{SlotFor, SlotsStand, life_of}
 use Rattle.driver_core.specs.Operations.{StoresAt}
 use Rattle.uring_driver.specs.Lists.{EntryFor, CompletionFor, DoneFor, IsAt, IsFlown, ListsStand, is_call, names_slot, queued_of, item_of}
 use Rattle.uring_driver.specs.Lists.{done_items_of}
-use Rattle.uring_driver.specs.Stands.{Means}
+use Rattle.uring_driver.proofs.Means.{Means}
 use Rattle.driver_core.proofs.Lists.{some, skip, skip-not, skip-one, get-removed, map-removed, get-pushed}
 use Rattle.driver_core.proofs.Maps.{put-same, put-self}
 use Rattle.driver_core.proofs.Slots.{slots-replaced, other-slot}

@@ -35,8 +35,9 @@ use Rattle.uring_driver.specs.Op.{ops_in}
 use Rattle.uring_driver.specs.Submissions.{with_due}
 use Rattle.uring_driver.specs.Lists.{FlightFor, is_call, item_of}
 use Rattle.uring_driver.specs.Executed.{RefusedFor}
-use Rattle.uring_driver.specs.Stands.{Means, Stands, Answers}
+use Rattle.uring_driver.specs.Stands.{Stands, Answers}
 use Rattle.driver_core.proofs.Lists.{get-map}
+use Rattle.uring_driver.proofs.Means.{Means, means-of, ring-of}
 use Rattle.uring_driver.proofs.Kept.{call-item}
 use Rattle.uring_driver.proofs.Steps.{reached-more, step-exec, unrefused-exec, cause-flying, cause-outcome}
 use Rattle.driver_core.proofs.Counts.{where-same}
@@ -71,15 +72,18 @@ refused-keeps offers stores takes old new place told before after BadOutcome ref
 refused-keeps offers stores takes old new place told before after OutOfMemory refused = refused.2
 
 -- It leaves the ring too.
-pub refused-ring : {P : Type 0} (offers : P → ℕ → List ℕ) (stores : P → ℕ → List ℕ → P → Type 0) (takes : ℕ → Bool) (old new : RingView) (place : ℕ) (told : Told) (before after : P) (why : ExecRefusal) →
+pub refused-ring : {P : Type 0} (offers : P → ℕ → List ℕ) (stores : P → ℕ → List ℕ → P → Type 0) (takes : ℕ → Bool) (old new : RingView)
+    (place : ℕ) (told : Told) (before after : P) (why : ExecRefusal) →
     ExecutesFor offers stores takes old place told new before after (Err why) → new ≡ old
 refused-ring offers stores takes old new place told before after NotFlying refused = refused.1
 refused-ring offers stores takes old new place told before after BadOutcome refused = refused.1
 refused-ring offers stores takes old new place told before after OutOfMemory refused = refused.1
 
 -- An execution leaves as many handles.
-pub finished-handles : (v w : RingView) (place : ℕ) (told : Told) (sent got : List ℕ) (c : Completion) → IsFinished v place told sent w got c → length w.world ≡ length v.world
-finished-handles v w place told sent got c fin = ap (λ x. length x.world) fin.ring ∙ length-body-effect v.world fin.flight.entry.body sent told
+pub finished-handles : (v w : RingView) (place : ℕ) (told : Told) (sent got : List ℕ) (c : Completion) →
+    IsFinished v place told sent w got c → length w.world ≡ length v.world
+finished-handles v w place told sent got c fin = ap (λ x. length x.world) fin.ring
+    ∙ length-body-effect v.world fin.flight.entry.body sent told
 
 module _ {B : Type 0} (buffer : B → Buffer) (d : IoUringDriver RingView B) (L : Ledger) (place : ℕ) (told : Told)
     (old : Stands (λ r. r) buffer d L) where
@@ -95,47 +99,53 @@ module _ {B : Type 0} (buffer : B → Buffer) (d : IoUringDriver RingView B) (L 
       let got = executed.got in
       let finished = executed.finishes in
       let v = whole_ring (λ r. r) d in
+      let before = means-of old in
       let w = with_due (ring_in new) d.ring.due in
       let fin = finished-behind (ring_in d) (ring_in new) place told sent got c d.ring.due finished in
       let slots = d.slots.values in
       let given = (executed-numbers buffer (ops_in d) (ops_in new) c.word got
       (body_comes finished.flight.entry.body told) executed.stored).1 in
-      let shown : sent ≡ shown_by (plain_request buffer (s buffer v slots L place fin.flight old.means fin.there calls).request) =
+      let shown : sent ≡ shown_by (plain_request buffer (s buffer v slots L place fin.flight before fin.there calls).request) =
       ap (λ x. shown_in buffer (get slots x)) (ap (λ x. x.word) fin.answer)
-      ∙ ap (shown_in buffer) (slot-there buffer v slots L place fin.flight old.means fin.there calls) in
+      ∙ ap (shown_in buffer) (slot-there buffer v slots L place fin.flight before fin.there calls) in
       let eff = ap (λ x. body_effect v.world fin.flight.entry.body x told) shown
-      ∙ effect-sends buffer v slots L place fin.flight old.means fin.there calls told fin.allows in
+      ∙ effect-sends buffer v slots L place fin.flight before fin.there calls told fin.allows in
       let n = fin.flight.entry.serial in
-      let op = o buffer v slots L place fin.flight old.means fin.there calls in
-      let wh = which buffer v slots L place fin.flight old.means fin.there calls in
-      let there = flying-at buffer v slots L place fin.flight old.means fin.there calls in
+      let op = o buffer v slots L place fin.flight before fin.there calls in
+      let wh = which buffer v slots L place fin.flight before fin.there calls in
+      let there = flying-at buffer v slots L place fin.flight before fin.there calls in
       let result = effect L.world (call_of op.request) (sent_of op.request) told in
       let L' = with_effect (complete_at L place (Op n)) n told result in
       let e = step-exec L place n told op (slice_get_within L.flying place (Op n) there) there wh
-      (sym (allows-is buffer v slots L place fin.flight old.means fin.there calls told) ∙ fin.allows)
+      (sym (allows-is buffer v slots L place fin.flight before fin.there calls told) ∙ fin.allows)
       ∙ ap (λ x. (exec_op (complete_at L place (Op n)) n told x, ExecutedOp n)) wh in
+      let means = subst (λ K. Means buffer (whole_ring (λ r. r) new) new.slots.values K) (sym (ap (λ x. x.0) e))
+      (subst (λ xs. Means buffer (with_due (ring_in new) xs) new.slots.values L') (sym due)
+      (means-executed buffer v (ops_in d) (ops_in new) L place told sent w got c before fin calls executed.stored eff)) in
       record {
         reply_is = ap (λ x. x.1) e ∙ ap (λ x. ExecutedOp x) (sym (ap (λ x. x.serial) fin.answer));
         stands = record {
           events = old.events ++ Exec place told ∷ [];
           reached = reached-more L (ring_in new).capacity old.events (Exec place told) (old.reached
               ∙ ap (λ x. ledger x old.events) (sym (ap (λ x. x.capacity) finished.ring)));
-          numbered = given ∙ old.numbered ∙ sym (length-amended (with_result told result) L.ops n) ∙ ap (λ x. length x.0.ops) (sym e);
+          operations = record {
+            numbered = given ∙ old.operations.numbered ∙ sym (length-amended (with_result told result) L.ops n)
+                ∙ ap (λ x. length x.0.ops) (sym e);
+            in_slots = means.in_slots;
+          };
           handles = λ h. ap (λ k. is_among k new.held h) first ∙ ap (λ k. is_among d.first k h) held ∙ old.handles h
               ∙ ap (nat_lt h) (sym (length-effect L.world (call_of op.request) (sent_of op.request) told))
               ∙ ap (λ x. user_holds x.0 h) (sym e);
           room = (
               let a = where-same is_owned (with_result told result) L.ops n op wh
-              (sym (ap (λ p. is_kept p && not op.dropped) (flies buffer v slots L place fin.flight old.means fin.there calls))) in
+              (sym (ap (λ p. is_kept p && not op.dropped) (flies buffer v slots L place fin.flight before fin.there calls))) in
               let b = ap (λ x. length (numbers_where is_owned 0 x.0.ops)) e in
               let r = old.room in
               omega (arith, a, b, r, room));
           fits = (let a = ap (λ x. length (x.queue ++ due_in new)) finished.ring in
               let b = ap (λ xs. length ((ring_in d).queue ++ xs)) due in let k = ap (λ x. x.capacity) finished.ring in let f = old.fits in
               omega (arith, a, b, k, f));
-          means = subst (λ K. Means buffer (whole_ring (λ r. r) new) new.slots.values K) (sym (ap (λ x. x.0) e))
-              (subst (λ xs. Means buffer (with_due (ring_in new) xs) new.slots.values L') (sym due)
-              (means-executed buffer v (ops_in d) (ops_in new) L place told sent w got c old.means fin calls executed.stored eff));
+          ring = ring-of means;
         };
       }
 
@@ -155,7 +165,7 @@ module _ {B : Type 0} (buffer : B → Buffer) (d : IoUringDriver RingView B) (L 
       Answers (λ r. r) buffer L (Exec place told) (ExecutedOp c.serial) new
   stands-executes new c executed =
       let flight = executed.finishes.flight in
-      executes-by new c executed flight.entry.body refl (old.means.in_lists.in_flight place flight executed.finishes.there)
+      executes-by new c executed flight.entry.body refl (old.ring.in_lists.in_flight place flight executed.finishes.there)
 
   -- An outcome that isn't allowed has its cause, by the body of what is in flight.
   outcome-by : (flight : Flight) → slice_get (ring_in d).flying place ≡ Some flight →
@@ -163,12 +173,13 @@ module _ {B : Type 0} (buffer : B → Buffer) (d : IoUringDriver RingView B) (L 
       (b : Body) → flight.entry.body ≡ b → FlightFor buffer d.slots.values L.ops flight b → RefusedFor L place told BadOutcome
   outcome-by flight at forbids (Calls call) is _ =
       let v = whole_ring (λ r. r) d in
+      let before = means-of old in
       let slots = d.slots.values in
       let calls = ap is_call is in
-      let there = flying-at buffer v slots L place flight old.means at calls in
-      cause-outcome L place flight.entry.serial told (o buffer v slots L place flight old.means at calls)
-      (slice_get_within L.flying place (Op flight.entry.serial) there) there (which buffer v slots L place flight old.means at calls)
-      (sym (allows-is buffer v slots L place flight old.means at calls told) ∙ forbids)
+      let there = flying-at buffer v slots L place flight before at calls in
+      cause-outcome L place flight.entry.serial told (o buffer v slots L place flight before at calls)
+      (slice_get_within L.flying place (Op flight.entry.serial) there) there (which buffer v slots L place flight before at calls)
+      (sym (allows-is buffer v slots L place flight before at calls told) ∙ forbids)
   outcome-by flight at forbids (Cancels key) is never = absurd never
 
   -- An execution that ran out of memory has no cause, by the body of what is in flight.
@@ -177,12 +188,13 @@ module _ {B : Type 0} (buffer : B → Buffer) (d : IoUringDriver RingView B) (L 
       (b : Body) → flight.entry.body ≡ b → FlightFor buffer d.slots.values L.ops flight b → RefusedFor L place told OutOfMemory
   memory-by flight at allows (Calls call) is _ =
       let v = whole_ring (λ r. r) d in
+      let before = means-of old in
       let slots = d.slots.values in
       let calls = ap is_call is in
-      let there = flying-at buffer v slots L place flight old.means at calls in
-      unrefused-exec L place flight.entry.serial told (o buffer v slots L place flight old.means at calls)
-      (slice_get_within L.flying place (Op flight.entry.serial) there) there (which buffer v slots L place flight old.means at calls)
-      (sym (allows-is buffer v slots L place flight old.means at calls told) ∙ allows)
+      let there = flying-at buffer v slots L place flight before at calls in
+      unrefused-exec L place flight.entry.serial told (o buffer v slots L place flight before at calls)
+      (slice_get_within L.flying place (Op flight.entry.serial) there) there (which buffer v slots L place flight before at calls)
+      (sym (allows-is buffer v slots L place flight before at calls told) ∙ allows)
   memory-by flight at allows (Cancels key) is never = absurd never
 
   -- A refused execution has its cause; one that ran out of memory has none.
@@ -190,10 +202,10 @@ module _ {B : Type 0} (buffer : B → Buffer) (d : IoUringDriver RingView B) (L 
       (takes : ℕ → Bool) (why : ExecRefusal) →
       ExecutesFor offers stores takes (ring_in d) place told new before after (Err why) → RefusedFor L place told why
   refuses-executes offers stores new before after takes NotFlying past =
-      cause-flying L place told (omega (arith, ap length old.means.in_lists.flying, length-map (ring_in d).flying item_of, past.0))
+      cause-flying L place told (omega (arith, ap length old.ring.in_lists.flying, length-map (ring_in d).flying item_of, past.0))
   refuses-executes offers stores new before after takes BadOutcome bad =
       let flight = bad.0.flight in
-      outcome-by flight bad.0.there bad.0.forbids flight.entry.body refl (old.means.in_lists.in_flight place flight bad.0.there)
+      outcome-by flight bad.0.there bad.0.forbids flight.entry.body refl (old.ring.in_lists.in_flight place flight bad.0.there)
   refuses-executes offers stores new before after takes OutOfMemory short =
       let flight = short.0.flight in
-      memory-by flight short.0.there short.0.allows flight.entry.body refl (old.means.in_lists.in_flight place flight short.0.there)
+      memory-by flight short.0.there short.0.allows flight.entry.body refl (old.ring.in_lists.in_flight place flight short.0.there)

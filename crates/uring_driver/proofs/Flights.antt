@@ -25,7 +25,7 @@ use Rattle.ring_core.proofs.Requests.{holding-same, effect-shown}
 use Rattle.driver_core.specs.declared.slot.Slot.{Slot}
 use Rattle.driver_core.specs.Slots.{SlotFor, is_early, life_of}
 use Rattle.uring_driver.specs.Lists.{EntryFor, IsFlown, is_call}
-use Rattle.uring_driver.specs.Stands.{Means}
+use Rattle.uring_driver.proofs.Means.{Means}
 use Rattle.driver_core.proofs.Lists.{some}
 use Rattle.uring_driver.proofs.Kept.{call-flown}
 
@@ -38,7 +38,8 @@ length-effect world (Out h offered) sent (Count k) = length-amended (with_output
 length-effect world (Out h offered) sent (Fail e) = refl
 
 -- So does an executed entry.
-pub length-body-effect : (world : List HandleState) (body : Body) (sent : List ℕ) (told : Told) → length (body_effect world body sent told).world ≡ length world
+pub length-body-effect : (world : List HandleState) (body : Body) (sent : List ℕ) (told : Told) →
+    length (body_effect world body sent told).world ≡ length world
 length-body-effect world (Calls call) sent told = length-effect world call sent told
 length-body-effect world (Cancels key) sent told = refl
 

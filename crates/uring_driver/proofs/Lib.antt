@@ -1,3 +1,4 @@
+mod Means
 mod Entering
 mod Kept
 pub mod Steps

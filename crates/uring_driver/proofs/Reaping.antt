@@ -20,7 +20,7 @@ use Rattle.driver_core.specs.Slots.{SlotFor, SlotsStand, waiting, life_of, is_ea
 use Rattle.ring_core.specs.declared.entry.Target.TheVariants.{Slot as Keyed, Reserved as Unnamed}
 use Rattle.ring_core.specs.Entry.{target}
 use Rattle.uring_driver.specs.Lists.{CompletionFor, DoneFor, IsAt, ListsStand, names_slot, done_items_in, done_items_of}
-use Rattle.uring_driver.specs.Stands.{Means}
+use Rattle.uring_driver.proofs.Means.{Means}
 use Rattle.driver_core.proofs.Lists.{some}
 use Rattle.driver_core.proofs.Maps.{remove-put}
 use Rattle.driver_core.proofs.Slots.{slots-replaced, other-slot, slots-freed, other-left}

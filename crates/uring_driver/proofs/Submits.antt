@@ -1,5 +1,6 @@
 -- What a submission answers, of a driver that stands for a ledger.
-use Rattle.std.proofs.Common.{◌≡◌, inl, inr, ℕ, suc, ◌+◌, ◌<◌, ◌≤◌, Bool, true, false, List, [], ◌∷◌, ◌++◌, length, Some, None, refl, sym, ◌∙◌, ap, subst, arith, length-append}
+use Rattle.std.proofs.Common.{◌≡◌, inl, inr, ℕ, suc, ◌+◌, ◌<◌, ◌≤◌, Bool, true, false, List, []}
+use Rattle.std.proofs.Common.{◌∷◌, ◌++◌, length, Some, None, refl, sym, ◌∙◌, ap, subst, arith, length-append}
 use Rattle.std.specs.Prelude.{slice_get, nat_le, nat_lt, IsTrue, ◌==◌, if◌then◌else◌}
 use Rattle.std.specs.Ordering.{nat_cmp}
 use Rattle.std.specs.FinMap.{FinMap, get, insert, len}
@@ -37,10 +38,11 @@ use Rattle.driver_core.specs.Operations.{Submits, new_slot}
 use Rattle.driver_core.specs.Slot.{number_at}
 use Rattle.uring_driver.specs.Submissions.{with_spare, room_made, PendingMoves}
 use Rattle.uring_driver.specs.Lists.{queued_of, queued_in, is_call}
-use Rattle.uring_driver.specs.Stands.{Means, Stands, Answers}
+use Rattle.uring_driver.specs.Stands.{Stands, Answers}
 use Rattle.uring_driver.specs.Submitted.{IsSameRing, WhyRefused, Unprepared}
 use Rattle.driver_core.proofs.Lists.{amended-append, amended-fixed, map-get}
 use Rattle.driver_core.proofs.Counts.{where-more, where-within, owned-lives}
+use Rattle.uring_driver.proofs.Means.{Means, means-of, ring-of}
 use Rattle.uring_driver.proofs.Kept.{call-queued}
 use Rattle.uring_driver.proofs.Handles.{lacks-none}
 use Rattle.uring_driver.proofs.Starting.{stands-same}
@@ -50,57 +52,71 @@ use Rattle.uring_driver.proofs.Heads.{means-view}
 use Rattle.uring_driver.proofs.Taking.{means-room, owned-room}
 use Rattle.uring_driver.proofs.Turns.{length-take_each, room-length, room-world, room-capacity}
 
--- An entry names an operation that there is.
+-- A request in the queue is that of an operation that there is.
 abbrev IsKnown : ℕ → Queued → Type 0
 IsKnown count (Req n) = n < count
 IsKnown count (Cancel n) = Unit {0}
 
+-- Each entry of a queue does.
 abbrev AllKnown : ℕ → List Queued → Type 0
 AllKnown count [] = Unit {0}
 AllKnown count (q ∷ qs) = IsKnown count q × AllKnown count qs
 
-if-new_op : (b : Bool) (L M : Ledger) (o : Operation) → (if b then with_new_op M o else with_new_op L o) ≡ with_new_op (if b then M else L) o
+-- An operation joins whichever ledger is taken.
+if-new_op : (b : Bool) (L M : Ledger) (o : Operation) → (if b then with_new_op M o else with_new_op L o)
+    ≡ with_new_op (if b then M else L) o
 if-new_op true L M o = refl
 if-new_op false L M o = refl
 
 -- Taking leaves an operation that isn't in the queue and has no cancel that does anything.
 module _ (o : Operation) (fixed : with_cancel o ≡ o) where
+  -- Taking one entry leaves such an operation.
   take_one-new_op : (L : Ledger) (q : Queued) → IsKnown (length L.ops) q → take_one (with_new_op L o) q ≡ with_new_op (take_one L q) o
-  take_one-new_op L (Req n) h = ap (λ ops. record (take_one L (Req n)) { ops = ops }) (amended-append L.ops (o ∷ []) n (at_place InFlight) h)
+  take_one-new_op L (Req n) h = ap (λ ops. record (take_one L (Req n)) { ops = ops })
+      (amended-append L.ops (o ∷ []) n (at_place InFlight) h)
   take_one-new_op L (Cancel n) h = ap (λ ops. record L { ops = ops }) (amended-fixed L.ops o n with_cancel fixed)
 
-  take_each-new_op : (L : Ledger) (qs : List Queued) → AllKnown (length L.ops) qs → take_each (with_new_op L o) qs ≡ with_new_op (take_each L qs) o
+  -- Taking entries leaves it.
+  take_each-new_op : (L : Ledger) (qs : List Queued) → AllKnown (length L.ops) qs →
+      take_each (with_new_op L o) qs ≡ with_new_op (take_each L qs) o
   take_each-new_op L [] h = refl
   take_each-new_op L (q ∷ qs) h =
       ap (λ M. take_each M qs) (take_one-new_op L q h.0)
       ∙ take_each-new_op (take_one L q) qs (subst (λ k. AllKnown k qs) (sym (length-take_each L (q ∷ []))) h.1)
 
   -- A push after the operation was appended is the operation appended after room was made, then the entry.
-  push-new_op : (L : Ledger) (q : Queued) → AllKnown (length L.ops) L.queue → push (with_new_op L o) q ≡ append (with_new_op (make_room L) o) q
+  push-new_op : (L : Ledger) (q : Queued) → AllKnown (length L.ops) L.queue → push (with_new_op L o) q
+      ≡ append (with_new_op (make_room L) o) q
   push-new_op L q h =
-      ap (λ M. append (if length L.queue == L.capacity then M else with_new_op L o) q) (take_each-new_op (record L { queue = [] }) L.queue h)
+      ap (λ M. append (if length L.queue == L.capacity then M else with_new_op L o) q)
+      (take_each-new_op (record L { queue = [] }) L.queue h)
       ∙ ap (λ M. append M q) (if-new_op (length L.queue == L.capacity) L (take_all L) o)
 
+-- An entry that means a request is that of a call, and has its number.
 req-call : (e : Entry) (b : Body) (n : ℕ) → queued_in e b ≡ Req n → (e.serial ≡ n) × (is_call b ≡ true)
 req-call e (Calls call) n h = (let q : Req e.serial ≡ Req n = h in (cc, refl))
 req-call e (Cancels key) n h = (let f : ⊥ = cc in absurd f)
 
 -- What is queued was given before.
-queue-numbers : {B : Type 0} (buffer : B → Buffer) (v : RingView) (slots : FinMap nat_cmp (Slot B)) (L : Ledger) → Means buffer v slots L → (i n : ℕ) → slice_get L.queue i ≡ Some (Req n) → n < length L.ops
+queue-numbers : {B : Type 0} (buffer : B → Buffer) (v : RingView) (slots : FinMap nat_cmp (Slot B)) (L : Ledger) → Means buffer v slots L →
+    (i n : ℕ) → slice_get L.queue i ≡ Some (Req n) → n < length L.ops
 queue-numbers buffer v slots L old i n h =
     let g = map-get queued_of v.queue i (Req n) (ap (λ xs. slice_get xs i) (sym old.in_lists.queue) ∙ h) in
     let r = req-call g.0 g.0.body n (sym g.2) in
     let at = (call-queued buffer slots L.ops g.0 g.0.body (old.in_lists.in_queue i g.0 g.1) r.1).1 in
     slice_get_within L.ops n at.operation (ap (slice_get L.ops) (sym r.0) ∙ at.there)
 
+-- Each entry names an operation that there is, where each request in the queue does.
 all-known : (count : ℕ) (qs : List Queued) → ((i n : ℕ) → slice_get qs i ≡ Some (Req n) → n < count) → AllKnown count qs
 all-known count [] h = tt
 all-known count (Req n ∷ qs) h = (h 0 n refl, all-known count qs (λ i m g. h (suc i) m g))
 all-known count (Cancel n ∷ qs) h = (tt, all-known count qs (λ i m g. h (suc i) m g))
 
+-- There is room for one more live operation.
 is-room : (n : ℕ) → n < 4294967232 → nat_le MOST_LIVE n ≡ false
 is-room n h = grind (arith, nat_tests)
 
+-- A request as plain data names the same handles.
 named-plain : {B : Type 0} (buffer : B → Buffer) (r : Request B Parts) → named (plain_request buffer r) ≡ named r
 named-plain buffer (Recv fd buf) = refl
 named-plain buffer (ReadVec fd parts) = refl
@@ -108,72 +124,109 @@ named-plain buffer (Send fd buf) = refl
 named-plain buffer (WriteVec fd parts) = refl
 
 module _ {R B : Type 0} (view : R → RingView) (buffer : B → Buffer) where
-  pub stands-submits : (d new : IoUringDriver R B) (L : Ledger) (request : Request B Parts) (key spare spare' : ℕ) (mid : RingView) → Stands view buffer d L → IsTrue (holds_all d (named request)) → len d.slots.values < 4294967232 → get d.slots.values key ≡ None → key < 4294967232 →
+  -- A submission that went well answers what the machine does.
+  pub stands-submits : (d new : IoUringDriver R B) (L : Ledger) (request : Request B Parts) (key spare spare' : ℕ) (mid : RingView) →
+      Stands view buffer d L → IsTrue (holds_all d (named request)) → len d.slots.values < 4294967232 → get d.slots.values key ≡ None →
+      key < 4294967232 →
       new.slots.values ≡ insert d.slots.values key (record { serial = d.given; request = request; life = Fresh }) →
-      mid ≡ with_spare (room_made (whole_ring view d)) spare → length mid.queue < mid.capacity → whole_ring view new ≡ with_spare (pushed mid (record { word = key; serial = d.given; body = Calls (call_of (plain_request buffer request)) })) spare' → len d.slots.values + 1 ≤ room_in new →
+      mid ≡ with_spare (room_made (whole_ring view d)) spare → length mid.queue < mid.capacity →
+      whole_ring view new
+      ≡ with_spare (pushed mid (record { word = key; serial = d.given; body = Calls (call_of (plain_request buffer request)) })) spare' →
+      len d.slots.values + 1 ≤ room_in new →
       new.given ≡ d.given + 1 → new.first ≡ d.first → new.held ≡ d.held → (number : ℕ) → number ≡ d.given →
       Answers view buffer L (Submit (plain_request buffer request)) (Submitted number) new
   stands-submits d new L request key spare spare' mid old user few free below put made has_room ring more given first held number is =
       let r = plain_request buffer request in
       let v = whole_ring view d in
+      let before = means-of old in
       let entry : Entry = record { word = key; serial = d.given; body = Calls (call_of r) } in
       let user' = lacks-none d L (named r) old.handles (ap (holds_all d) (named-plain buffer request) ∙ user) in
-      let s = step-submit L r user' (is-room (length (live_ops L)) (subst (λ n. n < 4294967232) old.means.in_slots.counted few)) in
+      let s = step-submit L r user' (is-room (length (live_ops L)) (subst (λ n. n < 4294967232) old.operations.in_slots.counted few)) in
       let M = make_room L in
       let order : submit_step L r ≡ append (with_new_op M (new_operation r)) (Req d.given) =
-      push-new_op (new_operation r) refl L (Req (length L.ops)) (all-known (length L.ops) L.queue (queue-numbers buffer v d.slots.values L old.means)) ∙ ap (λ n. append (with_new_op M (new_operation r)) (Req n)) (sym old.numbered) in
+      push-new_op (new_operation r) refl L (Req (length L.ops))
+      (all-known (length L.ops) L.queue (queue-numbers buffer v d.slots.values L before))
+      ∙ ap (λ n. append (with_new_op M (new_operation r)) (Req n)) (sym old.operations.numbered) in
       let e = s ∙ ap (λ K. (K, Submitted (length L.ops))) order in
       let long : length M.ops ≡ length L.ops = room-length L in
-      let roomy = means-room buffer v d.slots.values L old.means in
-      let m : Means buffer mid d.slots.values M = subst (λ x. Means buffer x d.slots.values M) (sym made) (means-view buffer (room_made v) (with_spare (room_made v) spare) d.slots.values M refl refl refl refl refl roomy) in
-      let p = means-pushed buffer mid d.slots.values M d.given key request m (old.numbered ∙ sym long) free below in
+      let roomy = means-room buffer v d.slots.values L before in
+      let m : Means buffer mid d.slots.values M = subst (λ x. Means buffer x d.slots.values M) (sym made)
+      (means-view buffer (room_made v) (with_spare (room_made v) spare) d.slots.values M refl refl refl refl refl roomy) in
+      let p = means-pushed buffer mid d.slots.values M d.given key request m (old.operations.numbered ∙ sym long) free below in
       let capacity : (view (ring_in new)).capacity ≡ v.capacity = ap (λ x. x.capacity) ring ∙ ap (λ x. x.capacity) made ∙ room-capacity v in
+      let means = subst (λ K. Means buffer (whole_ring view new) new.slots.values K) (sym (ap (λ x. x.0) e))
+      (subst (λ x. Means buffer x new.slots.values (append (with_new_op M (new_operation r)) (Req d.given))) (sym ring)
+      (subst (λ x. Means buffer (with_spare (pushed mid entry) spare') x (append (with_new_op M (new_operation r)) (Req d.given)))
+      (sym put)
+      (means-view buffer (pushed mid entry) (with_spare (pushed mid entry) spare')
+      (insert d.slots.values key (record { serial = d.given; request = request; life = Fresh }))
+      (append (with_new_op M (new_operation r)) (Req d.given)) refl refl refl refl refl p))) in
       record {
-        reply_is = ap (λ x. x.1) s ∙ ap (λ x. Submitted x) (sym (is ∙ old.numbered));
+        reply_is = ap (λ x. x.1) s ∙ ap (λ x. Submitted x) (sym (is ∙ old.operations.numbered));
         stands = record {
           events = old.events ++ Submit r ∷ [];
-          reached = reached-more L (view (ring_in new)).capacity old.events (Submit r) (old.reached ∙ ap (λ x. ledger x old.events) (sym capacity));
-          numbered = given ∙ ap (λ n. n + 1) (old.numbered ∙ sym long) ∙ sym (length-append M.ops (new_operation r ∷ [])) ∙ ap (λ x. length x.0.ops) (sym e);
-          handles = λ h. ap (λ k. is_among k new.held h) first ∙ ap (λ k. is_among d.first k h) held ∙ old.handles h ∙ ap (λ w. nat_lt h (length w)) (sym (room-world L)) ∙ ap (λ x. user_holds x.0 h) (sym e);
+          reached = reached-more L (view (ring_in new)).capacity old.events (Submit r)
+              (old.reached ∙ ap (λ x. ledger x old.events) (sym capacity));
+          operations = record {
+            numbered = given ∙ ap (λ n. n + 1) (old.operations.numbered ∙ sym long) ∙ sym (length-append M.ops (new_operation r ∷ []))
+                ∙ ap (λ x. length x.0.ops) (sym e);
+            in_slots = means.in_slots;
+          };
+          handles = λ h. ap (λ k. is_among k new.held h) first ∙ ap (λ k. is_among d.first k h) held ∙ old.handles h
+              ∙ ap (λ w. nat_lt h (length w)) (sym (room-world L)) ∙ ap (λ x. user_holds x.0 h) (sym e);
           room = (
               let a = where-more is_owned M.ops (new_operation r) refl in
-              let b = owned-room buffer v d.slots.values L old.means in
+              let b = owned-room buffer v d.slots.values L before in
               let c = where-within is_owned is_live L.ops owned-lives in
-              let k = old.means.in_slots.counted in
+              let k = old.operations.in_slots.counted in
               let f = ap (λ x. length (numbers_where is_owned 0 x.0.ops)) e in
               omega (arith, a, b, c, k, f, more));
-          fits = (let a = ap (λ x. length x.queue) ring in let b = length-append mid.queue (entry ∷ []) in let k = ap (λ x. x.capacity) ring in omega (arith, a, b, k, has_room));
-          means = subst (λ K. Means buffer (whole_ring view new) new.slots.values K) (sym (ap (λ x. x.0) e))
-              (subst (λ x. Means buffer x new.slots.values (append (with_new_op M (new_operation r)) (Req d.given))) (sym ring)
-              (subst (λ x. Means buffer (with_spare (pushed mid entry) spare') x (append (with_new_op M (new_operation r)) (Req d.given))) (sym put)
-              (means-view buffer (pushed mid entry) (with_spare (pushed mid entry) spare') (insert d.slots.values key (record { serial = d.given; request = request; life = Fresh })) (append (with_new_op M (new_operation r)) (Req d.given)) refl refl refl refl refl p)));
+          fits = (let a = ap (λ x. length x.queue) ring in let b = length-append mid.queue (entry ∷ []) in
+              let k = ap (λ x. x.capacity) ring in omega (arith, a, b, k, has_room));
+          ring = ring-of means;
         };
       }
 
   -- Why a submission was refused, by what preparing it left.
-  pub why-refused : (d new : IoUringDriver R B) (steady : Bool) (why : SubmitFault) → new ≡ record d { ring = new.ring; slots = new.slots } → new.slots.values ≡ d.slots.values → Unprepared view steady d.ring new.ring d.slots new.slots why → WhyRefused view buffer steady d new why
-  why-refused d new steady Full same values h = same ∙ ap (λ r. record d { ring = r; slots = new.slots }) h.1 ∙ ap (λ s. record d { slots = s }) h.2
+  pub why-refused : (d new : IoUringDriver R B) (steady : Bool) (why : SubmitFault) →
+      new ≡ record d { ring = new.ring; slots = new.slots } → new.slots.values ≡ d.slots.values →
+      Unprepared view steady d.ring new.ring d.slots new.slots why → WhyRefused view buffer steady d new why
+  why-refused d new steady Full same values h = same ∙ ap (λ r. record d { ring = r; slots = new.slots }) h.1
+      ∙ ap (λ s. record d { slots = s }) h.2
   why-refused d new steady RingFault same values h = (h.1, h.2, h.3)
   why-refused d new steady Busy same values h = (h.1, h.2, h.3)
-  why-refused d new steady OutOfMemory same values h = λ L old. stands-same view buffer d new L _ h.1.ring h.1.due h.1.room values (ap (λ x. x.given) same) (ap (λ x. x.first) same) (ap (λ x. x.held) same) old
+  why-refused d new steady OutOfMemory same values h = λ L old. stands-same view buffer d new L _ h.1.ring h.1.due h.1.room values
+      (ap (λ x. x.given) same) (ap (λ x. x.first) same) (ap (λ x. x.held) same) old
 
   -- Where memory ran out the ring has other room at most.
-  pub same-room : (d new : IoUringDriver R B) (steady : Bool) (why : SubmitFault) → Unprepared view steady d.ring new.ring d.slots new.slots why → why ≡ OutOfMemory → IsSameRing view d new
+  pub same-room : (d new : IoUringDriver R B) (steady : Bool) (why : SubmitFault) →
+      Unprepared view steady d.ring new.ring d.slots new.slots why → why ≡ OutOfMemory → IsSameRing view d new
   same-room d new steady Full h e = (let f : ⊥ = cc in absurd f)
   same-room d new steady RingFault h e = (let f : ⊥ = cc in absurd f)
   same-room d new steady Busy h e = (let f : ⊥ = cc in absurd f)
   same-room d new steady OutOfMemory h e = record { ring = h.1.ring; due = h.1.due }
 
 -- The entry that joined is that of the new token's call.
-pub entry-is : {B : Type 0} (buffer : B → Buffer) (request : Request B Parts) (old new : List Entry) (op : Op) (word serial : ℕ) (call : Call) → word ≡ op.key → serial ≡ op.number → call ≡ call_of (plain_request buffer request) →
-    PendingMoves old new (record { word = word; serial = serial; body = Calls call } ∷ []) → PendingMoves old new (call_for op (call_of (plain_request buffer request)) ∷ [])
+pub entry-is : {B : Type 0} (buffer : B → Buffer) (request : Request B Parts) (old new : List Entry) (op : Op) (word serial : ℕ)
+    (call : Call) → word ≡ op.key → serial ≡ op.number → call ≡ call_of (plain_request buffer request) →
+    PendingMoves old new (record { word = word; serial = serial; body = Calls call } ∷ []) →
+    PendingMoves old new (call_for op (call_of (plain_request buffer request)) ∷ [])
 entry-is buffer request old new op word serial call key number calls moves =
-    subst (λ w. PendingMoves old new (record { word = w; serial = op.number; body = Calls (call_of (plain_request buffer request)) } ∷ [])) key
-    (subst (λ n. PendingMoves old new (record { word = word; serial = n; body = Calls (call_of (plain_request buffer request)) } ∷ [])) number
+    subst (λ w. PendingMoves old new (record {
+      word = w;
+      serial = op.number;
+      body = Calls (call_of (plain_request buffer request));
+    } ∷ [])) key
+    (subst (λ n. PendingMoves old new (record {
+      word = word;
+      serial = n;
+      body = Calls (call_of (plain_request buffer request));
+    } ∷ [])) number
     (subst (λ c. PendingMoves old new (record { word = word; serial = serial; body = Calls c } ∷ [])) calls moves))
 
 -- A token that was added to the slots that were there before is added.
-pub adds-over : {B : Type 0} (old mid new : Ops B) (op : Op) → mid.slots.values ≡ old.slots.values → mid.given ≡ old.given → AddsToken mid new op → AddsToken old new op
+pub adds-over : {B : Type 0} (old mid new : Ops B) (op : Op) → mid.slots.values ≡ old.slots.values → mid.given ≡ old.given →
+    AddsToken mid new op → AddsToken old new op
 adds-over old mid new op same given adds = record {
   this = adds.this;
   kept = λ other holds. adds.kept other (subst (λ m. number_at m other.key ≡ Some (number_of other)) (sym same) holds);
@@ -186,11 +239,13 @@ adds-over old mid new op same given adds = record {
 }
 
 -- What a submission put in the slots, over those that were there before.
-pub put-over : {B : Type 0} (old mid new : Ops B) (request : Request B Parts) (op : Op) → mid.slots.values ≡ old.slots.values → mid.given ≡ old.given → Submits mid new request op → Submits old new request op
+pub put-over : {B : Type 0} (old mid new : Ops B) (request : Request B Parts) (op : Op) → mid.slots.values ≡ old.slots.values →
+    mid.given ≡ old.given → Submits mid new request op → Submits old new request op
 put-over old mid new request op same given puts = record {
   free = sym (ap (λ m. get m op.key) same) ∙ puts.free;
   below = puts.below;
   number = puts.number ∙ given;
-  slots = puts.slots ∙ ap (λ m. insert m op.key (new_slot mid request)) same ∙ ap (λ n. insert old.slots.values op.key (record { serial = n; request = request; life = Fresh })) given;
+  slots = puts.slots ∙ ap (λ m. insert m op.key (new_slot mid request)) same
+      ∙ ap (λ n. insert old.slots.values op.key (record { serial = n; request = request; life = Fresh })) given;
   given = puts.given ∙ ap (λ n. n + 1) given;
 }

@@ -23,7 +23,7 @@ use Rattle.ring_core.specs.Step.{with_new_op}
 use Rattle.driver_core.specs.declared.slot.Slot.{Slot}
 use Rattle.driver_core.specs.Slots.{SlotFor, SlotsStand}
 use Rattle.uring_driver.specs.Lists.{EntryFor, CompletionFor, IsAt, IsFlown, QueuedFor, CancelsMean, ListsStand, is_call, queued_of}
-use Rattle.uring_driver.specs.Stands.{Means}
+use Rattle.uring_driver.proofs.Means.{Means}
 use Rattle.driver_core.proofs.Lists.{some, same-or-not, get-pushed, get-front, get-last}
 use Rattle.driver_core.proofs.Maps.{put-same, put-other, len-new}
 use Rattle.driver_core.proofs.Counts.{where-more}

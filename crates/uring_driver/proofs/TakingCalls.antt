@@ -19,7 +19,7 @@ use Rattle.ring_core.proofs.Amended.{get-amended-same, get-amended-other}
 use Rattle.driver_core.specs.declared.slot.Slot.{Slot}
 use Rattle.driver_core.specs.Slots.{SlotFor, life_of, is_early}
 use Rattle.uring_driver.specs.Lists.{EntryFor, IsAt, IsFlown, FlightFor, Meets, ListsStand, is_call, queued_of, item_in, item_of}
-use Rattle.uring_driver.specs.Stands.{Means}
+use Rattle.uring_driver.proofs.Means.{Means}
 use Rattle.driver_core.proofs.Lists.{some, get-pushed}
 use Rattle.driver_core.proofs.Counts.{where-same}
 use Rattle.uring_driver.proofs.Kept.{call-queued, call-flown, queued-kept, flight-kept, done-kept, flown-at}

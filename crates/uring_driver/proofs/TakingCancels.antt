@@ -23,7 +23,7 @@ use Rattle.ring_core.proofs.Amended.{get-amended-same, get-amended-other}
 use Rattle.driver_core.specs.declared.slot.Slot.{Slot}
 use Rattle.driver_core.specs.Slots.{SlotFor, SlotsStand}
 use Rattle.uring_driver.specs.Lists.{IsAt, IsFlown, FlightFor, DoneFor, Meets, ListsStand, is_call, names_slot, queued_of, item_of}
-use Rattle.uring_driver.specs.Stands.{Means}
+use Rattle.uring_driver.proofs.Means.{Means}
 use Rattle.driver_core.proofs.Lists.{same-or-not, map-get, get-pushed, amended-absent}
 use Rattle.uring_driver.proofs.Kept.{cancel-queued, queued-kept, flight-kept, done-kept, done-reserved}
 use Rattle.driver_core.proofs.Slots.{slots-amended}

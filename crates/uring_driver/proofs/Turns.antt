@@ -1,7 +1,7 @@
 -- Completions treated one by one, and a turn.
 use Rattle.std.proofs.Common.{◌≡◌, inl, inr, ℕ, Bool, true, false, List, [], ◌∷◌, ◌++◌, ◌+◌, length, Option, Some, None, refl, sym, ◌∙◌, ap}
 use Rattle.std.proofs.Common.{subst, arith, flat_map}
-use Rattle.std.specs.Prelude.{slice_get, nat_lt, ◌&&◌, ◌==◌, if◌then◌else◌, not}
+use Rattle.std.specs.Prelude.{slice_get, nat_lt, ◌&&◌, ◌==◌, if◌then◌else◌, not, take, drop}
 use Rattle.std.specs.Ordering.{nat_cmp}
 use Rattle.std.specs.FinMap.{FinMap, get}
 use Rattle.rent_buf.specs.Buffer.{Buffer}
@@ -23,11 +23,12 @@ use Rattle.driver_core.specs.declared.slot.Slot.{Slot}
 use Rattle.uring_driver.specs.declared.uring.IoUringDriver.{IoUringDriver}
 use Rattle.uring_driver.specs.Uring.{ring_in, room_in, pending, whole_ring, is_among}
 use Rattle.uring_driver.specs.Submissions.{room_made}
-use Rattle.uring_driver.specs.Stands.{Means, Stands, Answers}
+use Rattle.uring_driver.specs.Stands.{Stands, Answers}
 use Rattle.uring_driver.specs.Reap.{TookOff, Treated, treat_first, treat_each, slots_once}
-use Rattle.uring_driver.specs.Turned.{reaped_out}
+use Rattle.uring_driver.specs.Turned.{taken_front, reaped_out}
 use Rattle.driver_core.specs.Slot.{named_by}
 use Rattle.uring_driver.specs.Lists.{done_items_of}
+use Rattle.uring_driver.proofs.Means.{Means, means-of, ring-of}
 use Rattle.uring_driver.proofs.Reaping.{Names, means-reserved, names-first, first-done, means-first, ended}
 use Rattle.driver_core.proofs.Lists.{same-or-not, amended-absent, amended-like}
 use Rattle.driver_core.proofs.Counts.{where-all}
@@ -67,7 +68,7 @@ task-by true o = refl
 task-by false o = refl
 
 -- A test and one that fails.
-and-false : (b : Bool) → (b && false) ≡ false
+pub and-false : (b : Bool) → (b && false) ≡ false
 and-false true = refl
 and-false false = refl
 
@@ -221,6 +222,11 @@ length-reap_each : (L : Ledger) (items : List Item) → length (reap_each L item
 length-reap_each L [] = refl
 length-reap_each L (item ∷ items) = length-reap_each (reap_one L item) items ∙ length-reap_one L item
 
+-- What a turn of the first entries treats keeps how many operations there are.
+pub length-front : (count : ℕ) (L : Ledger) → length (reaped_out (taken_front count L)).ops ≡ length L.ops
+length-front count L = length-reap_each (record (taken_front count L) { done = [] }) (taken_front count L).done
+    ∙ length-take_each (record L { queue = drop count L.queue }) (take count L.queue)
+
 -- Reaps keep the handles.
 world-reap_each : (L : Ledger) (items : List Item) → (reap_each L items).world ≡ L.world
 world-reap_each L [] = refl
@@ -285,6 +291,7 @@ module _ {R B : Type 0} (view : R → RingView) (buffer : B → Buffer) where
       ∙ length-take_each (record L { queue = [] }) L.queue in
       let world : K.world ≡ L.world = world-reap_each (record M { done = [] }) M.done ∙ world-take_each (record L { queue = [] }) L.queue in
       let e = step-turn L in
+      let means = subst (λ x. Means buffer (whole_ring view new) x K) (sym slots) ends.means in
       record {
         reply_is = ap (λ x. x.1) e ∙ ap (λ x. TurnReply x [] (tasks_woken M.ops (ops_in M.done))) (sym ends.named)
             ∙ ap (λ x. TurnReply all.reaped x (tasks_woken M.ops (ops_in M.done))) (sym c0)
@@ -293,16 +300,16 @@ module _ {R B : Type 0} (view : R → RingView) (buffer : B → Buffer) where
           events = old.events ++ Turn ∷ [];
           reached = sym (ap (λ x. x.0) e)
               ∙ reached-more L (view (ring_in new)).capacity old.events Turn (old.reached
-              ∙ ap (λ x. ledger x old.events) (old.means.capacity
+              ∙ ap (λ x. ledger x old.events) (old.ring.capacity
               ∙ sym (capacity-reap_each (record M { done = [] }) M.done ∙ capacity-take_each (record L { queue = [] }) L.queue)
               ∙ sym ends.means.capacity));
-          numbered = given ∙ old.numbered ∙ sym long;
+          operations = record { numbered = given ∙ old.operations.numbered ∙ sym long; in_slots = means.in_slots };
           handles = λ h. ap (λ k. is_among k new.held h) first ∙ ap (λ k. is_among d.first k h) held ∙ old.handles h
               ∙ ap (λ xs. nat_lt h (length xs)) (sym world);
           room = (let a = owned-reap_each (record M { done = [] }) M.done in
-              let b = owned-taken buffer (whole_ring view d) d.slots.values L old.means in
+              let b = owned-taken buffer (whole_ring view d) d.slots.values L (means-of old) in
               let c = ap (λ x. length (numbers_where is_owned 0 x.0.ops)) e in let r = old.room in omega (arith, a, b, c, r, room));
           fits = (let n = ap length none in omega (arith, n));
-          means = subst (λ x. Means buffer (whole_ring view new) x K) (sym slots) ends.means;
+          ring = ring-of means;
         });
       }

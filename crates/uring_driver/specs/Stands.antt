@@ -10,17 +10,17 @@ use Rattle.ring_core.specs.Ledger.{Ledger, is_owned, user_holds}
 use Rattle.ring_core.specs.Run.{ledger}
 use Rattle.ring_core.specs.Ring.{RingView}
 use Rattle.driver_core.specs.declared.slot.Slot.{Slot}
-use Rattle.uring_driver.specs.declared.uring.IoUringDriver.{IoUringDriver}
-use Rattle.uring_driver.specs.Uring.{ring_in, room_in, pending, whole_ring, given_by, holds_handle}
-use Rattle.driver_core.specs.Slots.{SlotsStand}
+use Rattle.driver_core.specs.Operations.{OperationsStand}
 use Rattle.driver_core.specs.Answers.{Answers as AnswersBy}
+use Rattle.uring_driver.specs.declared.uring.IoUringDriver.{IoUringDriver}
+use Rattle.uring_driver.specs.Uring.{ring_in, room_in, pending, whole_ring, holds_handle}
+use Rattle.uring_driver.specs.Op.{ops_in}
 use Rattle.uring_driver.specs.Lists.{ListsStand}
 
--- A ring and slots mean a ledger: its capacity, what stands on its handles, its operations by their slots, and its lists.
-pub record Means {B : Type 0} (buffer : B → Buffer) (view : RingView) (slots : map.FinMap nat_cmp (Slot B)) (L : Ledger) : Type 0 where
+-- A ring, read with the slots that its words are keys of, means a ledger's capacity, its handles and its lists.
+pub record RingStands {B : Type 0} (buffer : B → Buffer) (slots : map.FinMap nat_cmp (Slot B)) (view : RingView) (L : Ledger) : Type 0 where
   pub capacity : view.capacity ≡ L.capacity
   pub world : view.world ≡ L.world
-  pub in_slots : SlotsStand buffer slots L.ops
   pub in_lists : ListsStand buffer slots view L
 
 -- For how many entries memory is owed to calls that take none: a cancel of each operation that its user may drop.
@@ -28,16 +28,16 @@ abbrev pub owed : Ledger → ℕ
 owed L = length (numbers_where is_owned 0 L.ops)
 
 -- A driver stands for a ledger that some events led to, from the empty one of its ring's capacity. `view` reads its ring, and
--- `buffer` its buffers. Its ring's queue, followed by what is due, is the ledger's queue, and fits the ring's. The next operation
--- has the next number, and the user holds the ledger's handles. There is room for what is owed.
+-- `buffer` its buffers. Its operations stand for the ledger's, and the user holds the ledger's handles. There is room for what is
+-- owed. Its ring's queue, followed by what is due, is the ledger's queue, and fits the ring's.
 pub record Stands {R B : Type 0} (view : R → RingView) (buffer : B → Buffer) (driver : IoUringDriver R B) (L : Ledger) : Type 0 where
   pub events : List Event
   pub reached : L ≡ ledger (view (ring_in driver)).capacity events
-  pub numbered : given_by driver ≡ length L.ops
+  pub operations : OperationsStand buffer (ops_in driver) L.ops
   pub handles : (h : ℕ) → holds_handle driver h ≡ user_holds L h
   pub room : owed L ≤ room_in driver
   pub fits : length (pending view driver) ≤ (view (ring_in driver)).capacity
-  pub means : Means buffer (whole_ring view driver) driver.slots.values L
+  pub ring : RingStands buffer driver.slots.values (whole_ring view driver) L
 
 -- A call's answer is the machine's reply to its event, and the driver stands for the machine's next ledger.
 abbrev pub Answers : {R B : Type 0} → (R → RingView) → (B → Buffer) → Ledger → Event → Reply → IoUringDriver R B → Type 0

@@ -12,11 +12,12 @@ use Rattle.ring_core.specs.Ring.{RingView}
 use Rattle.driver_core.specs.declared.op.Stop.{Stop}
 use Rattle.driver_core.specs.declared.op.Stop.TheVariants.{RingFault, Busy, BadCompletion, OutOfMemory}
 use Rattle.driver_core.specs.declared.op.Turned.{Turned}
+use Rattle.driver_core.specs.Operations.{OperationsStand}
 use Rattle.uring_driver.specs.declared.uring.IoUringDriver.{IoUringDriver}
 use Rattle.uring_driver.specs.Uring.{ring_in, due_in, pending, whole_ring, given_by}
-use Rattle.uring_driver.specs.Op.{KeepsTokens}
+use Rattle.uring_driver.specs.Op.{KeepsTokens, ops_in as operations_in}
 use Rattle.uring_driver.specs.Submissions.{PendingMoves, TakesFront}
-use Rattle.uring_driver.specs.Stands.{Means, Stands, Answers}
+use Rattle.uring_driver.specs.Stands.{RingStands, Stands, Answers}
 use Rattle.uring_driver.specs.Reap.{IsStray, treat_each}
 use Rattle.uring_driver.specs.Submitted.{SameSlots}
 
@@ -48,7 +49,13 @@ StopsFor view old new turned (Some OutOfMemory) = (new ≡ old) × TreatsNone ol
 pub record TreatsReady {R B : Type 0} (view : R → RingView) (old new : IoUringDriver R B) (turned : Turned) (bad : Option ℕ) : Type 0 where
   pub mid : RingView
   pub front : TakesFront (whole_ring view old) mid
-  pub treated : treat_each old.slots.values mid.done ≡ record { slots = new.slots.values; reaped = turned.reaped; woken = turned.woken; bad = bad; left = (view (ring_in new)).done }
+  pub treated : treat_each old.slots.values mid.done ≡ record {
+    slots = new.slots.values;
+    reaped = turned.reaped;
+    woken = turned.woken;
+    bad = bad;
+    left = (view (ring_in new)).done;
+  }
 
 -- What a turn treated, by why it stopped: at a bad completion as at none.
 abbrev pub TreatsFor : {R B : Type 0} → (R → RingView) → IoUringDriver R B → IoUringDriver R B → Turned → Option Stop → Type 0
@@ -66,18 +73,21 @@ taken_front count L = take_each (record L { queue = drop count L.queue }) (take 
 abbrev pub reaped_out : Ledger → Ledger
 reaped_out L = reap_each (record L { done = [] }) L.done
 
--- What a turn treated that took only the first entries of the queue: the machine's operations and tasks are named, and the ring and
--- the slots mean the machine's ledger.
-pub record TurnsFront {R B : Type 0} (view : R → RingView) (buffer : B → Buffer) (L : Ledger) (new : IoUringDriver R B) (turned : Turned) : Type 0 where
+-- What a turn treated that took only the first entries of the queue: the machine's operations and tasks are named, and the driver's
+-- operations and its ring stand for the machine's ledger.
+pub record TurnsFront {R B : Type 0} (view : R → RingView) (buffer : B → Buffer) (L : Ledger) (new : IoUringDriver R B)
+    (turned : Turned) : Type 0 where
   pub count : ℕ
   pub within : count ≤ length L.queue
   pub reaped : turned.reaped ≡ ops_in (taken_front count L).done
   pub woken : turned.woken ≡ tasks_woken (taken_front count L).ops (ops_in (taken_front count L).done)
-  pub means : Means buffer (whole_ring view new) new.slots.values (reaped_out (taken_front count L))
+  pub operations : OperationsStand buffer (operations_in new) (reaped_out (taken_front count L)).ops
+  pub ring : RingStands buffer new.slots.values (whole_ring view new) (reaped_out (taken_front count L))
 
 -- A turn of a driver that stands for a ledger answers what the machine does, or ran out of memory and changed nothing.
 -- Its completions are never bad. Only a ring that isn't steady makes it stop otherwise; a busy one that took a prefix of the queue.
-abbrev pub TurnsFor : {R B : Type 0} → (R → RingView) → (B → Buffer) → Bool → Ledger → IoUringDriver R B → IoUringDriver R B → Turned → Option Stop → Type 0
+abbrev pub TurnsFor : {R B : Type 0} → (R → RingView) → (B → Buffer) → Bool → Ledger → IoUringDriver R B → IoUringDriver R B → Turned →
+    Option Stop → Type 0
 TurnsFor view buffer steady L old new turned None = Answers view buffer L Turn (TurnReply turned.reaped turned.closed turned.woken) new
 TurnsFor view buffer steady L old new turned (Some RingFault) = IsTrue steady → ⊥
 TurnsFor view buffer steady L old new turned (Some Busy) = (IsTrue steady → ⊥) × TurnsFront view buffer L new turned
@@ -85,7 +95,8 @@ TurnsFor view buffer steady L old new turned (Some (BadCompletion word)) = ⊥
 TurnsFor view buffer steady L old new turned (Some OutOfMemory) = new ≡ old
 
 -- What every turn of the completion driver does, a park's too.
-pub record TurnMeets {R B : Type 0} (view : R → RingView) (buffer : B → Buffer) (tells steady : Bool) (old new : IoUringDriver R B) (turned : Turned) : Type 0 where
+pub record TurnMeets {R B : Type 0} (view : R → RingView) (buffer : B → Buffer) (tells steady : Bool) (old new : IoUringDriver R B)
+    (turned : Turned) : Type 0 where
   -- Over each ring that tells its lists the answer is the machine's, and no completion is bad.
   pub turns : IsTrue tells → (L : Ledger) → Stands view buffer old L → TurnsFor view buffer steady L old new turned turned.stop
   pub stops : StopsFor view old new turned turned.stop

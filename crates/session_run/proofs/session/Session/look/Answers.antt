@@ -8,7 +8,11 @@ returns-then-not-user_holds c = λ L stands. answers-refused c.args.self.now _ L
     (cause-look L c.args.h (sym (stands.driver.handles c.args.h) ∙ sym c.user_holds.ensures ∙ c.if-not-user_holds.true)) refl refl
 
 pub returns-in-Ok : goal.returns-in-Ok
-returns-in-Ok c = λ L stands. answers-looked c.args.self.now L c.args.h c.in-Ok.look _ stands c.shown_by.ensures (c.in-Ok.ensures.answers L stands.driver)
+returns-in-Ok c = λ L stands. answers-looked c.args.self.now L c.args.h c.in-Ok.look _ stands c.shown_by.ensures
+    (c.in-Ok.ensures.answers L stands.driver)
 
 pub returns-in-Err : goal.returns-in-Err
-returns-in-Err c = λ L stands. record { stands = stands; unrefused = unrefused-look L c.args.h (sym (stands.driver.handles c.args.h) ∙ sym c.user_holds.ensures ∙ c.if-not-user_holds.false) }
+returns-in-Err c = λ L stands. record {
+  stands = stands;
+  unrefused = unrefused-look L c.args.h (sym (stands.driver.handles c.args.h) ∙ sym c.user_holds.ensures ∙ c.if-not-user_holds.false);
+}
