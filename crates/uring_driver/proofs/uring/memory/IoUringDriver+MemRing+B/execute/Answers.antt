@@ -51,10 +51,10 @@ returns-clause-answers g c =
 
 pub returns-clause-executes : goal.returns-clause-executes
 returns-clause-executes g c = rw (← c.self.view_is) (record {
-    completion = c.in-Ok.completion;
-    numbered = refl;
-    executed = executed-at g.B.IoBufMut.buffer (around g.B.IoBufMut.under g.B.IoBufMut.beside) c.in-Ok.ensures.executes;
-  })
+  completion = c.in-Ok.completion;
+  numbered = refl;
+  executed = executed-at g.B.IoBufMut.buffer (around g.B.IoBufMut.under g.B.IoBufMut.beside) c.in-Ok.ensures.executes;
+})
 
 pub returns-clause-surroundings : goal.returns-clause-surroundings
 returns-clause-surroundings g c =
