@@ -86,7 +86,7 @@ pub drop-requests : {B : Type 0} (old new : FinMap nat_cmp (Slot B)) (op : Op) (
 drop-requests old new op Left holds drops =
     let o = owner old op.key op.number holds in
     subst (λ m. StaysHeld request_in old m) (sym (drops o.slot o.there).1)
-        (stays-put request_in old op.key o.slot (with_life o.slot Ignored) o.there refl)
+    (stays-put request_in old op.key o.slot (with_life o.slot Ignored) o.there refl)
 drop-requests old new op Free holds drops =
     let o = owner old op.key op.number holds in
     subst (λ m. StaysHeld request_in old m) (sym (drops o.slot o.there).1) (stays-gone request_in old op.key)

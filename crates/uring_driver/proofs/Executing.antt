@@ -63,7 +63,7 @@ executed-slot : {B : Type 0} (buffer : B → Buffer) (before after : Ops B) (key
     IsExecutedSlot buffer before.slots.values after.slots.values key r told got slot
 executed-slot buffer before after key r told got slot there is fits true brings stored =
     let filled = filled-where-fits buffer before.slots.values after.slots.values key got slot stored.fills there
-        (subst (λ x. length got ≤ room_of x) (sym is) fits) in
+    (subst (λ x. length got ≤ room_of x) (sym is) fits) in
     record {
       now = filled.after;
       changed = filled.slots;

@@ -12,4 +12,4 @@ returns-then-fits_in-clause-numbers g c =
 pub returns-then-fits_in-clause-surroundings : goal.returns-then-fits_in-clause-surroundings
 returns-then-fits_in-clause-surroundings g c =
     stays-put (surroundings_in (around g.B.IoBufMut.under g.B.IoBufMut.beside)) c.args.slots.now.values c.args.key
-        c.value_mut-slot.result.now _ c.value_mut-slot.ensures.value c.store.ensures.surroundings
+    c.value_mut-slot.result.now _ c.value_mut-slot.ensures.value c.store.ensures.surroundings

@@ -33,7 +33,7 @@ pub returns-clause-request : goal.returns-clause-request
 returns-clause-request g c =
     let slot : Slot g.row.B.Denot = record { serial = c.self.inside.given; request = c.args.request; life = Submitted } in
     request-added c.self.inside.slots.values c.insert.new.self.values c.in-Ok.key c.make-op.result.key slot c.in-Ok.ensures.ok
-        (ap (λ o. o.key) c.make-op.ensures)
+    (ap (λ o. o.key) c.make-op.ensures)
 
 pub returns-clause-requests : goal.returns-clause-requests
 returns-clause-requests g c =

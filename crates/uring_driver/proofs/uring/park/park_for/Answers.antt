@@ -8,4 +8,4 @@ returns-in-Ok-clause-turns g c = c.end_turn-turned.ensures.meets c.args.driver.n
 pub returns-in-Ok-clause-keeps : goal.returns-in-Ok-clause-keeps
 returns-in-Ok-clause-keeps g c =
     subst (λ slots. StaysHeld request_in slots c.end_turn-turned.new.self.slots.values) c.in-Ok.ensures.ok.same.slots
-        c.end_turn-turned.ensures.requests
+    c.end_turn-turned.ensures.requests

@@ -9,4 +9,5 @@ returns-in-Some-clause-ring g c = (c.loop-i.i + 1, took-on c.loop-i.i 1 _ _ _ c.
 
 pub returns-in-Some-clause-requests : goal.returns-in-Some-clause-requests
 returns-in-Some-clause-requests g c =
-    stays-on request_in c.args.ops.now.slots.values c.loop-i.ops.slots.values c.reap_one.new.ops.slots.values c.loop-i.invariant.numbers c.loop-i.invariant.requests c.reap_one.ensures.requests
+    stays-on request_in c.args.ops.now.slots.values c.loop-i.ops.slots.values c.reap_one.new.ops.slots.values
+    c.loop-i.invariant.numbers c.loop-i.invariant.requests c.reap_one.ensures.requests

@@ -47,14 +47,15 @@ returns-clause-answers g c =
     let d : State RingView g.row.B.Denot = record { ring = c.self.inside.ring; slots = c.self.inside.ops.slots; given = c.self.inside.ops.given; first = c.self.inside.first; held = c.self.inside.held } in
     rw (← c.self.view_is) (
     λ L stands. stands-executes g.B.IoBufMut.buffer d L c.args.place c.args.told stands _ c.in-Ok.completion
-    (executed-at g.B.IoBufMut.buffer (around g.B.IoBufMut.under g.B.IoBufMut.beside) c.in-Ok.ensures.executes) c.in-Ok.ensures.due c.in-Ok.ensures.room refl refl)
+    (executed-at g.B.IoBufMut.buffer (around g.B.IoBufMut.under g.B.IoBufMut.beside) c.in-Ok.ensures.executes)
+    c.in-Ok.ensures.due c.in-Ok.ensures.room refl refl)
 
 pub returns-clause-executes : goal.returns-clause-executes
 returns-clause-executes g c = rw (← c.self.view_is) (record {
-    completion = c.in-Ok.completion;
-    numbered = refl;
-    executed = executed-at g.B.IoBufMut.buffer (around g.B.IoBufMut.under g.B.IoBufMut.beside) c.in-Ok.ensures.executes;
-  })
+  completion = c.in-Ok.completion;
+  numbered = refl;
+  executed = executed-at g.B.IoBufMut.buffer (around g.B.IoBufMut.under g.B.IoBufMut.beside) c.in-Ok.ensures.executes;
+})
 
 pub returns-clause-surroundings : goal.returns-clause-surroundings
 returns-clause-surroundings g c =
