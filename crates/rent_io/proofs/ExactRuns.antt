@@ -5,11 +5,11 @@ use Rattle.std.specs.Prelude.{IsTrue, Result, Ok, Err}
 use Rattle.std.proofs.lemmas.List.{length-take, length-drop}
 use Rattle.rent_buf.specs.Buffer.{Buffer, BufferBounds, room, put, shown}
 use Rattle.rent_buf.specs.declared.fault.IoFault.{IoFault}
-use Rattle.rent_io.specs.Counts.{Rose}
+use Rattle.rent_io.specs.Counts.{AfterCall, Rose}
 use Rattle.rent_io.specs.Reader.{Reader}
 use Rattle.rent_io.specs.ReadExact.{Filling, lacks, with_more, filled_with, GoesOn, IsFilled, EndsEarly, IsExactEnd, Paused}
-use Rattle.rent_io.specs.Runs.{HasFilled, StopsFilling, ExactRunEnd}
-use Rattle.rent_io.proofs.Runs.{rose_later, front_twice, front_paused}
+use Rattle.rent_io.specs.Runs.{AreUsed, HasFilled, StopsFilling, ExactRunEnd}
+use Rattle.rent_io.proofs.Runs.{rose_later, front_twice, front_paused, used_paused, used_moved}
 use Rattle.rent_io.proofs.Stored.{more_twice, filled_twice, nothing_behind, room_more}
 
 -- What is lacking behind u.
@@ -91,3 +91,14 @@ fill_ends tells before mid now f g back (Err fault) bound stay has end =
 pub filled_within : (b : Buffer) (n : ℕ) → BufferBounds b → n ≤ length (shown b) → b.begin + n ≤ length b.bytes
 filled_within b n bounds among =
     omega (arith, bounds.within, among, length-drop b.begin (take b.end b.bytes), length-take b.end b.bytes)
+
+-- Each poll of an exact read that goes on is used.
+pub fill_used : (tells : Bool) (before mid now : Reader) (k : ℕ) (f g next : Filling)
+    → AreUsed k f.filled g.filled before.counts mid.counts → AfterCall mid.counts now.counts
+    → Paused tells mid now g next ⊎ GoesOn tells mid.left now.left g next → AreUsed (k + 1) f.filled next.filled before.counts now.counts
+fill_used tells before mid now k f g next used call (inl paused) =
+    let same : next.filled ≡ g.filled = ap (λ (x : Filling). x.filled) paused.0 in
+    used_paused k f.filled g.filled f.filled next.filled before.counts mid.counts now.counts used (omega (arith, same)) paused.2
+fill_used tells before mid now k f g next used call (inr goes) =
+    let more : next.filled ≡ g.filled + length goes.got = ap (λ x. x.filled) goes.is_next in
+    used_moved k f.filled g.filled f.filled next.filled before.counts mid.counts now.counts used (omega (arith, goes.some, more)) call.pauses_stay

@@ -4,12 +4,14 @@ use Rattle.std.proofs.Common.{append_assoc, append-nil, length-append}
 use Rattle.std.specs.Prelude.{◌≢◌, IsTrue, Result, Ok, Err}
 use Rattle.std.proofs.lemmas.List.Elements.{All-append}
 use Rattle.rent_buf.specs.declared.fault.IoFault.{IoFault}
+use Rattle.rent_io.specs.Counts.{AfterCall}
 use Rattle.rent_io.specs.Reader.{Reader, WasFront}
 use Rattle.rent_io.specs.ReadExact.{Paused}
 use Rattle.rent_io.specs.ReadUntil.{Until, Lacks, IsLine, ReadsOn, IsUntilEnd}
 use Rattle.rent_io.specs.ReadLine.{Lining, TextOf, LineGoesOn, HasLine, LineFails}
 use Rattle.rent_io.specs.LineRuns.{IsWholeLine, HasAdded, UntilRunEnd, HasLined, EndsLine, StopsLine}
-use Rattle.rent_io.proofs.Runs.{rose_later, front_twice, front_paused}
+use Rattle.rent_io.specs.Runs.{AreUsed}
+use Rattle.rent_io.proofs.Runs.{rose_later, front_twice, front_paused, used_paused, used_moved}
 
 -- Bytes without a delimiter, and then others without it.
 lacks_both : (d : ℕ) (u v : List ℕ) → Lacks d u → Lacks d v → Lacks d (u ++ v)
@@ -131,3 +133,26 @@ line_run_ends tells before mid now l g back end stay has (inr failed) = inr (rec
   is_text = subst (λ (x : Lining). TextOf x.text x.added (Err failed.fault) end back) has.is_next failed.is_text;
   front = front_paused tells before.left mid.left now.left has.got has.front failed.same;
 })
+
+-- Each poll of a read up to a delimiter that goes on is used.
+pub until_used : (tells : Bool) (before mid now : Reader) (k : ℕ) (u g next : Until)
+    → AreUsed k u.added g.added before.counts mid.counts → AfterCall mid.counts now.counts
+    → Paused tells mid now g next ⊎ ReadsOn tells mid.left now.left g next → AreUsed (k + 1) u.added next.added before.counts now.counts
+until_used tells before mid now k u g next used call (inl paused) =
+    let same : next.added ≡ g.added = ap (λ (x : Until). x.added) paused.0 in
+    used_paused k u.added g.added u.added next.added before.counts mid.counts now.counts used (omega (arith, same)) paused.2
+until_used tells before mid now k u g next used call (inr goes) =
+    let more : next.added ≡ g.added + length goes.got = ap (λ x. x.added) goes.is_next in
+    used_moved k u.added g.added u.added next.added before.counts mid.counts now.counts used (omega (arith, goes.some, more)) call.pauses_stay
+
+-- Each poll of a read of a line that goes on is used.
+pub line_used : (tells : Bool) (before mid now : Reader) (k : ℕ) (l g next : Lining)
+    → AreUsed k (length l.added) (length g.added) before.counts mid.counts → AfterCall mid.counts now.counts
+    → Paused tells mid now g next ⊎ LineGoesOn tells mid.left now.left g next → AreUsed (k + 1) (length l.added) (length next.added) before.counts now.counts
+line_used tells before mid now k l g next used call (inl paused) =
+    let same : length next.added ≡ length g.added = ap (λ (x : Lining). length x.added) paused.0 in
+    used_paused k (length l.added) (length g.added) (length l.added) (length next.added) before.counts mid.counts now.counts used (omega (arith, same)) paused.2
+line_used tells before mid now k l g next used call (inr goes) =
+    let more : length next.added ≡ length g.added + length goes.got =
+        ap (λ (x : Lining). length x.added) goes.is_next ∙ length-append g.added goes.got in
+    used_moved k (length l.added) (length g.added) (length l.added) (length next.added) before.counts mid.counts now.counts used (omega (arith, goes.some, more)) call.pauses_stay

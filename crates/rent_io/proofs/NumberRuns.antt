@@ -1,13 +1,15 @@
 -- Polls of a read of a number, one behind the other.
 use Rattle.std.proofs.Common.{◌≡◌, ◌∙◌, ℕ, ◌≤◌, ◌⊎◌, inl, inr, List, ◌++◌, Bool, length, sym, ap, arith}
-use Rattle.std.proofs.Common.{append_assoc, length-append}
+use Rattle.std.proofs.Common.{append_assoc, length-append, ◌+◌}
 use Rattle.std.specs.Prelude.{Result, Ok, Err}
 use Rattle.rent_buf.specs.declared.fault.IoFault.{IoFault}
+use Rattle.rent_io.specs.Counts.{AfterCall}
 use Rattle.rent_io.specs.Reader.{Reader}
 use Rattle.rent_io.specs.ReadExact.{Paused}
 use Rattle.rent_io.specs.ReadNumber.{Numbering, HasMore, IsNumberEnd}
 use Rattle.rent_io.specs.LineRuns.{HasDigits, NumberRunEnd}
-use Rattle.rent_io.proofs.Runs.{rose_later, front_twice, front_paused}
+use Rattle.rent_io.specs.Runs.{AreUsed}
+use Rattle.rent_io.proofs.Runs.{rose_later, front_twice, front_paused, used_paused, used_moved}
 
 -- A read of a number that has these bytes too.
 abbrev pub with_digits : Numbering → List ℕ → Numbering
@@ -60,3 +62,15 @@ number_ends tells before mid now value r g (Err fault) stay has failed =
             )
       ];
     }
+
+-- Each poll of a read of a number that goes on is used.
+pub number_used : (tells : Bool) (before mid now : Reader) (k : ℕ) (r g next : Numbering)
+    → AreUsed k (length r.bytes) (length g.bytes) before.counts mid.counts → AfterCall mid.counts now.counts
+    → Paused tells mid now g next ⊎ HasMore tells mid.left now.left g next → AreUsed (k + 1) (length r.bytes) (length next.bytes) before.counts now.counts
+number_used tells before mid now k r g next used call (inl paused) =
+    let same : length next.bytes ≡ length g.bytes = ap (λ (x : Numbering). length x.bytes) paused.0 in
+    used_paused k (length r.bytes) (length g.bytes) (length r.bytes) (length next.bytes) before.counts mid.counts now.counts used (omega (arith, same)) paused.2
+number_used tells before mid now k r g next used call (inr goes) =
+    let more : length next.bytes ≡ length g.bytes + length goes.got =
+        ap (λ (x : Numbering). length x.bytes) goes.is_next ∙ length-append g.bytes goes.got in
+    used_moved k (length r.bytes) (length g.bytes) (length r.bytes) (length next.bytes) before.counts mid.counts now.counts used (omega (arith, goes.some, more)) call.pauses_stay

@@ -1,16 +1,17 @@
 -- Polls of a read into all parts of a vector, one behind the other.
 use Rattle.std.proofs.Common.{◌≡◌, ◌∙◌, ℕ, zero, suc, ◌<◌, ◌≤◌, ◌⊎◌, inl, inr, [], ◌∷◌, ◌++◌, Bool, take, refl, sym, ap, subst, arith}
-use Rattle.std.proofs.Common.{append_assoc, append-nil}
+use Rattle.std.proofs.Common.{append_assoc, append-nil, ◌+◌, length, length-append}
 use Rattle.std.specs.Prelude.{IsTrue, Result, Ok, Err}
 use Rattle.std.proofs.lemmas.List.{take-take}
 use Rattle.rent_buf.specs.Parts.{Parts, part_at, part_put}
 use Rattle.rent_buf.specs.declared.fault.IoFault.{IoFault}
-use Rattle.rent_io.specs.Counts.{Rose}
+use Rattle.rent_io.specs.Counts.{AfterCall, Rose}
 use Rattle.rent_io.specs.Reader.{Reader}
 use Rattle.rent_io.specs.ReadExact.{Paused}
 use Rattle.rent_io.specs.ReadVectoredExact.{Scattering, has_read, read_of, rooms, ScatterGoesOn, ScatterEndsEarly, IsScatterEnd}
 use Rattle.rent_io.specs.ScatterRuns.{HasScattered, StopsScattering, ScatterRunEnd}
-use Rattle.rent_io.proofs.Runs.{rose_later, front_twice, front_paused}
+use Rattle.rent_io.specs.Runs.{AreUsed}
+use Rattle.rent_io.proofs.Runs.{rose_later, front_twice, front_paused, used_paused, used_moved}
 use Rattle.rent_io.proofs.Scatters.{put_rooms}
 
 -- A poll that goes on adds its bytes.
@@ -87,3 +88,15 @@ scatter_ends tells before mid now s g back (Ok n) stay has full = record {
 }
 scatter_ends tells before mid now s g back (Err fault) stay has failed =
     scatter_stops tells before mid now s g back fault stay has failed.0 failed.1
+
+-- Each poll of a read into all parts that goes on is used.
+pub scatter_used : (tells : Bool) (before mid now : Reader) (k : ℕ) (s g next : Scattering)
+    → AreUsed k (length (has_read s)) (length (has_read g)) before.counts mid.counts → AfterCall mid.counts now.counts
+    → Paused tells mid now g next ⊎ ScatterGoesOn tells mid.left now.left g next → AreUsed (k + 1) (length (has_read s)) (length (has_read next)) before.counts now.counts
+scatter_used tells before mid now k s g next used call (inl paused) =
+    let same : length (has_read next) ≡ length (has_read g) = ap (λ (x : Scattering). length (has_read x)) paused.0 in
+    used_paused k (length (has_read s)) (length (has_read g)) (length (has_read s)) (length (has_read next)) before.counts mid.counts now.counts used (omega (arith, same)) paused.2
+scatter_used tells before mid now k s g next used call (inr goes) =
+    let more : length (has_read next) ≡ length (has_read g) + length goes.got =
+        ap length goes.is_read ∙ length-append (has_read g) goes.got in
+    used_moved k (length (has_read s)) (length (has_read g)) (length (has_read s)) (length (has_read next)) before.counts mid.counts now.counts used (omega (arith, goes.some, more)) call.pauses_stay

@@ -1,11 +1,12 @@
 -- Polls of a write of all bytes, one behind the other.
-use Rattle.std.proofs.Common.{◌∙◌, ℕ, ◌≤◌, ◌⊎◌, inl, inr, ◌++◌, Bool, sym, ap, append_assoc}
+use Rattle.std.proofs.Common.{◌∙◌, ℕ, ◌≤◌, ◌⊎◌, inl, inr, ◌++◌, Bool, sym, ap, append_assoc, ◌+◌, arith, length, ◌≡◌, length-append}
 use Rattle.std.specs.Prelude.{Result, Ok, Err}
 use Rattle.rent_buf.specs.declared.fault.IoFault.{IoFault}
+use Rattle.rent_io.specs.Counts.{AfterCall}
 use Rattle.rent_io.specs.Writer.{Writer}
 use Rattle.rent_io.specs.WriteAll.{Sending, SendsOn, WaitsAll, IsAllEnd}
-use Rattle.rent_io.specs.Runs.{HasSent, AllRunEnd}
-use Rattle.rent_io.proofs.Runs.{rose_later}
+use Rattle.rent_io.specs.Runs.{AreUsed, HasSent, AllRunEnd}
+use Rattle.rent_io.proofs.Runs.{rose_later, used_paused, used_moved}
 
 -- A poll that goes on sends the next bytes.
 pub send_goes_on : {T : Type 0} (tells : Bool) (before mid now : Writer) (s g next : Sending T)
@@ -47,3 +48,17 @@ send_ends tells before mid now s g (Err fault) stay has failed = record {
     | inr none ↦ inr none
   ];
 }
+
+-- Each poll of a write of all bytes that goes on is used.
+pub send_used : {T : Type 0} (tells : Bool) (before mid now : Writer) (k : ℕ) (s g next : Sending T)
+    → AreUsed k (length g.rest) (length s.rest) before.counts mid.counts → AfterCall mid.counts now.counts
+    → WaitsAll tells mid now g next ⊎ SendsOn tells mid.delivered now.delivered g next
+    → AreUsed (k + 1) (length next.rest) (length s.rest) before.counts now.counts
+send_used tells before mid now k s g next used call (inl waits) =
+    let same : length next.rest ≡ length g.rest = ap (λ x. length x.rest) waits.0 in
+    used_paused k (length g.rest) (length s.rest) (length next.rest) (length s.rest) before.counts mid.counts now.counts used
+    (omega (arith, same)) waits.2
+send_used tells before mid now k s g next used call (inr sends) =
+    let less : length g.rest ≡ length sends.sent + length next.rest = ap length sends.cut ∙ length-append sends.sent next.rest in
+    used_moved k (length g.rest) (length s.rest) (length next.rest) (length s.rest) before.counts mid.counts now.counts used
+    (omega (arith, sends.some, less)) call.pauses_stay

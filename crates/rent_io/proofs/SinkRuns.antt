@@ -1,10 +1,11 @@
 -- Polls of a send and a flush, one behind the other.
-use Rattle.std.proofs.Common.{◌≡◌, ◌∙◌, ◌≤◌, inl, inr, sym, subst}
-use Rattle.std.specs.Prelude.{Option, None, IsSome, Result, Ok, Err}
+use Rattle.std.proofs.Common.{◌≡◌, ◌∙◌, ℕ, ◌+◌, ◌≤◌, inl, inr, refl, sym, ap, subst, arith}
+use Rattle.std.specs.Prelude.{Option, None, Some, IsSome, Result, Ok, Err}
 use Rattle.rent_io.specs.declared.poll.Step.TheVariants.{Ready}
-use Rattle.rent_io.specs.Counts.{Rose}
-use Rattle.rent_io.specs.ItemSink.{ItemSink, NothingDone, IsTaken, HasSend, SendsAndFlushes, RunsSend}
-use Rattle.rent_io.proofs.Runs.{rose_later}
+use Rattle.rent_io.specs.Counts.{AfterCall, Rose}
+use Rattle.rent_io.specs.ItemSink.{ItemSink, unsent, NothingDone, IsTaken, HasSend, SendsAndFlushes, RunsSend}
+use Rattle.rent_io.specs.Runs.{AreUsed}
+use Rattle.rent_io.proofs.Runs.{rose_later, used_paused, used_moved}
 
 -- An item that was taken stays so where nothing is done.
 taken_stays : {I : Type 0} (before mid now : ItemSink) (item : Option I) → IsTaken before mid item → NothingDone mid now
@@ -50,3 +51,26 @@ sink_ends before mid now item g (Err error) stay (inr was_taken) end =
       rose_later before.counts.faults mid.counts.faults now.counts.faults stay end.1,
       inr (taken_stays before mid now item was_taken.1 end.0),
     )
+
+-- An item that is there is one.
+unsent-some : {I : Type 0} (item : Option I) → IsSome item → unsent item ≡ 1
+unsent-some None some = absurd cc
+unsent-some (Some item) some = refl
+
+-- A poll that waits is used.
+pub waits_used : {I : Type 0} (before mid now : ItemSink) (k : ℕ) (item g next : Option I)
+    → AreUsed k (unsent g) (unsent item) before.counts mid.counts → next ≡ g → Rose mid.counts.pauses now.counts.pauses
+    → AreUsed (k + 1) (unsent next) (unsent item) before.counts now.counts
+waits_used before mid now k item g next used same rose =
+    let stays : unsent next ≡ unsent g = ap unsent same in
+    used_paused k (unsent g) (unsent item) (unsent next) (unsent item) before.counts mid.counts now.counts used (omega (arith, stays)) rose
+
+-- A poll that takes the item is used.
+pub takes_used : {I : Type 0} (before mid now : ItemSink) (k : ℕ) (item g next : Option I)
+    → AreUsed k (unsent g) (unsent item) before.counts mid.counts → IsSome g → next ≡ None → AfterCall mid.counts now.counts
+    → AreUsed (k + 1) (unsent next) (unsent item) before.counts now.counts
+takes_used before mid now k item g next used some none call =
+    let one = unsent-some g some in
+    let gone : unsent next ≡ 0 = ap unsent none in
+    used_moved k (unsent g) (unsent item) (unsent next) (unsent item) before.counts mid.counts now.counts used (omega (arith, one, gone))
+    call.pauses_stay

@@ -1,5 +1,5 @@
 -- What takes items, and what the polls of a send and a flush do.
-use Rattle.std.specs.Prelude.{ℕ, ◌≡◌, ◌⊎◌, Option, None, IsSome, Result, Ok, Err}
+use Rattle.std.specs.Prelude.{ℕ, ◌≡◌, ◌⊎◌, Option, None, Some, IsSome, Result, Ok, Err}
 use Rattle.rent_io.specs.declared.sink.SinkPoll.{SinkPoll}
 use Rattle.rent_io.specs.declared.sink.SinkPoll.TheVariants.{Ready as SendReady, Pending as SendPending}
 use Rattle.rent_io.specs.declared.sink.SinkDone.{SinkDone}
@@ -42,6 +42,11 @@ SendsAndFlushes before now item (Ready (Ok done)) = (item ≡ None) × (now.send
 SendsAndFlushes before now item (Ready (Err error)) = NothingDone before now × Rose before.counts.faults now.counts.faults
 SendsAndFlushes before now item (Pending next) = (next ≡ item) × NothingDone before now × Rose before.counts.pauses now.counts.pauses
 SendsAndFlushes before now item (Again next) = IsSome item × (next ≡ None) × (now.flushes ≡ before.flushes) × Rose before.sends now.sends
+
+-- How many items are to be sent.
+abbrev pub unsent : {I : Type 0} → Option I → ℕ
+unsent None = 0
+unsent (Some item) = 1
 
 -- The item was taken, and nothing was flushed since.
 abbrev pub IsTaken : {I : Type 0} → ItemSink → ItemSink → Option I → Type 0

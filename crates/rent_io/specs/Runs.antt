@@ -1,6 +1,6 @@
 -- What a state has done after many polls: one law for every schedule of pauses, short calls, interrupts and faults. The clause `run` of
 -- each `drive` cites it.
-use Rattle.std.specs.Prelude.{ℕ, ◌≡◌, ◌+◌, ◌<◌, ◌≤◌, ◌⊎◌, Bool, IsTrue, List, [], ◌++◌, length, Result, Ok, Err}
+use Rattle.std.specs.Prelude.{ℕ, ◌≡◌, ◌+◌, ◌-◌, ◌^◌, ◌<◌, ◌≤◌, ◌⊎◌, min, Bool, IsTrue, List, [], ◌++◌, length, Result, Ok, Err}
 use Rattle.rent_buf.specs.Buffer.{Buffer, put}
 use Rattle.rent_buf.specs.Parts.{Parts}
 use Rattle.rent_buf.specs.declared.fault.IoFault.{IoFault}
@@ -18,6 +18,18 @@ pub record AfterCalls (most : ℕ) (before now : Counts) : Type 0 where
   pub faults_stay : before.faults ≤ now.faults
   pub pauses_stay : before.pauses ≤ now.pauses
   pub most_calls : now.calls ≤ before.calls + most
+
+-- Polls that are used up: each one moved a measure on by a byte at least, or made the pauses rise, to the last `u64` at most.
+pub record AreUsed (polls from upto : ℕ) (before now : Counts) : Type 0 where
+  pub paused : ℕ
+  pub each : polls + from ≤ upto + paused
+  pub pauses : min (before.pauses + paused) (2 ^ 64 - 1) ≤ now.pauses
+
+-- A fact of a state that isn't done.
+abbrev pub IfGoesOn : {S R : Type 0} → Step S R → (S → Type 0) → Type 0
+IfGoesOn (Ready end) P = Unit {0}
+IfGoesOn (Pending next) P = P next
+IfGoesOn (Again next) P = P next
 
 -- An exact read that isn't done: the bytes that left the stream stand behind those before them, each once and in order.
 pub record HasFilled (tells : Bool) (left rest : List ℕ) (f next : Filling) : Type 0 where

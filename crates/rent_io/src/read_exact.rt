@@ -2,7 +2,7 @@
 ghost use Rattle.std.specs.Prelude.{◌≡◌, ◌+◌, ◌≤◌, length};
 ghost use Rattle.rent_io.specs.Counts.{AfterCall};
 ghost use Rattle.rent_io.specs.ReadExact.{ReadsExact, filling};
-ghost use Rattle.rent_io.specs.Runs.{AfterCalls, RunsExact};
+ghost use Rattle.rent_io.specs.Runs.{AfterCalls, AreUsed, IfGoesOn, RunsExact};
 
 use crate::async_read_rent::AsyncReadRent;
 use crate::calls::{Plain, ReadCall};
@@ -62,6 +62,7 @@ impl<T: IoBufMut> ReadExact<T> {
         polls: u64,
     ) -> Step<ReadExact<T>, BufResult<usize, T>>
         ensures run { RunsExact A.tells (A.reader io.old) (A.reader io.new) T.buffer T.under T.beside self result }
+        ensures used { IfGoesOn result (λ next. AreUsed polls self.filled next.filled (A.reader io.old).counts (A.reader io.new).counts) }
         ensures counts { AfterCalls polls (A.reader io.old).counts (A.reader io.new).counts }
     {
         self.keeps_bounds();

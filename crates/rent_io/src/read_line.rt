@@ -2,7 +2,7 @@
 ghost use Rattle.std.specs.Prelude.{◌≡◌, ◌≤◌, [], IsUtf8, MatchBool, length, take, drop, string_bytes};
 ghost use Rattle.rent_io.specs.Counts.{AfterCall};
 ghost use Rattle.rent_io.specs.LineRuns.{RunsLine};
-ghost use Rattle.rent_io.specs.Runs.{AfterCalls};
+ghost use Rattle.rent_io.specs.Runs.{AfterCalls, AreUsed, IfGoesOn};
 ghost use Rattle.rent_io.specs.ReadLine.{ReadsLine, TextOf};
 
 use crate::async_buf_read::AsyncBufRead;
@@ -111,6 +111,7 @@ impl ReadLine {
         polls: u64,
     ) -> Step<ReadLine, BufResult<usize, String>>
         ensures run { RunsLine A.tells (A.reader io.old) (A.reader io.new) string_bytes self result }
+        ensures used { IfGoesOn result (λ next. AreUsed polls (length self.added) (length next.added) (A.reader io.old).counts (A.reader io.new).counts) }
         ensures counts { AfterCalls polls (A.reader io.old).counts (A.reader io.new).counts }
     {
         let mut state = self;

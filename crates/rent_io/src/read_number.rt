@@ -1,8 +1,8 @@
 // A read of a number.
-ghost use Rattle.std.specs.Prelude.{◌≡◌, IfOk};
+ghost use Rattle.std.specs.Prelude.{◌≡◌, length, IfOk};
 ghost use Rattle.rent_io.specs.Counts.{AfterCall};
 ghost use Rattle.rent_io.specs.LineRuns.{RunsNumber};
-ghost use Rattle.rent_io.specs.Runs.{AfterCalls};
+ghost use Rattle.rent_io.specs.Runs.{AfterCalls, AreUsed, IfGoesOn};
 ghost use Rattle.rent_io.specs.ReadNumber.{number_of, ReadsNumber};
 
 use crate::async_read_rent::AsyncReadRent;
@@ -72,6 +72,7 @@ impl<N: Number> ReadNumber<N> {
         polls: u64,
     ) -> Step<ReadNumber<N>, Result<N, IoFault>>
         ensures run { RunsNumber A.tells (A.reader io.old) (A.reader io.new) N.value self result }
+        ensures used { IfGoesOn result (λ next. AreUsed polls (length self.bytes) (length next.bytes) (A.reader io.old).counts (A.reader io.new).counts) }
         ensures counts { AfterCalls polls (A.reader io.old).counts (A.reader io.new).counts }
     {
         let mut state = self;

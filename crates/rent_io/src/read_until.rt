@@ -2,7 +2,7 @@
 ghost use Rattle.std.specs.Prelude.{◌≡◌, ◌+◌, ◌<◌, ◌≤◌, length, take, MatchBool};
 ghost use Rattle.rent_io.specs.Counts.{AfterCall};
 ghost use Rattle.rent_io.specs.LineRuns.{RunsUntil};
-ghost use Rattle.rent_io.specs.Runs.{AfterCalls};
+ghost use Rattle.rent_io.specs.Runs.{AfterCalls, AreUsed, IfGoesOn};
 ghost use Rattle.rent_io.specs.ReadUntil.{Lacks, IsLine, ReadsUntil};
 
 use crate::async_buf_read::AsyncBufRead;
@@ -119,6 +119,7 @@ impl ReadUntil {
         polls: u64,
     ) -> Step<ReadUntil, BufResult<usize, ByteList>>
         ensures run { RunsUntil A.tells (A.reader io.old) (A.reader io.new) self result }
+        ensures used { IfGoesOn result (λ next. AreUsed polls self.added next.added (A.reader io.old).counts (A.reader io.new).counts) }
         ensures counts { AfterCalls polls (A.reader io.old).counts (A.reader io.new).counts }
     {
         let mut state = self;

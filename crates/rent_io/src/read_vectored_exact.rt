@@ -2,8 +2,8 @@
 ghost use Rattle.std.specs.Prelude.{◌≡◌, ◌<◌, ◌≤◌, length, IsOk, IfOk};
 ghost use Rattle.rent_buf.specs.Parts.{part_at};
 ghost use Rattle.rent_io.specs.Counts.{AfterCall};
-ghost use Rattle.rent_io.specs.ReadVectoredExact.{AreFullBefore, ReadsScattered, read_of, scattering};
-ghost use Rattle.rent_io.specs.Runs.{AfterCalls};
+ghost use Rattle.rent_io.specs.ReadVectoredExact.{AreFullBefore, ReadsScattered, has_read, read_of, scattering};
+ghost use Rattle.rent_io.specs.Runs.{AfterCalls, AreUsed, IfGoesOn};
 ghost use Rattle.rent_io.specs.ScatterRuns.{RunsScattered};
 
 use crate::async_read_rent::AsyncReadRent;
@@ -79,6 +79,7 @@ impl<T: IoVecBufMut> ReadVectoredExact<T> {
         polls: u64,
     ) -> Step<ReadVectoredExact<T>, BufResult<usize, T>>
         ensures run { RunsScattered A.tells (A.reader io.old) (A.reader io.new) T.held self result }
+        ensures used { IfGoesOn result (λ next. AreUsed polls (length (has_read self)) (length (has_read next)) (A.reader io.old).counts (A.reader io.new).counts) }
         ensures counts { AfterCalls polls (A.reader io.old).counts (A.reader io.new).counts }
     {
         let mut state = self;

@@ -1,8 +1,8 @@
 // Sinks of items, and a send that is flushed.
 ghost use Rattle.std.specs.Prelude.{◌≡◌, Some};
 ghost use Rattle.rent_io.specs.Counts.{AfterCall};
-ghost use Rattle.rent_io.specs.ItemSink.{ItemSink, IsSent, IsDone, CausesDone, SendsAndFlushes, RunsSend};
-ghost use Rattle.rent_io.specs.Runs.{AfterCalls};
+ghost use Rattle.rent_io.specs.ItemSink.{ItemSink, IsSent, IsDone, CausesDone, SendsAndFlushes, RunsSend, unsent};
+ghost use Rattle.rent_io.specs.Runs.{AfterCalls, AreUsed, IfGoesOn};
 
 use crate::poll::Step;
 use std::marker::Model;
@@ -130,6 +130,7 @@ impl<I> SendAndFlush<I> {
         polls: u64,
     ) -> Step<SendAndFlush<I>, Result<(), S::Error>>
         ensures run { RunsSend (S.sink sink.old) (S.sink sink.new) self result }
+        ensures used { IfGoesOn result (λ next. AreUsed polls (unsent next) (unsent self) (S.sink sink.old).counts (S.sink sink.new).counts) }
         ensures counts { AfterCalls polls (S.sink sink.old).counts (S.sink sink.new).counts }
     {
         let mut state = self;

@@ -1,7 +1,7 @@
 // A write of all bytes of a vector of buffers.
 ghost use Rattle.std.specs.Prelude.{◌≡◌, ◌^◌, ◌<◌, ◌≤◌, [], length, sum_by, slice_index_or, IsOk, IfOk};
 ghost use Rattle.rent_io.specs.Counts.{AfterCall};
-ghost use Rattle.rent_io.specs.Runs.{AfterCalls, RunsAll};
+ghost use Rattle.rent_io.specs.Runs.{AfterCalls, AreUsed, IfGoesOn, RunsAll};
 ghost use Rattle.rent_io.specs.WriteAll.{WritesAll, sending_parts};
 ghost use Rattle.rent_io.specs.WriteVectoredAll.{rest_from};
 ghost use Rattle.rent_io.specs.Writer.{EndsStay};
@@ -82,6 +82,7 @@ impl<T: IoVecBuf> WriteVectoredAll<T> {
     ) -> Step<WriteVectoredAll<T>, BufResult<usize, T>>
         ensures run { RunsAll A.tells (A.writer io.old) (A.writer io.new) self result }
         ensures ends { EndsStay (A.writer io.old) (A.writer io.new) }
+        ensures used { IfGoesOn result (λ next. AreUsed polls (length next.rest) (length self.rest) (A.writer io.old).counts (A.writer io.new).counts) }
         ensures counts { AfterCalls polls (A.writer io.old).counts (A.writer io.new).counts }
     {
         let mut state = self;

@@ -1,7 +1,7 @@
 use Rattle.std.proofs.Common.{◌∙◌, ◌+◌, ap, inl, arith}
 use Rattle.rent_io.specs.ReadExact.{Filling}
 use Rattle.rent_io.proofs.Runs.{one_more}
-use Rattle.rent_io.proofs.ExactRuns.{fill_ends, fill_goes_on}
+use Rattle.rent_io.proofs.ExactRuns.{fill_ends, fill_goes_on, fill_used}
 use Rattle.rent_io.proofs.read_exact.ReadExact.drive.Goals as goal
 use Rattle.rent_io.proofs.read_exact.ReadExact.drive.Goals.{in-Pending, in-Again}
 
@@ -26,15 +26,18 @@ loop-preserved g c =
     let calls = one_more c.loop.counter (c.loop.counter + 1) before.counts mid.counts now.counts (omega arith) c.loop.invariant.1
         c.poll.ensures.counts in
     let goes = fill_goes_on g.A.AsyncReadRent.tells before mid now c.args.self c.loop.state in
+    let used = fill_used g.A.AsyncReadRent.tells before mid now c.loop.counter c.args.self c.loop.state in
     elim c.match-poll.branch [
       | in-Pending w ↦
         (
           rw w.state-is (goes w.in-Pending.next c.keeps_bounds.ensures c.loop.invariant.0 (inl w.in-Pending.ensures.answer)),
           calls,
+          rw w.state-is (used w.in-Pending.next c.loop.invariant.2 c.poll.ensures.counts (inl w.in-Pending.ensures.answer)),
         )
       | in-Again w ↦
         (
           rw w.state-is (goes w.in-Again.next c.keeps_bounds.ensures c.loop.invariant.0 w.in-Again.ensures.answer),
           calls,
+          rw w.state-is (used w.in-Again.next c.loop.invariant.2 c.poll.ensures.counts w.in-Again.ensures.answer),
         )
     ]

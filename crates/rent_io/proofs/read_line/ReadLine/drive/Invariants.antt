@@ -1,4 +1,5 @@
-use Rattle.rent_io.specs.Runs.{AfterCalls}
+use Rattle.std.proofs.Common.{length}
+use Rattle.rent_io.specs.Runs.{AfterCalls, AreUsed}
 use Rattle.rent_io.specs.LineRuns.{HasLined}
 use Rattle.rent_io.proofs.read_line.ReadLine.drive.Given as goal
 
@@ -7,3 +8,4 @@ invariant-loop g l =
     let start = g.A.AsyncReadRent.reader l.initial.io in
     let now = g.A.AsyncReadRent.reader l.io in
     HasLined g.A.AsyncReadRent.tells start.left now.left l.initial.state l.state × AfterCalls l.counter start.counts now.counts
+    × AreUsed l.counter (length l.initial.state.added) (length l.state.added) start.counts now.counts

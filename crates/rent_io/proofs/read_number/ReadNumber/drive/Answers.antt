@@ -1,6 +1,6 @@
 use Rattle.std.proofs.Common.{◌+◌, inl, arith}
 use Rattle.rent_io.proofs.Runs.{one_more}
-use Rattle.rent_io.proofs.NumberRuns.{number_ends, number_goes_on}
+use Rattle.rent_io.proofs.NumberRuns.{number_ends, number_goes_on, number_used}
 use Rattle.rent_io.proofs.read_number.ReadNumber.drive.Goals as goal
 use Rattle.rent_io.proofs.read_number.ReadNumber.drive.Goals.{in-Pending, in-Again}
 
@@ -22,15 +22,18 @@ loop-preserved g c =
     let calls = one_more c.loop.counter (c.loop.counter + 1) before.counts mid.counts now.counts (omega arith) c.loop.invariant.1
         c.poll.ensures.counts in
     let goes = number_goes_on g.A.AsyncReadRent.tells before mid now c.args.self c.loop.state in
+    let used = number_used g.A.AsyncReadRent.tells before mid now c.loop.counter c.args.self c.loop.state in
     elim c.match-poll.branch [
       | in-Pending w ↦
         (
           rw w.state-is (goes w.in-Pending.next c.loop.invariant.0 (inl w.in-Pending.ensures.answer)),
           calls,
+          rw w.state-is (used w.in-Pending.next c.loop.invariant.2 c.poll.ensures.counts (inl w.in-Pending.ensures.answer)),
         )
       | in-Again w ↦
         (
           rw w.state-is (goes w.in-Again.next c.loop.invariant.0 w.in-Again.ensures.answer),
           calls,
+          rw w.state-is (used w.in-Again.next c.loop.invariant.2 c.poll.ensures.counts w.in-Again.ensures.answer),
         )
     ]

@@ -1,4 +1,4 @@
-use Rattle.rent_io.specs.Runs.{AfterCalls}
+use Rattle.rent_io.specs.Runs.{AfterCalls, AreUsed}
 use Rattle.rent_io.specs.LineRuns.{HasAdded}
 use Rattle.rent_io.proofs.read_until.ReadUntil.drive.Given as goal
 
@@ -7,3 +7,4 @@ invariant-loop g l =
     let start = g.A.AsyncReadRent.reader l.initial.io in
     let now = g.A.AsyncReadRent.reader l.io in
     HasAdded g.A.AsyncReadRent.tells start.left now.left l.initial.state l.state × AfterCalls l.counter start.counts now.counts
+    × AreUsed l.counter l.initial.state.added l.state.added start.counts now.counts

@@ -1,4 +1,6 @@
-use Rattle.rent_io.specs.Runs.{AfterCalls}
+use Rattle.std.proofs.Common.{length}
+use Rattle.rent_io.specs.ReadVectoredExact.{has_read}
+use Rattle.rent_io.specs.Runs.{AfterCalls, AreUsed}
 use Rattle.rent_io.specs.ScatterRuns.{HasScattered}
 use Rattle.rent_io.proofs.read_vectored_exact.ReadVectoredExact.drive.Given as goal
 
@@ -7,3 +9,4 @@ invariant-loop g l =
     let start = g.A.AsyncReadRent.reader l.initial.io in
     let now = g.A.AsyncReadRent.reader l.io in
     HasScattered g.A.AsyncReadRent.tells start.left now.left l.initial.state l.state × AfterCalls l.counter start.counts now.counts
+    × AreUsed l.counter (length (has_read l.initial.state)) (length (has_read l.state)) start.counts now.counts

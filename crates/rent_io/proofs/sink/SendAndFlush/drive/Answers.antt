@@ -1,6 +1,6 @@
 use Rattle.std.proofs.Common.{◌+◌, arith}
 use Rattle.rent_io.proofs.Runs.{one_more}
-use Rattle.rent_io.proofs.SinkRuns.{sink_ends, sink_waits, sink_takes}
+use Rattle.rent_io.proofs.SinkRuns.{sink_ends, sink_waits, sink_takes, waits_used, takes_used}
 use Rattle.rent_io.proofs.sink.SendAndFlush.drive.Goals as goal
 use Rattle.rent_io.proofs.sink.SendAndFlush.drive.Goals.{in-Pending, in-Again}
 
@@ -22,8 +22,17 @@ loop-preserved g c =
     elim c.match-poll.branch [
       | in-Pending w ↦
         let a = w.in-Pending.ensures.answer in
-        (rw w.state-is (sink_waits before mid now c.args.self c.loop.state w.in-Pending.next has a.0 a.1), calls)
+        (
+          rw w.state-is (sink_waits before mid now c.args.self c.loop.state w.in-Pending.next has a.0 a.1),
+          calls,
+          rw w.state-is (waits_used before mid now c.loop.counter c.args.self c.loop.state w.in-Pending.next c.loop.invariant.2 a.0 a.2),
+        )
       | in-Again w ↦
         let a = w.in-Again.ensures.answer in
-        (rw w.state-is (sink_takes before mid now c.args.self c.loop.state w.in-Again.next has a.0 a.1 a.2 a.3), calls)
+        (
+          rw w.state-is (sink_takes before mid now c.args.self c.loop.state w.in-Again.next has a.0 a.1 a.2 a.3),
+          calls,
+          rw w.state-is (takes_used before mid now c.loop.counter c.args.self c.loop.state w.in-Again.next c.loop.invariant.2 a.0 a.1
+              c.poll.ensures.counts),
+        )
     ]

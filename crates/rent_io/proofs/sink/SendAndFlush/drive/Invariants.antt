@@ -1,5 +1,5 @@
-use Rattle.rent_io.specs.ItemSink.{HasSend}
-use Rattle.rent_io.specs.Runs.{AfterCalls}
+use Rattle.rent_io.specs.ItemSink.{HasSend, unsent}
+use Rattle.rent_io.specs.Runs.{AfterCalls, AreUsed}
 use Rattle.rent_io.proofs.sink.SendAndFlush.drive.Given as goal
 
 abbrev pub invariant-loop : goal.invariant-loop
@@ -7,3 +7,4 @@ invariant-loop g l =
     let start = g.S.Sink.sink l.initial.sink in
     let now = g.S.Sink.sink l.sink in
     HasSend start now l.initial.state l.state × AfterCalls l.counter start.counts now.counts
+    × AreUsed l.counter (unsent l.state) (unsent l.initial.state) start.counts now.counts

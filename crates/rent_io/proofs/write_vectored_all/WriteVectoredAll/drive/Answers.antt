@@ -1,7 +1,7 @@
 use Rattle.std.proofs.Common.{◌∙◌, ◌+◌, inl, arith}
 use Rattle.rent_io.specs.Writer.{EndsStay}
 use Rattle.rent_io.proofs.Runs.{one_more}
-use Rattle.rent_io.proofs.SendRuns.{send_ends, send_goes_on}
+use Rattle.rent_io.proofs.SendRuns.{send_ends, send_goes_on, send_used}
 use Rattle.rent_io.proofs.write_vectored_all.WriteVectoredAll.drive.Goals as goal
 use Rattle.rent_io.proofs.write_vectored_all.WriteVectoredAll.drive.Goals.{in-Pending, in-Again}
 
@@ -26,17 +26,20 @@ loop-preserved g c =
         c.poll.ensures.counts in
     let ends : EndsStay before now = (c.poll.ensures.ends.0 ∙ c.loop.invariant.2.0, c.poll.ensures.ends.1 ∙ c.loop.invariant.2.1) in
     let goes = send_goes_on g.A.AsyncWriteRent.tells before mid now c.args.self c.loop.state in
+    let used = send_used g.A.AsyncWriteRent.tells before mid now c.loop.counter c.args.self c.loop.state in
     elim c.match-poll.branch [
       | in-Pending w ↦
         (
           rw w.state-is (goes w.in-Pending.next c.loop.invariant.0 (inl w.in-Pending.ensures.answer)),
           calls,
           ends,
+          rw w.state-is (used w.in-Pending.next c.loop.invariant.3 c.poll.ensures.counts (inl w.in-Pending.ensures.answer)),
         )
       | in-Again w ↦
         (
           rw w.state-is (goes w.in-Again.next c.loop.invariant.0 w.in-Again.ensures.answer),
           calls,
           ends,
+          rw w.state-is (used w.in-Again.next c.loop.invariant.3 c.poll.ensures.counts w.in-Again.ensures.answer),
         )
     ]
