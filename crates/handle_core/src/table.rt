@@ -144,7 +144,7 @@ impl HandleTable {
         ensures { self.new ≡ with_holders self.old h (with_user (holders_at self.old h)) }
     {
         let Some(held) = self.handles.get_mut(&h) else {
-            return;
+            unreachable!();
         };
         held.user += 1;
     }
@@ -159,7 +159,7 @@ impl HandleTable {
         ensures stays { result ≡ Released.Held → self.new ≡ with_holders self.old h (without_user (holders_at self.old h)) }
     {
         let Some(held) = self.handles.get_mut(&h) else {
-            return Released::Last;
+            unreachable!();
         };
         held.user -= 1;
         if held.is_held() {

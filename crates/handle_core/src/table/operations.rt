@@ -45,7 +45,7 @@ impl HandleTable {
         ensures { self.new ≡ with_holders self.old h (with_operation (holders_at self.old h)) }
     {
         let Some(held) = self.handles.get_mut(&h) else {
-            return;
+            unreachable!();
         };
         held.operations += 1;
     }
@@ -60,7 +60,7 @@ impl HandleTable {
         ensures stays { result ≡ Released.Held → self.new ≡ with_holders self.old h (without_operation (holders_at self.old h)) }
     {
         let Some(held) = self.handles.get_mut(&h) else {
-            return Released::Last;
+            unreachable!();
         };
         held.operations -= 1;
         if held.is_held() {
@@ -77,7 +77,7 @@ impl HandleTable {
         ensures { self.new ≡ with_holders self.old h (with_user (without_operation (holders_at self.old h))) }
     {
         let Some(held) = self.handles.get_mut(&h) else {
-            return;
+            unreachable!();
         };
         *held = Holders {
             user: held.user + 1,

@@ -4,9 +4,6 @@ use Rattle.handle_core.proofs.Tables.{found, not-unfound, written}
 use Rattle.handle_core.proofs.Kept.{kept-written}
 use Rattle.handle_core.proofs.table.HandleTable.hold.Goals as goal
 
-pub returns-in_default : goal.returns-in_default
-returns-in_default c = absurd (not-unfound c.self.inside.handles _ _ c.self.view_is _ c.requires.known c.in_default.ensures.value)
-
 pub overflow_add-held : goal.overflow_add-held
 overflow_add-held c =
     let was = found c.self.inside.handles _ _ c.self.view_is _ _ c.in-Some.ensures.value in
@@ -16,6 +13,9 @@ pub returns : goal.returns
 returns c = rw (found c.self.inside.handles _ _ c.self.view_is _ _ c.in-Some.ensures.value)
     (written c.self.inside.handles _ _ c.self.view_is _ _ _ _ c.in-Some.ensures.value (c.get_mut.follows.holds _))
 
-pub invariant_of-self-2 : goal.invariant_of-self-2
-invariant_of-self-2 c =
+pub invariant_of-self : goal.invariant_of-self
+invariant_of-self c =
     kept-written c.self.inside.handles _ c.self.invariant _ _ _ _ c.in-Some.ensures.value (c.get_mut.follows.holds _) (omega arith)
+
+pub unreachable-requires : goal.unreachable-requires
+unreachable-requires c = not-unfound c.self.inside.handles _ _ c.self.view_is _ c.requires.known c.in_default.ensures.value

@@ -4,16 +4,6 @@ use Rattle.handle_core.proofs.Tables.{found, unfound, written, removed, held-las
 use Rattle.handle_core.proofs.Kept.{kept-written, kept-removed}
 use Rattle.handle_core.proofs.table.HandleTable.release_op.Goals as goal
 
-pub returns-in_default-clause-last : goal.returns-in_default-clause-last
-returns-in_default-clause-last c =
-    let none = unfound c.self.inside.handles _ _ c.self.view_is _ c.in_default.ensures.value in
-    absurd (omega (arith, c.requires.held, ap (λ (h : Holders). h.operations) none))
-
-pub returns-in_default-clause-left : goal.returns-in_default-clause-left
-returns-in_default-clause-left c =
-    let none = unfound c.self.inside.handles _ _ c.self.view_is _ c.in_default.ensures.value in
-    absurd (omega (arith, c.requires.held, ap (λ (h : Holders). h.operations) none))
-
 pub overflow_sub-held : goal.overflow_sub-held
 overflow_sub-held c =
     let was = found c.self.inside.handles _ _ c.self.view_is _ _ c.in-Some.ensures.value in
@@ -37,8 +27,8 @@ returns-clause-left c =
     λ e. removed c.self.inside.handles _ _ c.self.view_is (c.get_mut.follows.lender left) c.remove.new.self _ _ left
     c.in-Some.ensures.value (c.get_mut.follows.holds left) c.remove.ensures.updates
 
-pub invariant_of-self-then-is_held : goal.invariant_of-self-then-is_held
-invariant_of-self-then-is_held c =
+pub invariant_of-self : goal.invariant_of-self
+invariant_of-self c =
     kept-written c.self.inside.handles _ c.self.invariant _ _ _ _ c.in-Some.ensures.value (c.get_mut.follows.holds _)
     (c.is_held.ensures.0 c.if-is_held.true)
 
@@ -47,3 +37,8 @@ invariant_of-self-2 c =
     let left : Holders = record { user = c.in-Some.held.now.user; operations = c.in-Some.held.now.operations - 1 } in
     kept-removed c.self.inside.handles _ c.self.invariant (c.get_mut.follows.lender left) c.remove.new.self _ _ left
     c.in-Some.ensures.value (c.get_mut.follows.holds left) c.remove.ensures.updates c.remove.ensures.spare
+
+pub unreachable-requires : goal.unreachable-requires
+unreachable-requires c =
+    let none = unfound c.self.inside.handles _ _ c.self.view_is _ c.in_default.ensures.value in
+    omega (arith, c.requires.held, ap (λ (h : Holders). h.operations) none)
