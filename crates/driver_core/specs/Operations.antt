@@ -4,6 +4,7 @@ use Rattle.std.specs.FinMap as map
 use Rattle.rent_buf.specs.Buffer.{Buffer}
 use Rattle.rent_buf.specs.Parts.{Parts}
 use Rattle.op_slots.specs.declared.lifecycle.AfterDrop.{AfterDrop}
+use Rattle.op_slots.specs.declared.slab.TheConstants.{MAX_LIVE}
 use Rattle.op_slots.specs.declared.lifecycle.Lifecycle.TheVariants.{Submitted}
 use Rattle.ring_core.specs.declared.request.Request.{Request}
 use Rattle.ring_core.specs.Ledger.{Operation}
@@ -24,7 +25,7 @@ new_slot ops request = record { serial = ops.given; request = request; life = Su
 -- A request got a new slot, at a free key, and the next number.
 pub record Submits {B : Type 0} (old new : Ops B) (request : Request B Parts) (op : Op) : Type 0 where
   pub free : map.get old.slots.values op.key ≡ None
-  pub below : op.key < 4294967232
+  pub below : op.key < MAX_LIVE
   pub number : op.number ≡ old.given
   pub slots : new.slots.values ≡ map.insert old.slots.values op.key (new_slot old request)
   pub given : new.given ≡ old.given + 1

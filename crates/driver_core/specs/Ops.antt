@@ -4,6 +4,7 @@ use Rattle.std.specs.Ordering.{nat_cmp}
 use Rattle.std.specs.FinMap as map
 use Rattle.std.specs.Coded.{Coded, code_by, coded×, coded_ℕ}
 use Rattle.op_slots.specs.Slots.{Slots, slots_code}
+use Rattle.op_slots.specs.declared.slab.TheConstants.{MAX_LIVE}
 use Rattle.driver_core.specs.declared.slot.Slot.{Slot}
 use Rattle.driver_core.specs.Slot.{number_at}
 
@@ -18,7 +19,7 @@ ops_code slot = code_by (Slots (Slot _) × ℕ) (coded× (slots_code slot) coded
 
 -- A slot that its user may still drop has a key below the reserved words, and the number of an operation that was submitted.
 pub record IsOwnedSlot (given key number : ℕ) : Type 0 where
-  pub key_below : key < 4294967232
+  pub key_below : key < MAX_LIVE
   pub number_below : number < given
 
 -- That holds of each such slot.

@@ -3,6 +3,7 @@ use Rattle.std.specs.Prelude.{ℕ, ◌≡◌, ◌<◌, Bool, true, false, List, 
 use Rattle.std.specs.Ordering.{nat_cmp}
 use Rattle.std.specs.FinMap as map
 use Rattle.rent_buf.specs.Buffer.{Buffer}
+use Rattle.op_slots.specs.declared.slab.TheConstants.{MAX_LIVE}
 use Rattle.op_slots.specs.declared.lifecycle.Lifecycle.{Lifecycle}
 use Rattle.op_slots.specs.declared.lifecycle.Lifecycle.TheVariants.{Submitted, Waiting, Ignored, Completed}
 use Rattle.ring_core.specs.declared.request.Outcome.{Outcome}
@@ -63,4 +64,4 @@ pub record SlotsStand {B : Type 0} (buffer : B → Buffer) (slots : map.FinMap n
   pub one : (k j : ℕ) (s t : Slot B) → map.get slots k ≡ Some s → map.get slots j ≡ Some t → s.serial ≡ t.serial → k ≡ j
   pub each : (number : ℕ) (operation : Operation) → slice_get ops number ≡ Some operation → is_live operation ≡ true → HasSlot slots number
   pub counted : map.len slots ≡ length (numbers_where is_live 0 ops)
-  pub below : (key : ℕ) (slot : Slot B) → map.get slots key ≡ Some slot → key < 4294967232
+  pub below : (key : ℕ) (slot : Slot B) → map.get slots key ≡ Some slot → key < MAX_LIVE

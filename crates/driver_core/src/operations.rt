@@ -9,6 +9,7 @@ ghost use Rattle.ring_core.specs.Surroundings.{around};
 
 use crate::op::{Op, PollOp};
 use crate::slot::{Slot, complete_slot, drop_at, is_numbered, poll_at, store_in};
+use op_slots::slab::MAX_LIVE;
 use op_slots::{AfterDrop, Lifecycle, Slab};
 use rent_buf::{ByteList, IoBufMut, OutOfMemory, VecBuf};
 use ring_core::{Completion, Payloads, Request};
@@ -54,7 +55,7 @@ impl<B: Drop> Operations<B> {
     /// reaped.
     pub fn len(&self) -> usize
         ensures count { result ≡ map.len self.now.slots.values }
-        ensures bound { result ≤ 4294967232 }
+        ensures bound { result ≤ MAX_LIVE }
     {
         self.slots.len()
     }
@@ -94,7 +95,7 @@ impl<B: Drop> Operations<B> {
     /// Gives a request a slot and the next number, in memory that was reserved before, and answers its token.
     pub fn submit(&mut self, request: Request<B, VecBuf>) -> Op
         requires room { 0 < self.old.slots.room }
-        requires few { map.len self.old.slots.values < 4294967232 }
+        requires few { map.len self.old.slots.values < MAX_LIVE }
         requires counter { self.old.given < 2 ^ 62 }
         ensures submits { Submits self.old self.new request result }
         ensures token { AddsToken self.old self.new result }

@@ -4,6 +4,7 @@ use Rattle.std.specs.FinMap as map
 use Rattle.rent_buf.specs.Buffer.{Buffer}
 use Rattle.rent_buf.specs.Parts.{Parts}
 use Rattle.op_slots.specs.Slots.{Slots}
+use Rattle.op_slots.specs.declared.slab.TheConstants.{MAX_LIVE}
 use Rattle.ring_core.specs.declared.request.Request.{Request}
 use Rattle.ring_core.specs.Counts.{Rose}
 use Rattle.ring_core.specs.declared.entry.Entry.{Entry}
@@ -84,7 +85,7 @@ pub record IsSameRing {R B : Type 0} (view : R → RingView) (old new : IoUringD
 
 -- The memory of a submission is taken, with that of one cancel for each slot and for the new one; nothing is due, and the queue has room.
 pub record IsPrepared {B : Type 0} (view : RingView) (due : List Entry) (room : ℕ) (slots : Slots (Slot B)) : Type 0 where
-  pub few : map.len slots.values < 4294967232
+  pub few : map.len slots.values < MAX_LIVE
   pub slot : 0 < slots.room
   pub spare : map.len slots.values + 2 ≤ room
   pub none_due : due ≡ []
@@ -98,7 +99,7 @@ pub record OnlyReserved {R : Type 0} (view : R → RingView) (old new : Pending 
 
 -- Why a submission can't be made. Nothing changed but reserved memory, and at a fault of the ring what it took.
 abbrev pub Unprepared : {R : Type 0} {B : Type 0} → (R → RingView) → Bool → Pending R → Pending R → Slots (Slot B) → Slots (Slot B) → SubmitFault → Type 0
-Unprepared view steady old new slots slots' Full = (map.len slots.values ≡ 4294967232) × (new ≡ old) × (slots' ≡ slots)
-Unprepared view steady old new slots slots' RingFault = (map.len slots.values < 4294967232) × Rose (view old.ring).faults (view new.ring).faults × (IsTrue steady → ⊥) × MustEnter view old
-Unprepared view steady old new slots slots' Busy = (map.len slots.values < 4294967232) × Rose (view old.ring).busies (view new.ring).busies × (IsTrue steady → ⊥) × MustEnter view old
-Unprepared view steady old new slots slots' OutOfMemory = (map.len slots.values < 4294967232) × OnlyReserved view old new
+Unprepared view steady old new slots slots' Full = (map.len slots.values ≡ MAX_LIVE) × (new ≡ old) × (slots' ≡ slots)
+Unprepared view steady old new slots slots' RingFault = (map.len slots.values < MAX_LIVE) × Rose (view old.ring).faults (view new.ring).faults × (IsTrue steady → ⊥) × MustEnter view old
+Unprepared view steady old new slots slots' Busy = (map.len slots.values < MAX_LIVE) × Rose (view old.ring).busies (view new.ring).busies × (IsTrue steady → ⊥) × MustEnter view old
+Unprepared view steady old new slots slots' OutOfMemory = (map.len slots.values < MAX_LIVE) × OnlyReserved view old new

@@ -136,7 +136,7 @@ impl<R: Ring, B: IoBufMut + Drop> IoUringDriver<R, B> {
         ensures none_due { IsTrue R.steady → due_in self.old ≡ [] → due_in self.new ≡ [] }
 
         // It is Full exactly when all slots are live; a fault of the ring comes only where that count rose.
-        ensures full { IsFullError result ↔ (live_slots self.old ≡ 4294967232) }
+        ensures full { IsFullError result ↔ (live_slots self.old ≡ MAX_LIVE) }
         ensures err { IfErr result (SubmitRefused R.view B.buffer R.steady request self.old self.new) }
         ensures memory { IfErr result (λ refused. refused.why ≡ SubmitFault.OutOfMemory → IsSameRing R.view self.old self.new) }
     {
@@ -216,7 +216,7 @@ impl<R: Ring, B: IoBufMut + Drop> IoUringDriver<R, B> {
 // For how many entries memory is kept, so that calls that take none can push them: a cancel of each operation.
 fn owed<B: Drop>(ops: &Operations<B>) -> usize
     ensures count { result ≡ map.len ops.now.slots.values }
-    ensures bound { result ≤ 4294967232 }
+    ensures bound { result ≤ MAX_LIVE }
 {
     ops.len()
 }
