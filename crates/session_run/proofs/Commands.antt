@@ -191,9 +191,11 @@ same-rounds words a b m n first second =
 pub not-both : (words : List (List ℕ)) (capacity senders count : ℕ) → IsRun words capacity → IsWake words senders count → ⊥
 not-both words capacity senders count run wake = (let all : codes "run" ∷ decimal capacity ∷ [] ≡ codes "wake" ∷ decimal senders ∷ decimal count ∷ [] = sym run.words_are ∙ wake.words_are in cc)
 
+-- Words don't ask for both `run` and `gen`.
 pub not-run-generate : (words : List (List ℕ)) (capacity seed rounds : ℕ) → IsRun words capacity → IsGenerate words seed rounds → ⊥
 not-run-generate words capacity seed rounds run gen = (let all : codes "run" ∷ decimal capacity ∷ [] ≡ codes "gen" ∷ decimal seed ∷ decimal rounds ∷ [] = sym run.words_are ∙ gen.words_are in cc)
 
+-- Words don't ask for both `wake` and `gen`.
 pub not-wake-generate : (words : List (List ℕ)) (senders count seed rounds : ℕ) → IsWake words senders count →
     IsGenerate words seed rounds → ⊥
 not-wake-generate words senders count seed rounds wake gen =

@@ -82,7 +82,8 @@ was-read left rest text seen events all same stand = record {
 }
 
 -- All was read, and no line is wrong.
-pub right-short : (left rest text seen : List ℕ) (faults later : ℕ) → IsAll left rest text → seen ≡ text → AreEvents (lines seen) → later ≡ faults →
+pub right-short : (left rest text seen : List ℕ) (faults later : ℕ) → IsAll left rest text → seen ≡ text → AreEvents (lines seen)
+    → later ≡ faults →
     ReadShort left rest faults later
 right-short left rest text seen faults later all same right calm = record {
   few = few-all left rest text all;
