@@ -97,29 +97,3 @@ wake-ends ts tk words (Generate s r) senders count source sink kept status reads
 wake-ends ts tk words (Wake s c) senders count source sink kept status reads wake ends =
     let same = same-counts words s senders c count reads wake in
     subst (λ k. WakesFor tk (k * count) sink.taken sink.now status) same.0 (subst (λ k. WakesFor tk (s * k) sink.taken sink.now status) same.1 ends)
-
--- What `run` has done is what every command has done.
-pub status-run : (ts tk : Bool) (capacity : ℕ) (source : Reading) (sink : Writing) (kept : Option Kept) (status : Status) →
-    RunEnds ts tk capacity source sink kept status → StatusFor ts tk source sink status
-status-run ts tk capacity source sink kept Done ends = ends.1
-status-run ts tk capacity source sink kept BadWords ends = ends
-status-run ts tk capacity source sink kept BadLine ends = ends
-status-run ts tk capacity source sink kept TooLong ends = ends
-status-run ts tk capacity source sink kept ReadFault ends = ends
-status-run ts tk capacity source sink kept WriteFault ends = ends.0
-status-run ts tk capacity source sink kept OutOfMemory ends = ends.0
-
--- So is what a command that reads nothing has done.
-pub status-sink : (ts tk : Bool) (left : List ℕ) (faults : ℕ) (sink : Writing) (status : Status) → SinkEnds tk sink status →
-    StatusFor ts tk (record { left = left; rest = left; faults = faults; later = faults }) sink status
-status-sink ts tk left faults sink Done ends = ends
-status-sink ts tk left faults sink BadWords ends = ends
-status-sink ts tk left faults sink BadLine ends = absurd ends
-status-sink ts tk left faults sink TooLong ends = absurd ends
-status-sink ts tk left faults sink ReadFault ends = absurd ends
-status-sink ts tk left faults sink WriteFault ends = ends
-status-sink ts tk left faults sink OutOfMemory ends = record {
-  few = λ told. record { count = 0; few = omega arith; taken = refl };
-  lines = λ told. unread refl;
-  calm = record { read = λ told. refl; wrote = ends };
-}

@@ -12,7 +12,7 @@ use Rattle.session_run.specs.TextEvent.{AreBytes, IsBuffer, buffer_kind_word, bu
 use Rattle.session_run.specs.TextReads.{number_of, number_field, last_number_of, bytes_end, at_end, handle_kind_of, buffer_kind_of, kind_field, is_full, bounded, buffer_of}
 use Rattle.session_run.specs.TextWords.{bytes_word}
 use Rattle.session_run.proofs.TextHex.{bytes_of-bytes_word, bytes_of-Some}
-use Rattle.session_run.proofs.TextNumbers.{None-from, number_of-decimal, number_of-Some}
+use Rattle.session_run.proofs.TextNumbers.{number_of-decimal, number_of-Some}
 
 -- What stood behind an answer.
 pub and_then-Some : {A B : Type 0} (f : A → Option B) (o : Option A) (y : B) → option_and_then f o ≡ Some y

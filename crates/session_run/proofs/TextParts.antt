@@ -51,7 +51,7 @@ pub rooms-pushed : (all behind : Option Parts) (pairs now : List (ℕ × List �
     → all ≡ onto (parts_of_pairs pairs ++ part room bytes ∷ []) behind → all ≡ onto (parts_of_pairs now) behind
 rooms-pushed all behind pairs now room bytes is so_far = so_far ∙ ap (λ (ps : Parts). onto ps behind) (sym (ap parts_of_pairs is ∙ map-append _ pairs ((room, bytes) ∷ [])))
 
--- A room with no word behind it, a word that is no room, and one that is no bytes.
+-- A room has no word behind it.
 pub rooms-alone : (all : Option Parts) (words next : List (List ℕ)) (first : List ℕ) (parts : Parts) → words ≡ first ∷ next → next ≡ []
     → all ≡ onto parts (parts_end words) → all ≡ None
 unfolding parts_end

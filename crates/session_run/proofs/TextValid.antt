@@ -22,11 +22,6 @@ pub is_some-map : {A B : Type 0} (f : A → B) (o : Option A) → is_some (optio
 is_some-map f None = refl
 is_some-map f (Some x) = refl
 
--- A value that a test lets through is there where the test holds.
-pub is_some-if : {A : Type 0} (b : Bool) (x : A) → is_some (if b then Some x else None) ≡ b
-is_some-if true x = refl
-is_some-if false x = refl
-
 -- What is there has a value.
 some-value : {A : Type 0} (o : Option A) → is_some o ≡ true → (x : A) × (o ≡ Some x)
 some-value None is = absurd (cc)
@@ -42,10 +37,6 @@ pub record HaveSeen (text rest : List ℕ) (n : ℕ) : Type 0 where
   pub events : List Event
   pub read : HaveRead text rest events
   pub count : length events ≡ n
-
--- At first no line was seen.
-pub have_seen-none : (text : List ℕ) → HaveSeen text text 0
-have_seen-none text = record { events = []; read = have_read-none text; count = refl }
 
 -- One line more was seen.
 pub have_seen-more : (text rest line behind : List ℕ) (n : ℕ) → HaveSeen text rest n → lines rest ≡ line ∷ lines behind
@@ -64,10 +55,6 @@ pub have_seen-wrong : (text rest line behind : List ℕ) (n : ℕ) → HaveSeen 
     → is_some (event_of (words line)) ≡ false → IsFirstWrong (lines text) (n + 1)
 have_seen-wrong text rest line behind n seen first wrong =
     have_read-wrong text rest line behind seen.events n seen.read first (event_of-wrong line (none-value (event_of (words line)) wrong)) (sym seen.count)
-
--- All lines were seen.
-pub have_seen-all : (text rest : List ℕ) (n : ℕ) → HaveSeen text rest n → length rest ≡ 0 → AreEvents (lines text)
-have_seen-all text rest n seen end = record { events = seen.events; stand = have_read-all text rest seen.events seen.read end }
 
 -- The digits so far are pairs of digits.
 pub record PairsSeen (word : List ℕ) (at : ℕ) : Type 0 where

@@ -5,8 +5,6 @@ use Rattle.session_run.proofs.TextCuts.{take-rest}
 use Rattle.rent_buf.specs.Parts.{Parts, part_at}
 use Rattle.session_run.specs.TextEvent.{part_words, parts_words}
 use Rattle.session_run.specs.TextWords.{bytes_word, numbers_word, spaced}
-use Rattle.std.specs.Prelude.{Result, Ok, Err, OnErr}
-use Rattle.session_run.specs.TextWrites.{Starts}
 
 -- Numbers, each behind a comma.
 abbrev pub behind_commas : List ℕ → List ℕ
