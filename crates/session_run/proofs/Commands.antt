@@ -57,26 +57,6 @@ two-no-generate name word seed rounds is = (let all : name ∷ word ∷ [] ≡ c
 three-no-run : (name first second : List ℕ) (capacity : ℕ) → IsRun (name ∷ first ∷ second ∷ []) capacity → ⊥
 three-no-run name first second capacity run = (let all : name ∷ first ∷ second ∷ [] ≡ codes "run" ∷ decimal capacity ∷ [] = run.words_are in cc)
 
--- The words `run` and another ask for what that one does.
-pub command-run : (name word : List ℕ) (command : Option Command) → name ≡ codes "run" → ReadsCapacity word command →
-    ReadsCommand (name ∷ word ∷ []) command
-command-run name word None is reads = record {
-  no_run = λ capacity run. reads capacity (record { positive = run.positive; fits = run.fits; word_is = (let both : name ∷ word ∷ [] ≡ codes "run" ∷ decimal capacity ∷ [] = run.words_are in cc) });
-  no_generate = two-no-generate name word;
-  no_wake = two-no-wake name word;
-}
-command-run name word (Some (Run capacity)) is reads = record { positive = reads.positive; fits = reads.fits; words_are = ap (λ x. x ∷ word ∷ []) is ∙ ap (λ x. codes "run" ∷ x ∷ []) reads.word_is }
-command-run name word (Some (Generate seed rounds)) is reads = absurd reads
-command-run name word (Some (Wake senders count)) is reads = absurd reads
-
--- Two words of which the first isn't `run` ask for nothing.
-pub command-other : (name word : List ℕ) → (name ≡ codes "run" → ⊥) → ReadsCommand (name ∷ word ∷ []) None
-command-other name word other = record {
-  no_run = λ capacity run. other (let both : name ∷ word ∷ [] ≡ codes "run" ∷ decimal capacity ∷ [] = run.words_are in cc);
-  no_generate = two-no-generate name word;
-  no_wake = two-no-wake name word;
-}
-
 -- Three words are `wake` only where the first is.
 wake-name : (name first second : List ℕ) (senders count : ℕ) → IsWake (name ∷ first ∷ second ∷ []) senders count → name ≡ codes "wake"
 wake-name name first second senders count is = (let all : name ∷ first ∷ second ∷ [] ≡ codes "wake" ∷ decimal senders ∷ decimal count ∷ [] = is.words_are in cc)
@@ -89,59 +69,6 @@ generate-name name first second seed rounds is = (let all : name ∷ first ∷ s
 names-differ : (name : List ℕ) → name ≡ codes "wake" → name ≡ codes "gen" → ⊥
 names-differ name wake gen = (let both : codes "wake" ≡ codes "gen" = sym wake ∙ gen in cc)
 
--- The words `wake` and two more ask for what those do.
-pub command-wake : (name first second : List ℕ) (command : Option Command) → name ≡ codes "wake" → ReadsCounts first second command →
-    ReadsCommand (name ∷ first ∷ second ∷ []) command
-command-wake name first second None is reads = record {
-  no_run = three-no-run name first second;
-  no_generate = λ seed rounds gen. names-differ name is (generate-name name first second seed rounds gen);
-  no_wake = λ senders count wake.
-      let all : name ∷ first ∷ second ∷ [] ≡ codes "wake" ∷ decimal senders ∷ decimal count ∷ [] = wake.words_are in
-      reads senders count (record { few = wake.few; small = wake.small; first_is = cc; second_is = cc });
-}
-command-wake name first second (Some (Run capacity)) is reads = absurd reads
-command-wake name first second (Some (Generate seed rounds)) is reads = absurd reads
-command-wake name first second (Some (Wake senders count)) is reads = record {
-  few = reads.few;
-  small = reads.small;
-  words_are = ap (λ x. x ∷ first ∷ second ∷ []) is ∙ ap (λ x. codes "wake" ∷ x ∷ second ∷ []) reads.first_is ∙ ap (λ x. codes "wake" ∷ decimal senders ∷ x ∷ []) reads.second_is;
-}
-
--- The words `gen` and two more ask for what those do.
-pub command-generate : (name first second : List ℕ) (command : Option Command) → name ≡ codes "gen" → ReadsRounds first second command →
-    ReadsCommand (name ∷ first ∷ second ∷ []) command
-command-generate name first second None is reads = record {
-  no_run = three-no-run name first second;
-  no_wake = λ senders count wake. names-differ name (wake-name name first second senders count wake) is;
-  no_generate = λ seed rounds gen.
-      let all : name ∷ first ∷ second ∷ [] ≡ codes "gen" ∷ decimal seed ∷ decimal rounds ∷ [] = gen.words_are in
-      reads seed rounds (record { within = gen.within; small = gen.small; first_is = cc; second_is = cc });
-}
-command-generate name first second (Some (Run capacity)) is reads = absurd reads
-command-generate name first second (Some (Wake senders count)) is reads = absurd reads
-command-generate name first second (Some (Generate seed rounds)) is reads = record {
-  within = reads.within;
-  small = reads.small;
-  words_are = ap (λ x. x ∷ first ∷ second ∷ []) is ∙ ap (λ x. codes "gen" ∷ x ∷ second ∷ []) reads.first_is ∙ ap (λ x. codes "gen" ∷ decimal seed ∷ x ∷ []) reads.second_is;
-}
-
--- Three words of which the first is neither `wake` nor `gen` ask for nothing.
-pub command-neither : (name first second : List ℕ) → (name ≡ codes "wake" → ⊥) → (name ≡ codes "gen" → ⊥) →
-    ReadsCommand (name ∷ first ∷ second ∷ []) None
-command-neither name first second no_wake no_gen = record {
-  no_run = three-no-run name first second;
-  no_generate = λ seed rounds gen. no_gen (generate-name name first second seed rounds gen);
-  no_wake = λ senders count wake. no_wake (wake-name name first second senders count wake);
-}
-
--- Words that are neither two nor three ask for nothing.
-pub command-none : (words : List (List ℕ)) → (length words ≡ 2 → ⊥) → (length words ≡ 3 → ⊥) → ReadsCommand words None
-command-none words not_two not_three = record {
-  no_run = λ capacity run. not_two (ap length run.words_are);
-  no_generate = λ seed rounds gen. not_three (ap length gen.words_are);
-  no_wake = λ senders count wake. not_three (ap length wake.words_are);
-}
-
 -- A list of two is its two elements.
 pub two-words : {A : Type 0} (xs : List A) (x y : A) → 2 ≤ length xs → length xs < 3 → x ≡ get_or xs 0 x → y ≡ get_or xs 1 y →
     xs ≡ x ∷ y ∷ []
@@ -149,15 +76,6 @@ two-words [] x y some few first second = absurd (omega (arith, some))
 two-words (a ∷ []) x y some few first second = absurd (omega (arith, some))
 two-words (a ∷ b ∷ []) x y some few first second = ap (λ z. z ∷ b ∷ []) (sym first) ∙ ap (λ z. x ∷ z ∷ []) (sym second)
 two-words (a ∷ b ∷ d ∷ xs) x y some few first second = absurd (omega (arith, few))
-
--- A list of three is its three elements.
-pub three-words : {A : Type 0} (xs : List A) (x y z : A) → 3 ≤ length xs → length xs < 4 → x ≡ get_or xs 0 x → y ≡ get_or xs 1 y →
-    z ≡ get_or xs 2 z → xs ≡ x ∷ y ∷ z ∷ []
-three-words [] x y z some few first second third = absurd (omega (arith, some))
-three-words (a ∷ []) x y z some few first second third = absurd (omega (arith, some))
-three-words (a ∷ b ∷ []) x y z some few first second third = absurd (omega (arith, some))
-three-words (a ∷ b ∷ d ∷ []) x y z some few first second third = ap (λ w. w ∷ b ∷ d ∷ []) (sym first) ∙ ap (λ w. x ∷ w ∷ d ∷ []) (sym second) ∙ ap (λ w. x ∷ y ∷ w ∷ []) (sym third)
-three-words (a ∷ b ∷ d ∷ e ∷ xs) x y z some few first second third = absurd (omega (arith, few))
 
 -- A number has one text.
 same-number : (a b : ℕ) → a < 2 ^ 64 → b < 2 ^ 64 → decimal a ≡ decimal b → a ≡ b
@@ -191,25 +109,15 @@ same-rounds words a b m n first second =
 pub not-both : (words : List (List ℕ)) (capacity senders count : ℕ) → IsRun words capacity → IsWake words senders count → ⊥
 not-both words capacity senders count run wake = (let all : codes "run" ∷ decimal capacity ∷ [] ≡ codes "wake" ∷ decimal senders ∷ decimal count ∷ [] = sym run.words_are ∙ wake.words_are in cc)
 
+-- Words don't ask for both `run` and `gen`.
 pub not-run-generate : (words : List (List ℕ)) (capacity seed rounds : ℕ) → IsRun words capacity → IsGenerate words seed rounds → ⊥
 not-run-generate words capacity seed rounds run gen = (let all : codes "run" ∷ decimal capacity ∷ [] ≡ codes "gen" ∷ decimal seed ∷ decimal rounds ∷ [] = sym run.words_are ∙ gen.words_are in cc)
 
+-- Words don't ask for both `wake` and `gen`.
 pub not-wake-generate : (words : List (List ℕ)) (senders count seed rounds : ℕ) → IsWake words senders count →
     IsGenerate words seed rounds → ⊥
 not-wake-generate words senders count seed rounds wake gen =
     (let all : codes "wake" ∷ decimal senders ∷ decimal count ∷ [] ≡ codes "gen" ∷ decimal seed ∷ decimal rounds ∷ [] = sym wake.words_are ∙ gen.words_are in cc)
-
--- The numbers of a command that words ask for are within its bounds.
-pub reads-within : (words : List (List ℕ)) (command : Command) → ReadsCommand words (Some command) → IsWithin command
-reads-within words (Run capacity) reads = reads.positive
-reads-within words (Generate seed rounds) reads = reads.small
-reads-within words (Wake senders count) reads = reads.few
-
--- Words that ask for a command are a command's.
-pub reads-some : (words : List (List ℕ)) (command : Command) → ReadsCommand words (Some command) → IsNoCommand words → ⊥
-reads-some words (Run capacity) reads none = none.no_run capacity reads
-reads-some words (Generate seed rounds) reads none = none.no_generate seed rounds reads
-reads-some words (Wake senders count) reads none = none.no_wake senders count reads
 
 -- A command that `wake` asks for reads nothing.
 pub reads-nothing : (words : List (List ℕ)) (command : Command) (senders count : ℕ) → ReadsCommand words (Some command) →

@@ -17,7 +17,8 @@ use Rattle.session_run.proofs.Commands.{same-capacity, same-rounds, same-counts,
 use Rattle.session_run.proofs.Reading.{few-read}
 
 -- What running the events of an input has done is what the command has done.
-pub ends-run : (ts tk : Bool) (capacity : ℕ) (source : Reading) (sink : Writing) (kept : Option Kept) (events : List Event) (status : Status) →
+pub ends-run : (ts tk : Bool) (capacity : ℕ) (source : Reading) (sink : Writing) (kept : Option Kept) (events : List Event)
+    (status : Status) →
     (IsTrue ts → WasRead source.left source.rest events) → (IsTrue ts → source.later ≡ source.faults) → RunsEvents tk capacity events sink kept status → RunEnds ts tk capacity source sink kept status
 ends-run ts tk capacity source sink kept events Done read calm runs =
     (record { events = events; read = read; written = runs.written; session = runs.session; kept_is = runs.kept_is; stands = runs.stands }, runs.flushed)
@@ -49,7 +50,8 @@ ends-line ts tk capacity source sink kept line WriteFault bad writes =
 ends-line ts tk capacity source sink kept line OutOfMemory bad writes = absurd writes
 
 -- So is what refusing it has done.
-pub ends-refused : (ts tk : Bool) (capacity : ℕ) (source : Reading) (sink : Writing) (kept : Option Kept) (why : NoEvents) (status : Status) →
+pub ends-refused : (ts tk : Bool) (capacity : ℕ) (source : Reading) (sink : Writing) (kept : Option Kept) (why : NoEvents)
+    (status : Status) →
     WhyNoEvents ts source.left source.rest source.faults source.later why → RefusesFor tk sink.taken sink.now sink.faults sink.later status why → RunEnds ts tk capacity source sink kept status
 ends-refused ts tk capacity source sink kept (NoEvents.BadLine n) status why refuses = ends-line ts tk capacity source sink kept n status why refuses
 ends-refused ts tk capacity source sink kept NoEvents.TooLong status why refuses =
@@ -67,7 +69,8 @@ ends-refused ts tk capacity source sink kept NoEvents.OutOfMemory status why ref
     )
 
 -- What a command has done where its words are those of `run`.
-pub run-ends : (ts tk : Bool) (words : List (List ℕ)) (command : Command) (capacity : ℕ) (source : Reading) (sink : Writing) (kept : Option Kept) (status : Status) →
+pub run-ends : (ts tk : Bool) (words : List (List ℕ)) (command : Command) (capacity : ℕ) (source : Reading) (sink : Writing)
+    (kept : Option Kept) (status : Status) →
     ReadsCommand words (Some command) → IsRun words capacity → CommandEnds ts tk command source sink kept status → RunEnds ts tk capacity source sink kept status
 run-ends ts tk words (Run c) capacity source sink kept status reads run ends =
     subst (λ k. RunEnds ts tk k source sink kept status) (same-capacity words c capacity reads run) ends
@@ -75,7 +78,8 @@ run-ends ts tk words (Generate s r) capacity source sink kept status reads run e
 run-ends ts tk words (Wake s c) capacity source sink kept status reads run ends = absurd (not-both words capacity s c run reads)
 
 -- The same of `gen`.
-pub sum-ends : (ts tk : Bool) (words : List (List ℕ)) (command : Command) (seed rounds : ℕ) (source : Reading) (sink : Writing) (kept : Option Kept) (status : Status) →
+pub sum-ends : (ts tk : Bool) (words : List (List ℕ)) (command : Command) (seed rounds : ℕ) (source : Reading) (sink : Writing)
+    (kept : Option Kept) (status : Status) →
     ReadsCommand words (Some command) → IsGenerate words seed rounds → CommandEnds ts tk command source sink kept status → SumsFor tk (generated_events seed rounds) sink.taken sink.now kept status
 sum-ends ts tk words (Run c) seed rounds source sink kept status reads gen ends = absurd (not-run-generate words c seed rounds reads gen)
 sum-ends ts tk words (Generate s r) seed rounds source sink kept status reads gen ends =
@@ -85,36 +89,11 @@ sum-ends ts tk words (Generate s r) seed rounds source sink kept status reads ge
 sum-ends ts tk words (Wake s c) seed rounds source sink kept status reads gen ends = absurd (not-wake-generate words s c seed rounds reads gen)
 
 -- The same of `wake`.
-pub wake-ends : (ts tk : Bool) (words : List (List ℕ)) (command : Command) (senders count : ℕ) (source : Reading) (sink : Writing) (kept : Option Kept) (status : Status) →
+pub wake-ends : (ts tk : Bool) (words : List (List ℕ)) (command : Command) (senders count : ℕ) (source : Reading) (sink : Writing)
+    (kept : Option Kept) (status : Status) →
     ReadsCommand words (Some command) → IsWake words senders count → CommandEnds ts tk command source sink kept status → WakesFor tk (senders * count) sink.taken sink.now status
 wake-ends ts tk words (Run c) senders count source sink kept status reads wake ends = absurd (not-both words c senders count reads wake)
 wake-ends ts tk words (Generate s r) senders count source sink kept status reads wake ends = absurd (not-wake-generate words senders count s r wake reads)
 wake-ends ts tk words (Wake s c) senders count source sink kept status reads wake ends =
     let same = same-counts words s senders c count reads wake in
     subst (λ k. WakesFor tk (k * count) sink.taken sink.now status) same.0 (subst (λ k. WakesFor tk (s * k) sink.taken sink.now status) same.1 ends)
-
--- What `run` has done is what every command has done.
-pub status-run : (ts tk : Bool) (capacity : ℕ) (source : Reading) (sink : Writing) (kept : Option Kept) (status : Status) →
-    RunEnds ts tk capacity source sink kept status → StatusFor ts tk source sink status
-status-run ts tk capacity source sink kept Done ends = ends.1
-status-run ts tk capacity source sink kept BadWords ends = ends
-status-run ts tk capacity source sink kept BadLine ends = ends
-status-run ts tk capacity source sink kept TooLong ends = ends
-status-run ts tk capacity source sink kept ReadFault ends = ends
-status-run ts tk capacity source sink kept WriteFault ends = ends.0
-status-run ts tk capacity source sink kept OutOfMemory ends = ends.0
-
--- So is what a command that reads nothing has done.
-pub status-sink : (ts tk : Bool) (left : List ℕ) (faults : ℕ) (sink : Writing) (status : Status) → SinkEnds tk sink status →
-    StatusFor ts tk (record { left = left; rest = left; faults = faults; later = faults }) sink status
-status-sink ts tk left faults sink Done ends = ends
-status-sink ts tk left faults sink BadWords ends = ends
-status-sink ts tk left faults sink BadLine ends = absurd ends
-status-sink ts tk left faults sink TooLong ends = absurd ends
-status-sink ts tk left faults sink ReadFault ends = absurd ends
-status-sink ts tk left faults sink WriteFault ends = ends
-status-sink ts tk left faults sink OutOfMemory ends = record {
-  few = λ told. record { count = 0; few = omega arith; taken = refl };
-  lines = λ told. unread refl;
-  calm = record { read = λ told. refl; wrote = ends };
-}

@@ -13,14 +13,16 @@ use Rattle.session_run.specs.Token.{token_at}
 use Rattle.session_run.specs.Session.{AreHeld}
 
 -- A token under its number stays where the driver keeps all tokens.
-pub are_held-kept : (tokens : List (Option Op)) (old new : IoUringDriver RingView Buf) → AreHeld tokens old → KeepsTokens old new → AreHeld tokens new
+pub are_held-kept : (tokens : List (Option Op)) (old new : IoUringDriver RingView Buf) → AreHeld tokens old → KeepsTokens old new
+    → AreHeld tokens new
 are_held-kept tokens old new held kept n op = (
   λ there. let h = (held n op).0 there in ((kept op).0 h.0, h.1),
   λ h. (held n op).1 ((kept op).1 h.0, h.1),
 )
 
 -- The token at a number after the place of another was emptied is what it was.
-pub token_at-emptied_other : (tokens : List (Option Op)) (n m : ℕ) → m ≢ n → token_at (amended tokens n (λ token. None)) m ≡ token_at tokens m
+pub token_at-emptied_other : (tokens : List (Option Op)) (n m : ℕ) → m ≢ n
+    → token_at (amended tokens n (λ token. None)) m ≡ token_at tokens m
 token_at-emptied_other [] n m other = refl
 token_at-emptied_other (token ∷ tokens) zero zero other = absurd (other refl)
 token_at-emptied_other (token ∷ tokens) zero (suc m) other = refl
@@ -34,7 +36,8 @@ token_at-emptied (token ∷ tokens) zero = refl
 token_at-emptied (token ∷ tokens) (suc n) = token_at-emptied tokens n
 
 -- A token that was taken and put back is where it was.
-pub put-taken : (tokens : List (Option Op)) (n : ℕ) (op : Op) → token_at tokens n ≡ Some op → amended (amended tokens n (λ token. None)) n (λ token. Some op) ≡ tokens
+pub put-taken : (tokens : List (Option Op)) (n : ℕ) (op : Op) → token_at tokens n ≡ Some op
+    → amended (amended tokens n (λ token. None)) n (λ token. Some op) ≡ tokens
 put-taken [] n op there = refl
 put-taken (token ∷ tokens) zero op there = ap (λ x. x ∷ tokens) (sym there)
 put-taken (token ∷ tokens) (suc n) op there = ap (λ xs. token ∷ xs) (put-taken tokens n op there)
@@ -51,13 +54,15 @@ token_at-added [] op = refl
 token_at-added (token ∷ tokens) op = token_at-added tokens op
 
 -- A token that was there stays where one is added.
-pub token_at-before : (tokens : List (Option Op)) (op other : Op) (n : ℕ) → token_at tokens n ≡ Some other → token_at (tokens ++ Some op ∷ []) n ≡ Some other
+pub token_at-before : (tokens : List (Option Op)) (op other : Op) (n : ℕ) → token_at tokens n ≡ Some other
+    → token_at (tokens ++ Some op ∷ []) n ≡ Some other
 token_at-before [] op other n there = cc
 token_at-before (token ∷ tokens) op other zero there = there
 token_at-before (token ∷ tokens) op other (suc n) there = token_at-before tokens op other n there
 
 -- A token after one was added was there, or is the added one at the last place.
-pub token_at-cases : (tokens : List (Option Op)) (op other : Op) (n : ℕ) → token_at (tokens ++ Some op ∷ []) n ≡ Some other → (token_at tokens n ≡ Some other) ⊎ ((n ≡ length tokens) × (other ≡ op))
+pub token_at-cases : (tokens : List (Option Op)) (op other : Op) (n : ℕ) → token_at (tokens ++ Some op ∷ []) n ≡ Some other
+    → (token_at tokens n ≡ Some other) ⊎ ((n ≡ length tokens) × (other ≡ op))
 token_at-cases [] op other zero there = inr (refl, let same : op ≡ other = cc in sym same)
 token_at-cases [] op other (suc n) there = absurd (let none : ◌≡◌ {A = Option Op} None (Some other) = there in cc)
 token_at-cases (token ∷ tokens) op other zero there = inl there
@@ -65,7 +70,8 @@ token_at-cases (token ∷ tokens) op other (suc n) there =
     elim (token_at-cases tokens op other n there) [ inl before ↦ inl before | inr last ↦ inr (ap suc last.0, last.1) ]
 
 -- The tokens after one was handed over: its place is empty, and the driver holds the others.
-pub are_held-taken : (tokens : List (Option Op)) (old new : IoUringDriver RingView Buf) (n : ℕ) (op : Op) → token_at tokens n ≡ Some op → AreHeld tokens old → DropsToken old new op → AreHeld (amended tokens n (λ token. None)) new
+pub are_held-taken : (tokens : List (Option Op)) (old new : IoUringDriver RingView Buf) (n : ℕ) (op : Op) → token_at tokens n ≡ Some op
+    → AreHeld tokens old → DropsToken old new op → AreHeld (amended tokens n (λ token. None)) new
 are_held-taken tokens old new n op there held taken m other = elim (same-or-not m n) [
   | inl same ↦ (
     λ found. absurd (let none : ◌≡◌ {A = Option Op} None (Some other) = sym (ap (λ k. token_at (amended tokens n (λ token. None)) k) same ∙ token_at-emptied tokens n) ∙ found in cc),
@@ -81,7 +87,8 @@ are_held-taken tokens old new n op there held taken m other = elim (same-or-not 
 ]
 
 -- The tokens after a submission: the new one stands at their end.
-pub are_held-added : (tokens : List (Option Op)) (old new : IoUringDriver RingView Buf) (op : Op) → length tokens ≡ given_by old → AreHeld tokens old → AddsTo old new op → AreHeld (tokens ++ Some op ∷ []) new
+pub are_held-added : (tokens : List (Option Op)) (old new : IoUringDriver RingView Buf) (op : Op) → length tokens ≡ given_by old
+    → AreHeld tokens old → AddsTo old new op → AreHeld (tokens ++ Some op ∷ []) new
 are_held-added tokens old new op count held adds n other = (
   λ found. elim (token_at-cases tokens op other n found) [
     | inl before ↦ (let was = (held n other).0 before in (adds.kept other was.0, was.1))

@@ -14,7 +14,8 @@ holds_next driver (h ∷ handles) zero within = refl
 holds_next driver (h ∷ handles) (suc i) within = holds_next driver handles i (omega (arith, within))
 
 -- No handle is left behind the last one.
-pub holds_none : (driver : IoUringDriver RingView Buf) (handles : List ℕ) (i : ℕ) → length handles ≤ i → holds_all driver (drop i handles) ≡ true
+pub holds_none : (driver : IoUringDriver RingView Buf) (handles : List ℕ) (i : ℕ) → length handles ≤ i
+    → holds_all driver (drop i handles) ≡ true
 holds_none driver [] zero past = refl
 holds_none driver [] (suc i) past = refl
 holds_none driver (h ∷ handles) zero past = absurd (omega (arith, past))

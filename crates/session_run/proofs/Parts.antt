@@ -30,7 +30,8 @@ pub parts_of_some : (engine : IoUringDriver RingView Buf) (kept : Tokens) (L : L
 parts_of_some engine kept L stand = record { ledger = L; stand = stand }
 
 -- A driver that holds the tokens that it held stays that of a session, where it stands for some ledger and nothing is due in it.
-parts-moved : (old new : IoUringDriver RingView Buf) (kept : Tokens) (L M : Ledger) → PartsStand old kept L → Stands (λ r. r) built new M → (due_in old ≡ [] → due_in new ≡ []) → KeepsTokens old new → given_by new ≡ given_by old → AreParts new kept
+parts-moved : (old new : IoUringDriver RingView Buf) (kept : Tokens) (L M : Ledger) → PartsStand old kept L → Stands (λ r. r) built new M
+    → (due_in old ≡ [] → due_in new ≡ []) → KeepsTokens old new → given_by new ≡ given_by old → AreParts new kept
 parts-moved old new kept L M stand driver due tokens given = record {
   ledger = M;
   stand = record {
@@ -42,13 +43,17 @@ parts-moved old new kept L M stand driver due tokens given = record {
 }
 
 -- An execution leaves the parts of a session.
-pub parts_executed : (old new : IoUringDriver RingView Buf) (kept : Tokens) (place : ℕ) (told : Told) (result : Result Executed ExecRefusal) → AreParts old kept → ((L : Ledger) → Stands (λ r. r) built old L → ExecutesFor built L place told new result) → OnErr result (new ≡ old) → due_in new ≡ due_in old → KeepsTokens old new → given_by new ≡ given_by old → AreParts new kept
+pub parts_executed : (old new : IoUringDriver RingView Buf) (kept : Tokens) (place : ℕ) (told : Told) (result : Result Executed ExecRefusal)
+    → AreParts old kept → ((L : Ledger) → Stands (λ r. r) built old L → ExecutesFor built L place told new result)
+    → OnErr result (new ≡ old) → due_in new ≡ due_in old → KeepsTokens old new → given_by new ≡ given_by old → AreParts new kept
 parts_executed old new kept place told (Ok (ExecutedNumber n)) parts answers err due tokens given =
     parts-moved old new kept parts.ledger (step parts.ledger (Exec place told)).0 parts.stand (answers parts.ledger parts.stand.driver).stands (λ none. due ∙ none) tokens given
 parts_executed old new kept place told (Err why) parts answers err due tokens given = subst (λ d. AreParts d kept) (sym err) parts
 
 -- So does a turn over the ring in memory.
-pub parts_turned : (old new : IoUringDriver RingView Buf) (kept : Tokens) (turned : Turned) (stop : Option Stop) → AreParts old kept → ((L : Ledger) → Stands (λ r. r) built old L → TurnsFor (λ r. r) built true L old new turned stop) → (due_in old ≡ [] → due_in new ≡ []) → KeepsTokens old new → given_by new ≡ given_by old → AreParts new kept
+pub parts_turned : (old new : IoUringDriver RingView Buf) (kept : Tokens) (turned : Turned) (stop : Option Stop) → AreParts old kept
+    → ((L : Ledger) → Stands (λ r. r) built old L → TurnsFor (λ r. r) built true L old new turned stop)
+    → (due_in old ≡ [] → due_in new ≡ []) → KeepsTokens old new → given_by new ≡ given_by old → AreParts new kept
 parts_turned old new kept turned None parts turns due tokens given =
     parts-moved old new kept parts.ledger (step parts.ledger Turn).0 parts.stand (turns parts.ledger parts.stand.driver).stands due tokens given
 parts_turned old new kept turned (Some stop) parts turns due tokens given =

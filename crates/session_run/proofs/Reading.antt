@@ -17,16 +17,6 @@ take-then-drop zero xs = refl
 take-then-drop (suc n) [] = refl
 take-then-drop (suc n) (x ∷ xs) = ap (λ ys. x ∷ ys) (take-then-drop n xs)
 
--- What was read so far, then what is left, is still all.
-pub read-more : (text left rest all now room bytes : List ℕ) (size n : ℕ) → text ++ left ≡ all → Gives left rest room size n →
-    bytes ≡ take n room → now ≡ text ++ bytes → now ++ rest ≡ all
-read-more text left rest all now room bytes size n before gives is joined =
-    ap (λ xs. xs ++ rest) (joined ∙ ap (λ xs. text ++ xs) (is ∙ gives.front))
-    ∙ append_assoc text (take n left) rest
-    ∙ ap (λ xs. text ++ (take n left ++ xs)) gives.after
-    ∙ ap (λ xs. text ++ xs) (take-then-drop n left)
-    ∙ before
-
 -- What is dropped behind a prefix.
 drop-behind : (xs ys : List ℕ) (n k : ℕ) → k ≡ length xs + n → drop k (xs ++ ys) ≡ drop n ys
 drop-behind [] ys n k is = (let same : k ≡ n = omega arith in ap (λ m. drop m ys) same)
@@ -82,7 +72,8 @@ was-read left rest text seen events all same stand = record {
 }
 
 -- All was read, and no line is wrong.
-pub right-short : (left rest text seen : List ℕ) (faults later : ℕ) → IsAll left rest text → seen ≡ text → AreEvents (lines seen) → later ≡ faults →
+pub right-short : (left rest text seen : List ℕ) (faults later : ℕ) → IsAll left rest text → seen ≡ text → AreEvents (lines seen)
+    → later ≡ faults →
     ReadShort left rest faults later
 right-short left rest text seen faults later all same right calm = record {
   few = few-all left rest text all;

@@ -36,11 +36,11 @@ pub cause-feed : (L : Ledger) (h : ℕ) (bytes : List ℕ) → user_holds L h �
 cause-feed L h bytes absent = ap (λ held. refused_if (not held || false) NoHandle
     (refused_if (is_ended_at L.world h) BadHandleEvent None)) absent
 
--- So is its end.
+-- So is an end of one.
 pub cause-end : (L : Ledger) (h : ℕ) → user_holds L h ≡ false → cause L (End h) ≡ Some NoHandle
 cause-end L h absent = ap (λ held. refused_if (not held || false) NoHandle (refused_if (is_ended_at L.world h) BadHandleEvent None)) absent
 
--- So is a look at it.
+-- So is a look at one.
 pub cause-look : (L : Ledger) (h : ℕ) → user_holds L h ≡ false → cause L (Look h) ≡ Some NoHandle
 cause-look L h absent = ap (λ held. refused_if (not held || false) NoHandle None) absent
 
@@ -100,11 +100,11 @@ unrefused-submit session L request live stands held count fewer =
 pub cause-poll : (L : Ledger) (n task : ℕ) → passes is_owned (slice_get L.ops n) ≡ false → cause L (Poll n task) ≡ Some NoOp
 cause-poll L n task absent = ap (λ owned. refused_if (not owned) NoOp None) absent
 
--- So is a drop.
+-- So is a drop of one.
 pub cause-drop : (L : Ledger) (n : ℕ) → passes is_owned (slice_get L.ops n) ≡ false → cause L (Drop n) ≡ Some NoOp
 cause-drop L n absent = ap (λ owned. refused_if (not owned) NoOp None) absent
 
--- So is a cancel.
+-- So is a cancel of one.
 pub cause-cancel : (L : Ledger) (n : ℕ) → passes is_owned (slice_get L.ops n) ≡ false → cause L (Cancel n) ≡ Some NoOp
 cause-cancel L n absent = ap (λ owned. refused_if (not owned) NoOp None) absent
 
@@ -113,7 +113,7 @@ owned-waiting : (task : Option ℕ) → is_owned_life (waiting task) ≡ true
 owned-waiting None = refl
 owned-waiting (Some task) = refl
 
--- So is the slot of an operation that wasn't dropped, wherever it is.
+-- An operation that wasn't dropped is its user's.
 owned-undropped : (was_dropped : Bool) (place : Place) (task : Option ℕ) → not was_dropped ≡ true →
     is_owned_life (life_of was_dropped place task) ≡ true
 owned-undropped true place task is = absurd (let never : ◌≡◌ {A = Bool} false true = is in cc)

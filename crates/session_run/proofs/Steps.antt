@@ -187,7 +187,8 @@ steps-unexecuted old new L place told ExecRefusal.OutOfMemory (Err refused) stan
     record { stands = stands-same old new L stands driver tokens; unrefused = cause_is }
 
 -- What a submission of a built request answers is what the session answers.
-pub steps-built : (old new : Session) (L : Ledger) (own : Request Buf Parts) (request : Request Buffer Parts) (result : Result Reply NoMemory) →
+pub steps-built : (old new : Session) (L : Ledger) (own : Request Buf Parts) (request : Request Buffer Parts)
+    (result : Result Reply NoMemory) →
     IfOk result (λ reply. (L : Ledger) → SessionStands old L → SessionAnswers L (Submit (plain_request built own)) reply new) →
     OnErr result ((L : Ledger) → SessionStands old L → SessionStands new L) →
     plain_request built own ≡ request → SessionStands old L → cause L (Submit request) ≡ None → StepsFor L (Submit request) new result

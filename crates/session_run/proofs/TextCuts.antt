@@ -10,17 +10,21 @@ use Rattle.session_run.specs.TextReads.{words, words_behind}
 pub lines-newline : (byte : ℕ) (bytes : List ℕ) → byte ≡ 10 → lines (byte ∷ bytes) ≡ [] ∷ lines bytes
 lines-newline byte bytes is = rw is refl
 
+-- Another byte belongs to the first line.
 pub lines-other : (byte : ℕ) (bytes : List ℕ) → (byte ≡ 10 → ⊥) → lines (byte ∷ bytes) ≡ onto_first byte (lines bytes)
 lines-other byte bytes isnt = grind (arith, nat_tests)
 
+-- A space ends an empty first word.
 pub words-space : (byte : ℕ) (bytes : List ℕ) → byte ≡ 32 → words (byte ∷ bytes) ≡ [] ∷ words bytes
 words-space byte bytes is = rw is refl
 
+-- Another byte belongs to the first word.
 pub words-other : (byte : ℕ) (bytes : List ℕ) → (byte ≡ 32 → ⊥) → words (byte ∷ bytes) ≡ onto_first byte (words bytes)
 words-other byte bytes isnt = grind (arith, nat_tests)
 
 -- The first line ends before the first byte 10.
-pub lines-at : (text : List ℕ) (at : ℕ) → at < length text → ((k : ℕ) → k < at → get_or text k 0 ≡ 10 → ⊥) → get_or text at 0 ≡ 10 → lines text ≡ take at text ∷ lines (drop (suc at) text)
+pub lines-at : (text : List ℕ) (at : ℕ) → at < length text → ((k : ℕ) → k < at → get_or text k 0 ≡ 10 → ⊥) → get_or text at 0 ≡ 10
+    → lines text ≡ take at text ∷ lines (drop (suc at) text)
 lines-at [] at below before is = absurd (omega arith)
 lines-at (byte ∷ bytes) zero below before is = lines-newline byte bytes is
 lines-at (byte ∷ bytes) (suc at) below before is =
@@ -36,7 +40,8 @@ lines-whole (byte ∷ next ∷ bytes) some none =
     lines-other byte (next ∷ bytes) (none zero (omega arith)) ∙ ap (onto_first byte) rest
 
 -- The first word ends before the first space.
-pub words-at : (text : List ℕ) (at : ℕ) → at < length text → ((k : ℕ) → k < at → get_or text k 0 ≡ 32 → ⊥) → get_or text at 0 ≡ 32 → words text ≡ take at text ∷ words_behind (drop at text)
+pub words-at : (text : List ℕ) (at : ℕ) → at < length text → ((k : ℕ) → k < at → get_or text k 0 ≡ 32 → ⊥) → get_or text at 0 ≡ 32
+    → words text ≡ take at text ∷ words_behind (drop at text)
 words-at [] at below before is = absurd (omega arith)
 words-at (byte ∷ bytes) zero below before is = words-space byte bytes is
 words-at (byte ∷ bytes) (suc at) below before is =
@@ -54,6 +59,7 @@ words-whole (byte ∷ bytes) none =
 pub take-rest : (xs : List ℕ) (n : ℕ) → take (length xs - n) (drop n xs) ≡ drop n xs
 take-rest xs n = grind (arith, common_steps)
 
+-- Nothing is left behind a whole list.
 pub drop-whole : (xs : List ℕ) → drop (length xs) xs ≡ []
 drop-whole xs = grind (arith, common_steps)
 
@@ -62,14 +68,16 @@ take-whole : (xs : List ℕ) → take (length xs) xs ≡ xs
 take-whole xs = grind (arith, common_steps)
 
 -- The first word ends at the first space, or at the end.
-pub words-first : (text : List ℕ) (at : ℕ) → at ≤ length text → ((k : ℕ) → k < at → get_or text k 0 ≡ 32 → ⊥) → (at < length text → get_or text at 0 ≡ 32) →
+pub words-first : (text : List ℕ) (at : ℕ) → at ≤ length text → ((k : ℕ) → k < at → get_or text k 0 ≡ 32 → ⊥)
+    → (at < length text → get_or text at 0 ≡ 32) →
     words text ≡ take at text ∷ words_behind (take (length text - at) (drop at text))
 words-first text at bound before there = words-cases text at bound before there (bound-or (length text) at bound)
   where
     bound-or : (n k : ℕ) → k ≤ n → (k < n) ⊎ (k ≡ n)
     bound-or n k order = grind arith
 
-    words-cases : (text : List ℕ) (at : ℕ) → at ≤ length text → ((k : ℕ) → k < at → get_or text k 0 ≡ 32 → ⊥) → (at < length text → get_or text at 0 ≡ 32) → (at < length text) ⊎ (at ≡ length text) →
+    words-cases : (text : List ℕ) (at : ℕ) → at ≤ length text → ((k : ℕ) → k < at → get_or text k 0 ≡ 32 → ⊥)
+        → (at < length text → get_or text at 0 ≡ 32) → (at < length text) ⊎ (at ≡ length text) →
         words text ≡ take at text ∷ words_behind (take (length text - at) (drop at text))
     words-cases text at bound before there (inl below) = rw (take-rest text at) (words-at text at below before (there below))
     words-cases text at bound before there (inr is) =

@@ -42,11 +42,13 @@ event_of-event_words (Exec place (Fail e)) h = rw (number_of-decimal place h.0, 
 abbrev Spells : List (List ℕ) → Event → Type 0
 Spells all event = (all ≡ event_words event) × IsEvent event
 
+-- Words behind `turn` that are read as an event are a turn's.
 turn_read : (more : List (List ℕ)) (event : Event) → turn_of more ≡ Some event → Spells (codes "turn" ∷ more) event
 turn_read more event is =
     let end = at_end-Some Turn more event is in
     subst (λ (e : Event). Spells (codes "turn" ∷ more) e) end.1 (ap (λ (l : List (List ℕ)). codes "turn" ∷ l) end.0, tt)
 
+-- Words behind `give` that are read as an event are a give's.
 give_read : (more : List (List ℕ)) (event : Event) → give_of more ≡ Some event → Spells (codes "give" ∷ more) event
 give_read [] event is = absurd (cc)
 give_read (word ∷ more) event is =
@@ -54,6 +56,7 @@ give_read (word ∷ more) event is =
     let end = at_end-Some (Give kind.0) more event kind.2 in
     subst (λ (e : Event). Spells (codes "give" ∷ word ∷ more) e) end.1 (ap (λ (w : List ℕ). codes "give" ∷ w ∷ more) (handle_kind_of-Some word kind.0 kind.1) ∙ ap (λ (l : List (List ℕ)). codes "give" ∷ handle_kind_word kind.0 ∷ l) end.0, tt)
 
+-- Words behind `feed` that are read as an event are a feed's.
 feed_read : (more : List (List ℕ)) (event : Event) → feed_of more ≡ Some event → Spells (codes "feed" ∷ more) event
 feed_read more event is =
     let h = and_then-Some (λ (h : ℕ × List (List ℕ)). option_map (λ (bytes : List ℕ). Feed h.0 bytes) (bytes_end h.1)) (number_field more) event is in
@@ -62,6 +65,7 @@ feed_read more event is =
     let bytes = bytes_end-Some h.0.1 b.0 b.1 in
     subst (λ (e : Event). Spells (codes "feed" ∷ more) e) b.2 (ap (λ (l : List (List ℕ)). codes "feed" ∷ l) (number.0 ∙ ap (λ (l : List (List ℕ)). decimal h.0.0 ∷ l) bytes.0), (number.1, bytes.1))
 
+-- Words behind `poll` that are read as an event are a poll's.
 poll_read : (more : List (List ℕ)) (event : Event) → poll_of more ≡ Some event → Spells (codes "poll" ∷ more) event
 poll_read more event is =
     let n = and_then-Some (λ (n : ℕ × List (List ℕ)). option_and_then (λ (task : ℕ × List (List ℕ)). at_end (Poll n.0 task.0) task.1) (number_field n.1)) (number_field more) event is in
@@ -72,22 +76,27 @@ poll_read more event is =
     subst (λ (e : Event). Spells (codes "poll" ∷ more) e) end.1 (ap (λ (l : List (List ℕ)). codes "poll" ∷ l) (first.0 ∙ ap (λ (l : List (List ℕ)). decimal n.0.0 ∷ l) (second.0 ∙ ap (λ (l : List (List ℕ)). decimal task.0.0 ∷ l) end.0)), (first.1, second.1))
 
 -- An event of one number.
-numbered_read : (word : List ℕ) (make : ℕ → Event) (more : List (List ℕ)) (event : Event) → ((n : ℕ) → n < 2 ^ 64 → Spells (word ∷ decimal n ∷ []) (make n)) → numbered_of make more ≡ Some event → Spells (word ∷ more) event
+numbered_read : (word : List ℕ) (make : ℕ → Event) (more : List (List ℕ)) (event : Event)
+    → ((n : ℕ) → n < 2 ^ 64 → Spells (word ∷ decimal n ∷ []) (make n)) → numbered_of make more ≡ Some event → Spells (word ∷ more) event
 numbered_read word make more event spelt is =
     let n = map-Some make (last_number_of more) event is in
     let number = last_number-Some more n.0 n.1 in
     let spells = spelt n.0 number.1 in
     subst (λ (e : Event). Spells (word ∷ more) e) n.2 (ap (λ (l : List (List ℕ)). word ∷ l) number.0 ∙ spells.0, spells.1)
 
+-- Words behind `drop` that are read as an event are a drop's.
 drop_read : (more : List (List ℕ)) (event : Event) → numbered_of Drop more ≡ Some event → Spells (codes "drop" ∷ more) event
 drop_read more event is = numbered_read (codes "drop") Drop more event (λ n small. (refl, small)) is
 
+-- Words behind `cancel` that are read as an event are a cancel's.
 cancel_read : (more : List (List ℕ)) (event : Event) → numbered_of Cancel more ≡ Some event → Spells (codes "cancel" ∷ more) event
 cancel_read more event is = numbered_read (codes "cancel") Cancel more event (λ n small. (refl, small)) is
 
+-- Words behind `end` that are read as an event are an end's.
 end_read : (more : List (List ℕ)) (event : Event) → numbered_of End more ≡ Some event → Spells (codes "end" ∷ more) event
 end_read more event is = numbered_read (codes "end") End more event (λ n small. (refl, small)) is
 
+-- Words behind `look` that are read as an event are a look's.
 look_read : (more : List (List ℕ)) (event : Event) → numbered_of Look more ≡ Some event → Spells (codes "look" ∷ more) event
 look_read more event is = numbered_read (codes "look") Look more event (λ n small. (refl, small)) is
 
@@ -96,7 +105,8 @@ abbrev Tells : List (List ℕ) → Told → Type 0
 Tells all told = (all ≡ told_words told) × IsTold told
 
 -- What is told by a number below a bound.
-below_read : (word : List ℕ) (bound : ℕ) (make : ℕ → Told) (more : List (List ℕ)) (told : Told) → ((n : ℕ) → n < bound → Tells (word ∷ decimal n ∷ []) (make n)) → told_below bound make more ≡ Some told → Tells (word ∷ more) told
+below_read : (word : List ℕ) (bound : ℕ) (make : ℕ → Told) (more : List (List ℕ)) (told : Told)
+    → ((n : ℕ) → n < bound → Tells (word ∷ decimal n ∷ []) (make n)) → told_below bound make more ≡ Some told → Tells (word ∷ more) told
 below_read word bound make more told spelt is =
     let n = and_then-Some (λ (n : ℕ). if nat_lt n bound then Some (make n) else None) (last_number_of more) told is in
     let fits = if-Some (nat_lt n.0 bound) (Some (make n.0)) told n.2 in
@@ -105,12 +115,15 @@ below_read word bound make more told spelt is =
     let same : make n.0 ≡ told = (let both : Some (make n.0) ≡ Some told = fits.1 in cc) in
     subst (λ (t : Told). Tells (word ∷ more) t) same (ap (λ (l : List (List ℕ)). word ∷ l) number.0 ∙ tells.0, tells.1)
 
+-- Words behind `ok` that are read as an outcome are a count's.
 count_read : (more : List (List ℕ)) (told : Told) → told_below (2 ^ 32) Count more ≡ Some told → Tells (codes "ok" ∷ more) told
 count_read more told is = below_read (codes "ok") (2 ^ 32) Count more told (λ n small. (refl, small)) is
 
+-- Words behind `err` that are read as an outcome are an error's.
 error_read : (more : List (List ℕ)) (told : Told) → told_below (2 ^ 16) Fail more ≡ Some told → Tells (codes "err" ∷ more) told
 error_read more told is = below_read (codes "err") (2 ^ 16) Fail more told (λ n small. (refl, small)) is
 
+-- Words that are read as an outcome are that outcome's.
 told_read : (all : List (List ℕ)) (told : Told) → told_of all ≡ Some told → Tells all told
 told_read [] told is = absurd (cc)
 told_read (word ∷ more) told is =
@@ -124,6 +137,7 @@ told_read (word ∷ more) told is =
           (ap (λ (w : List ℕ). w ∷ more) ((bytes_eq-Decides word (codes "err")).0 it.0) ∙ rest.0, rest.1)
     ]
 
+-- Words behind `exec` that are read as an event are an execution's.
 exec_read : (more : List (List ℕ)) (event : Event) → exec_of more ≡ Some event → Spells (codes "exec" ∷ more) event
 exec_read more event is =
     let place = and_then-Some (λ (place : ℕ × List (List ℕ)). option_map (λ (told : Told). Exec place.0 told) (told_of place.1)) (number_field more) event is in
@@ -132,15 +146,19 @@ exec_read more event is =
     let rest = told_read place.0.1 told.0 told.1 in
     subst (λ (e : Event). Spells (codes "exec" ∷ more) e) told.2 (ap (λ (l : List (List ℕ)). codes "exec" ∷ l) (number.0 ∙ ap (λ (l : List (List ℕ)). decimal place.0.0 ∷ l) rest.0), (number.1, rest.1))
 
+-- Words behind `submit` that are read as an event are a submission's.
 submit_read : (more : List (List ℕ)) (event : Event) → submit_of more ≡ Some event → Spells (codes "submit" ∷ more) event
 submit_read more event is =
     let r = map-Some Submit (request_of more) event is in
     let rest = request_read more r.0 r.1 in
     subst (λ (e : Event). Spells (codes "submit" ∷ more) e) r.2 (ap (λ (l : List (List ℕ)). codes "submit" ∷ l) rest.0, rest.1)
 
-under : (word text : List ℕ) (more : List (List ℕ)) (event : Event) → bytes_eq word text ≡ true → Spells (text ∷ more) event → Spells (word ∷ more) event
+-- A first word that passes the test for a text is that text.
+under : (word text : List ℕ) (more : List (List ℕ)) (event : Event) → bytes_eq word text ≡ true → Spells (text ∷ more) event
+    → Spells (word ∷ more) event
 under word text more event same spells = (ap (λ (w : List ℕ). w ∷ more) ((bytes_eq-Decides word text).0 same) ∙ spells.0, spells.1)
 
+-- A first word and those behind it that are read as an event are that event's.
 event_by-Some : (word : List ℕ) (more : List (List ℕ)) (event : Event) → event_by word more ≡ Some event → Spells (word ∷ more) event
 unfolding event_by
 event_by-Some word more event is =
@@ -175,6 +193,7 @@ event_by-Some word more event is =
       ]
     ]
 
+-- Words that are read as an event are that event's.
 event_of-Some : (all : List (List ℕ)) (event : Event) → event_of all ≡ Some event → Spells all event
 event_of-Some [] event is = absurd (cc)
 event_of-Some (word ∷ more) event is = event_by-Some word more event is
@@ -199,10 +218,12 @@ event_of-stands line event is =
     let read = event_of-Some (words line) event is in
     record { typed = read.1; text = sym (spaced-words line) ∙ ap spaced read.0 }
 
+-- A line that stands for an event is read as it.
 pub stands-event_of : (line : List ℕ) (event : Event) → StandsFor line event → event_of (words line) ≡ Some event
 stands-event_of line event stands =
     ap event_of (ap words stands.text ∙ words-event_text event stands.typed) ∙ event_of-event_words event stands.typed
 
+-- Nothing is no event.
 none_isnt_some : (event : Event) → None ≡ Some event → ⊥
 none_isnt_some event is = cc
 

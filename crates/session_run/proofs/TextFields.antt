@@ -12,43 +12,48 @@ use Rattle.session_run.specs.TextEvent.{AreBytes, IsBuffer, buffer_kind_word, bu
 use Rattle.session_run.specs.TextReads.{number_of, number_field, last_number_of, bytes_end, at_end, handle_kind_of, buffer_kind_of, kind_field, is_full, bounded, buffer_of}
 use Rattle.session_run.specs.TextWords.{bytes_word}
 use Rattle.session_run.proofs.TextHex.{bytes_of-bytes_word, bytes_of-Some}
-use Rattle.session_run.proofs.TextNumbers.{None-from, number_of-decimal, number_of-Some}
+use Rattle.session_run.proofs.TextNumbers.{number_of-decimal, number_of-Some}
 
 -- What stood behind an answer.
-pub and_then-Some : {A B : Type 0} (f : A → Option B) (o : Option A) (y : B) → option_and_then f o ≡ Some y → (x : A) × (o ≡ Some x) × (f x ≡ Some y)
+pub and_then-Some : {A B : Type 0} (f : A → Option B) (o : Option A) (y : B) → option_and_then f o ≡ Some y
+    → (x : A) × (o ≡ Some x) × (f x ≡ Some y)
 and_then-Some f None y is = absurd (cc)
 and_then-Some f (Some x) y is = (x, refl, is)
 
+-- What was mapped to an answer.
 pub map-Some : {A B : Type 0} (f : A → B) (o : Option A) (y : B) → option_map f o ≡ Some y → (x : A) × (o ≡ Some x) × (f x ≡ y)
 map-Some f None y is = absurd (cc)
 map-Some f (Some x) y is = (x, refl, cc)
 
+-- An answer behind a test passed the test.
 pub if-Some : {A : Type 0} (b : Bool) (o : Option A) (y : A) → (if b then o else None) ≡ Some y → (b ≡ true) × (o ≡ Some y)
 if-Some true o y is = (refl, is)
 if-Some false o y is = absurd (cc)
 
 -- One of two answers.
-pub either-Some : {A : Type 0} (b : Bool) (o p : Option A) (value : A) → (if b then o else p) ≡ Some value → ((b ≡ true) × (o ≡ Some value)) ⊎ (p ≡ Some value)
+pub either-Some : {A : Type 0} (b : Bool) (o p : Option A) (value : A) → (if b then o else p) ≡ Some value
+    → ((b ≡ true) × (o ≡ Some value)) ⊎ (p ≡ Some value)
 either-Some true o p value is = inl (refl, is)
 either-Some false o p value is = inr is
 
+-- What is the same as an answer is the same.
 pub some_same : {A : Type 0} (x y : A) → Some x ≡ Some y → x ≡ y
 some_same x y is = cc
 
+-- Two tests that pass together pass alone.
 pub and-true : (a b : Bool) → (a && b) ≡ true → (a ≡ true) × (b ≡ true)
 and-true true true is = (refl, refl)
 and-true true false is = absurd (cc)
 and-true false b is = absurd (cc)
 
+-- A value that is read at the end has no word behind it.
 pub at_end-Some : {A : Type 0} (value : A) (words : List (List ℕ)) (y : A) → at_end value words ≡ Some y → (words ≡ []) × (value ≡ y)
 at_end-Some value [] y is = (refl, cc)
 at_end-Some value (word ∷ words) y is = absurd (cc)
 
--- Numbers.
-pub number_field-decimal : (n : ℕ) (words : List (List ℕ)) → n < 2 ^ 64 → number_field (decimal n ∷ words) ≡ Some (n, words)
-number_field-decimal n words small = rw (number_of-decimal n small) refl
-
-pub number_field-Some : (words rest : List (List ℕ)) (n : ℕ) → number_field words ≡ Some (n, rest) → (words ≡ decimal n ∷ rest) × (n < 2 ^ 64)
+-- A first word that is read as a number is its digits.
+pub number_field-Some : (words rest : List (List ℕ)) (n : ℕ) → number_field words ≡ Some (n, rest)
+    → (words ≡ decimal n ∷ rest) × (n < 2 ^ 64)
 number_field-Some [] rest n is = absurd (cc)
 number_field-Some (word ∷ words) rest n is =
     let read = and_then-Some (λ (number : ℕ). Some (number, words)) (number_of word) (n, rest) is in
@@ -59,29 +64,30 @@ number_field-Some (word ∷ words) rest n is =
     (rw (number.0, behind) refl, number.1)
 
 -- Bytes.
-pub bytes_end-Some : (words : List (List ℕ)) (bytes : List ℕ) → bytes_end words ≡ Some bytes → (words ≡ bytes_word bytes ∷ []) × AreBytes bytes
+pub bytes_end-Some : (words : List (List ℕ)) (bytes : List ℕ) → bytes_end words ≡ Some bytes
+    → (words ≡ bytes_word bytes ∷ []) × AreBytes bytes
 bytes_end-Some [] bytes is = absurd (cc)
 bytes_end-Some (word ∷ []) bytes is = let read = bytes_of-Some word bytes is in (ap (λ (w : List ℕ). w ∷ []) read.0, read.1)
 bytes_end-Some (word ∷ next ∷ words) bytes is = absurd (cc)
 
--- Kinds.
-pub handle_kind_of-word : (kind : HandleKind) → handle_kind_of (handle_kind_word kind) ≡ Some kind
-handle_kind_of-word Stream = refl
-
+-- A word that is read as a handle's kind is that kind's.
 pub handle_kind_of-Some : (word : List ℕ) (kind : HandleKind) → handle_kind_of word ≡ Some kind → word ≡ handle_kind_word kind
 handle_kind_of-Some word Stream is =
     (bytes_eq-Decides word (codes "stream")).0 (if-Some (bytes_eq word (codes "stream")) (Some Stream) Stream is).0
 
+-- A buffer's kind is read from its word.
 pub buffer_kind_of-word : (kind : Kind) → buffer_kind_of (buffer_kind_word kind) ≡ Some kind
 buffer_kind_of-word Vector = refl
 buffer_kind_of-word Grown = refl
 buffer_kind_of-word Fixed = refl
 
 -- The first of two answers, or the other.
-either-kind : (b : Bool) (kind : Kind) (o : Option Kind) (y : Kind) → (if b then Some kind else o) ≡ Some y → ((b ≡ true) × (kind ≡ y)) ⊎ (o ≡ Some y)
+either-kind : (b : Bool) (kind : Kind) (o : Option Kind) (y : Kind) → (if b then Some kind else o) ≡ Some y
+    → ((b ≡ true) × (kind ≡ y)) ⊎ (o ≡ Some y)
 either-kind true kind o y is = inl (refl, some_same kind y is)
 either-kind false kind o y is = inr is
 
+-- A word that is read as a buffer's kind is that kind's.
 pub buffer_kind_of-Some : (word : List ℕ) (kind : Kind) → buffer_kind_of word ≡ Some kind → word ≡ buffer_kind_word kind
 buffer_kind_of-Some word kind is =
     elim (either-kind (bytes_eq word (codes "v")) Vector _ kind is) [
@@ -94,7 +100,9 @@ buffer_kind_of-Some word kind is =
       ]
     ]
 
-pub kind_field-Some : (words rest : List (List ℕ)) (kind : Kind) → kind_field words ≡ Some (kind, rest) → words ≡ buffer_kind_word kind ∷ rest
+-- A first word that is read as a buffer's kind is that kind's.
+pub kind_field-Some : (words rest : List (List ℕ)) (kind : Kind) → kind_field words ≡ Some (kind, rest)
+    → words ≡ buffer_kind_word kind ∷ rest
 kind_field-Some [] rest kind is = absurd (cc)
 kind_field-Some (word ∷ words) rest kind is =
     let read = and_then-Some (λ (k : Kind). Some (k, words)) (buffer_kind_of word) (kind, rest) is in
@@ -110,15 +118,18 @@ is_full-IsFull Vector bytes total h = refl
 is_full-IsFull Grown bytes total h = refl
 is_full-IsFull Fixed bytes total h = eq-eqb (length bytes) total h
 
+-- A buffer that is as full as its kind wants passes the test.
 IsFull-is_full : (kind : Kind) (bytes : List ℕ) (total : ℕ) → is_full kind (length bytes) total ≡ true → IsFull kind bytes total
 IsFull-is_full Vector bytes total is = tt
 IsFull-is_full Grown bytes total is = tt
 IsFull-is_full Fixed bytes total is = eqb-true (length bytes) total is
 
+-- A buffer whose bounds hold passes the tests.
 pub bounded-bounds : (b : Buffer) → BufferBounds b → bounded b ≡ Some b
 bounded-bounds b h =
     rw (le-leb (length b.bytes) b.total h.fits, le-leb b.begin b.end h.ordered, le-leb b.begin (length b.bytes) h.within, le-leb b.end b.total h.inside, is_full-IsFull b.kind b.bytes b.total h.full) refl
 
+-- A buffer that passes the tests keeps its bounds.
 pub bounded-Some : (b c : Buffer) → bounded b ≡ Some c → (b ≡ c) × BufferBounds b
 bounded-Some b c is =
     let tests = if-Some (nat_le (length b.bytes) b.total && nat_le b.begin b.end && nat_le b.begin (length b.bytes) && nat_le b.end b.total && is_full b.kind (length b.bytes) b.total) (Some b) c is in
@@ -136,9 +147,7 @@ bounded-Some b c is =
       },
     )
 
-pub bounded-None : (b : Buffer) → (BufferBounds b → ⊥) → bounded b ≡ None
-bounded-None b never = None-from (bounded b) (λ c is. never (bounded-Some b c is).1)
-
+-- The words of a buffer's parts are read as the buffer.
 buffer_of-parts : (kind : Kind) (bytes : List ℕ) (total begin end : ℕ) (b : Buffer) → b ≡ record { kind = kind; bytes = bytes; total = total; begin = begin; end = end }
     → BufferBounds b → AreBytes bytes → total < 2 ^ 64 → begin < 2 ^ 64 → end < 2 ^ 64
     → buffer_of (buffer_kind_word kind ∷ decimal total ∷ decimal begin ∷ decimal end ∷ bytes_word bytes ∷ []) ≡ Some b
@@ -146,6 +155,7 @@ buffer_of-parts kind bytes total begin end b is bounds small total_fits begin_fi
     rw (buffer_kind_of-word kind, number_of-decimal total total_fits, number_of-decimal begin begin_fits, number_of-decimal end end_fits, bytes_of-bytes_word bytes small)
     (ap bounded (sym is) ∙ bounded-bounds b bounds)
 
+-- The words of a buffer are read as it.
 pub buffer_of-words : (b : Buffer) → IsBuffer b → buffer_of (buffer_words b) ≡ Some b
 buffer_of-words b h =
     let bounds = h.bounds in
@@ -154,7 +164,8 @@ buffer_of-words b h =
 
 -- A buffer is read as what its parts are.
 buffer_parts : (all : List (List ℕ)) (b : Buffer) (kind : Kind) (total begin end : ℕ) (bytes : List ℕ) (one two three four : List (List ℕ))
-    → all ≡ buffer_kind_word kind ∷ one → (one ≡ decimal total ∷ two) × (total < 2 ^ 64) → (two ≡ decimal begin ∷ three) × (begin < 2 ^ 64) → (three ≡ decimal end ∷ four) × (end < 2 ^ 64)
+    → all ≡ buffer_kind_word kind ∷ one → (one ≡ decimal total ∷ two) × (total < 2 ^ 64) → (two ≡ decimal begin ∷ three) × (begin < 2 ^ 64)
+    → (three ≡ decimal end ∷ four) × (end < 2 ^ 64)
     → (four ≡ bytes_word bytes ∷ []) × AreBytes bytes → bounded (record { kind = kind; bytes = bytes; total = total; begin = begin; end = end }) ≡ Some b
     → (all ≡ buffer_words b) × IsBuffer b
 buffer_parts all b kind total begin end bytes one two three four k t g e y is =

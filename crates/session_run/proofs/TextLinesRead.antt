@@ -12,22 +12,28 @@ pub record HaveRead (text rest : List ℕ) (events : List Event) : Type 0 where
   pub split : lines text ≡ read ++ lines rest
   pub stand : AllZip StandsFor read events
 
+-- At first no line was read.
 pub have_read-none : (text : List ℕ) → HaveRead text text []
 have_read-none text = record { read = []; split = refl; stand = tt }
 
-zip-push : (xs : List (List ℕ)) (ys : List Event) (x : List ℕ) (y : Event) → AllZip StandsFor xs ys → StandsFor x y → AllZip StandsFor (xs ++ x ∷ []) (ys ++ y ∷ [])
+-- A line and its event join those that stand for each other.
+zip-push : (xs : List (List ℕ)) (ys : List Event) (x : List ℕ) (y : Event) → AllZip StandsFor xs ys → StandsFor x y
+    → AllZip StandsFor (xs ++ x ∷ []) (ys ++ y ∷ [])
 zip-push [] [] x y all one = (one, tt)
 zip-push [] (z ∷ ys) x y all one = absurd all
 zip-push (w ∷ xs) [] x y all one = absurd all
 zip-push (w ∷ xs) (z ∷ ys) x y all one = (all.0, zip-push xs ys x y all.1 one)
 
+-- Lines that stand for events are as many.
 zip-length : (xs : List (List ℕ)) (ys : List Event) → AllZip StandsFor xs ys → length xs ≡ length ys
 zip-length [] [] all = refl
 zip-length [] (y ∷ ys) all = absurd all
 zip-length (x ∷ xs) [] all = absurd all
 zip-length (x ∷ xs) (y ∷ ys) all = let rest = zip-length xs ys all.1 in omega (arith, rest)
 
-pub have_read-more : (text rest line behind : List ℕ) (events more : List Event) (event : Event) → HaveRead text rest events → lines rest ≡ line ∷ lines behind → StandsFor line event
+-- One line more was read.
+pub have_read-more : (text rest line behind : List ℕ) (events more : List Event) (event : Event) → HaveRead text rest events
+    → lines rest ≡ line ∷ lines behind → StandsFor line event
     → more ≡ events ++ event ∷ [] → HaveRead text behind more
 have_read-more text rest line behind events more event so_far first stands is =
     record {
@@ -36,7 +42,9 @@ have_read-more text rest line behind events more event so_far first stands is =
       stand = rw is (zip-push so_far.read events line event so_far.stand stands);
     }
 
-pub have_read-wrong : (text rest line behind : List ℕ) (events : List Event) (n : ℕ) → HaveRead text rest events → lines rest ≡ line ∷ lines behind → IsWrong line → n ≡ length events
+-- The next line is the first wrong one.
+pub have_read-wrong : (text rest line behind : List ℕ) (events : List Event) (n : ℕ) → HaveRead text rest events
+    → lines rest ≡ line ∷ lines behind → IsWrong line → n ≡ length events
     → IsFirstWrong (lines text) (n + 1)
 have_read-wrong text rest line behind events n so_far first wrong count =
     let read = zip-length so_far.read events so_far.stand in
@@ -51,6 +59,8 @@ have_read-wrong text rest line behind events n so_far first wrong count =
       wrong = wrong;
     }
 
-pub have_read-all : (text rest : List ℕ) (events : List Event) → HaveRead text rest events → length rest ≡ 0 → AllZip StandsFor (lines text) events
+-- All lines were read.
+pub have_read-all : (text rest : List ℕ) (events : List Event) → HaveRead text rest events → length rest ≡ 0
+    → AllZip StandsFor (lines text) events
 have_read-all text [] events so_far end = rw (so_far.split, append-nil so_far.read) so_far.stand
 have_read-all text (byte ∷ rest) events so_far end = absurd (omega arith)

@@ -10,6 +10,7 @@ use Rattle.std.specs.Char.{digit_value}
 use Rattle.std.specs.Str.Parse.{AllDigits, digits_value}
 use Rattle.session_run.specs.TextReads.{number_of}
 
+-- Digits in base 10 are a model of numerals.
 own : IsNumeralModel (AllDigits 10) (digits_value 10)
 own = record { to = λ ds h. h; from = λ ds h. h; same = λ ds h. refl }
 
@@ -57,7 +58,8 @@ number_of-zero_first word long zero_first =
     ])
 
 -- A number is written in digits.
-pub number_of-no_digit : (word : List ℕ) (i : ℕ) → i < length word → (48 ≤ get_or word i 0 → get_or word i 0 ≤ 57 → ⊥) → number_of word ≡ None
+pub number_of-no_digit : (word : List ℕ) (i : ℕ) → i < length word → (48 ≤ get_or word i 0 → get_or word i 0 ≤ 57 → ⊥)
+    → number_of word ≡ None
 number_of-no_digit word i below isnt =
     number_of-None word (λ n small is.
     let digits : AllDigits 10 word = subst (λ (w : List ℕ). AllDigits 10 w) (sym is) (decimal_is_IsNumeral n small).0.1 in
@@ -73,7 +75,8 @@ number_of-large word i large =
     absurd (omega arith))
 
 -- Digits with no zero in front are read as their value.
-pub number_of-digits : (word : List ℕ) → AllDigits 10 word → 0 < length word → (get_or word 0 0 ≡ 48 → length word ≡ 1) → digits_value 10 word < 2 ^ 64 → number_of word ≡ Some (digits_value 10 word)
+pub number_of-digits : (word : List ℕ) → AllDigits 10 word → 0 < length word → (get_or word 0 0 ≡ 48 → length word ≡ 1)
+    → digits_value 10 word < 2 ^ 64 → number_of word ≡ Some (digits_value 10 word)
 unfolding number_of
 number_of-digits word digits some no_zero small =
     let same : bytes_eq (decimal (digits_value 10 word)) word ≡ true = (bytes_eq-Decides (decimal (digits_value 10 word)) word).1 (decimal-digits_value own word digits some no_zero small) in

@@ -28,7 +28,8 @@ abbrev SpellRequest : List (List ℕ) → Request Buffer Parts → Type 0
 SpellRequest all request = (all ≡ request_words request) × IsRequest request
 
 -- A request of a handle, with its buffer or its parts.
-handle_read : {A : Type 0} (word : List ℕ) (read : List (List ℕ) → Option A) (make : ℕ → A → Request Buffer Parts) (words_of : A → List (List ℕ)) (IsTyped : A → Type 0) (more : List (List ℕ)) (request : Request Buffer Parts)
+handle_read : {A : Type 0} (word : List ℕ) (read : List (List ℕ) → Option A) (make : ℕ → A → Request Buffer Parts)
+    (words_of : A → List (List ℕ)) (IsTyped : A → Type 0) (more : List (List ℕ)) (request : Request Buffer Parts)
     → ((words : List (List ℕ)) (found : A) → read words ≡ Some found → (words ≡ words_of found) × IsTyped found)
     → ((n : ℕ) (found : A) → n < 2 ^ 64 → IsTyped found → SpellRequest (word ∷ decimal n ∷ words_of found) (make n found))
     → option_map (λ found. make found.0 found.1) (with_handle read more) ≡ Some request → SpellRequest (word ∷ more) request
@@ -43,22 +44,34 @@ handle_read word read make words_of IsTyped more request reads spelt is =
     subst (λ (r : Request Buffer Parts). SpellRequest (word ∷ more) r) made
     (ap (λ (l : List (List ℕ)). word ∷ l) (number.0 ∙ ap (λ (l : List (List ℕ)). decimal h.0.0 ∷ l) rest.0) ∙ spells.0, spells.1)
 
-recv_read : (more : List (List ℕ)) (request : Request Buffer Parts) → option_map (λ found. Recv found.0 found.1) (with_handle buffer_of more) ≡ Some request → SpellRequest (codes "recv" ∷ more) request
+-- Words behind `recv` that are read as a request are a read's.
+recv_read : (more : List (List ℕ)) (request : Request Buffer Parts) → option_map (λ found. Recv found.0 found.1)
+    (with_handle buffer_of more) ≡ Some request → SpellRequest (codes "recv" ∷ more) request
 recv_read more request is = handle_read (codes "recv") buffer_of (λ n buffer. Recv n buffer) buffer_words IsBuffer more request buffer_read (λ n buffer small typed. (refl, (small, typed))) is
 
-readv_read : (more : List (List ℕ)) (request : Request Buffer Parts) → option_map (λ found. ReadVec found.0 found.1) (with_handle parts_of more) ≡ Some request → SpellRequest (codes "readv" ∷ more) request
+-- Words behind `readv` that are read as a request are a read's into parts.
+readv_read : (more : List (List ℕ)) (request : Request Buffer Parts) → option_map (λ found. ReadVec found.0 found.1)
+    (with_handle parts_of more) ≡ Some request → SpellRequest (codes "readv" ∷ more) request
 readv_read more request is = handle_read (codes "readv") parts_of (λ n parts. ReadVec n parts) parts_words AreTypedParts more request parts_read (λ n parts small typed. (refl, (small, typed))) is
 
-send_read : (more : List (List ℕ)) (request : Request Buffer Parts) → option_map (λ found. Send found.0 found.1) (with_handle buffer_of more) ≡ Some request → SpellRequest (codes "send" ∷ more) request
+-- Words behind `send` that are read as a request are a send's.
+send_read : (more : List (List ℕ)) (request : Request Buffer Parts) → option_map (λ found. Send found.0 found.1)
+    (with_handle buffer_of more) ≡ Some request → SpellRequest (codes "send" ∷ more) request
 send_read more request is = handle_read (codes "send") buffer_of (λ n buffer. Send n buffer) buffer_words IsBuffer more request buffer_read (λ n buffer small typed. (refl, (small, typed))) is
 
-writev_read : (more : List (List ℕ)) (request : Request Buffer Parts) → option_map (λ found. WriteVec found.0 found.1) (with_handle parts_of more) ≡ Some request → SpellRequest (codes "writev" ∷ more) request
+-- Words behind `writev` that are read as a request are a send's of parts.
+writev_read : (more : List (List ℕ)) (request : Request Buffer Parts) → option_map (λ found. WriteVec found.0 found.1)
+    (with_handle parts_of more) ≡ Some request → SpellRequest (codes "writev" ∷ more) request
 writev_read more request is = handle_read (codes "writev") parts_of (λ n parts. WriteVec n parts) parts_words AreTypedParts more request parts_read (λ n parts small typed. (refl, (small, typed))) is
 
-named : (word text : List ℕ) (more : List (List ℕ)) (request : Request Buffer Parts) → bytes_eq word text ≡ true → SpellRequest (text ∷ more) request → SpellRequest (word ∷ more) request
+-- A first word that passes the test for a name is that name.
+named : (word text : List ℕ) (more : List (List ℕ)) (request : Request Buffer Parts) → bytes_eq word text ≡ true
+    → SpellRequest (text ∷ more) request → SpellRequest (word ∷ more) request
 named word text more request same spells = (ap (λ (w : List ℕ). w ∷ more) ((bytes_eq-Decides word text).0 same) ∙ spells.0, spells.1)
 
-pub request_read : (all : List (List ℕ)) (request : Request Buffer Parts) → request_of all ≡ Some request → (all ≡ request_words request) × IsRequest request
+-- Words that are read as a request are its words.
+pub request_read : (all : List (List ℕ)) (request : Request Buffer Parts) → request_of all ≡ Some request
+    → (all ≡ request_words request) × IsRequest request
 request_read [] request is = absurd (cc)
 request_read (word ∷ more) request is =
     elim (either-Some (bytes_eq word (codes "recv")) (option_map (λ found. Recv found.0 found.1) (with_handle buffer_of more)) _ request is) [
@@ -80,11 +93,13 @@ solid_kind Vector = refl
 solid_kind Grown = refl
 solid_kind Fixed = refl
 
+-- No word of a buffer has a space in it.
 solid_buffer : (b : Buffer) → IsBuffer b → AreSolid (buffer_words b)
 solid_buffer b h =
     let bounds = h.bounds in
     (solid_kind b.kind, (solid_decimal b.total h.fits, (solid_decimal b.begin (omega (arith, h.fits, bounds.ordered, bounds.inside)), (solid_decimal b.end (omega (arith, h.fits, bounds.inside)), (solid_bytes b.bytes, tt)))))
 
+-- No word of a request has a space in it.
 pub solid_request : (request : Request Buffer Parts) → IsRequest request → AreSolid (request_words request)
 solid_request (Recv n buffer) h = (refl, (solid_decimal n h.0, solid_buffer buffer h.1))
 solid_request (ReadVec n parts) h = (refl, (solid_decimal n h.0, solid_parts parts h.1))

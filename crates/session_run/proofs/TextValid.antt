@@ -22,11 +22,6 @@ pub is_some-map : {A B : Type 0} (f : A → B) (o : Option A) → is_some (optio
 is_some-map f None = refl
 is_some-map f (Some x) = refl
 
--- A value that a test lets through is there where the test holds.
-pub is_some-if : {A : Type 0} (b : Bool) (x : A) → is_some (if b then Some x else None) ≡ b
-is_some-if true x = refl
-is_some-if false x = refl
-
 -- What is there has a value.
 some-value : {A : Type 0} (o : Option A) → is_some o ≡ true → (x : A) × (o ≡ Some x)
 some-value None is = absurd (cc)
@@ -43,12 +38,9 @@ pub record HaveSeen (text rest : List ℕ) (n : ℕ) : Type 0 where
   pub read : HaveRead text rest events
   pub count : length events ≡ n
 
--- At first no line was seen.
-pub have_seen-none : (text : List ℕ) → HaveSeen text text 0
-have_seen-none text = record { events = []; read = have_read-none text; count = refl }
-
 -- One line more was seen.
-pub have_seen-more : (text rest line behind : List ℕ) (n : ℕ) → HaveSeen text rest n → lines rest ≡ line ∷ lines behind → is_some (event_of (words line)) ≡ true → HaveSeen text behind (n + 1)
+pub have_seen-more : (text rest line behind : List ℕ) (n : ℕ) → HaveSeen text rest n → lines rest ≡ line ∷ lines behind
+    → is_some (event_of (words line)) ≡ true → HaveSeen text behind (n + 1)
 have_seen-more text rest line behind n seen first right =
     let event = some-value (event_of (words line)) right in
     let count = seen.count in
@@ -59,13 +51,10 @@ have_seen-more text rest line behind n seen first right =
     }
 
 -- The next line is wrong.
-pub have_seen-wrong : (text rest line behind : List ℕ) (n : ℕ) → HaveSeen text rest n → lines rest ≡ line ∷ lines behind → is_some (event_of (words line)) ≡ false → IsFirstWrong (lines text) (n + 1)
+pub have_seen-wrong : (text rest line behind : List ℕ) (n : ℕ) → HaveSeen text rest n → lines rest ≡ line ∷ lines behind
+    → is_some (event_of (words line)) ≡ false → IsFirstWrong (lines text) (n + 1)
 have_seen-wrong text rest line behind n seen first wrong =
     have_read-wrong text rest line behind seen.events n seen.read first (event_of-wrong line (none-value (event_of (words line)) wrong)) (sym seen.count)
-
--- All lines were seen.
-pub have_seen-all : (text rest : List ℕ) (n : ℕ) → HaveSeen text rest n → length rest ≡ 0 → AreEvents (lines text)
-have_seen-all text rest n seen end = record { events = seen.events; stand = have_read-all text rest seen.events seen.read end }
 
 -- The digits so far are pairs of digits.
 pub record PairsSeen (word : List ℕ) (at : ℕ) : Type 0 where
@@ -82,7 +71,8 @@ pairs_seen-none word = record { front = []; count = refl; read = onto-none (pair
     onto-none (Some more) = refl
 
 -- One pair more was seen.
-pub pairs_seen-more : (word : List ℕ) (at : ℕ) → PairsSeen word at → at + 1 < length word → (digit_value_of (get_or word at 0) ≡ 16 → ⊥) → (digit_value_of (get_or word (at + 1) 0) ≡ 16 → ⊥)
+pub pairs_seen-more : (word : List ℕ) (at : ℕ) → PairsSeen word at → at + 1 < length word → (digit_value_of (get_or word at 0) ≡ 16 → ⊥)
+    → (digit_value_of (get_or word (at + 1) 0) ≡ 16 → ⊥)
     → PairsSeen word (at + 2)
 pairs_seen-more word at seen below high low =
     let count = seen.count in
@@ -94,7 +84,8 @@ pairs_seen-more word at seen below high low =
     }
 
 -- A digit is none.
-pub pairs_seen-stop : (word : List ℕ) (at : ℕ) → PairsSeen word at → at + 1 < length word → (digit_value_of (get_or word at 0) ≡ 16) ⊎ (digit_value_of (get_or word (at + 1) 0) ≡ 16)
+pub pairs_seen-stop : (word : List ℕ) (at : ℕ) → PairsSeen word at → at + 1 < length word
+    → (digit_value_of (get_or word at 0) ≡ 16) ⊎ (digit_value_of (get_or word (at + 1) 0) ≡ 16)
     → None ≡ option_map length (pairs_of word)
 pairs_seen-stop word at seen below bad = sym (ap (λ (o : Option (List ℕ)). option_map length o) (pairs_of-stop word at seen.front below bad seen.read))
 
@@ -123,13 +114,15 @@ parts_seen-none ws count = record { parts = []; read = onto-none (parts_end ws);
     onto-none (Some more) = refl
 
 -- A room has no bytes behind it.
-pub parts_seen-alone : (all : Option Parts) (ws next : List (List ℕ)) (first : List ℕ) (count left rooms : ℕ) → PartsSeen all ws count left rooms → ws ≡ first ∷ next → next ≡ []
+pub parts_seen-alone : (all : Option Parts) (ws next : List (List ℕ)) (first : List ℕ) (count left rooms : ℕ)
+    → PartsSeen all ws count left rooms → ws ≡ first ∷ next → next ≡ []
     → false ≡ is_some (option_and_then (counted count) all)
 parts_seen-alone all ws next first count left rooms seen is0 is1 =
     sym (ap (λ (o : Option Parts). is_some (option_and_then (counted count) o)) (rooms-alone all ws next first seen.parts is0 is1 seen.read))
 
 -- All parts were seen.
-pub parts_seen-all : (all : Option Parts) (ws : List (List ℕ)) (count left rooms : ℕ) → PartsSeen all ws count left rooms → ws ≡ [] → (left == 0) ≡ is_some (option_and_then (counted count) all)
+pub parts_seen-all : (all : Option Parts) (ws : List (List ℕ)) (count left rooms : ℕ) → PartsSeen all ws count left rooms → ws ≡ []
+    → (left == 0) ≡ is_some (option_and_then (counted count) all)
 parts_seen-all all ws count left rooms seen is =
     by left seen.number ∙ sym (ap (λ (o : Option Parts). is_some (option_and_then (counted count) o)) (rooms-done all ws seen.parts is seen.read))
   where
@@ -141,7 +134,8 @@ parts_seen-all all ws count left rooms seen is =
     by (suc left) number = ne_eqb (suc left) 0 (λ is. omega (arith, is)) ∙ sym (ap (λ (o : Option Parts). is_some o) (counted-None count seen.parts (λ same bounds. omega (arith, number, same))))
 
 -- One part more was seen.
-pub parts_seen-more : (all : Option Parts) (ws next rest : List (List ℕ)) (first second : List ℕ) (count left fewer rooms sum : ℕ) → PartsSeen all ws count left rooms → ws ≡ first ∷ next → next ≡ second ∷ rest
+pub parts_seen-more : (all : Option Parts) (ws next rest : List (List ℕ)) (first second : List ℕ) (count left fewer rooms sum : ℕ)
+    → PartsSeen all ws count left rooms → ws ≡ first ∷ next → next ≡ second ∷ rest
     → AddsPart rooms first second sum → left ≡ fewer + 1 → PartsSeen all rest count fewer sum
 parts_seen-more all ws next rest first second count left fewer rooms sum seen is0 is1 adds less =
     let number = seen.number in
@@ -160,14 +154,16 @@ parts_seen-more all ws next rest first second count left fewer rooms sum seen is
     }
 
 -- A part among others that all fit does.
-fit-among : (parts more : Parts) (p : Rented) → All (λ (q : Rented). length q.bytes ≤ q.total) (parts ++ p ∷ more) → length p.bytes ≤ p.total
+fit-among : (parts more : Parts) (p : Rented) → All (λ (q : Rented). length q.bytes ≤ q.total) (parts ++ p ∷ more)
+    → length p.bytes ≤ p.total
 fit-among [] more p fit = fit zero p (omega arith)
 fit-among (q ∷ parts) more p fit = fit-among parts more p (λ k d few. fit (suc k) d (omega arith))
 
 -- Parts that can't be counted, whatever the next one is, are none.
 never-counted : (parts : Parts) (first : Option ℕ) (second : Option (List ℕ)) (behind : Option Parts) (count : ℕ)
     → ((room : ℕ) (bytes : List ℕ) (more : Parts) → first ≡ Some room → second ≡ Some bytes
-    → count ≡ length (parts ++ (record { bytes = bytes; total = room }) ∷ more) → IsParts (parts ++ (record { bytes = bytes; total = room }) ∷ more) → ⊥)
+    → count ≡ length (parts ++ (record { bytes = bytes; total = room }) ∷ more)
+    → IsParts (parts ++ (record { bytes = bytes; total = room }) ∷ more) → ⊥)
     → false ≡ is_some (option_and_then (counted count) (onto parts (part_onto first second behind)))
 never-counted parts None second behind count never = refl
 never-counted parts (Some room) None behind count never = refl
@@ -176,13 +172,15 @@ never-counted parts (Some room) (Some bytes) (Some more) count never =
     sym (ap (λ (o : Option Parts). is_some o) (counted-None count (parts ++ (record { bytes = bytes; total = room }) ∷ more) (never room bytes more refl refl)))
 
 -- What all is, by the next two words.
-next-two : (all : Option Parts) (ws next rest : List (List ℕ)) (first second : List ℕ) (parts : Parts) → all ≡ onto parts (parts_end ws) → ws ≡ first ∷ next → next ≡ second ∷ rest
+next-two : (all : Option Parts) (ws next rest : List (List ℕ)) (first second : List ℕ) (parts : Parts) → all ≡ onto parts (parts_end ws)
+    → ws ≡ first ∷ next → next ≡ second ∷ rest
     → all ≡ onto parts (part_onto (number_of first) (bytes_of second) (parts_end rest))
 unfolding parts_end
 next-two all ws next rest first second parts read is0 is1 = read ∙ ap (λ (l : List (List ℕ)). onto parts (parts_end l)) (is0 ∙ ap (λ (l : List (List ℕ)). first ∷ l) is1)
 
 -- The next two words are no part.
-pub parts_seen-stop : (all : Option Parts) (ws next rest : List (List ℕ)) (first second : List ℕ) (count left rooms : ℕ) → PartsSeen all ws count left rooms → ws ≡ first ∷ next → next ≡ second ∷ rest
+pub parts_seen-stop : (all : Option Parts) (ws next rest : List (List ℕ)) (first second : List ℕ) (count left rooms : ℕ)
+    → PartsSeen all ws count left rooms → ws ≡ first ∷ next → next ≡ second ∷ rest
     → NoPart rooms first second → false ≡ is_some (option_and_then (counted count) all)
 parts_seen-stop all ws next rest first second count left rooms seen is0 is1 none =
     never-counted seen.parts (number_of first) (bytes_of second) (parts_end rest) count (λ room bytes more number read same bounds.
@@ -203,7 +201,8 @@ parts_seen-stop all ws next rest first second count left rooms seen is0 is1 none
     ∙ sym (ap (λ (o : Option Parts). is_some (option_and_then (counted count) o)) (next-two all ws next rest first second seen.parts seen.read is0 is1))
 
 -- There is a part more than were to come.
-pub parts_seen-over : (all : Option Parts) (ws next rest : List (List ℕ)) (first second : List ℕ) (count left rooms : ℕ) → PartsSeen all ws count left rooms → ws ≡ first ∷ next → next ≡ second ∷ rest
+pub parts_seen-over : (all : Option Parts) (ws next rest : List (List ℕ)) (first second : List ℕ) (count left rooms : ℕ)
+    → PartsSeen all ws count left rooms → ws ≡ first ∷ next → next ≡ second ∷ rest
     → left ≡ 0 → false ≡ is_some (option_and_then (counted count) all)
 parts_seen-over all ws next rest first second count left rooms seen is0 is1 over =
     never-counted seen.parts (number_of first) (bytes_of second) (parts_end rest) count (λ room bytes more number read same bounds.

@@ -76,14 +76,6 @@ unwritten-next tells part more text rest taken now later f g h Unwritten.Fault s
 unwritten-next tells part more text rest taken now later f g h Unwritten.OutOfMemory starts before order calm why = λ told.
     record { prefix = prefix-on part more text rest taken now later starts (before told) (why told).prefix; calm = (why told).calm ∙ calm told }
 
--- Nothing was written: the prefix is empty.
-pub prefix-none : (text taken : List ℕ) → WrotePrefix text taken taken
-prefix-none text taken = record { prefix = []; starts = record { more = text; is = refl }; written = sym (append-none taken) }
-  where
-    append-none : (xs : List ℕ) → xs ++ [] ≡ xs
-    append-none [] = refl
-    append-none (y ∷ ys) = ap (λ zs. y ∷ zs) (append-none ys)
-
 -- A prefix of what comes behind a text that was written, behind that text.
 prefix-behind : (first more taken now later : List ℕ) → now ≡ taken ++ first → WrotePrefix more now later →
     WrotePrefix (first ++ more) taken later

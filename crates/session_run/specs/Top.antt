@@ -132,7 +132,8 @@ pub record WrotePrefix (text taken now : List ℕ) : Type 0 where
 
 -- A text that the program may write: the replies to the events that the lines of the input stand for, or the number of a wrong line.
 pub data IsText (tells_source : Bool) (capacity : ℕ) (left rest : List ℕ) : List ℕ → Type 0 where
-  of_replies : (events : List Event) → (IsTrue tells_source → WasRead left rest events) → IsText tells_source capacity left rest (reply_lines (replies (empty capacity) events))
+  of_replies : (events : List Event) → (IsTrue tells_source → WasRead left rest events)
+      → IsText tells_source capacity left rest (reply_lines (replies (empty capacity) events))
   of_bad_line : (n : ℕ) → (IsTrue tells_source → IsBadLine left rest n) → IsText tells_source capacity left rest (bad_line_text n)
 
 -- A prefix of a text that the program may write was written.

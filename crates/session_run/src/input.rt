@@ -90,7 +90,8 @@ fn read_some<S: ByteSource>(
     ensures end { IfOk result (λ n. n ≡ 0 → IsTrue S.tells → S.left source.new ≡ []) }
     ensures calm { OnOk result (IsTrue S.tells → S.faults source.new ≡ S.faults source.old) }
     ensures faults { OnOk result (S.faults source.old ≤ S.faults source.new) }
-    ensures why { IfErr result (WhyStopped S.tells (vec_len text.old) (S.left source.old) (S.left source.new) (S.faults source.old) (S.faults source.new)) }
+    ensures why { IfErr result (WhyStopped S.tells (vec_len text.old) (S.left source.old) (S.left source.new) (S.faults source.old)
+        (S.faults source.new)) }
 {
     let count = match source.read(piece.as_mut_slice()) {
         Ok(count) => count,

@@ -38,7 +38,8 @@ pub(crate) fn write_replies<K: ByteSink>(
     ensures stands { IfOk result (λ session. SessionStands session (ledger capacity events.items)) }
     ensures ok { OnOk result (IsTrue K.tells → K.taken sink.new ≡ K.taken sink.old ++ reply_lines (replies (empty capacity) events.items)) }
     ensures flushed { OnOk result (IsTrue (K.is_flushed sink.new)) }
-    ensures why { IfErr result (WhyUnwritten K.tells (reply_lines (replies (empty capacity) events.items)) (K.taken sink.old) (K.taken sink.new) (K.faults sink.old) (K.faults sink.new)) }
+    ensures why { IfErr result (WhyUnwritten K.tells (reply_lines (replies (empty capacity) events.items)) (K.taken sink.old)
+        (K.taken sink.new) (K.faults sink.old) (K.faults sink.new)) }
 {
     let Ok(mut session) = Session::new(alloc, capacity) else {
         return Err(Unwritten::OutOfMemory);
@@ -61,10 +62,12 @@ pub(crate) fn write_replies<K: ByteSink>(
 
 // Appends the text of a reply and a newline to what waits, and writes that where it is a large piece.
 fn write_next<K: ByteSink>(reply: Reply, out: &mut Vec<u8>, sink: &mut K) -> Result<(), Unwritten>
-    ensures ok { OnOk result (IsTrue K.tells → Sent (out.old.items ++ ended (reply_text reply)) out.new.items (K.taken sink.old) (K.taken sink.new)) }
+    ensures ok { OnOk result (IsTrue K.tells → Sent (out.old.items ++ ended (reply_text reply)) out.new.items (K.taken sink.old)
+        (K.taken sink.new)) }
     ensures faults { OnOk result (K.faults sink.old ≤ K.faults sink.new) }
     ensures calm { OnOk result (IsTrue K.tells → K.faults sink.new ≡ K.faults sink.old) }
-    ensures why { IfErr result (WhyUnwritten K.tells (out.old.items ++ ended (reply_text reply)) (K.taken sink.old) (K.taken sink.new) (K.faults sink.old) (K.faults sink.new)) }
+    ensures why { IfErr result (WhyUnwritten K.tells (out.old.items ++ ended (reply_text reply)) (K.taken sink.old) (K.taken sink.new)
+        (K.faults sink.old) (K.faults sink.new)) }
 {
     match put_line(reply, out) {
         Ok(()) => {}
@@ -99,7 +102,8 @@ pub(crate) fn write_number<K: ByteSink>(
     number: u64,
     sink: &mut K,
 ) -> Result<(), Failed>
-    ensures writes { WritesAll K.tells (ended (words.now ++ decimal number)) (K.taken sink.old) (K.taken sink.new) (K.faults sink.old) (K.faults sink.new) result }
+    ensures writes { WritesAll K.tells (ended (words.now ++ decimal number)) (K.taken sink.old) (K.taken sink.new) (K.faults sink.old)
+        (K.faults sink.new) result }
     ensures flushed { OnOk result (IsTrue (K.is_flushed sink.new)) }
 {
     match write_all(words, sink) {
@@ -110,7 +114,8 @@ pub(crate) fn write_number<K: ByteSink>(
 
 // Writes a number and a newline, and flushes.
 fn write_digits<K: ByteSink>(number: u64, sink: &mut K) -> Result<(), Failed>
-    ensures writes { WritesAll K.tells (ended (decimal number)) (K.taken sink.old) (K.taken sink.new) (K.faults sink.old) (K.faults sink.new) result }
+    ensures writes { WritesAll K.tells (ended (decimal number)) (K.taken sink.old) (K.taken sink.new) (K.faults sink.old)
+        (K.faults sink.new) result }
     ensures flushed { OnOk result (IsTrue (K.is_flushed sink.new)) }
 {
     let mut buffer = Buffer::new();

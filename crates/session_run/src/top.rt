@@ -103,12 +103,14 @@ pub fn top<R: Threads + Wait + Clock + Sync, S: ByteSource, K: ByteSink>(
 
     // `gen` and `wake` read nothing. Only Done keeps something, and `wake` keeps nothing.
     ensures unread_sums { (seed rounds : ℕ) → IsGenerate (map string_bytes words.now) seed rounds → source.new ≡ source.old }
-    ensures unread_wakes { (senders count : ℕ) → IsWake (map string_bytes words.now) senders count → (source.new ≡ source.old) × (kept.new ≡ None) }
+    ensures unread_wakes { (senders count : ℕ) → IsWake (map string_bytes words.now) senders count → (source.new ≡ source.old) ×
+        (kept.new ≡ None) }
     ensures kept { (result ≡ Status.Done → ⊥) → kept.new ≡ None }
 
     // Done means that the sink is flushed. Each other status has its cause, whatever the command.
     ensures flushed { result ≡ Status.Done → IsTrue (K.is_flushed sink.new) }
-    ensures bad_line { result ≡ Status.BadLine → LineRefused S.tells K.tells (S.left source.old) (S.left source.new) (K.taken sink.old) (K.taken sink.new) }
+    ensures bad_line { result ≡ Status.BadLine → LineRefused S.tells K.tells (S.left source.old) (S.left source.new) (K.taken sink.old)
+        (K.taken sink.new) }
     ensures too_long { result ≡ Status.TooLong → IsTrue S.tells → TookTooMany (S.left source.old) (S.left source.new) }
     ensures read_fault { result ≡ Status.ReadFault → Rose (S.faults source.old) (S.faults source.new) }
     ensures write_fault { result ≡ Status.WriteFault → Rose (K.faults sink.old) (K.faults sink.new) }
@@ -133,8 +135,10 @@ fn run_command<R: Threads + Wait + Clock + Sync, S: ByteSource, K: ByteSink>(
 ) -> Status
     requires within { IsWithin command }
     requires fresh { kept.old ≡ None }
-    ensures ends { CommandEnds S.tells K.tells command (reading S.left S.faults source.old source.new) (writing K.taken K.faults K.is_flushed sink.old sink.new) kept.new result }
-    ensures status { StatusFor S.tells K.tells (reading S.left S.faults source.old source.new) (writing K.taken K.faults K.is_flushed sink.old sink.new) result }
+    ensures ends { CommandEnds S.tells K.tells command (reading S.left S.faults source.old source.new)
+        (writing K.taken K.faults K.is_flushed sink.old sink.new) kept.new result }
+    ensures status { StatusFor S.tells K.tells (reading S.left S.faults source.old source.new)
+        (writing K.taken K.faults K.is_flushed sink.old sink.new) result }
     ensures kept { (result ≡ Status.Done → ⊥) → kept.new ≡ None }
     ensures unread { ReadsNothing command → source.new ≡ source.old }
     ensures unkept { IsWakeCommand command → kept.new ≡ None }
@@ -156,7 +160,8 @@ fn run_lines<S: ByteSource, K: ByteSink>(
 ) -> Status
     requires capacity { 0 < capacity }
     requires fresh { kept.old ≡ None }
-    ensures ends { RunEnds S.tells K.tells capacity (reading S.left S.faults source.old source.new) (writing K.taken K.faults K.is_flushed sink.old sink.new) kept.new result }
+    ensures ends { RunEnds S.tells K.tells capacity (reading S.left S.faults source.old source.new)
+        (writing K.taken K.faults K.is_flushed sink.old sink.new) kept.new result }
     ensures kept { (result ≡ Status.Done → ⊥) → kept.new ≡ None }
 {
     match source_events(alloc, source) {

@@ -39,7 +39,8 @@ pub(crate) fn read_buffer(alloc: Global, rest: &[u8]) -> Result<Option<BufSpec>,
 }
 
 pub(crate) fn next_buffer_kind(rest: &[u8]) -> Option<(Kind, &[u8])>
-    ensures { MatchOption result (kind_field (words_behind rest.now) ≡ None) (λ cut. kind_field (words_behind rest.now) ≡ Some (cut.0, words_behind cut.1.now)) }
+    ensures { MatchOption result (kind_field (words_behind rest.now) ≡ None)
+        (λ cut. kind_field (words_behind rest.now) ≡ Some (cut.0, words_behind cut.1.now)) }
 {
     let (word, rest) = next_word(rest)?;
     let kind = buffer_kind(word)?;

@@ -64,7 +64,8 @@ pub(crate) fn is_event_line(line: &[u8]) -> bool
 
 // Whether a word names an event of one number.
 fn is_one_number(word: &[u8]) -> bool
-    ensures { result ≡ (bytes_eq word.now (codes "drop") || bytes_eq word.now (codes "cancel") || bytes_eq word.now (codes "end") || bytes_eq word.now (codes "look")) }
+    ensures { result ≡ (bytes_eq word.now (codes "drop") || bytes_eq word.now (codes "cancel") || bytes_eq word.now (codes "end") ||
+        bytes_eq word.now (codes "look")) }
 {
     is_word(word, b"drop")
         || is_word(word, b"cancel")

@@ -63,7 +63,8 @@ pub(crate) fn is_word(word: &[u8], text: &[u8]) -> bool
 
 /// The number that the next word writes, and what is behind it.
 pub(crate) fn next_number(rest: &[u8]) -> Option<(u64, &[u8])>
-    ensures { MatchOption result (number_field (words_behind rest.now) ≡ None) (λ cut. number_field (words_behind rest.now) ≡ Some (cut.0, words_behind cut.1.now)) }
+    ensures { MatchOption result (number_field (words_behind rest.now) ≡ None)
+        (λ cut. number_field (words_behind rest.now) ≡ Some (cut.0, words_behind cut.1.now)) }
 {
     let (word, rest) = next_word(rest)?;
     let number = read_number(word)?;

@@ -8,6 +8,7 @@ abbrev pub invariant-loop-event : goal.invariant-loop-event
 invariant-loop-event l = record {
   count : vec_len l.replies ≡ l.event-index;
   room : length l.events ≤ vec_capacity l.replies;
-  all : l.replies.items ++ replies (after (empty l.capacity) (take l.event-index l.events)) (drop l.event-index l.events) ≡ replies (empty l.capacity) l.events;
+  all : l.replies.items ++ replies (after (empty l.capacity) (take l.event-index l.events))
+      (drop l.event-index l.events) ≡ replies (empty l.capacity) l.events;
   stands : SessionStands l.session (after (empty l.capacity) (take l.event-index l.events));
 }
