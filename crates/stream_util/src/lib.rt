@@ -1,8 +1,11 @@
 //! Streams over streams: copies between them, and streams with a buffer.
 #![tactic(auto)]
 
+pub mod buf_writer;
 pub mod copy;
+mod vectored;
 
+pub use buf_writer::BufWriter;
 pub use copy::{Copied, Copy, MOST_HELD};
 
 #[cfg(test)]
