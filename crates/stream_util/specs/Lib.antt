@@ -1,2 +1,3 @@
+pub mod BufReader
 pub mod BufWriter
 pub mod Copy

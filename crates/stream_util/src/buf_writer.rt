@@ -6,8 +6,8 @@ ghost use Rattle.rent_io.specs.Writer.{EndsStay, Writes, CountsDone, IfDone};
 ghost use Rattle.stream_util.specs.BufWriter.{Writing, Pushes, IsPushCaused, Offers, IfPushed, WriteRule, fresh_writer, counts_over, writer_over};
 
 use crate::vectored::first_part;
-use rent_buf::{IoBuf, IoFault, IoVecBuf, OutOfMemory, Slice};
-use rent_io::{AsyncWriteRent, PollBuf, PollCount};
+use rent_buf::{IoBuf, IoBufMut, IoFault, IoVecBuf, IoVecBufMut, OutOfMemory, Slice};
+use rent_io::{AsyncBufRead, AsyncReadRent, AsyncWriteRent, PollBuf, PollCount};
 use std::alloc::Global;
 use std::marker::Model;
 use std::mem;
@@ -98,6 +98,13 @@ impl<W> BufWriter<W> {
         ensures { result.now ≡ self.now.inner }
     {
         &self.inner
+    }
+
+    /// The stream inside (monoio: `get_mut`).
+    pub fn get_mut(&mut self) -> &mut W
+        ensures value { result.now ≡ self.old.inner }
+    {
+        &mut self.inner
     }
 
     /// The stream inside (monoio: `into_inner`). What is buffered is lost.
@@ -279,6 +286,37 @@ impl<W: AsyncWriteRent> AsyncWriteRent for BufWriter<W> {
             return self.inner.poll_shutdown(task);
         }
         self.push_out(task)
+    }
+}
+
+// Reads are those of the stream inside.
+impl<W: AsyncReadRent> AsyncReadRent for BufWriter<W> {
+    ghost tells = { W.tells };
+
+    ghost reader = { λ w. W.reader w.inner };
+
+    fn poll_read<T: IoBufMut>(&mut self, buf: T, task: u64) -> PollBuf<T> {
+        self.inner.poll_read(buf, task)
+    }
+
+    fn poll_readv<T: IoVecBufMut>(&mut self, buf: T, task: u64) -> PollBuf<T> {
+        self.inner.poll_readv(buf, task)
+    }
+}
+
+impl<W: AsyncBufRead> AsyncBufRead for BufWriter<W> {
+    ghost buffered = { λ w. W.buffered w.inner };
+
+    fn poll_fill(&mut self, task: u64) -> PollCount {
+        self.inner.poll_fill(task)
+    }
+
+    fn buffered(&self) -> &[u8] {
+        self.inner.buffered()
+    }
+
+    fn consume(&mut self, n: usize) {
+        self.inner.consume(n);
     }
 }
 

@@ -1,10 +1,12 @@
 //! Streams over streams: copies between them, and streams with a buffer.
 #![tactic(auto)]
 
+pub mod buf_reader;
 pub mod buf_writer;
 pub mod copy;
 mod vectored;
 
+pub use buf_reader::BufReader;
 pub use buf_writer::BufWriter;
 pub use copy::{Copied, Copy, MOST_HELD};
 
