@@ -1,3 +1,4 @@
 pub mod BufReader
 pub mod BufWriter
 pub mod Copy
+pub mod Lent

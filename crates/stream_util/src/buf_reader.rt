@@ -40,6 +40,9 @@ impl<R> Model for BufReader<R> {
 }
 
 impl<R> BufReader<R> {
+    ghost use Rattle.std.specs.Borrow.{sem};
+    ghost use Rattle.stream_util.specs.Lent.{LendsReader};
+
     /// A stream with an empty buffer of 8192 bytes (monoio: `new`). If memory runs out, the same stream comes back.
     pub fn new(alloc: Global, inner: R) -> Result<BufReader<R>, (OutOfMemory, R)>
         ensures ok { IfOk result (λ r. r ≡ fresh_reader inner 8192) }
@@ -79,6 +82,7 @@ impl<R> BufReader<R> {
 
     /// The stream inside (monoio: `get_mut`).
     pub fn get_mut(&mut self) -> &mut R
+        ensures* lends { sem 𝓛 (LendsReader R.row self.entry result) }
         ensures value { result.now ≡ self.old.inner }
     {
         &mut self.inner

@@ -62,6 +62,9 @@ enum Offered {
 }
 
 impl<W> BufWriter<W> {
+    ghost use Rattle.std.specs.Borrow.{sem};
+    ghost use Rattle.stream_util.specs.Lent.{LendsWriter};
+
     /// A stream with an empty buffer of 8192 bytes (monoio: `new`). If memory runs out, the same stream comes back.
     pub fn new(alloc: Global, inner: W) -> Result<BufWriter<W>, (OutOfMemory, W)>
         ensures ok { IfOk result (λ w. w ≡ fresh_writer inner 8192) }
@@ -102,6 +105,7 @@ impl<W> BufWriter<W> {
 
     /// The stream inside (monoio: `get_mut`).
     pub fn get_mut(&mut self) -> &mut W
+        ensures* lends { sem 𝓛 (LendsWriter W.row self.entry result) }
         ensures value { result.now ≡ self.old.inner }
     {
         &mut self.inner
