@@ -1,3 +1,4 @@
 pub mod Buffered
 pub mod Copies
 pub mod Filled
+pub mod Prefixes

@@ -2,3 +2,5 @@ pub mod BufReader
 pub mod BufWriter
 pub mod Copy
 pub mod Lent
+pub mod PrefixedReadIo
+pub mod Split

@@ -4,11 +4,13 @@
 pub mod buf_reader;
 pub mod buf_writer;
 pub mod copy;
+pub mod prefixed_io;
 mod vectored;
 
 pub use buf_reader::BufReader;
 pub use buf_writer::BufWriter;
 pub use copy::{Copied, Copy, MOST_HELD};
+pub use prefixed_io::PrefixedReadIo;
 
 #[cfg(test)]
 mod tests;
