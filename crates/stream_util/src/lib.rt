@@ -4,6 +4,7 @@
 pub mod buf_reader;
 pub mod buf_writer;
 pub mod copy;
+pub mod duplex;
 pub mod prefixed_io;
 pub mod split;
 mod vectored;
@@ -11,6 +12,7 @@ mod vectored;
 pub use buf_reader::BufReader;
 pub use buf_writer::BufWriter;
 pub use copy::{Copied, Copy, MOST_HELD};
+pub use duplex::Duplex;
 pub use prefixed_io::PrefixedReadIo;
 pub use split::{
     OwnedReadHalf, OwnedWriteHalf, Pairs, ReuniteError, Shutdown, Split, Splitable,

@@ -5,6 +5,7 @@ ghost use Rattle.rent_io.specs.Polls.{IsCaused};
 ghost use Rattle.rent_io.specs.Reader.{Reads, ReadsParts};
 ghost use Rattle.stream_util.specs.PrefixedReadIo.{Prefixed, prefix_left, reader_behind, IfAnswered, IfBehind};
 
+use crate::split::Split;
 use crate::vectored::first_room;
 use cancel_core::CancelHandle;
 use rent_buf::{IoBuf, IoBufMut, IoFault, IoVecBuf, IoVecBufMut};
@@ -168,6 +169,43 @@ impl<I: AsyncReadRent, P: ByteSource> PrefixedReadIo<I, P> {
                 Front::Answered(PollBuf::Ready(Ok(count), buf))
             }
             Err(_) => Front::Answered(PollBuf::Ready(Err(IoFault::ReadFault), buf)),
+        }
+    }
+}
+
+impl<I: Split, P: ByteSource> Split for PrefixedReadIo<I, P> {
+    type Read = PrefixedReadIo<I::Read, P>;
+    type Write = I::Write;
+
+    ghost joined = { λ r w. record { io = I.joined r.io w; prefix = r.prefix; finished = r.finished } };
+
+    fn part(self) -> (PrefixedReadIo<I::Read, P>, I::Write) {
+        let PrefixedReadIo {
+            io,
+            prefix,
+            finished,
+        } = self;
+        let (read, write) = io.part();
+        (
+            PrefixedReadIo {
+                io: read,
+                prefix,
+                finished,
+            },
+            write,
+        )
+    }
+
+    fn join(read: PrefixedReadIo<I::Read, P>, write: I::Write) -> PrefixedReadIo<I, P> {
+        let PrefixedReadIo {
+            io,
+            prefix,
+            finished,
+        } = read;
+        PrefixedReadIo {
+            io: I::join(io, write),
+            prefix,
+            finished,
         }
     }
 }

@@ -213,3 +213,89 @@ impl<T: Split> Shutdown<T> {
         }
     }
 }
+
+// A half is read, written, flushed and shut down as its part.
+impl<T: Split> AsyncReadRent for OwnedReadHalf<T> {
+    ghost tells = { T.Read.tells };
+
+    ghost reader = { λ h. T.Read.reader h.part };
+
+    fn poll_read<B: IoBufMut>(&mut self, buf: B, task: u64) -> PollBuf<B> {
+        self.part.poll_read(buf, task)
+    }
+
+    fn poll_readv<B: IoVecBufMut>(&mut self, buf: B, task: u64) -> PollBuf<B> {
+        self.part.poll_readv(buf, task)
+    }
+}
+
+impl<T: Split> CancelableAsyncReadRent for OwnedReadHalf<T>
+where
+    T::Read: CancelableAsyncReadRent,
+{
+    fn poll_cancelable_read<B: IoBufMut>(
+        &mut self,
+        buf: B,
+        c: CancelHandle,
+        task: u64,
+    ) -> PollBuf<B> {
+        self.part.poll_cancelable_read(buf, c, task)
+    }
+
+    fn poll_cancelable_readv<B: IoVecBufMut>(
+        &mut self,
+        buf: B,
+        c: CancelHandle,
+        task: u64,
+    ) -> PollBuf<B> {
+        self.part.poll_cancelable_readv(buf, c, task)
+    }
+}
+
+impl<T: Split> AsyncWriteRent for OwnedWriteHalf<T> {
+    ghost tells = { T.Write.tells };
+
+    ghost writer = { λ h. T.Write.writer h.part };
+
+    fn poll_write<B: IoBuf>(&mut self, buf: B, task: u64) -> PollBuf<B> {
+        self.part.poll_write(buf, task)
+    }
+
+    fn poll_writev<B: IoVecBuf>(&mut self, buf: B, task: u64) -> PollBuf<B> {
+        self.part.poll_writev(buf, task)
+    }
+
+    fn poll_flush(&mut self, task: u64) -> PollCount {
+        self.part.poll_flush(task)
+    }
+
+    fn poll_shutdown(&mut self, task: u64) -> PollCount {
+        self.part.poll_shutdown(task)
+    }
+}
+
+impl<T: Split> CancelableAsyncWriteRent for OwnedWriteHalf<T>
+where
+    T::Write: CancelableAsyncWriteRent,
+{
+    fn poll_cancelable_write<B: IoBuf>(&mut self, buf: B, c: CancelHandle, task: u64) -> PollBuf<B> {
+        self.part.poll_cancelable_write(buf, c, task)
+    }
+
+    fn poll_cancelable_writev<B: IoVecBuf>(
+        &mut self,
+        buf: B,
+        c: CancelHandle,
+        task: u64,
+    ) -> PollBuf<B> {
+        self.part.poll_cancelable_writev(buf, c, task)
+    }
+
+    fn poll_cancelable_flush(&mut self, c: CancelHandle, task: u64) -> PollCount {
+        self.part.poll_cancelable_flush(c, task)
+    }
+
+    fn poll_cancelable_shutdown(&mut self, c: CancelHandle, task: u64) -> PollCount {
+        self.part.poll_cancelable_shutdown(c, task)
+    }
+}
