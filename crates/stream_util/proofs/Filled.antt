@@ -13,7 +13,7 @@ pub skipped : (xs held : List ℕ) (begin end count : ℕ) → begin ≤ end →
     → slice_range xs begin end ≡ held → slice_range xs (begin + count) end ≡ drop count held
 skipped xs held begin end count ordered within fits is =
     let size : length held ≡ end - begin =
-        omega (arith, ap length is, length-take (end - begin) (drop begin xs), length-drop begin xs, ordered, within) in
+    omega (arith, ap length is, length-take (end - begin) (drop begin xs), length-drop begin xs, ordered, within) in
     let sum : count + (end - (begin + count)) ≡ end - begin = omega (arith, size, fits, ordered) in
     ap (λ l. take (end - (begin + count)) l) (sym (drop-drop count begin xs))
     ∙ sym (drop-take count (end - (begin + count)) (drop begin xs)) ∙ ap (λ n. drop count (take n (drop begin xs))) sum ∙ ap (drop count) is

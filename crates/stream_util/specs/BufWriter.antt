@@ -85,9 +85,9 @@ TakesNone (BufAgain back) = Unit {0}
 -- The rule for a write. Bytes that fit are buffered, all of them, and nothing else changes. If some are buffered and more don't fit, the
 -- buffer is written and none is taken. Bytes that alone are more than an empty buffer takes are not buffered.
 pub record WriteRule {W T : Type 0} (inner : W → Writer) (tells : Bool) (before now : Writing W) (bytes : List ℕ) (result : PollBuf T)
-  : Type 0 where
-    pub buffers : length before.held + length bytes ≤ before.capacity
-        → (now ≡ record before { held = before.held ++ bytes }) × TakesWhole bytes result
-    pub writes : before.capacity < length before.held + length bytes → 0 < length before.held
-        → TakesNone result × Pushes tells (inner before.inner) (inner now.inner) before.held now.held
-    pub passes : before.held ≡ [] → before.capacity < length bytes → now.held ≡ []
+    : Type 0 where
+  pub buffers : length before.held + length bytes ≤ before.capacity
+      → (now ≡ record before { held = before.held ++ bytes }) × TakesWhole bytes result
+  pub writes : before.capacity < length before.held + length bytes → 0 < length before.held
+      → TakesNone result × Pushes tells (inner before.inner) (inner now.inner) before.held now.held
+  pub passes : before.held ≡ [] → before.capacity < length bytes → now.held ≡ []

@@ -36,6 +36,7 @@ impl<R, W> Duplex<R, W> {
 
 impl<R: AsyncReadRent, W: AsyncWriteRent> Split for Duplex<R, W> {
     type Read = R;
+
     type Write = W;
 
     ghost joined = { λ r w. record { read = r; write = w } };
@@ -107,7 +108,12 @@ impl<R, W: AsyncWriteRent> AsyncWriteRent for Duplex<R, W> {
 }
 
 impl<R, W: CancelableAsyncWriteRent> CancelableAsyncWriteRent for Duplex<R, W> {
-    fn poll_cancelable_write<B: IoBuf>(&mut self, buf: B, c: CancelHandle, task: u64) -> PollBuf<B> {
+    fn poll_cancelable_write<B: IoBuf>(
+        &mut self,
+        buf: B,
+        c: CancelHandle,
+        task: u64,
+    ) -> PollBuf<B> {
         self.write.poll_cancelable_write(buf, c, task)
     }
 

@@ -14,9 +14,7 @@ pub use buf_writer::BufWriter;
 pub use copy::{Copied, Copy, MOST_HELD};
 pub use duplex::Duplex;
 pub use prefixed_io::PrefixedReadIo;
-pub use split::{
-    OwnedReadHalf, OwnedWriteHalf, Pairs, ReuniteError, Shutdown, Split, Splitable,
-};
+pub use split::{OwnedReadHalf, OwnedWriteHalf, Pairs, ReuniteError, Shutdown, Split, Splitable};
 
 #[cfg(test)]
 mod tests;

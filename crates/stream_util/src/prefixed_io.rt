@@ -10,8 +10,8 @@ use crate::vectored::first_room;
 use cancel_core::CancelHandle;
 use rent_buf::{IoBuf, IoBufMut, IoFault, IoVecBuf, IoVecBufMut};
 use rent_io::{
-    AsyncReadRent, AsyncWriteRent, ByteSource, CancelableAsyncReadRent, CancelableAsyncWriteRent, PIECE,
-    PollBuf, PollCount,
+    AsyncReadRent, AsyncWriteRent, ByteSource, CancelableAsyncReadRent, CancelableAsyncWriteRent,
+    PIECE, PollBuf, PollCount,
 };
 use std::marker::Model;
 
@@ -75,7 +75,8 @@ impl<I, P> PrefixedReadIo<I, P> {
 
     /// The stream inside (monoio: `into_inner`). What is left of the prefix is lost.
     pub fn into_inner(self) -> I
-        where P: Drop,
+    where
+        P: Drop,
         ensures { result ≡ self.io }
     {
         let PrefixedReadIo {
@@ -175,6 +176,7 @@ impl<I: AsyncReadRent, P: ByteSource> PrefixedReadIo<I, P> {
 
 impl<I: Split, P: ByteSource> Split for PrefixedReadIo<I, P> {
     type Read = PrefixedReadIo<I::Read, P>;
+
     type Write = I::Write;
 
     ghost joined = { λ r w. record { io = I.joined r.io w; prefix = r.prefix; finished = r.finished } };

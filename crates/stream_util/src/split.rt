@@ -64,6 +64,7 @@ impl Pairs {
 }
 
 /// The half of a stream that is read (monoio: `OwnedReadHalf`). A clause sees it as its part and the number of its pair.
+#[derive(Drop)]
 pub struct OwnedReadHalf<T: Split> {
     part: T::Read,
     pair: u64,
@@ -188,6 +189,7 @@ impl<T: Split> OwnedWriteHalf<T> {
 }
 
 /// A shutdown of a part that is written (not in monoio). A clause sees it as the part.
+#[derive(Drop)]
 #[must_use]
 pub struct Shutdown<T: Split> {
     part: T::Write,
@@ -278,7 +280,12 @@ impl<T: Split> CancelableAsyncWriteRent for OwnedWriteHalf<T>
 where
     T::Write: CancelableAsyncWriteRent,
 {
-    fn poll_cancelable_write<B: IoBuf>(&mut self, buf: B, c: CancelHandle, task: u64) -> PollBuf<B> {
+    fn poll_cancelable_write<B: IoBuf>(
+        &mut self,
+        buf: B,
+        c: CancelHandle,
+        task: u64,
+    ) -> PollBuf<B> {
         self.part.poll_cancelable_write(buf, c, task)
     }
 

@@ -1,7 +1,13 @@
 // Worked runs, and that each call succeeds where memory is at hand.
-use crate::Copy;
-use rent_buf::ByteList;
-use rent_io::{ScriptedStream, Step, Turned1};
+use crate::{
+    BufReader, BufWriter, Copy, Duplex, OwnedReadHalf, OwnedWriteHalf, Pairs, PrefixedReadIo,
+    ReuniteError, Splitable,
+};
+use rent_buf::{ByteList, IoBuf, IoFault, NumList, Rent};
+use rent_io::{
+    AsyncReadRent, AsyncReadRentExt, AsyncWriteRent, MemSource, PollBuf, PollCount, ScriptedStream,
+    Step, Turned1,
+};
 use std::alloc::{AllocError, Global};
 use std::test::Fail;
 
@@ -59,5 +65,105 @@ fn a_copy_is_taken_up_again(rt: HostRuntime) -> Result<(), Fail> {
     };
     assert_eq!(rt; copied.result, Ok(3));
     assert_eq!(rt; writer.delivered(), b"abcde".as_slice());
+    Ok(())
+}
+
+// One read with so much room: what it gave.
+fn read_once<A: AsyncReadRent>(io: &mut A, alloc: Global, room: usize) -> Result<Rent, Fail> {
+    match io.poll_read(Rent::with_total(alloc, room)?, 0) {
+        PollBuf::Ready(Ok(_), buf) => Ok(buf),
+        _ => Err(Fail::from("no bytes")),
+    }
+}
+
+#[test]
+fn a_buffered_reader_gives_what_it_holds_first(rt: HostRuntime) -> Result<(), Fail> {
+    let inner = stream(rt.alloc(), b"abcdef", &[])?;
+    let Ok(mut reader) = BufReader::with_capacity(rt.alloc(), 4, inner) else {
+        return Err(Fail::from("out of memory"));
+    };
+    assert_eq!(rt;
+        read_once(&mut reader, rt.alloc(), 2)?.bytes(),
+        b"ab".as_slice()
+    );
+    assert_eq!(rt;
+        read_once(&mut reader, rt.alloc(), 8)?.bytes(),
+        b"cd".as_slice()
+    );
+    assert_eq!(rt;
+        read_once(&mut reader, rt.alloc(), 8)?.bytes(),
+        b"ef".as_slice()
+    );
+    assert_eq!(rt; reader.get_ref().calls(), 2);
+    Ok(())
+}
+
+#[test]
+fn a_buffered_writer_forgets_just_what_was_taken(rt: HostRuntime) -> Result<(), Fail> {
+    let script = [Turned1::Grant(1), Turned1::Fault(5)];
+    let Ok(mut writer) = BufWriter::with_capacity(rt.alloc(), 4, stream(rt.alloc(), b"", &script)?)
+    else {
+        return Err(Fail::from("out of memory"));
+    };
+    let PollBuf::Ready(outcome, _) = writer.poll_write(b"abcd".to_vec(rt.alloc())?, 0) else {
+        return Err(Fail::from("not ready"));
+    };
+    assert_eq!(rt; outcome, Ok(4));
+    assert_eq!(rt; writer.poll_flush(0), PollCount::Again);
+    assert_eq!(rt; writer.poll_flush(0), PollCount::Ready(Err(IoFault::Os(5))));
+    assert_eq!(rt; writer.buffer(), b"bcd".as_slice());
+    assert_eq!(rt; writer.poll_flush(0), PollCount::Again);
+    assert_eq!(rt; writer.poll_flush(0), PollCount::Ready(Ok(0)));
+    assert_eq!(rt; writer.get_ref().delivered(), b"abcd".as_slice());
+    Ok(())
+}
+
+#[test]
+fn a_prefix_comes_first(rt: HostRuntime) -> Result<(), Fail> {
+    let prefix = ByteList::from_vec(b"hello ".to_vec(rt.alloc())?);
+    let prefix = MemSource::new(prefix, NumList::new(rt.alloc()));
+    let mut io = PrefixedReadIo::new(stream(rt.alloc(), b"world", &[])?, prefix);
+    let mut state = io.read_exact(Rent::with_total(rt.alloc(), 11)?);
+    for _ in 0..4 {
+        match state.poll(&mut io, 0) {
+            Step::Ready((outcome, buf)) => {
+                assert_eq!(rt; outcome, Ok(11));
+                assert_eq!(rt; buf.bytes(), b"hello world".as_slice());
+                return Ok(());
+            }
+            Step::Pending(next) => state = next,
+            Step::Again(next) => state = next,
+        }
+    }
+    Err(Fail::from("not ready"))
+}
+
+type Pair = Duplex<ScriptedStream, ScriptedStream>;
+
+// A stream that reads these bytes.
+fn duplex(alloc: Global, bytes: &[u8]) -> Result<Pair, AllocError> {
+    Ok(Duplex::new(stream(alloc, bytes, &[])?, stream(alloc, b"", &[])?))
+}
+
+// Whether two halves were reunited. If they weren't, the write half is shut down, which is done at once.
+fn were_reunited(read: OwnedReadHalf<Pair>, write: OwnedWriteHalf<Pair>) -> bool {
+    match read.reunite(write) {
+        Ok(_) => true,
+        Err(ReuniteError(_, write)) => !matches!(write.shutdown().poll(0), Step::Ready((Ok(0), _))),
+    }
+}
+
+#[test]
+fn halves_of_two_splits_stay_apart(rt: HostRuntime) -> Result<(), Fail> {
+    let mut pairs = Pairs::new();
+    let (first, second) = (duplex(rt.alloc(), b"a")?, duplex(rt.alloc(), b"b")?);
+    let third = duplex(rt.alloc(), b"c")?;
+    let (read, write) = first.into_split(&mut pairs);
+    let (other_read, other_write) = second.into_split(&mut pairs);
+    assert_eq!(rt; were_reunited(read, other_write), false);
+    assert_eq!(rt; were_reunited(other_read, write), false);
+    let (read, write) = third.into_split(&mut pairs);
+    assert_eq!(rt; were_reunited(read, write), true);
+    assert_eq!(rt; pairs.given(), 3);
     Ok(())
 }

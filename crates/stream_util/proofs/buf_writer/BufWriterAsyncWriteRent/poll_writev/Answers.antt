@@ -10,11 +10,10 @@ returns-in-Taken-clause-writes g c =
     let writer = g.W.AsyncWriteRent.writer in
     let first = c.first_part-part.result.now in
     let offers = c.in-Taken.ensures.offers in
-    let is = c.first_part-part.ensures in
-    (
+    let is = c.first_part-part.ensures in (
       refl,
       parts_within parts (length first) (omega (arith, ap length is)),
       λ t. ap (λ w. (writer w.inner).delivered ++ c.offer.new.self.held) offers.1
           ∙ first_behind (writer c.args.self.now.inner).delivered c.args.self.now.held parts first c.offer.new.self.held is
-              (ap (λ w. w.held) offers.1),
+          (ap (λ w. w.held) offers.1),
     )

@@ -15,8 +15,7 @@ returns-else-count-eq0-clause-reads g c =
     let b = g.T.IoBufMut.buffer c.args.buf in
     let back = g.T.IoBufMut.buffer c.store-in-Ok.new.self in
     let after = prefix_left i.finished (left c.read.new.self) ++ (reader i.io).left in
-    let size : length c.read.new.room ≡ c.min.result = grind (arith, common_steps) in
-    (
+    let size : length c.read.new.room ≡ c.min.result = grind (arith, common_steps) in (
       subst (λ s. Taken (g.I.AsyncReadRent.tells && g.P.ByteSource.tells) (prefix_left s.finished (left s.prefix) ++ (reader s.io).left)
           after b back c.in-Ok.count) c.self.view_is
           (taken_prefix g.I.AsyncReadRent.tells g.P.ByteSource.tells i.finished (left i.prefix) (left c.read.new.self) (reader i.io).left

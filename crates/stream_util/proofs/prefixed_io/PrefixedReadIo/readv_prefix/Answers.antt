@@ -17,8 +17,8 @@ returns-else-count-eq0-clause-reads g c =
     let after = prefix_left i.finished (left c.read.new.self) ++ (reader i.io).left in
     let size : length c.read.new.room ≡ c.min.result = grind (arith, common_steps) in
     subst (λ s. Scattered (g.I.AsyncReadRent.tells && g.P.ByteSource.tells) (prefix_left s.finished (left s.prefix) ++ (reader s.io).left)
-        after parts back c.in-Ok.count) c.self.view_is
-        (scattered_prefix g.I.AsyncReadRent.tells g.P.ByteSource.tells i.finished (left i.prefix) (left c.read.new.self) (reader i.io).left
-        c.read.new.room parts back c.min.result c.in-Ok.count c.if-self.false
-        (omega (arith, c.min.ensures, c.first_room-total.ensures.room)) size (grind (arith, common_steps)) c.if-count-eq0.false
-        (c.store_front-in-Ok.ensures ∙ ap (λ l. parts_stored parts l) c.split_at.ensures.front) (grind (arith, common_steps)))
+    after parts back c.in-Ok.count) c.self.view_is
+    (scattered_prefix g.I.AsyncReadRent.tells g.P.ByteSource.tells i.finished (left i.prefix) (left c.read.new.self) (reader i.io).left
+    c.read.new.room parts back c.min.result c.in-Ok.count c.if-self.false
+    (omega (arith, c.min.ensures, c.first_room-total.ensures.room)) size (grind (arith, common_steps)) c.if-count-eq0.false
+    (c.store_front-in-Ok.ensures ∙ ap (λ l. parts_stored parts l) c.split_at.ensures.front) (grind (arith, common_steps)))
