@@ -6,7 +6,9 @@ pub mod buf_writer;
 pub mod copy;
 pub mod duplex;
 pub mod prefixed_io;
+pub mod splice;
 pub mod split;
+pub mod zero_copy;
 mod vectored;
 
 pub use buf_reader::BufReader;
@@ -14,7 +16,9 @@ pub use buf_writer::BufWriter;
 pub use copy::{Copied, Copy, MOST_HELD};
 pub use duplex::Duplex;
 pub use prefixed_io::PrefixedReadIo;
+pub use splice::{MemPipe, SpliceDestination, SpliceSource};
 pub use split::{OwnedReadHalf, OwnedWriteHalf, Pairs, ReuniteError, Shutdown, Split, Splitable};
+pub use zero_copy::ZeroCopy;
 
 #[cfg(test)]
 mod tests;
