@@ -1,5 +1,6 @@
 -- What polls of a copy move.
-use Rattle.std.proofs.Common.{◌≡◌, ◌∙◌, ℕ, ◌+◌, ◌-◌, ◌^◌, ◌<◌, ◌≤◌, ◌≢◌, ◌⊎◌, inl, inr, refl, List, [], ◌++◌, Bool, length, take, drop, sym, ap, subst, arith}
+use Rattle.std.proofs.Common.{◌≡◌, ◌∙◌, ℕ, ◌+◌, ◌-◌, ◌^◌, ◌<◌, ◌≤◌, ◌≢◌, ◌⊎◌, inl, inr, refl, List, [], ◌++◌, Bool, length, take, drop}
+use Rattle.std.proofs.Common.{sym, ap, subst, arith}
 use Rattle.std.proofs.Common.{append_assoc, append-nil, length-append}
 use Rattle.std.specs.Prelude.{IsTrue, Result, Ok, Err}
 use Rattle.std.specs.List.{slice_range}
@@ -23,7 +24,8 @@ range-to_end xs from total is =
     take_all (total - from) (drop from xs) (omega (arith, rest, is))
 
 -- What a range to the end shows, cut at a place: the first bytes, and those behind them.
-pub range_cut : (xs : List ℕ) (from total n : ℕ) → total ≡ length xs → take n (slice_range xs from total) ++ drop (from + n) xs ≡ drop from xs
+pub range_cut : (xs : List ℕ) (from total n : ℕ) → total ≡ length xs
+    → take n (slice_range xs from total) ++ drop (from + n) xs ≡ drop from xs
 range_cut xs from total n is =
     ap (λ l. take n l ++ drop (from + n) xs) (range-to_end xs from total is)
     ∙ ap (λ l. take n (drop from xs) ++ l) (sym (drop-drop n from xs)) ∙ take-append-drop n (drop from xs)
@@ -200,7 +202,9 @@ all-of reads writes before now copy count rest (Ok n) m end r w =
     )
 all-of reads writes before now copy count rest (Err fault) m end r w = tt
 
-pub copies_all : (reads writes : Bool) (before now : Ends) (copy : Copying) (copied : Copied) → HasCopied reads writes before now copy copied
+-- The same of an answer.
+pub copies_all : (reads writes : Bool) (before now : Ends) (copy : Copying) (copied : Copied)
+    → HasCopied reads writes before now copy copied
     → CopiesAll reads writes before now copy (Ready copied)
 copies_all reads writes before now copy copied has =
     all-of reads writes before now copy has.count copied.rest copied.result has.moves has.ends

@@ -15,7 +15,8 @@ second-tells true b t = t
 second-tells false b t = absurd (false≢true t)
 
 -- A read of the prefix by way of a piece of memory is one of the stream: what is left of the stream inside comes behind.
-pub taken_prefix : (first tells finished : Bool) (left rest behind piece : List ℕ) (b back : Buffer) (size n : ℕ) → finished ≡ false → size ≡ min (room b) 4096
+pub taken_prefix : (first tells finished : Bool) (left rest behind piece : List ℕ) (b back : Buffer) (size n : ℕ)
+    → finished ≡ false → size ≡ min (room b) 4096
     → length piece ≡ size → n ≤ size → n ≢ 0 → back ≡ put b (b.begin + 0) (take n piece) → (IsTrue tells → Gives left rest piece size n)
     → Taken (first && tells) (prefix_left finished left ++ behind) (prefix_left finished rest ++ behind) b back n
 taken_prefix first tells finished left rest behind piece b back size n going is long within some put_is gives =
@@ -31,8 +32,10 @@ taken_prefix first tells finished left rest behind piece b back size n going is 
 
 -- The same into parts.
 pub scattered_prefix : (first tells finished : Bool) (left rest behind piece : List ℕ) (parts back : Parts) (size n : ℕ)
-    → finished ≡ false → size ≡ min (first_room parts) 4096 → length piece ≡ size → n ≤ size → n ≢ 0 → back ≡ parts_stored parts (take n piece)
-    → (IsTrue tells → Gives left rest piece size n) → Scattered (first && tells) (prefix_left finished left ++ behind) (prefix_left finished rest ++ behind) parts back n
+    → finished ≡ false → size ≡ min (first_room parts) 4096 → length piece ≡ size → n ≤ size → n ≢ 0
+    → back ≡ parts_stored parts (take n piece)
+    → (IsTrue tells → Gives left rest piece size n)
+    → Scattered (first && tells) (prefix_left finished left ++ behind) (prefix_left finished rest ++ behind) parts back n
 scattered_prefix first tells finished left rest behind piece parts back size n going is long within some stored_is gives =
     let taken = scattered_piece tells left rest piece parts back size n is long within stored_is gives in
     rw going (record {

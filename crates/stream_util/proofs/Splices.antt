@@ -1,5 +1,6 @@
 -- What splices move.
-use Rattle.std.proofs.Common.{◌≡◌, ◌∙◌, ℕ, ◌+◌, ◌-◌, ◌^◌, ◌<◌, ◌≤◌, ◌≢◌, min, List, [], ◌++◌, Bool, length, take, drop, sym, ap, subst, arith, append-nil}
+use Rattle.std.proofs.Common.{◌≡◌, ◌∙◌, ℕ, ◌+◌, ◌-◌, ◌^◌, ◌<◌, ◌≤◌, ◌≢◌, List, [], ◌++◌, Bool, take, drop}
+use Rattle.std.proofs.Common.{sym, ap, subst, arith, append-nil}
 use Rattle.std.specs.List.{slice_range}
 use Rattle.std.proofs.lemmas.List.{length-take, take-take, take-append-drop, drop-drop}
 use Rattle.rent_buf.specs.Slice.{Cut}
@@ -34,7 +35,7 @@ spliced_out content tells before now pipe buf back start end len n slice part is
 pub splice_fetched : (reads writes : Bool) (before now : Reader) (writer : Writer) (copy : Copying) (pipe later : List ℕ) (len n count : ℕ)
     → record { held = pipe; count = count } ≡ copy → count < 2 ^ 64 → n ≢ 0 → SplicedIn reads before.left now.left pipe later len n
     → MovesSome reads writes (record { reader = before; writer = writer }) (record { reader = now; writer = writer }) copy
-        (record { held = later; count = count })
+    (record { held = later; count = count })
 splice_fetched reads writes before now writer copy pipe later len n count is bounded some spliced = record {
   moves = record {
     got = spliced.got;
@@ -48,10 +49,10 @@ splice_fetched reads writes before now writer copy pipe later len n count is bou
 }
 
 -- A splice out of some bytes: the copy delivered them.
-pub splice_delivered : (reads writes : Bool) (reader : Reader) (before now : Writer) (copy : Copying) (pipe later : List ℕ) (len n count : ℕ)
-    → record { held = pipe; count = count } ≡ copy → n ≢ 0 → SplicedOut writes before.delivered now.delivered pipe later len n
+pub splice_delivered : (reads writes : Bool) (reader : Reader) (before now : Writer) (copy : Copying) (pipe later : List ℕ)
+    (len n count : ℕ) → record { held = pipe; count = count } ≡ copy → n ≢ 0 → SplicedOut writes before.delivered now.delivered pipe later len n
     → MovesSome reads writes (record { reader = reader; writer = before }) (record { reader = reader; writer = now }) copy
-        (record { held = later; count = count_more count n })
+    (record { held = later; count = count_more count n })
 splice_delivered reads writes reader before now copy pipe later len n count is some spliced = record {
   moves = record {
     got = [];

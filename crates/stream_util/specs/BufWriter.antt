@@ -1,6 +1,5 @@
 -- A writer with a buffer: what a write, a flush and a shutdown of it do.
 use Rattle.std.specs.Prelude.{ℕ, ◌≡◌, ◌+◌, ◌<◌, ◌≤◌, Bool, IsTrue, List, [], ◌++◌, length, Ok, Err}
-use Rattle.rent_buf.specs.declared.fault.IoFault.{IoFault}
 use Rattle.rent_io.specs.Counts.{Counts, Rose}
 use Rattle.rent_io.specs.Writer.{Writer}
 use Rattle.rent_io.specs.declared.poll.PollBuf.{PollBuf}

@@ -1,5 +1,5 @@
 -- A stream with a prefix in front of its reads.
-use Rattle.std.specs.Prelude.{ℕ, ◌≡◌, ◌+◌, Bool, true, false, List, [], ◌++◌}
+use Rattle.std.specs.Prelude.{ℕ, ◌+◌, Bool, true, false, List, [], ◌++◌}
 use Rattle.rent_io.specs.declared.poll.PollBuf.{PollBuf}
 use Rattle.rent_io.specs.Reader.{Reader}
 use Rattle.stream_util.specs.declared.prefixed_io.Front.{Front}

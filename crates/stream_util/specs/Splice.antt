@@ -1,6 +1,5 @@
 -- Splices by way of a pipe in memory: what each poll of a splice moves, and what each poll of a copy by splices does.
-use Rattle.std.specs.Prelude.{ℕ, ◌≡◌, ◌<◌, ◌≤◌, ◌⊎◌, Bool, IsTrue, List, [], ◌++◌, length, Ok, Err}
-use Rattle.rent_buf.specs.declared.fault.IoFault.{IoFault}
+use Rattle.std.specs.Prelude.{ℕ, ◌≡◌, ◌≤◌, ◌⊎◌, Bool, IsTrue, List, [], ◌++◌, length, Ok, Err}
 use Rattle.rent_buf.specs.declared.fault.IoFault.TheVariants.{OutOfMemory}
 use Rattle.rent_io.specs.declared.poll.PollCount.{PollCount}
 use Rattle.rent_io.specs.declared.poll.PollCount.TheVariants.{Ready, Pending, Again}

@@ -1,5 +1,5 @@
 // A stream that is read through a buffer.
-ghost use Rattle.std.specs.Prelude.{◌≡◌, ◌+◌, ◌<◌, ◌≤◌, ◌++◌, [], length, take, drop, min, max, IfOk, IfErr, IsTrue};
+ghost use Rattle.std.specs.Prelude.{◌≡◌, ◌+◌, ◌<◌, ◌≤◌, [], length, take, drop, min, max, IfOk, IfErr, IsTrue};
 ghost use Rattle.rent_buf.specs.Buffer.{room, put};
 ghost use Rattle.rent_buf.specs.Parts.{parts_stored};
 ghost use Rattle.rent_io.specs.BufReader.{Fills};
@@ -158,7 +158,8 @@ impl<R> BufReader<R> {
 impl<R: AsyncReadRent> BufReader<R> {
     // Sees to it that bytes are buffered: it reads once if none are.
     fn fill(&mut self, task: u64) -> PollCount
-        ensures left { IsTrue R.tells → (reader_over (R.reader self.new.inner) self.new).left ≡ (reader_over (R.reader self.old.inner) self.old).left }
+        ensures left { IsTrue R.tells → (reader_over (R.reader self.new.inner) self.new).left
+            ≡ (reader_over (R.reader self.old.inner) self.old).left }
         ensures fills { Fills R.tells (reader_over (R.reader self.new.inner) self.new).left self.new.held result }
         ensures kept { 0 < length self.old.held → self.new ≡ self.old }
         ensures waits { IfNotDone result ((self.old.held ≡ []) × (self.new.held ≡ [])) }

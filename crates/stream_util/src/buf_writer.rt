@@ -3,7 +3,8 @@ ghost use Rattle.std.specs.Prelude.{◌≡◌, ◌+◌, ◌<◌, ◌≤◌, ◌+
 ghost use Rattle.rent_io.specs.Counts.{AfterCall};
 ghost use Rattle.rent_io.specs.Polls.{IsCaused, IsCountCaused};
 ghost use Rattle.rent_io.specs.Writer.{EndsStay, Writes, CountsDone, IfDone};
-ghost use Rattle.stream_util.specs.BufWriter.{Writing, Pushes, IsPushCaused, Offers, IfPushed, WriteRule, fresh_writer, counts_over, writer_over};
+ghost use Rattle.stream_util.specs.BufWriter.{Writing, Pushes, IsPushCaused, Offers, IfPushed, WriteRule};
+ghost use Rattle.stream_util.specs.BufWriter.{fresh_writer, counts_over, writer_over};
 
 use crate::vectored::first_part;
 use rent_buf::{IoBuf, IoBufMut, IoFault, IoVecBuf, IoVecBufMut, OutOfMemory, Slice};
@@ -44,7 +45,8 @@ impl<W> Model for BufWriter<W> {
       moved = s.moved;
     } };
 
-    ghost invariant = { λ s. (s.sent ≤ length s.buf.items) × (length s.buf.items ≤ s.sent + s.capacity) × (s.capacity ≤ vec_capacity s.buf) };
+    ghost invariant = { λ s. (s.sent ≤ length s.buf.items) × (length s.buf.items ≤ s.sent + s.capacity)
+        × (s.capacity ≤ vec_capacity s.buf) };
 }
 
 // What became of bytes that were offered to a buffer.

@@ -8,8 +8,8 @@ pub mod duplex;
 pub mod prefixed_io;
 pub mod splice;
 pub mod split;
-pub mod zero_copy;
 mod vectored;
+pub mod zero_copy;
 
 pub use buf_reader::BufReader;
 pub use buf_writer::BufWriter;

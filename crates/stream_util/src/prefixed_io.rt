@@ -1,5 +1,5 @@
 // A stream whose reads give a prefix first.
-ghost use Rattle.std.specs.Prelude.{◌≡◌, ◌++◌, ◌&&◌, [], true, false, IsTrue};
+ghost use Rattle.std.specs.Prelude.{◌≡◌, ◌&&◌, [], true, false, IsTrue};
 ghost use Rattle.rent_io.specs.Counts.{AfterCall};
 ghost use Rattle.rent_io.specs.Polls.{IsCaused};
 ghost use Rattle.rent_io.specs.Reader.{Reads, ReadsParts};

@@ -159,7 +159,12 @@ fn read_into<A: AsyncReadRent>(reader: &mut A, pipe: &mut MemPipe, len: u32, tas
 }
 
 // One write to a stream of the first bytes of a pipe, at most so many. What it took leaves the pipe.
-fn write_from<A: AsyncWriteRent>(writer: &mut A, pipe: &mut MemPipe, len: u32, task: u64) -> PollCount
+fn write_from<A: AsyncWriteRent>(
+    writer: &mut A,
+    pipe: &mut MemPipe,
+    len: u32,
+    task: u64,
+) -> PollCount
     ensures splices { SplicesOut A.tells (A.writer writer.old).delivered (A.writer writer.new).delivered pipe.old pipe.new len result }
     ensures ends { EndsStay (A.writer writer.old) (A.writer writer.new) }
     ensures cause { IsCountCaused (A.writer writer.old).counts (A.writer writer.new).counts result }

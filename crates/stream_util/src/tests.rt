@@ -1,7 +1,7 @@
 // Worked runs, and that each call succeeds where memory is at hand.
 use crate::{
     BufReader, BufWriter, Copy, Duplex, OwnedReadHalf, OwnedWriteHalf, Pairs, PrefixedReadIo,
-    ReuniteError, Splitable,
+    ReuniteError, Splitable, ZeroCopy,
 };
 use rent_buf::{ByteList, IoBuf, IoFault, NumList, Rent};
 use rent_io::{
@@ -66,6 +66,25 @@ fn a_copy_is_taken_up_again(rt: HostRuntime) -> Result<(), Fail> {
     assert_eq!(rt; copied.result, Ok(3));
     assert_eq!(rt; writer.delivered(), b"abcde".as_slice());
     Ok(())
+}
+
+#[test]
+fn splices_copy_all(rt: HostRuntime) -> Result<(), Fail> {
+    let mut reader = stream(rt.alloc(), b"abc", &[Turned1::Grant(2)])?;
+    let mut writer = stream(rt.alloc(), b"", &[Turned1::Grant(1)])?;
+    let mut copy = ZeroCopy::new(rt.alloc());
+    for _ in 0..9 {
+        match copy.poll(&mut reader, &mut writer, 0) {
+            Step::Ready(copied) => {
+                assert_eq!(rt; copied.result, Ok(3));
+                assert_eq!(rt; writer.delivered(), b"abc".as_slice());
+                return Ok(());
+            }
+            Step::Pending(next) => copy = next,
+            Step::Again(next) => copy = next,
+        }
+    }
+    Err(Fail::from("not ready"))
 }
 
 // One read with so much room: what it gave.

@@ -1,5 +1,4 @@
-use Rattle.std.proofs.Common.{◌∙◌, ◌++◌, refl, ap, sym, arith, length, take}
-use Rattle.std.specs.List.{concat}
+use Rattle.std.proofs.Common.{◌∙◌, ◌++◌, refl, ap, arith, length}
 use Rattle.rent_io.proofs.FirstParts.{parts_within}
 use Rattle.stream_util.proofs.Buffered.{first_behind}
 use Rattle.stream_util.proofs.buf_writer.BufWriterAsyncWriteRent.poll_writev.Goals as goal

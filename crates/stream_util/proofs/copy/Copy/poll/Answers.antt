@@ -26,8 +26,15 @@ returns-then-n-eq0-2-clause-answer g c =
     let same : c.into_inner-buf.result.bytes ≡ i.buf.bytes =
     ap (λ r. r.bytes) (c.into_inner-buf.ensures ∙ ap (λ p. p.inner) (writes.0 ∙ c.new.ensures)) in
     let is : drop i.sent c.into_inner-buf.result.bytes ≡ c.args.self.held = ap (drop i.sent) same ∙ ap (λ k. k.held) c.self.view_is in
-    let some : 0 < length c.args.self.held = omega
-    (arith, ap length is, ap length same, length-drop i.sent c.into_inner-buf.result.bytes, c.if-sent-len.false, c.len-len.ensures, c.self.invariant.0) in
+    let some : 0 < length c.args.self.held = omega (
+      arith,
+      ap length is,
+      ap length same,
+      length-drop i.sent c.into_inner-buf.result.bytes,
+      c.if-sent-len.false,
+      c.len-len.ensures,
+      c.self.invariant.0,
+    ) in
     let none = rw c.if-n-eq0-2.true at writes.2 in
     rw c.ended-then-n-eq0-2.ensures (is, (λ _. refl, λ w. none w ∙ append-nil _), inr (inr (refl, some)))
 
@@ -49,7 +56,8 @@ returns-else-n-eq0-2-clause-joined g c =
     let i = c.self.inside in
     let writer = g.W.AsyncWriteRent.writer in
     let writes = rw a.field-0-is at a.ensures.writes in
-    let some = delivered g.R.AsyncReadRent.tells g.W.AsyncWriteRent.tells (g.R.AsyncReadRent.reader c.args.reader.now) (writer c.args.writer.now)
+    let some = delivered g.R.AsyncReadRent.tells g.W.AsyncWriteRent.tells (g.R.AsyncReadRent.reader c.args.reader.now)
+    (writer c.args.writer.now)
     (writer c.poll_write.new.self) c.args.self i.buf c.into_inner-buf.result i.sent a.n i.count c.len-len.result c.new.result a.part
     c.self.view_is c.new.ensures (record { same = writes.0; within = writes.1; joined = writes.2 }) c.into_inner-buf.ensures
     c.len-len.ensures c.if-n-eq0-2.false in
