@@ -1,0 +1,5 @@
+pub mod Buffered
+pub mod Copies
+pub mod Filled
+pub mod Prefixes
+pub mod Splices

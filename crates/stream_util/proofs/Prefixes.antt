@@ -1,0 +1,48 @@
+-- Reads of a prefix.
+use Rattle.std.proofs.Common.{◌≡◌, ◌∙◌, ℕ, ◌+◌, ◌≤◌, ◌≢◌, List, ◌++◌, Bool, true, false, length, take, ap, append_assoc, min}
+use Rattle.std.specs.Prelude.{IsTrue, ◌&&◌}
+use Rattle.std.proofs.lemmas.Bool.{false≢true}
+use Rattle.rent_buf.specs.Buffer.{Buffer, room, put}
+use Rattle.rent_buf.specs.Parts.{Parts, parts_stored}
+use Rattle.rent_io.specs.Reader.{Taken, Scattered, first_room}
+use Rattle.rent_io.specs.Source.{Gives}
+use Rattle.stream_util.specs.PrefixedReadIo.{prefix_left}
+use Rattle.rent_io.proofs.Pieces.{taken_piece, scattered_piece}
+
+-- Where both tell, the second does.
+second-tells : (a b : Bool) → IsTrue (a && b) → IsTrue b
+second-tells true b t = t
+second-tells false b t = absurd (false≢true t)
+
+-- A read of the prefix by way of a piece of memory is one of the stream: what is left of the stream inside comes behind.
+pub taken_prefix : (first tells finished : Bool) (left rest behind piece : List ℕ) (b back : Buffer) (size n : ℕ)
+    → finished ≡ false → size ≡ min (room b) 4096
+    → length piece ≡ size → n ≤ size → n ≢ 0 → back ≡ put b (b.begin + 0) (take n piece) → (IsTrue tells → Gives left rest piece size n)
+    → Taken (first && tells) (prefix_left finished left ++ behind) (prefix_left finished rest ++ behind) b back n
+taken_prefix first tells finished left rest behind piece b back size n going is long within some put_is gives =
+    let taken = taken_piece tells left rest piece b back size n is long within put_is gives in
+    rw going (record {
+      got = taken.got;
+      count = taken.count;
+      fits = taken.fits;
+      is_stored = taken.is_stored;
+      front = λ t. ap (λ l. l ++ behind) (taken.front (second-tells first tells t)) ∙ append_assoc taken.got rest behind;
+      at_end = λ _ none. absurd (some none);
+    })
+
+-- The same into parts.
+pub scattered_prefix : (first tells finished : Bool) (left rest behind piece : List ℕ) (parts back : Parts) (size n : ℕ)
+    → finished ≡ false → size ≡ min (first_room parts) 4096 → length piece ≡ size → n ≤ size → n ≢ 0
+    → back ≡ parts_stored parts (take n piece)
+    → (IsTrue tells → Gives left rest piece size n)
+    → Scattered (first && tells) (prefix_left finished left ++ behind) (prefix_left finished rest ++ behind) parts back n
+scattered_prefix first tells finished left rest behind piece parts back size n going is long within some stored_is gives =
+    let taken = scattered_piece tells left rest piece parts back size n is long within stored_is gives in
+    rw going (record {
+      got = taken.got;
+      count = taken.count;
+      fits = taken.fits;
+      is_stored = taken.is_stored;
+      front = λ t. ap (λ l. l ++ behind) (taken.front (second-tells first tells t)) ∙ append_assoc taken.got rest behind;
+      at_end = λ _ none. absurd (some none);
+    })

@@ -1,0 +1,12 @@
+use Rattle.rent_io.specs.Writer.{EndsStay}
+use Rattle.stream_util.proofs.Copies.{Ran}
+use Rattle.stream_util.proofs.copy.Copy.run.Given as goal
+
+-- What the polls so far moved.
+abbrev pub invariant-loop-turn : goal.invariant-loop-turn
+invariant-loop-turn g l =
+    let reader = g.R.AsyncReadRent.reader in
+    let writer = g.W.AsyncWriteRent.writer in
+    Ran g.R.AsyncReadRent.tells g.W.AsyncWriteRent.tells (record { reader = reader l.fn.reader; writer = writer l.fn.writer })
+    (record { reader = reader l.reader; writer = writer l.writer }) l.fn.self l.copy
+    × EndsStay (writer l.fn.writer) (writer l.writer)

@@ -1,0 +1,92 @@
+-- A writer with a buffer: what a write, a flush and a shutdown of it do.
+use Rattle.std.specs.Prelude.{ℕ, ◌≡◌, ◌+◌, ◌<◌, ◌≤◌, Bool, IsTrue, List, [], ◌++◌, length, Ok, Err}
+use Rattle.rent_io.specs.Counts.{Counts, Rose}
+use Rattle.rent_io.specs.Writer.{Writer}
+use Rattle.rent_io.specs.declared.poll.PollBuf.{PollBuf}
+use Rattle.rent_io.specs.declared.poll.PollBuf.TheVariants.{Ready, Pending as BufPending, Again as BufAgain}
+use Rattle.rent_io.specs.declared.poll.PollCount.{PollCount}
+use Rattle.rent_io.specs.declared.poll.PollCount.TheVariants.{Ready as CountReady, Pending as CountPending, Again as CountAgain}
+use Rattle.stream_util.specs.declared.buf_writer.Offered.{Offered}
+use Rattle.stream_util.specs.declared.buf_writer.Offered.TheVariants.{Taken, PassOn, Pending, Again, Fault}
+
+-- Such a writer is the one inside, the bytes that are buffered, and how many it buffers at most. It counts the writes of its buffer that
+-- took no byte, which are faults, and those that took some, which are pauses.
+pub record Writing (W : Type 0) : Type 0 where
+  pub inner : W
+  pub held : List ℕ
+  pub capacity : ℕ
+  pub refused : ℕ
+  pub moved : ℕ
+
+-- A new one over a writer.
+abbrev pub fresh_writer : {W : Type 0} → W → ℕ → Writing W
+fresh_writer inner capacity = record { inner = inner; held = []; capacity = capacity; refused = 0; moved = 0 }
+
+-- Its counts, by those of the writer inside.
+abbrev pub counts_over : {W : Type 0} → Counts → Writing W → Counts
+counts_over counts w = record { faults = counts.faults + w.refused; pauses = counts.pauses + w.moved; calls = counts.calls }
+
+-- It as a writer: what the one inside delivered and what is buffered, joined, is what was delivered to it.
+abbrev pub writer_over : {W : Type 0} → Writer → Writing W → Writer
+writer_over inner w = record
+    { delivered = inner.delivered ++ w.held; counts = counts_over inner.counts w; flushes = inner.flushes; shutdowns = inner.shutdowns }
+
+-- The first bytes that were buffered were delivered, and left the buffer at once. The others stay.
+pub record Pushes (tells : Bool) (before now : Writer) (held later : List ℕ) : Type 0 where
+  pub sent : List ℕ
+  pub cut : held ≡ sent ++ later
+  pub delivered : IsTrue tells → now.delivered ≡ before.delivered ++ sent
+
+-- The cause of what a write of the buffer answers: a fault, or a pause of the stream inside, or that bytes moved. It is never done.
+abbrev pub IsPushCaused : Counts → Counts → PollCount → Type 0
+IsPushCaused before now (CountReady (Ok n)) = ⊥
+IsPushCaused before now (CountReady (Err fault)) = Rose before.faults now.faults
+IsPushCaused before now CountPending = Rose before.pauses now.pauses
+IsPushCaused before now CountAgain = Rose before.pauses now.pauses
+
+-- Bytes don't fit behind some that are buffered.
+abbrev pub IsFull : {W : Type 0} → Writing W → List ℕ → Type 0
+IsFull w bytes = (w.capacity < length w.held + length bytes) × (0 < length w.held)
+
+-- What becomes of bytes that are offered to the buffer. They are taken exactly if they fit behind those that are buffered; they are to
+-- be passed on if nothing is buffered and they are more than the buffer takes; and else a write of the buffer was made first.
+abbrev pub Offers : {W : Type 0} → Counts → Counts → Writing W → Writing W → List ℕ → Offered → Type 0
+Offers counts later before now bytes Taken =
+    (length before.held + length bytes ≤ before.capacity) × (now ≡ record before { held = before.held ++ bytes })
+Offers counts later before now bytes PassOn = (before.held ≡ []) × (before.capacity < length bytes) × (now ≡ before)
+Offers counts later before now bytes Pending = IsFull before bytes × Rose (counts_over counts before).pauses (counts_over later now).pauses
+Offers counts later before now bytes Again = IsFull before bytes × Rose (counts_over counts before).pauses (counts_over later now).pauses
+Offers counts later before now bytes (Fault fault) =
+    IsFull before bytes × Rose (counts_over counts before).faults (counts_over later now).faults
+
+-- A fact of an offer at which the buffer was written.
+abbrev pub IfPushed : Offered → Type 0 → Type 0
+IfPushed Taken P = Unit {0}
+IfPushed PassOn P = Unit {0}
+IfPushed Pending P = P
+IfPushed Again P = P
+IfPushed (Fault fault) P = P
+
+-- A poll of a write took the bytes of a buffer whole.
+abbrev pub TakesWhole : {T : Type 0} → List ℕ → PollBuf T → Type 0
+TakesWhole bytes (Ready (Ok n) back) = n ≡ length bytes
+TakesWhole bytes (Ready (Err fault) back) = ⊥
+TakesWhole bytes (BufPending back) = ⊥
+TakesWhole bytes (BufAgain back) = ⊥
+
+-- A poll of a write took nothing.
+abbrev pub TakesNone : {T : Type 0} → PollBuf T → Type 0
+TakesNone (Ready (Ok n) back) = ⊥
+TakesNone (Ready (Err fault) back) = Unit {0}
+TakesNone (BufPending back) = Unit {0}
+TakesNone (BufAgain back) = Unit {0}
+
+-- The rule for a write. Bytes that fit are buffered, all of them, and nothing else changes. If some are buffered and more don't fit, the
+-- buffer is written and none is taken. Bytes that alone are more than an empty buffer takes are not buffered.
+pub record WriteRule {W T : Type 0} (inner : W → Writer) (tells : Bool) (before now : Writing W) (bytes : List ℕ) (result : PollBuf T)
+    : Type 0 where
+  pub buffers : length before.held + length bytes ≤ before.capacity
+      → (now ≡ record before { held = before.held ++ bytes }) × TakesWhole bytes result
+  pub writes : before.capacity < length before.held + length bytes → 0 < length before.held
+      → TakesNone result × Pushes tells (inner before.inner) (inner now.inner) before.held now.held
+  pub passes : before.held ≡ [] → before.capacity < length bytes → now.held ≡ []

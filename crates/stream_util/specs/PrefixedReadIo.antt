@@ -1,0 +1,31 @@
+-- A stream with a prefix in front of its reads.
+use Rattle.std.specs.Prelude.{ℕ, ◌+◌, Bool, true, false, List, [], ◌++◌}
+use Rattle.rent_io.specs.declared.poll.PollBuf.{PollBuf}
+use Rattle.rent_io.specs.Reader.{Reader}
+use Rattle.stream_util.specs.declared.prefixed_io.Front.{Front}
+use Rattle.stream_util.specs.declared.prefixed_io.Front.TheVariants.{Answered, Behind}
+
+-- Such a stream is the one inside, the prefix, and whether the prefix has ended.
+pub record Prefixed (I P : Type 0) : Type 0 where
+  pub io : I
+  pub prefix : P
+  pub finished : Bool
+
+-- The bytes that are left of the prefix: none, once it has ended.
+abbrev pub prefix_left : Bool → List ℕ → List ℕ
+prefix_left true left = []
+prefix_left false left = left
+
+-- It as a reader: what is left of the prefix comes before what is left of the one inside, and faults of both count.
+abbrev pub reader_behind : Bool → List ℕ → ℕ → Reader → Reader
+reader_behind finished left faults inner = record
+    { left = prefix_left finished left ++ inner.left; counts = record inner.counts { faults = inner.counts.faults + faults } }
+
+-- A fact of a read that the prefix answered, and one of a read that is behind it.
+abbrev pub IfAnswered : {T : Type 0} → Front T → (PollBuf T → Type 0) → Type 0
+IfAnswered (Answered answer) P = P answer
+IfAnswered (Behind buf) P = Unit {0}
+
+abbrev pub IfBehind : {T : Type 0} → Front T → (T → Type 0) → Type 0
+IfBehind (Answered answer) P = Unit {0}
+IfBehind (Behind buf) P = P buf
