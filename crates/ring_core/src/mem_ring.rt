@@ -198,7 +198,8 @@ impl Ring for MemRing {
     }
 
     fn queued(&self) -> u32 {
-        let _most = self.entries;
+        // The queue is no longer than its capacity, which is a `u32`.
+        let _capacity = self.entries;
         self.queue.len() as u32
     }
 
@@ -228,7 +229,8 @@ impl Ring for MemRing {
     }
 
     fn enter(&mut self) -> Result<u32, EnterError> {
-        let _most = self.entries;
+        // The queue is no longer than its capacity, which is a `u32`.
+        let _capacity = self.entries;
         let taken = self.queue.len() as u32;
         take_all(&mut self.queue, &mut self.flying, &mut self.done);
         Ok(taken)

@@ -279,7 +279,7 @@ impl<B: IoBufMut> Request<B, VecBuf> {
             Way::Reads => Ok(()),
             Way::Sends => match self.held() {
                 Held::One(buf) => {
-                    let _ = buf.bytes_total();
+                    buf.keeps_bounds();
                     append_first(list, count, buf.bytes())
                 }
                 Held::Parts(parts) => append_first_parts(list, count, parts),
@@ -303,7 +303,7 @@ fn asked(count: usize) -> u32
 fn offered<B: IoBufMut>(buf: &B) -> u32
     ensures { result ≡ length (take MOST_ASKED (shown (B.buffer buf.now))) }
 {
-    let _ = buf.bytes_total();
+    buf.keeps_bounds();
     asked(buf.bytes_init())
 }
 

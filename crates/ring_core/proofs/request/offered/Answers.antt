@@ -6,7 +6,7 @@ use Rattle.ring_core.proofs.request.offered.Goals as goal
 
 pub returns : goal.returns
 returns g c =
-    let shows = c.bytes_init.ensures ∙ ap length c.bytes_total.ensures.content in
+    let shows = c.bytes_init.ensures ∙ ap length c.keeps_bounds.ensures.content in
     let cut = length-take MOST_ASKED (shown (g.B.IoBufMut.buffer c.args.buf.now)) in
     let asks = c.asked.ensures in
     omega (arith, shows, cut, asks)
