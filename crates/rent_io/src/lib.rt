@@ -29,7 +29,7 @@ pub mod sink_ext;
 pub mod sink_stream;
 pub mod source;
 pub mod source_stream;
-mod vectored;
+pub mod vectored;
 pub mod write_all;
 pub mod write_vectored_all;
 

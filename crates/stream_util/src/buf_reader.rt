@@ -9,9 +9,9 @@ ghost use Rattle.rent_io.specs.Reader.{Reads, ReadsParts, first_room as room_of}
 ghost use Rattle.stream_util.specs.BufReader.{Reading, ReadRule, IfNotDone, fresh_reader, reader_over};
 
 use crate::buf_writer::DEFAULT_CAPACITY;
-use crate::vectored::first_room;
 use rent_buf::{FixedVec, IoBuf, IoBufMut, IoVecBuf, IoVecBufMut, OutOfMemory};
 use rent_io::{AsyncBufRead, AsyncReadRent, AsyncWriteRent, PollBuf, PollCount};
+use rent_io::vectored::first_room;
 use std::alloc::Global;
 use std::marker::Model;
 use std::mem;

@@ -6,9 +6,9 @@ ghost use Rattle.rent_io.specs.Writer.{EndsStay, Writes, CountsDone, IfDone};
 ghost use Rattle.stream_util.specs.BufWriter.{Writing, Pushes, IsPushCaused, Offers, IfPushed, WriteRule};
 ghost use Rattle.stream_util.specs.BufWriter.{fresh_writer, counts_over, writer_over};
 
-use crate::vectored::first_part;
 use rent_buf::{IoBuf, IoBufMut, IoFault, IoVecBuf, IoVecBufMut, OutOfMemory, Slice};
 use rent_io::{AsyncBufRead, AsyncReadRent, AsyncWriteRent, PollBuf, PollCount};
+use rent_io::vectored::first_part;
 use std::alloc::Global;
 use std::marker::Model;
 use std::mem;

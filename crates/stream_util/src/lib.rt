@@ -8,7 +8,6 @@ pub mod duplex;
 pub mod prefixed_io;
 pub mod splice;
 pub mod split;
-mod vectored;
 pub mod zero_copy;
 
 pub use buf_reader::BufReader;

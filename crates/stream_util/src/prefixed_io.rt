@@ -6,13 +6,13 @@ ghost use Rattle.rent_io.specs.Reader.{Reads, ReadsParts};
 ghost use Rattle.stream_util.specs.PrefixedReadIo.{Prefixed, prefix_left, reader_behind, IfAnswered, IfBehind};
 
 use crate::split::Split;
-use crate::vectored::first_room;
 use cancel_core::CancelHandle;
 use rent_buf::{IoBuf, IoBufMut, IoFault, IoVecBuf, IoVecBufMut};
 use rent_io::{
     AsyncReadRent, AsyncWriteRent, ByteSource, CancelableAsyncReadRent, CancelableAsyncWriteRent,
     PIECE, PollBuf, PollCount,
 };
+use rent_io::vectored::first_room;
 use std::marker::Model;
 
 /// A stream whose reads give the bytes of a source first (monoio: `PrefixedReadIo`). A clause sees it as the stream
