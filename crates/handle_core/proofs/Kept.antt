@@ -10,14 +10,14 @@ use Rattle.handle_core.specs.Table.{Table, table_of, with_holders, without_handl
 use Rattle.handle_core.proofs.Tables.{updated, written, removed, reordered}
 
 -- What a map has at a key with another value is that value, or what it had.
-one-of : (b : Bool) (was : Option Holders) (held found : Holders) → 0 < held.user + held.operations
+pub one-of : (b : Bool) (was : Option Holders) (held found : Holders) → 0 < held.user + held.operations
     → (was ≡ Some found → 0 < found.user + found.operations) → cond b (Some held) was ≡ Some found → 0 < found.user + found.operations
 one-of true was held found some others is =
     subst (λ (h : Holders). 0 < h.user + h.operations) (ap (λ o. unwrap_or o held) is) some
 one-of false was held found some others is = others is
 
 -- What a map has without a key it had with it.
-if-there : (b : Bool) (was : Option Holders) (found : Holders) → (was ≡ Some found → 0 < found.user + found.operations)
+pub if-there : (b : Bool) (was : Option Holders) (found : Holders) → (was ≡ Some found → 0 < found.user + found.operations)
     → cond b None was ≡ Some found → 0 < found.user + found.operations
 if-there true was found others is = cc
 if-there false was found others is = others is
@@ -63,7 +63,8 @@ module _ {S : Type 0} (m : HashMap ℕ Holders S) (reserved : ℕ) (kept : IsKep
       → WritesThrough nat_eq (nat_eq h) m held n → 0 < held.user + held.operations → IsKept n reserved
   kept-written n h was held there writes some = record {
     room = omega (arith, kept.room, writes.6);
-    held = subst AreHeld (sym (written m reserved _ refl n h was held there writes)) (held-with (table_of m.entries reserved) h held kept.held some);
+    held = subst AreHeld (sym (written m reserved _ refl n h was held there writes))
+        (held-with (table_of m.entries reserved) h held kept.held some);
   }
 
   -- A map that lost a find that was overwritten.
@@ -71,5 +72,6 @@ module _ {S : Type 0} (m : HashMap ℕ Holders S) (reserved : ℕ) (kept : IsKep
       → WritesThrough nat_eq (nat_eq h) m held n → Updates nat_eq n k h None → spare n ≤ spare k → IsKept k reserved
   kept-removed n k h was held there writes taken fits = record {
     room = omega (arith, kept.room, writes.6, fits);
-    held = subst AreHeld (sym (removed m reserved _ refl n k h was held there writes taken)) (held-without (table_of m.entries reserved) h kept.held);
+    held = subst AreHeld (sym (removed m reserved _ refl n k h was held there writes taken))
+        (held-without (table_of m.entries reserved) h kept.held);
   }

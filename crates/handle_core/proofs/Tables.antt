@@ -6,7 +6,8 @@ use Rattle.std.specs.Cmp.{nat_cmp_total}
 use Rattle.std.specs.Prelude.{◌+◌, ◌<◌, IsSome, IsOk, OnOk, is_err, Result, Ok, Err}
 use Rattle.std.specs.Map.{lookup}
 use Rattle.std.specs.HashMap.{HashMap, get_by, Updates, WritesThrough}
-use Rattle.std.specs.FinMap.{find, get, insert, remove, from_entries, get-from_entries, get-insert, get-remove, same_map, nat_cmp-IsAntisymmetric}
+use Rattle.std.specs.FinMap.{find, get, insert, remove, from_entries, same_map, nat_cmp-IsAntisymmetric}
+use Rattle.std.specs.FinMap.{get-from_entries, get-insert, get-remove}
 use Rattle.handle_core.specs.declared.table.Holders.{Holders}
 use Rattle.handle_core.specs.declared.table.Released.TheVariants.{Held, Last}
 use Rattle.handle_core.specs.Table.{Table, table_of, IsHeld, holders_at, with_holders, without_handle, nobody}
@@ -30,7 +31,7 @@ is-ok (Ok x) tested not = refl
 is-ok (Err e) tested not = cc
 
 -- Of two choices by one test the outer one counts.
-outermost : {A : Type 0} (b : Bool) (x y z : A) → cond b x (cond b y z) ≡ cond b x z
+pub outermost : {A : Type 0} (b : Bool) (x y z : A) → cond b x (cond b y z) ≡ cond b x z
 outermost true x y z = refl
 outermost false x y z = refl
 

@@ -13,7 +13,12 @@ pub record Table : Type 0 where
 
 -- Holders are stored as the pair of their counts.
 abbrev pub holders_code : Coded Holders
-holders_code = code_by (ℕ × ℕ) (coded× coded_ℕ coded_ℕ) (λ h. (h.user, h.operations)) (λ p. record { user = p.0; operations = p.1 }) (λ _. refl)
+holders_code = code_by
+    (ℕ × ℕ)
+    (coded× coded_ℕ coded_ℕ)
+    (λ h. (h.user, h.operations))
+    (λ p. record { user = p.0; operations = p.1 })
+    (λ _. refl)
 
 -- A table is stored as the pair of its fields.
 abbrev pub table_code : Coded Table

@@ -9,6 +9,7 @@ use crate::shared_fd::SharedFdWrapper;
 ///
 /// monoio: `AsReadFd`.
 pub trait AsReadFd {
+    // The number of the handle.
     ghost reader: { Self → ℕ };
 
     /// The handle that it is read from. It stays as it is.
@@ -23,6 +24,7 @@ pub trait AsReadFd {
 ///
 /// monoio: `AsWriteFd`.
 pub trait AsWriteFd {
+    // The number of the handle.
     ghost writer: { Self → ℕ };
 
     /// The handle that it is written to. It stays as it is.

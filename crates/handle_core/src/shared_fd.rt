@@ -3,7 +3,7 @@ ghost use Rattle.std.specs.Prelude.{◌≡◌};
 
 use std::marker::Model;
 
-/// A handle, by its number. (monoio: `SharedFd`, which counts its holders; here the driver does)
+/// A handle, by its number. (monoio: `SharedFd`, which counts its holders; here a `HandleTable` does)
 #[derive(Clone, Copy, Debug, PartialEq, Eq)]
 pub struct SharedFd {
     number: u64,

@@ -1,7 +1,8 @@
 //! Who holds each handle, as a finite map from handles to counts.
 ghost use Rattle.std.specs.Prelude.{◌≡◌, ◌+◌, ◌-◌, ◌<◌, ◌^◌, ◌↔◌, max, IsTrue, None, OnOk, OnErr};
 ghost use Rattle.std.specs.FinMap as map;
-ghost use Rattle.handle_core.specs.Table.{IsHeld, AreHeld, holders_at, with_holders, without_handle, nobody, by_user, with_user, without_user};
+ghost use Rattle.handle_core.specs.Table.{IsHeld, AreHeld, holders_at, with_holders, without_handle};
+ghost use Rattle.handle_core.specs.Table.{nobody, by_user, with_user, without_user};
 
 mod operations;
 
@@ -103,7 +104,8 @@ impl HandleTable {
         }
     }
 
-    /// Reserves memory for at least `n` more handles. Only `add_op_reserved` uses it up. If memory runs out, nothing changes. Not in monoio.
+    /// Reserves memory for at least `n` more handles. Only `add_op_reserved` uses it up. If memory runs out, nothing changes. Not in
+    /// monoio.
     pub fn reserve(&mut self, n: usize) -> Result<(), OutOfMemory>
         ensures ok { OnOk result (self.new ≡ record self.old { spare = max n self.old.spare }) }
         ensures err { OnErr result (self.new ≡ self.old) }
@@ -135,7 +137,7 @@ impl HandleTable {
         )
     }
 
-    /// The user holds a handle of the table once more. It takes no memory.
+    /// The user holds a handle of the table once more, of which it has fewer than 2^62 holds. It takes no memory.
     ///
     /// monoio: `SharedFd::clone`, of a stream.
     pub fn hold(&mut self, h: u64)
@@ -149,7 +151,8 @@ impl HandleTable {
         held.user += 1;
     }
 
-    /// The user drops one of its holds. The handle leaves the table with its last hold, which is when it is to be closed.
+    /// The user drops one of its holds, of which it has at least one. The handle leaves the table with its last hold of either sort, which
+    /// is when it is to be closed. It takes no memory.
     ///
     /// monoio: the drop of a `SharedFd`, of a stream.
     pub fn release(&mut self, h: u64) -> Released

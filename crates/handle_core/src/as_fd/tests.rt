@@ -1,5 +1,5 @@
 //! That a stream can lend its handles.
-ghost use Rattle.std.specs.Prelude.{◌≡◌, ℕ};
+ghost use Rattle.std.specs.Prelude.{◌≡◌};
 
 use super::{AsReadFd, AsWriteFd};
 use crate::shared_fd::{SharedFd, SharedFdWrapper};

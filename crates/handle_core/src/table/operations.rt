@@ -1,12 +1,13 @@
 // What operations hold: the handles that they name, and those that they made.
 ghost use Rattle.std.specs.Prelude.{◌≡◌, ◌-◌, ◌<◌, ◌^◌, ◌↔◌, None, OnOk, OnErr};
 ghost use Rattle.std.specs.FinMap as map;
-ghost use Rattle.handle_core.specs.Table.{IsHeld, holders_at, with_holders, without_handle, nobody, by_operation, with_user, with_operation, without_operation};
+ghost use Rattle.handle_core.specs.Table.{IsHeld, holders_at, with_holders, without_handle};
+ghost use Rattle.handle_core.specs.Table.{nobody, by_operation, with_user, with_operation, without_operation};
 
 use super::{HandleTable, Holders, OutOfMemory, Released};
 
 impl HandleTable {
-    /// An operation holds a handle that nobody held, by memory that `reserve` reserved. It takes none. Not in monoio.
+    /// An operation holds a handle that nobody held. It uses up one place of the reserved room, and takes no memory. Not in monoio.
     pub fn add_op_reserved(&mut self, h: u64)
         requires fresh { map.get self.old.holders h ≡ None }
         requires room { 0 < self.old.spare }
@@ -36,7 +37,7 @@ impl HandleTable {
         )
     }
 
-    /// One more operation holds a handle of the table. It takes no memory.
+    /// One more operation holds a handle of the table, of which operations have fewer than 2^62 holds. It takes no memory.
     ///
     /// monoio: `SharedFd::clone`, of an operation.
     pub fn hold_op(&mut self, h: u64)
@@ -50,7 +51,8 @@ impl HandleTable {
         held.operations += 1;
     }
 
-    /// An operation drops its hold. The handle leaves the table with its last hold, which is when it is to be closed.
+    /// An operation drops its hold, of which there is at least one. The handle leaves the table with its last hold of either sort, which is
+    /// when it is to be closed. It takes no memory.
     ///
     /// monoio: the drop of a `SharedFd`, of an operation.
     pub fn release_op(&mut self, h: u64) -> Released
@@ -70,7 +72,8 @@ impl HandleTable {
         Released::Last
     }
 
-    /// An operation's hold becomes the user's, as of a handle that the operation made. Not in monoio.
+    /// An operation's hold, of which there is at least one, becomes the user's, who has fewer than 2^62: the operation made the handle, and
+    /// its result is returned. It takes no memory. Not in monoio.
     pub fn hand_over(&mut self, h: u64)
         requires held { 0 < (holders_at self.old h).operations }
         requires counter { (holders_at self.old h).user < 2 ^ 62 }
