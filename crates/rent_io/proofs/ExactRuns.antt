@@ -62,17 +62,16 @@ fill_cause : (tells : Bool) (before mid now : Reader) (f g : Filling) (back : Bu
 fill_cause tells before mid now f g back fault bound stay has same (inl failed) = record {
   got = has.got;
   front = front_paused tells before.left mid.left now.left has.got has.front same;
-  cause = inl
-      (
-        failed.0 ∙ ap (λ x. x.buffer) has.is_next,
-        rose_later before.counts.faults mid.counts.faults now.counts.faults stay failed.1,
-      );
+  cause = inl (
+    failed.0 ∙ ap (λ x. x.buffer) has.is_next,
+    rose_later before.counts.faults mid.counts.faults now.counts.faults stay failed.1,
+  );
 }
 fill_cause tells before mid now f g back fault bound stay has same (inr early) =
     let u = has.got in
     let lacking : lacks g ≡ lacks f - length u = ap lacks has.is_next ∙ lacks_behind f u in
     let nothing = early.nothing ∙ ap (λ (x : Filling). put x.buffer (x.buffer.begin + x.filled) []) has.is_next
-        ∙ nothing_behind f u bound in
+    ∙ nothing_behind f u bound in
     record {
       got = u;
       front = front_paused tells before.left mid.left now.left u has.front same;
