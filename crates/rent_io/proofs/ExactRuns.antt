@@ -100,4 +100,5 @@ fill_used tells before mid now k f g next used call (inl paused) =
     used_paused k f.filled g.filled f.filled next.filled before.counts mid.counts now.counts used (omega (arith, same)) paused.2
 fill_used tells before mid now k f g next used call (inr goes) =
     let more : next.filled ≡ g.filled + length goes.got = ap (λ x. x.filled) goes.is_next in
-    used_moved k f.filled g.filled f.filled next.filled before.counts mid.counts now.counts used (omega (arith, goes.some, more)) call.pauses_stay
+    used_moved k f.filled g.filled f.filled next.filled
+    before.counts mid.counts now.counts used (omega (arith, goes.some, more)) call.pauses_stay

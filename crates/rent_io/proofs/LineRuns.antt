@@ -142,16 +142,20 @@ until_used tells before mid now k u g next used call (inl paused) =
     used_paused k u.added g.added u.added next.added before.counts mid.counts now.counts used (omega (arith, same)) paused.2
 until_used tells before mid now k u g next used call (inr goes) =
     let more : next.added ≡ g.added + length goes.got = ap (λ x. x.added) goes.is_next in
-    used_moved k u.added g.added u.added next.added before.counts mid.counts now.counts used (omega (arith, goes.some, more)) call.pauses_stay
+    used_moved k u.added g.added u.added next.added
+    before.counts mid.counts now.counts used (omega (arith, goes.some, more)) call.pauses_stay
 
 -- Each poll of a read of a line that goes on is used.
 pub line_used : (tells : Bool) (before mid now : Reader) (k : ℕ) (l g next : Lining)
     → AreUsed k (length l.added) (length g.added) before.counts mid.counts → AfterCall mid.counts now.counts
-    → Paused tells mid now g next ⊎ LineGoesOn tells mid.left now.left g next → AreUsed (k + 1) (length l.added) (length next.added) before.counts now.counts
+    → Paused tells mid now g next ⊎ LineGoesOn tells mid.left now.left g next
+    → AreUsed (k + 1) (length l.added) (length next.added) before.counts now.counts
 line_used tells before mid now k l g next used call (inl paused) =
     let same : length next.added ≡ length g.added = ap (λ (x : Lining). length x.added) paused.0 in
-    used_paused k (length l.added) (length g.added) (length l.added) (length next.added) before.counts mid.counts now.counts used (omega (arith, same)) paused.2
+    used_paused k (length l.added) (length g.added) (length l.added) (length next.added)
+    before.counts mid.counts now.counts used (omega (arith, same)) paused.2
 line_used tells before mid now k l g next used call (inr goes) =
     let more : length next.added ≡ length g.added + length goes.got =
     ap (λ (x : Lining). length x.added) goes.is_next ∙ length-append g.added goes.got in
-    used_moved k (length l.added) (length g.added) (length l.added) (length next.added) before.counts mid.counts now.counts used (omega (arith, goes.some, more)) call.pauses_stay
+    used_moved k (length l.added) (length g.added) (length l.added) (length next.added)
+    before.counts mid.counts now.counts used (omega (arith, goes.some, more)) call.pauses_stay

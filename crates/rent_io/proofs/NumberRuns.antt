@@ -71,11 +71,14 @@ number_ends tells before mid now value r g (Err fault) stay has failed =
 -- Each poll of a read of a number that goes on is used.
 pub number_used : (tells : Bool) (before mid now : Reader) (k : ℕ) (r g next : Numbering)
     → AreUsed k (length r.bytes) (length g.bytes) before.counts mid.counts → AfterCall mid.counts now.counts
-    → Paused tells mid now g next ⊎ HasMore tells mid.left now.left g next → AreUsed (k + 1) (length r.bytes) (length next.bytes) before.counts now.counts
+    → Paused tells mid now g next ⊎ HasMore tells mid.left now.left g next
+    → AreUsed (k + 1) (length r.bytes) (length next.bytes) before.counts now.counts
 number_used tells before mid now k r g next used call (inl paused) =
     let same : length next.bytes ≡ length g.bytes = ap (λ (x : Numbering). length x.bytes) paused.0 in
-    used_paused k (length r.bytes) (length g.bytes) (length r.bytes) (length next.bytes) before.counts mid.counts now.counts used (omega (arith, same)) paused.2
+    used_paused k (length r.bytes) (length g.bytes) (length r.bytes) (length next.bytes)
+    before.counts mid.counts now.counts used (omega (arith, same)) paused.2
 number_used tells before mid now k r g next used call (inr goes) =
     let more : length next.bytes ≡ length g.bytes + length goes.got =
     ap (λ (x : Numbering). length x.bytes) goes.is_next ∙ length-append g.bytes goes.got in
-    used_moved k (length r.bytes) (length g.bytes) (length r.bytes) (length next.bytes) before.counts mid.counts now.counts used (omega (arith, goes.some, more)) call.pauses_stay
+    used_moved k (length r.bytes) (length g.bytes) (length r.bytes) (length next.bytes)
+    before.counts mid.counts now.counts used (omega (arith, goes.some, more)) call.pauses_stay

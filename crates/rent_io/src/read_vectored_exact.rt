@@ -79,7 +79,8 @@ impl<T: IoVecBufMut> ReadVectoredExact<T> {
         polls: u64,
     ) -> Step<ReadVectoredExact<T>, BufResult<usize, T>>
         ensures run { RunsScattered A.tells (A.reader io.old) (A.reader io.new) T.held self result }
-        ensures used { IfGoesOn result (λ next. AreUsed polls (length (has_read self)) (length (has_read next)) (A.reader io.old).counts (A.reader io.new).counts) }
+        ensures used { IfGoesOn result (λ next. AreUsed polls (length (has_read self)) (length (has_read next))
+            (A.reader io.old).counts (A.reader io.new).counts) }
         ensures counts { AfterCalls polls (A.reader io.old).counts (A.reader io.new).counts }
     {
         let mut state = self;
