@@ -62,17 +62,16 @@ fill_cause : (tells : Bool) (before mid now : Reader) (f g : Filling) (back : Bu
 fill_cause tells before mid now f g back fault bound stay has same (inl failed) = record {
   got = has.got;
   front = front_paused tells before.left mid.left now.left has.got has.front same;
-  cause = inl
-      (
-        failed.0 ∙ ap (λ x. x.buffer) has.is_next,
-        rose_later before.counts.faults mid.counts.faults now.counts.faults stay failed.1,
-      );
+  cause = inl (
+    failed.0 ∙ ap (λ x. x.buffer) has.is_next,
+    rose_later before.counts.faults mid.counts.faults now.counts.faults stay failed.1,
+  );
 }
 fill_cause tells before mid now f g back fault bound stay has same (inr early) =
     let u = has.got in
     let lacking : lacks g ≡ lacks f - length u = ap lacks has.is_next ∙ lacks_behind f u in
     let nothing = early.nothing ∙ ap (λ (x : Filling). put x.buffer (x.buffer.begin + x.filled) []) has.is_next
-        ∙ nothing_behind f u bound in
+    ∙ nothing_behind f u bound in
     record {
       got = u;
       front = front_paused tells before.left mid.left now.left u has.front same;
@@ -101,4 +100,5 @@ fill_used tells before mid now k f g next used call (inl paused) =
     used_paused k f.filled g.filled f.filled next.filled before.counts mid.counts now.counts used (omega (arith, same)) paused.2
 fill_used tells before mid now k f g next used call (inr goes) =
     let more : next.filled ≡ g.filled + length goes.got = ap (λ x. x.filled) goes.is_next in
-    used_moved k f.filled g.filled f.filled next.filled before.counts mid.counts now.counts used (omega (arith, goes.some, more)) call.pauses_stay
+    used_moved k f.filled g.filled f.filled next.filled
+    before.counts mid.counts now.counts used (omega (arith, goes.some, more)) call.pauses_stay

@@ -25,11 +25,10 @@ whole_line tells d u v mid rest others front (inl line) = inl (record {
   others = lacks_both d u line.before others line.others;
   ends = ap (λ l. u ++ l) line.ends ∙ sym (append_assoc u line.before (d ∷ []));
 })
-whole_line tells d u v mid rest others front (inr end) = inr
-    (
-      subst (Lacks d) (sym (ap (λ l. u ++ l) end.0 ∙ append-nil u)) others,
-      λ t. sym (front t ∙ ap (λ l. l ++ rest) end.0) ∙ end.1 t,
-    )
+whole_line tells d u v mid rest others front (inr end) = inr (
+  subst (Lacks d) (sym (ap (λ l. u ++ l) end.0 ∙ append-nil u)) others,
+  λ t. sym (front t ∙ ap (λ l. l ++ rest) end.0) ∙ end.1 t,
+)
 
 -- A read up to a delimiter that added these bytes.
 abbrev pub added_to : Until → List ℕ → Until
@@ -65,7 +64,7 @@ pub until_ends : (tells : Bool) (before mid now : Reader) (u g : Until) (back : 
     → UntilRunEnd tells before now u back end
 until_ends tells before mid now u g back (Ok n) stay has read =
     let line = subst (λ d. IsLine d read.got ⊎ ((read.got ≡ []) × (IsTrue tells → mid.left ≡ []))) (ap (λ x. x.delim) has.is_next)
-        read.is_line in
+    read.is_line in
     let all = added_twice u has.got read.got in
     record {
       got = has.got ++ read.got;
@@ -143,16 +142,20 @@ until_used tells before mid now k u g next used call (inl paused) =
     used_paused k u.added g.added u.added next.added before.counts mid.counts now.counts used (omega (arith, same)) paused.2
 until_used tells before mid now k u g next used call (inr goes) =
     let more : next.added ≡ g.added + length goes.got = ap (λ x. x.added) goes.is_next in
-    used_moved k u.added g.added u.added next.added before.counts mid.counts now.counts used (omega (arith, goes.some, more)) call.pauses_stay
+    used_moved k u.added g.added u.added next.added
+    before.counts mid.counts now.counts used (omega (arith, goes.some, more)) call.pauses_stay
 
 -- Each poll of a read of a line that goes on is used.
 pub line_used : (tells : Bool) (before mid now : Reader) (k : ℕ) (l g next : Lining)
     → AreUsed k (length l.added) (length g.added) before.counts mid.counts → AfterCall mid.counts now.counts
-    → Paused tells mid now g next ⊎ LineGoesOn tells mid.left now.left g next → AreUsed (k + 1) (length l.added) (length next.added) before.counts now.counts
+    → Paused tells mid now g next ⊎ LineGoesOn tells mid.left now.left g next
+    → AreUsed (k + 1) (length l.added) (length next.added) before.counts now.counts
 line_used tells before mid now k l g next used call (inl paused) =
     let same : length next.added ≡ length g.added = ap (λ (x : Lining). length x.added) paused.0 in
-    used_paused k (length l.added) (length g.added) (length l.added) (length next.added) before.counts mid.counts now.counts used (omega (arith, same)) paused.2
+    used_paused k (length l.added) (length g.added) (length l.added) (length next.added)
+    before.counts mid.counts now.counts used (omega (arith, same)) paused.2
 line_used tells before mid now k l g next used call (inr goes) =
     let more : length next.added ≡ length g.added + length goes.got =
-        ap (λ (x : Lining). length x.added) goes.is_next ∙ length-append g.added goes.got in
-    used_moved k (length l.added) (length g.added) (length l.added) (length next.added) before.counts mid.counts now.counts used (omega (arith, goes.some, more)) call.pauses_stay
+    ap (λ (x : Lining). length x.added) goes.is_next ∙ length-append g.added goes.got in
+    used_moved k (length l.added) (length g.added) (length l.added) (length next.added)
+    before.counts mid.counts now.counts used (omega (arith, goes.some, more)) call.pauses_stay

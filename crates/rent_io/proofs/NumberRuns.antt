@@ -42,8 +42,14 @@ number_ends tells before mid now value r g (Ok n) stay has number =
     let bytes = ap length (ap (λ x. x.bytes) has.is_next) in
     record {
       got = has.got ++ number.got;
-      all = omega (arith, number.all, bytes, length-append r.bytes has.got, length-append has.got number.got,
-          ap (λ x. x.size) has.is_next);
+      all = omega (
+        arith,
+        number.all,
+        bytes,
+        length-append r.bytes has.got,
+        length-append has.got number.got,
+        ap (λ x. x.size) has.is_next,
+      );
       is_value = number.is_value ∙ ap (λ x. value x.little x.bytes) all;
       front = front_twice tells before.left mid.left now.left has.got number.got has.front number.front;
     }
@@ -54,23 +60,25 @@ number_ends tells before mid now value r g (Err fault) stay has failed =
       front = front_paused tells before.left mid.left now.left has.got has.front failed.0;
       cause = elim failed.1 [
         | inl rose ↦ inl (rose_later before.counts.faults mid.counts.faults now.counts.faults stay rose)
-        | inr early ↦ inr
-            (
-              early.0,
-              omega (arith, early.1, bytes, length-append r.bytes has.got, ap (λ x. x.size) has.is_next),
-              λ t. sym (failed.0 t) ∙ early.2 t,
-            )
+        | inr early ↦ inr (
+          early.0,
+          omega (arith, early.1, bytes, length-append r.bytes has.got, ap (λ x. x.size) has.is_next),
+          λ t. sym (failed.0 t) ∙ early.2 t,
+        )
       ];
     }
 
 -- Each poll of a read of a number that goes on is used.
 pub number_used : (tells : Bool) (before mid now : Reader) (k : ℕ) (r g next : Numbering)
     → AreUsed k (length r.bytes) (length g.bytes) before.counts mid.counts → AfterCall mid.counts now.counts
-    → Paused tells mid now g next ⊎ HasMore tells mid.left now.left g next → AreUsed (k + 1) (length r.bytes) (length next.bytes) before.counts now.counts
+    → Paused tells mid now g next ⊎ HasMore tells mid.left now.left g next
+    → AreUsed (k + 1) (length r.bytes) (length next.bytes) before.counts now.counts
 number_used tells before mid now k r g next used call (inl paused) =
     let same : length next.bytes ≡ length g.bytes = ap (λ (x : Numbering). length x.bytes) paused.0 in
-    used_paused k (length r.bytes) (length g.bytes) (length r.bytes) (length next.bytes) before.counts mid.counts now.counts used (omega (arith, same)) paused.2
+    used_paused k (length r.bytes) (length g.bytes) (length r.bytes) (length next.bytes)
+    before.counts mid.counts now.counts used (omega (arith, same)) paused.2
 number_used tells before mid now k r g next used call (inr goes) =
     let more : length next.bytes ≡ length g.bytes + length goes.got =
-        ap (λ (x : Numbering). length x.bytes) goes.is_next ∙ length-append g.bytes goes.got in
-    used_moved k (length r.bytes) (length g.bytes) (length r.bytes) (length next.bytes) before.counts mid.counts now.counts used (omega (arith, goes.some, more)) call.pauses_stay
+    ap (λ (x : Numbering). length x.bytes) goes.is_next ∙ length-append g.bytes goes.got in
+    used_moved k (length r.bytes) (length g.bytes) (length r.bytes) (length next.bytes)
+    before.counts mid.counts now.counts used (omega (arith, goes.some, more)) call.pauses_stay

@@ -63,7 +63,7 @@ scatter_stops tells before mid now s g back fault stay has same (inr early) =
     let into = early.into in
     let at = early.at in
     let total : (part_at back into).total ≡ (part_at g.parts into).total =
-        ap (λ l. (part_at l into).total) put_is ∙ nothing_room g.parts into at in
+    ap (λ l. (part_at l into).total) put_is ∙ nothing_room g.parts into at in
     record {
       got = has.got;
       into = into;
@@ -92,11 +92,14 @@ scatter_ends tells before mid now s g back (Err fault) stay has failed =
 -- Each poll of a read into all parts that goes on is used.
 pub scatter_used : (tells : Bool) (before mid now : Reader) (k : ℕ) (s g next : Scattering)
     → AreUsed k (length (has_read s)) (length (has_read g)) before.counts mid.counts → AfterCall mid.counts now.counts
-    → Paused tells mid now g next ⊎ ScatterGoesOn tells mid.left now.left g next → AreUsed (k + 1) (length (has_read s)) (length (has_read next)) before.counts now.counts
+    → Paused tells mid now g next ⊎ ScatterGoesOn tells mid.left now.left g next
+    → AreUsed (k + 1) (length (has_read s)) (length (has_read next)) before.counts now.counts
 scatter_used tells before mid now k s g next used call (inl paused) =
     let same : length (has_read next) ≡ length (has_read g) = ap (λ (x : Scattering). length (has_read x)) paused.0 in
-    used_paused k (length (has_read s)) (length (has_read g)) (length (has_read s)) (length (has_read next)) before.counts mid.counts now.counts used (omega (arith, same)) paused.2
+    used_paused k (length (has_read s)) (length (has_read g)) (length (has_read s)) (length (has_read next))
+    before.counts mid.counts now.counts used (omega (arith, same)) paused.2
 scatter_used tells before mid now k s g next used call (inr goes) =
     let more : length (has_read next) ≡ length (has_read g) + length goes.got =
-        ap length goes.is_read ∙ length-append (has_read g) goes.got in
-    used_moved k (length (has_read s)) (length (has_read g)) (length (has_read s)) (length (has_read next)) before.counts mid.counts now.counts used (omega (arith, goes.some, more)) call.pauses_stay
+    ap length goes.is_read ∙ length-append (has_read g) goes.got in
+    used_moved k (length (has_read s)) (length (has_read g)) (length (has_read s)) (length (has_read next))
+    before.counts mid.counts now.counts used (omega (arith, goes.some, more)) call.pauses_stay

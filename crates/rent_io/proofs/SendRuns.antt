@@ -32,12 +32,11 @@ send_goes_on tells before mid now s g next has (inr sends) = record {
 pub send_ends : {T : Type 0} (tells : Bool) (before mid now : Writer) (s g : Sending T) (end : Result ℕ IoFault)
     → before.counts.faults ≤ mid.counts.faults → HasSent tells before.delivered mid.delivered s g → IsAllEnd tells mid now g end
     → AllRunEnd tells before now s end
-send_ends tells before mid now s g (Ok n) stay has all =
-    (
-      all.0 ∙ has.same_total,
-      λ t. all.1 t ∙ ap (λ l. l ++ g.rest) (has.joined t) ∙ append_assoc before.delivered has.sent g.rest
-          ∙ ap (λ l. before.delivered ++ l) (sym has.cut),
-    )
+send_ends tells before mid now s g (Ok n) stay has all = (
+  all.0 ∙ has.same_total,
+  λ t. all.1 t ∙ ap (λ l. l ++ g.rest) (has.joined t) ∙ append_assoc before.delivered has.sent g.rest
+      ∙ ap (λ l. before.delivered ++ l) (sym has.cut),
+)
 send_ends tells before mid now s g (Err fault) stay has failed = record {
   sent = has.sent;
   unsent = g.rest;

@@ -90,7 +90,7 @@ taken_part tells left rest parts back k k' at end n slice is_total some way take
     let part = part_at parts k in
     let all = way.whole_is ∙ ap (whole slice.buffer) under in
     let bytes : (part_at back k').bytes ≡ take at part.bytes ++ taken.got =
-        ap (λ b. b.bytes) all ∙ ap (λ b. b.bytes) taken.is_stored ∙ ap (λ i. take i part.bytes ++ taken.got) (zero-add at) in
+    ap (λ b. b.bytes) all ∙ ap (λ b. b.bytes) taken.is_stored ∙ ap (λ i. take i part.bytes ++ taken.got) (zero-add at) in
     let total : (part_at back k').total ≡ part.total = ap (λ b. b.total) all ∙ ap (λ b. b.total) taken.is_stored in
     let here = part-same (part_at back k') (record part { bytes = take at part.bytes ++ taken.got }) bytes total in
     record {

@@ -41,16 +41,14 @@ sink_ends before mid now item g (Ok done) stay (inl as_was) end =
 sink_ends before mid now item g (Ok done) stay (inr was_taken) end =
     let taken = was_taken.1 in
     (subst (λ n. Rose n now.flushes) taken.1 end.2, inr (taken.0, subst (λ n. Rose before.sends n) (sym end.1) taken.2))
-sink_ends before mid now item g (Err error) stay (inl as_was) end =
-    (
-      rose_later before.counts.faults mid.counts.faults now.counts.faults stay end.1,
-      inl (end.0.0 ∙ as_was.1.0, end.0.1 ∙ as_was.1.1),
-    )
-sink_ends before mid now item g (Err error) stay (inr was_taken) end =
-    (
-      rose_later before.counts.faults mid.counts.faults now.counts.faults stay end.1,
-      inr (taken_stays before mid now item was_taken.1 end.0),
-    )
+sink_ends before mid now item g (Err error) stay (inl as_was) end = (
+  rose_later before.counts.faults mid.counts.faults now.counts.faults stay end.1,
+  inl (end.0.0 ∙ as_was.1.0, end.0.1 ∙ as_was.1.1),
+)
+sink_ends before mid now item g (Err error) stay (inr was_taken) end = (
+  rose_later before.counts.faults mid.counts.faults now.counts.faults stay end.1,
+  inr (taken_stays before mid now item was_taken.1 end.0),
+)
 
 -- An item that is there is one.
 unsent-some : {I : Type 0} (item : Option I) → IsSome item → unsent item ≡ 1

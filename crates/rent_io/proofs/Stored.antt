@@ -22,9 +22,9 @@ kept-twice bytes i s t within =
     let r = drop n bytes in
     let long : n ≡ length (a ++ s) = omega (arith, length-append a s, length-take i bytes) in
     let front : take n ((a ++ s) ++ r) ≡ a ++ s =
-        take-append-le n (a ++ s) r (omega (arith, long)) ∙ take_all n (a ++ s) (omega (arith, long)) in
+    take-append-le n (a ++ s) r (omega (arith, long)) ∙ take_all n (a ++ s) (omega (arith, long)) in
     let back : drop (n + length t) ((a ++ s) ++ r) ≡ drop (n + length t) bytes =
-        drop-behind (a ++ s) r (n + length t) (length t) (omega (arith, long)) ∙ drop-drop (length t) n bytes in
+    drop-behind (a ++ s) r (n + length t) (length t) (omega (arith, long)) ∙ drop-drop (length t) n bytes in
     let more : n + length t ≡ i + length (s ++ t) = omega (arith, length-append s t) in
     (λ j. (front j ++ t) ++ back j)
     ∙ ap (λ l. l ++ drop (n + length t) bytes) (append_assoc a s t)

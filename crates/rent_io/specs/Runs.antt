@@ -19,7 +19,8 @@ pub record AfterCalls (most : ℕ) (before now : Counts) : Type 0 where
   pub pauses_stay : before.pauses ≤ now.pauses
   pub most_calls : now.calls ≤ before.calls + most
 
--- Polls that are used up: each one moved a measure on by a byte at least, or made the pauses rise, to the last `u64` at most.
+-- So many polls, none of which was the end: each made a measure grow, from one number to another, or the pauses rise, as far as a `u64`
+-- counts.
 pub record AreUsed (polls from upto : ℕ) (before now : Counts) : Type 0 where
   pub paused : ℕ
   pub each : polls + from ≤ upto + paused

@@ -5,7 +5,9 @@ ghost use Rattle.rent_io.specs.ReadNumber.{number_of};
 ghost use Rattle.rent_io.specs.ReadVectoredExact.{scattering};
 
 use crate::async_rent_cancelable::CancelableAsyncReadRent;
-use crate::cancelable_read::{CancelableReadExact, CancelableReadNumber, CancelableReadVectoredExact};
+use crate::cancelable_read::{
+    CancelableReadExact, CancelableReadNumber, CancelableReadVectoredExact,
+};
 use cancel_core::CancelHandle;
 use rent_buf::{IoBufMut, IoVecBufMut, OutOfMemory};
 use std::alloc::Global;

@@ -62,7 +62,8 @@ impl<T: IoBufMut> ReadExact<T> {
         polls: u64,
     ) -> Step<ReadExact<T>, BufResult<usize, T>>
         ensures run { RunsExact A.tells (A.reader io.old) (A.reader io.new) T.buffer T.under T.beside self result }
-        ensures used { IfGoesOn result (λ next. AreUsed polls self.filled next.filled (A.reader io.old).counts (A.reader io.new).counts) }
+        ensures used { IfGoesOn result (λ next. AreUsed polls self.filled next.filled
+            (A.reader io.old).counts (A.reader io.new).counts) }
         ensures counts { AfterCalls polls (A.reader io.old).counts (A.reader io.new).counts }
     {
         self.keeps_bounds();

@@ -111,7 +111,8 @@ impl ReadLine {
         polls: u64,
     ) -> Step<ReadLine, BufResult<usize, String>>
         ensures run { RunsLine A.tells (A.reader io.old) (A.reader io.new) string_bytes self result }
-        ensures used { IfGoesOn result (λ next. AreUsed polls (length self.added) (length next.added) (A.reader io.old).counts (A.reader io.new).counts) }
+        ensures used { IfGoesOn result (λ next. AreUsed polls (length self.added) (length next.added)
+            (A.reader io.old).counts (A.reader io.new).counts) }
         ensures counts { AfterCalls polls (A.reader io.old).counts (A.reader io.new).counts }
     {
         let mut state = self;

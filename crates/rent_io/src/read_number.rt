@@ -72,7 +72,8 @@ impl<N: Number> ReadNumber<N> {
         polls: u64,
     ) -> Step<ReadNumber<N>, Result<N, IoFault>>
         ensures run { RunsNumber A.tells (A.reader io.old) (A.reader io.new) N.value self result }
-        ensures used { IfGoesOn result (λ next. AreUsed polls (length self.bytes) (length next.bytes) (A.reader io.old).counts (A.reader io.new).counts) }
+        ensures used { IfGoesOn result (λ next. AreUsed polls (length self.bytes) (length next.bytes)
+            (A.reader io.old).counts (A.reader io.new).counts) }
         ensures counts { AfterCalls polls (A.reader io.old).counts (A.reader io.new).counts }
     {
         let mut state = self;

@@ -119,7 +119,8 @@ impl ReadUntil {
         polls: u64,
     ) -> Step<ReadUntil, BufResult<usize, ByteList>>
         ensures run { RunsUntil A.tells (A.reader io.old) (A.reader io.new) self result }
-        ensures used { IfGoesOn result (λ next. AreUsed polls self.added next.added (A.reader io.old).counts (A.reader io.new).counts) }
+        ensures used { IfGoesOn result (λ next. AreUsed polls self.added next.added
+            (A.reader io.old).counts (A.reader io.new).counts) }
         ensures counts { AfterCalls polls (A.reader io.old).counts (A.reader io.new).counts }
     {
         let mut state = self;

@@ -79,7 +79,8 @@ impl<T: IoVecBufMut> ReadVectoredExact<T> {
         polls: u64,
     ) -> Step<ReadVectoredExact<T>, BufResult<usize, T>>
         ensures run { RunsScattered A.tells (A.reader io.old) (A.reader io.new) T.held self result }
-        ensures used { IfGoesOn result (λ next. AreUsed polls (length (has_read self)) (length (has_read next)) (A.reader io.old).counts (A.reader io.new).counts) }
+        ensures used { IfGoesOn result (λ next. AreUsed polls (length (has_read self)) (length (has_read next))
+            (A.reader io.old).counts (A.reader io.new).counts) }
         ensures counts { AfterCalls polls (A.reader io.old).counts (A.reader io.new).counts }
     {
         let mut state = self;
@@ -149,15 +150,7 @@ impl<T: IoVecBufMut> ReadVectoredExact<T> {
 }
 
 // From a place of a part on, the first place with room, or one behind all parts.
-#[tactic(
-    auto,
-    using(
-        crate::proofs::SingleParts::length_bytes,
-        crate::proofs::Scatters::passed_read,
-        crate::proofs::Scatters::passed_full,
-        crate::proofs::Scatters::end_read
-    )
-)]
+#[tactic(auto, using(crate::proofs::SingleParts::length_bytes, crate::proofs::Scatters::passed_read, crate::proofs::Scatters::passed_full, crate::proofs::Scatters::end_read))]
 fn next_room<T: IoVecBufMut>(buf: &T, part: usize, filled: usize) -> (usize, usize)
     requires bound { part ≤ length (T.held buf.now) }
     requires full { AreFullBefore (T.held buf.now) part }

@@ -130,7 +130,8 @@ impl<I> SendAndFlush<I> {
         polls: u64,
     ) -> Step<SendAndFlush<I>, Result<(), S::Error>>
         ensures run { RunsSend (S.sink sink.old) (S.sink sink.new) self result }
-        ensures used { IfGoesOn result (λ next. AreUsed polls (unsent next) (unsent self) (S.sink sink.old).counts (S.sink sink.new).counts) }
+        ensures used { IfGoesOn result (λ next. AreUsed polls (unsent next) (unsent self)
+            (S.sink sink.old).counts (S.sink sink.new).counts) }
         ensures counts { AfterCalls polls (S.sink sink.old).counts (S.sink sink.new).counts }
     {
         let mut state = self;

@@ -1,4 +1,5 @@
 // Worked runs over scripted streams, and that each call succeeds where memory is at hand.
+use crate::Turned1::{Fault, Grant, Interrupt, Pause};
 use crate::{
     AsyncReadRent, AsyncReadRentExt, AsyncWriteRent, AsyncWriteRentExt, IoFault, PollBuf,
     PollCount, ScriptedStream, Step, Turned1, WriteAll,
@@ -48,8 +49,6 @@ fn answer<T: Drop>(poll: PollBuf<T>) -> PollCount {
     }
 }
 
-use Turned1::{Fault, Grant, Interrupt, Pause};
-
 const FAILED: PollCount = PollCount::Ready(Err(IoFault::Os(5)));
 
 // What the row shows, the turn, what a read of 4 over three bytes answers, and what a write of three bytes and a flush do.
@@ -70,7 +69,11 @@ fn a_stream_follows_its_script(rt: HostRuntime) -> Result<(), Fail> {
         let room = Rent::with_total(rt.alloc(), 4)?;
         assert_eq!(rt; answer(io.poll_read(room, 0)), read, "in the row {name:?}");
         let bytes = b"xyz".to_vec(rt.alloc())?;
-        assert_eq!(rt; answer(io.poll_write(bytes, 0)), written, "in the row {name:?}");
+        assert_eq!(rt;
+            answer(io.poll_write(bytes, 0)),
+            written,
+            "in the row {name:?}"
+        );
         assert_eq!(rt; io.poll_flush(0), flushed, "in the row {name:?}");
         assert_eq!(rt; io.poll_shutdown(0), PollCount::Ready(Ok(0)));
         assert_eq!(rt; io.calls(), 4);
@@ -144,7 +147,10 @@ fn a_slice_is_read_into_a_rent(rt: HostRuntime) -> Result<(), Fail> {
     assert_eq!(rt; outcome, Ok(2));
     assert_eq!(rt; buf.bytes(), b"ab".as_slice());
     let parts = parts_of(rt.alloc(), [b"", b"..", b"."])?;
-    assert_eq!(rt; answer(b"xyz".as_slice().poll_readv(parts, 0)), PollCount::Ready(Ok(2)));
+    assert_eq!(rt;
+        answer(b"xyz".as_slice().poll_readv(parts, 0)),
+        PollCount::Ready(Ok(2))
+    );
     Ok(())
 }
 

@@ -65,7 +65,8 @@ impl<T: IoBuf> WriteAll<T> {
     ) -> Step<WriteAll<T>, BufResult<usize, T>>
         ensures run { RunsAll A.tells (A.writer io.old) (A.writer io.new) self result }
         ensures ends { EndsStay (A.writer io.old) (A.writer io.new) }
-        ensures used { IfGoesOn result (λ next. AreUsed polls (length next.rest) (length self.rest) (A.writer io.old).counts (A.writer io.new).counts) }
+        ensures used { IfGoesOn result (λ next. AreUsed polls (length next.rest) (length self.rest)
+            (A.writer io.old).counts (A.writer io.new).counts) }
         ensures counts { AfterCalls polls (A.writer io.old).counts (A.writer io.new).counts }
     {
         let mut state = self;

@@ -16,10 +16,16 @@ fn a_source_is_read_as_a_stream(rt: HostRuntime) -> Result<(), Fail> {
     let Ok(mut io) = SourceStream::new(rt.alloc(), MemSource::new(bytes, failing)) else {
         return Err(Fail::from("out of memory"));
     };
-    let (outcome, buf) = ended(io.read_exact(Rent::with_total(rt.alloc(), 2)?).drive(&mut io, 0, 9))?;
+    let (outcome, buf) = ended(
+        io.read_exact(Rent::with_total(rt.alloc(), 2)?)
+            .drive(&mut io, 0, 9),
+    )?;
     assert_eq!(rt; outcome, Ok(2));
     assert_eq!(rt; buf.bytes(), b"ab".as_slice());
-    assert_eq!(rt; answer(io.poll_read(buf, 0)), PollCount::Ready(Err(IoFault::ReadFault)));
+    assert_eq!(rt;
+        answer(io.poll_read(buf, 0)),
+        PollCount::Ready(Err(IoFault::ReadFault))
+    );
     let parts = parts_of(rt.alloc(), [b"", b"..", b"."])?;
     assert_eq!(rt; answer(io.poll_readv(parts, 0)), PollCount::Ready(Ok(2)));
     assert_eq!(rt; io.into_inner().left(), b"e".as_slice());
@@ -35,7 +41,10 @@ fn a_sink_is_written_as_a_stream(rt: HostRuntime) -> Result<(), Fail> {
     assert_eq!(rt; outcome, Ok(2));
     let parts = parts_of(rt.alloc(), [b"", b"cd", b"e"])?;
     assert_eq!(rt; answer(io.poll_writev(parts, 0)), PollCount::Ready(Ok(2)));
-    assert_eq!(rt; answer(io.poll_write(buf, 0)), PollCount::Ready(Err(IoFault::WriteFault)));
+    assert_eq!(rt;
+        answer(io.poll_write(buf, 0)),
+        PollCount::Ready(Err(IoFault::WriteFault))
+    );
     assert_eq!(rt; io.poll_flush(0), PollCount::Ready(Ok(0)));
     assert_eq!(rt; io.poll_shutdown(0), PollCount::Ready(Ok(0)));
     assert_eq!(rt; io.into_inner().taken(), b"abcd".as_slice());

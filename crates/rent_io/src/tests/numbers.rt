@@ -38,7 +38,12 @@ fn numbers_have_their_order(rt: HostRuntime) -> Result<(), Fail> {
     reads(&rt, io.read_u32_le(rt.alloc()), &UP, Ok(67305985));
     reads(&rt, io.read_u64(rt.alloc()), &UP, Ok(72623859790382856));
     reads(&rt, io.read_u64_le(rt.alloc()), &UP, Ok(578437695752307201));
-    reads(&rt, io.read_u128_le(rt.alloc()), &UP, Ok(21345817372864405881847059188222722561));
+    reads(
+        &rt,
+        io.read_u128_le(rt.alloc()),
+        &UP,
+        Ok(21345817372864405881847059188222722561),
+    );
     Ok(())
 }
 
@@ -63,6 +68,11 @@ fn a_number_takes_all_its_bytes(rt: HostRuntime) -> Result<(), Fail> {
     let io = stream(rt.alloc(), b"", &[])?;
     let most = 340282366920938463463374607431768211455;
     reads(&rt, io.read_u128(rt.alloc()), &ONES, Ok(most));
-    reads(&rt, io.read_u128(rt.alloc()), &ONES[..15], Err(IoFault::UnexpectedEof));
+    reads(
+        &rt,
+        io.read_u128(rt.alloc()),
+        &ONES[..15],
+        Err(IoFault::UnexpectedEof),
+    );
     Ok(())
 }

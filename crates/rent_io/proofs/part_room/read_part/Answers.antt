@@ -12,8 +12,8 @@ returns-in-Ready-clause-reads g c =
     let some = subst (λ n. c.args.at < n) (sym c.room-end.ensures) c.requires.room in
     let part = c.into_inner-part in
     let way : WayBack c.in-Ready.slice (held c.into_inner.result) part.result.part =
-        rw c.into_inner.ensures (record
-        { whole_is = part.ensures.buffer; place_is = part.ensures.under; others_is = part.ensures.beside }) in
+    rw c.into_inner.ensures (record
+    { whole_is = part.ensures.buffer; place_is = part.ensures.under; others_is = part.ensures.beside }) in
     ready_part g.A.AsyncReadRent.tells left rest held c.args.buf c.into_inner.result c.args.into part.result.part c.args.at end c.new.result
     c.in-Ready.slice c.in-Ready.outcome way cut c.room-end.ensures some c.in-Ready.ensures.reads
 
@@ -26,8 +26,8 @@ returns-in-Pending-clause-reads g c =
     let cut = c.new.ensures ∙ ap (λ p. part_cut (held p.inner) p.part c.args.at end) c.new-room.ensures in
     let part = c.into_inner-part-in-Pending in
     let way : WayBack c.in-Pending.slice (held c.into_inner-in-Pending.result) part.result.part =
-        rw c.into_inner-in-Pending.ensures (record
-        { whole_is = part.ensures.buffer; place_is = part.ensures.under; others_is = part.ensures.beside }) in
+    rw c.into_inner-in-Pending.ensures (record
+    { whole_is = part.ensures.buffer; place_is = part.ensures.under; others_is = part.ensures.beside }) in
     paused_part g.A.AsyncReadRent.tells left rest held c.args.buf c.into_inner-in-Pending.result c.args.into part.result.part c.args.at end
     c.new.result c.in-Pending.slice way cut c.in-Pending.ensures.reads
 
@@ -40,7 +40,7 @@ returns-in-Again-clause-reads g c =
     let cut = c.new.ensures ∙ ap (λ p. part_cut (held p.inner) p.part c.args.at end) c.new-room.ensures in
     let part = c.into_inner-part-in-Again in
     let way : WayBack c.in-Again.slice (held c.into_inner-in-Again.result) part.result.part =
-        rw c.into_inner-in-Again.ensures (record
-        { whole_is = part.ensures.buffer; place_is = part.ensures.under; others_is = part.ensures.beside }) in
+    rw c.into_inner-in-Again.ensures (record
+    { whole_is = part.ensures.buffer; place_is = part.ensures.under; others_is = part.ensures.beside }) in
     paused_part g.A.AsyncReadRent.tells left rest held c.args.buf c.into_inner-in-Again.result c.args.into part.result.part c.args.at end
     c.new.result c.in-Again.slice way cut c.in-Again.ensures.reads

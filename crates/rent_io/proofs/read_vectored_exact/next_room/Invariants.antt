@@ -7,4 +7,4 @@ abbrev pub invariant-loop-i : goal.invariant-loop-i
 invariant-loop-i g l =
     let parts = g.T.IoVecBufMut.held l.buf in
     (read_of parts l.i l.filled ≡ read_of parts l.fn.part l.fn.filled) × AreFullBefore parts l.i
-        × (l.filled ≤ length (part_at parts l.i).bytes)
+    × (l.filled ≤ length (part_at parts l.i).bytes)

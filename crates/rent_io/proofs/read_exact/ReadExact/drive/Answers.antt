@@ -9,8 +9,7 @@ pub returns-in-Ready-clause-run : goal.returns-in-Ready-clause-run
 returns-in-Ready-clause-run g c =
     let reader = g.A.AsyncReadRent.reader in
     let has = c.loop.invariant.0 in
-    let answer = c.in-Ready.ensures.answer in
-    (
+    let answer = c.in-Ready.ensures.answer in (
       fill_ends g.A.AsyncReadRent.tells (reader c.args.io.now) (reader c.loop.io) (reader c.poll.new.io) c.args.self c.loop.state
           (g.T.IoBufMut.buffer c.in-Ready.buf) c.in-Ready.outcome c.keeps_bounds.ensures c.loop.invariant.1.faults_stay has answer.0,
       answer.1 ∙ ap (λ (f : Filling). f.under) has.is_next,
@@ -24,20 +23,18 @@ loop-preserved g c =
     let mid = reader c.loop.io in
     let now = reader c.poll.new.io in
     let calls = one_more c.loop.counter (c.loop.counter + 1) before.counts mid.counts now.counts (omega arith) c.loop.invariant.1
-        c.poll.ensures.counts in
+    c.poll.ensures.counts in
     let goes = fill_goes_on g.A.AsyncReadRent.tells before mid now c.args.self c.loop.state in
     let used = fill_used g.A.AsyncReadRent.tells before mid now c.loop.counter c.args.self c.loop.state in
     elim c.match-poll.branch [
-      | in-Pending w ↦
-        (
-          rw w.state-is (goes w.in-Pending.next c.keeps_bounds.ensures c.loop.invariant.0 (inl w.in-Pending.ensures.answer)),
-          calls,
-          rw w.state-is (used w.in-Pending.next c.loop.invariant.2 c.poll.ensures.counts (inl w.in-Pending.ensures.answer)),
-        )
-      | in-Again w ↦
-        (
-          rw w.state-is (goes w.in-Again.next c.keeps_bounds.ensures c.loop.invariant.0 w.in-Again.ensures.answer),
-          calls,
-          rw w.state-is (used w.in-Again.next c.loop.invariant.2 c.poll.ensures.counts w.in-Again.ensures.answer),
-        )
+      | in-Pending w ↦ (
+        rw w.state-is (goes w.in-Pending.next c.keeps_bounds.ensures c.loop.invariant.0 (inl w.in-Pending.ensures.answer)),
+        calls,
+        rw w.state-is (used w.in-Pending.next c.loop.invariant.2 c.poll.ensures.counts (inl w.in-Pending.ensures.answer)),
+      )
+      | in-Again w ↦ (
+        rw w.state-is (goes w.in-Again.next c.keeps_bounds.ensures c.loop.invariant.0 w.in-Again.ensures.answer),
+        calls,
+        rw w.state-is (used w.in-Again.next c.loop.invariant.2 c.poll.ensures.counts w.in-Again.ensures.answer),
+      )
     ]

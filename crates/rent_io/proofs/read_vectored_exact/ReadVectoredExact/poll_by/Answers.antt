@@ -12,7 +12,7 @@ returns-then-into-parts_len-clause-answer g c =
     let here = c.next_room-into in
     let left = (g.A.AsyncReadRent.reader c.args.io.now).left in
     let behind : length parts ≤ here.result.0 = omega
-        (arith, c.if-into-parts_len.true, c.parts_len.ensures, length_bytes parts, ap length c.keeps_bounds.ensures.parts) in
+    (arith, c.if-into-parts_len.true, c.parts_len.ensures, length_bytes parts, ap length c.keeps_bounds.ensures.parts) in
     ends_full g.A.AsyncReadRent.tells left left [] c.args.self parts parts i.part i.filled here.result.0 here.result.1 i.total
     c.self.view_is (here.ensures.same ∙ sym (append-nil (read_of parts i.part i.filled))) behind here.ensures.full refl (λ t. refl)
 
@@ -25,7 +25,7 @@ next_room-part-requires-clause-full g c =
     let left = (g.A.AsyncReadRent.reader c.args.io.now).left in
     let rest = (g.A.AsyncReadRent.reader c.read_part.new.io).left in
     let t : PartTaken g.A.AsyncReadRent.tells left rest parts (held a.buf) here.result.0 here.result.1 a.n =
-        rw a.field-0-is at a.ensures.reads in
+    rw a.field-0-is at a.ensures.reads in
     subst (λ l. AreFullBefore l here.result.0) (sym t.is_put) (put_full parts here.result.0 here.result.1 t.got here.ensures.full)
 
 pub returns-then-part-parts_len-clause-answer : goal.returns-then-part-parts_len-clause-answer
@@ -41,7 +41,7 @@ returns-then-part-parts_len-clause-answer g c =
     let rest = (g.A.AsyncReadRent.reader c.read_part.new.io).left in
     let back = held a.buf in
     let step : Stepped tells left rest c.args.self parts back i.part i.filled i.total here.result.0 here.result.1 a.n
-        next.result.0 next.result.1 = record {
+    next.result.0 next.result.1 = record {
       state = c.self.view_is;
       there = omega (arith, c.if-into-parts_len.false, c.parts_len.ensures, length_bytes parts, ap length c.keeps_bounds.ensures.parts);
       within = here.ensures.within;
@@ -51,8 +51,13 @@ returns-then-part-parts_len-clause-answer g c =
       full = next.ensures.full;
     } in
     step_ends tells left rest c.args.self parts back i.part i.filled i.total here.result.0 here.result.1 a.n next.result.0 next.result.1
-    step (omega (arith, c.if-part-parts_len.true, c.parts_len-in-Ready-Ok-default.ensures, length_bytes back,
-        ap length c.keeps_bounds-in-Ready-Ok-default.ensures.parts))
+    step (omega (
+      arith,
+      c.if-part-parts_len.true,
+      c.parts_len-in-Ready-Ok-default.ensures,
+      length_bytes back,
+      ap length c.keeps_bounds-in-Ready-Ok-default.ensures.parts,
+    ))
 
 pub returns-else-part-parts_len-clause-answer : goal.returns-else-part-parts_len-clause-answer
 returns-else-part-parts_len-clause-answer g c =
@@ -67,7 +72,7 @@ returns-else-part-parts_len-clause-answer g c =
     let rest = (g.A.AsyncReadRent.reader c.read_part.new.io).left in
     let back = held a.buf in
     let step : Stepped tells left rest c.args.self parts back i.part i.filled i.total here.result.0 here.result.1 a.n
-        next.result.0 next.result.1 = record {
+    next.result.0 next.result.1 = record {
       state = c.self.view_is;
       there = omega (arith, c.if-into-parts_len.false, c.parts_len.ensures, length_bytes parts, ap length c.keeps_bounds.ensures.parts);
       within = here.ensures.within;
@@ -76,7 +81,12 @@ returns-else-part-parts_len-clause-answer g c =
       next = next.ensures.same;
       full = next.ensures.full;
     } in
-    let there : next.result.0 < length back = omega (arith, c.if-part-parts_len.false, c.parts_len-in-Ready-Ok-default.ensures,
-        length_bytes back, ap length c.keeps_bounds-in-Ready-Ok-default.ensures.parts) in
+    let there : next.result.0 < length back = omega (
+      arith,
+      c.if-part-parts_len.false,
+      c.parts_len-in-Ready-Ok-default.ensures,
+      length_bytes back,
+      ap length c.keeps_bounds-in-Ready-Ok-default.ensures.parts,
+    ) in
     inr (step_goes_on tells left rest c.args.self parts back i.part i.filled i.total here.result.0 here.result.1 a.n
     next.result.0 next.result.1 step c.if-n-eq0.false there (next.ensures.room there))

@@ -17,22 +17,20 @@ loop-preserved g c =
     let mid = sink c.loop.sink in
     let now = sink c.poll.new.sink in
     let calls = one_more c.loop.counter (c.loop.counter + 1) before.counts mid.counts now.counts (omega arith) c.loop.invariant.1
-        c.poll.ensures.counts in
+    c.poll.ensures.counts in
     let has = c.loop.invariant.0 in
     elim c.match-poll.branch [
       | in-Pending w ↦
-        let a = w.in-Pending.ensures.answer in
-        (
-          rw w.state-is (sink_waits before mid now c.args.self c.loop.state w.in-Pending.next has a.0 a.1),
-          calls,
-          rw w.state-is (waits_used before mid now c.loop.counter c.args.self c.loop.state w.in-Pending.next c.loop.invariant.2 a.0 a.2),
-        )
+          let a = w.in-Pending.ensures.answer in (
+            rw w.state-is (sink_waits before mid now c.args.self c.loop.state w.in-Pending.next has a.0 a.1),
+            calls,
+            rw w.state-is (waits_used before mid now c.loop.counter c.args.self c.loop.state w.in-Pending.next c.loop.invariant.2 a.0 a.2),
+          )
       | in-Again w ↦
-        let a = w.in-Again.ensures.answer in
-        (
-          rw w.state-is (sink_takes before mid now c.args.self c.loop.state w.in-Again.next has a.0 a.1 a.2 a.3),
-          calls,
-          rw w.state-is (takes_used before mid now c.loop.counter c.args.self c.loop.state w.in-Again.next c.loop.invariant.2 a.0 a.1
-              c.poll.ensures.counts),
-        )
+          let a = w.in-Again.ensures.answer in (
+            rw w.state-is (sink_takes before mid now c.args.self c.loop.state w.in-Again.next has a.0 a.1 a.2 a.3),
+            calls,
+            rw w.state-is (takes_used before mid now c.loop.counter c.args.self c.loop.state w.in-Again.next c.loop.invariant.2 a.0 a.1
+                c.poll.ensures.counts),
+          )
     ]

@@ -9,8 +9,7 @@ pub returns-in-Ready-clause-run : goal.returns-in-Ready-clause-run
 returns-in-Ready-clause-run g c =
     let writer = g.A.AsyncWriteRent.writer in
     let has = c.loop.invariant.0 in
-    let answer = c.in-Ready.ensures.answer in
-    (
+    let answer = c.in-Ready.ensures.answer in (
       send_ends g.A.AsyncWriteRent.tells (writer c.args.io.now) (writer c.loop.io) (writer c.poll.new.io) c.args.self c.loop.state
           c.in-Ready.outcome c.loop.invariant.1.faults_stay has answer.0,
       answer.1 ∙ has.same_buf,
@@ -23,23 +22,21 @@ loop-preserved g c =
     let mid = writer c.loop.io in
     let now = writer c.poll.new.io in
     let calls = one_more c.loop.counter (c.loop.counter + 1) before.counts mid.counts now.counts (omega arith) c.loop.invariant.1
-        c.poll.ensures.counts in
+    c.poll.ensures.counts in
     let ends : EndsStay before now = (c.poll.ensures.ends.0 ∙ c.loop.invariant.2.0, c.poll.ensures.ends.1 ∙ c.loop.invariant.2.1) in
     let goes = send_goes_on g.A.AsyncWriteRent.tells before mid now c.args.self c.loop.state in
     let used = send_used g.A.AsyncWriteRent.tells before mid now c.loop.counter c.args.self c.loop.state in
     elim c.match-poll.branch [
-      | in-Pending w ↦
-        (
-          rw w.state-is (goes w.in-Pending.next c.loop.invariant.0 (inl w.in-Pending.ensures.answer)),
-          calls,
-          ends,
-          rw w.state-is (used w.in-Pending.next c.loop.invariant.3 c.poll.ensures.counts (inl w.in-Pending.ensures.answer)),
-        )
-      | in-Again w ↦
-        (
-          rw w.state-is (goes w.in-Again.next c.loop.invariant.0 w.in-Again.ensures.answer),
-          calls,
-          ends,
-          rw w.state-is (used w.in-Again.next c.loop.invariant.3 c.poll.ensures.counts w.in-Again.ensures.answer),
-        )
+      | in-Pending w ↦ (
+        rw w.state-is (goes w.in-Pending.next c.loop.invariant.0 (inl w.in-Pending.ensures.answer)),
+        calls,
+        ends,
+        rw w.state-is (used w.in-Pending.next c.loop.invariant.3 c.poll.ensures.counts (inl w.in-Pending.ensures.answer)),
+      )
+      | in-Again w ↦ (
+        rw w.state-is (goes w.in-Again.next c.loop.invariant.0 w.in-Again.ensures.answer),
+        calls,
+        ends,
+        rw w.state-is (used w.in-Again.next c.loop.invariant.3 c.poll.ensures.counts w.in-Again.ensures.answer),
+      )
     ]
