@@ -3,7 +3,7 @@ use Rattle.std.proofs.Common.{◌≡◌, ◌≤◌, ◌<◌, ℕ, List, [], ◌�
 use Rattle.std.specs.Prelude.{◌^◌, codes, decimal}
 use Rattle.session_run.specs.declared.command.Command.{Command}
 use Rattle.session_run.specs.declared.command.Command.TheVariants.{Run, Generate, Wake}
-use Rattle.session_run.specs.Command.{IsRun, IsWake, IsGenerate, IsNoCommand, IsCapacity, ReadsCapacity, ReadsCounts, ReadsRounds, ReadsUpTo, ReadsCommand, IsWakeCommand, IsWithin, ReadsNothing}
+use Rattle.session_run.specs.Command.{IsRun, IsWake, IsGenerate, IsCapacity, ReadsUpTo, ReadsCommand, IsWakeCommand, ReadsNothing}
 use Rattle.session_run.specs.TextReads.{number_of}
 use Rattle.session_run.proofs.TextNumbers.{number_of-decimal, number_of-Some}
 

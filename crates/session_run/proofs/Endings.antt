@@ -1,5 +1,5 @@
 -- What a command has done, by its words and its status.
-use Rattle.std.proofs.Common.{◌≡◌, ◌*◌, inl, inr, Bool, IsTrue, ℕ, List, Option, Some, refl, sym, subst, arith}
+use Rattle.std.proofs.Common.{◌≡◌, ◌*◌, inl, inr, Bool, IsTrue, ℕ, List, Option, Some, sym, subst}
 use Rattle.ring_core.specs.declared.ledger.Event.{Event}
 use Rattle.ring_core.specs.Ledger.{empty}
 use Rattle.ring_core.specs.Run.{replies}
@@ -11,8 +11,8 @@ use Rattle.session_run.specs.declared.top.Status.{Status}
 use Rattle.session_run.specs.declared.top.Status.TheVariants.{Done, BadWords, BadLine, TooLong, ReadFault, WriteFault, OutOfMemory}
 use Rattle.session_run.specs.Command.{IsRun, IsGenerate, IsWake, ReadsCommand}
 use Rattle.session_run.specs.Generated.{generated_events}
-use Rattle.session_run.specs.Top.{SumsFor, WakesFor, WasRead, IsBadLine, all_right, of_replies, of_bad_line, bad_line_text, reply_lines, unread}
-use Rattle.session_run.specs.Ends.{Reading, Writing, RunEnds, RunsEvents, RefusesFor, SinkEnds, CommandEnds, StatusFor, WhyNoEvents, WritesLine}
+use Rattle.session_run.specs.Top.{SumsFor, WakesFor, WasRead, IsBadLine, all_right, of_replies, of_bad_line, bad_line_text, reply_lines}
+use Rattle.session_run.specs.Ends.{Reading, Writing, RunEnds, RunsEvents, RefusesFor, CommandEnds, WhyNoEvents, WritesLine}
 use Rattle.session_run.proofs.Commands.{same-capacity, same-rounds, same-counts, not-both, not-run-generate, not-wake-generate}
 use Rattle.session_run.proofs.Reading.{few-read}
 

@@ -1,9 +1,8 @@
 -- What was read of an input.
-use Rattle.std.proofs.Common.{◌≡◌, ◌≤◌, ℕ, zero, suc, ◌+◌, Bool, IsTrue, List, [], ◌∷◌, ◌++◌, length, take, drop, refl, sym, ◌∙◌, ap, subst, append_assoc, length-append, arith}
+use Rattle.std.proofs.Common.{◌≡◌, ◌≤◌, ℕ, zero, suc, ◌+◌, Bool, IsTrue, List, [], ◌∷◌, ◌++◌, length, take, drop, refl, sym, ◌∙◌, ap, subst, length-append, arith}
 use Rattle.std.specs.List.{AllZip}
 use Rattle.ring_core.specs.declared.ledger.Event.{Event}
 use Rattle.session_run.specs.declared.input.NoEvents.{NoEvents}
-use Rattle.rent_io.specs.Source.{Gives}
 use Rattle.session_run.specs.TextEvent.{StandsFor}
 use Rattle.session_run.specs.TextLines.{lines, AreEvents, IsFirstWrong}
 use Rattle.session_run.specs.Top.{TookFew, WasRead, IsBadLine, half_read, all_right}

@@ -1,6 +1,6 @@
 -- Lines and their words looked through without keeping what they write.
 use Rattle.std.proofs.Common.{◌≡◌, ◌∙◌, ℕ, zero, suc, ◌+◌, ◌*◌, ◌/◌, ◌^◌, ◌<◌, ◌≤◌, List, [], ◌∷◌, ◌++◌, length, drop, get_or, refl, ap, sym, arith, length-append}
-use Rattle.std.specs.Prelude.{Bool, true, false, ◌==◌, ◌⊎◌, All, Option, Some, None, option_and_then, option_map, if◌then◌else◌}
+use Rattle.std.specs.Prelude.{true, false, ◌==◌, ◌⊎◌, All, Option, Some, None, option_and_then, option_map}
 use Rattle.std.specs.Option.{is_some}
 use Rattle.std.proofs.lemmas.Bool.{ne_eqb}
 use Rattle.std.proofs.lemmas.List.Elements.{All-append, All-cons}
@@ -8,13 +8,13 @@ use Rattle.std.proofs.lemmas.List.Sums.{sum_by-append, sum_by-cons}
 use Rattle.rent_buf.specs.Parts.{Parts, IsParts, rooms_of}
 use Rattle.rent_buf.specs.Rent.{Rented}
 use Rattle.ring_core.specs.declared.ledger.Event.{Event}
-use Rattle.session_run.specs.TextLines.{lines, AreEvents, IsFirstWrong}
+use Rattle.session_run.specs.TextLines.{lines, IsFirstWrong}
 use Rattle.session_run.specs.TextReads.{words, digit_value_of, pairs_of, number_of, bytes_of, part_onto, parts_end, counted}
 use Rattle.session_run.specs.TextEventReads.{event_of}
 use Rattle.session_run.specs.TextValid.{AddsPart, NoPart}
 use Rattle.session_run.proofs.TextEvents.{event_of-stands, event_of-wrong}
 use Rattle.session_run.proofs.TextHex.{onto, pairs_of-more, pairs_of-stop, pairs_of-end}
-use Rattle.session_run.proofs.TextLinesRead.{HaveRead, have_read-none, have_read-more, have_read-wrong, have_read-all}
+use Rattle.session_run.proofs.TextLinesRead.{HaveRead, have_read-more, have_read-wrong}
 use Rattle.session_run.proofs.TextParts.{counted-bounds, counted-None, rooms-more, rooms-alone, rooms-done}
 
 -- An option is tested as what it is mapped to.
