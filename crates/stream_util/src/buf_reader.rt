@@ -128,6 +128,7 @@ impl<R> BufReader<R> {
         ensures count { result.0 ≡ min (length self.old.held) (room (T.buffer buf)) }
         ensures stored { T.buffer result.1 ≡ put (T.buffer buf) ((T.buffer buf).begin + 0) (take result.0 self.old.held) }
         ensures under { T.under result.1 ≡ T.under buf }
+        ensures beside { T.beside result.1 ≡ T.beside buf }
         ensures rest { self.new ≡ record self.old { held = drop result.0 self.old.held } }
     {
         let mut buf = buf;
@@ -207,7 +208,7 @@ impl<R: AsyncReadRent> AsyncReadRent for BufReader<R> {
     #[tactic(auto, using(crate::proofs::Filled::given, crate::proofs::Filled::filled_first))]
     fn poll_read<T: IoBufMut>(&mut self, buf: T, task: u64) -> PollBuf<T>
         ensures reads { Reads R.tells (reader_over (R.reader self.old.inner) self.old).left
-            (reader_over (R.reader self.new.inner) self.new).left T.buffer T.under buf result }
+            (reader_over (R.reader self.new.inner) self.new).left T.buffer T.under T.beside buf result }
         ensures cause { IsCaused (R.reader self.old.inner).counts (R.reader self.new.inner).counts result }
         ensures counts { AfterCall (R.reader self.old.inner).counts (R.reader self.new.inner).counts }
         ensures rule { ReadRule R.reader R.tells self.old self.new (room (T.buffer buf)) result }

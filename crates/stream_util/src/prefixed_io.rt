@@ -95,7 +95,7 @@ impl<I: AsyncReadRent, P: ByteSource> PrefixedReadIo<I, P> {
         ensures reads { IfAnswered result (λ answer. Reads (I.tells && P.tells)
             (reader_behind self.old.finished (P.left self.old.prefix) (P.faults self.old.prefix) (I.reader self.old.io)).left
             (reader_behind self.new.finished (P.left self.new.prefix) (P.faults self.new.prefix) (I.reader self.new.io)).left
-            T.buffer T.under buf answer) }
+            T.buffer T.under T.beside buf answer) }
         ensures cause { IfAnswered result (λ answer. IsCaused
             (reader_behind self.old.finished (P.left self.old.prefix) (P.faults self.old.prefix) (I.reader self.old.io)).counts
             (reader_behind self.new.finished (P.left self.new.prefix) (P.faults self.new.prefix) (I.reader self.new.io)).counts answer) }

@@ -23,4 +23,5 @@ returns-else-count-eq0-clause-reads g c =
           (omega (arith, c.min.ensures, c.bytes_total-total.ensures.total)) size (grind (arith, common_steps)) c.if-count-eq0.false
           (c.store-in-Ok.ensures.put ∙ ap (λ l. put b (b.begin + 0) l) c.split_at.ensures.front) (grind (arith, common_steps))),
       c.store-in-Ok.ensures.under,
+      c.store-in-Ok.ensures.beside,
     )
