@@ -1,9 +1,6 @@
 -- Counts that a stream, a source or a sink keeps. Each clause that gives an answer its cause cites it.
-use Rattle.std.specs.Prelude.{ℕ, ◌+◌, ◌-◌, ◌^◌, ◌≤◌, min}
-
--- A count rose in a call: it is greater after it, or is the last value of a `u64`.
-abbrev pub Rose : ℕ → ℕ → Type 0
-Rose before now = min (before + 1) (2 ^ 64 - 1) ≤ now
+use Rattle.std.specs.Prelude.{ℕ, ◌+◌, ◌≤◌}
+pub use Rattle.rent_buf.specs.Counts.{Rose}
 
 -- The counts of a stream: its faults, its pauses, and the calls that were made of it.
 pub record Counts : Type 0 where
