@@ -1,7 +1,6 @@
 -- What stands on the slots that are kept.
-use Rattle.std.proofs.Common.{◌≡◌, ◌≢◌, ◌⊎◌, inl, inr, ℕ, zero, suc, ◌+◌, ◌<◌, ◌≤◌, Bool, true, false, List, [], ◌∷◌, ◌++◌, map, length, take, drop, remove, replicate, get_or, set, Some, slice_get, refl, sym, ◌∙◌, ap, subst, arith}
+use Rattle.std.proofs.Common.{◌≡◌, ◌≢◌, inl, inr, ℕ, zero, suc, ◌+◌, ◌<◌, ◌≤◌, Bool, true, false, List, [], ◌∷◌, ◌++◌, map, length, take, drop, remove, replicate, get_or, set, Some, slice_get, refl, sym, ◌∙◌, ap, subst, arith}
 use Rattle.std.specs.Prelude.{◌==◌, ◌||◌}
-use Rattle.std.proofs.lemmas.Bool.Decides.{eqb_tells}
 use Rattle.std.proofs.lemmas.Option.{slice_get_within}
 use Rattle.std.proofs.lemmas.List.{drop-set-lt, append_assoc, length-replicate}
 use Rattle.std.proofs.Math.Seq.{take-suc-set}
@@ -10,6 +9,7 @@ use Rattle.ring_core.specs.Lists.{amended}
 use Rattle.ring_core.specs.Ring.{marked_by}
 use Rattle.ring_core.specs.Ranks.{kept_first, is_kept, kept}
 use Rattle.ring_core.specs.Flights.{InFlight, words_of, several, AreLinked}
+use Rattle.ring_core.proofs.Numbers.{equal-other, same-or-not}
 
 -- As many stand on kept slots as slots are kept.
 pub length-kept : {A : Type 0} (flags : List Bool) (xs : List A) → length xs ≡ length flags → length (kept flags xs) ≡ kept_first (length flags) flags
@@ -68,10 +68,6 @@ kept-map f (b ∷ flags) [] = refl
 kept-map f (true ∷ flags) (x ∷ xs) = ap (λ ys. f x ∷ ys) (kept-map f flags xs)
 kept-map f (false ∷ flags) (x ∷ xs) = kept-map f flags xs
 
--- Two numbers that differ aren't equal.
-other-false : (a b : ℕ) → a ≢ b → (a == b) ≡ false
-other-false a b other = elim (eqb_tells a b) [ inl t ↦ absurd (other t.1) | inr t ↦ t.0 ]
-
 -- A flag stays where nothing is added.
 or-false : (a b : Bool) → b ≡ false → (a || b) ≡ a
 or-false true b e = refl
@@ -79,7 +75,7 @@ or-false false b e = e
 
 -- What has another word isn't marked.
 marked-other : (w : ℕ) (x : Flight) → x.entry.word ≢ w → marked_by w x ≡ x
-marked-other w x other = ap (λ marked. record x { marked = marked }) (or-false x.marked (x.entry.word == w) (other-false x.entry.word w other))
+marked-other w x other = ap (λ marked. record x { marked = marked }) (or-false x.marked (x.entry.word == w) (equal-other x.entry.word w other))
 
 -- Where nothing that is kept has a word, its cancel marks nothing.
 marks-nothing : (w : ℕ) (flags : List Bool) (xs : List Flight) →
@@ -125,24 +121,16 @@ word-there [] slot x here = cc
 word-there (y ∷ xs) zero x here = let same : y ≡ x = cc in ap (λ z. Some z.entry.word) same
 word-there (y ∷ xs) (suc slot) x here = word-there xs slot x here
 
--- Two numbers are the same, or they aren't.
-same-or-other : (n m : ℕ) → (n ≡ m) ⊎ (n ≢ m)
-same-or-other n m = elim (eqb_tells n m) [ inl e ↦ inl e.1 | inr e ↦ inr e.1 ]
-
 -- A word that is kept on a slot is kept on the one that its link names.
 pub linked-one : (links : List ℕ) (flags : List Bool) (xs : List Flight) (word at : ℕ) → AreLinked links flags (words_of xs) → word < length links →
     get_or links word 0 ≡ at → at < several → (slot : ℕ) (x : Flight) → slice_get flags slot ≡ Some true → slice_get xs slot ≡ Some x → x.entry.word ≡ word →
     slot ≡ at
-linked-one links flags xs word at linked within link one slot x there here same = elim (same-or-other at slot) [
+linked-one links flags xs word at linked within link one slot x there here same = elim (same-or-not at slot) [
   | inl is ↦ sym is
   | inr differs ↦ (
       let many : get_or links word 0 ≡ several = linked slot word there (word-there xs slot x here ∙ ap Some same) within (λ is. differs (sym link ∙ is)) in
       absurd (omega arith))
 ]
-
--- Where no slot has joined, all is linked.
-pub linked-none : (links words : List ℕ) → AreLinked links [] words
-linked-none links words slot w kept here inside other = cc
 
 -- A slot that isn't kept any more takes nothing from the links of the others.
 pub linked-released : (links : List ℕ) (flags : List Bool) (words : List ℕ) (at : ℕ) → AreLinked links flags words → AreLinked links (set flags at false) words
@@ -215,14 +203,6 @@ pack-gone flags xs count slot within there =
     let at = get-there xs slot within in
     ap (λ fs. take count xs ++ kept fs (drop slot xs)) (drop-get flags slot false there)
     ∙ ap (λ ys. take count xs ++ kept (false ∷ drop (slot + 1) flags) ys) (drop-get xs slot at.0 at.1)
-
--- One more slot that is kept.
-pub replicate-more : (n : ℕ) → replicate n true ++ true ∷ [] ≡ replicate (n + 1) true
-replicate-more n = appended n ∙ ap (λ m. replicate m true) (let next : suc n ≡ n + 1 = omega arith in next)
-  where
-    appended : (n : ℕ) → replicate n true ++ true ∷ [] ≡ replicate (suc n) true
-    appended zero = refl
-    appended (suc n) = ap (λ ys. true ∷ ys) (appended n)
 
 -- The words after one more item.
 pub words-joined : (xs : List Flight) (x : Flight) → words_of (xs ++ x ∷ []) ≡ words_of xs ++ x.entry.word ∷ []

@@ -1,5 +1,5 @@
 -- Bytes that move between a handle and a payload.
-use Rattle.std.proofs.Common.{◌≡◌, ◌<◌, ◌≤◌, ℕ, Bool, true, false, List, [], ◌++◌, length, take, drop, get_or, set, unwrap_or, option_map, refl, sym, ◌∙◌, ap, subst}
+use Rattle.std.proofs.Common.{◌≡◌, ◌<◌, ◌≤◌, ℕ, Bool, true, List, [], ◌++◌, length, take, drop, get_or, set, unwrap_or, option_map, refl, sym, ◌∙◌, ap, subst}
 use Rattle.std.specs.Prelude.{◌&&◌, IsTrue}
 use Rattle.std.proofs.lemmas.Bool.{leb-true}
 use Rattle.std.proofs.lemmas.Option.{slice_get_read}
@@ -10,17 +10,8 @@ use Rattle.ring_core.specs.World.{gives_bytes, takes_bytes, with_output}
 use Rattle.ring_core.specs.Outcome.{may_read, may_send}
 use Rattle.ring_core.specs.Effect.{without_front}
 use Rattle.ring_core.specs.Called.{IsMoved}
+use Rattle.ring_core.proofs.Numbers.{and-left, and-right}
 use Rattle.ring_core.proofs.Amended.{amended-at, passes-at}
-
--- The first of two tests that pass.
-and-left : (a b : Bool) → (a && b) ≡ true → a ≡ true
-and-left true b both = refl
-and-left false b both = both
-
--- The second of two tests that pass.
-and-right : (a b : Bool) → (a && b) ≡ true → b ≡ true
-and-right true b both = both
-and-right false b both = cc
 
 -- A count that a read may have is within the input.
 pub read-within : (ask k : ℕ) (x : HandleState) → (gives_bytes x.kind && may_read ask k x) ≡ true → k ≤ length x.input
