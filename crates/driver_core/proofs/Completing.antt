@@ -1,5 +1,5 @@
 -- What completing a slot does, by its life before.
-use Rattle.std.proofs.Common.{◌≡◌, ℕ, true, false, Option, Some, None, refl, sym, ◌∙◌, ap}
+use Rattle.std.proofs.Common.{◌≡◌, ℕ, true, Some, None, refl, sym, ◌∙◌, ap}
 use Rattle.std.specs.Ordering.{nat_cmp}
 use Rattle.std.specs.FinMap.{FinMap, get, insert, remove}
 use Rattle.op_slots.specs.Lifecycle.{after_complete}
@@ -46,14 +46,6 @@ slots-free Submitted m k x h = (let f : ⊥ = cc in absurd f)
 slots-free (Waiting t) m k x h = (let f : ⊥ = cc in absurd f)
 slots-free Ignored m k x h = refl
 slots-free (Completed r) m k x h = (let f : ⊥ = cc in absurd f)
-
--- A completion of a slot that isn't in flight changes nothing.
-pub completes-none : {B : Type 0} (m : FinMap nat_cmp (Slot B)) (c : Completion) (x : Option (Slot B)) → get m c.word ≡ x → flies_in x ≡ false → CompletesSlot m c m None
-completes-none m c None at h = record { answer = ap named_by (sym at); slots = ap (slots_after m c) (sym at) }
-completes-none m c (Some s) at h = record {
-  answer = ap (λ b. named_if b s) (sym h) ∙ ap named_by (sym at);
-  slots = ap (λ b. slots_if b m c s) (sym h) ∙ ap (slots_after m c) (sym at);
-}
 
 module _ {B : Type 0} (m : FinMap nat_cmp (Slot B)) (c : Completion) (s : Slot B) (life : Lifecycle Outcome) (there : get m c.word ≡ Some s) (completed : life ≡ Completed c.outcome) (flies : flies_in (get m c.word) ≡ true) where
   flying : is_flying s.life ≡ true

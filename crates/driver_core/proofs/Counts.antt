@@ -1,8 +1,9 @@
 -- How many operations pass a test, after a change of one.
 use Rattle.std.proofs.Common.{◌≡◌, ℕ, zero, suc, ◌+◌, ◌≤◌, Bool, true, false, cond, List, [], ◌∷◌, ◌++◌, length, Some, refl, sym, ◌∙◌, ap, arith, add_assoc}
-use Rattle.std.specs.Prelude.{slice_get, ◌&&◌, not, if◌then◌else◌}
+use Rattle.std.specs.Prelude.{slice_get, not, if◌then◌else◌}
 use Rattle.ring_core.specs.Lists.{amended, numbers_where}
 use Rattle.ring_core.specs.Ledger.{Operation, is_live, is_owned}
+use Rattle.ring_core.proofs.Numbers.{and-left}
 
 -- The operations that pass, counted.
 abbrev passing : (Operation → Bool) → List Operation → ℕ
@@ -70,10 +71,6 @@ where-more test ops o h = length-numbers test 0 (ops ++ o ∷ []) ∙ pushed-mor
 pub where-within : (p q : Operation → Bool) (ops : List Operation) → ((o : Operation) → p o ≡ true → q o ≡ true) → length (numbers_where p 0 ops) ≤ length (numbers_where q 0 ops)
 where-within p q ops h = (let a = length-numbers p 0 ops in let b = length-numbers q 0 ops in let c = passing-within p q ops h in omega (arith, a, b, c))
 
-and-first : (a b : Bool) → (a && b) ≡ true → a ≡ true
-and-first true b h = refl
-and-first false b h = h
-
 -- An operation of its user isn't gone.
 pub owned-lives : (o : Operation) → is_owned o ≡ true → is_live o ≡ true
-owned-lives o h = and-first (is_live o) (not o.dropped) h
+owned-lives o h = and-left (is_live o) (not o.dropped) h

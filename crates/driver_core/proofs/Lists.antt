@@ -1,18 +1,11 @@
 -- Lists by place.
-use Rattle.std.proofs.Common.{◌≡◌, ◌≢◌, ◌⊎◌, inl, inr, ℕ, zero, suc, ◌≤◌, ◌<◌, List, [], ◌∷◌, ◌++◌, length, map, Option, Some, None, refl, sym, ◌∙◌, ap, arith}
+use Rattle.std.proofs.Common.{◌≡◌, ◌≢◌, ◌⊎◌, inl, inr, ℕ, zero, suc, ◌≤◌, List, [], ◌∷◌, ◌++◌, length, map, Option, Some, None, refl, sym, ◌∙◌, ap, arith}
 use Rattle.std.specs.Prelude.{slice_get, remove}
 use Rattle.ring_core.specs.Lists.{amended}
 
 -- An option holds one value.
 pub some : {X : Type 0} (x y : X) (o : Option X) → o ≡ Some x → o ≡ Some y → x ≡ y
 some x y o p q = let e = sym p ∙ q in cc
-
--- Two numbers are equal or not.
-pub same-or-not : (a b : ℕ) → (a ≡ b) ⊎ (a ≢ b)
-same-or-not zero zero = inl refl
-same-or-not zero (suc b) = inr (λ e. cc)
-same-or-not (suc a) zero = inr (λ e. cc)
-same-or-not (suc a) (suc b) = elim (same-or-not a b) [ inl e ↦ inl (ap suc e) | inr e ↦ inr (λ h. e (cc)) ]
 
 -- A list of no length is empty.
 pub emptied : {A : Type 0} (xs : List A) → length xs ≤ 0 → xs ≡ []
@@ -75,23 +68,6 @@ pub get-front : {A : Type 0} (xs ys : List A) (i : ℕ) (z : A) → slice_get xs
 get-front [] ys i z h = cc
 get-front (x ∷ xs) ys zero z h = h
 get-front (x ∷ xs) ys (suc i) z h = get-front xs ys i z h
-
-pub get-last : {A : Type 0} (xs : List A) (y : A) → slice_get (xs ++ y ∷ []) (length xs) ≡ Some y
-get-last [] y = refl
-get-last (x ∷ xs) y = get-last xs y
-
--- A change in front of one more element.
-pub amended-append : {A : Type 0} (xs ys : List A) (n : ℕ) (f : A → A) → n < length xs → amended (xs ++ ys) n f ≡ amended xs n f ++ ys
-amended-append [] ys n f h = absurd (omega (arith, h))
-amended-append (x ∷ xs) ys zero f h = refl
-amended-append (x ∷ xs) ys (suc n) f h = ap (λ zs. x ∷ zs) (amended-append xs ys n f (omega (arith, h)))
-
--- A change that leaves one more element at the end.
-pub amended-fixed : {A : Type 0} (xs : List A) (y : A) (n : ℕ) (f : A → A) → f y ≡ y → amended (xs ++ y ∷ []) n f ≡ amended xs n f ++ y ∷ []
-amended-fixed [] y zero f h = ap (λ z. z ∷ []) h
-amended-fixed [] y (suc n) f h = refl
-amended-fixed (x ∷ xs) y zero f h = refl
-amended-fixed (x ∷ xs) y (suc n) f h = ap (λ zs. x ∷ zs) (amended-fixed xs y n f h)
 
 -- What isn't there isn't changed.
 pub amended-absent : {A : Type 0} (xs : List A) (n : ℕ) (f : A → A) → slice_get xs n ≡ None → amended xs n f ≡ xs

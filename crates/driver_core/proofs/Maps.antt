@@ -1,17 +1,15 @@
 -- A finite map by numbers after a write and after a removal.
-use Rattle.std.proofs.Common.{◌≡◌, ◌≢◌, inl, inr, ℕ, ◌+◌, ◌-◌, true, false, cond, Some, None, refl, sym, ◌∙◌, ap, arith}
+use Rattle.std.proofs.Common.{◌≡◌, ◌≢◌, inl, inr, ℕ, ◌+◌, ◌-◌, true, cond, Some, None, refl, sym, ◌∙◌, ap, arith}
 use Rattle.std.specs.Prelude.{is_some}
 use Rattle.std.specs.Ordering.{nat_cmp, eq_by_cmp}
 use Rattle.std.specs.Cmp.{nat_cmp_total}
 use Rattle.std.specs.FinMap.{FinMap, get, insert, remove, len, get-insert, get-remove, len-insert, len-remove, same_map, nat_cmp-IsAntisymmetric}
 use Rattle.std.proofs.lemmas.Bool.Decides.{nat_tests}
-use Rattle.driver_core.proofs.Lists.{same-or-not}
+use Rattle.op_slots.proofs.Places.{differ}
+use Rattle.ring_core.proofs.Numbers.{same-or-not}
 
 same : (a b : ℕ) → a ≡ b → eq_by_cmp nat_cmp a b ≡ true
 same a b e = grind (arith, nat_tests)
-
-differ : (a b : ℕ) → a ≢ b → eq_by_cmp nat_cmp a b ≡ false
-differ a b e = grind (arith, nat_tests)
 
 -- What was written at a key is there, and all else stays.
 pub put-same : {X : Type 0} (m : FinMap nat_cmp X) (k : ℕ) (v : X) → get (insert m k v) k ≡ Some v

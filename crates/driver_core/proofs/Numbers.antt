@@ -1,17 +1,15 @@
 -- Which slot has which number, after a change of one slot.
-use Rattle.std.proofs.Common.{◌≡◌, inl, inr, ℕ, Bool, true, false, Option, Some, None, refl, sym, ◌∙◌, ap, subst, arith, IsTrue}
-use Rattle.std.specs.Prelude.{◌↔◌, ◌==◌, ◌&&◌}
+use Rattle.std.proofs.Common.{◌≡◌, inl, inr, ℕ, Bool, true, false, Option, Some, None, refl, sym, ◌∙◌, ap, subst}
 use Rattle.std.specs.Ordering.{nat_cmp}
 use Rattle.std.specs.FinMap.{FinMap, get, insert, remove}
-use Rattle.std.proofs.lemmas.Bool.Decides.{nat_tests}
 use Rattle.op_slots.specs.Lifecycle.{IsIgnored, after_complete}
 use Rattle.op_slots.specs.declared.lifecycle.AfterComplete.TheVariants.{Kept, Wake, Free}
 use Rattle.op_slots.specs.declared.lifecycle.Lifecycle.{Lifecycle}
 use Rattle.op_slots.specs.declared.lifecycle.Lifecycle.TheVariants.{Submitted, Waiting, Ignored, Completed}
 use Rattle.ring_core.specs.declared.request.Outcome.{Outcome}
 use Rattle.driver_core.specs.declared.slot.Slot.{Slot}
-use Rattle.driver_core.specs.Slot.{has_number, number_at, number_if, serial_of, is_owned_life, KeepsNumbers}
-use Rattle.driver_core.proofs.Lists.{same-or-not}
+use Rattle.driver_core.specs.Slot.{number_at, number_if, serial_of, is_owned_life, KeepsNumbers}
+use Rattle.ring_core.proofs.Numbers.{same-or-not}
 use Rattle.driver_core.proofs.Maps.{put-same, put-other, gone-same, gone-other, remove-put}
 
 -- Who a slot belongs to, by its life.
@@ -39,12 +37,6 @@ owned-life (Waiting t) h i = i
 owned-life Ignored h i = cc
 owned-life (Completed r) h i = i
 
-pub ignored-life : (l : Lifecycle Outcome) → (IsIgnored l → ⊥) → is_owned_life l ≡ true
-ignored-life Submitted h = refl
-ignored-life (Waiting t) h = refl
-ignored-life Ignored h = absurd (h tt)
-ignored-life (Completed r) h = refl
-
 -- A slot that is written with its number, and belongs to whom it did.
 pub keeps-put : {B : Type 0} (m : FinMap nat_cmp (Slot B)) (key : ℕ) (s t : Slot B) → get m key ≡ Some s → t.serial ≡ s.serial → is_owned_life t.life ≡ is_owned_life s.life → KeepsNumbers m (insert m key t)
 keeps-put m key s t there serial owned k = elim (same-or-not k key) [
@@ -59,9 +51,6 @@ keeps-gone m key s there owned k = elim (same-or-not k key) [
   | inr e ↦ ap serial_of (gone-other m key k e)
 ]
 
-pub keeps-on : {B : Type 0} (a b c : FinMap nat_cmp (Slot B)) → KeepsNumbers a b → KeepsNumbers b c → KeepsNumbers a c
-keeps-on a b c f g k = g k ∙ f k
-
 -- A slot is completed, or freed.
 module _ {B : Type 0} (m : FinMap nat_cmp (Slot B)) (key : ℕ) (s : Slot B) (life : Lifecycle Outcome) (r : Outcome) (there : get m key ≡ Some s) (completed : life ≡ Completed r) where
   pub keeps-completed : is_owned_life s.life ≡ true → KeepsNumbers m (insert m key (record s { life = life }))
@@ -69,21 +58,6 @@ module _ {B : Type 0} (m : FinMap nat_cmp (Slot B)) (key : ℕ) (s : Slot B) (li
 
   pub keeps-freed : (new : FinMap nat_cmp (Slot B)) → is_owned_life s.life ≡ false → new ≡ remove (insert m key (record s { life = life })) key → KeepsNumbers m new
   keeps-freed new owned gone = subst (λ x. KeepsNumbers m x) (sym (gone ∙ remove-put m key (record s { life = life }))) (keeps-gone m key s there owned)
-
-equal : (a b : ℕ) → (a == b) ≡ true → a ≡ b
-equal a b h = grind (arith, nat_tests)
-
-same : (a b : ℕ) → a ≡ b → (a == b) ≡ true
-same a b h = grind (arith, nat_tests)
-
-by-owner : (b : Bool) (serial number : ℕ) → IsTrue (b && serial == number) ↔ (number_if b serial ≡ Some number)
-by-owner true serial number = (λ h. ap (λ n. Some n) (equal serial number h), λ h. same serial number (cc))
-by-owner false serial number = (λ h. cc, λ h. cc)
-
--- What the test of a token says.
-pub test-number : {B : Type 0} (x : Option (Slot B)) (number : ℕ) → IsTrue (has_number x number) ↔ (serial_of x ≡ Some number)
-test-number None number = (λ h. cc, λ h. cc)
-test-number (Some s) number = by-owner (is_owned_life s.life) s.serial number
 
 number-owned : (b : Bool) (serial number : ℕ) → number_if b serial ≡ Some number → (b ≡ true) × (serial ≡ number)
 number-owned true serial number h = (refl, cc)

@@ -59,7 +59,8 @@ module _ {B : Type 0} (old : FinMap nat_cmp (Slot B)) (key task : ℕ) (mid : Fi
         gone ∙ ap (λ m. remove m key) p.slots ∙ remove-put old key (with_life p.slot (polled p.slot.life task)),
       ))
 
-ignored-left : (l : Lifecycle Outcome) → after_drop l ≡ Left → dropped l ≡ Ignored
+-- A slot that is left is ignored.
+pub ignored-left : (l : Lifecycle Outcome) → after_drop l ≡ Left → dropped l ≡ Ignored
 ignored-left Submitted h = refl
 ignored-left (Waiting t) h = refl
 ignored-left Ignored h = refl

@@ -9,7 +9,8 @@ use Rattle.ring_core.specs.Ledger.{Operation, is_live}
 use Rattle.ring_core.proofs.Amended.{get-amended-same, get-amended-other}
 use Rattle.driver_core.specs.declared.slot.Slot.{Slot}
 use Rattle.driver_core.specs.Slots.{SlotFor, SlotsStand}
-use Rattle.driver_core.proofs.Lists.{some, same-or-not}
+use Rattle.ring_core.proofs.Numbers.{same-or-not}
+use Rattle.driver_core.proofs.Lists.{some}
 use Rattle.driver_core.proofs.Counts.{where-same, where-less}
 use Rattle.driver_core.proofs.Maps.{put-same, put-other, len-put, gone-same, gone-other, len-gone}
 

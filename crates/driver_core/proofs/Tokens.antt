@@ -15,7 +15,8 @@ use Rattle.driver_core.specs.declared.slot.Slot.{Slot}
 use Rattle.driver_core.specs.Slot.{with_life, number_at, number_if, serial_of, is_owned_life, PollsAt, DropsAt, KeepsNumbers}
 use Rattle.driver_core.specs.Op.{number_of}
 use Rattle.driver_core.specs.Ops.{AreNumbered}
-use Rattle.driver_core.proofs.Lists.{some, same-or-not}
+use Rattle.ring_core.proofs.Numbers.{same-or-not}
+use Rattle.driver_core.proofs.Lists.{some}
 use Rattle.driver_core.proofs.Maps.{put-same, put-other, gone-same, gone-other}
 use Rattle.driver_core.proofs.Numbers.{Owner, owner, owned-life, keeps-put}
 
