@@ -31,7 +31,8 @@ use Rattle.driver_core.proofs.Numbers.{Owner}
 use Rattle.uring_driver.proofs.Entering.{moves-join, fits-split, fits-joined}
 use Rattle.uring_driver.proofs.Starting.{stands-same}
 use Rattle.driver_core.proofs.Tokens.{held-slot}
-use Rattle.uring_driver.proofs.Dropping.{left-ignored, has-room, stands-leaves, stands-frees, stands-asks}
+use Rattle.driver_core.proofs.Polling.{ignored-left}
+use Rattle.uring_driver.proofs.Dropping.{has-room, stands-leaves, stands-frees, stands-asks}
 
 -- A cancel joined what is pending.
 pub cancel-moves : {R : Type 0} (view : R → RingView) (tells steady : Bool) (old new : Pending R) (op : Op) (key number : ℕ) → key ≡ op.key → number ≡ op.number → 0 < old.room → Posts view tells steady old new (cancel_entry key number) → IsTrue tells →
@@ -106,7 +107,7 @@ module _ {R B : Type 0} (d : IoUringDriver R B) (op : Op) (slots : FinMap nat_cm
         let exact = joins.exact some s (fits-split v.queue (due_in d) v.capacity old.fits) in
         let spare = (view (ring_in new)).spare in
         subst (λ x. Answers view buffer L (Drop x) Dropped new) has.serial
-        (stands-leaves view buffer d new L op.key t old has.there has.owned given first held left spare (put ∙ is.1 ∙ ap (λ l. insert d.slots.values op.key (with_life t l)) (sym (left-ignored t.life left)))
+        (stands-leaves view buffer d new L op.key t old has.there has.owned given first held left spare (put ∙ is.1 ∙ ap (λ l. insert d.slots.values op.key (with_life t l)) (sym (ignored-left t.life left)))
         (exact.0 ∙ ap (λ x. with_spare (pushed (room_made (whole_ring view d)) (cancel_entry key x)) spare) (n ∙ sym has.serial) ∙ ap (λ x. with_spare (pushed (room_made (whole_ring view d)) (cancel_entry x t.serial)) spare) k)
         (fits-joined (view (ring_in new)).queue (due_in new) (view (ring_in new)).capacity exact.1) (joins.room some))
 

@@ -1,6 +1,6 @@
 -- Entering what is pending: prefixes of it are taken, one after another.
 use Rattle.std.proofs.Common.{◌≡◌, ℕ, zero, suc, ◌+◌, ◌-◌, ◌<◌, ◌≤◌, Bool, true, false, List, [], ◌∷◌, ◌++◌, length, take, drop, refl, sym, ◌∙◌, ap, subst, arith, append_assoc, append-nil, length-append, IsTrue, Result, Ok, Err}
-use Rattle.std.specs.Prelude.{IsOk, OnOk, OnErr, IfErr, ◌==◌, if◌then◌else◌}
+use Rattle.std.specs.Prelude.{OnOk, OnErr, IfErr, ◌==◌, if◌then◌else◌}
 use Rattle.std.proofs.lemmas.List.{length-drop}
 use Rattle.std.proofs.Math.Seq.{take-add, take-length, drop-length}
 use Rattle.ring_core.specs.Counts.{Rose}
@@ -98,10 +98,6 @@ later-on a b c f g = record {
 pub later-same : (v : RingView) (spare : ℕ) → IsLater v (with_spare v spare)
 later-same v spare = record { same_capacity = refl; more_handles = omega arith; more_faults = omega arith; more_busies = omega arith }
 
-pub kept-on : (steady : Bool) (a b c : RingView) (why : EnterError) → IsLater a b → KeptOut steady b c why → KeptOut steady a c why
-kept-on steady a b c Fault l k = (rose-on a.faults b.faults c.faults l.more_faults k.0, k.1)
-kept-on steady a b c Busy l k = (rose-on a.busies b.busies c.busies l.more_busies k.0, k.1)
-
 module _ {R : Type 0} (view : R → RingView) (tells : Bool) where
   pub enters-none : (old : Pending R) → Enters view tells old old
   enters-none old = record { later = later-same (view old.ring) (view old.ring).spare; few_done = omega arith; same_room = refl; told = λ t. took-none (pending_ring view old) (view old.ring).spare }
@@ -137,14 +133,6 @@ module _ {R : Type 0} (view : R → RingView) (tells : Bool) where
 
   pub enters-ring : (old inside : Pending R) (ring : R) (result : Result ℕ EnterError) → inside ≡ old → EntersFor tells (view inside.ring) (view ring) result → Enters view tells old (record inside { ring = ring })
   enters-ring old inside ring result is e = subst (λ x. Enters view tells x (record inside { ring = ring })) is (enters-by inside ring result e)
-
--- Why an enter took no more.
-pub kept-out : (tells steady : Bool) (v w : RingView) (result : Result ℕ EnterError) (why : EnterError) → EntersFor tells v w result → (IsTrue steady → IsOk result) → result ≡ Err why → KeptOut steady v w why
-kept-out tells steady v w (Ok n) why e s h = cc
-kept-out tells steady v w (Err Fault) Fault e s h = (e.0, λ t. (let f : false ≡ true = s t in cc))
-kept-out tells steady v w (Err Fault) Busy e s h = (let f : ⊥ = cc in absurd f)
-kept-out tells steady v w (Err Busy) Busy e s h = (e.0, λ t. (let f : false ≡ true = s t in cc))
-kept-out tells steady v w (Err Busy) Fault e s h = (let f : ⊥ = cc in absurd f)
 
 -- The first due entry was pushed: what is pending is the same.
 first-told : (v w : RingView) (e : Entry) (rest due : List Entry) → due ≡ e ∷ rest → w ≡ pushed v e → with_due w rest ≡ with_spare (with_due v due) w.spare
@@ -186,18 +174,9 @@ module _ {R : Type 0} (view : R → RingView) where
       let is : view new.ring ≡ with_spare (room_made P) (view mid.ring).spare = room ∙ ap room_made (sym (none-behind (view mid.ring) mid.due none) ∙ pend) ∙ room-spare P (view mid.ring).spare b in
       none-behind (view new.ring) new.due (same ∙ none) ∙ is ∙ ap (with_spare (room_made P)) (sym (ap (λ x. x.spare) is))
 
--- Of an answer that is Ok, or that isn't.
-pub on-ok : {T E P Q : Type 0} (result : Result T E) → OnOk result P → (P → Q) → OnOk result Q
-on-ok (Ok x) h f = f h
-on-ok (Err e) h f = tt
-
 pub on-err : {T E P : Type 0} (result : Result T E) → P → OnErr result P
 on-err (Ok x) p = tt
 on-err (Err e) p = p
-
-pub if-err : {T E : Type 0} {P Q : E → Type 0} (result : Result T E) → IfErr result P → ((e : E) → P e → Q e) → IfErr result Q
-if-err (Ok x) h f = tt
-if-err (Err e) h f = f e h
 
 module _ {R : Type 0} (view : R → RingView) (tells : Bool) where
   -- What is pending fits the queue.
@@ -244,10 +223,6 @@ module _ {R : Type 0} (view : R → RingView) (tells : Bool) where
     joins-steady (Err Fault) none room kept s = absurd (kept.1 s)
     joins-steady (Err Busy) none room kept s = absurd (kept.1 s)
 
--- Nothing joined what is pending.
-pub moves-none : (xs ys : List Entry) → ys ≡ xs → PendingMoves xs ys []
-moves-none xs ys h = record { count = 0; within = omega arith; moved = h ∙ sym (append-nil xs) }
-
 pub moves-front : (v w : RingView) (ys : List Entry) → TakesFront v w → ys ≡ w.queue → PendingMoves v.queue ys []
 moves-front v w ys t h = record { count = t.count; within = t.took.within; moved = h ∙ t.took.queue ∙ sym (append-nil (drop t.count v.queue)) }
 
@@ -272,9 +247,6 @@ fits-joined queue due capacity h = (let l = length-append queue due in omega (ar
 -- What is pending is the same where the ring keeps its queue.
 pub still-pending : {R : Type 0} (view : R → RingView) (tells : Bool) (old new : Pending R) → KeepsPending view tells old new → IsTrue tells → (pending_ring view new).queue ≡ (pending_ring view old).queue
 still-pending view tells old new k t = ap (λ v. v.queue ++ new.due) (k.ring t) ∙ ap (λ xs. (view old.ring).queue ++ xs) k.due
-
-pub keeps-pending : {R : Type 0} (view : R → RingView) (tells : Bool) (a b c : Pending R) → KeepsPending view tells a b → KeepsPending view tells b c → KeepsPending view tells a c
-keeps-pending view tells a b c f g = record { due = g.due ∙ f.due; room = g.room ∙ f.room; ring = λ t. g.ring t ∙ ap (λ v. with_done v (view c.ring).done) (f.ring t) }
 
 -- A completion is taken off, behind which all that is pending stays.
 pub taken-behind : {R : Type 0} (view : R → RingView) (old new : Pending R) (rest : List Completion) → view new.ring ≡ with_done (view old.ring) rest → new.due ≡ old.due → pending_ring view new ≡ with_done (pending_ring view old) rest

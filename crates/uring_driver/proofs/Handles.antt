@@ -7,6 +7,8 @@ use Rattle.ring_core.specs.Refusal.{lacks_handle}
 use Rattle.uring_driver.specs.declared.uring.IoUringDriver.{IoUringDriver}
 use Rattle.uring_driver.specs.State.{AreInWorld}
 use Rattle.uring_driver.specs.Uring.{is_among, first_with, holds_handle, holds_all}
+use Rattle.ring_core.proofs.Numbers.{and-left, and-right}
+use Rattle.uring_driver.proofs.Steps.{past-test}
 
 -- No handle was given.
 pub none-among : (h : ℕ) → is_among 0 0 h ≡ nat_lt h 0
@@ -24,19 +26,8 @@ lt-is a b h = grind (arith, nat_tests)
 le-of : (a b : ℕ) → nat_le a b ≡ true → a ≤ b
 le-of a b h = grind (arith, nat_tests)
 
-le-is : (a b : ℕ) → a ≤ b → nat_le a b ≡ true
-le-is a b h = grind (arith, nat_tests)
-
 and-true : (a b : Bool) → a ≡ true → b ≡ true → (a && b) ≡ true
 and-true a b p q = ap (λ x. x && b) p ∙ q
-
-and-left : (a b : Bool) → (a && b) ≡ true → a ≡ true
-and-left true b h = refl
-and-left false b h = h
-
-and-right : (a b : Bool) → (a && b) ≡ true → b ≡ true
-and-right true b h = h
-and-right false b h = (let f : ⊥ = cc in absurd f)
 
 from-zero : (count k : ℕ) → is_among 0 count k ≡ nat_lt k count
 from-zero count k = grind (arith, nat_tests)
@@ -52,7 +43,7 @@ no-more first (suc n) all = absurd (none-of first 0 (all 0 ∙ lt-is 0 (suc n) (
 
 first-is : (first m n : ℕ) → ((k : ℕ) → is_among first (suc m) k ≡ nat_lt k n) → first ≡ 0
 first-is first m n all =
-    let here : is_among first (suc m) first ≡ true = and-true (nat_le first first) (nat_lt (first - first) (suc m)) (le-is first first (omega arith)) (lt-is (first - first) (suc m) (omega arith)) in
+    let here : is_among first (suc m) first ≡ true = and-true (nat_le first first) (nat_lt (first - first) (suc m)) (past-test first first (omega arith)) (lt-is (first - first) (suc m) (omega arith)) in
     let l : first < n = lt-of first n (sym (all first) ∙ here) in
     let z : is_among first (suc m) 0 ≡ true = all 0 ∙ lt-is 0 n (omega (arith, l)) in
     let b : first ≤ 0 = le-of first 0 (and-left (nat_le first 0) (nat_lt (0 - first) (suc m)) z) in
@@ -108,7 +99,7 @@ among-below first count h is =
 -- The last of some is among them.
 last-among : (first m : ℕ) → is_among first (suc m) (first + m) ≡ true
 last-among first m =
-    and-true (nat_le first (first + m)) (nat_lt (first + m - first) (suc m)) (le-is first (first + m) (omega arith)) (lt-is (first + m - first) (suc m) (omega arith))
+    and-true (nat_le first (first + m)) (nat_lt (first + m - first) (suc m)) (past-test first (first + m) (omega arith)) (lt-is (first + m - first) (suc m) (omega arith))
 
 -- No handle is held: each is one of the ring's.
 pub in-world-none : (count : ℕ) → AreInWorld 0 0 count
