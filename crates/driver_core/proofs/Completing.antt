@@ -11,36 +11,42 @@ use Rattle.ring_core.specs.declared.entry.Completion.{Completion}
 use Rattle.driver_core.specs.declared.slot.Slot.{Slot}
 use Rattle.driver_core.specs.Slot.{with_life, is_flying, flies_in, task_in, slots_completed, named_by, named_if, slots_if, slots_after, CompletesSlot}
 
+-- A life that completing keeps has no task that waits.
 task-kept : (l : Lifecycle Outcome) → after_complete l ≡ Kept → task_in l ≡ None
 task-kept Submitted h = refl
 task-kept (Waiting t) h = (let f : ⊥ = cc in absurd f)
 task-kept Ignored h = refl
 task-kept (Completed r) h = refl
 
+-- A life whose completion wakes a task has that task waiting.
 task-wake : (l : Lifecycle Outcome) (task : ℕ) → after_complete l ≡ Wake task → task_in l ≡ Some task
 task-wake Submitted task h = (let f : ⊥ = cc in absurd f)
 task-wake (Waiting t) task h = (let e : t ≡ task = cc in ap (λ x. Some x) e)
 task-wake Ignored task h = (let f : ⊥ = cc in absurd f)
 task-wake (Completed r) task h = (let f : ⊥ = cc in absurd f)
 
+-- A life that completing frees has no task that waits.
 task-free : (l : Lifecycle Outcome) → after_complete l ≡ Free → task_in l ≡ None
 task-free Submitted h = refl
 task-free (Waiting t) h = (let f : ⊥ = cc in absurd f)
 task-free Ignored h = refl
 task-free (Completed r) h = refl
 
+-- A slot that completing keeps is written at its key.
 slots-kept : {B : Type 0} (l : Lifecycle Outcome) (m : FinMap nat_cmp (Slot B)) (k : ℕ) (x : Slot B) → after_complete l ≡ Kept → slots_completed l m k x ≡ insert m k x
 slots-kept Submitted m k x h = refl
 slots-kept (Waiting t) m k x h = refl
 slots-kept Ignored m k x h = (let f : ⊥ = cc in absurd f)
 slots-kept (Completed r) m k x h = refl
 
+-- A slot whose completion wakes a task is written at its key.
 slots-wake : {B : Type 0} (l : Lifecycle Outcome) (m : FinMap nat_cmp (Slot B)) (k : ℕ) (x : Slot B) (task : ℕ) → after_complete l ≡ Wake task → slots_completed l m k x ≡ insert m k x
 slots-wake Submitted m k x task h = refl
 slots-wake (Waiting t) m k x task h = refl
 slots-wake Ignored m k x task h = (let f : ⊥ = cc in absurd f)
 slots-wake (Completed r) m k x task h = refl
 
+-- A slot that completing frees is removed after it is written.
 slots-free : {B : Type 0} (l : Lifecycle Outcome) (m : FinMap nat_cmp (Slot B)) (k : ℕ) (x : Slot B) → after_complete l ≡ Free → slots_completed l m k x ≡ remove (insert m k x) k
 slots-free Submitted m k x h = (let f : ⊥ = cc in absurd f)
 slots-free (Waiting t) m k x h = (let f : ⊥ = cc in absurd f)

@@ -18,12 +18,14 @@ skip zero i = suc i
 skip (suc p) zero = zero
 skip (suc p) (suc i) = suc (skip p i)
 
+-- No element had the place that was removed.
 pub skip-not : (p i : ℕ) → skip p i ≢ p
 unfolding skip
 skip-not zero i e = cc
 skip-not (suc p) zero e = cc
 skip-not (suc p) (suc i) e = skip-not p i (cc)
 
+-- Places that come from one place are one.
 pub skip-one : (p i j : ℕ) → skip p i ≡ skip p j → i ≡ j
 unfolding skip
 skip-one zero i j e = cc
@@ -32,6 +34,7 @@ skip-one (suc p) zero (suc j) e = cc
 skip-one (suc p) (suc i) zero e = cc
 skip-one (suc p) (suc i) (suc j) e = ap suc (skip-one p i j (cc))
 
+-- What stands at a place after a removal stood at the place that it had before.
 pub get-removed : {A : Type 0} (xs : List A) (p i : ℕ) → slice_get (remove xs p) i ≡ slice_get xs (skip p i)
 unfolding skip
 get-removed [] zero i = refl
@@ -40,6 +43,7 @@ get-removed (x ∷ xs) zero i = refl
 get-removed (x ∷ xs) (suc p) zero = refl
 get-removed (x ∷ xs) (suc p) (suc i) = get-removed xs p i
 
+-- A removal from a mapped list is that from the list, mapped.
 pub map-removed : {A B : Type 0} (f : A → B) (xs : List A) (p : ℕ) → map f (remove xs p) ≡ remove (map f xs) p
 map-removed f [] zero = refl
 map-removed f [] (suc p) = refl
@@ -52,6 +56,7 @@ get-map f [] i x h = cc
 get-map f (y ∷ xs) zero x h = let e : y ≡ x = cc in ap (λ z. Some (f z)) e
 get-map f (y ∷ xs) (suc i) x h = get-map f xs i x h
 
+-- What stands in a mapped list is the map of what stands there in the list.
 pub map-get : {A B : Type 0} (f : A → B) (xs : List A) (i : ℕ) (y : B) → slice_get (map f xs) i ≡ Some y → (x : A) × (slice_get xs i ≡ Some x) × (y ≡ f x)
 map-get f [] i y h = cc
 map-get f (x ∷ xs) zero y h = (x, refl, (let e : f x ≡ y = cc in sym e))
@@ -64,6 +69,7 @@ get-pushed [] y (suc i) z h = cc
 get-pushed (x ∷ xs) y zero z h = inl h
 get-pushed (x ∷ xs) y (suc i) z h = elim (get-pushed xs y i z h) [ inl e ↦ inl e | inr e ↦ inr (ap suc e.0, e.1) ]
 
+-- What stands in a list stands where it was after others are appended.
 pub get-front : {A : Type 0} (xs ys : List A) (i : ℕ) (z : A) → slice_get xs i ≡ Some z → slice_get (xs ++ ys) i ≡ Some z
 get-front [] ys i z h = cc
 get-front (x ∷ xs) ys zero z h = h

@@ -19,18 +19,21 @@ owned-kept (Waiting t) h = refl
 owned-kept Ignored h = (let f : ⊥ = cc in absurd f)
 owned-kept (Completed r) h = refl
 
+-- A slot whose completion wakes a task is its user's.
 pub owned-wake : (l : Lifecycle Outcome) (task : ℕ) → after_complete l ≡ Wake task → is_owned_life l ≡ true
 owned-wake Submitted task h = refl
 owned-wake (Waiting t) task h = refl
 owned-wake Ignored task h = (let f : ⊥ = cc in absurd f)
 owned-wake (Completed r) task h = refl
 
+-- A slot that completing frees is nobody's.
 pub owned-free : (l : Lifecycle Outcome) → after_complete l ≡ Free → is_owned_life l ≡ false
 owned-free Submitted h = (let f : ⊥ = cc in absurd f)
 owned-free (Waiting t) h = (let f : ⊥ = cc in absurd f)
 owned-free Ignored h = refl
 owned-free (Completed r) h = (let f : ⊥ = cc in absurd f)
 
+-- A slot that is its user's isn't ignored.
 pub owned-life : (l : Lifecycle Outcome) → is_owned_life l ≡ true → IsIgnored l → ⊥
 owned-life Submitted h i = i
 owned-life (Waiting t) h i = i
@@ -59,6 +62,7 @@ module _ {B : Type 0} (m : FinMap nat_cmp (Slot B)) (key : ℕ) (s : Slot B) (li
   pub keeps-freed : (new : FinMap nat_cmp (Slot B)) → is_owned_life s.life ≡ false → new ≡ remove (insert m key (record s { life = life })) key → KeepsNumbers m new
   keeps-freed new owned gone = subst (λ x. KeepsNumbers m x) (sym (gone ∙ remove-put m key (record s { life = life }))) (keeps-gone m key s there owned)
 
+-- A slot that has a number is its user's, and was given that number.
 number-owned : (b : Bool) (serial number : ℕ) → number_if b serial ≡ Some number → (b ≡ true) × (serial ≡ number)
 number-owned true serial number h = (refl, cc)
 number-owned false serial number h = cc
@@ -70,9 +74,11 @@ pub record Owner {B : Type 0} (m : FinMap nat_cmp (Slot B)) (key number : ℕ) :
   pub serial : slot.serial ≡ number
   pub owned : is_owned_life slot.life ≡ true
 
+-- What stands at the key of a number is its slot.
 owner-at : {B : Type 0} (m : FinMap nat_cmp (Slot B)) (key number : ℕ) (x : Option (Slot B)) → get m key ≡ x → serial_of x ≡ Some number → Owner m key number
 owner-at m key number None h n = cc
 owner-at m key number (Some s) h n = (let b = number-owned (is_owned_life s.life) s.serial number n in record { slot = s; there = h; serial = b.1; owned = b.0 })
 
+-- A number at a key has a slot there.
 pub owner : {B : Type 0} (m : FinMap nat_cmp (Slot B)) (key number : ℕ) → number_at m key ≡ Some number → Owner m key number
 owner m key number h = owner-at m key number (get m key) refl h

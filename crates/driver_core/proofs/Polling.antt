@@ -17,18 +17,21 @@ use Rattle.driver_core.specs.Slot.{with_life, is_flying, PollsSlot, PollsThis, P
 use Rattle.driver_core.proofs.Lists.{some}
 use Rattle.driver_core.proofs.Maps.{put-same, remove-put}
 
+-- A slot whose poll is pending is in flight.
 flies-waits : (l : Lifecycle Outcome) → after_poll l ≡ Pending → is_flying l ≡ true
 flies-waits Submitted e = refl
 flies-waits (Waiting t) e = refl
 flies-waits Ignored e = refl
 flies-waits (Completed r) e = cc
 
+-- A poll that takes an outcome leaves the life as it was.
 polled-take : (l : Lifecycle Outcome) (task : ℕ) → after_poll l ≡ Take → polled l task ≡ l
 polled-take Submitted task e = cc
 polled-take (Waiting t) task e = cc
 polled-take Ignored task e = cc
 polled-take (Completed r) task e = refl
 
+-- A slot whose outcome a poll takes is completed.
 completed-take : (l : Lifecycle Outcome) (task : ℕ) → after_poll l ≡ Take → IsCompleted (polled l task)
 completed-take Submitted task e = let f : ⊥ = cc in absurd f
 completed-take (Waiting t) task e = let f : ⊥ = cc in absurd f
@@ -66,12 +69,14 @@ ignored-left (Waiting t) h = refl
 ignored-left Ignored h = refl
 ignored-left (Completed r) h = cc
 
+-- A slot that a drop leaves is in flight.
 flies-left : (l : Lifecycle Outcome) → after_drop l ≡ Left → is_flying l ≡ true
 flies-left Submitted h = refl
 flies-left (Waiting task) h = refl
 flies-left Ignored h = refl
 flies-left (Completed r) h = cc
 
+-- A slot that a drop frees isn't in flight.
 flies-free : (l : Lifecycle Outcome) → after_drop l ≡ Free → is_flying l ≡ false
 flies-free Submitted h = cc
 flies-free (Waiting task) h = cc

@@ -20,6 +20,7 @@ use Rattle.driver_core.proofs.Lists.{some}
 use Rattle.driver_core.proofs.Maps.{put-same, put-other, gone-same, gone-other}
 use Rattle.driver_core.proofs.Numbers.{Owner, owner, owned-life, keeps-put}
 
+-- Where each slot keeps its number, the same tokens are held.
 pub tokens-kept : {B : Type 0} (old new : FinMap nat_cmp (Slot B)) → KeepsNumbers old new → (op : Op) → (number_at old op.key ≡ Some (number_of op)) ↔ (number_at new op.key ≡ Some (number_of op))
 tokens-kept old new keeps op = (λ h. keeps op.key ∙ h, λ h. sym (keeps op.key) ∙ h)
 
@@ -44,6 +45,7 @@ drops-token old new op holds gone kept o = (
   ],
 )
 
+-- A poll leaves whether a slot is its user's.
 polled-owned : (l : Lifecycle Outcome) (task : ℕ) → is_owned_life (polled l task) ≡ is_owned_life l
 polled-owned Submitted task = refl
 polled-owned (Waiting t) task = refl

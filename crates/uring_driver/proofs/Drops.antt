@@ -53,12 +53,14 @@ cancel-joins view tells steady old mid new op key number live k n ring due room 
     (subst (λ e. PendingMoves (pending_ring view mid).queue (pending_ring view new).queue (e ∷ [])) (ap (cancel_entry key) n ∙ ap (λ x. cancel_entry x op.number) k)
     (moves-join (pending_ring view mid) j.0 (pending_ring view new) (cancel_entry key number) (view new.ring).spare j.1 j.2))
 
+-- A drop leaves a slot that is in flight.
 leaves : (l : Lifecycle Outcome) → is_flying l ≡ true → after_drop l ≡ Left
 leaves Submitted h = refl
 leaves (Waiting task) h = refl
 leaves Ignored h = refl
 leaves (Completed r) h = (let f : ⊥ = cc in absurd f)
 
+-- A drop frees a slot that isn't in flight.
 frees : (l : Lifecycle Outcome) → is_flying l ≡ false → after_drop l ≡ Free
 frees Submitted h = (let f : ⊥ = cc in absurd f)
 frees (Waiting task) h = (let f : ⊥ = cc in absurd f)

@@ -18,21 +18,25 @@ flying-joined : (flying : List Flight) (xs ys : List Entry) → flying_after fly
 flying-joined flying [] ys = refl
 flying-joined flying (x ∷ xs) ys = flying-joined (flying_after_entry flying x x.body) xs ys
 
+-- What is done by two parts is done by one.
 done-joined : (done : List Completion) (xs ys : List Entry) → done_after done (xs ++ ys) ≡ done_after (done_after done xs) ys
 done-joined done [] ys = refl
 done-joined done (x ∷ xs) ys = done-joined (done_after_entry done x x.body) xs ys
 
+-- What is left without one prefix, then without another, is left without both at once.
 drop-more : {A : Type 0} (m n : ℕ) (xs : List A) → drop n (drop m xs) ≡ drop (m + n) xs
 drop-more {A} zero n xs = ap (λ k. drop k xs) (let z : n ≡ 0 + n = omega arith in z)
 drop-more {A} (suc m) zero [] = ap (λ k. drop {A = A} k []) (let z : suc m ≡ suc m + 0 = omega arith in z)
 drop-more {A} (suc m) (suc n) [] = ap (λ k. drop {A = A} k []) (let z : suc (m + suc n) ≡ suc m + suc n = omega arith in z)
 drop-more {A} (suc m) n (x ∷ xs) = drop-more m n xs ∙ ap (λ k. drop k (x ∷ xs)) (let z : suc (m + n) ≡ suc m + n = omega arith in z)
 
+-- A prefix no longer than a list is the same whatever stands behind the list.
 take-front : {A : Type 0} (n : ℕ) (xs ys : List A) → n ≤ length xs → take n (xs ++ ys) ≡ take n xs
 take-front zero xs ys h = refl
 take-front (suc n) [] ys h = absurd (omega (arith, h))
 take-front (suc n) (x ∷ xs) ys h = ap (λ zs. x ∷ zs) (take-front n xs ys (omega (arith, h)))
 
+-- What is left without such a prefix has behind it what stood behind the list.
 drop-front : {A : Type 0} (n : ℕ) (xs ys : List A) → n ≤ length xs → drop n (xs ++ ys) ≡ drop n xs ++ ys
 drop-front zero xs ys h = refl
 drop-front (suc n) [] ys h = absurd (omega (arith, h))
@@ -72,6 +76,7 @@ took-behind n v w due t = record {
   };
 }
 
+-- A ring that is entered took its whole queue.
 took-entered : (v : RingView) → TookFront (length v.queue) v (entered v)
 took-entered v = record {
   within = omega arith;
@@ -157,10 +162,12 @@ module _ {R : Type 0} (view : R → RingView) (tells : Bool) where
   pub same-pending : (a b c : Pending R) → pending_ring view b ≡ with_spare (pending_ring view a) (view b.ring).spare → pending_ring view c ≡ with_spare (pending_ring view b) (view c.ring).spare → pending_ring view c ≡ with_spare (pending_ring view a) (view c.ring).spare
   same-pending a b c f g = g ∙ ap (λ x. with_spare x (view c.ring).spare) f
 
+-- Another number of pushes changes nothing of the room that is made.
 room-spare : (v : RingView) (spare : ℕ) (b : Bool) → (if b then entered (with_spare v spare) else with_spare v spare) ≡ with_spare (if b then entered v else v) spare
 room-spare v spare true = refl
 room-spare v spare false = refl
 
+-- Where nothing is due, the ring is as it is.
 none-behind : (v : RingView) (due : List Entry) → due ≡ [] → with_due v due ≡ v
 none-behind v due h = ap (with_due v) h ∙ ap (λ q. record v { queue = q }) (append-nil v.queue)
 
@@ -174,6 +181,7 @@ module _ {R : Type 0} (view : R → RingView) where
       let is : view new.ring ≡ with_spare (room_made P) (view mid.ring).spare = room ∙ ap room_made (sym (none-behind (view mid.ring) mid.due none) ∙ pend) ∙ room-spare P (view mid.ring).spare b in
       none-behind (view new.ring) new.due (same ∙ none) ∙ is ∙ ap (with_spare (room_made P)) (sym (ap (λ x. x.spare) is))
 
+-- What holds anyway holds of an answer that isn't Ok.
 pub on-err : {T E P : Type 0} (result : Result T E) → P → OnErr result P
 on-err (Ok x) p = tt
 on-err (Err e) p = p
@@ -223,6 +231,7 @@ module _ {R : Type 0} (view : R → RingView) (tells : Bool) where
     joins-steady (Err Fault) none room kept s = absurd (kept.1 s)
     joins-steady (Err Busy) none room kept s = absurd (kept.1 s)
 
+-- A prefix of what is pending was taken, and nothing joined.
 pub moves-front : (v w : RingView) (ys : List Entry) → TakesFront v w → ys ≡ w.queue → PendingMoves v.queue ys []
 moves-front v w ys t h = record { count = t.count; within = t.took.within; moved = h ∙ t.took.queue ∙ sym (append-nil (drop t.count v.queue)) }
 
@@ -238,9 +247,11 @@ none-pending queue due q d = ap (λ x. x ++ due) q ∙ d
 pub later-behind : (v w : RingView) (due due' : List Entry) → IsLater v w → IsLater (with_due v due) (with_due w due')
 later-behind v w due due' l = record { same_capacity = l.same_capacity; more_handles = l.more_handles; more_faults = l.more_faults; more_busies = l.more_busies }
 
+-- What fits behind the queue fits beside it.
 pub fits-split : (queue due : List Entry) (capacity : ℕ) → length (queue ++ due) ≤ capacity → length queue + length due ≤ capacity
 fits-split queue due capacity h = (let l = length-append queue due in omega (arith, l, h))
 
+-- What fits beside the queue fits behind it.
 pub fits-joined : (queue due : List Entry) (capacity : ℕ) → length queue + length due ≤ capacity → length (queue ++ due) ≤ capacity
 fits-joined queue due capacity h = (let l = length-append queue due in omega (arith, l, h))
 

@@ -14,21 +14,27 @@ use Rattle.uring_driver.proofs.Steps.{past-test}
 pub none-among : (h : ℕ) → is_among 0 0 h ≡ nat_lt h 0
 none-among h = grind (arith, nat_tests)
 
+-- A number that the test finds below another is below it.
 lt-of : (a b : ℕ) → nat_lt a b ≡ true → a < b
 lt-of a b h = grind (arith, nat_tests)
 
+-- A number that the test doesn't find below another is at least it.
 ge-of : (a b : ℕ) → nat_lt a b ≡ false → b ≤ a
 ge-of a b h = grind (arith, nat_tests)
 
+-- The test finds a number that is below another below it.
 lt-is : (a b : ℕ) → a < b → nat_lt a b ≡ true
 lt-is a b h = grind (arith, nat_tests)
 
+-- A number that the test finds at most another is at most it.
 le-of : (a b : ℕ) → nat_le a b ≡ true → a ≤ b
 le-of a b h = grind (arith, nat_tests)
 
+-- Where two tests hold, their conjunction does.
 and-true : (a b : Bool) → a ≡ true → b ≡ true → (a && b) ≡ true
 and-true a b p q = ap (λ x. x && b) p ∙ q
 
+-- Among the first handles are those below their count.
 from-zero : (count k : ℕ) → is_among 0 count k ≡ nat_lt k count
 from-zero count k = grind (arith, nat_tests)
 
@@ -41,6 +47,7 @@ no-more : (first n : ℕ) → ((k : ℕ) → is_among first 0 k ≡ nat_lt k n) 
 no-more first zero all = refl
 no-more first (suc n) all = absurd (none-of first 0 (all 0 ∙ lt-is 0 (suc n) (omega arith)))
 
+-- Where there are some, all below a number, the first is 0.
 first-is : (first m n : ℕ) → ((k : ℕ) → is_among first (suc m) k ≡ nat_lt k n) → first ≡ 0
 first-is first m n all =
     let here : is_among first (suc m) first ≡ true = and-true (nat_le first first) (nat_lt (first - first) (suc m)) (past-test first first (omega arith)) (lt-is (first - first) (suc m) (omega arith)) in
@@ -49,15 +56,18 @@ first-is first m n all =
     let b : first ≤ 0 = le-of first 0 (and-left (nat_le first 0) (nat_lt (0 - first) (suc m)) z) in
     omega (arith, b)
 
+-- The test finds no number below itself.
 lt-refl : (a : ℕ) → nat_lt a a ≡ false
 lt-refl a = grind (arith, nat_tests)
 
+-- Two counts with the same numbers below them are the same.
 count-is : (count n : ℕ) → ((k : ℕ) → nat_lt k count ≡ nat_lt k n) → count ≡ n
 count-is count n all =
     let a = ge-of count n (sym (all count) ∙ lt-refl count) in
     let b = ge-of n count (all n ∙ lt-refl n) in
     omega (arith, a, b)
 
+-- A number that follows another isn't 0.
 not-zero : (m : ℕ) → (suc m == 0) ≡ false
 not-zero m = grind (arith, nat_tests)
 
@@ -71,9 +81,11 @@ one-more first (suc m) n all k = (
     let c : suc m ≡ n = count-is (suc m) n (λ j. sym (from-zero (suc m) j) ∙ ap (λ x. is_among x (suc m) j) (sym f) ∙ all j) in
     ap (λ b. is_among (if b then n else first) (suc m + 1) k) (not-zero m) ∙ ap (λ x. is_among x (suc m + 1) k) f ∙ from-zero (suc m + 1) k ∙ ap (λ x. nat_lt k (x + 1)) c)
 
+-- Beside no handle there is one alone.
 beside-none : (first h k : ℕ) → is_among h (0 + 1) k ≡ (is_among first 0 k || k == h)
 beside-none first h k = grind (arith, nat_tests)
 
+-- Beside some there is the one that follows them.
 beside-more : (first held h k : ℕ) → h ≡ first + held → is_among first (held + 1) k ≡ (is_among first held k || k == h)
 beside-more first held h k e = grind (arith, nat_tests)
 
@@ -109,6 +121,7 @@ in-world-none count h is = absurd (none-of 0 h is)
 pub in-world-more : (first held count count' : ℕ) → count ≤ count' → AreInWorld first held count → AreInWorld first held count'
 in-world-more first held count count' more all h is = (let a = all h is in omega (arith, a, more))
 
+-- The ring's handles stay as many.
 pub in-world-same : (first held count count' : ℕ) → count' ≡ count → AreInWorld first held count → AreInWorld first held count'
 in-world-same first held count count' same all h is = (let a = all h is in omega (arith, a, same))
 

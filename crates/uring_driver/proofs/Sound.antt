@@ -15,6 +15,7 @@ use Rattle.ring_core.proofs.Numbers.{same-or-not}
 use Rattle.driver_core.proofs.Maps.{gone-other, len-new, len-gone}
 use Rattle.driver_core.proofs.Numbers.{owner}
 
+-- An option without a value has none.
 none-some : {X : Type 0} (x : X) (o : Option X) → o ≡ None → o ≡ Some x → ⊥
 none-some {X} x o n s = (let z : ◌≡◌ {A = Option X} None (Some x) = sym n ∙ s in cc)
 
@@ -26,6 +27,7 @@ sound-shrinks room room' slots slots' s more sub = record {
   all = λ key number h. s.all key number (sub key number h);
 }
 
+-- Slots that keep their numbers, and no less room.
 pub sound-keeps : {B : Type 0} (room room' : ℕ) (slots slots' : FinMap nat_cmp (Slot B)) → IsSound room slots → room ≤ room' → KeepsNumbers slots slots' → IsSound room' slots'
 sound-keeps room room' slots slots' s more keeps = sound-shrinks room room' slots slots' s more (λ key number h. sym (keeps key) ∙ h)
 
@@ -37,6 +39,7 @@ sound-empty {B} room slots fresh = record {
   all = λ key number h. absurd (none-some number (number_at slots key) (ap (λ m. number_at m key) fresh ∙ ap serial_of (get-empty {X = Slot B} nat_cmp key)) h);
 }
 
+-- A slot that has a number is there.
 there : {B : Type 0} (slots : FinMap nat_cmp (Slot B)) (key number : ℕ) → number_at slots key ≡ Some number → IsSome (get slots key)
 there slots key number h = subst (λ o. IsSome o) (sym (owner slots key number h).there) refl
 
@@ -52,14 +55,17 @@ sound-live room slots more = record {
 pub sound-more : {B : Type 0} (room : ℕ) (slots slots' : FinMap nat_cmp (Slot B)) (key : ℕ) (t : Slot B) → get slots key ≡ None → slots' ≡ insert slots key t → len slots + 1 ≤ room → IsSound room slots'
 sound-more room slots slots' key t free is more = sound-live room slots' (let a = ap len is ∙ len-new slots key t free in omega (arith, a, more))
 
+-- The value of an option that has one.
 value-of : {X : Type 0} (o : Option X) → IsSome o → (x : X) × (o ≡ Some x)
 value-of None h = (let f : ⊥ = cc in absurd f)
 value-of (Some x) h = (x, refl)
 
+-- A number that isn't 0 is above 0.
 positive : (k : ℕ) → (k ≡ 0 → ⊥) → 0 < k
 positive zero h = absurd (h refl)
 positive (suc k) h = omega arith
 
+-- A map with something at a key has at least one key.
 has-key : {B : Type 0} (m : FinMap nat_cmp (Slot B)) (key : ℕ) → IsSome (get m key) → 0 < len m
 has-key {B} m key h = positive (len m) (λ z.
     let v = value-of (get m key) h in
