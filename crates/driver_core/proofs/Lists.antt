@@ -1,5 +1,6 @@
 -- Lists by place.
-use Rattle.std.proofs.Common.{◌≡◌, ◌≢◌, ◌⊎◌, inl, inr, ℕ, zero, suc, ◌≤◌, List, [], ◌∷◌, ◌++◌, length, map, Option, Some, None, refl, sym, ◌∙◌, ap, arith}
+use Rattle.std.proofs.Common.{◌≡◌, ◌≢◌, ◌⊎◌, inl, inr, ℕ, zero, suc, ◌≤◌, List, [], ◌∷◌, ◌++◌, length, map, Option, Some, None, refl, sym}
+use Rattle.std.proofs.Common.{◌∙◌, ap, arith}
 use Rattle.std.specs.Prelude.{slice_get, remove}
 use Rattle.ring_core.specs.Lists.{amended}
 
@@ -57,13 +58,15 @@ get-map f (y ∷ xs) zero x h = let e : y ≡ x = cc in ap (λ z. Some (f z)) e
 get-map f (y ∷ xs) (suc i) x h = get-map f xs i x h
 
 -- What stands in a mapped list is the map of what stands there in the list.
-pub map-get : {A B : Type 0} (f : A → B) (xs : List A) (i : ℕ) (y : B) → slice_get (map f xs) i ≡ Some y → (x : A) × (slice_get xs i ≡ Some x) × (y ≡ f x)
+pub map-get : {A B : Type 0} (f : A → B) (xs : List A) (i : ℕ) (y : B) → slice_get (map f xs) i ≡ Some y →
+    (x : A) × (slice_get xs i ≡ Some x) × (y ≡ f x)
 map-get f [] i y h = cc
 map-get f (x ∷ xs) zero y h = (x, refl, (let e : f x ≡ y = cc in sym e))
 map-get f (x ∷ xs) (suc i) y h = map-get f xs i y h
 
 -- A place of a list with one more element at its end.
-pub get-pushed : {A : Type 0} (xs : List A) (y : A) (i : ℕ) (z : A) → slice_get (xs ++ y ∷ []) i ≡ Some z → (slice_get xs i ≡ Some z) ⊎ ((i ≡ length xs) × (z ≡ y))
+pub get-pushed : {A : Type 0} (xs : List A) (y : A) (i : ℕ) (z : A) → slice_get (xs ++ y ∷ []) i ≡ Some z →
+    (slice_get xs i ≡ Some z) ⊎ ((i ≡ length xs) × (z ≡ y))
 get-pushed [] y zero z h = inr (refl, cc)
 get-pushed [] y (suc i) z h = cc
 get-pushed (x ∷ xs) y zero z h = inl h
@@ -82,7 +85,8 @@ amended-absent (x ∷ xs) zero f h = cc
 amended-absent (x ∷ xs) (suc n) f h = ap (λ zs. x ∷ zs) (amended-absent xs n f h)
 
 -- Two changes that do the same to the element.
-pub amended-like : {A : Type 0} (xs : List A) (n : ℕ) (f g : A → A) (x : A) → slice_get xs n ≡ Some x → f x ≡ g x → amended xs n f ≡ amended xs n g
+pub amended-like : {A : Type 0} (xs : List A) (n : ℕ) (f g : A → A) (x : A) → slice_get xs n ≡ Some x → f x ≡ g x →
+    amended xs n f ≡ amended xs n g
 amended-like [] n f g x h e = refl
 amended-like (y ∷ xs) zero f g x h e = (let s : y ≡ x = cc in ap (λ z. z ∷ xs) (ap f s ∙ e ∙ ap g (sym s)))
 amended-like (y ∷ xs) (suc n) f g x h e = ap (λ zs. y ∷ zs) (amended-like xs n f g x h e)

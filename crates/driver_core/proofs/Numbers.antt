@@ -41,26 +41,31 @@ owned-life Ignored h i = cc
 owned-life (Completed r) h i = i
 
 -- A slot that is written with its number, and belongs to whom it did.
-pub keeps-put : {B : Type 0} (m : FinMap nat_cmp (Slot B)) (key : ℕ) (s t : Slot B) → get m key ≡ Some s → t.serial ≡ s.serial → is_owned_life t.life ≡ is_owned_life s.life → KeepsNumbers m (insert m key t)
+pub keeps-put : {B : Type 0} (m : FinMap nat_cmp (Slot B)) (key : ℕ) (s t : Slot B) → get m key ≡ Some s → t.serial ≡ s.serial →
+    is_owned_life t.life ≡ is_owned_life s.life → KeepsNumbers m (insert m key t)
 keeps-put m key s t there serial owned k = elim (same-or-not k key) [
   | inl e ↦ ap (number_at (insert m key t)) e ∙ ap serial_of (put-same m key t) ∙ ap (λ b. number_if b t.serial) owned ∙ ap (number_if (is_owned_life s.life)) serial ∙ sym (ap serial_of (ap (get m) e ∙ there))
   | inr e ↦ ap serial_of (put-other m key t k e)
 ]
 
 -- A slot that was nobody's is freed.
-pub keeps-gone : {B : Type 0} (m : FinMap nat_cmp (Slot B)) (key : ℕ) (s : Slot B) → get m key ≡ Some s → is_owned_life s.life ≡ false → KeepsNumbers m (remove m key)
+pub keeps-gone : {B : Type 0} (m : FinMap nat_cmp (Slot B)) (key : ℕ) (s : Slot B) → get m key ≡ Some s → is_owned_life s.life ≡ false →
+    KeepsNumbers m (remove m key)
 keeps-gone m key s there owned k = elim (same-or-not k key) [
   | inl e ↦ ap (number_at (remove m key)) e ∙ ap serial_of (gone-same m key) ∙ sym (ap serial_of (ap (get m) e ∙ there) ∙ ap (λ b. number_if b s.serial) owned)
   | inr e ↦ ap serial_of (gone-other m key k e)
 ]
 
 -- A slot is completed, or freed.
-module _ {B : Type 0} (m : FinMap nat_cmp (Slot B)) (key : ℕ) (s : Slot B) (life : Lifecycle Outcome) (r : Outcome) (there : get m key ≡ Some s) (completed : life ≡ Completed r) where
+module _ {B : Type 0} (m : FinMap nat_cmp (Slot B)) (key : ℕ) (s : Slot B) (life : Lifecycle Outcome) (r : Outcome)
+    (there : get m key ≡ Some s) (completed : life ≡ Completed r) where
   pub keeps-completed : is_owned_life s.life ≡ true → KeepsNumbers m (insert m key (record s { life = life }))
   keeps-completed owned = keeps-put m key s (record s { life = life }) there refl (ap is_owned_life completed ∙ sym owned)
 
-  pub keeps-freed : (new : FinMap nat_cmp (Slot B)) → is_owned_life s.life ≡ false → new ≡ remove (insert m key (record s { life = life })) key → KeepsNumbers m new
-  keeps-freed new owned gone = subst (λ x. KeepsNumbers m x) (sym (gone ∙ remove-put m key (record s { life = life }))) (keeps-gone m key s there owned)
+  pub keeps-freed : (new : FinMap nat_cmp (Slot B)) → is_owned_life s.life ≡ false →
+      new ≡ remove (insert m key (record s { life = life })) key → KeepsNumbers m new
+  keeps-freed new owned gone =
+      subst (λ x. KeepsNumbers m x) (sym (gone ∙ remove-put m key (record s { life = life }))) (keeps-gone m key s there owned)
 
 -- A slot that has a number is its user's, and was given that number.
 number-owned : (b : Bool) (serial number : ℕ) → number_if b serial ≡ Some number → (b ≡ true) × (serial ≡ number)
@@ -75,9 +80,11 @@ pub record Owner {B : Type 0} (m : FinMap nat_cmp (Slot B)) (key number : ℕ) :
   pub owned : is_owned_life slot.life ≡ true
 
 -- What stands at the key of a number is its slot.
-owner-at : {B : Type 0} (m : FinMap nat_cmp (Slot B)) (key number : ℕ) (x : Option (Slot B)) → get m key ≡ x → serial_of x ≡ Some number → Owner m key number
+owner-at : {B : Type 0} (m : FinMap nat_cmp (Slot B)) (key number : ℕ) (x : Option (Slot B)) → get m key ≡ x → serial_of x ≡ Some number →
+    Owner m key number
 owner-at m key number None h n = cc
-owner-at m key number (Some s) h n = (let b = number-owned (is_owned_life s.life) s.serial number n in record { slot = s; there = h; serial = b.1; owned = b.0 })
+owner-at m key number (Some s) h n =
+    (let b = number-owned (is_owned_life s.life) s.serial number n in record { slot = s; there = h; serial = b.1; owned = b.0 })
 
 -- A number at a key has a slot there.
 pub owner : {B : Type 0} (m : FinMap nat_cmp (Slot B)) (key number : ℕ) → number_at m key ≡ Some number → Owner m key number

@@ -20,7 +20,8 @@ not-dropped true p t h = (let f : ⊥ = cc in absurd f)
 not-dropped false p t h = refl
 
 -- A slot that is its user's stands for an operation that is.
-pub owned-slot : {B : Type 0} (buffer : B → Buffer) (L : Ledger) (s : Slot B) → SlotFor buffer L.ops s → is_owned_life s.life ≡ true → Owned buffer L s
+pub owned-slot : {B : Type 0} (buffer : B → Buffer) (L : Ledger) (s : Slot B) → SlotFor buffer L.ops s → is_owned_life s.life ≡ true →
+    Owned buffer L s
 owned-slot buffer L s m h =
     let o = m.operation in
     let d = not-dropped o.dropped o.place o.task (sym (ap is_owned_life m.life) ∙ h) in

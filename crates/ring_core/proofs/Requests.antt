@@ -19,7 +19,8 @@ use Rattle.ring_core.specs.World.{input_at, with_output}
 use Rattle.ring_core.specs.Effect.{Effect, effect}
 use Rattle.ring_core.specs.Payloads.{comes}
 use Rattle.ring_core.specs.Outcome.{is_allowed, is_spent, may_read, may_send}
-use Rattle.ring_core.specs.Request.{named, way_of, held_of, map_request, shape_of, call_of, room_of, shown_by, sent_of, held_after, held, held_room}
+use Rattle.ring_core.specs.Request.{named, way_of, held_of, map_request, shape_of, call_of, room_of, shown_by, sent_of, held_after, held}
+use Rattle.ring_core.specs.Request.{held_room}
 use Rattle.ring_core.specs.Request.{held_want, held_shown, held_sent, IsHolding}
 use Rattle.ring_core.proofs.Numbers.{and-left, and-right, at_most-left}
 
@@ -146,7 +147,8 @@ effect-shown world canceled (WriteVec fd parts) (Count k) h =
     sent-shown world fd k (InParts parts) (most-sent (slice_get world fd) (length (held_sent (InParts parts))) k _ h)
 
 -- A request to which bytes come holds them afterwards.
-pub held-comes : (r : Request Buffer Parts) (told : Told) (got : List ℕ) → comes (call_of r) told ≡ true → held r told got ≡ held_after r got
+pub held-comes : (r : Request Buffer Parts) (told : Told) (got : List ℕ) → comes (call_of r) told ≡ true →
+    held r told got ≡ held_after r got
 held-comes r (Count k) got c = refl
 held-comes r (Fail e) got c = cc
 

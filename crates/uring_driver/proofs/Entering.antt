@@ -1,5 +1,6 @@
 -- Entering what is pending: prefixes of it are taken, one after another.
-use Rattle.std.proofs.Common.{◌≡◌, ℕ, zero, suc, ◌+◌, ◌-◌, ◌<◌, ◌≤◌, Bool, true, false, List, [], ◌∷◌, ◌++◌, length, take, drop, refl, sym, ◌∙◌, ap, subst, arith, append_assoc, append-nil, length-append, IsTrue, Result, Ok, Err}
+use Rattle.std.proofs.Common.{◌≡◌, ℕ, zero, suc, ◌+◌, ◌-◌, ◌<◌, ◌≤◌, Bool, true, false, List, [], ◌∷◌, ◌++◌, length, take, drop, refl, sym}
+use Rattle.std.proofs.Common.{◌∙◌, ap, subst, arith, append_assoc, append-nil, length-append, IsTrue, Result, Ok, Err}
 use Rattle.std.specs.Prelude.{OnOk, OnErr, IfErr, ◌==◌, if◌then◌else◌}
 use Rattle.std.proofs.lemmas.List.{length-drop}
 use Rattle.std.proofs.Math.Seq.{take-add, take-length, drop-length}
@@ -9,9 +10,11 @@ use Rattle.ring_core.specs.declared.entry.Flight.{Flight}
 use Rattle.ring_core.specs.declared.entry.Completion.{Completion}
 use Rattle.ring_core.specs.declared.ring.EnterError.{EnterError}
 use Rattle.ring_core.specs.declared.ring.EnterError.TheVariants.{Fault, Busy}
-use Rattle.ring_core.specs.Ring.{RingView, IsLater, TookFront, EntersFor, IsPushed, entered, pushed, with_done, flying_after_entry, flying_after, done_after_entry, done_after}
+use Rattle.ring_core.specs.Ring.{RingView, IsLater, TookFront, EntersFor, IsPushed, entered, pushed, with_done, flying_after_entry}
+use Rattle.ring_core.specs.Ring.{flying_after, done_after_entry, done_after}
 use Rattle.uring_driver.specs.Pending.{Pending}
-use Rattle.uring_driver.specs.Submissions.{with_spare, with_due, room_made, pending_ring, TakesFront, Enters, KeptOut, Posts, PendingMoves, KeepsPending}
+use Rattle.uring_driver.specs.Submissions.{with_spare, with_due, room_made, pending_ring, TakesFront, Enters, KeptOut, Posts, PendingMoves}
+use Rattle.uring_driver.specs.Submissions.{KeepsPending}
 
 -- What is taken in two parts is taken in one.
 flying-joined : (flying : List Flight) (xs ys : List Entry) → flying_after flying (xs ++ ys) ≡ flying_after (flying_after flying xs) ys
@@ -51,14 +54,19 @@ pub took-on : (a b c : RingView) → TakesFront a b → TakesFront b c → Takes
 took-on a b c f g =
     let m = f.count in
     let n = g.count in
-    let front : take (m + n) a.queue ≡ take m a.queue ++ take n b.queue = take-add m n a.queue ∙ ap (λ q. take m a.queue ++ take n q) (sym f.took.queue) in
+    let front : take (m + n) a.queue ≡ take m a.queue ++ take n b.queue = take-add m n a.queue
+    ∙ ap (λ q. take m a.queue ++ take n q) (sym f.took.queue) in
     record {
       count = m + n;
       took = record {
         within = (let w = g.took.within in let l = ap length f.took.queue ∙ length-drop m a.queue in let x = f.took.within in omega (arith, w, l, x));
         queue = g.took.queue ∙ ap (drop n) f.took.queue ∙ drop-more m n a.queue;
-        flying = g.took.flying ∙ ap (λ x. flying_after x (take n b.queue)) f.took.flying ∙ sym (flying-joined a.flying (take m a.queue) (take n b.queue)) ∙ ap (flying_after a.flying) (sym front);
-        done = g.took.done ∙ ap (λ x. done_after x (take n b.queue)) f.took.done ∙ sym (done-joined a.done (take m a.queue) (take n b.queue)) ∙ ap (done_after a.done) (sym front);
+        flying =
+            g.took.flying ∙ ap (λ x. flying_after x (take n b.queue)) f.took.flying
+            ∙ sym (flying-joined a.flying (take m a.queue) (take n b.queue)) ∙ ap (flying_after a.flying) (sym front);
+        done =
+            g.took.done ∙ ap (λ x. done_after x (take n b.queue)) f.took.done ∙ sym (done-joined a.done (take m a.queue) (take n b.queue))
+            ∙ ap (done_after a.done) (sym front);
         world = g.took.world ∙ f.took.world;
       };
     }
@@ -116,12 +124,15 @@ module _ {R : Type 0} (view : R → RingView) (tells : Bool) where
   }
 
   -- The ring takes of its queue what it takes.
-  enters-by : (old : Pending R) (ring : R) (result : Result ℕ EnterError) → EntersFor tells (view old.ring) (view ring) result → Enters view tells old (record old { ring = ring })
+  enters-by : (old : Pending R) (ring : R) (result : Result ℕ EnterError) → EntersFor tells (view old.ring) (view ring) result →
+      Enters view tells old (record old { ring = ring })
   enters-by old ring (Ok n) e = record {
     later = e.later;
     few_done = (let a = e.all in let b = ap length e.emptied in let c = e.few_done in omega (arith, a, b, c));
     same_room = refl;
-    told = λ t. subst (λ w. TakesFront (pending_ring view old) (with_due w old.due)) (sym (e.told t)) (took-behind (length (view old.ring).queue) (view old.ring) (entered (view old.ring)) old.due (took-entered (view old.ring)));
+    told =
+        λ t. subst (λ w. TakesFront (pending_ring view old) (with_due w old.due)) (sym (e.told t))
+        (took-behind (length (view old.ring).queue) (view old.ring) (entered (view old.ring)) old.due (took-entered (view old.ring)));
   }
   enters-by old ring (Err Fault) e = record {
     later = e.1.later;
@@ -136,11 +147,14 @@ module _ {R : Type 0} (view : R → RingView) (tells : Bool) where
     told = λ t. took-behind e.1.count (view old.ring) (view ring) old.due (e.1.told t);
   }
 
-  pub enters-ring : (old inside : Pending R) (ring : R) (result : Result ℕ EnterError) → inside ≡ old → EntersFor tells (view inside.ring) (view ring) result → Enters view tells old (record inside { ring = ring })
-  enters-ring old inside ring result is e = subst (λ x. Enters view tells x (record inside { ring = ring })) is (enters-by inside ring result e)
+  pub enters-ring : (old inside : Pending R) (ring : R) (result : Result ℕ EnterError) → inside ≡ old →
+      EntersFor tells (view inside.ring) (view ring) result → Enters view tells old (record inside { ring = ring })
+  enters-ring old inside ring result is e =
+      subst (λ x. Enters view tells x (record inside { ring = ring })) is (enters-by inside ring result e)
 
 -- The first due entry was pushed: what is pending is the same.
-first-told : (v w : RingView) (e : Entry) (rest due : List Entry) → due ≡ e ∷ rest → w ≡ pushed v e → with_due w rest ≡ with_spare (with_due v due) w.spare
+first-told : (v w : RingView) (e : Entry) (rest due : List Entry) → due ≡ e ∷ rest → w ≡ pushed v e →
+    with_due w rest ≡ with_spare (with_due v due) w.spare
 first-told v w e rest due front h =
     ap (λ x. with_due x rest) h
     ∙ ap (λ q. record v { queue = q; spare = v.spare - 1 }) (append_assoc v.queue (e ∷ []) rest)
@@ -148,9 +162,11 @@ first-told v w e rest due front h =
     ∙ ap (λ s. with_spare (with_due v due) s) (sym (ap (λ x. x.spare) h))
 
 module _ {R : Type 0} (view : R → RingView) (tells : Bool) where
-  pub first-in : (old mid new : Pending R) (e : Entry) → 0 < length old.due → (length (view old.ring).queue < (view old.ring).capacity → mid ≡ old) → mid.due ≡ e ∷ new.due → IsPushed tells e (view mid.ring) (view new.ring) →
-      length (view old.ring).queue + length old.due ≤ (view old.ring).capacity →
-      (length (view new.ring).queue + length new.due ≡ length (view old.ring).queue + length old.due) × (IsTrue tells → pending_ring view new ≡ with_spare (pending_ring view old) (view new.ring).spare)
+  pub first-in : (old mid new : Pending R) (e : Entry) → 0 < length old.due →
+      (length (view old.ring).queue < (view old.ring).capacity → mid ≡ old) → mid.due ≡ e ∷ new.due →
+      IsPushed tells e (view mid.ring) (view new.ring) → length (view old.ring).queue + length old.due ≤ (view old.ring).capacity →
+      (length (view new.ring).queue + length new.due ≡ length (view old.ring).queue + length old.due) ×
+      (IsTrue tells → pending_ring view new ≡ with_spare (pending_ring view old) (view new.ring).spare)
   first-in old mid new e some same front push fits =
       let is : mid ≡ old = same (omega (arith, some, fits)) in
       let due : old.due ≡ e ∷ new.due = sym (ap (λ x. x.due) is) ∙ front in (
@@ -159,11 +175,14 @@ module _ {R : Type 0} (view : R → RingView) (tells : Bool) where
       )
 
   -- What is pending stays, one push after another.
-  pub same-pending : (a b c : Pending R) → pending_ring view b ≡ with_spare (pending_ring view a) (view b.ring).spare → pending_ring view c ≡ with_spare (pending_ring view b) (view c.ring).spare → pending_ring view c ≡ with_spare (pending_ring view a) (view c.ring).spare
+  pub same-pending : (a b c : Pending R) → pending_ring view b ≡ with_spare (pending_ring view a) (view b.ring).spare →
+      pending_ring view c ≡ with_spare (pending_ring view b) (view c.ring).spare →
+      pending_ring view c ≡ with_spare (pending_ring view a) (view c.ring).spare
   same-pending a b c f g = g ∙ ap (λ x. with_spare x (view c.ring).spare) f
 
 -- Another number of pushes changes nothing of the room that is made.
-room-spare : (v : RingView) (spare : ℕ) (b : Bool) → (if b then entered (with_spare v spare) else with_spare v spare) ≡ with_spare (if b then entered v else v) spare
+room-spare : (v : RingView) (spare : ℕ) (b : Bool) →
+    (if b then entered (with_spare v spare) else with_spare v spare) ≡ with_spare (if b then entered v else v) spare
 room-spare v spare true = refl
 room-spare v spare false = refl
 
@@ -173,12 +192,14 @@ none-behind v due h = ap (with_due v) h ∙ ap (λ q. record v { queue = q }) (a
 
 module _ {R : Type 0} (view : R → RingView) where
   -- Room is made behind what was due.
-  pub room-behind : (old mid new : Pending R) → mid.due ≡ [] → new.due ≡ mid.due → pending_ring view mid ≡ with_spare (pending_ring view old) (view mid.ring).spare → view new.ring ≡ room_made (view mid.ring) →
+  pub room-behind : (old mid new : Pending R) → mid.due ≡ [] → new.due ≡ mid.due →
+      pending_ring view mid ≡ with_spare (pending_ring view old) (view mid.ring).spare → view new.ring ≡ room_made (view mid.ring) →
       pending_ring view new ≡ with_spare (room_made (pending_ring view old)) (view new.ring).spare
   room-behind old mid new none same pend room =
       let P = pending_ring view old in
       let b = length P.queue == P.capacity in
-      let is : view new.ring ≡ with_spare (room_made P) (view mid.ring).spare = room ∙ ap room_made (sym (none-behind (view mid.ring) mid.due none) ∙ pend) ∙ room-spare P (view mid.ring).spare b in
+      let is : view new.ring ≡ with_spare (room_made P) (view mid.ring).spare = room
+      ∙ ap room_made (sym (none-behind (view mid.ring) mid.due none) ∙ pend) ∙ room-spare P (view mid.ring).spare b in
       none-behind (view new.ring) new.due (same ∙ none) ∙ is ∙ ap (with_spare (room_made P)) (sym (ap (λ x. x.spare) is))
 
 -- What holds anyway holds of an answer that isn't Ok.
@@ -193,31 +214,43 @@ module _ {R : Type 0} (view : R → RingView) (tells : Bool) where
 
   -- What is pending is the same.
   abbrev pub IsStill : Pending R → Pending R → Type 0
-  IsStill a b = (length (view b.ring).queue + length b.due ≡ length (view a.ring).queue + length a.due) × (IsTrue tells → pending_ring view b ≡ with_spare (pending_ring view a) (view b.ring).spare)
+  IsStill a b =
+      (length (view b.ring).queue + length b.due ≡ length (view a.ring).queue + length a.due) ×
+      (IsTrue tells → pending_ring view b ≡ with_spare (pending_ring view a) (view b.ring).spare)
 
-  pub still-on : (a b c : Pending R) → IsLater (view a.ring) (view b.ring) → (Fits a → IsStill a b) → (Fits b → IsStill b c) → Fits a → IsStill a c
+  pub still-on : (a b c : Pending R) → IsLater (view a.ring) (view b.ring) → (Fits a → IsStill a b) → (Fits b → IsStill b c) → Fits a →
+      IsStill a c
   still-on a b c later f g fits =
       let x = f fits in
       let y = g (let n = x.0 in let l = later.same_capacity in omega (arith, n, l, fits)) in
       (y.0 ∙ x.0, λ t. same-pending view tells a b c (x.1 t) (y.1 t))
 
-  module _ (steady : Bool) (old mid new : Pending R) (entry : Entry) (steady_tells : IsTrue steady → IsTrue tells) (enters : Enters view tells old mid)
-      (told : IsTrue tells → pending_ring view new ≡ with_spare (pushed (pending_ring view mid) entry) (view new.ring).spare) (later : IsLater (view mid.ring) (view new.ring))
+  module _ (steady : Bool) (old mid new : Pending R) (entry : Entry) (steady_tells : IsTrue steady → IsTrue tells)
+      (enters : Enters view tells old mid)
+      (told : IsTrue tells → pending_ring view new ≡ with_spare (pushed (pending_ring view mid) entry) (view new.ring).spare)
+      (later : IsLater (view mid.ring) (view new.ring))
       (due : mid.due ≡ [] → length (view mid.ring).queue < (view mid.ring).capacity → new.due ≡ []) where
-    exactly : (result : Result Unit EnterError) → OnOk result (mid.due ≡ []) → OnOk result (length (view mid.ring).queue < (view mid.ring).capacity) →
-        OnOk result (IsTrue tells → Fits old → pending_ring view mid ≡ with_spare (room_made (pending_ring view old)) (view mid.ring).spare) → IfErr result (KeptOut steady (view old.ring) (view mid.ring)) →
-        IsTrue steady → Fits old → (pending_ring view new ≡ with_spare (pushed (room_made (pending_ring view old)) entry) (view new.ring).spare) × Fits new
+    exactly : (result : Result Unit EnterError) → OnOk result (mid.due ≡ []) →
+        OnOk result (length (view mid.ring).queue < (view mid.ring).capacity) →
+        OnOk result
+        (IsTrue tells → Fits old → pending_ring view mid ≡ with_spare (room_made (pending_ring view old)) (view mid.ring).spare) →
+        IfErr result (KeptOut steady (view old.ring) (view mid.ring)) → IsTrue steady → Fits old →
+        (pending_ring view new ≡ with_spare (pushed (room_made (pending_ring view old)) entry) (view new.ring).spare) × Fits new
     exactly (Ok u) none room pend kept s fits =
         let t = steady_tells s in
         let n : length (view new.ring).queue + length new.due ≡ length (view mid.ring).queue + length mid.due + 1 =
-        sym (length-append (view new.ring).queue new.due) ∙ ap (λ x. length x.queue) (told t) ∙ length-append ((view mid.ring).queue ++ mid.due) (entry ∷ []) ∙ ap (λ k. k + 1) (length-append (view mid.ring).queue mid.due) in
+        sym (length-append (view new.ring).queue new.due) ∙ ap (λ x. length x.queue) (told t)
+        ∙ length-append ((view mid.ring).queue ++ mid.due) (entry ∷ []) ∙ ap (λ k. k + 1) (length-append (view mid.ring).queue mid.due) in
         (told t ∙ ap (λ v. with_spare (pushed v entry) (view new.ring).spare) (pend t fits), (let z = ap length none in let c = later.same_capacity in omega (arith, n, z, room, c)))
     exactly (Err Fault) none room pend kept s fits = absurd (kept.1 s)
     exactly (Err Busy) none room pend kept s fits = absurd (kept.1 s)
 
-    pub joins : (result : Result Unit EnterError) → OnOk result (mid.due ≡ []) → OnOk result (length (view mid.ring).queue < (view mid.ring).capacity) →
-        OnOk result (IsTrue tells → Fits old → pending_ring view mid ≡ with_spare (room_made (pending_ring view old)) (view mid.ring).spare) → IfErr result (KeptOut steady (view old.ring) (view mid.ring)) →
-        new.room + 1 ≡ mid.room → 0 < old.room → Posts view tells steady old new entry
+    pub joins : (result : Result Unit EnterError) → OnOk result (mid.due ≡ []) →
+        OnOk result (length (view mid.ring).queue < (view mid.ring).capacity) →
+        OnOk result
+        (IsTrue tells → Fits old → pending_ring view mid ≡ with_spare (room_made (pending_ring view old)) (view mid.ring).spare) →
+        IfErr result (KeptOut steady (view old.ring) (view mid.ring)) → new.room + 1 ≡ mid.room → 0 < old.room →
+        Posts view tells steady old new entry
     joins result none room pend kept less some = record {
       later = later-on (view old.ring) (view mid.ring) (view new.ring) enters.later later;
       room = λ h. less ∙ enters.same_room;
@@ -226,18 +259,23 @@ module _ {R : Type 0} (view : R → RingView) (tells : Bool) where
     }
 
     -- Over a steady ring nothing is due.
-    pub joins-steady : (result : Result Unit EnterError) → OnOk result (mid.due ≡ []) → OnOk result (length (view mid.ring).queue < (view mid.ring).capacity) → IfErr result (KeptOut steady (view old.ring) (view mid.ring)) → IsTrue steady → new.due ≡ []
+    pub joins-steady : (result : Result Unit EnterError) → OnOk result (mid.due ≡ []) →
+        OnOk result (length (view mid.ring).queue < (view mid.ring).capacity) →
+        IfErr result (KeptOut steady (view old.ring) (view mid.ring)) → IsTrue steady → new.due ≡ []
     joins-steady (Ok u) none room kept s = due none room
     joins-steady (Err Fault) none room kept s = absurd (kept.1 s)
     joins-steady (Err Busy) none room kept s = absurd (kept.1 s)
 
 -- A prefix of what is pending was taken, and nothing joined.
 pub moves-front : (v w : RingView) (ys : List Entry) → TakesFront v w → ys ≡ w.queue → PendingMoves v.queue ys []
-moves-front v w ys t h = record { count = t.count; within = t.took.within; moved = h ∙ t.took.queue ∙ sym (append-nil (drop t.count v.queue)) }
+moves-front v w ys t h =
+    record { count = t.count; within = t.took.within; moved = h ∙ t.took.queue ∙ sym (append-nil (drop t.count v.queue)) }
 
 -- An entry joined it.
-pub moves-join : (v mid w : RingView) (e : Entry) (spare : ℕ) → TakesFront v mid → w ≡ with_spare (pushed mid e) spare → PendingMoves v.queue w.queue (e ∷ [])
-moves-join v mid w e spare t h = record { count = t.count; within = t.took.within; moved = ap (λ x. x.queue) h ∙ ap (λ q. q ++ e ∷ []) t.took.queue }
+pub moves-join : (v mid w : RingView) (e : Entry) (spare : ℕ) → TakesFront v mid → w ≡ with_spare (pushed mid e) spare →
+    PendingMoves v.queue w.queue (e ∷ [])
+moves-join v mid w e spare t h =
+    record { count = t.count; within = t.took.within; moved = ap (λ x. x.queue) h ∙ ap (λ q. q ++ e ∷ []) t.took.queue }
 
 -- Nothing is pending.
 pub none-pending : (queue due : List Entry) → queue ≡ [] → due ≡ [] → queue ++ due ≡ []
@@ -245,7 +283,8 @@ none-pending queue due q d = ap (λ x. x ++ due) q ∙ d
 
 -- What is due is counted behind the queue.
 pub later-behind : (v w : RingView) (due due' : List Entry) → IsLater v w → IsLater (with_due v due) (with_due w due')
-later-behind v w due due' l = record { same_capacity = l.same_capacity; more_handles = l.more_handles; more_faults = l.more_faults; more_busies = l.more_busies }
+later-behind v w due due' l =
+    record { same_capacity = l.same_capacity; more_handles = l.more_handles; more_faults = l.more_faults; more_busies = l.more_busies }
 
 -- What fits behind the queue fits beside it.
 pub fits-split : (queue due : List Entry) (capacity : ℕ) → length (queue ++ due) ≤ capacity → length queue + length due ≤ capacity
@@ -256,9 +295,11 @@ pub fits-joined : (queue due : List Entry) (capacity : ℕ) → length queue + l
 fits-joined queue due capacity h = (let l = length-append queue due in omega (arith, l, h))
 
 -- What is pending is the same where the ring keeps its queue.
-pub still-pending : {R : Type 0} (view : R → RingView) (tells : Bool) (old new : Pending R) → KeepsPending view tells old new → IsTrue tells → (pending_ring view new).queue ≡ (pending_ring view old).queue
+pub still-pending : {R : Type 0} (view : R → RingView) (tells : Bool) (old new : Pending R) → KeepsPending view tells old new →
+    IsTrue tells → (pending_ring view new).queue ≡ (pending_ring view old).queue
 still-pending view tells old new k t = ap (λ v. v.queue ++ new.due) (k.ring t) ∙ ap (λ xs. (view old.ring).queue ++ xs) k.due
 
 -- A completion is taken off, behind which all that is pending stays.
-pub taken-behind : {R : Type 0} (view : R → RingView) (old new : Pending R) (rest : List Completion) → view new.ring ≡ with_done (view old.ring) rest → new.due ≡ old.due → pending_ring view new ≡ with_done (pending_ring view old) rest
+pub taken-behind : {R : Type 0} (view : R → RingView) (old new : Pending R) (rest : List Completion) →
+    view new.ring ≡ with_done (view old.ring) rest → new.due ≡ old.due → pending_ring view new ≡ with_done (pending_ring view old) rest
 taken-behind view old new rest ring due = ap (λ v. with_due v new.due) ring ∙ ap (λ xs. with_due (with_done (view old.ring) rest) xs) due

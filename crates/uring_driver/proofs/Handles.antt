@@ -1,5 +1,6 @@
 -- Which handles a user holds, by the first one and how many were given.
-use Rattle.std.proofs.Common.{◌≡◌, ◌⊎◌, inl, inr, ℕ, zero, suc, ◌+◌, ◌-◌, ◌<◌, ◌≤◌, Bool, true, false, not, ◌||◌, List, [], ◌∷◌, refl, sym, ◌∙◌, ap, arith}
+use Rattle.std.proofs.Common.{◌≡◌, ◌⊎◌, inl, inr, ℕ, zero, suc, ◌+◌, ◌-◌, ◌<◌, ◌≤◌, Bool, true, false, not, ◌||◌, List, [], ◌∷◌, refl, sym}
+use Rattle.std.proofs.Common.{◌∙◌, ap, arith}
 use Rattle.std.specs.Prelude.{nat_lt, nat_le, ◌&&◌, ◌==◌, if◌then◌else◌}
 use Rattle.std.proofs.lemmas.Bool.Decides.{nat_tests}
 use Rattle.ring_core.specs.Ledger.{Ledger, user_holds}
@@ -50,7 +51,8 @@ no-more first (suc n) all = absurd (none-of first 0 (all 0 ∙ lt-is 0 (suc n) (
 -- Where there are some, all below a number, the first is 0.
 first-is : (first m n : ℕ) → ((k : ℕ) → is_among first (suc m) k ≡ nat_lt k n) → first ≡ 0
 first-is first m n all =
-    let here : is_among first (suc m) first ≡ true = and-true (nat_le first first) (nat_lt (first - first) (suc m)) (past-test first first (omega arith)) (lt-is (first - first) (suc m) (omega arith)) in
+    let here : is_among first (suc m) first ≡ true = and-true (nat_le first first) (nat_lt (first - first) (suc m))
+    (past-test first first (omega arith)) (lt-is (first - first) (suc m) (omega arith)) in
     let l : first < n = lt-of first n (sym (all first) ∙ here) in
     let z : is_among first (suc m) 0 ≡ true = all 0 ∙ lt-is 0 n (omega (arith, l)) in
     let b : first ≤ 0 = le-of first 0 (and-left (nat_le first 0) (nat_lt (0 - first) (suc m)) z) in
@@ -72,14 +74,16 @@ not-zero : (m : ℕ) → (suc m == 0) ≡ false
 not-zero m = grind (arith, nat_tests)
 
 -- One more handle, whose number is how many there were.
-pub one-more : (first held n : ℕ) → ((k : ℕ) → is_among first held k ≡ nat_lt k n) → (k : ℕ) → is_among (first_with first held n) (held + 1) k ≡ nat_lt k (n + 1)
+pub one-more : (first held n : ℕ) → ((k : ℕ) → is_among first held k ≡ nat_lt k n) → (k : ℕ) →
+    is_among (first_with first held n) (held + 1) k ≡ nat_lt k (n + 1)
 one-more first zero n all k = (
     let z = no-more first n all in
     ap (λ x. is_among x (0 + 1) k) z ∙ from-zero (0 + 1) k ∙ ap (λ x. nat_lt k (x + 1)) (sym z))
 one-more first (suc m) n all k = (
     let f = first-is first m n all in
     let c : suc m ≡ n = count-is (suc m) n (λ j. sym (from-zero (suc m) j) ∙ ap (λ x. is_among x (suc m) j) (sym f) ∙ all j) in
-    ap (λ b. is_among (if b then n else first) (suc m + 1) k) (not-zero m) ∙ ap (λ x. is_among x (suc m + 1) k) f ∙ from-zero (suc m + 1) k ∙ ap (λ x. nat_lt k (x + 1)) c)
+    ap (λ b. is_among (if b then n else first) (suc m + 1) k) (not-zero m) ∙ ap (λ x. is_among x (suc m + 1) k) f ∙ from-zero (suc m + 1) k
+    ∙ ap (λ x. nat_lt k (x + 1)) c)
 
 -- Beside no handle there is one alone.
 beside-none : (first h k : ℕ) → is_among h (0 + 1) k ≡ (is_among first 0 k || k == h)
@@ -90,16 +94,20 @@ beside-more : (first held h k : ℕ) → h ≡ first + held → is_among first (
 beside-more first held h k e = grind (arith, nat_tests)
 
 -- One more handle, which follows the others.
-pub one-beside : (first held h : ℕ) → (held ≡ 0) ⊎ (h ≡ first + held) → (k : ℕ) → is_among (first_with first held h) (held + 1) k ≡ (is_among first held k || k == h)
+pub one-beside : (first held h : ℕ) → (held ≡ 0) ⊎ (h ≡ first + held) → (k : ℕ) →
+    is_among (first_with first held h) (held + 1) k ≡ (is_among first held k || k == h)
 one-beside first zero h next k = beside-none first h k
 one-beside first (suc m) h (inl e) k = (let f : ⊥ = cc in absurd f)
-one-beside first (suc m) h (inr e) k = ap (λ b. is_among (if b then h else first) (suc m + 1) k) (not-zero m) ∙ beside-more first (suc m) h k e
+one-beside first (suc m) h (inr e) k =
+    ap (λ b. is_among (if b then h else first) (suc m + 1) k) (not-zero m) ∙ beside-more first (suc m) h k e
 
 -- The user lacks none of the handles that it holds.
-pub lacks-none : {R B : Type 0} (d : IoUringDriver R B) (L : Ledger) (handles : List ℕ) → ((h : ℕ) → holds_handle d h ≡ user_holds L h) → holds_all d handles ≡ true → lacks_handle L handles ≡ false
+pub lacks-none : {R B : Type 0} (d : IoUringDriver R B) (L : Ledger) (handles : List ℕ) → ((h : ℕ) → holds_handle d h ≡ user_holds L h) →
+    holds_all d handles ≡ true → lacks_handle L handles ≡ false
 lacks-none d L [] all h = refl
 lacks-none d L (x ∷ xs) all h =
-    ap (λ b. not b || lacks_handle L xs) (sym (all x) ∙ and-left (holds_handle d x) (holds_all d xs) h) ∙ lacks-none d L xs all (and-right (holds_handle d x) (holds_all d xs) h)
+    ap (λ b. not b || lacks_handle L xs) (sym (all x) ∙ and-left (holds_handle d x) (holds_all d xs) h)
+    ∙ lacks-none d L xs all (and-right (holds_handle d x) (holds_all d xs) h)
 
 -- A handle that is among some is below the number behind the last.
 among-below : (first count h : ℕ) → is_among first count h ≡ true → h < first + count
@@ -111,7 +119,8 @@ among-below first count h is =
 -- The last of some is among them.
 last-among : (first m : ℕ) → is_among first (suc m) (first + m) ≡ true
 last-among first m =
-    and-true (nat_le first (first + m)) (nat_lt (first + m - first) (suc m)) (past-test first (first + m) (omega arith)) (lt-is (first + m - first) (suc m) (omega arith))
+    and-true (nat_le first (first + m)) (nat_lt (first + m - first) (suc m)) (past-test first (first + m) (omega arith))
+    (lt-is (first + m - first) (suc m) (omega arith))
 
 -- No handle is held: each is one of the ring's.
 pub in-world-none : (count : ℕ) → AreInWorld 0 0 count

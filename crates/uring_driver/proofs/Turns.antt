@@ -144,7 +144,8 @@ module _ {B : Type 0} (buffer : B → Buffer) (v : RingView) (slots : FinMap nat
       tasks ≡ task_woken (slice_get L.ops c.serial) → L.done ≡ Op c.serial ∷ flat_map done_items_of rest → (all : Treated B) →
       TreatsAll buffer (with_op (record L { done = flat_map done_items_of rest }) c.serial reap_change) (with_done v []) all →
       TreatsAll buffer L (with_done v []) (treat_first (Keyed key) named slots c rest all)
-  treats-named key named tasks is same done all ends = subst (λ x. TreatsAll buffer L (with_done v []) (treat_first (Keyed key) x slots c rest all))
+  treats-named key named tasks is same done all ends =
+      subst (λ x. TreatsAll buffer L (with_done v []) (treat_first (Keyed key) x slots c rest all))
       (sym is.is) (record {
         no_bad = ends.no_bad;
         none_left = ends.none_left;

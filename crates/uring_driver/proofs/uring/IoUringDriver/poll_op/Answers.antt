@@ -7,13 +7,25 @@ use Rattle.uring_driver.proofs.uring.IoUringDriver.poll_op.Goals as goal
 
 pub returns-clause-answers : goal.returns-clause-answers
 returns-clause-answers g c =
-    let d : State g.row.R.Denot g.row.B.Denot = record { ring = c.self.inside.ring; slots = c.self.inside.ops.slots; given = c.self.inside.ops.given; first = c.self.inside.first; held = c.self.inside.held } in
+    let d : State g.row.R.Denot g.row.B.Denot = record {
+      ring = c.self.inside.ring;
+      slots = c.self.inside.ops.slots;
+      given = c.self.inside.ops.given;
+      first = c.self.inside.first;
+      held = c.self.inside.held;
+    } in
     let holds : Holds d c.args.op = subst (λ x. Holds x c.args.op) (sym c.self.view_is) c.requires in
     rw (← c.self.view_is) (λ L stands. polls-for g.R.Ring.view g.B.IoBufMut.buffer d _ c.args.op c.args.task holds L stands refl c.poll.ensures.given refl refl c.poll.result c.poll.ensures.polls)
 
 pub returns-clause-pending : goal.returns-clause-pending
 returns-clause-pending g c =
-    let d : State g.row.R.Denot g.row.B.Denot = record { ring = c.self.inside.ring; slots = c.self.inside.ops.slots; given = c.self.inside.ops.given; first = c.self.inside.first; held = c.self.inside.held } in
+    let d : State g.row.R.Denot g.row.B.Denot = record {
+      ring = c.self.inside.ring;
+      slots = c.self.inside.ops.slots;
+      given = c.self.inside.ops.given;
+      first = c.self.inside.first;
+      held = c.self.inside.held;
+    } in
     let holds : Holds d c.args.op = subst (λ x. Holds x c.args.op) (sym c.self.view_is) c.requires in
     rw (← c.self.view_is) (λ L stands. pending-unreaped g.R.Ring.view g.B.IoBufMut.buffer d (record d { slots = c.poll.new.self.slots; given = c.poll.new.self.given }) c.args.op c.args.task holds L stands refl c.poll.ensures.given refl refl c.poll.result c.poll.ensures.polls)
 
