@@ -44,7 +44,8 @@ owned-life (Completed r) h i = i
 pub keeps-put : {B : Type 0} (m : FinMap nat_cmp (Slot B)) (key : ℕ) (s t : Slot B) → get m key ≡ Some s → t.serial ≡ s.serial →
     is_owned_life t.life ≡ is_owned_life s.life → KeepsNumbers m (insert m key t)
 keeps-put m key s t there serial owned k = elim (same-or-not k key) [
-  | inl e ↦ ap (number_at (insert m key t)) e ∙ ap serial_of (put-same m key t) ∙ ap (λ b. number_if b t.serial) owned ∙ ap (number_if (is_owned_life s.life)) serial ∙ sym (ap serial_of (ap (get m) e ∙ there))
+  | inl e ↦ ap (number_at (insert m key t)) e ∙ ap serial_of (put-same m key t) ∙ ap (λ b. number_if b t.serial) owned
+      ∙ ap (number_if (is_owned_life s.life)) serial ∙ sym (ap serial_of (ap (get m) e ∙ there))
   | inr e ↦ ap serial_of (put-other m key t k e)
 ]
 
@@ -52,7 +53,8 @@ keeps-put m key s t there serial owned k = elim (same-or-not k key) [
 pub keeps-gone : {B : Type 0} (m : FinMap nat_cmp (Slot B)) (key : ℕ) (s : Slot B) → get m key ≡ Some s → is_owned_life s.life ≡ false →
     KeepsNumbers m (remove m key)
 keeps-gone m key s there owned k = elim (same-or-not k key) [
-  | inl e ↦ ap (number_at (remove m key)) e ∙ ap serial_of (gone-same m key) ∙ sym (ap serial_of (ap (get m) e ∙ there) ∙ ap (λ b. number_if b s.serial) owned)
+  | inl e ↦ ap (number_at (remove m key)) e ∙ ap serial_of (gone-same m key)
+      ∙ sym (ap serial_of (ap (get m) e ∙ there) ∙ ap (λ b. number_if b s.serial) owned)
   | inr e ↦ ap serial_of (gone-other m key k e)
 ]
 

@@ -27,7 +27,9 @@ tokens-kept old new keeps op = (λ h. keeps op.key ∙ h, λ h. sym (keeps op.ke
 
 -- No token is held where there is no slot.
 pub none-held : {B : Type 0} (slots : FinMap nat_cmp (Slot B)) → slots ≡ empty → (key number : ℕ) → number_at slots key ≡ Some number → ⊥
-none-held {B} slots fresh key number h = (let z : ◌≡◌ {A = Option ℕ} None (Some number) = sym (ap (λ m. number_at m key) fresh ∙ ap serial_of (get-empty {X = Slot B} nat_cmp key)) ∙ h in cc)
+none-held {B} slots fresh key number h =
+    (let z : ◌≡◌ {A = Option ℕ} None (Some number) =
+    sym (ap (λ m. number_at m key) fresh ∙ ap serial_of (get-empty {X = Slot B} nat_cmp key)) ∙ h in cc)
 
 -- One token is spent, and every other is kept.
 drops-token : {B : Type 0} (old new : FinMap nat_cmp (Slot B)) (op : Op) → number_at old op.key ≡ Some op.number →

@@ -48,34 +48,6 @@ pub request-is : {B V : Type 0} (r s : Request B V) → shape_of r ≡ shape_of 
 request-is r s shape holds =
     some-is r s (sym (rebuilt-own r) ∙ ap (λ x. rebuilt x (held_of r)) shape ∙ ap (rebuilt (shape_of s)) holds ∙ rebuilt-own s)
 
--- A request that is mapped keeps its shape.
-pub shape-map_request : {B C V W : Type 0} (f : B → C) (g : V → W) (r : Request B V) → shape_of (map_request f g r) ≡ shape_of r
-shape-map_request f g (Recv fd buf) = refl
-shape-map_request f g (ReadVec fd parts) = refl
-shape-map_request f g (Send fd buf) = refl
-shape-map_request f g (WriteVec fd parts) = refl
-
--- A request that is mapped holds what it held, mapped.
-pub held-map_request : {B C V W : Type 0} (f : B → C) (g : V → W) (r : Request B V) → held_of (map_request f g r) ≡ map_held f g (held_of r)
-held-map_request f g (Recv fd buf) = refl
-held-map_request f g (ReadVec fd parts) = refl
-held-map_request f g (Send fd buf) = refl
-held-map_request f g (WriteVec fd parts) = refl
-
--- A request that is mapped names the same handles.
-pub named-map_request : {B C V W : Type 0} (f : B → C) (g : V → W) (r : Request B V) → named (map_request f g r) ≡ named r
-named-map_request f g (Recv fd buf) = refl
-named-map_request f g (ReadVec fd parts) = refl
-named-map_request f g (Send fd buf) = refl
-named-map_request f g (WriteVec fd parts) = refl
-
--- A request that is mapped moves its bytes the same way.
-pub way-map_request : {B C V W : Type 0} (f : B → C) (g : V → W) (r : Request B V) → way_of (map_request f g r) ≡ way_of r
-way-map_request f g (Recv fd buf) = refl
-way-map_request f g (ReadVec fd parts) = refl
-way-map_request f g (Send fd buf) = refl
-way-map_request f g (WriteVec fd parts) = refl
-
 -- A request has its own shape, and holds what it holds.
 pub holding-own : (r : Request Buffer Parts) → IsHolding r (held_of r) r
 holding-own r = record { shape = refl; holds = refl }

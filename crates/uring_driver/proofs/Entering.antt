@@ -59,7 +59,9 @@ took-on a b c f g =
     record {
       count = m + n;
       took = record {
-        within = (let w = g.took.within in let l = ap length f.took.queue ∙ length-drop m a.queue in let x = f.took.within in omega (arith, w, l, x));
+        within =
+            (let w = g.took.within in let l = ap length f.took.queue ∙ length-drop m a.queue in
+            let x = f.took.within in omega (arith, w, l, x));
         queue = g.took.queue ∙ ap (drop n) f.took.queue ∙ drop-more m n a.queue;
         flying =
             g.took.flying ∙ ap (λ x. flying_after x (take n b.queue)) f.took.flying
@@ -94,10 +96,6 @@ took-entered v = record {
   world = refl;
 }
 
--- Counts that rose at the end rose.
-pub rose-on : (a b c : ℕ) → a ≤ b → Rose b c → Rose a c
-rose-on a b c h r = omega (arith, h, r)
-
 -- What no call makes less, over two calls.
 pub later-on : (a b c : RingView) → IsLater a b → IsLater b c → IsLater a c
 later-on a b c f g = record {
@@ -113,7 +111,12 @@ later-same v spare = record { same_capacity = refl; more_handles = omega arith; 
 
 module _ {R : Type 0} (view : R → RingView) (tells : Bool) where
   pub enters-none : (old : Pending R) → Enters view tells old old
-  enters-none old = record { later = later-same (view old.ring) (view old.ring).spare; few_done = omega arith; same_room = refl; told = λ t. took-none (pending_ring view old) (view old.ring).spare }
+  enters-none old = record {
+    later = later-same (view old.ring) (view old.ring).spare;
+    few_done = omega arith;
+    same_room = refl;
+    told = λ t. took-none (pending_ring view old) (view old.ring).spare;
+  }
 
   pub enters-on : (a b c : Pending R) → Enters view tells a b → Enters view tells b c → Enters view tells a c
   enters-on a b c f g = record {
@@ -241,7 +244,8 @@ module _ {R : Type 0} (view : R → RingView) (tells : Bool) where
         let n : length (view new.ring).queue + length new.due ≡ length (view mid.ring).queue + length mid.due + 1 =
         sym (length-append (view new.ring).queue new.due) ∙ ap (λ x. length x.queue) (told t)
         ∙ length-append ((view mid.ring).queue ++ mid.due) (entry ∷ []) ∙ ap (λ k. k + 1) (length-append (view mid.ring).queue mid.due) in
-        (told t ∙ ap (λ v. with_spare (pushed v entry) (view new.ring).spare) (pend t fits), (let z = ap length none in let c = later.same_capacity in omega (arith, n, z, room, c)))
+        (told t ∙ ap (λ v. with_spare (pushed v entry) (view new.ring).spare) (pend t fits),
+            (let z = ap length none in let c = later.same_capacity in omega (arith, n, z, room, c)))
     exactly (Err Fault) none room pend kept s fits = absurd (kept.1 s)
     exactly (Err Busy) none room pend kept s fits = absurd (kept.1 s)
 

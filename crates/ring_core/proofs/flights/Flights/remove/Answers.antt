@@ -30,7 +30,9 @@ restart-requires c =
     let count = c.self.invariant.1.count in
     let none = c.if-self-eq0.true in
     let less = kept-less c.self.inside.ranks.flags c.slot_at-slot.result c.slot_at-slot.ensures.is_kept in
-    ap (λ ranks. kept_first (length ranks.flags) ranks.flags) c.release.ensures ∙ (let zero : ◌≡◌ {A = ℕ} (kept_first (length (set c.self.inside.ranks.flags c.slot_at-slot.result false)) (set c.self.inside.ranks.flags c.slot_at-slot.result false)) 0 = omega arith in zero)
+    ap (λ ranks. kept_first (length ranks.flags) ranks.flags) c.release.ensures
+        ∙ (let zero : ◌≡◌ {A = ℕ} (kept_first (length (set c.self.inside.ranks.flags c.slot_at-slot.result false))
+        (set c.self.inside.ranks.flags c.slot_at-slot.result false)) 0 = omega arith in zero)
 
 pub invariant_of-self-else-self-eq0 : goal.invariant_of-self-else-self-eq0
 invariant_of-self-else-self-eq0 c =

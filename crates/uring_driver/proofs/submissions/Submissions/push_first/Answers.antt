@@ -9,4 +9,5 @@ returns-clause-fits g c =
     (record { ring = c.push_reserved.new.self; due = c.pop_front.new.self.items; room = c.self.inside.room }) c.in-Some.entry c.requires
     c.make_room.ensures.same
     (sym (ap (λ x. x.due) c.self.view_is) ∙ c.in-Some.ensures.items)
-    (subst (λ x. IsPushed g.R.Ring.tells c.in-Some.entry (g.R.Ring.view x.ring) (g.R.Ring.view c.push_reserved.new.self)) c.self.view_is c.in-Done.ensures)
+    (subst (λ x. IsPushed g.R.Ring.tells c.in-Some.entry (g.R.Ring.view x.ring)
+        (g.R.Ring.view c.push_reserved.new.self)) c.self.view_is c.in-Done.ensures)

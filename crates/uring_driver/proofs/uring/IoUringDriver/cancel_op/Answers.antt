@@ -65,8 +65,10 @@ invariant_of-self-2 g c =
     let count = c.owed.ensures.count in
     let ok = c.in_ok-make_spare.ensures.ok in
     let room = c.post.ensures.posts.room (omega (arith, count, ok)) in
-    let more = later-on _ _ _ (subst (λ v. IsLater (g.R.Ring.view c.self.inside.ring.ring) v) (sym c.make_spare.ensures.view) (later-same _ _)) c.post.ensures.posts.later in
-    (sound-live c.post.new.self.room c.self.inside.ops.slots.values (omega (arith, count, ok, room)), in-world-more c.self.inside.first c.self.inside.held _ _ more.more_handles c.self.invariant.1)
+    let more = later-on _ _ _ (subst (λ v. IsLater (g.R.Ring.view c.self.inside.ring.ring) v) (sym c.make_spare.ensures.view)
+        (later-same _ _)) c.post.ensures.posts.later in
+    (sound-live c.post.new.self.room c.self.inside.ops.slots.values (omega (arith, count, ok, room)),
+        in-world-more c.self.inside.first c.self.inside.held _ _ more.more_handles c.self.invariant.1)
 
 pub invariant_of-self : goal.invariant_of-self
 invariant_of-self g c =

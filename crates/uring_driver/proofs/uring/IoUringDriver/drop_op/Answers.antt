@@ -80,7 +80,8 @@ returns-in-Free-clause-drops g c =
     } in
     let holds : Holds d c.args.op = subst (λ x. Holds x c.args.op) (sym c.self.view_is) c.requires in
     let drops = subst (λ a. DropsAt d.slots.values c.args.op.key c.drop_op.new.self.slots.values a) c.in-Free.is c.drop_op.ensures.drops in
-    rw (← c.self.view_is) (drops-freed d c.args.op c.drop_op.new.self.slots.values holds g.R.Ring.view g.R.Ring.tells (record d { slots = c.drop_op.new.self.slots; given = c.drop_op.new.self.given }) drops refl refl)
+    rw (← c.self.view_is) (drops-freed d c.args.op c.drop_op.new.self.slots.values holds g.R.Ring.view g.R.Ring.tells
+        (record d { slots = c.drop_op.new.self.slots; given = c.drop_op.new.self.given }) drops refl refl)
 
 pub returns-in-Left-clause-answers : goal.returns-in-Left-clause-answers
 returns-in-Left-clause-answers g c =

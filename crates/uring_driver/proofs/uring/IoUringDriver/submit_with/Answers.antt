@@ -84,7 +84,8 @@ returns-clause-answers g c =
     let mid = pending_ring view made in
     let ok = c.in-Ok.ensures.ok in
     let spare = (view c.join.new.self.ring).spare in
-    let roomy : length mid.queue < mid.capacity = (let l = length-append (view made.ring).queue made.due in let z = ap length ok.none_due in let q = ok.queue in omega (arith, l, z, q)) in
+    let roomy : length mid.queue < mid.capacity = (let l = length-append (view made.ring).queue made.due in
+        let z = ap length ok.none_due in let q = ok.queue in omega (arith, l, z, q)) in
     let more : map.len d.slots.values + 1 ≤ c.join.new.self.room =
     (let a = ok.spare in let b = c.join.ensures.room in let s = ap map.len c.in-Ok.ensures.slots in omega (arith, a, b, s)) in
     stands-submits view g.B.IoBufMut.buffer d _ L c.args.request op.key (view made.ring).spare spare mid stands
@@ -92,7 +93,9 @@ returns-clause-answers g c =
     (subst (λ m. map.len m < 4294967232) c.in-Ok.ensures.slots ok.few) puts.free puts.below puts.slots
     (c.in-Ok.ensures.told tells (fits-split (view d.ring.ring).queue d.ring.due (view d.ring.ring).capacity stands.fits))
     roomy
-    (c.join.ensures.told tells ∙ ap (λ e. with_spare (pushed mid e) spare) c.call-entry.ensures ∙ ap (λ k. with_spare (pushed mid (record { word = k; serial = c.number.result; body = Call c.call-call.result })) spare) c.key.ensures
+    (c.join.ensures.told tells ∙ ap (λ e. with_spare (pushed mid e) spare) c.call-entry.ensures
+        ∙ ap (λ k. with_spare (pushed mid
+        (record { word = k; serial = c.number.result; body = Call c.call-call.result })) spare) c.key.ensures
     ∙ ap (λ n. with_spare (pushed mid (record { word = op.key; serial = n; body = Call c.call-call.result })) spare)
     (c.number.ensures ∙ puts.number)
     ∙ ap (λ x. with_spare (pushed mid (record { word = op.key; serial = d.given; body = Call x })) spare) c.call-call.ensures)
@@ -117,7 +120,8 @@ returns-clause-pending g c =
     entry-is g.B.IoBufMut.buffer c.args.request (pending_ring view d.ring).queue (pending_ring view c.join.new.self).queue
     c.submit-op.result c.key.result c.number.result c.call-call.result c.key.ensures c.number.ensures c.call-call.ensures
     (subst (λ e. PendingMoves (pending_ring view d.ring).queue (pending_ring view c.join.new.self).queue (e ∷ [])) c.call-entry.ensures
-    (moves-join (pending_ring view d.ring) (pending_ring view c.prepare.new.ring) (pending_ring view c.join.new.self) c.call-entry.result (view c.join.new.self.ring).spare (c.in-Ok.ensures.takes tells) (c.join.ensures.told tells))))
+    (moves-join (pending_ring view d.ring) (pending_ring view c.prepare.new.ring) (pending_ring view c.join.new.self) c.call-entry.result
+        (view c.join.new.self.ring).spare (c.in-Ok.ensures.takes tells) (c.join.ensures.told tells))))
 
 pub invariant_of-self : goal.invariant_of-self
 invariant_of-self g c = (
