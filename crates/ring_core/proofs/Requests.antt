@@ -4,7 +4,7 @@ use Rattle.std.specs.Prelude.{slice_get, nat_le, ◌&&◌, ◌||◌, ◌==◌}
 use Rattle.std.proofs.lemmas.List.{length-take, take-take}
 use Rattle.rent_buf.specs.Buffer.{Buffer}
 use Rattle.rent_buf.specs.Parts.{Parts}
-use Rattle.rent_buf.specs.Held.{HeldBuf, map_held}
+use Rattle.rent_buf.specs.Held.{HeldBuf}
 use Rattle.rent_buf.specs.declared.held.Held.{Held}
 use Rattle.rent_buf.specs.declared.held.Held.TheVariants.{One, Parts as InParts}
 use Rattle.ring_core.specs.declared.request.TheConstants.{MOST_ASKED}
@@ -19,7 +19,7 @@ use Rattle.ring_core.specs.World.{input_at, with_output}
 use Rattle.ring_core.specs.Effect.{Effect, effect}
 use Rattle.ring_core.specs.Payloads.{comes}
 use Rattle.ring_core.specs.Outcome.{is_allowed, is_spent, may_read, may_send}
-use Rattle.ring_core.specs.Request.{named, way_of, held_of, map_request, shape_of, call_of, room_of, shown_by, sent_of, held_after, held}
+use Rattle.ring_core.specs.Request.{held_of, shape_of, call_of, room_of, shown_by, sent_of, held_after, held}
 use Rattle.ring_core.specs.Request.{held_room}
 use Rattle.ring_core.specs.Request.{held_want, held_shown, held_sent, IsHolding}
 use Rattle.ring_core.proofs.Numbers.{and-left, and-right, at_most-left}
