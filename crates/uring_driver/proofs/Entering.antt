@@ -4,7 +4,6 @@ use Rattle.std.proofs.Common.{◌∙◌, ap, subst, arith, append_assoc, append-
 use Rattle.std.specs.Prelude.{OnOk, OnErr, IfErr, ◌==◌, if◌then◌else◌}
 use Rattle.std.proofs.lemmas.List.{length-drop}
 use Rattle.std.proofs.Math.Seq.{take-add, take-length, drop-length}
-use Rattle.ring_core.specs.Counts.{Rose}
 use Rattle.ring_core.specs.declared.entry.Entry.{Entry}
 use Rattle.ring_core.specs.declared.entry.Flight.{Flight}
 use Rattle.ring_core.specs.declared.entry.Completion.{Completion}
