@@ -25,7 +25,8 @@ returns-clause-token g c =
     rw (← c.self.view_is) (record {
       this = adds-this old new given c.in-Ok.key slot c.in-Ok.ensures.fresh refl refl c.in-Ok.ensures.ok op key number;
       kept = adds-kept old new given c.in-Ok.key slot c.in-Ok.ensures.fresh refl refl c.in-Ok.ensures.ok;
-      only = λ other held. adds-only old new given c.in-Ok.key slot c.in-Ok.ensures.fresh refl refl c.in-Ok.ensures.ok op other key number held;
+      only = λ other held. adds-only old new given c.in-Ok.key slot c.in-Ok.ensures.fresh refl refl c.in-Ok.ensures.ok op other key number
+          held;
       number = number;
       next = refl;
     })

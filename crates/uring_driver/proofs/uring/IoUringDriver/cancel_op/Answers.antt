@@ -22,7 +22,8 @@ returns-clause-answers g c =
     let holds : Holds d c.args.op.now = subst (λ x. Holds x c.args.op.now) (sym c.self.view_is) c.requires in
     rw (← c.self.view_is) (
     λ steady L stands.
-    let posts = subst (λ e. Posts g.R.Ring.view g.R.Ring.tells g.R.Ring.steady c.make_spare.new.self c.post.new.self e) c.cancel.ensures c.post.ensures.posts in
+    let posts = subst (λ e. Posts g.R.Ring.view g.R.Ring.tells g.R.Ring.steady c.make_spare.new.self c.post.new.self e) c.cancel.ensures
+        c.post.ensures.posts in
     cancel-asks g.R.Ring.view g.B.IoBufMut.buffer d
     (record d { ring = c.make_spare.new.self }) _ c.args.op.now c.key.result c.number.result L stands holds c.key.ensures c.number.ensures
     c.make_spare.ensures.view c.make_spare.ensures.due c.make_spare.ensures.more refl refl refl refl refl g.R.Ring.tells g.R.Ring.steady
@@ -38,7 +39,8 @@ returns-clause-pending g c =
       held = c.self.inside.held;
     } in
     let holds : Holds d c.args.op.now = subst (λ x. Holds x c.args.op.now) (sym c.self.view_is) c.requires in
-    let posts = subst (λ e. Posts g.R.Ring.view g.R.Ring.tells g.R.Ring.steady c.make_spare.new.self c.post.new.self e) c.cancel.ensures c.post.ensures.posts in
+    let posts = subst (λ e. Posts g.R.Ring.view g.R.Ring.tells g.R.Ring.steady c.make_spare.new.self c.post.new.self e) c.cancel.ensures
+        c.post.ensures.posts in
     rw (← c.self.view_is) (
     λ tells.
     cancel-joins g.R.Ring.view g.R.Ring.tells g.R.Ring.steady d.ring c.make_spare.new.self c.post.new.self c.args.op.now c.key.result

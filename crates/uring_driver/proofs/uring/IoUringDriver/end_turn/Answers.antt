@@ -18,7 +18,8 @@ returns-clause-meets g c =
     λ old has.
     whole g.R.Ring.view g.B.IoBufMut.buffer g.R.Ring.tells g.R.Ring.steady old d _ c.args.begun c.turned.result c.reap_all-bad.result
     c.reap_all-bad.new.named has
-    c.reap_all-bad.ensures.numbers c.reap_all-bad.ensures.ring c.reap_all-bad.ensures.same c.reap_all-bad.ensures.treats c.reap_all-bad.ensures.given refl refl
+    c.reap_all-bad.ensures.numbers c.reap_all-bad.ensures.ring c.reap_all-bad.ensures.same c.reap_all-bad.ensures.treats
+        c.reap_all-bad.ensures.given refl refl
     c.turned.ensures.reaped c.turned.ensures.closed c.turned.ensures.woken (c.turned.ensures.stop ∙ c.stop_of.ensures))
 
 pub invariant_of-self : goal.invariant_of-self

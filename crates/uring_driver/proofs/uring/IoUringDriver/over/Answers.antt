@@ -8,7 +8,9 @@ use Rattle.uring_driver.proofs.Starting.{stands-empty}
 use Rattle.uring_driver.proofs.uring.IoUringDriver.over.Goals as goal
 
 pub returns-clause-stands : goal.returns-clause-stands
-returns-clause-stands g c = λ world. stands-empty g.R.Ring.view g.B.IoBufMut.buffer _ c.args.ring c.new.ensures c.new-2.ensures.slots c.new-2.ensures.given refl refl c.requires world
+returns-clause-stands g c =
+    λ world. stands-empty g.R.Ring.view g.B.IoBufMut.buffer _ c.args.ring c.new.ensures c.new-2.ensures.slots c.new-2.ensures.given refl
+    refl c.requires world
 
 pub returns-clause-none : goal.returns-clause-none
 returns-clause-none g c =

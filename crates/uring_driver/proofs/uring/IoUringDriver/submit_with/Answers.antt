@@ -51,7 +51,8 @@ returns-in-Err-clause-memory g c =
       held = c.self.inside.held;
     } in
     rw (← c.self.view_is) (
-    λ is. same-room g.R.Ring.view g.B.IoBufMut.buffer d (record { ring = c.prepare.new.ring; slots = c.prepare.new.ops.slots; given = c.prepare.new.ops.given; first = d.first; held = d.held }) g.R.Ring.steady c.in-Err.why c.in-Err.ensures.err is)
+    λ is. same-room g.R.Ring.view g.B.IoBufMut.buffer d (record { ring = c.prepare.new.ring; slots = c.prepare.new.ops.slots;
+        given = c.prepare.new.ops.given; first = d.first; held = d.held }) g.R.Ring.steady c.in-Err.why c.in-Err.ensures.err is)
 
 pub returns-in-Err-clause-pending : goal.returns-in-Err-clause-pending
 returns-in-Err-clause-pending g c =
@@ -75,7 +76,8 @@ returns-clause-answers g c =
       first = c.self.inside.first;
       held = c.self.inside.held;
     } in
-    let puts = put-over c.self.inside.ops c.prepare.new.ops c.submit-op.new.self c.args.request c.submit-op.result c.in-Ok.ensures.slots c.in-Ok.ensures.given c.submit-op.ensures.submits in
+    let puts = put-over c.self.inside.ops c.prepare.new.ops c.submit-op.new.self c.args.request c.submit-op.result c.in-Ok.ensures.slots
+        c.in-Ok.ensures.given c.submit-op.ensures.submits in
     rw (← c.self.view_is) (
     λ tells L stands.
     let view = g.R.Ring.view in
@@ -103,7 +105,9 @@ returns-clause-answers g c =
     puts.given refl refl op.number puts.number)
 
 pub returns-clause-token : goal.returns-clause-token
-returns-clause-token g c = rw (← c.self.view_is) (adds-over c.self.inside.ops c.prepare.new.ops c.submit-op.new.self c.submit-op.result c.in-Ok.ensures.slots c.in-Ok.ensures.given c.submit-op.ensures.token)
+returns-clause-token g c =
+    rw (← c.self.view_is) (adds-over c.self.inside.ops c.prepare.new.ops c.submit-op.new.self c.submit-op.result c.in-Ok.ensures.slots
+    c.in-Ok.ensures.given c.submit-op.ensures.token)
 
 pub returns-clause-pending : goal.returns-clause-pending
 returns-clause-pending g c =
@@ -132,7 +136,8 @@ invariant_of-self g c = (
 
 pub invariant_of-self-2 : goal.invariant_of-self-2
 invariant_of-self-2 g c =
-    let puts = put-over c.self.inside.ops c.prepare.new.ops c.submit-op.new.self c.args.request c.submit-op.result c.in-Ok.ensures.slots c.in-Ok.ensures.given c.submit-op.ensures.submits in
+    let puts = put-over c.self.inside.ops c.prepare.new.ops c.submit-op.new.self c.args.request c.submit-op.result c.in-Ok.ensures.slots
+        c.in-Ok.ensures.given c.submit-op.ensures.submits in
     let room = c.join.ensures.room in
     let spare = c.in-Ok.ensures.ok.spare in
     let count = ap map.len c.in-Ok.ensures.slots in
