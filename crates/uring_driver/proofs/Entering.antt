@@ -20,7 +20,7 @@ flying-joined : (flying : List Flight) (xs ys : List Entry) → flying_after fly
 flying-joined flying [] ys = refl
 flying-joined flying (x ∷ xs) ys = flying-joined (flying_after_entry flying x x.body) xs ys
 
--- What is done by two parts is done by one.
+-- What two parts add to what is done they add as one.
 done-joined : (done : List Completion) (xs ys : List Entry) → done_after done (xs ++ ys) ≡ done_after (done_after done xs) ys
 done-joined done [] ys = refl
 done-joined done (x ∷ xs) ys = done-joined (done_after_entry done x x.body) xs ys
@@ -289,11 +289,11 @@ pub later-behind : (v w : RingView) (due due' : List Entry) → IsLater v w → 
 later-behind v w due due' l =
     record { same_capacity = l.same_capacity; more_handles = l.more_handles; more_faults = l.more_faults; more_busies = l.more_busies }
 
--- What fits behind the queue fits beside it.
+-- Where the queue with what is due behind it fits, their lengths together do.
 pub fits-split : (queue due : List Entry) (capacity : ℕ) → length (queue ++ due) ≤ capacity → length queue + length due ≤ capacity
 fits-split queue due capacity h = (let l = length-append queue due in omega (arith, l, h))
 
--- What fits beside the queue fits behind it.
+-- Where their lengths together fit, the queue with what is due behind it does.
 pub fits-joined : (queue due : List Entry) (capacity : ℕ) → length queue + length due ≤ capacity → length (queue ++ due) ≤ capacity
 fits-joined queue due capacity h = (let l = length-append queue due in omega (arith, l, h))
 

@@ -85,11 +85,11 @@ one-more first (suc m) n all k = (
     ap (λ b. is_among (if b then n else first) (suc m + 1) k) (not-zero m) ∙ ap (λ x. is_among x (suc m + 1) k) f ∙ from-zero (suc m + 1) k
     ∙ ap (λ x. nat_lt k (x + 1)) c)
 
--- Beside no handle there is one alone.
+-- One handle beside none is the only one.
 beside-none : (first h k : ℕ) → is_among h (0 + 1) k ≡ (is_among first 0 k || k == h)
 beside-none first h k = grind (arith, nat_tests)
 
--- Beside some there is the one that follows them.
+-- The handle that follows the others is the one beside them.
 beside-more : (first held h k : ℕ) → h ≡ first + held → is_among first (held + 1) k ≡ (is_among first held k || k == h)
 beside-more first held h k e = grind (arith, nat_tests)
 

@@ -159,7 +159,7 @@ pub step-look : (L : Ledger) (h : ℕ) → user_holds L h ≡ true → step L (L
 unfolding step
 step-look L h user = ap (λ b. answered (refused_if (not b || false) NoHandle None) L (Look h)) user
 
--- The test doesn't find a number at most one below it.
+-- The test doesn't find a number at most another that is below it.
 below-test : (n k : ℕ) → k < n → nat_le n k ≡ false
 below-test n k h = grind (arith, nat_tests)
 
