@@ -1,5 +1,5 @@
 -- What completing a slot does, by its life before.
-use Rattle.std.proofs.Common.{◌≡◌, ℕ, true, false, Option, Some, None, refl, sym, ◌∙◌, ap}
+use Rattle.std.proofs.Common.{◌≡◌, ℕ, true, Some, None, refl, sym, ◌∙◌, ap}
 use Rattle.std.specs.Ordering.{nat_cmp}
 use Rattle.std.specs.FinMap.{FinMap, get, insert, remove}
 use Rattle.op_slots.specs.Lifecycle.{after_complete}
@@ -9,53 +9,56 @@ use Rattle.op_slots.specs.declared.lifecycle.Lifecycle.TheVariants.{Submitted, W
 use Rattle.ring_core.specs.declared.request.Outcome.{Outcome}
 use Rattle.ring_core.specs.declared.entry.Completion.{Completion}
 use Rattle.driver_core.specs.declared.slot.Slot.{Slot}
-use Rattle.driver_core.specs.Slot.{with_life, is_flying, flies_in, task_in, slots_completed, named_by, named_if, slots_if, slots_after, CompletesSlot}
+use Rattle.driver_core.specs.Slot.{with_life, is_flying, flies_in, task_in, slots_completed, named_by, named_if, slots_if, slots_after}
+use Rattle.driver_core.specs.Slot.{CompletesSlot}
 
+-- A life that completing keeps has no task that waits.
 task-kept : (l : Lifecycle Outcome) → after_complete l ≡ Kept → task_in l ≡ None
 task-kept Submitted h = refl
 task-kept (Waiting t) h = (let f : ⊥ = cc in absurd f)
 task-kept Ignored h = refl
 task-kept (Completed r) h = refl
 
+-- A life whose completion wakes a task has that task waiting.
 task-wake : (l : Lifecycle Outcome) (task : ℕ) → after_complete l ≡ Wake task → task_in l ≡ Some task
 task-wake Submitted task h = (let f : ⊥ = cc in absurd f)
 task-wake (Waiting t) task h = (let e : t ≡ task = cc in ap (λ x. Some x) e)
 task-wake Ignored task h = (let f : ⊥ = cc in absurd f)
 task-wake (Completed r) task h = (let f : ⊥ = cc in absurd f)
 
+-- A life that completing frees has no task that waits.
 task-free : (l : Lifecycle Outcome) → after_complete l ≡ Free → task_in l ≡ None
 task-free Submitted h = refl
 task-free (Waiting t) h = (let f : ⊥ = cc in absurd f)
 task-free Ignored h = refl
 task-free (Completed r) h = refl
 
-slots-kept : {B : Type 0} (l : Lifecycle Outcome) (m : FinMap nat_cmp (Slot B)) (k : ℕ) (x : Slot B) → after_complete l ≡ Kept → slots_completed l m k x ≡ insert m k x
+-- A slot that completing keeps is written at its key.
+slots-kept : {B : Type 0} (l : Lifecycle Outcome) (m : FinMap nat_cmp (Slot B)) (k : ℕ) (x : Slot B) → after_complete l ≡ Kept →
+    slots_completed l m k x ≡ insert m k x
 slots-kept Submitted m k x h = refl
 slots-kept (Waiting t) m k x h = refl
 slots-kept Ignored m k x h = (let f : ⊥ = cc in absurd f)
 slots-kept (Completed r) m k x h = refl
 
-slots-wake : {B : Type 0} (l : Lifecycle Outcome) (m : FinMap nat_cmp (Slot B)) (k : ℕ) (x : Slot B) (task : ℕ) → after_complete l ≡ Wake task → slots_completed l m k x ≡ insert m k x
+-- A slot whose completion wakes a task is written at its key.
+slots-wake : {B : Type 0} (l : Lifecycle Outcome) (m : FinMap nat_cmp (Slot B)) (k : ℕ) (x : Slot B) (task : ℕ) →
+    after_complete l ≡ Wake task → slots_completed l m k x ≡ insert m k x
 slots-wake Submitted m k x task h = refl
 slots-wake (Waiting t) m k x task h = refl
 slots-wake Ignored m k x task h = (let f : ⊥ = cc in absurd f)
 slots-wake (Completed r) m k x task h = refl
 
-slots-free : {B : Type 0} (l : Lifecycle Outcome) (m : FinMap nat_cmp (Slot B)) (k : ℕ) (x : Slot B) → after_complete l ≡ Free → slots_completed l m k x ≡ remove (insert m k x) k
+-- A slot that completing frees is removed after it is written.
+slots-free : {B : Type 0} (l : Lifecycle Outcome) (m : FinMap nat_cmp (Slot B)) (k : ℕ) (x : Slot B) → after_complete l ≡ Free →
+    slots_completed l m k x ≡ remove (insert m k x) k
 slots-free Submitted m k x h = (let f : ⊥ = cc in absurd f)
 slots-free (Waiting t) m k x h = (let f : ⊥ = cc in absurd f)
 slots-free Ignored m k x h = refl
 slots-free (Completed r) m k x h = (let f : ⊥ = cc in absurd f)
 
--- A completion of a slot that isn't in flight changes nothing.
-pub completes-none : {B : Type 0} (m : FinMap nat_cmp (Slot B)) (c : Completion) (x : Option (Slot B)) → get m c.word ≡ x → flies_in x ≡ false → CompletesSlot m c m None
-completes-none m c None at h = record { answer = ap named_by (sym at); slots = ap (slots_after m c) (sym at) }
-completes-none m c (Some s) at h = record {
-  answer = ap (λ b. named_if b s) (sym h) ∙ ap named_by (sym at);
-  slots = ap (λ b. slots_if b m c s) (sym h) ∙ ap (slots_after m c) (sym at);
-}
-
-module _ {B : Type 0} (m : FinMap nat_cmp (Slot B)) (c : Completion) (s : Slot B) (life : Lifecycle Outcome) (there : get m c.word ≡ Some s) (completed : life ≡ Completed c.outcome) (flies : flies_in (get m c.word) ≡ true) where
+module _ {B : Type 0} (m : FinMap nat_cmp (Slot B)) (c : Completion) (s : Slot B) (life : Lifecycle Outcome) (there : get m c.word ≡ Some s)
+    (completed : life ≡ Completed c.outcome) (flies : flies_in (get m c.word) ≡ true) where
   flying : is_flying s.life ≡ true
   flying = ap flies_in (sym there) ∙ flies
 
@@ -67,18 +70,26 @@ module _ {B : Type 0} (m : FinMap nat_cmp (Slot B)) (c : Completion) (s : Slot B
 
   pub completes-kept : after_complete s.life ≡ Kept → CompletesSlot m c (insert m c.word (record s { life = life })) (Some (s.serial, None))
   completes-kept h = record {
-    slots = ap (λ l. insert m c.word (with_life s l)) completed ∙ sym (slots-kept s.life m c.word (with_life s (Completed c.outcome)) h) ∙ sym slots-here;
+    slots =
+        ap (λ l. insert m c.word (with_life s l)) completed ∙ sym (slots-kept s.life m c.word (with_life s (Completed c.outcome)) h)
+        ∙ sym slots-here;
     answer = ap (λ t. Some (s.serial, t)) (sym (task-kept s.life h)) ∙ sym named-here;
   }
 
-  pub completes-wake : (task : ℕ) → after_complete s.life ≡ Wake task → CompletesSlot m c (insert m c.word (record s { life = life })) (Some (s.serial, Some task))
+  pub completes-wake : (task : ℕ) → after_complete s.life ≡ Wake task →
+      CompletesSlot m c (insert m c.word (record s { life = life })) (Some (s.serial, Some task))
   completes-wake task h = record {
-    slots = ap (λ l. insert m c.word (with_life s l)) completed ∙ sym (slots-wake s.life m c.word (with_life s (Completed c.outcome)) task h) ∙ sym slots-here;
+    slots =
+        ap (λ l. insert m c.word (with_life s l)) completed ∙ sym (slots-wake s.life m c.word (with_life s (Completed c.outcome)) task h)
+        ∙ sym slots-here;
     answer = ap (λ t. Some (s.serial, t)) (sym (task-wake s.life task h)) ∙ sym named-here;
   }
 
-  pub completes-free : (new : FinMap nat_cmp (Slot B)) → after_complete s.life ≡ Free → new ≡ remove (insert m c.word (record s { life = life })) c.word → CompletesSlot m c new (Some (s.serial, None))
+  pub completes-free : (new : FinMap nat_cmp (Slot B)) → after_complete s.life ≡ Free →
+      new ≡ remove (insert m c.word (record s { life = life })) c.word → CompletesSlot m c new (Some (s.serial, None))
   completes-free new h gone = record {
-    slots = gone ∙ ap (λ l. remove (insert m c.word (with_life s l)) c.word) completed ∙ sym (slots-free s.life m c.word (with_life s (Completed c.outcome)) h) ∙ sym slots-here;
+    slots =
+        gone ∙ ap (λ l. remove (insert m c.word (with_life s l)) c.word) completed
+        ∙ sym (slots-free s.life m c.word (with_life s (Completed c.outcome)) h) ∙ sym slots-here;
     answer = ap (λ t. Some (s.serial, t)) (sym (task-free s.life h)) ∙ sym named-here;
   }

@@ -6,6 +6,6 @@ pub mod Counts
 pub mod Slots
 pub mod Owned
 pub mod Filling
-mod Polling
+pub mod Polling
 pub mod Requests
 pub mod Tokens

@@ -1,22 +1,23 @@
 -- A finite map by numbers after a write and after a removal.
-use Rattle.std.proofs.Common.{◌≡◌, ◌≢◌, inl, inr, ℕ, ◌+◌, ◌-◌, true, false, cond, Some, None, refl, sym, ◌∙◌, ap, arith}
+use Rattle.std.proofs.Common.{◌≡◌, ◌≢◌, inl, inr, ℕ, ◌+◌, ◌-◌, true, cond, Some, None, refl, sym, ◌∙◌, ap, arith}
 use Rattle.std.specs.Prelude.{is_some}
 use Rattle.std.specs.Ordering.{nat_cmp, eq_by_cmp}
 use Rattle.std.specs.Cmp.{nat_cmp_total}
-use Rattle.std.specs.FinMap.{FinMap, get, insert, remove, len, get-insert, get-remove, len-insert, len-remove, same_map, nat_cmp-IsAntisymmetric}
+use Rattle.std.specs.FinMap.{FinMap, get, insert, remove, len, get-insert, get-remove, len-insert, len-remove, same_map}
+use Rattle.std.specs.FinMap.{nat_cmp-IsAntisymmetric}
 use Rattle.std.proofs.lemmas.Bool.Decides.{nat_tests}
-use Rattle.driver_core.proofs.Lists.{same-or-not}
+use Rattle.op_slots.proofs.Places.{differ}
+use Rattle.ring_core.proofs.Numbers.{same-or-not}
 
+-- Equal numbers compare as equal.
 same : (a b : ℕ) → a ≡ b → eq_by_cmp nat_cmp a b ≡ true
 same a b e = grind (arith, nat_tests)
-
-differ : (a b : ℕ) → a ≢ b → eq_by_cmp nat_cmp a b ≡ false
-differ a b e = grind (arith, nat_tests)
 
 -- What was written at a key is there, and all else stays.
 pub put-same : {X : Type 0} (m : FinMap nat_cmp X) (k : ℕ) (v : X) → get (insert m k v) k ≡ Some v
 put-same m k v = get-insert nat_cmp_total m k v k ∙ ap (λ b. cond b (Some v) (get m k)) (same k k refl)
 
+-- A write at a key leaves every other key.
 pub put-other : {X : Type 0} (m : FinMap nat_cmp X) (k : ℕ) (v : X) (q : ℕ) → q ≢ k → get (insert m k v) q ≡ get m q
 put-other m k v q h = get-insert nat_cmp_total m k v q ∙ ap (λ b. cond b (Some v) (get m q)) (differ q k h)
 
@@ -24,6 +25,7 @@ put-other m k v q h = get-insert nat_cmp_total m k v q ∙ ap (λ b. cond b (Som
 pub gone-same : {X : Type 0} (m : FinMap nat_cmp X) (k : ℕ) → get (remove m k) k ≡ None
 gone-same m k = get-remove nat_cmp_total m k k ∙ ap (λ b. cond b None (get m k)) (same k k refl)
 
+-- A removal of a key leaves every other key.
 pub gone-other : {X : Type 0} (m : FinMap nat_cmp X) (k q : ℕ) → q ≢ k → get (remove m k) q ≡ get m q
 gone-other m k q h = get-remove nat_cmp_total m k q ∙ ap (λ b. cond b None (get m q)) (differ q k h)
 
@@ -31,9 +33,11 @@ gone-other m k q h = get-remove nat_cmp_total m k q ∙ ap (λ b. cond b None (g
 pub len-put : {X : Type 0} (m : FinMap nat_cmp X) (k : ℕ) (v w : X) → get m k ≡ Some w → len (insert m k v) ≡ len m
 len-put m k v w h = len-insert nat_cmp_total m k v ∙ ap (λ o. cond (is_some o) (len m) (len m + 1)) h
 
+-- A write at a new key makes them one more.
 pub len-new : {X : Type 0} (m : FinMap nat_cmp X) (k : ℕ) (v : X) → get m k ≡ None → len (insert m k v) ≡ len m + 1
 len-new m k v h = len-insert nat_cmp_total m k v ∙ ap (λ o. cond (is_some o) (len m) (len m + 1)) h
 
+-- A removal of a key that is there makes them one less.
 pub len-gone : {X : Type 0} (m : FinMap nat_cmp X) (k : ℕ) (w : X) → get m k ≡ Some w → len (remove m k) ≡ len m - 1
 len-gone m k w h = len-remove nat_cmp_total m k ∙ ap (λ o. cond (is_some o) (len m - 1) (len m)) h
 

@@ -14,11 +14,14 @@ pub record Owned {B : Type 0} (buffer : B → Buffer) (L : Ledger) (s : Slot B) 
   pub owned : is_owned fit.operation ≡ true
   pub life : s.life ≡ owned_life fit.operation.place fit.operation.task
 
+-- An operation whose slot is its user's wasn't dropped.
 not-dropped : (b : Bool) (p : Place) (t : Option ℕ) → is_owned_life (life_of b p t) ≡ true → b ≡ false
 not-dropped true p t h = (let f : ⊥ = cc in absurd f)
 not-dropped false p t h = refl
 
-pub owned-slot : {B : Type 0} (buffer : B → Buffer) (L : Ledger) (s : Slot B) → SlotFor buffer L.ops s → is_owned_life s.life ≡ true → Owned buffer L s
+-- A slot that is its user's stands for an operation that is.
+pub owned-slot : {B : Type 0} (buffer : B → Buffer) (L : Ledger) (s : Slot B) → SlotFor buffer L.ops s → is_owned_life s.life ≡ true →
+    Owned buffer L s
 owned-slot buffer L s m h =
     let o = m.operation in
     let d = not-dropped o.dropped o.place o.task (sym (ap is_owned_life m.life) ∙ h) in

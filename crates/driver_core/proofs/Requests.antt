@@ -15,7 +15,7 @@ use Rattle.driver_core.specs.Slot.{with_life, is_flying, number_at, serial_of, s
 use Rattle.driver_core.specs.Slot.{PollsAt, DropsAt, CompletesSlot, KeepsNumbers}
 use Rattle.driver_core.specs.Op.{number_of}
 use Rattle.driver_core.specs.Requests.{request_in, StaysHeld}
-use Rattle.driver_core.proofs.Lists.{same-or-not}
+use Rattle.ring_core.proofs.Numbers.{same-or-not}
 use Rattle.driver_core.proofs.Maps.{put-same, put-other, gone-same, gone-other, remove-put}
 use Rattle.driver_core.proofs.Numbers.{owner}
 

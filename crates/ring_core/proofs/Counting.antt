@@ -1,5 +1,6 @@
 -- Sums of the first counts of a list, and how many of the first slots are kept.
-use Rattle.std.proofs.Common.{◌≡◌, inl, inr, ℕ, zero, suc, ◌+◌, ◌-◌, ◌*◌, ◌/◌, ◌<◌, ◌≤◌, Bool, true, false, List, [], ◌∷◌, ◌++◌, length, replicate, get_or, set, Some, slice_get, refl, sym, ◌∙◌, ap, arith}
+use Rattle.std.proofs.Common.{◌≡◌, inl, inr, ℕ, zero, suc, ◌+◌, ◌-◌, ◌*◌, ◌/◌, ◌<◌, ◌≤◌, Bool, true, false, List, [], ◌∷◌, ◌++◌, length}
+use Rattle.std.proofs.Common.{replicate, get_or, set, Some, slice_get, refl, sym, ◌∙◌, ap, arith}
 use Rattle.std.proofs.lemmas.Bool.Decides.{leb_tells}
 use Rattle.std.proofs.lemmas.Grind.{get_or_default_zero}
 use Rattle.std.proofs.lemmas.Option.{slice_get_within}
@@ -76,7 +77,8 @@ sum-discounted (suc n) zero (x ∷ xs) some = omega arith
 sum-discounted (suc n) (suc i) (x ∷ xs) some = let rest = sum-discounted n i xs some in omega arith
 
 -- One slot more.
-pub kept-next : (n : ℕ) (flags : List Bool) (flag : Bool) → slice_get flags n ≡ Some flag → kept_first (suc n) flags ≡ kept_first n flags + one_if flag
+pub kept-next : (n : ℕ) (flags : List Bool) (flag : Bool) → slice_get flags n ≡ Some flag →
+    kept_first (suc n) flags ≡ kept_first n flags + one_if flag
 kept-next n [] flag there = cc
 kept-next zero (f ∷ flags) flag there = let same : f ≡ flag = cc in let counts = ap one_if same in omega arith
 kept-next (suc n) (f ∷ flags) flag there = let rest = kept-next n flags flag there in omega arith
@@ -127,7 +129,8 @@ kept-joined (suc n) [] = let none = kept-none n in omega arith
 kept-joined (suc n) (f ∷ flags) = let rest = kept-joined n flags in omega arith
 
 -- A slot that was kept isn't any more.
-kept-left : (n i : ℕ) (flags : List Bool) → slice_get flags i ≡ Some true → kept_first n (set flags i false) + among i n ≡ kept_first n flags
+kept-left : (n i : ℕ) (flags : List Bool) → slice_get flags i ≡ Some true →
+    kept_first n (set flags i false) + among i n ≡ kept_first n flags
 kept-left zero i flags there = refl
 kept-left (suc n) i [] there = cc
 kept-left (suc n) zero (f ∷ flags) there = let same : f ≡ true = cc in let counts = ap one_if same in omega arith
@@ -243,8 +246,8 @@ counted-none blocks groups n m no_blocks no_groups = record {
 }
 
 -- Counts with no slot kept are those of no slots.
-pub counted-empty : (flags : List Bool) (blocks groups : List ℕ) → length flags ≤ 64 * length blocks → ◌≡◌ {A = ℕ} (kept_first (length flags) flags) 0 →
-    AreCounted flags blocks groups → AreCounted [] blocks groups
+pub counted-empty : (flags : List Bool) (blocks groups : List ℕ) → length flags ≤ 64 * length blocks →
+    ◌≡◌ {A = ℕ} (kept_first (length flags) flags) 0 → AreCounted flags blocks groups → AreCounted [] blocks groups
 counted-empty flags blocks groups in_blocks empty counts = record {
   blocks_count = λ i.
       let count = counts.blocks_count i in
@@ -256,10 +259,13 @@ counted-empty flags blocks groups in_blocks empty counts = record {
 
 -- A step over a count that is no more than the rank: the next count is there, and the rank before it is what is left.
 pub step-over : (counts : List ℕ) (at rest all count : ℕ) → sum_first at counts + rest ≡ all → all < sum_first (length counts) counts →
-    at < length counts → count ≡ get_or counts at count → count ≤ rest → (at + 1 < length counts) × (sum_first (at + 1) counts + (rest - count) ≡ all)
+    at < length counts → count ≡ get_or counts at count → count ≤ rest →
+    (at + 1 < length counts) × (sum_first (at + 1) counts + (rest - count) ≡ all)
 step-over counts at rest all count sum within there here over =
     let zero_default = get_or_default_zero counts at count there in
-    let next : sum_first (at + 1) counts ≡ sum_first at counts + get_or counts at 0 = ap (λ n. sum_first n counts) (let q : at + 1 ≡ suc at = omega arith in q) ∙ sum-next at counts in
+    let next : sum_first (at + 1) counts ≡ sum_first at counts + get_or counts at 0 =
+    ap (λ n. sum_first n counts) (let q : at + 1 ≡ suc at = omega arith in q)
+    ∙ sum-next at counts in
     (sum-within (at + 1) counts (omega arith), omega arith)
 
 -- A prefix of fewer kept ones than all ends before the end.
@@ -270,10 +276,13 @@ kept-within n flags less = elim (leb_tells (length flags) n) [
 ]
 
 -- A step over a slot that is not the one that is looked for.
-pub slot-over : (flags : List Bool) (at rest all : ℕ) (flag : Bool) (left : ℕ) → kept_first at flags + rest ≡ all → all < kept_first (length flags) flags →
-    slice_get flags at ≡ Some flag → left + one_if flag ≡ rest → (at + 1 < length flags) × (kept_first (at + 1) flags + left ≡ all)
+pub slot-over : (flags : List Bool) (at rest all : ℕ) (flag : Bool) (left : ℕ) → kept_first at flags + rest ≡ all →
+    all < kept_first (length flags) flags → slice_get flags at ≡ Some flag → left + one_if flag ≡ rest →
+    (at + 1 < length flags) × (kept_first (at + 1) flags + left ≡ all)
 slot-over flags at rest all flag left sum within here over =
-    let next : kept_first (at + 1) flags ≡ kept_first at flags + one_if flag = ap (λ n. kept_first n flags) (let q : at + 1 ≡ suc at = omega arith in q) ∙ kept-next at flags flag here in
+    let next : kept_first (at + 1) flags ≡ kept_first at flags + one_if flag =
+    ap (λ n. kept_first n flags) (let q : at + 1 ≡ suc at = omega arith in q)
+    ∙ kept-next at flags flag here in
     (kept-within (at + 1) flags (omega arith), omega arith)
 
 -- The blocks of a group in which a rank ends begin before the end of all blocks, and so do those that the rank is left to.
@@ -305,7 +314,9 @@ kept-less flags i there =
     omega arith
 
 -- One kept slot more, once one joined.
-pub kept-one-more : (flags : List Bool) → (kept_first (length (flags ++ true ∷ [])) (flags ++ true ∷ []) ≡ kept_first (length flags) flags + 1) × (length (flags ++ true ∷ []) ≡ length flags + 1)
+pub kept-one-more : (flags : List Bool) →
+    (kept_first (length (flags ++ true ∷ [])) (flags ++ true ∷ []) ≡ kept_first (length flags) flags + 1) ×
+    (length (flags ++ true ∷ []) ≡ length flags + 1)
 kept-one-more flags =
     let longer = length-append flags (true ∷ []) in
     let joined = kept-joined (length (flags ++ true ∷ [])) flags in

@@ -10,12 +10,12 @@ use Rattle.ring_core.specs.Called.{body_effect, IsRun}
 use Rattle.ring_core.specs.MemRing.{completion_of, completed, IsExecuted}
 
 -- An entry in flight that was carried out, and then became the last completion, was executed.
-pub run-executed : {P : Type 0} (offered : P → ℕ → List ℕ) (stores : P → ℕ → List ℕ → P → Type 0) (old new : RingView) (world : List HandleState)
-    (place : ℕ) (told : Told) (before after : P) (flight : Flight) (outcome : Outcome) (completion : Completion) →
-    slice_get old.flying place ≡ Some flight →
+pub run-executed : {P : Type 0} (offered : P → ℕ → List ℕ) (stores : P → ℕ → List ℕ → P → Type 0) (old new : RingView)
+    (world : List HandleState) (place : ℕ) (told : Told) (before after : P) (flight : Flight) (outcome : Outcome)
+    (completion : Completion) → slice_get old.flying place ≡ Some flight →
     IsRun stores flight told (offered before flight.entry.word) old.world world before after outcome →
-    new ≡ completed (record old { world = world }) place flight.entry outcome →
-    completion ≡ completion_of flight.entry outcome → IsExecuted offered stores old place told new before after completion
+    new ≡ completed (record old { world = world }) place flight.entry outcome → completion ≡ completion_of flight.entry outcome →
+    IsExecuted offered stores old place told new before after completion
 run-executed offered stores old new world place told before after flight outcome completion there ran new_is completion_is =
     let moved = body_effect old.world flight.entry.body (offered before flight.entry.word) told in
     subst (λ last. IsExecuted offered stores old place told new before after last) (sym completion_is) (record {

@@ -8,10 +8,12 @@ use Rattle.std.proofs.lemmas.List.{append-nil, append_assoc, length-append}
 pub joined-more : (xs : List (List ℕ)) (i : ℕ) → i < length xs → concat (take (suc i) xs) ≡ concat (take i xs) ++ slice_index_or xs i []
 joined-more [] i h = absurd (omega arith)
 joined-more (x ∷ xs) zero h = append-nil x
-joined-more (x ∷ xs) (suc i) h = ap (λ ys. x ++ ys) (joined-more xs i (omega arith)) ∙ sym (append_assoc x (concat (take i xs)) (slice_index_or xs i []))
+joined-more (x ∷ xs) (suc i) h =
+    ap (λ ys. x ++ ys) (joined-more xs i (omega arith)) ∙ sym (append_assoc x (concat (take i xs)) (slice_index_or xs i []))
 
 -- The same, by their lengths.
-pub length-joined-more : (xs : List (List ℕ)) (i : ℕ) → i < length xs → length (concat (take (suc i) xs)) ≡ length (concat (take i xs)) + length (slice_index_or xs i [])
+pub length-joined-more : (xs : List (List ℕ)) (i : ℕ) → i < length xs →
+    length (concat (take (suc i) xs)) ≡ length (concat (take i xs)) + length (slice_index_or xs i [])
 length-joined-more xs i h = ap length (joined-more xs i h) ∙ length-append (concat (take i xs)) (slice_index_or xs i [])
 
 -- The first n of two lists, joined: those of the first, then of the second as many as are left.
@@ -28,7 +30,8 @@ take-joined (suc n) (x ∷ xs) ys =
     ap (λ zs. x ∷ zs) (take-joined n xs ys ∙ ap (λ m. take n xs ++ take m ys) less)
 
 -- The first n of all lists are among the first lists, where these have so many.
-pub take-first-joined : (n : ℕ) (xs : List (List ℕ)) (i : ℕ) → n ≤ length (concat (take i xs)) → take n (concat (take i xs)) ≡ take n (concat xs)
+pub take-first-joined : (n : ℕ) (xs : List (List ℕ)) (i : ℕ) → n ≤ length (concat (take i xs)) →
+    take n (concat (take i xs)) ≡ take n (concat xs)
 take-first-joined n [] zero few = refl
 take-first-joined n [] (suc i) few = refl
 take-first-joined n (x ∷ xs) zero few =

@@ -1,7 +1,7 @@
 -- What stands on the slots that are kept.
-use Rattle.std.proofs.Common.{◌≡◌, ◌≢◌, ◌⊎◌, inl, inr, ℕ, zero, suc, ◌+◌, ◌<◌, ◌≤◌, Bool, true, false, List, [], ◌∷◌, ◌++◌, map, length, take, drop, remove, replicate, get_or, set, Some, slice_get, refl, sym, ◌∙◌, ap, subst, arith}
+use Rattle.std.proofs.Common.{◌≡◌, ◌≢◌, inl, inr, ℕ, zero, suc, ◌+◌, ◌<◌, ◌≤◌, Bool, true, false, List, [], ◌∷◌, ◌++◌, map, length, take}
+use Rattle.std.proofs.Common.{drop, remove, replicate, get_or, set, Some, slice_get, refl, sym, ◌∙◌, ap, subst, arith}
 use Rattle.std.specs.Prelude.{◌==◌, ◌||◌}
-use Rattle.std.proofs.lemmas.Bool.Decides.{eqb_tells}
 use Rattle.std.proofs.lemmas.Option.{slice_get_within}
 use Rattle.std.proofs.lemmas.List.{drop-set-lt, append_assoc, length-replicate}
 use Rattle.std.proofs.Math.Seq.{take-suc-set}
@@ -10,17 +10,19 @@ use Rattle.ring_core.specs.Lists.{amended}
 use Rattle.ring_core.specs.Ring.{marked_by}
 use Rattle.ring_core.specs.Ranks.{kept_first, is_kept, kept}
 use Rattle.ring_core.specs.Flights.{InFlight, words_of, several, AreLinked}
+use Rattle.ring_core.proofs.Numbers.{equal-other, same-or-not}
 
 -- As many stand on kept slots as slots are kept.
-pub length-kept : {A : Type 0} (flags : List Bool) (xs : List A) → length xs ≡ length flags → length (kept flags xs) ≡ kept_first (length flags) flags
+pub length-kept : {A : Type 0} (flags : List Bool) (xs : List A) → length xs ≡ length flags →
+    length (kept flags xs) ≡ kept_first (length flags) flags
 length-kept [] xs same = refl
 length-kept (f ∷ flags) [] same = absurd (omega arith)
 length-kept (true ∷ flags) (x ∷ xs) same = let rest = length-kept flags xs (omega arith) in omega arith
 length-kept (false ∷ flags) (x ∷ xs) same = let rest = length-kept flags xs (omega arith) in omega arith
 
 -- What stands on a kept slot stands at its rank.
-pub get-kept : {A : Type 0} (flags : List Bool) (xs : List A) (slot : ℕ) (x : A) → slice_get flags slot ≡ Some true → slice_get xs slot ≡ Some x →
-    slice_get (kept flags xs) (kept_first slot flags) ≡ Some x
+pub get-kept : {A : Type 0} (flags : List Bool) (xs : List A) (slot : ℕ) (x : A) → slice_get flags slot ≡ Some true →
+    slice_get xs slot ≡ Some x → slice_get (kept flags xs) (kept_first slot flags) ≡ Some x
 get-kept [] xs slot x there here = cc
 get-kept (f ∷ flags) [] slot x there here = cc
 get-kept (true ∷ flags) (y ∷ xs) zero x there here = here
@@ -33,7 +35,8 @@ get-kept (false ∷ flags) (y ∷ xs) (suc slot) x there here =
     ap (slice_get (kept flags xs)) next ∙ get-kept flags xs slot x there here
 
 -- What joins the end stands behind all others.
-pub kept-joined : {A : Type 0} (flags : List Bool) (xs : List A) (x : A) → length xs ≡ length flags → kept (flags ++ true ∷ []) (xs ++ x ∷ []) ≡ kept flags xs ++ x ∷ []
+pub kept-joined : {A : Type 0} (flags : List Bool) (xs : List A) (x : A) → length xs ≡ length flags →
+    kept (flags ++ true ∷ []) (xs ++ x ∷ []) ≡ kept flags xs ++ x ∷ []
 kept-joined [] [] x same = refl
 kept-joined [] (y ∷ xs) x same = absurd (omega arith)
 kept-joined (f ∷ flags) [] x same = absurd (omega arith)
@@ -41,8 +44,8 @@ kept-joined (true ∷ flags) (y ∷ xs) x same = ap (λ ys. y ∷ ys) (kept-join
 kept-joined (false ∷ flags) (y ∷ xs) x same = kept-joined flags xs x (omega arith)
 
 -- What stands on a slot that isn't kept any more has left its rank.
-pub kept-released : {A : Type 0} (flags : List Bool) (xs : List A) (slot : ℕ) → slice_get flags slot ≡ Some true → length xs ≡ length flags →
-    kept (set flags slot false) xs ≡ remove (kept flags xs) (kept_first slot flags)
+pub kept-released : {A : Type 0} (flags : List Bool) (xs : List A) (slot : ℕ) → slice_get flags slot ≡ Some true →
+    length xs ≡ length flags → kept (set flags slot false) xs ≡ remove (kept flags xs) (kept_first slot flags)
 kept-released [] xs slot there same = cc
 kept-released (f ∷ flags) [] slot there same = absurd (omega arith)
 kept-released (true ∷ flags) (y ∷ xs) zero there same = refl
@@ -68,10 +71,6 @@ kept-map f (b ∷ flags) [] = refl
 kept-map f (true ∷ flags) (x ∷ xs) = ap (λ ys. f x ∷ ys) (kept-map f flags xs)
 kept-map f (false ∷ flags) (x ∷ xs) = kept-map f flags xs
 
--- Two numbers that differ aren't equal.
-other-false : (a b : ℕ) → a ≢ b → (a == b) ≡ false
-other-false a b other = elim (eqb_tells a b) [ inl t ↦ absurd (other t.1) | inr t ↦ t.0 ]
-
 -- A flag stays where nothing is added.
 or-false : (a b : Bool) → b ≡ false → (a || b) ≡ a
 or-false true b e = refl
@@ -79,7 +78,8 @@ or-false false b e = e
 
 -- What has another word isn't marked.
 marked-other : (w : ℕ) (x : Flight) → x.entry.word ≢ w → marked_by w x ≡ x
-marked-other w x other = ap (λ marked. record x { marked = marked }) (or-false x.marked (x.entry.word == w) (other-false x.entry.word w other))
+marked-other w x other =
+    ap (λ marked. record x { marked = marked }) (or-false x.marked (x.entry.word == w) (equal-other x.entry.word w other))
 
 -- Where nothing that is kept has a word, its cancel marks nothing.
 marks-nothing : (w : ℕ) (flags : List Bool) (xs : List Flight) →
@@ -99,12 +99,14 @@ pub marks-one : (w : ℕ) (flags : List Bool) (xs : List Flight) (at : ℕ) →
 marks-one w [] xs at only = refl
 marks-one w (f ∷ flags) [] at only = refl
 marks-one w (true ∷ flags) (x ∷ xs) zero only =
-    ap (λ ys. marked_by w x ∷ ys) (marks-nothing w flags xs (λ slot y there here same. let no = only (suc slot) y there here same in absurd (omega arith)))
+    ap (λ ys. marked_by w x ∷ ys)
+    (marks-nothing w flags xs (λ slot y there here same. let no = only (suc slot) y there here same in absurd (omega arith)))
 marks-one w (false ∷ flags) (x ∷ xs) zero only =
     marks-nothing w flags xs (λ slot y there here same. let no = only (suc slot) y there here same in absurd (omega arith))
 marks-one w (true ∷ flags) (x ∷ xs) (suc at) only =
     ap (λ ys. x ∷ ys) (marks-one w flags xs at (λ slot y there here same. let one = only (suc slot) y there here same in omega arith))
-    ∙ ap (λ y. y ∷ map (marked_by w) (kept flags xs)) (sym (marked-other w x (λ same. let no = only zero x refl refl same in absurd (omega arith))))
+    ∙ ap (λ y. y ∷ map (marked_by w) (kept flags xs))
+    (sym (marked-other w x (λ same. let no = only zero x refl refl same in absurd (omega arith))))
 marks-one w (false ∷ flags) (x ∷ xs) (suc at) only =
     marks-one w flags xs at (λ slot y there here same. let one = only (suc slot) y there here same in omega arith)
 
@@ -125,27 +127,21 @@ word-there [] slot x here = cc
 word-there (y ∷ xs) zero x here = let same : y ≡ x = cc in ap (λ z. Some z.entry.word) same
 word-there (y ∷ xs) (suc slot) x here = word-there xs slot x here
 
--- Two numbers are the same, or they aren't.
-same-or-other : (n m : ℕ) → (n ≡ m) ⊎ (n ≢ m)
-same-or-other n m = elim (eqb_tells n m) [ inl e ↦ inl e.1 | inr e ↦ inr e.1 ]
-
 -- A word that is kept on a slot is kept on the one that its link names.
-pub linked-one : (links : List ℕ) (flags : List Bool) (xs : List Flight) (word at : ℕ) → AreLinked links flags (words_of xs) → word < length links →
-    get_or links word 0 ≡ at → at < several → (slot : ℕ) (x : Flight) → slice_get flags slot ≡ Some true → slice_get xs slot ≡ Some x → x.entry.word ≡ word →
-    slot ≡ at
-linked-one links flags xs word at linked within link one slot x there here same = elim (same-or-other at slot) [
+pub linked-one : (links : List ℕ) (flags : List Bool) (xs : List Flight) (word at : ℕ) → AreLinked links flags (words_of xs) →
+    word < length links → get_or links word 0 ≡ at → at < several → (slot : ℕ) (x : Flight) → slice_get flags slot ≡ Some true →
+    slice_get xs slot ≡ Some x → x.entry.word ≡ word → slot ≡ at
+linked-one links flags xs word at linked within link one slot x there here same = elim (same-or-not at slot) [
   | inl is ↦ sym is
   | inr differs ↦ (
-      let many : get_or links word 0 ≡ several = linked slot word there (word-there xs slot x here ∙ ap Some same) within (λ is. differs (sym link ∙ is)) in
+      let many : get_or links word 0 ≡ several =
+      linked slot word there (word-there xs slot x here ∙ ap Some same) within (λ is. differs (sym link ∙ is)) in
       absurd (omega arith))
 ]
 
--- Where no slot has joined, all is linked.
-pub linked-none : (links words : List ℕ) → AreLinked links [] words
-linked-none links words slot w kept here inside other = cc
-
 -- A slot that isn't kept any more takes nothing from the links of the others.
-pub linked-released : (links : List ℕ) (flags : List Bool) (words : List ℕ) (at : ℕ) → AreLinked links flags words → AreLinked links (set flags at false) words
+pub linked-released : (links : List ℕ) (flags : List Bool) (words : List ℕ) (at : ℕ) → AreLinked links flags words →
+    AreLinked links (set flags at false) words
 linked-released links flags words at linked slot w kept here inside other = linked slot w (was-kept flags at slot kept) here inside other
   where
     was-kept : (flags : List Bool) (at slot : ℕ) → slice_get (set flags at false) slot ≡ Some true → slice_get flags slot ≡ Some true
@@ -156,8 +152,8 @@ linked-released links flags words at linked slot w kept here inside other = link
     was-kept (f ∷ flags) (suc at) (suc slot) kept = was-kept flags at slot kept
 
 -- Words behind the slots change nothing.
-pub linked-longer : (links : List ℕ) (flags : List Bool) (words : List ℕ) (word : ℕ) → length words ≡ length flags → AreLinked links flags words →
-    AreLinked links flags (words ++ word ∷ [])
+pub linked-longer : (links : List ℕ) (flags : List Bool) (words : List ℕ) (word : ℕ) → length words ≡ length flags →
+    AreLinked links flags words → AreLinked links flags (words ++ word ∷ [])
 linked-longer links flags words word together linked slot w kept here inside other =
     let within : slot < length flags = slice_get_within flags slot true kept in
     linked slot w kept (sym (get-first words slot (omega arith)) ∙ here) inside other
@@ -192,7 +188,8 @@ drop-get xs i x here = drop-suc xs i x here ∙ ap (λ n. x ∷ drop n xs) (let 
 -- What stands on a kept slot moves behind what was moved before.
 pub pack-kept : {A : Type 0} (flags : List Bool) (xs : List A) (count slot : ℕ) (x : A) → slot < length xs → count ≤ slot →
     slice_get flags slot ≡ Some true → slice_get xs slot ≡ Some x →
-    take count xs ++ kept (drop slot flags) (drop slot xs) ≡ take (count + 1) (set xs count x) ++ kept (drop (slot + 1) flags) (drop (slot + 1) (set xs count x))
+    take count xs ++ kept (drop slot flags) (drop slot xs) ≡ take (count + 1) (set xs count x) ++ kept (drop (slot + 1) flags)
+    (drop (slot + 1) (set xs count x))
 pack-kept flags xs count slot x within few there here =
     let rest = kept (drop (slot + 1) flags) (drop (slot + 1) xs) in
     let next : suc count ≡ count + 1 = omega arith in
@@ -200,7 +197,8 @@ pack-kept flags xs count slot x within few there here =
     ∙ ap (λ ys. take count xs ++ kept (true ∷ drop (slot + 1) flags) ys) (drop-get xs slot x here)
     ∙ sym (append_assoc (take count xs) (x ∷ []) rest)
     ∙ ap (λ ys. ys ++ rest) (sym (take-suc-set xs count x (omega arith)) ∙ ap (λ n. take n (set xs count x)) next)
-    ∙ ap (λ ys. take (count + 1) (set xs count x) ++ kept (drop (slot + 1) flags) ys) (sym (drop-set-lt (slot + 1) xs count x (omega arith)))
+    ∙ ap (λ ys. take (count + 1) (set xs count x) ++ kept (drop (slot + 1) flags) ys)
+    (sym (drop-set-lt (slot + 1) xs count x (omega arith)))
 
 -- Each place within a list has an element.
 get-there : {A : Type 0} (xs : List A) (i : ℕ) → i < length xs → (x : A) × (slice_get xs i ≡ Some x)
@@ -215,14 +213,6 @@ pack-gone flags xs count slot within there =
     let at = get-there xs slot within in
     ap (λ fs. take count xs ++ kept fs (drop slot xs)) (drop-get flags slot false there)
     ∙ ap (λ ys. take count xs ++ kept (false ∷ drop (slot + 1) flags) ys) (drop-get xs slot at.0 at.1)
-
--- One more slot that is kept.
-pub replicate-more : (n : ℕ) → replicate n true ++ true ∷ [] ≡ replicate (n + 1) true
-replicate-more n = appended n ∙ ap (λ m. replicate m true) (let next : suc n ≡ n + 1 = omega arith in next)
-  where
-    appended : (n : ℕ) → replicate n true ++ true ∷ [] ≡ replicate (suc n) true
-    appended zero = refl
-    appended (suc n) = ap (λ ys. true ∷ ys) (appended n)
 
 -- The words after one more item.
 pub words-joined : (xs : List Flight) (x : Flight) → words_of (xs ++ x ∷ []) ≡ words_of xs ++ x.entry.word ∷ []
@@ -244,8 +234,8 @@ abbrev pub in_flight : ℕ → List Flight → InFlight
 in_flight room flights = record { flights = flights; room = room }
 
 -- The links after one more item whose slot is to come.
-pub linked-more : (links : List ℕ) (flags : List Bool) (xs : List Flight) (x : Flight) → length xs ≡ length flags → AreLinked links flags (words_of xs) →
-    AreLinked links flags (words_of (xs ++ x ∷ []))
+pub linked-more : (links : List ℕ) (flags : List Bool) (xs : List Flight) (x : Flight) → length xs ≡ length flags →
+    AreLinked links flags (words_of xs) → AreLinked links flags (words_of (xs ++ x ∷ []))
 linked-more links flags xs x together linked =
     let count = length-words xs in
     subst (AreLinked links flags) (sym (words-joined xs x)) (linked-longer links flags (words_of xs) x.entry.word (omega arith) linked)

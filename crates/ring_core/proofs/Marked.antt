@@ -22,14 +22,16 @@ mapped_front-all f (suc i) [] h = refl
 mapped_front-all f (suc i) (x ∷ xs) h = ap (λ ys. f x ∷ ys) (mapped_front-all f i xs (omega arith))
 
 -- One more element changed.
-mapped_front-more : {A : Type 0} (f : A → A) (i : ℕ) (xs : List A) (d : A) → i < length xs → set (mapped_front f i xs) i (f (get_or (mapped_front f i xs) i d)) ≡ mapped_front f (suc i) xs
+mapped_front-more : {A : Type 0} (f : A → A) (i : ℕ) (xs : List A) (d : A) → i < length xs →
+    set (mapped_front f i xs) i (f (get_or (mapped_front f i xs) i d)) ≡ mapped_front f (suc i) xs
 mapped_front-more f zero [] d h = absurd (omega arith)
 mapped_front-more f zero (x ∷ xs) d h = refl
 mapped_front-more f (suc i) [] d h = absurd (omega arith)
 mapped_front-more f (suc i) (x ∷ xs) d h = ap (λ ys. f x ∷ ys) (mapped_front-more f i xs d (omega arith))
 
 -- The element behind a changed front, once it is changed too.
-pub mapped_front-set : {A : Type 0} (f : A → A) (xs ys : List A) (i : ℕ) (d z : A) → ys ≡ mapped_front f i xs → i < length xs → z ≡ f (get_or ys i d) → slice_set ys i z ≡ mapped_front f (i + 1) xs
+pub mapped_front-set : {A : Type 0} (f : A → A) (xs ys : List A) (i : ℕ) (d z : A) → ys ≡ mapped_front f i xs → i < length xs →
+    z ≡ f (get_or ys i d) → slice_set ys i z ≡ mapped_front f (i + 1) xs
 mapped_front-set f xs ys i d z h l e =
     ap (slice_set ys i) e
     ∙ ap (λ w. slice_set w i (f (get_or w i d))) h

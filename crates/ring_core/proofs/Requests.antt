@@ -4,7 +4,7 @@ use Rattle.std.specs.Prelude.{slice_get, nat_le, ◌&&◌, ◌||◌, ◌==◌}
 use Rattle.std.proofs.lemmas.List.{length-take, take-take}
 use Rattle.rent_buf.specs.Buffer.{Buffer}
 use Rattle.rent_buf.specs.Parts.{Parts}
-use Rattle.rent_buf.specs.Held.{HeldBuf, map_held}
+use Rattle.rent_buf.specs.Held.{HeldBuf}
 use Rattle.rent_buf.specs.declared.held.Held.{Held}
 use Rattle.rent_buf.specs.declared.held.Held.TheVariants.{One, Parts as InParts}
 use Rattle.ring_core.specs.declared.request.TheConstants.{MOST_ASKED}
@@ -16,11 +16,12 @@ use Rattle.ring_core.specs.declared.request.Outcome.{Outcome}
 use Rattle.ring_core.specs.declared.world.HandleState.{HandleState}
 use Rattle.ring_core.specs.Lists.{amended, passes}
 use Rattle.ring_core.specs.World.{input_at, with_output}
-use Rattle.ring_core.specs.Effect.{Effect, effect, call_sends}
+use Rattle.ring_core.specs.Effect.{Effect, effect}
 use Rattle.ring_core.specs.Payloads.{comes}
 use Rattle.ring_core.specs.Outcome.{is_allowed, is_spent, may_read, may_send}
-use Rattle.ring_core.specs.Request.{named, way_of, held_of, map_request, shape_of, call_of, room_of, shown_by, sent_of, held_after, held, held_room}
-use Rattle.ring_core.specs.Request.{held_want, held_shown, held_sent, IsHolding, HeldMade, IsMade}
+use Rattle.ring_core.specs.Request.{held_of, shape_of, call_of, room_of, shown_by, sent_of, held_after, held}
+use Rattle.ring_core.specs.Request.{held_room}
+use Rattle.ring_core.specs.Request.{held_want, held_shown, held_sent, IsHolding}
 use Rattle.ring_core.proofs.Numbers.{and-left, and-right, at_most-left}
 
 -- The request of a shape that holds this, where the shape holds such a thing.
@@ -47,97 +48,13 @@ pub request-is : {B V : Type 0} (r s : Request B V) → shape_of r ≡ shape_of 
 request-is r s shape holds =
     some-is r s (sym (rebuilt-own r) ∙ ap (λ x. rebuilt x (held_of r)) shape ∙ ap (rebuilt (shape_of s)) holds ∙ rebuilt-own s)
 
--- A request that is mapped keeps its shape.
-pub shape-map_request : {B C V W : Type 0} (f : B → C) (g : V → W) (r : Request B V) → shape_of (map_request f g r) ≡ shape_of r
-shape-map_request f g (Recv fd buf) = refl
-shape-map_request f g (ReadVec fd parts) = refl
-shape-map_request f g (Send fd buf) = refl
-shape-map_request f g (WriteVec fd parts) = refl
-
--- A request that is mapped holds what it held, mapped.
-pub held-map_request : {B C V W : Type 0} (f : B → C) (g : V → W) (r : Request B V) → held_of (map_request f g r) ≡ map_held f g (held_of r)
-held-map_request f g (Recv fd buf) = refl
-held-map_request f g (ReadVec fd parts) = refl
-held-map_request f g (Send fd buf) = refl
-held-map_request f g (WriteVec fd parts) = refl
-
--- A request that is mapped names the same handles.
-pub named-map_request : {B C V W : Type 0} (f : B → C) (g : V → W) (r : Request B V) → named (map_request f g r) ≡ named r
-named-map_request f g (Recv fd buf) = refl
-named-map_request f g (ReadVec fd parts) = refl
-named-map_request f g (Send fd buf) = refl
-named-map_request f g (WriteVec fd parts) = refl
-
--- A request that is mapped moves its bytes the same way.
-pub way-map_request : {B C V W : Type 0} (f : B → C) (g : V → W) (r : Request B V) → way_of (map_request f g r) ≡ way_of r
-way-map_request f g (Recv fd buf) = refl
-way-map_request f g (ReadVec fd parts) = refl
-way-map_request f g (Send fd buf) = refl
-way-map_request f g (WriteVec fd parts) = refl
-
--- Requests of one shape name the same handles.
-pub named-same : {B C V W : Type 0} (r : Request B V) (s : Request C W) → shape_of r ≡ shape_of s → named r ≡ named s
-named-same r s shape = sym (named-map_request (λ buf. tt) (λ parts. tt) r) ∙ ap named shape ∙ named-map_request (λ buf. tt) (λ parts. tt) s
-
--- Requests of one shape move their bytes the same way.
-pub way-same : {B C V W : Type 0} (r : Request B V) (s : Request C W) → shape_of r ≡ shape_of s → way_of r ≡ way_of s
-way-same r s shape = sym (way-map_request (λ buf. tt) (λ parts. tt) r) ∙ ap way_of shape ∙ way-map_request (λ buf. tt) (λ parts. tt) s
-
 -- A request has its own shape, and holds what it holds.
 pub holding-own : (r : Request Buffer Parts) → IsHolding r (held_of r) r
 holding-own r = record { shape = refl; holds = refl }
 
--- There is one request that is another one with this held.
-pub holding-one : (r s t : Request Buffer Parts) (h : HeldBuf) → IsHolding r h s → IsHolding r h t → s ≡ t
-holding-one r s t h one two = request-is s t (one.shape ∙ sym two.shape) (one.holds ∙ sym two.holds)
-
 -- A request that holds what it held is the same.
 pub holding-same : (r s : Request Buffer Parts) → IsHolding r (held_of r) s → s ≡ r
 holding-same r s now = request-is s r now.shape now.holds
-
--- What was made of something that it maps back to.
-made-back : {B C V W : Type 0} (one : B → C → Type 0) (many : V → W → Type 0) (f : C → B) (g : W → V) →
-    ((x : B) (y : C) → one x y → f y ≡ x) → ((x : V) (y : W) → many x y → g y ≡ x) →
-    (old : Held B V) (new : Held C W) → HeldMade one many old new → map_held f g new ≡ old
-made-back one many f g buf parts (One x) (One y) made = ap One (buf x y made)
-made-back one many f g buf parts (InParts x) (InParts y) made = ap InParts (parts x y made)
-made-back one many f g buf parts (One x) (InParts y) made = absurd made
-made-back one many f g buf parts (InParts x) (One y) made = absurd made
-
--- Where what a made request holds maps back to what it was made of, the request does.
-pub made-maps_back : {B C V W : Type 0} (one : B → C → Type 0) (many : V → W → Type 0) (f : C → B) (g : W → V) →
-    ((x : B) (y : C) → one x y → f y ≡ x) → ((x : V) (y : W) → many x y → g y ≡ x) →
-    (old : Request B V) (new : Request C W) → IsMade one many old new → map_request f g new ≡ old
-made-maps_back one many f g buf parts old new made =
-    request-is (map_request f g new) old (shape-map_request f g new ∙ made.shape)
-    (held-map_request f g new ∙ made-back one many f g buf parts (held_of old) (held_of new) made.holds)
-
--- What was made of something by a map.
-made-by : {B C V W : Type 0} (one : B → C → Type 0) (many : V → W → Type 0) (f : B → C) (g : V → W) →
-    ((x : B) (y : C) → one x y → y ≡ f x) → ((x : V) (y : W) → many x y → y ≡ g x) →
-    (old : Held B V) (new : Held C W) → HeldMade one many old new → new ≡ map_held f g old
-made-by one many f g buf parts (One x) (One y) made = ap One (buf x y made)
-made-by one many f g buf parts (InParts x) (InParts y) made = ap InParts (parts x y made)
-made-by one many f g buf parts (One x) (InParts y) made = absurd made
-made-by one many f g buf parts (InParts x) (One y) made = absurd made
-
--- Where what a made request holds is made by a map, the request is.
-pub made-maps : {B C V W : Type 0} (one : B → C → Type 0) (many : V → W → Type 0) (f : B → C) (g : V → W) →
-    ((x : B) (y : C) → one x y → y ≡ f x) → ((x : V) (y : W) → many x y → y ≡ g x) →
-    (old : Request B V) (new : Request C W) → IsMade one many old new → new ≡ map_request f g old
-made-maps one many f g buf parts old new made =
-    request-is new (map_request f g old) (made.shape ∙ sym (shape-map_request f g old))
-    (made-by one many f g buf parts (held_of old) (held_of new) made.holds ∙ sym (held-map_request f g old))
-
--- What a request that sends holds stays, whatever comes.
-pub held-sends : (r : Request Buffer Parts) (told : Told) (bytes : List ℕ) (k : ℕ) → call_sends (call_of r) told ≡ Some k →
-    held r told bytes ≡ held_of r
-held-sends (Recv fd buf) told bytes k sends = (let f : ⊥ = cc in absurd f)
-held-sends (ReadVec fd parts) told bytes k sends = (let f : ⊥ = cc in absurd f)
-held-sends (Send fd buf) (Count j) bytes k sends = refl
-held-sends (Send fd buf) (Fail e) bytes k sends = refl
-held-sends (WriteVec fd parts) (Count j) bytes k sends = refl
-held-sends (WriteVec fd parts) (Fail e) bytes k sends = refl
 
 -- At most what is wanted is read.
 most-read : (x : Option HandleState) (want k : ℕ) (gives : HandleState → Bool) →
@@ -202,7 +119,8 @@ effect-shown world canceled (WriteVec fd parts) (Count k) h =
     sent-shown world fd k (InParts parts) (most-sent (slice_get world fd) (length (held_sent (InParts parts))) k _ h)
 
 -- A request to which bytes come holds them afterwards.
-pub held-comes : (r : Request Buffer Parts) (told : Told) (got : List ℕ) → comes (call_of r) told ≡ true → held r told got ≡ held_after r got
+pub held-comes : (r : Request Buffer Parts) (told : Told) (got : List ℕ) → comes (call_of r) told ≡ true →
+    held r told got ≡ held_after r got
 held-comes r (Count k) got c = refl
 held-comes r (Fail e) got c = cc
 

@@ -21,7 +21,8 @@ use Rattle.driver_core.specs.Slots.{SlotFor}
 use Rattle.uring_driver.specs.Lists.{EntryFor, IsAt, QueuedFor, Meets, CancelsMean, is_call, queued_of}
 use Rattle.ring_core.specs.Entry.{cancel_entry}
 use Rattle.uring_driver.proofs.Means.{Means}
-use Rattle.driver_core.proofs.Lists.{some, same-or-not, get-pushed}
+use Rattle.ring_core.proofs.Numbers.{same-or-not}
+use Rattle.driver_core.proofs.Lists.{some, get-pushed}
 use Rattle.driver_core.proofs.Maps.{put-same, put-other}
 use Rattle.driver_core.proofs.Slots.{slots-replaced, slots-freed, other-left}
 use Rattle.uring_driver.proofs.Kept.{KeepsOp, KeepsSlot, call-queued, call-flown, lists-kept}

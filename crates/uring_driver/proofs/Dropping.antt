@@ -4,8 +4,6 @@ use Rattle.std.proofs.Common.{length, Option, Some, None, refl, sym, ◌∙◌, 
 use Rattle.std.specs.Prelude.{nat_lt}
 use Rattle.std.specs.FinMap.{get, insert, remove, len}
 use Rattle.rent_buf.specs.Buffer.{Buffer}
-use Rattle.op_slots.specs.declared.lifecycle.Lifecycle.{Lifecycle}
-use Rattle.op_slots.specs.declared.lifecycle.Lifecycle.TheVariants.{Submitted, Waiting, Ignored, Completed}
 use Rattle.op_slots.specs.declared.lifecycle.AfterDrop.TheVariants.{Left, Free}
 use Rattle.op_slots.specs.Lifecycle.{dropped, after_drop}
 use Rattle.ring_core.specs.Ring.{RingView, pushed}
@@ -36,7 +34,9 @@ use Rattle.uring_driver.proofs.Means.{Means, means-of, ring-of}
 use Rattle.uring_driver.proofs.Changing.{means-changed, means-freed, means-canceled}
 use Rattle.uring_driver.proofs.Heads.{means-view}
 use Rattle.uring_driver.proofs.Taking.{means-room, owned-room}
-use Rattle.uring_driver.proofs.Turns.{and-false, room-length, room-world, room-capacity}
+use Rattle.ring_core.proofs.Taken.{length-make_room}
+use Rattle.uring_driver.proofs.Turns.{and-false, room-world, room-capacity}
+use Rattle.driver_core.proofs.Polling.{ignored-left}
 
 -- A slot that waits is left.
 wait-left : (t : Option ℕ) → after_drop (waiting t) ≡ Left
@@ -58,13 +58,6 @@ free-reaped InFlight t h e = (let z = sym (wait-left t) ∙ e in cc)
 free-reaped (InDone r) t h e = (let z = sym (wait-left t) ∙ e in cc)
 free-reaped (Reaped r) t h e = (r, refl)
 free-reaped Gone t h e = (let f : ⊥ = cc in absurd f)
-
--- A slot that is left is ignored.
-pub left-ignored : (l : Lifecycle Outcome) → after_drop l ≡ Left → dropped l ≡ Ignored
-left-ignored Submitted h = refl
-left-ignored (Waiting task) h = refl
-left-ignored Ignored h = refl
-left-ignored (Completed r) h = (let f : ⊥ = cc in absurd f)
 
 module _ {R B : Type 0} (view : R → RingView) (buffer : B → Buffer) (d new : IoUringDriver R B) (L : Ledger) (key : ℕ) (s : Slot B)
     (old : Stands view buffer d L) (there : get d.slots.values key ≡ Some s) (mine : is_owned_life s.life ≡ true)
@@ -97,7 +90,7 @@ module _ {R B : Type 0} (view : R → RingView) (buffer : B → Buffer) (d new :
       there = get-amended-same with_drop L.ops s.serial my.fit.operation my.fit.there;
       live = my.fit.live;
       request = my.fit.request;
-      life = left-ignored s.life left;
+      life = ignored-left s.life left;
       fresh = my.fit.fresh;
       uncanceled = my.fit.uncanceled;
     }
@@ -133,7 +126,7 @@ module _ {R B : Type 0} (view : R → RingView) (buffer : B → Buffer) (d new :
             reached = reached-more L (view (ring_in new)).capacity old.events (Drop s.serial)
                 (old.reached ∙ ap (λ x. ledger x old.events) (sym capacity));
             operations = record {
-              numbered = given ∙ old.operations.numbered ∙ sym (room-length M ∙ length-amended with_drop L.ops s.serial)
+              numbered = given ∙ old.operations.numbered ∙ sym (length-make_room M ∙ length-amended with_drop L.ops s.serial)
                   ∙ ap (λ x. length x.0.ops) (sym e);
               in_slots = means.in_slots;
             };
@@ -211,7 +204,7 @@ module _ {R B : Type 0} (view : R → RingView) (buffer : B → Buffer) (d new :
           reached = reached-more L (view (ring_in new)).capacity old.events (Asks s.serial)
               (old.reached ∙ ap (λ x. ledger x old.events) (sym capacity));
           operations = record {
-            numbered = given ∙ old.operations.numbered ∙ sym (room-length L) ∙ ap (λ x. length x.0.ops) (sym e);
+            numbered = given ∙ old.operations.numbered ∙ sym (length-make_room L) ∙ ap (λ x. length x.0.ops) (sym e);
             in_slots = means.in_slots;
           };
           handles = λ h. ap (λ k. is_among k new.held h) first ∙ ap (λ k. is_among d.first k h) held ∙ old.handles h

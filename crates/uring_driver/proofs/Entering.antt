@@ -1,38 +1,44 @@
 -- Entering what is pending: prefixes of it are taken, one after another.
-use Rattle.std.proofs.Common.{◌≡◌, ℕ, zero, suc, ◌+◌, ◌-◌, ◌<◌, ◌≤◌, Bool, true, false, List, [], ◌∷◌, ◌++◌, length, take, drop, refl, sym, ◌∙◌, ap, subst, arith, append_assoc, append-nil, length-append, IsTrue, Result, Ok, Err}
-use Rattle.std.specs.Prelude.{IsOk, OnOk, OnErr, IfErr, ◌==◌, if◌then◌else◌}
+use Rattle.std.proofs.Common.{◌≡◌, ℕ, zero, suc, ◌+◌, ◌-◌, ◌<◌, ◌≤◌, Bool, true, false, List, [], ◌∷◌, ◌++◌, length, take, drop, refl, sym}
+use Rattle.std.proofs.Common.{◌∙◌, ap, subst, arith, append_assoc, append-nil, length-append, IsTrue, Result, Ok, Err}
+use Rattle.std.specs.Prelude.{OnOk, OnErr, IfErr, ◌==◌, if◌then◌else◌}
 use Rattle.std.proofs.lemmas.List.{length-drop}
 use Rattle.std.proofs.Math.Seq.{take-add, take-length, drop-length}
-use Rattle.ring_core.specs.Counts.{Rose}
 use Rattle.ring_core.specs.declared.entry.Entry.{Entry}
 use Rattle.ring_core.specs.declared.entry.Flight.{Flight}
 use Rattle.ring_core.specs.declared.entry.Completion.{Completion}
 use Rattle.ring_core.specs.declared.ring.EnterError.{EnterError}
 use Rattle.ring_core.specs.declared.ring.EnterError.TheVariants.{Fault, Busy}
-use Rattle.ring_core.specs.Ring.{RingView, IsLater, TookFront, EntersFor, IsPushed, entered, pushed, with_done, flying_after_entry, flying_after, done_after_entry, done_after}
+use Rattle.ring_core.specs.Ring.{RingView, IsLater, TookFront, EntersFor, IsPushed, entered, pushed, with_done, flying_after_entry}
+use Rattle.ring_core.specs.Ring.{flying_after, done_after_entry, done_after}
 use Rattle.uring_driver.specs.Pending.{Pending}
-use Rattle.uring_driver.specs.Submissions.{with_spare, with_due, room_made, pending_ring, TakesFront, Enters, KeptOut, Posts, PendingMoves, KeepsPending}
+use Rattle.uring_driver.specs.Submissions.{with_spare, with_due, room_made, pending_ring, TakesFront, Enters, KeptOut, Posts, PendingMoves}
+use Rattle.uring_driver.specs.Submissions.{KeepsPending}
 
 -- What is taken in two parts is taken in one.
 flying-joined : (flying : List Flight) (xs ys : List Entry) → flying_after flying (xs ++ ys) ≡ flying_after (flying_after flying xs) ys
 flying-joined flying [] ys = refl
 flying-joined flying (x ∷ xs) ys = flying-joined (flying_after_entry flying x x.body) xs ys
 
+-- What two parts add to what is done they add as one.
 done-joined : (done : List Completion) (xs ys : List Entry) → done_after done (xs ++ ys) ≡ done_after (done_after done xs) ys
 done-joined done [] ys = refl
 done-joined done (x ∷ xs) ys = done-joined (done_after_entry done x x.body) xs ys
 
+-- What is left without one prefix, then without another, is left without both at once.
 drop-more : {A : Type 0} (m n : ℕ) (xs : List A) → drop n (drop m xs) ≡ drop (m + n) xs
 drop-more {A} zero n xs = ap (λ k. drop k xs) (let z : n ≡ 0 + n = omega arith in z)
 drop-more {A} (suc m) zero [] = ap (λ k. drop {A = A} k []) (let z : suc m ≡ suc m + 0 = omega arith in z)
 drop-more {A} (suc m) (suc n) [] = ap (λ k. drop {A = A} k []) (let z : suc (m + suc n) ≡ suc m + suc n = omega arith in z)
 drop-more {A} (suc m) n (x ∷ xs) = drop-more m n xs ∙ ap (λ k. drop k (x ∷ xs)) (let z : suc (m + n) ≡ suc m + n = omega arith in z)
 
+-- A prefix no longer than a list is the same whatever stands behind the list.
 take-front : {A : Type 0} (n : ℕ) (xs ys : List A) → n ≤ length xs → take n (xs ++ ys) ≡ take n xs
 take-front zero xs ys h = refl
 take-front (suc n) [] ys h = absurd (omega (arith, h))
 take-front (suc n) (x ∷ xs) ys h = ap (λ zs. x ∷ zs) (take-front n xs ys (omega (arith, h)))
 
+-- What is left without such a prefix has behind it what stood behind the list.
 drop-front : {A : Type 0} (n : ℕ) (xs ys : List A) → n ≤ length xs → drop n (xs ++ ys) ≡ drop n xs ++ ys
 drop-front zero xs ys h = refl
 drop-front (suc n) [] ys h = absurd (omega (arith, h))
@@ -47,14 +53,21 @@ pub took-on : (a b c : RingView) → TakesFront a b → TakesFront b c → Takes
 took-on a b c f g =
     let m = f.count in
     let n = g.count in
-    let front : take (m + n) a.queue ≡ take m a.queue ++ take n b.queue = take-add m n a.queue ∙ ap (λ q. take m a.queue ++ take n q) (sym f.took.queue) in
+    let front : take (m + n) a.queue ≡ take m a.queue ++ take n b.queue = take-add m n a.queue
+    ∙ ap (λ q. take m a.queue ++ take n q) (sym f.took.queue) in
     record {
       count = m + n;
       took = record {
-        within = (let w = g.took.within in let l = ap length f.took.queue ∙ length-drop m a.queue in let x = f.took.within in omega (arith, w, l, x));
+        within =
+            (let w = g.took.within in let l = ap length f.took.queue ∙ length-drop m a.queue in
+            let x = f.took.within in omega (arith, w, l, x));
         queue = g.took.queue ∙ ap (drop n) f.took.queue ∙ drop-more m n a.queue;
-        flying = g.took.flying ∙ ap (λ x. flying_after x (take n b.queue)) f.took.flying ∙ sym (flying-joined a.flying (take m a.queue) (take n b.queue)) ∙ ap (flying_after a.flying) (sym front);
-        done = g.took.done ∙ ap (λ x. done_after x (take n b.queue)) f.took.done ∙ sym (done-joined a.done (take m a.queue) (take n b.queue)) ∙ ap (done_after a.done) (sym front);
+        flying =
+            g.took.flying ∙ ap (λ x. flying_after x (take n b.queue)) f.took.flying
+            ∙ sym (flying-joined a.flying (take m a.queue) (take n b.queue)) ∙ ap (flying_after a.flying) (sym front);
+        done =
+            g.took.done ∙ ap (λ x. done_after x (take n b.queue)) f.took.done ∙ sym (done-joined a.done (take m a.queue) (take n b.queue))
+            ∙ ap (done_after a.done) (sym front);
         world = g.took.world ∙ f.took.world;
       };
     }
@@ -72,6 +85,7 @@ took-behind n v w due t = record {
   };
 }
 
+-- A ring that is entered took its whole queue.
 took-entered : (v : RingView) → TookFront (length v.queue) v (entered v)
 took-entered v = record {
   within = omega arith;
@@ -80,10 +94,6 @@ took-entered v = record {
   done = ap (done_after v.done) (sym (take-length v.queue));
   world = refl;
 }
-
--- Counts that rose at the end rose.
-pub rose-on : (a b c : ℕ) → a ≤ b → Rose b c → Rose a c
-rose-on a b c h r = omega (arith, h, r)
 
 -- What no call makes less, over two calls.
 pub later-on : (a b c : RingView) → IsLater a b → IsLater b c → IsLater a c
@@ -98,13 +108,14 @@ later-on a b c f g = record {
 pub later-same : (v : RingView) (spare : ℕ) → IsLater v (with_spare v spare)
 later-same v spare = record { same_capacity = refl; more_handles = omega arith; more_faults = omega arith; more_busies = omega arith }
 
-pub kept-on : (steady : Bool) (a b c : RingView) (why : EnterError) → IsLater a b → KeptOut steady b c why → KeptOut steady a c why
-kept-on steady a b c Fault l k = (rose-on a.faults b.faults c.faults l.more_faults k.0, k.1)
-kept-on steady a b c Busy l k = (rose-on a.busies b.busies c.busies l.more_busies k.0, k.1)
-
 module _ {R : Type 0} (view : R → RingView) (tells : Bool) where
   pub enters-none : (old : Pending R) → Enters view tells old old
-  enters-none old = record { later = later-same (view old.ring) (view old.ring).spare; few_done = omega arith; same_room = refl; told = λ t. took-none (pending_ring view old) (view old.ring).spare }
+  enters-none old = record {
+    later = later-same (view old.ring) (view old.ring).spare;
+    few_done = omega arith;
+    same_room = refl;
+    told = λ t. took-none (pending_ring view old) (view old.ring).spare;
+  }
 
   pub enters-on : (a b c : Pending R) → Enters view tells a b → Enters view tells b c → Enters view tells a c
   enters-on a b c f g = record {
@@ -115,12 +126,15 @@ module _ {R : Type 0} (view : R → RingView) (tells : Bool) where
   }
 
   -- The ring takes of its queue what it takes.
-  enters-by : (old : Pending R) (ring : R) (result : Result ℕ EnterError) → EntersFor tells (view old.ring) (view ring) result → Enters view tells old (record old { ring = ring })
+  enters-by : (old : Pending R) (ring : R) (result : Result ℕ EnterError) → EntersFor tells (view old.ring) (view ring) result →
+      Enters view tells old (record old { ring = ring })
   enters-by old ring (Ok n) e = record {
     later = e.later;
     few_done = (let a = e.all in let b = ap length e.emptied in let c = e.few_done in omega (arith, a, b, c));
     same_room = refl;
-    told = λ t. subst (λ w. TakesFront (pending_ring view old) (with_due w old.due)) (sym (e.told t)) (took-behind (length (view old.ring).queue) (view old.ring) (entered (view old.ring)) old.due (took-entered (view old.ring)));
+    told =
+        λ t. subst (λ w. TakesFront (pending_ring view old) (with_due w old.due)) (sym (e.told t))
+        (took-behind (length (view old.ring).queue) (view old.ring) (entered (view old.ring)) old.due (took-entered (view old.ring)));
   }
   enters-by old ring (Err Fault) e = record {
     later = e.1.later;
@@ -135,19 +149,14 @@ module _ {R : Type 0} (view : R → RingView) (tells : Bool) where
     told = λ t. took-behind e.1.count (view old.ring) (view ring) old.due (e.1.told t);
   }
 
-  pub enters-ring : (old inside : Pending R) (ring : R) (result : Result ℕ EnterError) → inside ≡ old → EntersFor tells (view inside.ring) (view ring) result → Enters view tells old (record inside { ring = ring })
-  enters-ring old inside ring result is e = subst (λ x. Enters view tells x (record inside { ring = ring })) is (enters-by inside ring result e)
-
--- Why an enter took no more.
-pub kept-out : (tells steady : Bool) (v w : RingView) (result : Result ℕ EnterError) (why : EnterError) → EntersFor tells v w result → (IsTrue steady → IsOk result) → result ≡ Err why → KeptOut steady v w why
-kept-out tells steady v w (Ok n) why e s h = cc
-kept-out tells steady v w (Err Fault) Fault e s h = (e.0, λ t. (let f : false ≡ true = s t in cc))
-kept-out tells steady v w (Err Fault) Busy e s h = (let f : ⊥ = cc in absurd f)
-kept-out tells steady v w (Err Busy) Busy e s h = (e.0, λ t. (let f : false ≡ true = s t in cc))
-kept-out tells steady v w (Err Busy) Fault e s h = (let f : ⊥ = cc in absurd f)
+  pub enters-ring : (old inside : Pending R) (ring : R) (result : Result ℕ EnterError) → inside ≡ old →
+      EntersFor tells (view inside.ring) (view ring) result → Enters view tells old (record inside { ring = ring })
+  enters-ring old inside ring result is e =
+      subst (λ x. Enters view tells x (record inside { ring = ring })) is (enters-by inside ring result e)
 
 -- The first due entry was pushed: what is pending is the same.
-first-told : (v w : RingView) (e : Entry) (rest due : List Entry) → due ≡ e ∷ rest → w ≡ pushed v e → with_due w rest ≡ with_spare (with_due v due) w.spare
+first-told : (v w : RingView) (e : Entry) (rest due : List Entry) → due ≡ e ∷ rest → w ≡ pushed v e →
+    with_due w rest ≡ with_spare (with_due v due) w.spare
 first-told v w e rest due front h =
     ap (λ x. with_due x rest) h
     ∙ ap (λ q. record v { queue = q; spare = v.spare - 1 }) (append_assoc v.queue (e ∷ []) rest)
@@ -155,9 +164,11 @@ first-told v w e rest due front h =
     ∙ ap (λ s. with_spare (with_due v due) s) (sym (ap (λ x. x.spare) h))
 
 module _ {R : Type 0} (view : R → RingView) (tells : Bool) where
-  pub first-in : (old mid new : Pending R) (e : Entry) → 0 < length old.due → (length (view old.ring).queue < (view old.ring).capacity → mid ≡ old) → mid.due ≡ e ∷ new.due → IsPushed tells e (view mid.ring) (view new.ring) →
-      length (view old.ring).queue + length old.due ≤ (view old.ring).capacity →
-      (length (view new.ring).queue + length new.due ≡ length (view old.ring).queue + length old.due) × (IsTrue tells → pending_ring view new ≡ with_spare (pending_ring view old) (view new.ring).spare)
+  pub first-in : (old mid new : Pending R) (e : Entry) → 0 < length old.due →
+      (length (view old.ring).queue < (view old.ring).capacity → mid ≡ old) → mid.due ≡ e ∷ new.due →
+      IsPushed tells e (view mid.ring) (view new.ring) → length (view old.ring).queue + length old.due ≤ (view old.ring).capacity →
+      (length (view new.ring).queue + length new.due ≡ length (view old.ring).queue + length old.due) ×
+      (IsTrue tells → pending_ring view new ≡ with_spare (pending_ring view old) (view new.ring).spare)
   first-in old mid new e some same front push fits =
       let is : mid ≡ old = same (omega (arith, some, fits)) in
       let due : old.due ≡ e ∷ new.due = sym (ap (λ x. x.due) is) ∙ front in (
@@ -166,38 +177,37 @@ module _ {R : Type 0} (view : R → RingView) (tells : Bool) where
       )
 
   -- What is pending stays, one push after another.
-  pub same-pending : (a b c : Pending R) → pending_ring view b ≡ with_spare (pending_ring view a) (view b.ring).spare → pending_ring view c ≡ with_spare (pending_ring view b) (view c.ring).spare → pending_ring view c ≡ with_spare (pending_ring view a) (view c.ring).spare
+  pub same-pending : (a b c : Pending R) → pending_ring view b ≡ with_spare (pending_ring view a) (view b.ring).spare →
+      pending_ring view c ≡ with_spare (pending_ring view b) (view c.ring).spare →
+      pending_ring view c ≡ with_spare (pending_ring view a) (view c.ring).spare
   same-pending a b c f g = g ∙ ap (λ x. with_spare x (view c.ring).spare) f
 
-room-spare : (v : RingView) (spare : ℕ) (b : Bool) → (if b then entered (with_spare v spare) else with_spare v spare) ≡ with_spare (if b then entered v else v) spare
+-- Another number of pushes changes nothing of the room that is made.
+room-spare : (v : RingView) (spare : ℕ) (b : Bool) →
+    (if b then entered (with_spare v spare) else with_spare v spare) ≡ with_spare (if b then entered v else v) spare
 room-spare v spare true = refl
 room-spare v spare false = refl
 
+-- Where nothing is due, the ring is as it is.
 none-behind : (v : RingView) (due : List Entry) → due ≡ [] → with_due v due ≡ v
 none-behind v due h = ap (with_due v) h ∙ ap (λ q. record v { queue = q }) (append-nil v.queue)
 
 module _ {R : Type 0} (view : R → RingView) where
   -- Room is made behind what was due.
-  pub room-behind : (old mid new : Pending R) → mid.due ≡ [] → new.due ≡ mid.due → pending_ring view mid ≡ with_spare (pending_ring view old) (view mid.ring).spare → view new.ring ≡ room_made (view mid.ring) →
+  pub room-behind : (old mid new : Pending R) → mid.due ≡ [] → new.due ≡ mid.due →
+      pending_ring view mid ≡ with_spare (pending_ring view old) (view mid.ring).spare → view new.ring ≡ room_made (view mid.ring) →
       pending_ring view new ≡ with_spare (room_made (pending_ring view old)) (view new.ring).spare
   room-behind old mid new none same pend room =
       let P = pending_ring view old in
       let b = length P.queue == P.capacity in
-      let is : view new.ring ≡ with_spare (room_made P) (view mid.ring).spare = room ∙ ap room_made (sym (none-behind (view mid.ring) mid.due none) ∙ pend) ∙ room-spare P (view mid.ring).spare b in
+      let is : view new.ring ≡ with_spare (room_made P) (view mid.ring).spare = room
+      ∙ ap room_made (sym (none-behind (view mid.ring) mid.due none) ∙ pend) ∙ room-spare P (view mid.ring).spare b in
       none-behind (view new.ring) new.due (same ∙ none) ∙ is ∙ ap (with_spare (room_made P)) (sym (ap (λ x. x.spare) is))
 
--- Of an answer that is Ok, or that isn't.
-pub on-ok : {T E P Q : Type 0} (result : Result T E) → OnOk result P → (P → Q) → OnOk result Q
-on-ok (Ok x) h f = f h
-on-ok (Err e) h f = tt
-
+-- What holds anyway holds of an answer that isn't Ok.
 pub on-err : {T E P : Type 0} (result : Result T E) → P → OnErr result P
 on-err (Ok x) p = tt
 on-err (Err e) p = p
-
-pub if-err : {T E : Type 0} {P Q : E → Type 0} (result : Result T E) → IfErr result P → ((e : E) → P e → Q e) → IfErr result Q
-if-err (Ok x) h f = tt
-if-err (Err e) h f = f e h
 
 module _ {R : Type 0} (view : R → RingView) (tells : Bool) where
   -- What is pending fits the queue.
@@ -206,31 +216,44 @@ module _ {R : Type 0} (view : R → RingView) (tells : Bool) where
 
   -- What is pending is the same.
   abbrev pub IsStill : Pending R → Pending R → Type 0
-  IsStill a b = (length (view b.ring).queue + length b.due ≡ length (view a.ring).queue + length a.due) × (IsTrue tells → pending_ring view b ≡ with_spare (pending_ring view a) (view b.ring).spare)
+  IsStill a b =
+      (length (view b.ring).queue + length b.due ≡ length (view a.ring).queue + length a.due) ×
+      (IsTrue tells → pending_ring view b ≡ with_spare (pending_ring view a) (view b.ring).spare)
 
-  pub still-on : (a b c : Pending R) → IsLater (view a.ring) (view b.ring) → (Fits a → IsStill a b) → (Fits b → IsStill b c) → Fits a → IsStill a c
+  pub still-on : (a b c : Pending R) → IsLater (view a.ring) (view b.ring) → (Fits a → IsStill a b) → (Fits b → IsStill b c) → Fits a →
+      IsStill a c
   still-on a b c later f g fits =
       let x = f fits in
       let y = g (let n = x.0 in let l = later.same_capacity in omega (arith, n, l, fits)) in
       (y.0 ∙ x.0, λ t. same-pending view tells a b c (x.1 t) (y.1 t))
 
-  module _ (steady : Bool) (old mid new : Pending R) (entry : Entry) (steady_tells : IsTrue steady → IsTrue tells) (enters : Enters view tells old mid)
-      (told : IsTrue tells → pending_ring view new ≡ with_spare (pushed (pending_ring view mid) entry) (view new.ring).spare) (later : IsLater (view mid.ring) (view new.ring))
+  module _ (steady : Bool) (old mid new : Pending R) (entry : Entry) (steady_tells : IsTrue steady → IsTrue tells)
+      (enters : Enters view tells old mid)
+      (told : IsTrue tells → pending_ring view new ≡ with_spare (pushed (pending_ring view mid) entry) (view new.ring).spare)
+      (later : IsLater (view mid.ring) (view new.ring))
       (due : mid.due ≡ [] → length (view mid.ring).queue < (view mid.ring).capacity → new.due ≡ []) where
-    exactly : (result : Result Unit EnterError) → OnOk result (mid.due ≡ []) → OnOk result (length (view mid.ring).queue < (view mid.ring).capacity) →
-        OnOk result (IsTrue tells → Fits old → pending_ring view mid ≡ with_spare (room_made (pending_ring view old)) (view mid.ring).spare) → IfErr result (KeptOut steady (view old.ring) (view mid.ring)) →
-        IsTrue steady → Fits old → (pending_ring view new ≡ with_spare (pushed (room_made (pending_ring view old)) entry) (view new.ring).spare) × Fits new
+    exactly : (result : Result Unit EnterError) → OnOk result (mid.due ≡ []) →
+        OnOk result (length (view mid.ring).queue < (view mid.ring).capacity) →
+        OnOk result
+        (IsTrue tells → Fits old → pending_ring view mid ≡ with_spare (room_made (pending_ring view old)) (view mid.ring).spare) →
+        IfErr result (KeptOut steady (view old.ring) (view mid.ring)) → IsTrue steady → Fits old →
+        (pending_ring view new ≡ with_spare (pushed (room_made (pending_ring view old)) entry) (view new.ring).spare) × Fits new
     exactly (Ok u) none room pend kept s fits =
         let t = steady_tells s in
         let n : length (view new.ring).queue + length new.due ≡ length (view mid.ring).queue + length mid.due + 1 =
-        sym (length-append (view new.ring).queue new.due) ∙ ap (λ x. length x.queue) (told t) ∙ length-append ((view mid.ring).queue ++ mid.due) (entry ∷ []) ∙ ap (λ k. k + 1) (length-append (view mid.ring).queue mid.due) in
-        (told t ∙ ap (λ v. with_spare (pushed v entry) (view new.ring).spare) (pend t fits), (let z = ap length none in let c = later.same_capacity in omega (arith, n, z, room, c)))
+        sym (length-append (view new.ring).queue new.due) ∙ ap (λ x. length x.queue) (told t)
+        ∙ length-append ((view mid.ring).queue ++ mid.due) (entry ∷ []) ∙ ap (λ k. k + 1) (length-append (view mid.ring).queue mid.due) in
+        (told t ∙ ap (λ v. with_spare (pushed v entry) (view new.ring).spare) (pend t fits),
+            (let z = ap length none in let c = later.same_capacity in omega (arith, n, z, room, c)))
     exactly (Err Fault) none room pend kept s fits = absurd (kept.1 s)
     exactly (Err Busy) none room pend kept s fits = absurd (kept.1 s)
 
-    pub joins : (result : Result Unit EnterError) → OnOk result (mid.due ≡ []) → OnOk result (length (view mid.ring).queue < (view mid.ring).capacity) →
-        OnOk result (IsTrue tells → Fits old → pending_ring view mid ≡ with_spare (room_made (pending_ring view old)) (view mid.ring).spare) → IfErr result (KeptOut steady (view old.ring) (view mid.ring)) →
-        new.room + 1 ≡ mid.room → 0 < old.room → Posts view tells steady old new entry
+    pub joins : (result : Result Unit EnterError) → OnOk result (mid.due ≡ []) →
+        OnOk result (length (view mid.ring).queue < (view mid.ring).capacity) →
+        OnOk result
+        (IsTrue tells → Fits old → pending_ring view mid ≡ with_spare (room_made (pending_ring view old)) (view mid.ring).spare) →
+        IfErr result (KeptOut steady (view old.ring) (view mid.ring)) → new.room + 1 ≡ mid.room → 0 < old.room →
+        Posts view tells steady old new entry
     joins result none room pend kept less some = record {
       later = later-on (view old.ring) (view mid.ring) (view new.ring) enters.later later;
       room = λ h. less ∙ enters.same_room;
@@ -239,21 +262,23 @@ module _ {R : Type 0} (view : R → RingView) (tells : Bool) where
     }
 
     -- Over a steady ring nothing is due.
-    pub joins-steady : (result : Result Unit EnterError) → OnOk result (mid.due ≡ []) → OnOk result (length (view mid.ring).queue < (view mid.ring).capacity) → IfErr result (KeptOut steady (view old.ring) (view mid.ring)) → IsTrue steady → new.due ≡ []
+    pub joins-steady : (result : Result Unit EnterError) → OnOk result (mid.due ≡ []) →
+        OnOk result (length (view mid.ring).queue < (view mid.ring).capacity) →
+        IfErr result (KeptOut steady (view old.ring) (view mid.ring)) → IsTrue steady → new.due ≡ []
     joins-steady (Ok u) none room kept s = due none room
     joins-steady (Err Fault) none room kept s = absurd (kept.1 s)
     joins-steady (Err Busy) none room kept s = absurd (kept.1 s)
 
--- Nothing joined what is pending.
-pub moves-none : (xs ys : List Entry) → ys ≡ xs → PendingMoves xs ys []
-moves-none xs ys h = record { count = 0; within = omega arith; moved = h ∙ sym (append-nil xs) }
-
+-- A prefix of what is pending was taken, and nothing joined.
 pub moves-front : (v w : RingView) (ys : List Entry) → TakesFront v w → ys ≡ w.queue → PendingMoves v.queue ys []
-moves-front v w ys t h = record { count = t.count; within = t.took.within; moved = h ∙ t.took.queue ∙ sym (append-nil (drop t.count v.queue)) }
+moves-front v w ys t h =
+    record { count = t.count; within = t.took.within; moved = h ∙ t.took.queue ∙ sym (append-nil (drop t.count v.queue)) }
 
 -- An entry joined it.
-pub moves-join : (v mid w : RingView) (e : Entry) (spare : ℕ) → TakesFront v mid → w ≡ with_spare (pushed mid e) spare → PendingMoves v.queue w.queue (e ∷ [])
-moves-join v mid w e spare t h = record { count = t.count; within = t.took.within; moved = ap (λ x. x.queue) h ∙ ap (λ q. q ++ e ∷ []) t.took.queue }
+pub moves-join : (v mid w : RingView) (e : Entry) (spare : ℕ) → TakesFront v mid → w ≡ with_spare (pushed mid e) spare →
+    PendingMoves v.queue w.queue (e ∷ [])
+moves-join v mid w e spare t h =
+    record { count = t.count; within = t.took.within; moved = ap (λ x. x.queue) h ∙ ap (λ q. q ++ e ∷ []) t.took.queue }
 
 -- Nothing is pending.
 pub none-pending : (queue due : List Entry) → queue ≡ [] → due ≡ [] → queue ++ due ≡ []
@@ -261,21 +286,23 @@ none-pending queue due q d = ap (λ x. x ++ due) q ∙ d
 
 -- What is due is counted behind the queue.
 pub later-behind : (v w : RingView) (due due' : List Entry) → IsLater v w → IsLater (with_due v due) (with_due w due')
-later-behind v w due due' l = record { same_capacity = l.same_capacity; more_handles = l.more_handles; more_faults = l.more_faults; more_busies = l.more_busies }
+later-behind v w due due' l =
+    record { same_capacity = l.same_capacity; more_handles = l.more_handles; more_faults = l.more_faults; more_busies = l.more_busies }
 
+-- Where the queue with what is due behind it fits, their lengths together do.
 pub fits-split : (queue due : List Entry) (capacity : ℕ) → length (queue ++ due) ≤ capacity → length queue + length due ≤ capacity
 fits-split queue due capacity h = (let l = length-append queue due in omega (arith, l, h))
 
+-- Where their lengths together fit, the queue with what is due behind it does.
 pub fits-joined : (queue due : List Entry) (capacity : ℕ) → length queue + length due ≤ capacity → length (queue ++ due) ≤ capacity
 fits-joined queue due capacity h = (let l = length-append queue due in omega (arith, l, h))
 
 -- What is pending is the same where the ring keeps its queue.
-pub still-pending : {R : Type 0} (view : R → RingView) (tells : Bool) (old new : Pending R) → KeepsPending view tells old new → IsTrue tells → (pending_ring view new).queue ≡ (pending_ring view old).queue
+pub still-pending : {R : Type 0} (view : R → RingView) (tells : Bool) (old new : Pending R) → KeepsPending view tells old new →
+    IsTrue tells → (pending_ring view new).queue ≡ (pending_ring view old).queue
 still-pending view tells old new k t = ap (λ v. v.queue ++ new.due) (k.ring t) ∙ ap (λ xs. (view old.ring).queue ++ xs) k.due
 
-pub keeps-pending : {R : Type 0} (view : R → RingView) (tells : Bool) (a b c : Pending R) → KeepsPending view tells a b → KeepsPending view tells b c → KeepsPending view tells a c
-keeps-pending view tells a b c f g = record { due = g.due ∙ f.due; room = g.room ∙ f.room; ring = λ t. g.ring t ∙ ap (λ v. with_done v (view c.ring).done) (f.ring t) }
-
 -- A completion is taken off, behind which all that is pending stays.
-pub taken-behind : {R : Type 0} (view : R → RingView) (old new : Pending R) (rest : List Completion) → view new.ring ≡ with_done (view old.ring) rest → new.due ≡ old.due → pending_ring view new ≡ with_done (pending_ring view old) rest
+pub taken-behind : {R : Type 0} (view : R → RingView) (old new : Pending R) (rest : List Completion) →
+    view new.ring ≡ with_done (view old.ring) rest → new.due ≡ old.due → pending_ring view new ≡ with_done (pending_ring view old) rest
 taken-behind view old new rest ring due = ap (λ v. with_due v new.due) ring ∙ ap (λ xs. with_due (with_done (view old.ring) rest) xs) due

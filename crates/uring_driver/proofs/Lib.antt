@@ -15,7 +15,6 @@ mod Executing
 mod Storing
 mod Executions
 mod Handles
-mod Arrivals
 mod Starting
 mod Submitting
 mod Submits

@@ -11,22 +11,26 @@ use Rattle.driver_core.specs.Op.{PollsTokens}
 use Rattle.driver_core.specs.Ops.{Ops}
 use Rattle.driver_core.specs.Slot.{number_at, serial_of, KeepsNumbers}
 use Rattle.uring_driver.specs.State.{IsSound}
-use Rattle.driver_core.proofs.Lists.{same-or-not}
+use Rattle.ring_core.proofs.Numbers.{same-or-not}
 use Rattle.driver_core.proofs.Maps.{gone-other, len-new, len-gone}
 use Rattle.driver_core.proofs.Numbers.{owner}
 
+-- An option without a value has none.
 none-some : {X : Type 0} (x : X) (o : Option X) → o ≡ None → o ≡ Some x → ⊥
 none-some {X} x o n s = (let z : ◌≡◌ {A = Option X} None (Some x) = sym n ∙ s in cc)
 
 -- Slots with no new number, and no less room.
-pub sound-shrinks : {B : Type 0} (room room' : ℕ) (slots slots' : FinMap nat_cmp (Slot B)) → IsSound room slots → room ≤ room' → ((key number : ℕ) → number_at slots' key ≡ Some number → number_at slots key ≡ Some number) → IsSound room' slots'
+pub sound-shrinks : {B : Type 0} (room room' : ℕ) (slots slots' : FinMap nat_cmp (Slot B)) → IsSound room slots → room ≤ room' →
+    ((key number : ℕ) → number_at slots' key ≡ Some number → number_at slots key ≡ Some number) → IsSound room' slots'
 sound-shrinks room room' slots slots' s more sub = record {
   owned = s.owned;
   few = (let a = s.few in omega (arith, a, more));
   all = λ key number h. s.all key number (sub key number h);
 }
 
-pub sound-keeps : {B : Type 0} (room room' : ℕ) (slots slots' : FinMap nat_cmp (Slot B)) → IsSound room slots → room ≤ room' → KeepsNumbers slots slots' → IsSound room' slots'
+-- Slots that keep their numbers, and no less room.
+pub sound-keeps : {B : Type 0} (room room' : ℕ) (slots slots' : FinMap nat_cmp (Slot B)) → IsSound room slots → room ≤ room' →
+    KeepsNumbers slots slots' → IsSound room' slots'
 sound-keeps room room' slots slots' s more keeps = sound-shrinks room room' slots slots' s more (λ key number h. sym (keeps key) ∙ h)
 
 -- No slot.
@@ -34,9 +38,12 @@ pub sound-empty : {B : Type 0} (room : ℕ) (slots : FinMap nat_cmp (Slot B)) �
 sound-empty {B} room slots fresh = record {
   owned = empty;
   few = (let a = len-empty nat_cmp (Slot B) in omega (arith, a));
-  all = λ key number h. absurd (none-some number (number_at slots key) (ap (λ m. number_at m key) fresh ∙ ap serial_of (get-empty {X = Slot B} nat_cmp key)) h);
+  all =
+      λ key number h. absurd
+      (none-some number (number_at slots key) (ap (λ m. number_at m key) fresh ∙ ap serial_of (get-empty {X = Slot B} nat_cmp key)) h);
 }
 
+-- A slot that has a number is there.
 there : {B : Type 0} (slots : FinMap nat_cmp (Slot B)) (key number : ℕ) → number_at slots key ≡ Some number → IsSome (get slots key)
 there slots key number h = subst (λ o. IsSome o) (sym (owner slots key number h).there) refl
 
@@ -49,28 +56,35 @@ sound-live room slots more = record {
 }
 
 -- A new slot, with room for each.
-pub sound-more : {B : Type 0} (room : ℕ) (slots slots' : FinMap nat_cmp (Slot B)) (key : ℕ) (t : Slot B) → get slots key ≡ None → slots' ≡ insert slots key t → len slots + 1 ≤ room → IsSound room slots'
-sound-more room slots slots' key t free is more = sound-live room slots' (let a = ap len is ∙ len-new slots key t free in omega (arith, a, more))
+pub sound-more : {B : Type 0} (room : ℕ) (slots slots' : FinMap nat_cmp (Slot B)) (key : ℕ) (t : Slot B) → get slots key ≡ None →
+    slots' ≡ insert slots key t → len slots + 1 ≤ room → IsSound room slots'
+sound-more room slots slots' key t free is more =
+    sound-live room slots' (let a = ap len is ∙ len-new slots key t free in omega (arith, a, more))
 
+-- The value of an option that has one.
 value-of : {X : Type 0} (o : Option X) → IsSome o → (x : X) × (o ≡ Some x)
 value-of None h = (let f : ⊥ = cc in absurd f)
 value-of (Some x) h = (x, refl)
 
+-- A number that isn't 0 is above 0.
 positive : (k : ℕ) → (k ≡ 0 → ⊥) → 0 < k
 positive zero h = absurd (h refl)
 positive (suc k) h = omega arith
 
+-- A map with something at a key has at least one key.
 has-key : {B : Type 0} (m : FinMap nat_cmp (Slot B)) (key : ℕ) → IsSome (get m key) → 0 < len m
 has-key {B} m key h = positive (len m) (λ z.
     let v = value-of (get m key) h in
     none-some v.0 (get m key) (ap (λ x. get x key) (empty_of_len m z) ∙ get-empty {X = Slot B} nat_cmp key) v.1)
 
 -- A slot of its user's has room for its cancel.
-pub sound-room : {B : Type 0} (room : ℕ) (slots : FinMap nat_cmp (Slot B)) (key number : ℕ) → IsSound room slots → number_at slots key ≡ Some number → 0 < room
+pub sound-room : {B : Type 0} (room : ℕ) (slots : FinMap nat_cmp (Slot B)) (key number : ℕ) → IsSound room slots →
+    number_at slots key ≡ Some number → 0 < room
 sound-room room slots key number s h = (let a = s.few in let b = has-key s.owned key (s.all key number h) in omega (arith, a, b))
 
 -- One slot less is its user's.
-module _ {B : Type 0} (room : ℕ) (slots slots' : FinMap nat_cmp (Slot B)) (key number : ℕ) (s : IsSound room slots) (h : number_at slots key ≡ Some number)
+module _ {B : Type 0} (room : ℕ) (slots slots' : FinMap nat_cmp (Slot B)) (key number : ℕ) (s : IsSound room slots)
+    (h : number_at slots key ≡ Some number)
     (gone : number_at slots' key ≡ None) (kept : (k : ℕ) → k ≢ key → number_at slots' k ≡ number_at slots k) where
   sub : (k n : ℕ) → number_at slots' k ≡ Some n → (number_at slots k ≡ Some n) × (k ≢ key)
   sub k n g = elim (same-or-not k key) [
@@ -94,6 +108,11 @@ module _ {B : Type 0} (room : ℕ) (slots slots' : FinMap nat_cmp (Slot B)) (key
   }
 
 -- A poll makes no token.
-pub sound-polled : {B : Type 0} (room : ℕ) (old new : Ops B) (op : Op) (result : PollOp B) → IsSound room old.slots.values → PollsTokens old new op result → IsSound room new.slots.values
-sound-polled room old new op (Pending back) s tokens = sound-shrinks room room old.slots.values new.slots.values s (omega arith) (λ key number h. (let o : Op = record { number = number; key = key } in (tokens.1 o).1 h))
-sound-polled room old new op (Ready done) s tokens = sound-shrinks room room old.slots.values new.slots.values s (omega arith) (λ key number h. (let o : Op = record { number = number; key = key } in ((tokens o).0 h).0))
+pub sound-polled : {B : Type 0} (room : ℕ) (old new : Ops B) (op : Op) (result : PollOp B) → IsSound room old.slots.values →
+    PollsTokens old new op result → IsSound room new.slots.values
+sound-polled room old new op (Pending back) s tokens =
+    sound-shrinks room room old.slots.values new.slots.values s (omega arith)
+    (λ key number h. (let o : Op = record { number = number; key = key } in (tokens.1 o).1 h))
+sound-polled room old new op (Ready done) s tokens =
+    sound-shrinks room room old.slots.values new.slots.values s (omega arith)
+    (λ key number h. (let o : Op = record { number = number; key = key } in ((tokens o).0 h).0))

@@ -40,7 +40,8 @@ use Rattle.uring_driver.specs.Submissions.{with_spare, room_made, PendingMoves}
 use Rattle.uring_driver.specs.Lists.{queued_of, queued_in, is_call}
 use Rattle.uring_driver.specs.Stands.{Stands, Answers}
 use Rattle.uring_driver.specs.Submitted.{IsSameRing, WhyRefused, Unprepared}
-use Rattle.driver_core.proofs.Lists.{amended-append, amended-fixed, map-get}
+use Rattle.ring_core.proofs.Amended.{amended-append, amended-append-fixed}
+use Rattle.driver_core.proofs.Lists.{map-get}
 use Rattle.driver_core.proofs.Counts.{where-more, where-within, owned-lives}
 use Rattle.uring_driver.proofs.Means.{Means, means-of, ring-of}
 use Rattle.uring_driver.proofs.Kept.{call-queued}
@@ -50,7 +51,8 @@ use Rattle.uring_driver.proofs.Steps.{reached-more, step-submit}
 use Rattle.uring_driver.proofs.Submitting.{means-pushed}
 use Rattle.uring_driver.proofs.Heads.{means-view}
 use Rattle.uring_driver.proofs.Taking.{means-room, owned-room}
-use Rattle.uring_driver.proofs.Turns.{length-take_each, room-length, room-world, room-capacity}
+use Rattle.ring_core.proofs.Taken.{length-take_each, length-make_room}
+use Rattle.uring_driver.proofs.Turns.{room-world, room-capacity}
 
 -- A request in the queue is that of an operation that there is.
 abbrev IsKnown : ℕ → Queued → Type 0
@@ -74,7 +76,7 @@ module _ (o : Operation) (fixed : with_cancel o ≡ o) where
   take_one-new_op : (L : Ledger) (q : Queued) → IsKnown (length L.ops) q → take_one (with_new_op L o) q ≡ with_new_op (take_one L q) o
   take_one-new_op L (Req n) h = ap (λ ops. record (take_one L (Req n)) { ops = ops })
       (amended-append L.ops (o ∷ []) n (at_place InFlight) h)
-  take_one-new_op L (Cancel n) h = ap (λ ops. record L { ops = ops }) (amended-fixed L.ops o n with_cancel fixed)
+  take_one-new_op L (Cancel n) h = ap (λ ops. record L { ops = ops }) (amended-append-fixed L.ops o n with_cancel fixed)
 
   -- Taking entries leaves it.
   take_each-new_op : (L : Ledger) (qs : List Queued) → AllKnown (length L.ops) qs →
@@ -148,7 +150,7 @@ module _ {R B : Type 0} (view : R → RingView) (buffer : B → Buffer) where
       (all-known (length L.ops) L.queue (queue-numbers buffer v d.slots.values L before))
       ∙ ap (λ n. append (with_new_op M (new_operation r)) (Req n)) (sym old.operations.numbered) in
       let e = s ∙ ap (λ K. (K, Submitted (length L.ops))) order in
-      let long : length M.ops ≡ length L.ops = room-length L in
+      let long : length M.ops ≡ length L.ops = length-make_room L in
       let roomy = means-room buffer v d.slots.values L before in
       let m : Means buffer mid d.slots.values M = subst (λ x. Means buffer x d.slots.values M) (sym made)
       (means-view buffer (room_made v) (with_spare (room_made v) spare) d.slots.values M refl refl refl refl refl roomy) in

@@ -24,7 +24,9 @@ use Rattle.driver_core.specs.declared.slot.Slot.{Slot}
 use Rattle.driver_core.specs.Slots.{SlotFor, SlotsStand}
 use Rattle.uring_driver.specs.Lists.{EntryFor, CompletionFor, IsAt, IsFlown, QueuedFor, CancelsMean, ListsStand, is_call, queued_of}
 use Rattle.uring_driver.proofs.Means.{Means}
-use Rattle.driver_core.proofs.Lists.{some, same-or-not, get-pushed, get-front, get-last}
+use Rattle.ring_core.proofs.Numbers.{same-or-not}
+use Rattle.ring_core.proofs.Appended.{get-append-end}
+use Rattle.driver_core.proofs.Lists.{some, get-pushed, get-front}
 use Rattle.driver_core.proofs.Maps.{put-same, put-other, len-new}
 use Rattle.driver_core.proofs.Counts.{where-more}
 use Rattle.uring_driver.proofs.Kept.{queued-kept, flight-kept, done-kept, call-queued}
@@ -46,7 +48,7 @@ module _ {B : Type 0} (buffer : B → Buffer) (w : RingView) (slots : FinMap nat
   ops' = M.ops ++ new ∷ []
 
   there-new : slice_get ops' given ≡ Some new
-  there-new = ap (slice_get ops') numbered ∙ get-last M.ops new
+  there-new = ap (slice_get ops') numbered ∙ get-append-end M.ops new
 
   -- A number that was given is another.
   other : (n : ℕ) (o : Operation) → slice_get M.ops n ≡ Some o → n ≢ given

@@ -1,5 +1,5 @@
 -- What taking a cancel off the queue does to a ring and slots that mean a ledger.
-use Rattle.std.proofs.Common.{◌≡◌, ◌≢◌, inl, inr, ℕ, suc, Bool, true, false, List, [], ◌∷◌, ◌++◌, map, Option, Some, None, refl, sym, ◌∙◌}
+use Rattle.std.proofs.Common.{◌≡◌, inl, inr, ℕ, suc, Bool, true, false, List, [], ◌∷◌, ◌++◌, map, Option, Some, None, refl, sym, ◌∙◌}
 use Rattle.std.proofs.Common.{ap, subst, arith}
 use Rattle.std.specs.Prelude.{slice_get, ◌==◌, ◌||◌}
 use Rattle.std.specs.Ordering.{nat_cmp}
@@ -24,7 +24,8 @@ use Rattle.driver_core.specs.declared.slot.Slot.{Slot}
 use Rattle.driver_core.specs.Slots.{SlotFor, SlotsStand}
 use Rattle.uring_driver.specs.Lists.{IsAt, IsFlown, FlightFor, DoneFor, Meets, ListsStand, is_call, names_slot, queued_of, item_of}
 use Rattle.uring_driver.proofs.Means.{Means}
-use Rattle.driver_core.proofs.Lists.{same-or-not, map-get, get-pushed, amended-absent}
+use Rattle.ring_core.proofs.Numbers.{equal-other, same-or-not}
+use Rattle.driver_core.proofs.Lists.{map-get, get-pushed, amended-absent}
 use Rattle.uring_driver.proofs.Kept.{cancel-queued, queued-kept, flight-kept, done-kept, done-reserved}
 use Rattle.driver_core.proofs.Slots.{slots-amended}
 use Rattle.uring_driver.proofs.Heads.{at-head, behind-head, cancels-left}
@@ -42,10 +43,6 @@ or-false false = refl
 -- The test of two numbers that are equal.
 equal-test : (a b : ℕ) → a ≡ b → (a == b) ≡ true
 equal-test a b h = grind (arith, nat_tests)
-
--- The test of two numbers that differ.
-differ-test : (a b : ℕ) → a ≢ b → (a == b) ≡ false
-differ-test a b h = grind (arith, nat_tests)
 
 -- The taking of a cancel changes whether it was taken, and nothing else.
 cancel-same : (p : Place) (o : Operation) → canceled_at p o ≡ record o { canceled = (canceled_at p o).canceled }
@@ -120,7 +117,7 @@ module _ {B : Type 0} (buffer : B → Buffer) (v : RingView) (slots : FinMap nat
           operation = a.operation;
           there = get-amended-other with_cancel L.ops e.serial f.entry.serial q ∙ a.there;
           stays = a.stays;
-          marked = ap (λ b. f.marked || b) (differ-test f.entry.word key (λ w. q (meets.by_word w))) ∙ or-false f.marked ∙ a.marked;
+          marked = ap (λ b. f.marked || b) (equal-other f.entry.word key (λ w. q (meets.by_word w))) ∙ or-false f.marked ∙ a.marked;
         }
       ]
 

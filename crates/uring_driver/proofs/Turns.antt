@@ -11,7 +11,7 @@ use Rattle.ring_core.specs.declared.ledger.Event.TheVariants.{Turn}
 use Rattle.ring_core.specs.declared.ledger.Reply.TheVariants.{Turned as TurnReply}
 use Rattle.ring_core.specs.Ledger.{Ledger, Queued, Req, Cancel, Item, Op, Operation, Place, InQueue, InFlight, InDone, Reaped, Gone}
 use Rattle.ring_core.specs.Ledger.{is_kept, is_owned}
-use Rattle.ring_core.specs.Queue.{take_one, take_each, take_all, make_room, at_place, with_op, with_cancel}
+use Rattle.ring_core.specs.Queue.{take_one, take_each, take_all, make_room, at_place, with_op}
 use Rattle.ring_core.specs.Turn.{with_reap, reaped_place, reap_if, reap_op, reap_one, reap_each, ops_in, task_woken, tasks_woken}
 use Rattle.ring_core.specs.Run.{ledger}
 use Rattle.ring_core.proofs.Amended.{get-amended-same, get-amended-other, get-amended-none, length-amended}
@@ -30,11 +30,13 @@ use Rattle.driver_core.specs.Slot.{named_by}
 use Rattle.uring_driver.specs.Lists.{done_items_of}
 use Rattle.uring_driver.proofs.Means.{Means, means-of, ring-of}
 use Rattle.uring_driver.proofs.Reaping.{Names, means-reserved, names-first, first-done, means-first, ended}
-use Rattle.driver_core.proofs.Lists.{same-or-not, amended-absent, amended-like}
+use Rattle.ring_core.proofs.Numbers.{same-or-not}
+use Rattle.driver_core.proofs.Lists.{amended-absent, amended-like}
 use Rattle.driver_core.proofs.Counts.{where-all}
 use Rattle.uring_driver.proofs.Entering.{later-on}
 use Rattle.uring_driver.proofs.Taking.{owned-taken}
 use Rattle.uring_driver.proofs.Steps.{step-turn, reached-more}
+use Rattle.ring_core.proofs.Taken.{length-take_each}
 
 -- What a reap does to its operation: a dropped one leaves, another is reaped.
 abbrev reap_by : Bool → Operation → Operation
@@ -142,7 +144,8 @@ module _ {B : Type 0} (buffer : B → Buffer) (v : RingView) (slots : FinMap nat
       tasks ≡ task_woken (slice_get L.ops c.serial) → L.done ≡ Op c.serial ∷ flat_map done_items_of rest → (all : Treated B) →
       TreatsAll buffer (with_op (record L { done = flat_map done_items_of rest }) c.serial reap_change) (with_done v []) all →
       TreatsAll buffer L (with_done v []) (treat_first (Keyed key) named slots c rest all)
-  treats-named key named tasks is same done all ends = subst (λ x. TreatsAll buffer L (with_done v []) (treat_first (Keyed key) x slots c rest all))
+  treats-named key named tasks is same done all ends =
+      subst (λ x. TreatsAll buffer L (with_done v []) (treat_first (Keyed key) x slots c rest all))
       (sym is.is) (record {
         no_bad = ends.no_bad;
         none_left = ends.none_left;
@@ -189,20 +192,10 @@ took-on m n a b c f g = record {
   later = later-on a b c f.later g.later;
 }
 
--- Taking and reaping keep how many operations there are, and the handles.
-length-take_one : (L : Ledger) (q : Queued) → length (take_one L q).ops ≡ length L.ops
-length-take_one L (Req n) = length-amended (at_place InFlight) L.ops n
-length-take_one L (Cancel n) = length-amended with_cancel L.ops n
-
 -- Taking one entry keeps the handles.
 world-take_one : (L : Ledger) (q : Queued) → (take_one L q).world ≡ L.world
 world-take_one L (Req n) = refl
 world-take_one L (Cancel n) = refl
-
--- Taking entries keeps how many operations there are.
-pub length-take_each : (L : Ledger) (qs : List Queued) → length (take_each L qs).ops ≡ length L.ops
-length-take_each L [] = refl
-length-take_each L (q ∷ qs) = length-take_each (take_one L q) qs ∙ length-take_one L q
 
 -- Taking entries keeps the handles.
 pub world-take_each : (L : Ledger) (qs : List Queued) → (take_each L qs).world ≡ L.world
@@ -251,19 +244,10 @@ capacity-reap_each : (L : Ledger) (items : List Item) → (reap_each L items).ca
 capacity-reap_each L [] = refl
 capacity-reap_each L (item ∷ items) = capacity-reap_each (reap_one L item) items ∙ capacity-reap_one L item
 
--- Making room keeps how many operations there are, the handles and the capacity.
-room-length-by : (L : Ledger) (b : Bool) → length (if b then take_all L else L).ops ≡ length L.ops
-room-length-by L true = length-take_each (record L { queue = [] }) L.queue
-room-length-by L false = refl
-
 -- Making room keeps the handles, by whether it takes.
 room-world-by : (L : Ledger) (b : Bool) → (if b then take_all L else L).world ≡ L.world
 room-world-by L true = world-take_each (record L { queue = [] }) L.queue
 room-world-by L false = refl
-
--- Making room keeps how many operations there are.
-pub room-length : (L : Ledger) → length (make_room L).ops ≡ length L.ops
-room-length L = room-length-by L (length L.queue == L.capacity)
 
 -- Making room keeps the handles.
 pub room-world : (L : Ledger) → (make_room L).world ≡ L.world

@@ -4,7 +4,8 @@ use Rattle.ring_core.proofs.Amended.{amended-at, amended-past}
 use Rattle.ring_core.proofs.flights.mark_at.Goals as goal
 
 pub returns-then-slot-len-clause-items : goal.returns-then-slot-len-clause-items
-returns-then-slot-len-clause-items c = amended-at (marked_by c.args.word) _ _ c.index.result.now _ (omega arith) c.index.ensures c.marked.ensures
+returns-then-slot-len-clause-items c =
+    amended-at (marked_by c.args.word) _ _ c.index.result.now _ (omega arith) c.index.ensures c.marked.ensures
 
 pub returns-else-slot-len-clause-items : goal.returns-else-slot-len-clause-items
 returns-else-slot-len-clause-items c = amended-past _ _ _ (omega arith)

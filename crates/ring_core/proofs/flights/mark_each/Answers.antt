@@ -9,4 +9,6 @@ loop-flight-preserved c =
     c.loop-flight.invariant (omega (arith, c.loop-flight-test.true)) c.marked.ensures
 
 pub returns : goal.returns
-returns c = c.loop-flight.invariant ∙ mapped_front-all (marked_by c.args.word) c.loop-flight.flight-index c.args.flights.now (omega (arith, c.loop-flight-test.false))
+returns c =
+    c.loop-flight.invariant
+    ∙ mapped_front-all (marked_by c.args.word) c.loop-flight.flight-index c.args.flights.now (omega (arith, c.loop-flight-test.false))

@@ -22,7 +22,8 @@ loop-slot-preserved c =
     let there = tested-kept c.args.ranks.now.flags c.loop-slot.slot (sym c.holds.ensures ∙ c.if-not-holds.false) in
     let here = slice_get_read c.loop-slot.items.items _ c.loop-slot.slot c.index.result.now refl within c.index.ensures in
     record {
-      moved = moved.moved ∙ pack-kept c.args.ranks.now.flags c.loop-slot.items.items c.loop-slot.count c.loop-slot.slot c.index.result.now within moved.few there here;
+      moved = moved.moved ∙ pack-kept c.args.ranks.now.flags c.loop-slot.items.items c.loop-slot.count c.loop-slot.slot c.index.result.now
+          within moved.few there here;
       few = omega arith;
       same_length = moved.same_length;
       same_capacity = moved.same_capacity;

@@ -9,7 +9,8 @@ invariant-loop-entry l = record {
   done_room : deque_len l.queue + deque_len l.done ≤ deque_capacity l.done;
   taken : flying_after l.flying.flights l.queue.items ≡ flying_after l.initial.flying.flights l.initial.queue.items;
   done_taken : done_after l.done.items l.queue.items ≡ done_after l.initial.done.items l.initial.queue.items;
-  sum : deque_len l.queue + length l.flying.flights + deque_len l.done ≡ deque_len l.initial.queue + length l.initial.flying.flights + deque_len l.initial.done;
+  sum : deque_len l.queue + length l.flying.flights + deque_len l.done
+      ≡ deque_len l.initial.queue + length l.initial.flying.flights + deque_len l.initial.done;
   flying_longer : length l.initial.flying.flights ≤ length l.flying.flights;
   done_longer : deque_len l.initial.done ≤ deque_len l.done;
   queue_capacity : deque_capacity l.queue ≡ deque_capacity l.initial.queue;

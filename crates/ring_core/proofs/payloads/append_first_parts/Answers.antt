@@ -13,7 +13,8 @@ loop-i-preserved g c =
     let count = c.parts_len-i-end.ensures in
     let there : c.loop-i.i < length parts = omega (arith, count) in
     let next : c.loop-i.i + 1 ≡ suc c.loop-i.i = omega arith in
-    let more : concat (take (c.loop-i.i + 1) parts) ≡ before ++ next_part = ap (λ i. concat (take i parts)) next ∙ joined-more parts c.loop-i.i there in
+    let more : concat (take (c.loop-i.i + 1) parts) ≡ before ++ next_part = ap (λ i. concat (take i parts)) next
+    ∙ joined-more parts c.loop-i.i there in
     let longer = ap (λ i. length (concat (take i parts))) next ∙ length-joined-more parts c.loop-i.i there in
     let left = c.loop-i.invariant.left in
     let piece = c.first-piece.ensures ∙ ap (take c.loop-i.left) c.part.ensures ∙ ap (λ n. take n next_part) left in

@@ -12,9 +12,11 @@ search-preserved c =
     let here = slice_get_read c.args.flags.now.items _ c.search.at c.index.result.now refl c.search.invariant.within c.index.ensures in
     elim c.if-index.branch [
       | then-index+else-rest-eq0 w ↦ (
-          let over = slot-over _ _ c.search.rest _ _ c.if-index.rest c.search.invariant.sum c.requires (here ∙ ap Some w.if-index.true) (omega arith) in
+          let over = slot-over _ _ c.search.rest _ _ c.if-index.rest c.search.invariant.sum c.requires (here ∙ ap Some w.if-index.true)
+          (omega arith) in
           record { within = over.0; sum = over.1 })
       | else-index w ↦ (
-          let over = slot-over _ _ c.search.rest _ _ c.if-index.rest c.search.invariant.sum c.requires (here ∙ ap Some w.if-index.false) (omega arith) in
+          let over = slot-over _ _ c.search.rest _ _ c.if-index.rest c.search.invariant.sum c.requires (here ∙ ap Some w.if-index.false)
+          (omega arith) in
           record { within = over.0; sum = over.1 })
     ]

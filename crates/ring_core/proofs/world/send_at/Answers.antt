@@ -8,7 +8,8 @@ pub returns-then-k-eq0 : goal.returns-then-k-eq0
 returns-then-k-eq0 g c =
     let handle = c.index_mut-handle.result.now in
     let sent = g.P.Payloads.offered c.args.payloads.now c.args.word in
-    let none : handle.output ≡ handle.output ++ take c.args.k sent = sym (append-nil handle.output) ∙ ap (λ n. handle.output ++ take n sent) (sym c.if-k-eq0.true) in
+    let none : handle.output ≡ handle.output ++ take c.args.k sent = sym (append-nil handle.output)
+    ∙ ap (λ n. handle.output ++ take n sent) (sym c.if-k-eq0.true) in
     sent-moved _ _ _ handle _ _ _ _ _ _ c.requires c.index_mut-handle.ensures.value
     (sym c.may_be_sent.ensures ∙ c.if-not-may_be_sent.false) none
 
@@ -19,7 +20,8 @@ returns-in-Ok g c =
 
 pub returns-in-Err : goal.returns-in-Err
 returns-in-Err g c = (
-  passes-at _ _ _ c.index_mut-handle.result.now c.requires c.index_mut-handle.ensures.value ∙ sym c.may_be_sent.ensures ∙ c.if-not-may_be_sent.false,
+  passes-at _ _ _ c.index_mut-handle.result.now c.requires c.index_mut-handle.ensures.value ∙ sym c.may_be_sent.ensures
+  ∙ c.if-not-may_be_sent.false,
   (let some = c.if-k-eq0.false in grind arith),
   set-same _ _ c.index_mut-handle.result.now _ c.index_mut-handle.ensures.value (rw c.in-Err.ensures.err),
   refl,

@@ -17,9 +17,11 @@ invariant_of-self g c =
     let polls = subst (λ k. PollsAt old.slots.values k c.args.task new c.poll_at.result) c.key.ensures c.poll_at.ensures in
     elim c.match-poll_at.branch [
       | in-None w ↦ numbered-kept old.slots.values new old.given c.self.invariant
-          (poll-keeps old.slots.values c.args.op holds c.args.task new (subst (λ (r : Option (Done g.row.B.Denot)). PollsAt old.slots.values c.args.op.key c.args.task new r) w.in-None.is polls))
+          (poll-keeps old.slots.values c.args.op holds c.args.task new
+              (subst (λ (r : Option (Done g.row.B.Denot)). PollsAt old.slots.values c.args.op.key c.args.task new r) w.in-None.is polls))
       | in-Some w ↦ numbered-spent old.slots.values new old.given c.args.op c.self.invariant
-          (poll-spends old.slots.values c.args.op holds c.args.task new w.in-Some.done (subst (λ (r : Option (Done g.row.B.Denot)). PollsAt old.slots.values c.args.op.key c.args.task new r) w.in-Some.is polls))
+          (poll-spends old.slots.values c.args.op holds c.args.task new w.in-Some.done
+              (subst (λ (r : Option (Done g.row.B.Denot)). PollsAt old.slots.values c.args.op.key c.args.task new r) w.in-Some.is polls))
     ]
 
 pub returns-clause-tokens : goal.returns-clause-tokens
@@ -32,10 +34,13 @@ returns-clause-tokens g c =
     rw (← c.self.view_is) (elim c.match-poll_at.branch [
       | in-None w ↦ subst (λ r. PollsTokens old after c.args.op r) (sym w.result-is) (
         refl,
-        tokens-kept old.slots.values new (poll-keeps old.slots.values c.args.op holds c.args.task new (subst (λ (r : Option (Done g.row.B.Denot)). PollsAt old.slots.values c.args.op.key c.args.task new r) w.in-None.is polls)),
+        tokens-kept old.slots.values new
+            (poll-keeps old.slots.values c.args.op holds c.args.task new
+            (subst (λ (r : Option (Done g.row.B.Denot)). PollsAt old.slots.values c.args.op.key c.args.task new r) w.in-None.is polls)),
       )
       | in-Some w ↦ subst (λ r. PollsTokens old after c.args.op r) (sym w.result-is)
-          (poll-spends old.slots.values c.args.op holds c.args.task new w.in-Some.done (subst (λ (r : Option (Done g.row.B.Denot)). PollsAt old.slots.values c.args.op.key c.args.task new r) w.in-Some.is polls))
+          (poll-spends old.slots.values c.args.op holds c.args.task new w.in-Some.done
+              (subst (λ (r : Option (Done g.row.B.Denot)). PollsAt old.slots.values c.args.op.key c.args.task new r) w.in-Some.is polls))
     ])
 
 pub returns-clause-request : goal.returns-clause-request

@@ -10,7 +10,8 @@ pub invariant_of-self : goal.invariant_of-self
 invariant_of-self g c =
     let given = c.self.inside.given in
     let slot : Slot g.row.B.Denot = record { serial = given; request = c.args.request; life = Submitted } in
-    numbered-more c.self.inside.slots.values c.insert.new.self.values given c.in-Ok.key slot c.in-Ok.ensures.fresh refl refl c.in-Ok.ensures.ok c.self.invariant c.in-Ok.ensures.below
+    numbered-more c.self.inside.slots.values c.insert.new.self.values given c.in-Ok.key slot c.in-Ok.ensures.fresh refl refl
+    c.in-Ok.ensures.ok c.self.invariant c.in-Ok.ensures.below
 
 pub returns-clause-token : goal.returns-clause-token
 returns-clause-token g c =
@@ -24,7 +25,8 @@ returns-clause-token g c =
     rw (← c.self.view_is) (record {
       this = adds-this old new given c.in-Ok.key slot c.in-Ok.ensures.fresh refl refl c.in-Ok.ensures.ok op key number;
       kept = adds-kept old new given c.in-Ok.key slot c.in-Ok.ensures.fresh refl refl c.in-Ok.ensures.ok;
-      only = λ other held. adds-only old new given c.in-Ok.key slot c.in-Ok.ensures.fresh refl refl c.in-Ok.ensures.ok op other key number held;
+      only = λ other held. adds-only old new given c.in-Ok.key slot c.in-Ok.ensures.fresh refl refl c.in-Ok.ensures.ok op other key number
+          held;
       number = number;
       next = refl;
     })

@@ -9,7 +9,8 @@ returns-then-place-self c =
     let same = c.self.invariant.1.together in
     let count = c.self.invariant.1.count in
     let kept_ones = length-kept c.self.inside.ranks.flags c.self.inside.items.items (omega arith) in
-    let shown : length (kept c.self.inside.ranks.flags c.self.inside.items.items) ≡ length c.args.self.now.flights = ap (λ v. length v.flights) c.self.view_is in
+    let shown : length (kept c.self.inside.ranks.flags c.self.inside.items.items) ≡ length c.args.self.now.flights =
+    ap (λ v. length v.flights) c.self.view_is in
     let past = c.if-place-self.true in
     sym (slice_get_past _ c.args.place (omega arith))
 

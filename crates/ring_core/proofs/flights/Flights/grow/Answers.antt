@@ -31,7 +31,8 @@ invariant_of-self-2 c =
     let count = ap length packed in
     let items = ap length same in
     let few = length-kept flags c.reserve.new.self.items (omega arith) in
-    let whole = all-kept c.register.new.ranks.flags c.pack.new.items.items (vec_len c.pack.new.items) c.register.ensures.flags (omega arith) in
+    let whole =
+    all-kept c.register.new.ranks.flags c.pack.new.items.items (vec_len c.pack.new.items) c.register.ensures.flags (omega arith) in
     let together_now = whole.0 in
     let live_now = whole.1 in
     let registered = c.register.ensures.room in

@@ -28,11 +28,13 @@ returns-in-Some c =
     let link = c.in-Some.ensures in
     ap (in_flight c.self.inside.room)
     (ap (kept flags) c.mark_at.ensures.items
-    ∙ marks-one c.args.word flags items c.in-Some.slot (linked-one _ flags items c.args.word c.in-Some.slot c.self.invariant.0 link.0 link.1 link.2))
+    ∙ marks-one c.args.word flags items c.in-Some.slot
+    (linked-one _ flags items c.args.word c.in-Some.slot c.self.invariant.0 link.0 link.1 link.2))
     ∙ ap (λ v. in_flight v.room (map (marked_by c.args.word) v.flights)) c.self.view_is
 
 pub returns-in-None : goal.returns-in-None
 returns-in-None c =
     ap (in_flight c.self.inside.room)
-    (ap (kept c.self.inside.ranks.flags) c.mark_all.ensures.items ∙ kept-map (marked_by c.args.word) c.self.inside.ranks.flags c.self.inside.items.items)
+    (ap (kept c.self.inside.ranks.flags) c.mark_all.ensures.items
+        ∙ kept-map (marked_by c.args.word) c.self.inside.ranks.flags c.self.inside.items.items)
     ∙ ap (λ v. in_flight v.room (map (marked_by c.args.word) v.flights)) c.self.view_is

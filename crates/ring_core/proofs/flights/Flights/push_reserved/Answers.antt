@@ -10,7 +10,8 @@ make_way-requires-clause-room c =
     let same = c.self.invariant.1.together in
     let enough = c.self.invariant.1.enough in
     let kept_ones = length-kept c.self.inside.ranks.flags c.self.inside.items.items (omega arith) in
-    let shown : length (kept c.self.inside.ranks.flags c.self.inside.items.items) ≡ length c.args.self.now.flights = ap (λ v. length v.flights) c.self.view_is in
+    let shown : length (kept c.self.inside.ranks.flags c.self.inside.items.items) ≡ length c.args.self.now.flights =
+    ap (λ v. length v.flights) c.self.view_is in
     let room : c.self.inside.room ≡ c.args.self.now.room = ap (λ v. v.room) c.self.view_is in
     let some = c.requires in
     omega arith
@@ -26,7 +27,8 @@ overflow_add-self c =
     let count = c.self.invariant.1.count in
     let same = c.self.invariant.1.together in
     let kept_ones = length-kept c.self.inside.ranks.flags c.self.inside.items.items (omega arith) in
-    let shown : length (kept c.self.inside.ranks.flags c.self.inside.items.items) ≡ length c.args.self.now.flights = ap (λ v. length v.flights) c.self.view_is in
+    let shown : length (kept c.self.inside.ranks.flags c.self.inside.items.items) ≡ length c.args.self.now.flights =
+    ap (λ v. length v.flights) c.self.view_is in
     let room : c.self.inside.room ≡ c.args.self.now.room = ap (λ v. v.room) c.self.view_is in
     let some = c.requires in
     omega arith

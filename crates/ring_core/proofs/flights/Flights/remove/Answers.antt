@@ -10,7 +10,8 @@ pub slot_at-slot-requires-clause-some : goal.slot_at-slot-requires-clause-some
 slot_at-slot-requires-clause-some c =
     let same = c.self.invariant.1.together in
     let kept_ones = length-kept c.self.inside.ranks.flags c.self.inside.items.items (omega arith) in
-    let shown : length (kept c.self.inside.ranks.flags c.self.inside.items.items) ≡ length c.args.self.now.flights = ap (λ v. length v.flights) c.self.view_is in
+    let shown : length (kept c.self.inside.ranks.flags c.self.inside.items.items) ≡ length c.args.self.now.flights =
+    ap (λ v. length v.flights) c.self.view_is in
     let some = c.requires in
     omega arith
 
@@ -19,7 +20,8 @@ overflow_sub-self c =
     let same = c.self.invariant.1.together in
     let count = c.self.invariant.1.count in
     let kept_ones = length-kept c.self.inside.ranks.flags c.self.inside.items.items (omega arith) in
-    let shown : length (kept c.self.inside.ranks.flags c.self.inside.items.items) ≡ length c.args.self.now.flights = ap (λ v. length v.flights) c.self.view_is in
+    let shown : length (kept c.self.inside.ranks.flags c.self.inside.items.items) ≡ length c.args.self.now.flights =
+    ap (λ v. length v.flights) c.self.view_is in
     let some = c.requires in
     omega arith
 
@@ -28,7 +30,9 @@ restart-requires c =
     let count = c.self.invariant.1.count in
     let none = c.if-self-eq0.true in
     let less = kept-less c.self.inside.ranks.flags c.slot_at-slot.result c.slot_at-slot.ensures.is_kept in
-    ap (λ ranks. kept_first (length ranks.flags) ranks.flags) c.release.ensures ∙ (let zero : ◌≡◌ {A = ℕ} (kept_first (length (set c.self.inside.ranks.flags c.slot_at-slot.result false)) (set c.self.inside.ranks.flags c.slot_at-slot.result false)) 0 = omega arith in zero)
+    ap (λ ranks. kept_first (length ranks.flags) ranks.flags) c.release.ensures
+        ∙ (let zero : ◌≡◌ {A = ℕ} (kept_first (length (set c.self.inside.ranks.flags c.slot_at-slot.result false))
+        (set c.self.inside.ranks.flags c.slot_at-slot.result false)) 0 = omega arith in zero)
 
 pub invariant_of-self-else-self-eq0 : goal.invariant_of-self-else-self-eq0
 invariant_of-self-else-self-eq0 c =

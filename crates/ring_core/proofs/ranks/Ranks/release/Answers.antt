@@ -6,20 +6,24 @@ use Rattle.ring_core.proofs.ranks.Ranks.release.Goals as goal
 
 pub count_down-requires-clause-some : goal.count_down-requires-clause-some
 count_down-requires-clause-some c =
-    let there : slice_get c.self.inside.flags.items c.args.slot ≡ Some true = ap (λ v. slice_get v.flags c.args.slot) c.self.view_is ∙ c.requires in
+    let there : slice_get c.self.inside.flags.items c.args.slot ≡ Some true = ap (λ v. slice_get v.flags c.args.slot) c.self.view_is
+    ∙ c.requires in
     block-some _ _ _ _ c.self.invariant.0 there
 
 pub count_down-requires-2-clause-some : goal.count_down-requires-2-clause-some
 count_down-requires-2-clause-some c =
-    let there : slice_get c.self.inside.flags.items c.args.slot ≡ Some true = ap (λ v. slice_get v.flags c.args.slot) c.self.view_is ∙ c.requires in
+    let there : slice_get c.self.inside.flags.items c.args.slot ≡ Some true = ap (λ v. slice_get v.flags c.args.slot) c.self.view_is
+    ∙ c.requires in
     group-some _ _ _ _ c.self.invariant.0 (block-some _ _ _ _ c.self.invariant.0 there)
 
 pub invariant_of-self : goal.invariant_of-self
 invariant_of-self c =
-    let there : slice_get c.self.inside.flags.items c.args.slot ≡ Some true = ap (λ v. slice_get v.flags c.args.slot) c.self.view_is ∙ c.requires in
+    let there : slice_get c.self.inside.flags.items c.args.slot ≡ Some true = ap (λ v. slice_get v.flags c.args.slot) c.self.view_is
+    ∙ c.requires in
     let flags = set c.self.inside.flags.items c.args.slot false in (
       subst (λ groups. AreCounted flags c.count_down.new.counts.items groups) (sym c.count_down-2.ensures.items)
-          (subst (λ blocks. AreCounted flags blocks (amended c.self.inside.groups.items (c.args.slot / 64 / 64) less_one)) (sym c.count_down.ensures.items)
+          (subst (λ blocks. AreCounted flags blocks (amended c.self.inside.groups.items (c.args.slot / 64 / 64) less_one))
+              (sym c.count_down.ensures.items)
           (counted-left _ _ _ _ there c.self.invariant.0)),
       record { within = omega arith; memory = omega arith; in_blocks = omega arith; in_groups = omega arith },
     )

@@ -15,7 +15,8 @@ pub overflow_mul-group : goal.overflow_mul-group
 overflow_mul-group c =
     let same = ap (λ v. kept_first (length v.flags) v.flags) c.self.view_is in
     let some : c.args.rank < kept_first (length c.self.inside.flags.items) c.self.inside.flags.items = omega arith in
-    let ends : sum_first c.find-group.result.at c.self.inside.groups.items + c.find-group.result.rest ≡ c.args.rank = (let e = c.find-group.ensures in omega arith) in
+    let ends : sum_first c.find-group.result.at c.self.inside.groups.items + c.find-group.result.rest ≡ c.args.rank =
+    (let e = c.find-group.ensures in omega arith) in
     let found = group-found _ _ _ c.args.rank _ c.find-group.result.rest (omega arith) c.self.invariant.0 some ends in
     let first = found.0 in
     omega arith
@@ -24,7 +25,8 @@ pub find-block-requires : goal.find-block-requires
 find-block-requires c =
     let same = ap (λ v. kept_first (length v.flags) v.flags) c.self.view_is in
     let some : c.args.rank < kept_first (length c.self.inside.flags.items) c.self.inside.flags.items = omega arith in
-    let ends : sum_first c.find-group.result.at c.self.inside.groups.items + c.find-group.result.rest ≡ c.args.rank = (let e = c.find-group.ensures in omega arith) in
+    let ends : sum_first c.find-group.result.at c.self.inside.groups.items + c.find-group.result.rest ≡ c.args.rank =
+    (let e = c.find-group.ensures in omega arith) in
     (group-found _ _ _ c.args.rank _ c.find-group.result.rest (omega arith) c.self.invariant.0 some ends).1
 
 pub overflow_mul-block : goal.overflow_mul-block
@@ -32,7 +34,8 @@ overflow_mul-block c =
     let same = ap (λ v. kept_first (length v.flags) v.flags) c.self.view_is in
     let some : c.args.rank < kept_first (length c.self.inside.flags.items) c.self.inside.flags.items = omega arith in
     let blocks = c.self.invariant.0.groups_count c.find-group.result.at in
-    let ends : sum_first c.find-block.result.at c.self.inside.blocks.items + c.find-block.result.rest ≡ c.args.rank = (let e = c.find-block.ensures in let f = c.find-group.ensures in omega arith) in
+    let ends : sum_first c.find-block.result.at c.self.inside.blocks.items + c.find-block.result.rest ≡ c.args.rank =
+    (let e = c.find-block.ensures in let f = c.find-group.ensures in omega arith) in
     let found = block-found _ _ _ c.args.rank _ c.find-block.result.rest c.self.invariant.0 some ends in
     let first = found.0 in
     omega arith

@@ -14,5 +14,8 @@ invariant-loop-i g l = record {
   given : l.ops.given ≡ l.initial.ops.given;
   took : TookOff l.i (g.R.Ring.view l.initial.ring.ring) (g.R.Ring.view l.ring.ring);
   same : KeepsPending g.R.Ring.view g.R.Ring.tells l.initial.ring l.ring;
-  treats : IsTrue g.R.Ring.tells → treated_behind l.initial.named (treat_each l.initial.ops.slots.values (g.R.Ring.view l.initial.ring.ring).done) ≡ treated_behind l.named (treat_each l.ops.slots.values (g.R.Ring.view l.ring.ring).done);
+  treats : IsTrue g.R.Ring.tells →
+      treated_behind l.initial.named
+      (treat_each l.initial.ops.slots.values (g.R.Ring.view l.initial.ring.ring).done) ≡ treated_behind l.named
+      (treat_each l.ops.slots.values (g.R.Ring.view l.ring.ring).done);
 }

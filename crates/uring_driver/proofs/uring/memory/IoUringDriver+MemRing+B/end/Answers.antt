@@ -12,17 +12,30 @@ use Rattle.uring_driver.specs.Uring.{ring_in, holds_handle}
 
 pub returns-clause-answers : goal.returns-clause-answers
 returns-clause-answers g c =
-    let d : State RingView g.row.B.Denot = record { ring = c.self.inside.ring; slots = c.self.inside.ops.slots; given = c.self.inside.ops.given; first = c.self.inside.first; held = c.self.inside.held } in
+    let d : State RingView g.row.B.Denot = record {
+      ring = c.self.inside.ring;
+      slots = c.self.inside.ops.slots;
+      given = c.self.inside.ops.given;
+      first = c.self.inside.first;
+      held = c.self.inside.held;
+    } in
     let holds = subst (λ x. IsTrue (holds_handle x c.args.h)) (sym c.self.view_is) c.requires in
     rw (← c.self.view_is) (
     λ L stands.
     let changed = c.in-Ok.ensures.rest in
-    stands-ends g.B.IoBufMut.buffer d _ L stands refl (ap (λ x. x.due) changed) (ap (λ x. x.room) changed) refl c.args.h holds c.in-Ok.ensures.ends.0
+    stands-ends g.B.IoBufMut.buffer d _ L stands refl (ap (λ x. x.due) changed)
+    (ap (λ x. x.room) changed) refl c.args.h holds c.in-Ok.ensures.ends.0
     (ap (λ x. x.ring) changed ∙ ap (with_world (ring_in d)) c.in-Ok.ensures.ends.1) refl refl)
 
 pub returns-in-Err-clause-answers : goal.returns-in-Err-clause-answers
 returns-in-Err-clause-answers g c =
-    let d : State RingView g.row.B.Denot = record { ring = c.self.inside.ring; slots = c.self.inside.ops.slots; given = c.self.inside.ops.given; first = c.self.inside.first; held = c.self.inside.held } in
+    let d : State RingView g.row.B.Denot = record {
+      ring = c.self.inside.ring;
+      slots = c.self.inside.ops.slots;
+      given = c.self.inside.ops.given;
+      first = c.self.inside.first;
+      held = c.self.inside.held;
+    } in
     let holds = subst (λ x. IsTrue (holds_handle x c.args.h)) (sym c.self.view_is) c.requires in
     rw (← c.self.view_is) (
     λ L stands. refuses-end g.B.IoBufMut.buffer d L stands c.args.h holds _ c.in-Err.why c.in-Err.ensures.ends)
@@ -32,5 +45,6 @@ invariant_of-self-2 g c =
     let changed = c.in-Ok.ensures.rest in
     let world = c.self.inside.ring.ring.world in (
       subst (λ n. IsSound n c.self.inside.ops.slots.values) (sym (ap (λ x. x.room) changed)) c.self.invariant.0,
-      in-world-same c.self.inside.first c.self.inside.held _ _ (ap length c.in-Ok.ensures.ends.1 ∙ length-amended with_end world c.args.h) c.self.invariant.1,
+      in-world-same c.self.inside.first c.self.inside.held _ _
+      (ap length c.in-Ok.ensures.ends.1 ∙ length-amended with_end world c.args.h) c.self.invariant.1,
     )

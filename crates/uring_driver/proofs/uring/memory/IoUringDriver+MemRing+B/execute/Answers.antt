@@ -20,13 +20,20 @@ invariant_of-self g c =
     let room = c.in-Err.ensures.room in
     let same = refused-ring (offered g.B.IoBufMut.buffer) stores (λ n. false) c.self.inside.ring.ring c.execute.new.self.ring
     c.args.place c.args.told c.self.inside.ops c.execute.new.payloads c.in-Err.why c.in-Err.ensures.executes in (
-      sound-keeps c.self.inside.ring.room c.execute.new.self.room c.self.inside.ops.slots.values c.execute.new.payloads.slots.values c.self.invariant.0 (omega (arith, room)) (λ key. ap (λ x. number_at x.slots.values key) kept),
+      sound-keeps c.self.inside.ring.room c.execute.new.self.room c.self.inside.ops.slots.values c.execute.new.payloads.slots.values
+      c.self.invariant.0 (omega (arith, room)) (λ key. ap (λ x. number_at x.slots.values key) kept),
       in-world-same c.self.inside.first c.self.inside.held _ _ (ap (λ v. length v.world) same) c.self.invariant.1,
     )
 
 pub returns-in-Err-clause-answers : goal.returns-in-Err-clause-answers
 returns-in-Err-clause-answers g c =
-    let d : State RingView g.row.B.Denot = record { ring = c.self.inside.ring; slots = c.self.inside.ops.slots; given = c.self.inside.ops.given; first = c.self.inside.first; held = c.self.inside.held } in
+    let d : State RingView g.row.B.Denot = record {
+      ring = c.self.inside.ring;
+      slots = c.self.inside.ops.slots;
+      given = c.self.inside.ops.given;
+      first = c.self.inside.first;
+      held = c.self.inside.held;
+    } in
     rw (← c.self.view_is) (
     λ L stands. refuses-executes g.B.IoBufMut.buffer d L c.args.place c.args.told stands (offered g.B.IoBufMut.buffer)
     (Stores g.B.IoBufMut.buffer (around g.B.IoBufMut.under g.B.IoBufMut.beside)) c.execute.new.self.ring c.self.inside.ops
@@ -38,13 +45,20 @@ invariant_of-self-2 g c =
     let kept = executed-numbers g.B.IoBufMut.buffer c.self.inside.ops c.execute.new.payloads c.in-Ok.completion.word executed.got
     (body_comes executed.finishes.flight.entry.body c.args.told) executed.stored in
     let room = c.in-Ok.ensures.room in (
-      sound-keeps c.self.inside.ring.room c.execute.new.self.room c.self.inside.ops.slots.values c.execute.new.payloads.slots.values c.self.invariant.0 (omega (arith, room)) kept.0,
+      sound-keeps c.self.inside.ring.room c.execute.new.self.room c.self.inside.ops.slots.values c.execute.new.payloads.slots.values
+      c.self.invariant.0 (omega (arith, room)) kept.0,
       in-world-same c.self.inside.first c.self.inside.held _ _ (finished-handles _ _ _ _ _ _ _ executed.finishes) c.self.invariant.1,
     )
 
 pub returns-clause-answers : goal.returns-clause-answers
 returns-clause-answers g c =
-    let d : State RingView g.row.B.Denot = record { ring = c.self.inside.ring; slots = c.self.inside.ops.slots; given = c.self.inside.ops.given; first = c.self.inside.first; held = c.self.inside.held } in
+    let d : State RingView g.row.B.Denot = record {
+      ring = c.self.inside.ring;
+      slots = c.self.inside.ops.slots;
+      given = c.self.inside.ops.given;
+      first = c.self.inside.first;
+      held = c.self.inside.held;
+    } in
     rw (← c.self.view_is) (
     λ L stands. stands-executes g.B.IoBufMut.buffer d L c.args.place c.args.told stands _ c.in-Ok.completion
     (executed-at g.B.IoBufMut.buffer (around g.B.IoBufMut.under g.B.IoBufMut.beside) c.in-Ok.ensures.executes)

@@ -7,7 +7,13 @@ use Rattle.uring_driver.specs.Uring.{holds_handle}
 
 pub returns-clause-answers : goal.returns-clause-answers
 returns-clause-answers g c =
-    let d : State RingView g.row.B.Denot = record { ring = c.self.inside.ring; slots = c.self.inside.ops.slots; given = c.self.inside.ops.given; first = c.self.inside.first; held = c.self.inside.held } in
+    let d : State RingView g.row.B.Denot = record {
+      ring = c.self.inside.ring;
+      slots = c.self.inside.ops.slots;
+      given = c.self.inside.ops.given;
+      first = c.self.inside.first;
+      held = c.self.inside.held;
+    } in
     let holds = subst (λ x. IsTrue (holds_handle x c.args.h)) (sym c.self.view_is) c.requires in
     rw (← c.self.view_is) (
     looks-if g.B.IoBufMut.buffer d c.args.h holds c.look.result c.look.ensures)
