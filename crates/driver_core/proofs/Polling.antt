@@ -93,11 +93,13 @@ flies-free (Completed r) h = refl
 module _ {B : Type 0} (old : FinMap nat_cmp (Slot B)) (key : ℕ) (mid : FinMap nat_cmp (Slot B)) (answer : AfterDrop)
     (p : DropsSlot old key mid answer) where
   pub drops-left : answer ≡ Left → DropsAt old key mid Left
-  drops-left left = λ s there. subst (λ x. DropsThis old key mid x Left) (some p.slot s (get old key) p.there there)
-      (flies-left p.slot.life (sym p.answers ∙ left),
-          p.slots ∙ ap (λ l. insert old key (with_life p.slot l)) (ignored-left p.slot.life (sym p.answers ∙ left)))
+  drops-left left = λ s there. subst (λ x. DropsThis old key mid x Left) (some p.slot s (get old key) p.there there) (
+    flies-left p.slot.life (sym p.answers ∙ left),
+    p.slots ∙ ap (λ l. insert old key (with_life p.slot l)) (ignored-left p.slot.life (sym p.answers ∙ left)),
+  )
 
   pub drops-freed : (new : FinMap nat_cmp (Slot B)) → answer ≡ Free → new ≡ remove mid key → DropsAt old key new Free
-  drops-freed new free gone = λ s there. subst (λ x. DropsThis old key new x Free) (some p.slot s (get old key) p.there there)
-      (flies-free p.slot.life (sym p.answers ∙ free),
-          gone ∙ ap (λ m. remove m key) p.slots ∙ remove-put old key (with_life p.slot (dropped p.slot.life)))
+  drops-freed new free gone = λ s there. subst (λ x. DropsThis old key new x Free) (some p.slot s (get old key) p.there there) (
+    flies-free p.slot.life (sym p.answers ∙ free),
+    gone ∙ ap (λ m. remove m key) p.slots ∙ remove-put old key (with_life p.slot (dropped p.slot.life)),
+  )

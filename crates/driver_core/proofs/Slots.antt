@@ -57,9 +57,12 @@ module _ {B : Type 0} (buffer : B → Buffer) (slots : FinMap nat_cmp (Slot B)) 
   -- A slot after is a slot of that number before.
   back : (k : ℕ) (u : Slot B) → get (insert slots key t) k ≡ Some u → (w : Slot B) × (get slots k ≡ Some w) × (w.serial ≡ u.serial)
   back k u h = elim (same-or-not k key) [
-    | inl e ↦ (s, ap (get slots) e ∙ there,
-        sym number ∙ ap (λ x. x.serial)
-        (some t u (get (insert slots key t) key) (put-same slots key t) (ap (get (insert slots key t)) (sym e) ∙ h)))
+    | inl e ↦ (
+      s,
+      ap (get slots) e ∙ there,
+      sym number ∙ ap (λ x. x.serial)
+          (some t u (get (insert slots key t) key) (put-same slots key t) (ap (get (insert slots key t)) (sym e) ∙ h)),
+    )
     | inr e ↦ (u, sym (put-other slots key t k e) ∙ h, refl)
   ]
 

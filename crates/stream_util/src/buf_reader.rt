@@ -10,8 +10,8 @@ ghost use Rattle.stream_util.specs.BufReader.{Reading, ReadRule, IfNotDone, fres
 
 use crate::buf_writer::DEFAULT_CAPACITY;
 use rent_buf::{FixedVec, IoBuf, IoBufMut, IoVecBuf, IoVecBufMut, OutOfMemory};
-use rent_io::{AsyncBufRead, AsyncReadRent, AsyncWriteRent, PollBuf, PollCount};
 use rent_io::vectored::first_room;
+use rent_io::{AsyncBufRead, AsyncReadRent, AsyncWriteRent, PollBuf, PollCount};
 use std::alloc::Global;
 use std::marker::Model;
 use std::mem;

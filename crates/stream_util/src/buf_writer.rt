@@ -7,8 +7,8 @@ ghost use Rattle.stream_util.specs.BufWriter.{Writing, Pushes, IsPushCaused, Off
 ghost use Rattle.stream_util.specs.BufWriter.{fresh_writer, counts_over, writer_over};
 
 use rent_buf::{IoBuf, IoBufMut, IoFault, IoVecBuf, IoVecBufMut, OutOfMemory, Slice};
-use rent_io::{AsyncBufRead, AsyncReadRent, AsyncWriteRent, PollBuf, PollCount};
 use rent_io::vectored::first_part;
+use rent_io::{AsyncBufRead, AsyncReadRent, AsyncWriteRent, PollBuf, PollCount};
 use std::alloc::Global;
 use std::marker::Model;
 use std::mem;

@@ -8,11 +8,11 @@ ghost use Rattle.stream_util.specs.PrefixedReadIo.{Prefixed, prefix_left, reader
 use crate::split::Split;
 use cancel_core::CancelHandle;
 use rent_buf::{IoBuf, IoBufMut, IoFault, IoVecBuf, IoVecBufMut};
+use rent_io::vectored::first_room;
 use rent_io::{
     AsyncReadRent, AsyncWriteRent, ByteSource, CancelableAsyncReadRent, CancelableAsyncWriteRent,
     PIECE, PollBuf, PollCount,
 };
-use rent_io::vectored::first_room;
 use std::marker::Model;
 
 /// A stream whose reads give the bytes of a source first (monoio: `PrefixedReadIo`). A clause sees it as the stream

@@ -55,7 +55,7 @@ cancel-joins view tells steady old mid new op key number live k n ring due room 
     ∙ ap (λ xs. (view old.ring).queue ++ xs) due in
     subst (λ q. PendingMoves q (pending_ring view new).queue (cancel_for op ∷ [])) same
     (subst (λ e. PendingMoves (pending_ring view mid).queue (pending_ring view new).queue (e ∷ []))
-        (ap (cancel_entry key) n ∙ ap (λ x. cancel_entry x op.number) k)
+    (ap (cancel_entry key) n ∙ ap (λ x. cancel_entry x op.number) k)
     (moves-join (pending_ring view mid) j.0 (pending_ring view new) (cancel_entry key number) (view new.ring).spare j.1 j.2))
 
 -- A drop leaves a slot that is in flight.
@@ -123,9 +123,9 @@ module _ {R B : Type 0} (d : IoUringDriver R B) (op : Op) (slots : FinMap nat_cm
         let spare = (view (ring_in new)).spare in
         subst (λ x. Answers view buffer L (Drop x) Dropped new) has.serial
         (stands-leaves view buffer d new L op.key t old has.there has.owned given first held left spare
-            (put ∙ is.1 ∙ ap (λ l. insert d.slots.values op.key (with_life t l)) (sym (ignored-left t.life left)))
+        (put ∙ is.1 ∙ ap (λ l. insert d.slots.values op.key (with_life t l)) (sym (ignored-left t.life left)))
         (exact.0 ∙ ap (λ x. with_spare (pushed (room_made (whole_ring view d)) (cancel_entry key x)) spare) (n ∙ sym has.serial)
-            ∙ ap (λ x. with_spare (pushed (room_made (whole_ring view d)) (cancel_entry x t.serial)) spare) k)
+        ∙ ap (λ x. with_spare (pushed (room_made (whole_ring view d)) (cancel_entry x t.serial)) spare) k)
         (fits-joined (view (ring_in new)).queue (due_in new) (view (ring_in new)).capacity exact.1) (joins.room some))
 
     -- What is reaped is freed.
@@ -168,6 +168,6 @@ module _ {R B : Type 0} (view : R → RingView) (buffer : B → Buffer) (d mid n
       subst (λ x. Answers view buffer L (Asks x) Asked new) mine'.serial
       (stands-asks view buffer mid new L key mine'.slot made mine'.there mine'.owned given first held (view (ring_in new)).spare slots
       (exact.0 ∙ ap (λ x. with_spare (pushed (room_made (whole_ring view mid)) (cancel_entry key x)) (view (ring_in new)).spare)
-          (n ∙ sym mine'.serial))
+      (n ∙ sym mine'.serial))
       (fits-joined (view (ring_in new)).queue (due_in new) (view (ring_in new)).capacity exact.1)
       (let l = ap (λ x. len x.slots.values) same in let j = joins.room some in omega (arith, room, l, j)))

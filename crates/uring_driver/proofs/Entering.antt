@@ -242,9 +242,10 @@ module _ {R : Type 0} (view : R → RingView) (tells : Bool) where
         let t = steady_tells s in
         let n : length (view new.ring).queue + length new.due ≡ length (view mid.ring).queue + length mid.due + 1 =
         sym (length-append (view new.ring).queue new.due) ∙ ap (λ x. length x.queue) (told t)
-        ∙ length-append ((view mid.ring).queue ++ mid.due) (entry ∷ []) ∙ ap (λ k. k + 1) (length-append (view mid.ring).queue mid.due) in
-        (told t ∙ ap (λ v. with_spare (pushed v entry) (view new.ring).spare) (pend t fits),
-            (let z = ap length none in let c = later.same_capacity in omega (arith, n, z, room, c)))
+        ∙ length-append ((view mid.ring).queue ++ mid.due) (entry ∷ []) ∙ ap (λ k. k + 1) (length-append (view mid.ring).queue mid.due) in (
+          told t ∙ ap (λ v. with_spare (pushed v entry) (view new.ring).spare) (pend t fits),
+          (let z = ap length none in let c = later.same_capacity in omega (arith, n, z, room, c)),
+        )
     exactly (Err Fault) none room pend kept s fits = absurd (kept.1 s)
     exactly (Err Busy) none room pend kept s fits = absurd (kept.1 s)
 

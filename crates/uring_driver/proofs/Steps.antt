@@ -174,12 +174,12 @@ pub step-exec : (L : Ledger) (place n : ℕ) (told : Told) (o : Operation) → p
 unfolding step
 step-exec L place n told o within there which allows =
     ap (λ b. answered (refused_if b NotFlying
-        (refused_if (not (passes (λ item. allowed L item told) (slice_get L.flying place))) BadOutcome None)) L (Exec place told))
-        (below-test (length L.flying) place within)
+    (refused_if (not (passes (λ item. allowed L item told) (slice_get L.flying place))) BadOutcome None)) L (Exec place told))
+    (below-test (length L.flying) place within)
     ∙ ap (λ x. answered (refused_if (not (passes (λ item. allowed L item told) x)) BadOutcome None) L (Exec place told)) there
     ∙ ap (λ x. answered (refused_if
-        (not (passes (λ operation. is_allowed L.world operation.canceled (call_of operation.request) told) x)) BadOutcome None) L
-        (Exec place told)) which
+    (not (passes (λ operation. is_allowed L.world operation.canceled (call_of operation.request) told) x)) BadOutcome None) L
+    (Exec place told)) which
     ∙ ap (λ b. answered (refused_if (not b) BadOutcome None) L (Exec place told)) allows
     ∙ ap (exec_step L place told) there
 
@@ -192,7 +192,7 @@ unrefused-exec L place n told o within there which allows =
     (below-test (length L.flying) place within)
     ∙ ap (λ x. refused_if (not (passes (λ item. allowed L item told) x)) BadOutcome None) there
     ∙ ap (λ x. refused_if (not
-        (passes (λ operation. is_allowed L.world operation.canceled (call_of operation.request) told) x)) BadOutcome None) which
+    (passes (λ operation. is_allowed L.world operation.canceled (call_of operation.request) told) x)) BadOutcome None) which
     ∙ ap (λ b. refused_if (not b) BadOutcome None) allows
 
 -- An execution past what is in flight is refused.
@@ -210,5 +210,5 @@ cause-outcome L place n told o within there which forbids =
     (below-test (length L.flying) place within)
     ∙ ap (λ x. refused_if (not (passes (λ item. allowed L item told) x)) BadOutcome None) there
     ∙ ap (λ x. refused_if (not
-        (passes (λ operation. is_allowed L.world operation.canceled (call_of operation.request) told) x)) BadOutcome None) which
+    (passes (λ operation. is_allowed L.world operation.canceled (call_of operation.request) told) x)) BadOutcome None) which
     ∙ ap (λ b. refused_if (not b) BadOutcome None) forbids

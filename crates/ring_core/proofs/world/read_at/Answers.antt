@@ -6,7 +6,7 @@ use Rattle.ring_core.proofs.world.read_at.Goals as goal
 pub returns-then-not-may_take : goal.returns-then-not-may_take
 returns-then-not-may_take g c = (
   passes-at _ _ _ c.index_mut-handle.result.now c.requires c.index_mut-handle.ensures.value ∙ sym c.may_take.ensures
-  ∙ c.if-not-may_take.true,
+      ∙ c.if-not-may_take.true,
   set-same _ _ c.index_mut-handle.result.now _ c.index_mut-handle.ensures.value refl,
   refl,
 )
@@ -21,7 +21,7 @@ returns-in-Err g c =
     let allowed = sym c.may_take.ensures ∙ c.if-not-may_take.false in (
       passes-at _ _ _ c.index_mut-handle.result.now c.requires c.index_mut-handle.ensures.value ∙ allowed,
       read-memory g.P.Payloads.takes_memory c.args.ask _ c.index_mut-handle.result.now c.first.result.now allowed c.first.ensures
-      c.in-Err.ensures.memory,
+          c.in-Err.ensures.memory,
       set-same _ _ c.index_mut-handle.result.now _ c.index_mut-handle.ensures.value refl,
       c.in-Err.ensures.err,
     )

@@ -21,7 +21,7 @@ returns-in-Ok g c =
 pub returns-in-Err : goal.returns-in-Err
 returns-in-Err g c = (
   passes-at _ _ _ c.index_mut-handle.result.now c.requires c.index_mut-handle.ensures.value ∙ sym c.may_be_sent.ensures
-  ∙ c.if-not-may_be_sent.false,
+      ∙ c.if-not-may_be_sent.false,
   (let some = c.if-k-eq0.false in grind arith),
   set-same _ _ c.index_mut-handle.result.now _ c.index_mut-handle.ensures.value (rw c.in-Err.ensures.err),
   refl,

@@ -10,7 +10,7 @@ invariant-loop-i g l = record {
   enters : Enters g.R.Ring.view g.R.Ring.tells l.initial.out l.out;
   fits : length (g.R.Ring.view l.initial.out.ring).queue + length l.initial.out.due ≤ (g.R.Ring.view l.initial.out.ring).capacity →
       (length (g.R.Ring.view l.out.ring).queue + length l.out.due
-          ≡ length (g.R.Ring.view l.initial.out.ring).queue + length l.initial.out.due)
+      ≡ length (g.R.Ring.view l.initial.out.ring).queue + length l.initial.out.due)
       × (IsTrue g.R.Ring.tells → pending_ring g.R.Ring.view l.out
-          ≡ with_spare (pending_ring g.R.Ring.view l.initial.out) (g.R.Ring.view l.out.ring).spare);
+      ≡ with_spare (pending_ring g.R.Ring.view l.initial.out) (g.R.Ring.view l.out.ring).spare);
 }

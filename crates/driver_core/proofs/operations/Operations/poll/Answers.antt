@@ -18,10 +18,10 @@ invariant_of-self g c =
     elim c.match-poll_at.branch [
       | in-None w ↦ numbered-kept old.slots.values new old.given c.self.invariant
           (poll-keeps old.slots.values c.args.op holds c.args.task new
-              (subst (λ (r : Option (Done g.row.B.Denot)). PollsAt old.slots.values c.args.op.key c.args.task new r) w.in-None.is polls))
+          (subst (λ (r : Option (Done g.row.B.Denot)). PollsAt old.slots.values c.args.op.key c.args.task new r) w.in-None.is polls))
       | in-Some w ↦ numbered-spent old.slots.values new old.given c.args.op c.self.invariant
           (poll-spends old.slots.values c.args.op holds c.args.task new w.in-Some.done
-              (subst (λ (r : Option (Done g.row.B.Denot)). PollsAt old.slots.values c.args.op.key c.args.task new r) w.in-Some.is polls))
+          (subst (λ (r : Option (Done g.row.B.Denot)). PollsAt old.slots.values c.args.op.key c.args.task new r) w.in-Some.is polls))
     ]
 
 pub returns-clause-tokens : goal.returns-clause-tokens
@@ -40,7 +40,7 @@ returns-clause-tokens g c =
       )
       | in-Some w ↦ subst (λ r. PollsTokens old after c.args.op r) (sym w.result-is)
           (poll-spends old.slots.values c.args.op holds c.args.task new w.in-Some.done
-              (subst (λ (r : Option (Done g.row.B.Denot)). PollsAt old.slots.values c.args.op.key c.args.task new r) w.in-Some.is polls))
+          (subst (λ (r : Option (Done g.row.B.Denot)). PollsAt old.slots.values c.args.op.key c.args.task new r) w.in-Some.is polls))
     ])
 
 pub returns-clause-request : goal.returns-clause-request

@@ -21,6 +21,6 @@ returns-clause-value c =
     let same = c.self.invariant.1.together in
     sym (get-kept flags items c.select-slot.result c.index.result.now c.select-slot.ensures.kept
     (slice_get_read items _ c.select-slot.result c.index.result.now refl
-        (let within = c.select-slot.ensures.within in omega arith) c.index.ensures))
+    (let within = c.select-slot.ensures.within in omega arith) c.index.ensures))
     ∙ ap (slice_get (kept flags items)) c.select-slot.ensures.rank
     ∙ ap (λ v. slice_get v.flights c.args.place) c.self.view_is

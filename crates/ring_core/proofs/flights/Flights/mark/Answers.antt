@@ -36,5 +36,5 @@ pub returns-in-None : goal.returns-in-None
 returns-in-None c =
     ap (in_flight c.self.inside.room)
     (ap (kept c.self.inside.ranks.flags) c.mark_all.ensures.items
-        ∙ kept-map (marked_by c.args.word) c.self.inside.ranks.flags c.self.inside.items.items)
+    ∙ kept-map (marked_by c.args.word) c.self.inside.ranks.flags c.self.inside.items.items)
     ∙ ap (λ v. in_flight v.room (map (marked_by c.args.word) v.flights)) c.self.view_is

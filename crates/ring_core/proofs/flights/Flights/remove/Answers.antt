@@ -31,8 +31,8 @@ restart-requires c =
     let none = c.if-self-eq0.true in
     let less = kept-less c.self.inside.ranks.flags c.slot_at-slot.result c.slot_at-slot.ensures.is_kept in
     ap (λ ranks. kept_first (length ranks.flags) ranks.flags) c.release.ensures
-        ∙ (let zero : ◌≡◌ {A = ℕ} (kept_first (length (set c.self.inside.ranks.flags c.slot_at-slot.result false))
-        (set c.self.inside.ranks.flags c.slot_at-slot.result false)) 0 = omega arith in zero)
+    ∙ (let zero : ◌≡◌ {A = ℕ} (kept_first (length (set c.self.inside.ranks.flags c.slot_at-slot.result false))
+    (set c.self.inside.ranks.flags c.slot_at-slot.result false)) 0 = omega arith in zero)
 
 pub invariant_of-self-else-self-eq0 : goal.invariant_of-self-else-self-eq0
 invariant_of-self-else-self-eq0 c =

@@ -7,11 +7,18 @@ use Rattle.ring_core.proofs.mem_ring.MemRing.execute.Goals as goal
 pub returns-in-Ok : goal.returns-in-Ok
 returns-in-Ok g c =
     subst (λ old. IsExecuted g.P.Payloads.offered g.P.Payloads.stores old c.args.place c.args.told c.complete.new.self c.args.payloads.now
-        c.execute.new.payloads c.complete.result)
+    c.execute.new.payloads c.complete.result)
     c.self.view_is
     (run-executed _ _ _ _ c.execute.new.self _ _ _ _ c.in-Some.flight c.in-Ok.outcome _
     (sym c.in-Some.ensures.value) c.in-Ok.ensures
-    (subst (λ (f : InFlight). c.complete.new.self ≡ completed (record { capacity = c.self.inside.entries; queue = c.self.inside.queue.items;
-        flying = f.flights; done = c.self.inside.done.items; world = c.execute.new.self; spare = c.self.inside.spare; faults = 0;
-        busies = 0 }) c.args.place c.in-Some.flight.entry c.in-Ok.outcome) c.in-Some.ensures.same c.complete.ensures.ring)
+    (subst (λ (f : InFlight). c.complete.new.self ≡ completed (record {
+      capacity = c.self.inside.entries;
+      queue = c.self.inside.queue.items;
+      flying = f.flights;
+      done = c.self.inside.done.items;
+      world = c.execute.new.self;
+      spare = c.self.inside.spare;
+      faults = 0;
+      busies = 0;
+    }) c.args.place c.in-Some.flight.entry c.in-Ok.outcome) c.in-Some.ensures.same c.complete.ensures.ring)
     c.complete.ensures.answer)

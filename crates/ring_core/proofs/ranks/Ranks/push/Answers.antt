@@ -20,9 +20,9 @@ invariant_of-self c =
     let groups = c.count_up-2.ensures.length in (
       subst (λ groups. AreCounted c.push_reserved.new.self.items c.count_up.new.counts.items groups) (sym c.count_up-2.ensures.items)
           (subst (λ blocks. AreCounted c.push_reserved.new.self.items blocks
-              (amended c.self.inside.groups.items (c.len-block.result / 64 / 64) suc)) (sym c.count_up.ensures.items)
+          (amended c.self.inside.groups.items (c.len-block.result / 64 / 64) suc)) (sym c.count_up.ensures.items)
           (subst (λ flags. AreCounted flags (amended c.self.inside.blocks.items (c.len-block.result / 64) suc)
-              (amended c.self.inside.groups.items (c.len-block.result / 64 / 64) suc))
+          (amended c.self.inside.groups.items (c.len-block.result / 64 / 64) suc))
           (sym c.push_reserved.ensures.items)
           (counted-joined c.self.inside.flags.items _ _ _ (omega arith) (omega arith) (omega arith) c.self.invariant.0))),
       record { within = omega arith; memory = omega arith; in_blocks = omega arith; in_groups = omega arith },

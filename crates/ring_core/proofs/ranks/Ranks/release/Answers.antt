@@ -23,7 +23,7 @@ invariant_of-self c =
     let flags = set c.self.inside.flags.items c.args.slot false in (
       subst (λ groups. AreCounted flags c.count_down.new.counts.items groups) (sym c.count_down-2.ensures.items)
           (subst (λ blocks. AreCounted flags blocks (amended c.self.inside.groups.items (c.args.slot / 64 / 64) less_one))
-              (sym c.count_down.ensures.items)
+          (sym c.count_down.ensures.items)
           (counted-left _ _ _ _ there c.self.invariant.0)),
       record { within = omega arith; memory = omega arith; in_blocks = omega arith; in_groups = omega arith },
     )

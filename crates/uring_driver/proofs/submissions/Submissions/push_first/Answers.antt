@@ -10,4 +10,4 @@ returns-clause-fits g c =
     c.make_room.ensures.same
     (sym (ap (λ x. x.due) c.self.view_is) ∙ c.in-Some.ensures.items)
     (subst (λ x. IsPushed g.R.Ring.tells c.in-Some.entry (g.R.Ring.view x.ring)
-        (g.R.Ring.view c.push_reserved.new.self)) c.self.view_is c.in-Done.ensures)
+    (g.R.Ring.view c.push_reserved.new.self)) c.self.view_is c.in-Done.ensures)

@@ -23,7 +23,7 @@ returns-clause-answers g c =
     rw (← c.self.view_is) (
     λ steady L stands.
     let posts = subst (λ e. Posts g.R.Ring.view g.R.Ring.tells g.R.Ring.steady c.make_spare.new.self c.post.new.self e) c.cancel.ensures
-        c.post.ensures.posts in
+    c.post.ensures.posts in
     cancel-asks g.R.Ring.view g.B.IoBufMut.buffer d
     (record d { ring = c.make_spare.new.self }) _ c.args.op.now c.key.result c.number.result L stands holds c.key.ensures c.number.ensures
     c.make_spare.ensures.view c.make_spare.ensures.due c.make_spare.ensures.more refl refl refl refl refl g.R.Ring.tells g.R.Ring.steady
@@ -40,7 +40,7 @@ returns-clause-pending g c =
     } in
     let holds : Holds d c.args.op.now = subst (λ x. Holds x c.args.op.now) (sym c.self.view_is) c.requires in
     let posts = subst (λ e. Posts g.R.Ring.view g.R.Ring.tells g.R.Ring.steady c.make_spare.new.self c.post.new.self e) c.cancel.ensures
-        c.post.ensures.posts in
+    c.post.ensures.posts in
     rw (← c.self.view_is) (
     λ tells.
     cancel-joins g.R.Ring.view g.R.Ring.tells g.R.Ring.steady d.ring c.make_spare.new.self c.post.new.self c.args.op.now c.key.result
@@ -68,15 +68,16 @@ invariant_of-self-2 g c =
     let ok = c.in_ok-make_spare.ensures.ok in
     let room = c.post.ensures.posts.room (omega (arith, count, ok)) in
     let more = later-on _ _ _ (subst (λ v. IsLater (g.R.Ring.view c.self.inside.ring.ring) v) (sym c.make_spare.ensures.view)
-        (later-same _ _)) c.post.ensures.posts.later in
-    (sound-live c.post.new.self.room c.self.inside.ops.slots.values (omega (arith, count, ok, room)),
-        in-world-more c.self.inside.first c.self.inside.held _ _ more.more_handles c.self.invariant.1)
+    (later-same _ _)) c.post.ensures.posts.later in (
+      sound-live c.post.new.self.room c.self.inside.ops.slots.values (omega (arith, count, ok, room)),
+      in-world-more c.self.inside.first c.self.inside.held _ _ more.more_handles c.self.invariant.1,
+    )
 
 pub invariant_of-self : goal.invariant_of-self
 invariant_of-self g c =
     let more : IsLater (g.R.Ring.view c.self.inside.ring.ring) (g.R.Ring.view c.make_spare.new.self.ring) =
     subst (λ v. IsLater (g.R.Ring.view c.self.inside.ring.ring) v) (sym c.make_spare.ensures.view) (later-same _ _) in (
       sound-shrinks c.self.inside.ring.room c.make_spare.new.self.room c.self.inside.ops.slots.values c.self.inside.ops.slots.values
-      c.self.invariant.0 c.make_spare.ensures.more (λ key number h. h),
+          c.self.invariant.0 c.make_spare.ensures.more (λ key number h. h),
       in-world-more c.self.inside.first c.self.inside.held _ _ more.more_handles c.self.invariant.1,
     )

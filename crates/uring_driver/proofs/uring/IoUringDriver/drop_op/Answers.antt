@@ -49,7 +49,7 @@ invariant_of-self-in-Left g c =
     let drops = subst (λ a. DropsAt d.slots.values c.args.op.key c.drop_op.new.self.slots.values a) c.in-Left.is c.drop_op.ensures.drops in
     let some = sound-room d.ring.room d.slots.values c.args.op.key c.args.op.number c.self.invariant.0 holds in (
       sound-left d c.args.op c.drop_op.new.self.slots.values holds c.self.invariant.0 drops c.post.new.self.room
-      (c.post.ensures.posts.room some),
+          (c.post.ensures.posts.room some),
       in-world-more d.first d.held _ _ c.post.ensures.posts.later.more_handles c.self.invariant.1,
     )
 
@@ -65,7 +65,7 @@ returns-in-Free-clause-answers g c =
     let holds : Holds d c.args.op = subst (λ x. Holds x c.args.op) (sym c.self.view_is) c.requires in
     let drops = subst (λ a. DropsAt d.slots.values c.args.op.key c.drop_op.new.self.slots.values a) c.in-Free.is c.drop_op.ensures.drops in
     rw (← c.self.view_is) (λ steady L stands. drop-frees d c.args.op c.drop_op.new.self.slots.values holds g.R.Ring.view g.B.IoBufMut.buffer
-        _ L stands c.drop_op.ensures.given refl refl drops refl refl)
+    _ L stands c.drop_op.ensures.given refl refl drops refl refl)
 
 pub returns-in-Free-clause-tokens : goal.returns-in-Free-clause-tokens
 returns-in-Free-clause-tokens g c = rw (← c.self.view_is) c.drop_op.ensures.tokens
@@ -82,7 +82,7 @@ returns-in-Free-clause-drops g c =
     let holds : Holds d c.args.op = subst (λ x. Holds x c.args.op) (sym c.self.view_is) c.requires in
     let drops = subst (λ a. DropsAt d.slots.values c.args.op.key c.drop_op.new.self.slots.values a) c.in-Free.is c.drop_op.ensures.drops in
     rw (← c.self.view_is) (drops-freed d c.args.op c.drop_op.new.self.slots.values holds g.R.Ring.view g.R.Ring.tells
-        (record d { slots = c.drop_op.new.self.slots; given = c.drop_op.new.self.given }) drops refl refl)
+    (record d { slots = c.drop_op.new.self.slots; given = c.drop_op.new.self.given }) drops refl refl)
 
 pub returns-in-Left-clause-answers : goal.returns-in-Left-clause-answers
 returns-in-Left-clause-answers g c =
@@ -98,8 +98,8 @@ returns-in-Left-clause-answers g c =
     let posts =
     subst (λ e. Posts g.R.Ring.view g.R.Ring.tells g.R.Ring.steady d.ring c.post.new.self e) c.cancel.ensures c.post.ensures.posts in
     rw (← c.self.view_is) (λ steady L stands. drop-leaves d c.args.op c.drop_op.new.self.slots.values holds g.R.Ring.view
-        g.B.IoBufMut.buffer _ L stands c.drop_op.ensures.given refl refl g.R.Ring.tells g.R.Ring.steady c.key-key.result
-        c.number-number.result c.key-key.ensures c.number-number.ensures drops refl posts steady)
+    g.B.IoBufMut.buffer _ L stands c.drop_op.ensures.given refl refl g.R.Ring.tells g.R.Ring.steady c.key-key.result
+    c.number-number.result c.key-key.ensures c.number-number.ensures drops refl posts steady)
 
 pub returns-in-Left-clause-tokens : goal.returns-in-Left-clause-tokens
 returns-in-Left-clause-tokens g c = rw (← c.self.view_is) c.drop_op.ensures.tokens
@@ -119,10 +119,15 @@ returns-in-Left-clause-drops g c =
     let posts =
     subst (λ e. Posts g.R.Ring.view g.R.Ring.tells g.R.Ring.steady d.ring c.post.new.self e) c.cancel.ensures c.post.ensures.posts in
     let moves = cancel-moves g.R.Ring.view g.R.Ring.tells g.R.Ring.steady d.ring c.post.new.self c.args.op c.key-key.result
-        c.number-number.result c.key-key.ensures c.number-number.ensures some posts in
+    c.number-number.result c.key-key.ensures c.number-number.ensures some posts in
     rw (← c.self.view_is) (drops-left d c.args.op c.drop_op.new.self.slots.values holds g.R.Ring.view g.R.Ring.tells
-        (record { ring = c.post.new.self; slots = c.drop_op.new.self.slots; given = c.drop_op.new.self.given; first = d.first;
-        held = d.held }) drops refl moves)
+    (record {
+      ring = c.post.new.self;
+      slots = c.drop_op.new.self.slots;
+      given = c.drop_op.new.self.given;
+      first = d.first;
+      held = d.held;
+    }) drops refl moves)
 
 pub returns-in-Free-clause-requests : goal.returns-in-Free-clause-requests
 returns-in-Free-clause-requests g c = rw (← c.self.view_is) c.drop_op.ensures.requests

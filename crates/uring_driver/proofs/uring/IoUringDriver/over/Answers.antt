@@ -17,6 +17,7 @@ returns-clause-none g c =
     (ap len c.new-2.ensures.slots ∙ len-empty nat_cmp (Slot g.row.B.Denot), c.new-2.ensures.given, c.new-2.ensures.none)
 
 pub invariant_of-result : goal.invariant_of-result
-invariant_of-result g c =
-    (sound-empty c.new.result.room c.new-2.result.slots.values c.new-2.ensures.slots,
-    in-world-none (length (g.R.Ring.view c.new.result.ring).world))
+invariant_of-result g c = (
+  sound-empty c.new.result.room c.new-2.result.slots.values c.new-2.ensures.slots,
+  in-world-none (length (g.R.Ring.view c.new.result.ring).world),
+)

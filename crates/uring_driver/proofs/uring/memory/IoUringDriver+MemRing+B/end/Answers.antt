@@ -46,5 +46,5 @@ invariant_of-self-2 g c =
     let world = c.self.inside.ring.ring.world in (
       subst (λ n. IsSound n c.self.inside.ops.slots.values) (sym (ap (λ x. x.room) changed)) c.self.invariant.0,
       in-world-same c.self.inside.first c.self.inside.held _ _
-      (ap length c.in-Ok.ensures.ends.1 ∙ length-amended with_end world c.args.h) c.self.invariant.1,
+          (ap length c.in-Ok.ensures.ends.1 ∙ length-amended with_end world c.args.h) c.self.invariant.1,
     )

@@ -21,7 +21,7 @@ invariant_of-self g c =
     let same = refused-ring (offered g.B.IoBufMut.buffer) stores (λ n. false) c.self.inside.ring.ring c.execute.new.self.ring
     c.args.place c.args.told c.self.inside.ops c.execute.new.payloads c.in-Err.why c.in-Err.ensures.executes in (
       sound-keeps c.self.inside.ring.room c.execute.new.self.room c.self.inside.ops.slots.values c.execute.new.payloads.slots.values
-      c.self.invariant.0 (omega (arith, room)) (λ key. ap (λ x. number_at x.slots.values key) kept),
+          c.self.invariant.0 (omega (arith, room)) (λ key. ap (λ x. number_at x.slots.values key) kept),
       in-world-same c.self.inside.first c.self.inside.held _ _ (ap (λ v. length v.world) same) c.self.invariant.1,
     )
 
@@ -46,7 +46,7 @@ invariant_of-self-2 g c =
     (body_comes executed.finishes.flight.entry.body c.args.told) executed.stored in
     let room = c.in-Ok.ensures.room in (
       sound-keeps c.self.inside.ring.room c.execute.new.self.room c.self.inside.ops.slots.values c.execute.new.payloads.slots.values
-      c.self.invariant.0 (omega (arith, room)) kept.0,
+          c.self.invariant.0 (omega (arith, room)) kept.0,
       in-world-same c.self.inside.first c.self.inside.held _ _ (finished-handles _ _ _ _ _ _ _ executed.finishes) c.self.invariant.1,
     )
 

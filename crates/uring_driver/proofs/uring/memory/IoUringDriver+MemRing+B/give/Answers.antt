@@ -46,8 +46,8 @@ invariant_of-self-2 g c =
       subst (λ n. IsSound n c.self.inside.ops.slots.values) (sym (ap (λ x. x.room) ok)) c.self.invariant.0,
       λ h is.
           let below = in-world-next first held (length world) c.self.invariant.1 h
-              (subst (λ f. is_among f (held + 1) h ≡ true)
-              (c.first_of-self-inside.ensures ∙ ap (first_with first held) c.in_ok-h.ensures.number) is) in
+          (subst (λ f. is_among f (held + 1) h ≡ true)
+          (c.first_of-self-inside.ensures ∙ ap (first_with first held) c.in_ok-h.ensures.number) is) in
           let more = ap (λ x. length x.ring.world) ok ∙ length-append world (fresh c.args.kind ∷ []) in
           omega (arith, below, more),
     )
