@@ -53,6 +53,7 @@ fn a_copy_is_taken_up_again(rt: HostRuntime) -> Result<(), Fail> {
     let Step::Ready(copied) = Copy::new(rt.alloc())?.run(&mut reader, &mut writer, 0, 9) else {
         return Err(Fail::from("not ready"));
     };
+    assert!(rt; copied.rest.len() <= 4096);
     let Ok(copy) = Copy::resume(copied.rest) else {
         return Err(Fail::from("out of memory"));
     };
