@@ -1,5 +1,7 @@
 pub mod Lists
 pub mod Maps
+pub mod Holds
+pub mod Counted
 pub mod Numbers
 pub mod Completing
 pub mod Counts

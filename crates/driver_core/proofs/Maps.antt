@@ -1,9 +1,9 @@
 -- A finite map by numbers after a write and after a removal.
-use Rattle.std.proofs.Common.{◌≡◌, ◌≢◌, inl, inr, ℕ, ◌+◌, ◌-◌, true, cond, Some, None, refl, sym, ◌∙◌, ap, arith}
+use Rattle.std.proofs.Common.{◌≡◌, ◌≢◌, inl, inr, ℕ, zero, suc, ◌+◌, ◌-◌, ◌<◌, Bool, true, false, cond, Some, None, refl, sym, ◌∙◌, ap, arith}
 use Rattle.std.specs.Prelude.{is_some}
 use Rattle.std.specs.Ordering.{nat_cmp, eq_by_cmp}
 use Rattle.std.specs.Cmp.{nat_cmp_total}
-use Rattle.std.specs.FinMap.{FinMap, get, insert, remove, len, get-insert, get-remove, len-insert, len-remove, same_map}
+use Rattle.std.specs.FinMap.{FinMap, get, insert, remove, len, get-empty, empty_of_len, get-insert, get-remove, len-insert, len-remove, same_map}
 use Rattle.std.specs.FinMap.{nat_cmp-IsAntisymmetric}
 use Rattle.std.proofs.lemmas.Bool.Decides.{nat_tests}
 use Rattle.op_slots.proofs.Places.{differ}
@@ -40,6 +40,17 @@ len-new m k v h = len-insert nat_cmp_total m k v ∙ ap (λ o. cond (is_some o) 
 -- A removal of a key that is there makes them one less.
 pub len-gone : {X : Type 0} (m : FinMap nat_cmp X) (k : ℕ) (w : X) → get m k ≡ Some w → len (remove m k) ≡ len m - 1
 len-gone m k w h = len-remove nat_cmp_total m k ∙ ap (λ o. cond (is_some o) (len m - 1) (len m)) h
+
+-- A number that isn't 0 is above 0.
+pub above : (k : ℕ) → (k ≡ 0 → ⊥) → 0 < k
+above zero h = absurd (h refl)
+above (suc k) h = omega arith
+
+-- A map with something at a key has at least one key.
+pub len-some : {X : Type 0} (m : FinMap nat_cmp X) (k : ℕ) → is_some (get m k) ≡ true → 0 < len m
+len-some {X} m k h = above (len m) (λ z.
+    let e = ap (λ (x : FinMap nat_cmp X). is_some (get x k)) (empty_of_len m z) ∙ ap is_some (get-empty {X = X} nat_cmp k) in
+    let f : ◌≡◌ {A = Bool} true false = sym h ∙ e in cc)
 
 -- What is written at a key that is removed then doesn't matter.
 pub remove-put : {X : Type 0} (m : FinMap nat_cmp X) (k : ℕ) (v : X) → remove (insert m k v) k ≡ remove m k

@@ -4,4 +4,5 @@ pub mod Ops
 pub mod Op
 pub mod Requests
 pub mod Operations
+pub mod Holds
 pub mod Answers

@@ -106,6 +106,8 @@ pub enum PollOp<B> {
 pub enum Executed {
     /// The operation of this number.
     Op(u64),
+    /// The close of the handle of this number.
+    Close(u64),
 }
 
 /// Why a turn ended early.
@@ -117,7 +119,8 @@ pub enum Stop {
     /// The ring was busy: its count of busies rose. What was ready was treated.
     #[error("Busy")]
     Busy,
-    /// The turn ended at a completion with this data word, which is not reserved and names no slot in flight.
+    /// The turn ended at a completion with this data word, which is not reserved, and names no slot in flight and no handle that is
+    /// closing.
     #[error("BadCompletion {0}")]
     BadCompletion(u64),
     /// Memory ran out. Nothing changed.
@@ -130,7 +133,7 @@ pub enum Stop {
 pub struct Turned {
     /// The numbers of the operations whose completions were treated, in the order of these.
     pub reaped: NumList,
-    /// The handles whose closes were treated: there are none yet.
+    /// The handles whose closes were treated, in the order of the completions.
     pub closed: NumList,
     /// The tasks to wake, in the order of the completions.
     pub woken: NumList,

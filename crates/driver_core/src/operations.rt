@@ -5,14 +5,18 @@ ghost use Rattle.driver_core.specs.Slot.{flies_in, CompletesSlot, KeepsNumbers};
 ghost use Rattle.driver_core.specs.Op.{Holds, HoldsNone, KeepsTokens, DropsToken, AddsToken, PollsTokens};
 ghost use Rattle.driver_core.specs.Operations.{Submits, PollsOp, DropsOp, offered, Stores};
 ghost use Rattle.driver_core.specs.Requests.{request_at, ReturnsRequest, KeepsRequests};
+ghost use Rattle.driver_core.specs.Holds.{named_in, dropped_in};
+ghost use Rattle.ring_core.specs.Request.{listed};
 ghost use Rattle.ring_core.specs.Surroundings.{around};
 
 use crate::op::{Op, PollOp};
-use crate::slot::{Slot, complete_slot, drop_at, is_numbered, poll_at, store_in};
+use crate::slot::{
+    Slot, complete_slot, drop_at, dropped_names, is_numbered, names_in, poll_at, store_in,
+};
 use op_slots::slab::MAX_LIVE;
 use op_slots::{AfterDrop, Lifecycle, Slab};
 use rent_buf::{ByteList, IoBufMut, OutOfMemory, VecBuf};
-use ring_core::{Completion, Payloads, Request};
+use ring_core::{Completion, Names, Payloads, Request};
 use std::alloc::Global;
 use std::marker::Model;
 
@@ -79,6 +83,20 @@ impl<B: Drop> Operations<B> {
         ensures { option_copied result ≡ map.get self.now.slots.values key }
     {
         self.slots.peek(key)
+    }
+
+    /// The handles that the request in the slot at a key names; none where there is no slot.
+    pub fn names_at(&self, key: usize) -> Names
+        ensures { listed result ≡ named_in (map.get self.now.slots.values key) }
+    {
+        names_in(self.slots.peek(key))
+    }
+
+    /// The handles that the request in the slot at a key names, if its operation was dropped: it is gone once it is completed.
+    pub fn dropped_names(&self, key: usize) -> Names
+        ensures { listed result ≡ dropped_in (map.get self.now.slots.values key) }
+    {
+        dropped_names(self.slots.peek(key))
     }
 
     /// Takes the memory of one more operation.

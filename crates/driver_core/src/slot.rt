@@ -2,7 +2,9 @@
 ghost use Rattle.std.specs.Prelude.{◌≡◌, false, IsSome, IfSome, IfNone, option_copied};
 ghost use Rattle.std.specs.FinMap as map;
 ghost use Rattle.op_slots.specs.Lifecycle.{IsCompleted, IsIgnored};
+ghost use Rattle.ring_core.specs.Request.{listed};
 ghost use Rattle.ring_core.specs.Surroundings.{around};
+ghost use Rattle.driver_core.specs.Holds.{named_in, dropped_in};
 ghost use Rattle.driver_core.specs.Slot.{has_number, flies_in, fits_in, KeepsNumbers};
 ghost use Rattle.driver_core.specs.Slot.{PollsSlot, PollsAt, DropsSlot, DropsAt, CompletesSlot, FillsSlot};
 ghost use Rattle.driver_core.specs.Requests.{surroundings_in, StaysHeld};
@@ -10,7 +12,7 @@ ghost use Rattle.driver_core.specs.Requests.{surroundings_in, StaysHeld};
 use crate::op::Done;
 use op_slots::{AfterComplete, AfterDrop, AfterPoll, Lifecycle, Slab};
 use rent_buf::{IoBufMut, VecBuf};
-use ring_core::{Completion, Outcome, Request};
+use ring_core::{Completion, Names, Outcome, Request};
 
 /// What a slot holds: an operation's number, its request with its buffer or its parts, and how far it is. (not in
 /// monoio, whose slot is a `Lifecycle` alone)
@@ -47,6 +49,29 @@ fn is_flying<B>(slot: Option<&Slot<B>>) -> bool
             _ => true,
         },
         None => false,
+    }
+}
+
+/// The handles that the request of the slot that was looked up names.
+pub fn names_in<B>(slot: Option<&Slot<B>>) -> Names
+    ensures { listed result ≡ named_in (option_copied slot.entry) }
+{
+    match slot {
+        Some(slot) => slot.request.names(),
+        None => Names::Nothing,
+    }
+}
+
+/// The same, if its operation was dropped.
+pub fn dropped_names<B>(slot: Option<&Slot<B>>) -> Names
+    ensures { listed result ≡ dropped_in (option_copied slot.entry) }
+{
+    match slot {
+        Some(slot) => match &slot.life {
+            Lifecycle::Ignored => slot.request.names(),
+            _ => Names::Nothing,
+        },
+        None => Names::Nothing,
     }
 }
 

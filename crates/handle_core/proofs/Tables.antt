@@ -1,13 +1,16 @@
 -- The map of a hash map's entries: what it answers, and what it is after the entries changed at one key.
-use Rattle.std.proofs.Common.{◌≡◌, ◌∙◌, ℕ, List, [], ◌∷◌, Some, None, Bool, true, false, cond, nat_eq, refl, sym, ap, subst, arith}
+use Rattle.std.proofs.Common.{◌≡◌, ◌∙◌, ℕ, List, [], ◌∷◌, length, Some, None, Bool, true, false, cond, nat_eq, refl, sym, ap, subst, arith}
 use Rattle.std.proofs.lemmas.Bool.Decides.{nat_tests}
+use Rattle.std.proofs.lemmas.Map.{lookup-none}
+use Rattle.std.proofs.lemmas.Map.Entries.{none_past_head}
 use Rattle.std.specs.Ordering.{nat_cmp, eq_by_cmp}
-use Rattle.std.specs.Cmp.{nat_cmp_total}
+use Rattle.std.specs.Cmp.{nat_cmp_total, nat_eq_equiv}
+use Rattle.std.specs.List.{IsDistinct}
 use Rattle.std.specs.Prelude.{◌+◌, ◌<◌, IsSome, IsOk, OnOk, is_err, Result, Ok, Err}
-use Rattle.std.specs.Map.{lookup}
+use Rattle.std.specs.Map.{lookup, keys_of}
 use Rattle.std.specs.HashMap.{HashMap, get_by, Updates, WritesThrough}
-use Rattle.std.specs.FinMap.{find, get, insert, remove, from_entries, same_map, nat_cmp-IsAntisymmetric}
-use Rattle.std.specs.FinMap.{get-from_entries, get-insert, get-remove}
+use Rattle.std.specs.FinMap.{find, get, insert, remove, len, from_entries, same_map, nat_cmp-IsAntisymmetric}
+use Rattle.std.specs.FinMap.{get-from_entries, get-insert, get-remove, len-empty, len-insert}
 use Rattle.handle_core.specs.declared.table.Holders.{Holders}
 use Rattle.handle_core.specs.declared.table.Released.TheVariants.{Held, Last}
 use Rattle.handle_core.specs.Table.{Table, table_of, IsHeld, holders_at, with_holders, without_handle, nobody}
@@ -44,6 +47,15 @@ module _ {X : Type 0} where
   -- The map of entries has at a key what a look-up in the entries finds.
   pub get-lookup : (es : List (ℕ × X)) (q : ℕ) → get (from_entries {R = nat_cmp} es) q ≡ lookup (nat_eq q) es
   get-lookup es q = get-from_entries nat_cmp_total es q ∙ find-lookup q es
+
+  -- The map of entries whose keys differ has as many.
+  pub len-from_entries : (es : List (ℕ × X)) → IsDistinct nat_eq (keys_of es) → len (from_entries {R = nat_cmp} es) ≡ length es
+  unfolding IsDistinct
+  len-from_entries [] apart = len-empty nat_cmp X
+  len-from_entries (e ∷ es) apart =
+      let unknown : lookup (nat_eq e.0) es ≡ None = lookup-none _ es (none_past_head nat_eq_equiv e.0 e es apart (nat_eq_equiv.refl e.0)) in
+      let fresh : get (from_entries {R = nat_cmp} es) e.0 ≡ None = get-lookup es e.0 ∙ unknown in
+      len-insert nat_cmp_total (from_entries es) e.0 e.1 ∙ rw fresh (omega (arith, len-from_entries es apart.1))
 
   -- Entries that answer alike make one map.
   pub same-entries : (es fs : List (ℕ × X)) → ((q : ℕ) → lookup (nat_eq q) fs ≡ lookup (nat_eq q) es)

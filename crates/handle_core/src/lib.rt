@@ -7,4 +7,4 @@ pub mod table;
 
 pub use as_fd::{AsReadFd, AsWriteFd};
 pub use shared_fd::{SharedFd, SharedFdWrapper};
-pub use table::{HandleTable, Holders, OutOfMemory, Released};
+pub use table::{HandleTable, Holders, MAX_HOLDS, OutOfMemory, Released};

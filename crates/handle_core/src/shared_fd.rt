@@ -20,7 +20,7 @@ impl Model for SharedFd {
 }
 
 impl SharedFd {
-    /// The handle of a number.
+    /// The handle with this number. (monoio: `SharedFd::new`, which counts its user as a holder too)
     pub fn new(h: u64) -> SharedFd
         ensures { result ≡ h }
     {
@@ -59,7 +59,7 @@ impl SharedFdWrapper {
         SharedFdWrapper { fd }
     }
 
-    /// The handle. (not in monoio, whose wrapper hands on the calls of its handle)
+    /// The handle. (not in monoio, whose wrapper passes on the calls of its handle)
     pub fn fd(&self) -> SharedFd
         ensures { result ≡ self.now }
     {

@@ -1,5 +1,5 @@
 //! Who holds each handle, as a finite map from handles to counts.
-ghost use Rattle.std.specs.Prelude.{◌≡◌, ◌+◌, ◌-◌, ◌<◌, ◌^◌, ◌↔◌, max, IsTrue, None, OnOk, OnErr};
+ghost use Rattle.std.specs.Prelude.{◌≡◌, ◌+◌, ◌-◌, ◌<◌, ◌↔◌, max, IsTrue, None, OnOk, OnErr};
 ghost use Rattle.std.specs.FinMap as map;
 ghost use Rattle.handle_core.specs.Table.{IsHeld, AreHeld, holders_at, with_holders, without_handle};
 ghost use Rattle.handle_core.specs.Table.{nobody, by_user, with_user, without_user};
@@ -11,12 +11,15 @@ use std::collections::HashMap;
 use std::marker::Model;
 use thiserror::Error;
 
-/// Memory ran out, and nothing changed. Not in monoio.
+/// How often at most its user holds a handle, and how often operations do. (not in monoio)
+pub const MAX_HOLDS: u64 = 1 << 62;
+
+/// Memory ran out, and nothing changed. (not in monoio)
 #[derive(Clone, Copy, Debug, PartialEq, Eq, Error)]
 #[error("OutOfMemory")]
 pub struct OutOfMemory;
 
-/// Whether a handle that was released is still held. Not in monoio.
+/// Whether a handle that was released is still held. (not in monoio)
 #[derive(Clone, Copy, Debug, PartialEq, Eq)]
 pub enum Released {
     /// It still has a holder.
@@ -25,7 +28,7 @@ pub enum Released {
     Last,
 }
 
-/// Who holds a handle. Not in monoio, where the count of an `Rc` has both.
+/// Who holds a handle. (not in monoio, where the count of an `Rc` has both)
 #[derive(Clone, Copy, Debug, PartialEq, Eq)]
 pub struct Holders {
     /// How often its user holds it.
@@ -47,8 +50,7 @@ impl Holders {
 /// it. A clause sees the map from handles to their holders, and for how many more handles memory is reserved.
 ///
 /// A call finds its handle by a hash, however many handles there are. `release` and `release_op` find it once more at its last hold.
-///
-/// monoio: the count of the `Rc` in each `SharedFd`.
+/// (monoio: the count of the `Rc` in each `SharedFd`)
 #[derive(Debug, Drop)]
 pub struct HandleTable {
     handles: HashMap<u64, Holders>,
@@ -69,7 +71,7 @@ impl Model for HandleTable {
 }
 
 impl HandleTable {
-    /// An empty table, with no reserved room. Its memory comes from `alloc`, and it takes none yet. Not in monoio.
+    /// An empty table, with no reserved room. Its memory comes from `alloc`, and it takes none yet. (not in monoio)
     pub fn new(alloc: Global) -> HandleTable
         ensures { result ≡ record { holders = map.empty; spare = 0 } }
     {
@@ -79,14 +81,28 @@ impl HandleTable {
         }
     }
 
-    /// For how many more handles memory is reserved. Not in monoio.
+    /// For how many more handles memory is reserved. (not in monoio)
     pub fn spare(&self) -> usize
         ensures { result ≡ self.now.spare }
     {
         self.reserved
     }
 
-    /// Who holds a handle, and None exactly if nobody does. Not in monoio.
+    /// How many handles are held. (not in monoio)
+    pub fn len(&self) -> usize
+        ensures { result ≡ map.len self.now.holders }
+    {
+        self.handles.len()
+    }
+
+    /// No handle is held. (not in monoio)
+    pub fn is_empty(&self) -> bool
+        ensures { IsTrue result ↔ (map.len self.now.holders ≡ 0) }
+    {
+        self.len() == 0
+    }
+
+    /// Who holds a handle, and None exactly if nobody does. (not in monoio)
     pub fn holders(&self, h: u64) -> Option<Holders>
         ensures value { result ≡ map.get self.now.holders h }
         ensures held { AreHeld self.now }
@@ -94,7 +110,7 @@ impl HandleTable {
         self.handles.get(&h).copied()
     }
 
-    /// Its user holds the handle; false also where the handle isn't in the table. Not in monoio.
+    /// Its user holds the handle. False also if the handle isn't in the table. (not in monoio)
     pub fn user_holds(&self, h: u64) -> bool
         ensures { IsTrue result ↔ (0 < (holders_at self.now h).user) }
     {
@@ -104,8 +120,8 @@ impl HandleTable {
         }
     }
 
-    /// Reserves memory for at least `n` more handles. Only `add_op_reserved` uses it up. If memory runs out, nothing changes. Not in
-    /// monoio.
+    /// Reserves memory for at least `n` more handles. Only `add_op_reserved` uses it up. If memory runs out, nothing changes.
+    /// (not in monoio)
     pub fn reserve(&mut self, n: usize) -> Result<(), OutOfMemory>
         ensures ok { OnOk result (self.new ≡ record self.old { spare = max n self.old.spare }) }
         ensures err { OnErr result (self.new ≡ self.old) }
@@ -121,8 +137,7 @@ impl HandleTable {
     }
 
     /// Its user holds a handle that nobody held. The reserved room stays. If memory runs out, nothing changes.
-    ///
-    /// monoio: `SharedFd::new`.
+    /// (monoio: `SharedFd::new`)
     pub fn add_user(&mut self, h: u64) -> Result<(), OutOfMemory>
         requires fresh { map.get self.old.holders h ≡ None }
         ensures ok { OnOk result (self.new ≡ with_holders self.old h by_user) }
@@ -137,12 +152,11 @@ impl HandleTable {
         )
     }
 
-    /// The user holds a handle of the table once more, of which it has fewer than 2^62 holds. It takes no memory.
-    ///
-    /// monoio: `SharedFd::clone`, of a stream.
+    /// The user holds a handle of the table once more, of which it has fewer than `MAX_HOLDS` holds. It takes no memory.
+    /// (monoio: `SharedFd::clone`, of a stream)
     pub fn hold(&mut self, h: u64)
         requires known { IsHeld self.old h }
-        requires counter { (holders_at self.old h).user < 2 ^ 62 }
+        requires counter { (holders_at self.old h).user < MAX_HOLDS }
         ensures { self.new ≡ with_holders self.old h (with_user (holders_at self.old h)) }
     {
         let Some(held) = self.handles.get_mut(&h) else {
@@ -152,9 +166,7 @@ impl HandleTable {
     }
 
     /// The user drops one of its holds, of which it has at least one. The handle leaves the table with its last hold of either sort, which
-    /// is when it is to be closed. It takes no memory.
-    ///
-    /// monoio: the drop of a `SharedFd`, of a stream.
+    /// is when it is to be closed. It takes no memory. (monoio: the drop of a `SharedFd`, of a stream)
     pub fn release(&mut self, h: u64) -> Released
         requires held { 0 < (holders_at self.old h).user }
         ensures last { (result ≡ Released.Last) ↔ (without_user (holders_at self.old h) ≡ nobody) }

@@ -1,8 +1,11 @@
 -- The places of all pages, where one page changes.
-use Rattle.std.proofs.Common.{◌≡◌, ℕ, zero, suc, ◌+◌, ◌-◌, ◌^◌, ◌≤◌, ◌<◌, List, [], ◌∷◌, ◌++◌, length, Option, None, Some, is_some, cond, set, slice_get, inl, inr, refl, sym, ◌∙◌, ap, subst, arith, append_assoc, length-append, append-nil}
+use Rattle.std.proofs.Common.{◌≡◌, ℕ, zero, suc, ◌+◌, ◌-◌, ◌^◌, ◌≤◌, ◌<◌, List, [], ◌∷◌, ◌++◌, length, Option, None, Some, is_some, cond}
+use Rattle.std.proofs.Common.{set, slice_get, inl, inr, refl, sym, ◌∙◌, ap, subst, arith, append_assoc, length-append, append-nil}
 use Rattle.std.proofs.lemmas.List.{set-append_left, set-append_right}
 use Rattle.std.proofs.lemmas.List.Sums.{sum_by-append}
 use Rattle.std.proofs.lemmas.Bool.{cases_lt}
+use Rattle.op_slots.specs.declared.slab.TheConstants.{MAX_LIVE}
+use Rattle.op_slots.specs.declared.slab.pages.TheConstants.{NUM_PAGES}
 use Rattle.op_slots.specs.Page.{Places, at, taken, spare}
 use Rattle.op_slots.specs.Pages.{page_of, places_on, first_key}
 use Rattle.op_slots.specs.Places.{all_places, AreSized, room_in, IsOpenAt, HasMemoryAt, AreFullFrom, HaveSamePlaces}
@@ -168,7 +171,7 @@ open-below (page ∷ pages) (suc i) open_page =
     omega (arith, open-below pages i open_page, taken-all page pages, taken-le page.places, length-append page.places (all_places pages))
 
 -- what a key's place holds
-pub key-at : {T : Type 0} (pages : List (Places T)) (key : ℕ) (page : Places T) → AreSized 0 pages → length pages ≤ 26 → key < 2 ^ 64
+pub key-at : {T : Type 0} (pages : List (Places T)) (key : ℕ) (page : Places T) → AreSized 0 pages → length pages ≤ NUM_PAGES → key < 2 ^ 64
     → slice_get pages (page_of key) ≡ Some page
     → at (all_places pages) key ≡ at page.places (key - first_key (page_of key))
 key-at pages key page sized few fits there =
@@ -176,7 +179,7 @@ key-at pages key page sized few fits there =
     let size = sized-at 0 (page_of key) pages page sized there in
     let zero_is : 0 + page_of key ≡ page_of key = omega arith in
     let size_is = rw zero_is at size in
-    elim (cases_lt key 4294967232) [
+    elim (cases_lt key MAX_LIVE) [
       | inl below ↦ at-places 0 (page_of key) key (key - first_key (page_of key)) pages page sized there (omega (
         arith,
         size_is,
@@ -201,11 +204,11 @@ key-past pages key sized fits past =
     at-past (all_places pages) key (omega (arith, all, page_of-first key fits, first-mono (length pages) (page_of key) past))
 
 -- a place with a value is that of a key on one of the pages
-pub key-within : {T : Type 0} (pages : List (Places T)) (key : ℕ) → AreSized 0 pages → length pages ≤ 26 → key < length (all_places pages)
-    → (key < 4294967232) × (page_of key < length pages)
+pub key-within : {T : Type 0} (pages : List (Places T)) (key : ℕ) → AreSized 0 pages → length pages ≤ NUM_PAGES
+    → key < length (all_places pages) → (key < MAX_LIVE) × (page_of key < length pages)
 key-within pages key sized few within =
     let len_is : 0 + length pages ≡ length pages = omega arith in
     let all = rw len_is at (length-places 0 pages sized) in
     let bound = first-bound (length pages) few in
-    let below : key < 4294967232 = omega arith in
+    let below : key < MAX_LIVE = omega arith in
     (below, first-less (page_of key) (length pages) (omega (arith, page_of-first key (omega arith))))

@@ -1,7 +1,10 @@
 -- The list of free places stays right as entries are filled and emptied.
-use Rattle.std.proofs.Common.{◌≡◌, ◌≢◌, ◌⊎◌, ℕ, zero, suc, ◌+◌, ◌-◌, ◌<◌, ◌≤◌, List, [], ◌∷◌, ◌++◌, map, length, replicate, get_or, set, Option, Some, None, is_some, cond, slice_get, min, refl, sym, ap, subst, ◌∙◌, inl, inr, arith, length-set, append_assoc, true≢false}
+use Rattle.std.proofs.Common.{◌≡◌, ◌≢◌, ◌⊎◌, ℕ, zero, suc, ◌+◌, ◌-◌, ◌<◌, ◌≤◌, List, [], ◌∷◌, ◌++◌, map, length, replicate, get_or, set}
+use Rattle.std.proofs.Common.{Option, Some, None, is_some, cond, slice_get, min, refl, sym, ap, subst, ◌∙◌, inl, inr, arith, length-set}
+use Rattle.std.proofs.Common.{append_assoc, true≢false}
 use Rattle.std.specs.Prelude.{IsSome}
-use Rattle.std.proofs.lemmas.List.{map-set, map_push, length-append, length-map, length_push, length-replicate, get_or-map, get_or-set_same, get_or-set_other, get_or_past, set-append_left, set-append_right}
+use Rattle.std.proofs.lemmas.List.{map-set, map_push, length-append, length-map, length_push, length-replicate, get_or-map, get_or-set_same}
+use Rattle.std.proofs.lemmas.List.{get_or-set_other, get_or_past, set-append_left, set-append_right}
 use Rattle.std.proofs.lemmas.List.Sums.{sum_by-append, sum_by-set, sum_by_push}
 use Rattle.std.proofs.lemmas.List.Folds.{sum_by-replicate}
 use Rattle.std.proofs.lemmas.Option.{slice_get_within, slice_get-get_or, slice_get_read, get_or_from_slice_get}

@@ -1,25 +1,29 @@
 -- What a slab keeps true, and what its slots are, as a place is found and a value put in.
-use Rattle.std.proofs.Common.{◌≡◌, ◌⊎◌, ℕ, suc, ◌+◌, ◌-◌, ◌≤◌, ◌<◌, max, List, [], ◌++◌, length, Option, None, Some, is_some, cond, set, get_or, slice_get, inl, inr, sym, ◌∙◌, ap, subst, arith, length-set, false, true≢false}
+use Rattle.std.proofs.Common.{◌≡◌, ◌⊎◌, ℕ, suc, ◌+◌, ◌-◌, ◌≤◌, ◌<◌, max, List, [], ◌++◌, length, Option, None, Some, is_some, cond, set}
+use Rattle.std.proofs.Common.{get_or, slice_get, inl, inr, sym, ◌∙◌, ap, subst, arith, length-set, false, true≢false}
 use Rattle.std.specs.Prelude.{IsSome, OnOk, Result, Ok, Err}
 use Rattle.std.specs.Result.{is_err}
 use Rattle.std.specs.FinMap.{get, insert}
 use Rattle.std.proofs.lemmas.List.{length_push, length-replicate}
 use Rattle.std.proofs.lemmas.List.Folds.{sum_by-replicate}
 use Rattle.std.proofs.lemmas.Option.{slice_get_within, slice_get-get_or}
+use Rattle.op_slots.specs.declared.slab.TheConstants.{MAX_LIVE}
+use Rattle.op_slots.specs.declared.slab.pages.TheConstants.{NUM_PAGES, PAGE_INITIAL_SIZE}
 use Rattle.op_slots.specs.Page.{Places, at, taken}
 use Rattle.op_slots.specs.Pages.{page_of, places_on, first_key}
 use Rattle.op_slots.specs.Slots.{IsPageFull, MakesPage}
 use Rattle.op_slots.specs.Places.{all_places, room_in, AreSized, AreKept, slots_of, IsOpenAt, AreFullFrom, IsLastFull, FindsPlace, PutsOn}
 use Rattle.op_slots.proofs.Pages.{next_first, first-mono, first-bound, page_of-at}
 use Rattle.op_slots.proofs.Places.{map_of, get-places, map-put, map-more, taken-put, taken-append, taken-le, taken-below, held_everywhere}
-use Rattle.op_slots.proofs.AllPlaces.{sized-at, sized-set, sized-push, at-places, set-places, places-push, same-length, same-all, same-sized, full-places, room-at, open-below}
+use Rattle.op_slots.proofs.AllPlaces.{sized-at, sized-set, sized-push, at-places, set-places, places-push, same-length, same-all}
+use Rattle.op_slots.proofs.AllPlaces.{same-sized, full-places, room-at, open-below}
 use Rattle.op_slots.proofs.Kept.{length-all, bound-all, large-at, begin-at}
 
 module _ {T : Type 0} where
   -- nothing was put on the pages that a search left: at most there is one more, with empty places
   record Found (old mid : List (Places T)) (live removals i : ℕ) : Type 0 where
     sized : AreSized 0 mid
-    few : length mid ≤ 26
+    few : length mid ≤ NUM_PAGES
     counted : live ≡ taken (all_places mid)
     values : map_of (all_places mid) ≡ map_of (all_places old)
     within : i < length mid
@@ -89,9 +93,9 @@ module _ {T : Type 0} where
   -- what is so once a value was put on a page that a search found
   pub record Inserted (old new : List (Places T)) (live removals i key : ℕ) (v : T) : Type 0 where
     pub kept : AreKept new (live + 1) i removals
-    pub few : i < 26
-    pub below : key < 4294967232
-    pub space : live < 4294967232
+    pub few : i < NUM_PAGES
+    pub below : key < MAX_LIVE
+    pub space : live < MAX_LIVE
     pub fresh : get (slots_of old removals).values key ≡ None
     pub values : (slots_of new removals).values ≡ insert (slots_of old removals).values key v
     pub pages : length new ≡ max (length old) (page_of key + 1)
@@ -161,14 +165,14 @@ module _ {T : Type 0} where
 
   -- where all pages are there and full, all keys are live
   pub full-live : (pages : List (Places T)) (live first removals : ℕ) → AreKept pages live first removals → AreFullFrom pages 0
-      → length pages ≡ 26 → live ≡ 4294967232
+      → length pages ≡ NUM_PAGES → live ≡ MAX_LIVE
   full-live pages live first removals h full all =
       let size = length-all pages h.sized ∙ ap first_key all in
       omega (arith, h.counted, full-places pages full, size)
 
   -- where a place is empty, or a page can be made, they aren't
   pub not-full-live : (pages : List (Places T)) (live first removals : ℕ) → AreKept pages live first removals
-      → ((i : ℕ) × IsOpenAt pages i) ⊎ (length pages < 26) → live < 4294967232
+      → ((i : ℕ) × IsOpenAt pages i) ⊎ (length pages < NUM_PAGES) → live < MAX_LIVE
   not-full-live pages live first removals h (inl is_open) = omega (
     arith,
     h.counted,
@@ -176,19 +180,19 @@ module _ {T : Type 0} where
     bound-all pages h.sized h.few,
   )
   not-full-live pages live first removals h (inr fewer) =
-      let less = first-mono (length pages) 25 (omega arith) in
+      let less = first-mono (length pages) (NUM_PAGES - 1) (omega arith) in
       omega (arith, h.counted, taken-le (all_places pages), length-all pages h.sized, less)
 
   -- the page that a search found has as many places as page 0 at least
   pub found-large : (old mid : List (Places T)) (live first removals i : ℕ) (page : Places T) → page ≡ get_or mid i page
-      → AreKept old live first removals → FindsPlace old mid i → 64 ≤ length page.places
+      → AreKept old live first removals → FindsPlace old mid i → PAGE_INITIAL_SIZE ≤ length page.places
   found-large old mid live first removals i page read h finds =
       let f = found old mid live first removals i h finds in
       large-at mid i page f.sized f.within read
 
   -- what is so once a value was put on, where the first key of the page is known by how many places the page has
   pub inserted_at : (old mid new : List (Places T)) (live first removals i begin q : ℕ) (v : T) (page : Places T)
-      → page ≡ get_or mid i page → begin ≡ length page.places - 64 → AreKept old live first removals → FindsPlace old mid i
+      → page ≡ get_or mid i page → begin ≡ length page.places - PAGE_INITIAL_SIZE → AreKept old live first removals → FindsPlace old mid i
       → PutsOn mid i q v new → Inserted old new live removals i (begin + q) v
   inserted_at old mid new live first removals i begin q v page read is h finds put =
       let f = found old mid live first removals i h finds in

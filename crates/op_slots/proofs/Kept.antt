@@ -1,9 +1,12 @@
 -- What a slab keeps true, and what its slots are, where a key is looked up or its value replaced.
-use Rattle.std.proofs.Common.{◌≡◌, ℕ, zero, suc, ◌+◌, ◌-◌, ◌^◌, ◌≤◌, ◌<◌, List, [], ◌∷◌, length, Option, None, Some, set, get_or, slice_get, inl, inr, refl, sym, ◌∙◌, ap, subst, arith, length-set}
+use Rattle.std.proofs.Common.{◌≡◌, ℕ, zero, suc, ◌+◌, ◌-◌, ◌^◌, ◌≤◌, ◌<◌, List, [], ◌∷◌, length, Option, None, Some, set, get_or, slice_get}
+use Rattle.std.proofs.Common.{inl, inr, refl, sym, ◌∙◌, ap, subst, arith, length-set}
 use Rattle.std.specs.Prelude.{IsSome, OnSome, option_copied}
 use Rattle.std.specs.Borrow.{Bor}
 use Rattle.std.specs.FinMap.{get, insert, len}
 use Rattle.std.proofs.lemmas.Option.{slice_get_read}
+use Rattle.op_slots.specs.declared.slab.TheConstants.{MAX_LIVE}
+use Rattle.op_slots.specs.declared.slab.pages.TheConstants.{NUM_PAGES, PAGE_INITIAL_SIZE}
 use Rattle.op_slots.specs.Page.{Places, at, taken, spare}
 use Rattle.op_slots.specs.LendsPlace.{with_place}
 use Rattle.op_slots.specs.Pages.{page_of, first_key, IsOnNoPage}
@@ -23,7 +26,7 @@ module _ {T : Type 0} where
       omega (arith, all)
 
   -- they are no more than keys can be live
-  pub bound-all : (pages : List (Places T)) → AreSized 0 pages → length pages ≤ 26 → length (all_places pages) ≤ 4294967232
+  pub bound-all : (pages : List (Places T)) → AreSized 0 pages → length pages ≤ NUM_PAGES → length (all_places pages) ≤ MAX_LIVE
   bound-all pages sized few = omega (arith, length-all pages sized, first-bound (length pages) few)
 
   -- the live keys are counted
@@ -32,7 +35,7 @@ module _ {T : Type 0} where
   kept-len pages live first removals h = h.counted ∙ sym (len-places (all_places pages))
 
   -- no more keys are live than can be
-  pub kept-bound : (pages : List (Places T)) (live first removals : ℕ) → AreKept pages live first removals → live ≤ 4294967232
+  pub kept-bound : (pages : List (Places T)) (live first removals : ℕ) → AreKept pages live first removals → live ≤ MAX_LIVE
   kept-bound pages live first removals h = omega (arith, h.counted, taken-le (all_places pages), bound-all pages h.sized h.few)
 
   -- a live key's place holds a value
@@ -41,7 +44,7 @@ module _ {T : Type 0} where
 
   -- a live key is below the bound, and on one of the pages
   pub live-within : (pages : List (Places T)) (live first removals key : ℕ) → AreKept pages live first removals
-      → IsLive (slots_of pages removals) key → (key < 4294967232) × (page_of key < length pages)
+      → IsLive (slots_of pages removals) key → (key < MAX_LIVE) × (page_of key < length pages)
   live-within pages live first removals key h is_live = key-within pages key h.sized h.few
       (at-live (all_places pages) key (live-held pages removals key is_live))
 
@@ -57,21 +60,21 @@ module _ {T : Type 0} where
 
   -- a page has as many places as page 0 at least
   pub large-at : (pages : List (Places T)) (i : ℕ) (page : Places T) → AreSized 0 pages → i < length pages → page ≡ get_or pages i page
-      → 64 ≤ length page.places
+      → PAGE_INITIAL_SIZE ≤ length page.places
   large-at pages i page sized within read =
       let size = sized-at 0 i pages page sized (slice_get_read pages (length pages) i page refl within read) in
       omega (arith, size, pow_pos (0 + i))
 
   -- the first key of a page, by how many places it has
   pub begin-at : (pages : List (Places T)) (i begin : ℕ) (page : Places T) → AreSized 0 pages → i < length pages
-      → page ≡ get_or pages i page → begin ≡ length page.places - 64 → begin ≡ first_key i
+      → page ≡ get_or pages i page → begin ≡ length page.places - PAGE_INITIAL_SIZE → begin ≡ first_key i
   begin-at pages i begin page sized within read is =
       let e : 0 + i ≡ i = omega arith in
       let size = sized-at 0 i pages page sized (slice_get_read pages (length pages) i page refl within read) in
-      is ∙ ap (λ n. n - 64) (rw e at size)
+      is ∙ ap (λ n. n - PAGE_INITIAL_SIZE) (rw e at size)
 
   -- a number that no key can be has no value
-  pub peek-over : (pages : List (Places T)) (live first removals key : ℕ) → AreKept pages live first removals → 4294967232 ≤ key
+  pub peek-over : (pages : List (Places T)) (live first removals key : ℕ) → AreKept pages live first removals → MAX_LIVE ≤ key
       → get (slots_of pages removals).values key ≡ None
   peek-over pages live first removals key h over = get-places (all_places pages) key
       ∙ at-past (all_places pages) key (omega (arith, bound-all pages h.sized h.few))
@@ -168,7 +171,7 @@ module _ {T : Type 0} where
     pub there : slice_get pages i ≡ Some page
     pub held : IsSome (at page.places (key - begin))
     pub key_is : first_key i + (key - begin) ≡ key
-    pub below : key < 4294967232
+    pub below : key < MAX_LIVE
 
   -- a live key has its place
   pub live_place : (pages : List (Places T)) (live first removals key i begin : ℕ) (page : Places T) → AreKept pages live first removals

@@ -1,9 +1,11 @@
 -- What the map of a list of places answers.
-use Rattle.std.proofs.Common.{◌≡◌, ◌≢◌, ℕ, zero, suc, ◌+◌, ◌≤◌, ◌<◌, List, [], ◌∷◌, ◌++◌, length, Option, None, Some, Bool, true, false, cond, refl, sym, ◌∙◌, ap, subst, arith, add-one, set, is_some}
+use Rattle.std.proofs.Common.{◌≡◌, ◌≢◌, ℕ, zero, suc, ◌+◌, ◌≤◌, ◌<◌, List, [], ◌∷◌, ◌++◌, length, Option, None, Some, Bool, true, false}
+use Rattle.std.proofs.Common.{cond, refl, sym, ◌∙◌, ap, subst, arith, add-one, set, is_some}
 use Rattle.std.proofs.lemmas.Bool.Decides.{nat_tests}
 use Rattle.std.specs.Ordering.{nat_cmp, eq_by_cmp}
 use Rattle.std.specs.Cmp.{nat_cmp_total}
-use Rattle.std.specs.FinMap.{FinMap, find, get, insert, remove, len, from_entries, get-from_entries, get-insert, get-remove, same_map, nat_cmp-IsAntisymmetric, len-insert, len-empty}
+use Rattle.std.specs.FinMap.{FinMap, find, get, insert, remove, len, from_entries, get-from_entries, get-insert, get-remove, same_map}
+use Rattle.std.specs.FinMap.{nat_cmp-IsAntisymmetric, len-insert, len-empty}
 use Rattle.std.specs.Prelude.{IsSome}
 use Rattle.std.proofs.lemmas.List.Sums.{sum_by-cons, sum_by-append, sum_by-set, count_by-le-length}
 use Rattle.op_slots.proofs.Entries.{at-get_or}
@@ -15,7 +17,7 @@ abbrev pub map_of : {T : Type 0} → List (Option T) → FinMap nat_cmp T
 map_of xs = from_entries (listed 0 xs)
 
 -- equal numbers compare as equal
-same : (a b : ℕ) → a ≡ b → eq_by_cmp nat_cmp a b ≡ true
+pub same : (a b : ℕ) → a ≡ b → eq_by_cmp nat_cmp a b ≡ true
 same a b e = grind (arith, nat_tests)
 
 -- other numbers don't

@@ -1,10 +1,13 @@
 -- What a slab keeps true, and what its slots are, as a value is taken out and the last page looked at.
-use Rattle.std.proofs.Common.{◌≡◌, ℕ, ◌+◌, ◌-◌, ◌^◌, ◌≤◌, ◌<◌, List, [], ◌++◌, length, None, Some, set, get_or, slice_get, inl, inr, refl, sym, ◌∙◌, ap, subst, arith, length-set}
+use Rattle.std.proofs.Common.{◌≡◌, ℕ, ◌+◌, ◌-◌, ◌^◌, ◌≤◌, ◌<◌, List, [], ◌++◌, length, None, Some, set, get_or, slice_get, inl, inr, refl}
+use Rattle.std.proofs.Common.{sym, ◌∙◌, ap, subst, arith, length-set}
 use Rattle.std.specs.Prelude.{IsSome}
 use Rattle.std.specs.FinMap.{get, remove}
 use Rattle.std.proofs.lemmas.List.{length_push}
 use Rattle.std.proofs.lemmas.Bool.{cases_lt}
 use Rattle.std.proofs.lemmas.Option.{slice_get_within, slice_get-get_or}
+use Rattle.op_slots.specs.declared.slab.TheConstants.{COMPACT_INTERVAL, MAX_LIVE}
+use Rattle.op_slots.specs.declared.slab.pages.TheConstants.{NUM_PAGES}
 use Rattle.op_slots.specs.Page.{Places, at, taken}
 use Rattle.op_slots.specs.Pages.{page_of, first_key}
 use Rattle.op_slots.specs.Slots.{IsPageEmpty, GivesBackPage}
@@ -18,12 +21,12 @@ module _ {T : Type 0} where
   -- what is so once a value was taken out
   pub record Removed (old mid : List (Places T)) (live removals key : ℕ) (v : T) : Type 0 where
     pub sized : AreSized 0 mid
-    pub few : length mid ≤ 26
+    pub few : length mid ≤ NUM_PAGES
     pub counted : live - 1 ≡ taken (all_places mid)
     pub some : 1 ≤ live
     pub value : get (slots_of old removals).values key ≡ Some v
     pub values : map_of (all_places mid) ≡ remove (map_of (all_places old)) key
-    pub below : key < 4294967232
+    pub below : key < MAX_LIVE
     pub count : length mid ≡ length old
 
   pub removed : (old mid : List (Places T)) (live first removals key i begin : ℕ) (v : T) → AreKept old live first removals → key < 2 ^ 64
@@ -54,7 +57,7 @@ module _ {T : Type 0} where
 
   -- where the last page isn't looked at, the slab keeps what it kept
   pub removed-kept : (old mid : List (Places T)) (live first removals key : ℕ) (v : T) → AreKept old live first removals
-      → Removed old mid live removals key v → removals + 1 < 2048 → AreKept mid (live - 1) first (removals + 1)
+      → Removed old mid live removals key v → removals + 1 < COMPACT_INTERVAL → AreKept mid (live - 1) first (removals + 1)
   removed-kept old mid live first removals key v h r less =
       record { sized = r.sized; few = r.few; counted = r.counted; search = omega (arith, h.search, r.count); interval = less }
 
@@ -85,7 +88,7 @@ module _ {T : Type 0} where
       none k (subst IsSome (sym (get-places (all_places pages) k ∙ place)) found.1) is
 
   pub looked : (old mid new : List (Places T)) (live first removals key : ℕ) (v : T) → AreKept old live first removals
-      → Removed old mid live removals key v → removals + 1 ≡ 2048 → DropsLast mid new → Looked old new live removals key
+      → Removed old mid live removals key v → removals + 1 ≡ COMPACT_INTERVAL → DropsLast mid new → Looked old new live removals key
   looked old mid new live first removals key v h r last (inl dropped) =
       let page = dropped.1.0 in
       let split = dropped.1.1 in

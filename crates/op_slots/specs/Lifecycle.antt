@@ -37,7 +37,7 @@ polled (Waiting earlier) task = Waiting task
 polled Ignored task = Ignored
 polled (Completed r) task = Completed r
 
--- what a task that asked is told: to take the result exactly when there is one
+-- what a task that asked for the result learns: to take it exactly when there is one
 abbrev pub after_poll : {R : Type 0} → Lifecycle R → AfterPoll
 after_poll Submitted = Pending
 after_poll (Waiting earlier) = Pending
@@ -51,7 +51,7 @@ dropped (Waiting task) = Ignored
 dropped Ignored = Ignored
 dropped (Completed r) = Completed r
 
--- what an owner that dropped it is told: to free the slot exactly when there is a result
+-- what the owner that dropped an operation learns: to free the slot exactly when there is a result
 abbrev pub after_drop : {R : Type 0} → Lifecycle R → AfterDrop
 after_drop Submitted = Left
 after_drop (Waiting task) = Left

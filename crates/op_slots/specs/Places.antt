@@ -1,5 +1,6 @@
 -- How a slab's values lie on its pages: the layout. Cited by the body of `Slab`, and by no public clause.
-use Rattle.std.specs.Prelude.{ℕ, suc, ◌+◌, ◌-◌, ◌≡◌, ◌<◌, ◌≤◌, ◌⊎◌, map, replicate, List, [], ◌∷◌, ◌++◌, length, Option, Some, None, slice_get, slice_set}
+use Rattle.std.specs.Prelude.{ℕ, suc, ◌+◌, ◌-◌, ◌≡◌, ◌<◌, ◌≤◌, ◌⊎◌, map, replicate, List, [], ◌∷◌, ◌++◌, length, Option, Some, None}
+use Rattle.std.specs.Prelude.{slice_get, slice_set}
 use Rattle.std.specs.FinMap as map
 use Rattle.op_slots.specs.declared.slab.TheConstants.{COMPACT_INTERVAL}
 use Rattle.op_slots.specs.declared.slab.pages.TheConstants.{NUM_PAGES}

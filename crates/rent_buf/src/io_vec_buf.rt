@@ -1,7 +1,9 @@
 //! What a vector of buffers is to code that reads it, and to code that fills it.
-ghost use Rattle.std.specs.Prelude.{◌≡◌, ◌+◌, ◌^◌, ◌<◌, ◌≤◌, ◌↔◌, [], List, ℕ, length, slice_range, slice_index_or, vec_len, vec_capacity, refl, IsTrue, IsOk, IfOk, IfErr};
+ghost use Rattle.std.specs.Prelude.{◌≡◌, ◌+◌, ◌^◌, ◌<◌, ◌≤◌, ◌↔◌, [], List, ℕ, length, slice_range, slice_index_or, vec_len, vec_capacity};
+ghost use Rattle.std.specs.Prelude.{refl, IsTrue, IsOk, IfOk, IfErr};
 ghost use Rattle.std.specs.Borrow.{Lends, Array, sem, u8 as byte};
-ghost use Rattle.rent_buf.specs.Parts.{Parts, IsParts, bytes_of, rooms_of, part_at, part_put, part_overwritten, parts_stored, parts_of_lists, items_of};
+ghost use Rattle.rent_buf.specs.Parts.{Parts, IsParts, bytes_of, rooms_of, part_at, part_put, part_overwritten, parts_stored};
+ghost use Rattle.rent_buf.specs.Parts.{parts_of_lists, items_of};
 
 use crate::fault::OutOfMemory;
 use crate::io_buf::{IoBuf, IoBufMut, LendBytes};

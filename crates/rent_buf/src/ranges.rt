@@ -1,5 +1,6 @@
 //! The ranges of a vector of buffers that are left to move.
-ghost use Rattle.std.specs.Prelude.{◌≡◌, ◌+◌, ◌-◌, ◌^◌, ◌<◌, ◌≤◌, [], ◌∷◌, ◌++◌, length, drop, map, sum_by, slice_index_or, ◌↔◌, IfOk, IsTrue, OnOk};
+ghost use Rattle.std.specs.Prelude.{◌≡◌, ◌+◌, ◌-◌, ◌^◌, ◌<◌, ◌≤◌, [], ◌∷◌, ◌++◌, length, drop, map, sum_by, slice_index_or, ◌↔◌, IfOk};
+ghost use Rattle.std.specs.Prelude.{IsTrue, OnOk};
 ghost use Rattle.rent_buf.specs.Parts.{rooms_of};
 ghost use Rattle.rent_buf.specs.Ranges.{places, ranges_of, consumed};
 

@@ -28,19 +28,53 @@ pub fn parts_of(alloc: Global, texts: &[&str]) -> Result<VecBuf, OutOfMemory> {
     }
 }
 
+// The bytes that a buffer shows, and how many they are.
+fn shown_by<B: IoBuf>(buf: &B) -> (&[u8], usize) {
+    (buf.bytes(), buf.bytes_init())
+}
+
+// Whether a range that ends before it starts and one past the bytes are ranges.
+fn fit_wrongly<B: IoBuf>(buf: &B) -> [bool; 2] {
+    [buf.slice_fits(2, 1), buf.slice_fits(3, usize::MAX)]
+}
+
+// The second and the third byte as a buffer, if they are a range.
+fn second_and_third<B: IoBuf + Drop>(buf: B) -> Option<Slice<B>> {
+    if !buf.slice_fits(1, 3) {
+        return None;
+    }
+    Some(buf.slice(1, 3))
+}
+
+// How many bytes an empty range shows, if it is a range.
+fn empty_len<B: IoBuf + Drop>(buf: B) -> Option<usize> {
+    if !buf.slice_fits(0, 0) {
+        return None;
+    }
+    Some(buf.slice_unchecked(0, 0).bytes_init())
+}
+
 // A buffer of any type holds this text, and its second and third byte are a range of it.
 pub fn holds<B: IoBuf + Drop>(rt: &impl Abort, buf: B, text: &str) {
     let want = text.as_bytes();
-    assert_eq!(rt; (buf.bytes(), buf.bytes_init()), (want, want.len()));
-    assert!(rt; want.len() >= 3 && !buf.slice_fits(2, 1) && !buf.slice_fits(3, usize::MAX));
-    assert!(rt; buf.slice_fits(1, 3));
-    let slice = buf.slice(1, 3);
-    assert_eq!(rt; (slice.begin(), slice.end(), slice.bytes_init()), (1, 3, 2));
-    assert_eq!(rt; slice.bytes(), &want[1..3]);
-    assert_eq!(rt; slice.get_ref().bytes(), want);
-    let buf = slice.into_inner();
-    assert!(rt; buf.slice_fits(0, 0));
-    assert_eq!(rt; buf.slice_unchecked(0, 0).bytes_init(), 0);
+    assert_eq!(rt;
+        (shown_by(&buf), fit_wrongly(&buf)),
+        ((want, want.len()), [false, false])
+    );
+    let slice = second_and_third(buf);
+    assert!(rt; slice.is_some() && want.len() >= 3);
+    let Some(slice) = slice else { return };
+    assert_eq!(rt; (slice.begin(), slice.end()), (1, 3));
+    assert_eq!(rt;
+        (shown_by(&slice), slice.get_ref().bytes()),
+        ((&want[1..3], 2), want)
+    );
+    assert_eq!(rt; empty_len(slice.into_inner()), Some(0));
+}
+
+// How many bytes a buffer shows, and its room.
+pub fn sizes<B: IoBufMut>(buf: &B) -> (usize, usize) {
+    (buf.bytes_init(), buf.bytes_total())
 }
 
 // Parts show these texts.

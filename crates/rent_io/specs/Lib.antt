@@ -1,4 +1,5 @@
 pub mod BufReader
+pub mod Call
 pub mod Counts
 pub mod FileAt
 pub mod ItemSink

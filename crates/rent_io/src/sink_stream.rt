@@ -40,6 +40,13 @@ impl<K: ByteSink> SinkStream<K> {
         }
     }
 
+    /// The sink, lent.
+    pub fn get_ref(&self) -> &K
+        ensures { result.now ≡ self.now.sink }
+    {
+        &self.sink
+    }
+
     /// The sink.
     pub fn into_inner(self) -> K
         ensures { result ≡ self.sink }

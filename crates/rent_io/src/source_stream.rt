@@ -42,6 +42,13 @@ impl<S: ByteSource> SourceStream<S> {
         }
     }
 
+    /// The source, lent.
+    pub fn get_ref(&self) -> &S
+        ensures { result.now ≡ self.now }
+    {
+        &self.source
+    }
+
     /// The source.
     pub fn into_inner(self) -> S
         ensures { result ≡ self }

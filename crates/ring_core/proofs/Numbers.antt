@@ -1,6 +1,6 @@
 -- Numbers and tests, by cases.
 use Rattle.std.proofs.Common.{◌≡◌, ◌≢◌, ◌⊎◌, inl, inr, ℕ, zero, suc, ◌<◌, ◌≤◌, Bool, true, false, refl, arith}
-use Rattle.std.specs.Prelude.{◌==◌, ◌&&◌, nat_le}
+use Rattle.std.specs.Prelude.{◌==◌, ◌&&◌, not, nat_le}
 use Rattle.std.proofs.lemmas.Bool.Decides.{eqb_tells, nat_tests}
 
 -- Two numbers are the same, or they aren't.
@@ -35,3 +35,8 @@ and-right false b h = (let f : ⊥ = cc in absurd f)
 pub at_most-left : (n m : ℕ) (b : Bool) → (nat_le n m && b) ≡ true → n ≤ m
 at_most-left n m true h = grind (arith, nat_tests)
 at_most-left n m false h = grind (arith, nat_tests)
+
+-- A test whose opposite passes fails.
+pub not-passes : (b : Bool) → not b ≡ true → b ≡ false
+not-passes true h = (let f : ⊥ = cc in absurd f)
+not-passes false h = refl

@@ -19,7 +19,7 @@ use Rattle.ring_core.specs.World.{input_at, with_output}
 use Rattle.ring_core.specs.Effect.{Effect, effect}
 use Rattle.ring_core.specs.Payloads.{comes}
 use Rattle.ring_core.specs.Outcome.{is_allowed, is_spent, may_read, may_send}
-use Rattle.ring_core.specs.Request.{held_of, shape_of, call_of, room_of, shown_by, sent_of, held_after, held}
+use Rattle.ring_core.specs.Request.{named, map_request, held_of, shape_of, call_of, room_of, shown_by, sent_of, held_after, held}
 use Rattle.ring_core.specs.Request.{held_room}
 use Rattle.ring_core.specs.Request.{held_want, held_shown, held_sent, IsHolding}
 use Rattle.ring_core.proofs.Numbers.{and-left, and-right, at_most-left}
@@ -131,3 +131,14 @@ held-stays (Recv fd buf) (Count k) got c = cc
 held-stays (ReadVec fd parts) (Count k) got c = cc
 held-stays (Send fd buf) (Count k) got c = refl
 held-stays (WriteVec fd parts) (Count k) got c = refl
+
+-- A request with what it holds seen by other values names what it named.
+pub named-mapped : {B C V W : Type 0} (f : B → C) (g : V → W) (r : Request B V) → named (map_request f g r) ≡ named r
+named-mapped f g (Recv fd buf) = refl
+named-mapped f g (ReadVec fd parts) = refl
+named-mapped f g (Send fd buf) = refl
+named-mapped f g (WriteVec fd parts) = refl
+
+-- A request that holds something else names what it named.
+pub named-holding : (r : Request Buffer Parts) (held : HeldBuf) (now : Request Buffer Parts) → IsHolding r held now → named now ≡ named r
+named-holding r held now is = sym (named-mapped _ _ now) ∙ ap named is.shape ∙ named-mapped _ _ r

@@ -4,25 +4,34 @@ use Rattle.ring_core.specs.declared.world.HandleState.{HandleState}
 use Rattle.ring_core.specs.declared.world.RunError.{RunError}
 use Rattle.ring_core.specs.declared.world.RunError.TheVariants.{NotAllowed, OutOfMemory}
 use Rattle.ring_core.specs.declared.entry.Body.{Body}
-use Rattle.ring_core.specs.declared.entry.Body.TheVariants.{Call as Calls, Cancel as Cancels}
+use Rattle.ring_core.specs.declared.entry.Body.TheVariants.{Call as Calls, Cancel as Cancels, Close as Closes}
 use Rattle.ring_core.specs.declared.entry.Flight.{Flight}
 use Rattle.ring_core.specs.declared.request.Call.{Call}
 use Rattle.ring_core.specs.declared.request.Told.{Told}
 use Rattle.ring_core.specs.declared.request.Outcome.{Outcome}
 use Rattle.ring_core.specs.declared.request.Outcome.TheVariants.{Count as Counted}
-use Rattle.ring_core.specs.Outcome.{is_allowed, may_count}
-use Rattle.ring_core.specs.Effect.{Effect, effect, unmoved, count_effect}
+use Rattle.ring_core.specs.Outcome.{is_allowed, may_count, may_close}
+use Rattle.ring_core.specs.Effect.{Effect, effect, close_effect, unmoved, count_effect}
 use Rattle.ring_core.specs.Payloads.{count_comes, body_comes, StoresIf, count_may_run_out, body_may_run_out}
 
--- An outcome is allowed to the body of an entry in flight that is marked, or isn't. No cancel is ever in flight: none is allowed.
+-- An outcome is allowed to the body of an entry in flight that is marked, or isn't. No mark counts for a close. No cancel is ever in
+-- flight: none is allowed.
 abbrev pub is_allowed_body : List HandleState → Bool → Body → Told → Bool
 is_allowed_body world marked (Calls call) told = is_allowed world marked call told
 is_allowed_body world marked (Cancels key) told = false
+is_allowed_body world marked (Closes h) told = may_close told
 
--- What executing the body of an entry in flight leaves.
+-- What executing the body of an entry in flight leaves, with what is reported.
 abbrev pub body_effect : List HandleState → Body → List ℕ → Told → Effect
 body_effect world (Calls call) sent told = effect world call sent told
 body_effect world (Cancels key) sent told = unmoved world (Counted 0)
+body_effect world (Closes h) sent told = close_effect world told
+
+-- What ending a close answers: its outcome, where that is allowed to it. It never runs out of memory.
+abbrev pub ClosesFor : Told → Result Outcome RunError → Type 0
+ClosesFor told (Ok outcome) = (may_close told ≡ true) × ((world : List HandleState) → outcome ≡ (close_effect world told).outcome)
+ClosesFor told (Err NotAllowed) = may_close told ≡ false
+ClosesFor told (Err OutOfMemory) = ⊥
 
 -- A count of bytes that is allowed to a call was moved.
 pub record IsMoved {P : Type 0} (stores : P → ℕ → List ℕ → P → Type 0) (call : Call) (k word : ℕ) (sent : List ℕ)

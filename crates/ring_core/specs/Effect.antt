@@ -40,6 +40,11 @@ count_effect world (Out h offered) sent k =
 abbrev pub unmoved : List HandleState → Outcome → Effect
 unmoved world outcome = record { world = world; got = []; outcome = outcome }
 
+-- What an executed close leaves: nothing moves.
+abbrev pub close_effect : List HandleState → Told → Effect
+close_effect world (Count k) = unmoved world (Outcome.Count k)
+close_effect world (Fail e) = unmoved world (Outcome.Fail e)
+
 -- What an executed call leaves: an error moves nothing.
 abbrev pub effect : List HandleState → Call → List ℕ → Told → Effect
 effect world call sent (Count k) = count_effect world call sent k

@@ -1,15 +1,15 @@
 -- An entry of the ring, and what a data word names.
-use Rattle.std.specs.Prelude.{ℕ, nat_lt, if◌then◌else◌}
-use Rattle.ring_core.specs.declared.entry.TheConstants.{FIRST_RESERVED, CANCEL_WORD}
+use Rattle.std.specs.Prelude.{ℕ, ◌+◌, ◌-◌, nat_lt, if◌then◌else◌}
+use Rattle.ring_core.specs.declared.entry.TheConstants.{FIRST_CLOSE, FIRST_RESERVED, CANCEL_WORD}
 use Rattle.ring_core.specs.declared.entry.Entry.{Entry}
-use Rattle.ring_core.specs.declared.entry.Body.TheVariants.{Call as Calls, Cancel as Cancels}
+use Rattle.ring_core.specs.declared.entry.Body.TheVariants.{Call as Calls, Cancel as Cancels, Close as Closes}
 use Rattle.ring_core.specs.declared.entry.Target.{Target}
-use Rattle.ring_core.specs.declared.entry.Target.TheVariants.{Slot, Reserved}
+use Rattle.ring_core.specs.declared.entry.Target.TheVariants.{Slot, Handle, Reserved}
 use Rattle.ring_core.specs.declared.request.Call.{Call}
 
--- What a data word names: below the reserved words the slot of that key.
+-- What a data word names: below the words of closes the slot of that key, and from there on a handle, up to the reserved words.
 abbrev pub target : ℕ → Target
-target word = if nat_lt word FIRST_RESERVED then Slot word else Reserved word
+target word = if nat_lt word FIRST_CLOSE then Slot word else if nat_lt word FIRST_RESERVED then Handle (word - FIRST_CLOSE) else Reserved word
 
 -- The entry of an operation's call: its word is the key of the operation's slot.
 abbrev pub call_entry : ℕ → ℕ → Call → Entry
@@ -18,3 +18,11 @@ call_entry key serial call = record { word = key; serial = serial; body = Calls 
 -- The entry of a cancel: it names the key of the operation's slot, and has that operation's serial.
 abbrev pub cancel_entry : ℕ → ℕ → Entry
 cancel_entry key serial = record { word = CANCEL_WORD; serial = serial; body = Cancels key }
+
+-- The data word of a handle's close.
+abbrev pub close_word : ℕ → ℕ
+close_word h = FIRST_CLOSE + h
+
+-- The entry of a handle's close: its word and its serial name the handle.
+abbrev pub close_entry : ℕ → Entry
+close_entry h = record { word = close_word h; serial = h; body = Closes h }

@@ -1,22 +1,24 @@
 -- The ledger, the state of the machine: operations and handles by number, the first at 0.
-use Rattle.std.specs.Prelude.{ℕ, Bool, true, false, not, ◌&&◌, nat_lt, List, [], length, Option, None}
+use Rattle.std.specs.Prelude.{ℕ, Bool, true, false, not, ◌&&◌, if◌then◌else◌, List, [], ◌∷◌, ◌++◌, map, Option, None, slice_get}
 use Rattle.rent_buf.specs.Buffer.{Buffer}
 use Rattle.rent_buf.specs.Parts.{Parts}
 use Rattle.rent_buf.specs.Held.{HeldBuf}
 use Rattle.ring_core.specs.declared.request.Request.{Request}
 use Rattle.ring_core.specs.declared.request.Outcome.{Outcome}
 use Rattle.ring_core.specs.declared.world.HandleState.{HandleState}
-use Rattle.ring_core.specs.Lists.{numbers_where}
-use Rattle.ring_core.specs.Request.{held_of}
+use Rattle.ring_core.specs.Lists.{numbers_where, passes, has_number}
+use Rattle.ring_core.specs.Request.{named, held_of}
 
--- What is in the queue: the request of an operation, or a cancel of one.
+-- What is in the queue: the request of an operation, a cancel of one, or the close of a handle.
 pub data Queued : Type 0 where
   Req : ℕ → Queued
   Cancel : ℕ → Queued
+  Close : ℕ → Queued
 
--- What is in flight, and what is done: an operation.
+-- What is in flight, and what is done: an operation, or the close of a handle.
 pub data Item : Type 0 where
   Op : ℕ → Item
+  Close : ℕ → Item
 
 -- Where an operation is; from its execution until it is gone it has its outcome.
 pub data Place : Type 0 where
@@ -36,7 +38,11 @@ pub record Operation : Type 0 where
   pub dropped : Bool
   pub place : Place
 
--- The ledger. What the handles have is in `world`.
+-- Whose a handle is: whether its user holds it.
+pub record Owner : Type 0 where
+  pub is_user : Bool
+
+-- The ledger. What the handles have is in `world`, whose they are in `owners`.
 pub record Ledger : Type 0 where
   pub capacity : ℕ
   pub queue : List Queued
@@ -44,10 +50,11 @@ pub record Ledger : Type 0 where
   pub done : List Item
   pub ops : List Operation
   pub world : List HandleState
+  pub owners : List Owner
 
 -- The empty ledger of a capacity.
 abbrev pub empty : ℕ → Ledger
-empty capacity = record { capacity = capacity; queue = []; flying = []; done = []; ops = []; world = [] }
+empty capacity = record { capacity = capacity; queue = []; flying = []; done = []; ops = []; world = []; owners = [] }
 
 -- A new operation of a request.
 abbrev pub new_operation : Request Buffer Parts → Operation
@@ -71,6 +78,27 @@ is_owned operation = is_live operation && not operation.dropped
 abbrev pub live_ops : Ledger → List ℕ
 live_ops L = numbers_where is_live 0 L.ops
 
--- The user holds a handle: each handle that was created is its user's.
+-- The user holds a handle.
 abbrev pub user_holds : Ledger → ℕ → Bool
-user_holds L h = nat_lt h (length L.world)
+user_holds L h = passes (λ owner. owner.is_user) (slice_get L.owners h)
+
+-- Who holds a handle: its user, or an operation.
+pub data Holder : Type 0 where
+  User : Holder
+  ByOp : ℕ → Holder
+
+-- The user, where it holds the handle.
+abbrev pub user_holder : Ledger → ℕ → List Holder
+user_holder L h = if user_holds L h then User ∷ [] else []
+
+-- An operation holds a handle: it isn't gone, and its request names the handle.
+abbrev pub is_holding : ℕ → Operation → Bool
+is_holding h operation = is_live operation && has_number h (named operation.request)
+
+-- The operations that hold a handle, ascending.
+abbrev pub holding_ops : Ledger → ℕ → List ℕ
+holding_ops L h = numbers_where (is_holding h) 0 L.ops
+
+-- The holders of a handle: the user, and each operation that isn't gone and names it.
+abbrev pub holders : Ledger → ℕ → List Holder
+holders L h = user_holder L h ++ map ByOp (holding_ops L h)

@@ -17,6 +17,7 @@ pub mod Counts
 pub mod Entry
 pub mod Ring
 pub mod Ranks
+pub mod Closes
 pub mod Flights
 pub mod Found
 pub mod Reserved

@@ -3,7 +3,7 @@ use Rattle.std.specs.Prelude.{ℕ, ◌≡◌, ◌≤◌, Bool, true, false, List
 use Rattle.ring_core.specs.declared.request.Told.{Told}
 use Rattle.ring_core.specs.declared.request.Outcome.{Outcome}
 use Rattle.ring_core.specs.declared.entry.Body.{Body}
-use Rattle.ring_core.specs.declared.entry.Body.TheVariants.{Call as Calls, Cancel as Cancels}
+use Rattle.ring_core.specs.declared.entry.Body.TheVariants.{Call as Calls, Cancel as Cancels, Close as Closes}
 use Rattle.ring_core.specs.declared.entry.Entry.{Entry}
 use Rattle.ring_core.specs.declared.entry.Flight.{Flight}
 use Rattle.ring_core.specs.declared.entry.Completion.{Completion}
@@ -26,6 +26,7 @@ entry_at flying place = option_map (λ flight. flight.entry) (slice_get flying p
 abbrev pub body_sends : Body → Told → Option ℕ
 body_sends (Calls call) told = call_sends call told
 body_sends (Cancels key) told = None
+body_sends (Closes h) told = None
 
 -- The completion of an entry with an outcome.
 abbrev pub completion_of : Entry → Outcome → Completion

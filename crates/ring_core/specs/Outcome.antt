@@ -1,5 +1,5 @@
 -- Which outcomes a call may have.
-use Rattle.std.specs.Prelude.{ℕ, Bool, ◌&&◌, ◌||◌, ◌==◌, nat_le, if◌then◌else◌, List, length, slice_get}
+use Rattle.std.specs.Prelude.{ℕ, Bool, false, ◌&&◌, ◌||◌, ◌==◌, nat_le, if◌then◌else◌, List, length, slice_get}
 use Rattle.ring_core.specs.declared.request.TheConstants.{CANCELED, LAST_ERROR}
 use Rattle.ring_core.specs.declared.world.HandleState.{HandleState}
 use Rattle.ring_core.specs.declared.request.Call.{Call}
@@ -29,6 +29,11 @@ may_count world (Out h offered) k = passes (λ handle. takes_bytes handle.kind &
 -- The error of a cancel may come exactly when the cancel was taken; every other one from 1 to the greatest always may.
 abbrev pub may_fail : Bool → ℕ → Bool
 may_fail canceled e = if e == CANCELED then canceled else nat_le 1 e && nat_le e LAST_ERROR
+
+-- A close may end with the count 0, and with each error of what was never canceled.
+abbrev pub may_close : Told → Bool
+may_close (Count k) = k == 0
+may_close (Fail e) = may_fail false e
 
 -- A reported outcome is allowed to a call whose cancel was taken, or wasn't.
 abbrev pub is_allowed : List HandleState → Bool → Call → Told → Bool

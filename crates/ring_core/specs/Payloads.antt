@@ -5,7 +5,7 @@ use Rattle.ring_core.specs.declared.request.Call.TheVariants.{In, Out}
 use Rattle.ring_core.specs.declared.request.Told.{Told}
 use Rattle.ring_core.specs.declared.request.Told.TheVariants.{Count, Fail}
 use Rattle.ring_core.specs.declared.entry.Body.{Body}
-use Rattle.ring_core.specs.declared.entry.Body.TheVariants.{Call as Calls, Cancel as Cancels}
+use Rattle.ring_core.specs.declared.entry.Body.TheVariants.{Call as Calls, Cancel as Cancels, Close as Closes}
 
 -- A count of bytes comes from the handle of a call: the call reads.
 abbrev pub count_comes : Call → Bool
@@ -21,6 +21,7 @@ comes call (Fail e) = false
 abbrev pub body_comes : Body → Told → Bool
 body_comes (Calls call) told = comes call told
 body_comes (Cancels key) told = false
+body_comes (Closes h) told = false
 
 -- The payloads store the bytes that came for a data word, where bytes come; else they stay.
 abbrev pub StoresIf : {P : Type 0} → (P → ℕ → List ℕ → P → Type 0) → Bool → P → ℕ → List ℕ → P → Type 0
@@ -41,3 +42,4 @@ may_run_out takes_memory call (Fail e) = false
 abbrev pub body_may_run_out : (ℕ → Bool) → Body → Told → Bool
 body_may_run_out takes_memory (Calls call) told = may_run_out takes_memory call told
 body_may_run_out takes_memory (Cancels key) told = false
+body_may_run_out takes_memory (Closes h) told = false

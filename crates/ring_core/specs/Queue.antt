@@ -1,7 +1,7 @@
 -- Taking the queue, pushing an entry, and the leaving of an operation.
-use Rattle.std.specs.Prelude.{ℕ, true, ◌==◌, if◌then◌else◌, List, [], ◌∷◌, ◌++◌, length}
-use Rattle.ring_core.specs.Lists.{amended}
-use Rattle.ring_core.specs.Ledger.{Ledger, Operation, Place, InFlight, Gone, Queued, Req, Cancel, Item, Op}
+use Rattle.std.specs.Prelude.{ℕ, Bool, true, not, ◌&&◌, ◌==◌, if◌then◌else◌, List, [], ◌∷◌, ◌++◌, length, map, filter}
+use Rattle.ring_core.specs.Lists.{amended, is_empty, numbers_below}
+use Rattle.ring_core.specs.Ledger.{Ledger, Operation, Place, InFlight, Gone, Queued, Req, Cancel, Item, Op, holders}
 
 -- The ledger with an operation changed.
 abbrev pub with_op : Ledger → ℕ → (Operation → Operation) → Ledger
@@ -24,10 +24,11 @@ canceled_at _ operation = operation
 abbrev pub with_cancel : Operation → Operation
 with_cancel operation = canceled_at operation.place operation
 
--- Taking one entry: Req n joins the end of `flying`; Cancel n is recorded where n is in flight, and else does nothing.
+-- Taking one entry: Req n and Close h join the end of `flying`; Cancel n is recorded where n is in flight, and else does nothing.
 abbrev pub take_one : Ledger → Queued → Ledger
 take_one L (Req n) = with_op (with_flying L (Op n)) n (at_place InFlight)
 take_one L (Cancel n) = with_op L n with_cancel
+take_one L (Queued.Close h) = with_flying L (Item.Close h)
 
 -- Taking entries, in order.
 abbrev pub take_each : Ledger → List Queued → Ledger
@@ -50,6 +51,23 @@ append L entry = record L { queue = L.queue ++ entry ∷ [] }
 abbrev pub push : Ledger → Queued → Ledger
 push L entry = append (make_room L) entry
 
--- Leaving: the operation is gone.
+-- Pushing entries, in order.
+abbrev pub push_each : Ledger → List Queued → Ledger
+push_each L [] = L
+push_each L (entry ∷ entries) = push_each (push L entry) entries
+
+-- Nobody holds a handle.
+abbrev pub is_unheld : Ledger → ℕ → Bool
+is_unheld L h = is_empty (holders L h)
+
+-- The handles whose holders became none from a ledger to another, ascending.
+abbrev pub became_unheld : Ledger → Ledger → List ℕ
+became_unheld old new = filter (λ h. not (is_unheld old h) && is_unheld new h) (numbers_below (length old.owners))
+
+-- An operation is gone.
+abbrev pub with_gone : Ledger → ℕ → Ledger
+with_gone L n = with_op L n (at_place Gone)
+
+-- Leaving: the operation is gone, and each handle whose holders became none by this gets a close, in ascending order.
 abbrev pub leave : Ledger → ℕ → Ledger
-leave L n = with_op L n (at_place Gone)
+leave L n = push_each (with_gone L n) (map Queued.Close (became_unheld L (with_gone L n)))

@@ -2,14 +2,14 @@
 use Rattle.std.specs.Prelude.{ℕ, Bool, true, false, not, ◌||◌, nat_le, List, [], ◌∷◌, length, Option, Some, None, slice_get}
 use Rattle.ring_core.specs.declared.ledger.TheConstants.{MOST_LIVE}
 use Rattle.ring_core.specs.declared.ledger.Event.{Event}
-use Rattle.ring_core.specs.declared.ledger.Event.TheVariants.{Feed, End, Look, Submit, Poll, Drop, Cancel, Exec}
+use Rattle.ring_core.specs.declared.ledger.Event.TheVariants.{Feed, End, Look, Close, Submit, Poll, Drop, Cancel, Exec}
 use Rattle.ring_core.specs.declared.ledger.Refusal.{Refusal}
 use Rattle.ring_core.specs.declared.ledger.Refusal.TheVariants.{NoOp, NoHandle, Full, NotFlying, BadOutcome, BadHandleEvent}
 use Rattle.ring_core.specs.declared.request.Told.{Told}
 use Rattle.ring_core.specs.Lists.{passes}
 use Rattle.ring_core.specs.World.{is_ended_at}
 use Rattle.ring_core.specs.Request.{named, call_of}
-use Rattle.ring_core.specs.Outcome.{is_allowed}
+use Rattle.ring_core.specs.Outcome.{is_allowed, may_close}
 use Rattle.ring_core.specs.Ledger.{Ledger, Item, Op, is_owned, live_ops, user_holds}
 
 -- An operation was never submitted, is gone, or was dropped.
@@ -24,6 +24,7 @@ lacks_handle L (h ∷ handles) = not (user_holds L h) || lacks_handle L handles
 -- A reported outcome is allowed to an item of `flying`.
 abbrev pub allowed : Ledger → Item → Told → Bool
 allowed L (Op n) told = passes (λ operation. is_allowed L.world operation.canceled (call_of operation.request) told) (slice_get L.ops n)
+allowed L (Item.Close h) told = may_close told
 
 -- NoOp: the operation was never submitted, was returned, or was dropped.
 abbrev pub has_no_op : Ledger → Event → Bool
@@ -37,6 +38,7 @@ abbrev pub has_no_handle : Ledger → Event → Bool
 has_no_handle L (Feed h bytes) = lacks_handle L (h ∷ [])
 has_no_handle L (End h) = lacks_handle L (h ∷ [])
 has_no_handle L (Look h) = lacks_handle L (h ∷ [])
+has_no_handle L (Close h) = lacks_handle L (h ∷ [])
 has_no_handle L (Submit request) = lacks_handle L (named request)
 has_no_handle L _ = false
 

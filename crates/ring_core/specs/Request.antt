@@ -11,6 +11,8 @@ use Rattle.rent_buf.specs.declared.held.Held.TheVariants.{One, Parts as InParts}
 use Rattle.ring_core.specs.declared.request.TheConstants.{MOST_ASKED}
 use Rattle.ring_core.specs.declared.request.Request.{Request}
 use Rattle.ring_core.specs.declared.request.Request.TheVariants.{Recv, ReadVec, Send, WriteVec}
+use Rattle.ring_core.specs.declared.request.Names.{Names}
+use Rattle.ring_core.specs.declared.request.Names.TheVariants.{Nothing, One as OneName}
 use Rattle.ring_core.specs.declared.request.Way.{Way}
 use Rattle.ring_core.specs.declared.request.Way.TheVariants.{Reads, Sends}
 use Rattle.ring_core.specs.declared.request.Call.{Call}
@@ -24,6 +26,11 @@ named (Recv fd buf) = fd ∷ []
 named (ReadVec fd parts) = fd ∷ []
 named (Send fd buf) = fd ∷ []
 named (WriteVec fd parts) = fd ∷ []
+
+-- The handles of names, ascending.
+abbrev pub listed : Names → List ℕ
+listed Nothing = []
+listed (OneName h) = h ∷ []
 
 -- Which way a request's bytes go.
 abbrev pub way_of : {B V : Type 0} → Request B V → Way

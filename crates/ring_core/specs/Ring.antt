@@ -6,7 +6,7 @@ use Rattle.ring_core.specs.declared.entry.Flight.{Flight}
 use Rattle.ring_core.specs.declared.entry.Completion.{Completion}
 use Rattle.ring_core.specs.declared.request.Outcome.TheVariants.{Count as Counted}
 use Rattle.ring_core.specs.declared.entry.Body.{Body}
-use Rattle.ring_core.specs.declared.entry.Body.TheVariants.{Call as Calls, Cancel as Cancels}
+use Rattle.ring_core.specs.declared.entry.Body.TheVariants.{Call as Calls, Cancel as Cancels, Close as Closes}
 use Rattle.ring_core.specs.declared.world.HandleState.{HandleState}
 use Rattle.ring_core.specs.declared.ring.Push.{Push}
 use Rattle.ring_core.specs.declared.ring.Push.TheVariants.{Done, Full}
@@ -32,15 +32,17 @@ pub record RingView : Type 0 where
 abbrev pub marked_by : ℕ → Flight → Flight
 marked_by key flight = record flight { marked = flight.marked || flight.entry.word == key }
 
--- What is in flight after one entry was taken: a call joins the end; a cancel marks what has its key.
+-- What is in flight after one entry was taken: a call and a close join the end; a cancel marks what has its key.
 abbrev pub flying_after_entry : List Flight → Entry → Body → List Flight
 flying_after_entry flying entry (Calls call) = flying ++ record { entry = entry; marked = false } ∷ []
 flying_after_entry flying entry (Cancels key) = map (marked_by key) flying
+flying_after_entry flying entry (Closes h) = flying ++ record { entry = entry; marked = false } ∷ []
 
--- The completions after one entry was taken: a call leaves none; a cancel is done, whatever it marked.
+-- The completions after one entry was taken: a call and a close leave none; a cancel is done, whatever it marked.
 abbrev pub done_after_entry : List Completion → Entry → Body → List Completion
 done_after_entry done entry (Calls call) = done
 done_after_entry done entry (Cancels key) = done ++ record { word = entry.word; serial = entry.serial; outcome = Counted 0 } ∷ []
+done_after_entry done entry (Closes h) = done
 
 -- What is in flight after entries were taken, in order.
 abbrev pub flying_after : List Flight → List Entry → List Flight
@@ -89,10 +91,11 @@ abbrev pub PushesFor : Bool → Entry → RingView → RingView → Push → Typ
 PushesFor tells entry old new Done = IsPushed tells entry old new
 PushesFor tells entry old new (Full back) = (back ≡ entry) × (new ≡ old) × (length old.queue ≡ old.capacity)
 
--- An enter that took the whole queue, n entries. At most one completion came for each.
+-- An enter that took the whole queue, n entries. At most one completion came for each, and none was lost.
 pub record IsEntered (tells : Bool) (old new : RingView) (n : ℕ) : Type 0 where
   pub all : n ≡ length old.queue
   pub emptied : new.queue ≡ []
+  pub more_done : length old.done ≤ length new.done
   pub few_done : length new.done ≤ length old.done + n
   pub spare : old.spare ≤ new.spare
   pub later : IsLater old new
@@ -106,10 +109,12 @@ pub record TookFront (count : ℕ) (old new : RingView) : Type 0 where
   pub done : new.done ≡ done_after old.done (take count old.queue)
   pub world : new.world ≡ old.world
 
--- An enter that failed or was busy: a prefix of the queue may have been taken, with at most one completion for each entry of it.
+-- An enter that failed or was busy: a prefix of the queue may have been taken, with at most one completion for each entry of it, and no
+-- completion was lost.
 pub record IsCutShort (tells : Bool) (old new : RingView) : Type 0 where
   pub count : ℕ
   pub rest : length new.queue + count ≡ length old.queue
+  pub more_done : length old.done ≤ length new.done
   pub few_done : length new.done ≤ length old.done + count
   pub spare : old.spare ≤ new.spare
   pub later : IsLater old new

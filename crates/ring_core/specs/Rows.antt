@@ -7,9 +7,9 @@ use Rattle.ring_core.specs.declared.world.HandleKind.TheVariants.{Stream}
 use Rattle.ring_core.specs.declared.request.Request.TheVariants.{Recv}
 use Rattle.ring_core.specs.declared.request.Told.TheVariants.{Count, Fail}
 use Rattle.ring_core.specs.declared.request.Outcome.{Outcome}
-use Rattle.ring_core.specs.declared.ledger.Event.TheVariants.{Give, Feed, Submit, Poll, Drop, Cancel, Turn, Exec}
+use Rattle.ring_core.specs.declared.ledger.Event.TheVariants.{Give, Feed, Look, Close, Submit, Poll, Drop, Cancel, Turn, Exec}
 use Rattle.ring_core.specs.declared.ledger.Refusal.TheVariants.{NoOp, NoHandle, NotFlying, BadOutcome}
-use Rattle.ring_core.specs.declared.ledger.Reply.TheVariants.{Handle, Fed, Submitted, Pending, Handed, Dropped, Asked, Turned, ExecutedOp}
+use Rattle.ring_core.specs.declared.ledger.Reply.TheVariants.{Handle, Fed, Released, Submitted, Pending, Handed, Dropped, Asked, Turned, ExecutedOp, ExecutedClose}
 use Rattle.ring_core.specs.declared.ledger.Reply.TheVariants.{Refused}
 use Rattle.ring_core.specs.Ledger.{empty}
 use Rattle.ring_core.specs.Run.{replies}
@@ -113,3 +113,33 @@ FullQueue =
     ExecutedOp 1 ∷
     Turned (1 ∷ []) [] [] ∷
     Refused NoOp ∷ [])
+
+-- A handle that its user gives up under a read: its close is queued at the poll that returns the read, and not before.
+abbrev pub CloseUnderRead : Type 0
+CloseUnderRead =
+    replies (empty 4) (
+    Give Stream ∷
+    Submit (Recv 0 (vector 1 0 1 [])) ∷
+    Turn ∷
+    Close 0 ∷
+    Exec 0 (Fail 104) ∷
+    Turn ∷
+    Poll 0 5 ∷
+    Look 0 ∷
+    Turn ∷
+    Exec 0 (Fail 125) ∷
+    Exec 0 (Count 0) ∷
+    Turn ∷ [])
+    ≡ (
+    Handle 0 ∷
+    Submitted 0 ∷
+    Turned [] [] [] ∷
+    Released ∷
+    ExecutedOp 0 ∷
+    Turned (0 ∷ []) [] [] ∷
+    Handed (Outcome.Fail 104) (One (vector 1 0 1 [])) ∷
+    Refused NoHandle ∷
+    Turned [] [] [] ∷
+    Refused BadOutcome ∷
+    ExecutedClose 0 ∷
+    Turned [] (0 ∷ []) [] ∷ [])

@@ -1,30 +1,54 @@
 -- The step of the machine: the next ledger and the reply, for each event.
-use Rattle.std.specs.Prelude.{ℕ, true, [], ◌∷◌, ◌++◌, length, Option, Some, None, slice_get}
+use Rattle.std.specs.Prelude.{ℕ, Bool, true, false, [], ◌∷◌, ◌++◌, length, Option, Some, None, slice_get}
 use Rattle.rent_buf.specs.Buffer.{Buffer}
 use Rattle.rent_buf.specs.Parts.{Parts}
 use Rattle.ring_core.specs.declared.request.Request.{Request}
 use Rattle.ring_core.specs.declared.world.HandleState.{HandleState}
 use Rattle.ring_core.specs.declared.ledger.Event.{Event}
-use Rattle.ring_core.specs.declared.ledger.Event.TheVariants.{Give, Feed, End, Look, Submit, Poll, Drop, Cancel, Turn, Exec}
+use Rattle.ring_core.specs.declared.ledger.Event.TheVariants.{Give, Feed, End, Look, Close, Submit, Poll, Drop, Cancel, Turn, Exec}
 use Rattle.ring_core.specs.declared.ledger.Refusal.{Refusal}
 use Rattle.ring_core.specs.declared.ledger.Refusal.TheVariants.{NoOp}
 use Rattle.ring_core.specs.declared.ledger.Reply.{Reply}
-use Rattle.ring_core.specs.declared.ledger.Reply.TheVariants.{Handle, Fed, Ended, Output, Submitted, Pending, Handed, Dropped, Asked}
+use Rattle.ring_core.specs.declared.ledger.Reply.TheVariants.{Handle, Fed, Ended, Released, Output, Submitted, Pending, Handed, Dropped, Asked}
 use Rattle.ring_core.specs.declared.ledger.Reply.TheVariants.{Refused}
 use Rattle.ring_core.specs.Lists.{amended}
 use Rattle.ring_core.specs.World.{fresh, with_input, with_end, output_at}
-use Rattle.ring_core.specs.Ledger.{Ledger, Operation, Place, Reaped, Queued, Req, new_operation}
-use Rattle.ring_core.specs.Queue.{with_op, push, leave}
+use Rattle.ring_core.specs.Ledger.{Ledger, Operation, Owner, Place, Reaped, Queued, Req, new_operation}
+use Rattle.ring_core.specs.Queue.{with_op, push, is_unheld, leave}
 use Rattle.ring_core.specs.Turn.{turn_step, exec_step}
 use Rattle.ring_core.specs.Refusal.{cause}
 
--- Give: a new handle.
+-- Whose a new handle is: its user's.
+abbrev pub new_owner : Owner
+new_owner = record { is_user = true }
+
+-- Give: a new handle of its user.
 abbrev pub give_step : Ledger → HandleState → Ledger
-give_step L handle = record L { world = L.world ++ handle ∷ [] }
+give_step L handle = record L { world = L.world ++ handle ∷ []; owners = L.owners ++ new_owner ∷ [] }
 
 -- The ledger with one handle changed.
 abbrev pub with_handle : Ledger → ℕ → (HandleState → HandleState) → Ledger
 with_handle L h change = record L { world = amended L.world h change }
+
+-- An owner that holds its handle, or doesn't.
+abbrev pub as_user : Bool → Owner → Owner
+as_user is_user owner = record owner { is_user = is_user }
+
+-- The ledger with a handle held by its user, or no longer.
+abbrev pub with_user : Ledger → ℕ → Bool → Ledger
+with_user L h is_user = record L { owners = amended L.owners h (as_user is_user) }
+
+-- A close is pushed where nobody holds a handle.
+abbrev pub close_if : Bool → Ledger → ℕ → Ledger
+close_if true L h = push L (Queued.Close h)
+close_if false L h = L
+
+abbrev pub close_unheld : Ledger → ℕ → Ledger
+close_unheld L h = close_if (is_unheld L h) L h
+
+-- Close: the user no longer holds the handle, and its close is pushed where nobody else does.
+abbrev pub close_step : Ledger → ℕ → Ledger
+close_step L h = close_unheld (with_user L h false) h
 
 -- The ledger with a new operation of the next number.
 abbrev pub with_new_op : Ledger → Operation → Ledger
@@ -68,6 +92,7 @@ row L (Give kind) = (give_step L (fresh kind), Handle (length L.world))
 row L (Feed h bytes) = (with_handle L h (with_input bytes), Fed)
 row L (End h) = (with_handle L h with_end, Ended)
 row L (Look h) = (L, Output (output_at L.world h))
+row L (Close h) = (close_step L h, Released)
 row L (Submit request) = (submit_step L request, Submitted (length L.ops))
 row L (Poll n task) = poll_step L n task (slice_get L.ops n)
 row L (Drop n) = drop_step L n (slice_get L.ops n)

@@ -6,7 +6,7 @@ use Rattle.ring_core.specs.declared.request.Request.{Request}
 use Rattle.ring_core.specs.declared.request.Told.{Told}
 use Rattle.ring_core.specs.declared.ledger.Refusal.TheVariants.{NotFlying}
 use Rattle.ring_core.specs.declared.ledger.Reply.{Reply}
-use Rattle.ring_core.specs.declared.ledger.Reply.TheVariants.{Turned, ExecutedOp, Refused}
+use Rattle.ring_core.specs.declared.ledger.Reply.TheVariants.{Turned, ExecutedOp, ExecutedClose, Refused}
 use Rattle.ring_core.specs.Request.{sent_of, call_of, held}
 use Rattle.ring_core.specs.Effect.{Effect, effect}
 use Rattle.ring_core.specs.Ledger.{Ledger, Operation, Place, InDone, Reaped, Item, Op}
@@ -31,9 +31,10 @@ abbrev pub reap_op : Ledger → ℕ → Option Operation → Ledger
 reap_op L n None = L
 reap_op L n (Some operation) = reap_if operation.dropped L n
 
--- A completion: its operation is reaped, or leaves.
+-- A completion: its operation is reaped, or leaves. That of a close changes nothing more.
 abbrev pub reap_one : Ledger → Item → Ledger
 reap_one L (Op n) = reap_op L n (slice_get L.ops n)
+reap_one L (Item.Close h) = L
 
 -- Completions, in order.
 abbrev pub reap_each : Ledger → List Item → Ledger
@@ -44,6 +45,13 @@ reap_each L (item ∷ items) = reap_each (reap_one L item) items
 abbrev pub ops_in : List Item → List ℕ
 ops_in [] = []
 ops_in (Op n ∷ items) = n ∷ ops_in items
+ops_in (Item.Close h ∷ items) = ops_in items
+
+-- The handles of the closes among items.
+abbrev pub closes_in : List Item → List ℕ
+closes_in [] = []
+closes_in (Op n ∷ items) = closes_in items
+closes_in (Item.Close h ∷ items) = h ∷ closes_in items
 
 -- The task that waits for an operation, where there is one: none waits for a dropped one.
 abbrev pub task_if : Bool → Option ℕ → List ℕ
@@ -60,9 +68,9 @@ abbrev pub tasks_woken : List Operation → List ℕ → List ℕ
 tasks_woken ops [] = []
 tasks_woken ops (n ∷ numbers) = task_woken (slice_get ops n) ++ tasks_woken ops numbers
 
--- All that is done is named and reaped. The reply's second list, of handles, is empty: no close is among it.
+-- All that is done is named and reaped: the operations, the handles of closes, and the tasks that are woken.
 abbrev pub reap_all : Ledger → Ledger × Reply
-reap_all L = (reap_each (record L { done = [] }) L.done, Turned (ops_in L.done) [] (tasks_woken L.ops (ops_in L.done)))
+reap_all L = (reap_each (record L { done = [] }) L.done, Turned (ops_in L.done) (closes_in L.done) (tasks_woken L.ops (ops_in L.done)))
 
 -- Turn: the queue is taken; then all that is done is reaped, in order.
 abbrev pub turn_step : Ledger → Ledger × Reply
@@ -89,7 +97,8 @@ exec_op L n told (Some operation) = with_effect L n told (effect_of L operation.
 abbrev pub complete_at : Ledger → ℕ → Item → Ledger
 complete_at L place item = record L { flying = remove L.flying place; done = L.done ++ item ∷ [] }
 
--- Exec: the item at the place is executed and completed.
+-- Exec: the item at the place is executed and completed. A close moves nothing.
 abbrev pub exec_step : Ledger → ℕ → Told → Option Item → Ledger × Reply
 exec_step L place told None = (L, Refused NotFlying)
 exec_step L place told (Some (Op n)) = (exec_op (complete_at L place (Op n)) n told (slice_get L.ops n), ExecutedOp n)
+exec_step L place told (Some (Item.Close h)) = (complete_at L place (Item.Close h), ExecutedClose h)

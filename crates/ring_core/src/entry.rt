@@ -1,11 +1,14 @@
 //! The entries of a ring, and its completions.
-ghost use Rattle.std.specs.Prelude.{◌≡◌};
-ghost use Rattle.ring_core.specs.Entry.{target, call_entry, cancel_entry};
+ghost use Rattle.std.specs.Prelude.{◌≡◌, ◌<◌, ◌^◌};
+ghost use Rattle.ring_core.specs.Entry.{target, call_entry, cancel_entry, close_entry};
 ghost use Rattle.ring_core.specs.MemRing.{body_sends};
 
 use crate::request::{Call, Outcome, Told};
 
-/// The first of the four data words that are reserved: they name no slot. (not in monoio)
+/// The first of the data words that name handles: that of the close of handle 0. Those below it name slots. (not in monoio)
+pub const FIRST_CLOSE: u64 = 1 << 63;
+
+/// The first of the four data words that are reserved: they name nothing. (not in monoio)
 pub const FIRST_RESERVED: u64 = u64::MAX - 3;
 
 /// The data word of a cancel: a reserved one. (not in monoio)
@@ -16,6 +19,8 @@ pub const CANCEL_WORD: u64 = u64::MAX;
 pub enum Target {
     /// The slot of this key.
     Slot(usize),
+    /// The handle of this number, whose close it is.
+    Handle(u64),
     /// Nothing: the word is reserved.
     Reserved(u64),
 }
@@ -25,8 +30,10 @@ impl Target {
     pub fn of(word: u64) -> Target
         ensures { result ≡ target word }
     {
-        if word < FIRST_RESERVED {
+        if word < FIRST_CLOSE {
             Target::Slot(word as usize)
+        } else if word < FIRST_RESERVED {
+            Target::Handle(word - FIRST_CLOSE)
         } else {
             Target::Reserved(word)
         }
@@ -40,28 +47,32 @@ pub enum Body {
     Call(Call),
     /// The cancel of what has this data word.
     Cancel(u64),
+    /// The close of this handle.
+    Close(u64),
 }
 
 impl Body {
-    /// How many bytes it sends with this report; None where it sends nothing: it reads, failed, or is a cancel. (not in monoio)
+    /// How many bytes it sends with this report; None where it sends nothing: it reads, failed, or is no call. (not in monoio)
     pub fn sends(&self, told: Told) -> Option<u32>
         ensures { result ≡ body_sends self.now told }
     {
         match self {
             Body::Call(Call::In { .. }) => None,
             Body::Call(Call::Out { .. }) => told.count(),
-            Body::Cancel(_) => None,
+            Body::Cancel(_) | Body::Close(_) => None,
         }
     }
 }
 
-/// A submission. The ring compares data words alone, and never serials. It is made by `Entry::call` and `Entry::cancel`.
+/// A submission. The ring compares data words alone, and never serials. It is made by `Entry::call`, `Entry::cancel` and
+/// `Entry::close`.
 /// (io_uring: a submission queue entry)
 #[derive(Clone, Copy, Debug, PartialEq, Eq)]
 pub struct Entry {
-    /// The data word, which the completion carries back: the key of the operation's slot, or `CANCEL_WORD`.
+    /// The data word, which the completion carries back: the key of the operation's slot, `CANCEL_WORD`, or `FIRST_CLOSE` plus the
+    /// handle.
     pub word: u64,
-    /// The operation's number, for those who read the ring and not for the ring itself.
+    /// The operation's number, or the handle's, for those who read the ring and not for the ring itself.
     pub serial: u64,
     /// What it asks for.
     pub body: Body,
@@ -87,6 +98,19 @@ impl Entry {
             word: CANCEL_WORD,
             serial,
             body: Body::Cancel(key as u64),
+        }
+    }
+
+    /// The entry of the close of a handle below `2^62`: its word names the handle, so no cancel reaches it. (not in monoio, where a
+    /// close takes a slot)
+    pub fn close(h: u64) -> Entry
+        requires { h < 2 ^ 62 }
+        ensures { result ≡ close_entry h }
+    {
+        Entry {
+            word: FIRST_CLOSE + h,
+            serial: h,
+            body: Body::Close(h),
         }
     }
 }
@@ -117,15 +141,17 @@ mod tests {
 
     // Data words, and what they name.
     #[rattlefmt::skip]
-    const WORDS: [(u64, Target); 4] = [
+    const WORDS: [(u64, Target); 6] = [
         (0, Target::Slot(0)),
-        (18446744073709551611, Target::Slot(18446744073709551611)),
+        (9223372036854775807, Target::Slot(9223372036854775807)),
+        (9223372036854775808, Target::Handle(0)),
+        (18446744073709551611, Target::Handle(9223372036854775803)),
         (18446744073709551612, Target::Reserved(18446744073709551612)),
         (CANCEL_WORD, Target::Reserved(18446744073709551615)),
     ];
 
     #[test]
-    fn a_word_below_the_reserved_ones_names_a_slot(rt: HostRuntime) {
+    fn a_word_names_a_slot_a_handle_or_nothing(rt: HostRuntime) {
         for (word, target) in WORDS {
             assert_eq!(rt; Target::of(word), target, "the word {word}");
         }
@@ -143,5 +169,8 @@ mod tests {
         assert_eq!(rt; (cancel.word, cancel.serial), (CANCEL_WORD, 7));
         assert_eq!(rt; cancel.body, Body::Cancel(5));
         assert_eq!(rt; entry.body.sends(Told::Count(1)), None);
+        let close = Entry::close(9);
+        assert_eq!(rt; Target::of(close.word), Target::Handle(9));
+        assert_eq!(rt; (close.serial, close.body), (9, Body::Close(9)));
     }
 }

@@ -1,6 +1,6 @@
 //! The events of the machine, its replies and its refusals. The machine is the specification, `step` of `specs/Step.antt`; a ledger
 //! is its state.
-ghost use Rattle.ring_core.specs.Rows.{OneRead, RefusedInOrder, LateCancel, FullQueue};
+ghost use Rattle.ring_core.specs.Rows.{OneRead, RefusedInOrder, LateCancel, FullQueue, CloseUnderRead};
 ghost use Rattle.ring_core.specs.OutcomeRows.{RefusedOutcomes, Errors, ReadAtTheEnd};
 ghost use Rattle.ring_core.specs.BufferRows.{ShortRead, GrownRead, FixedRead, RangeRead, PartsRead, ShortSend, PartsSend};
 
@@ -22,6 +22,8 @@ pub enum Event {
     End(u64),
     /// Looks at the bytes that were sent to the handle of this number.
     Look(u64),
+    /// The user gives up the handle of this number.
+    Close(u64),
     /// Submits this request as a new operation.
     Submit(Request<BufSpec, PartsSpec>),
     /// Polls an operation, by its number, for a task.
@@ -62,6 +64,8 @@ pub enum Reply {
     Fed,
     /// The end is marked.
     Ended,
+    /// The user holds the handle no more. It is closed once no operation holds it.
+    Released,
     /// The bytes that were sent to the handle.
     Output(ByteList),
     /// The number of the new operation.
@@ -78,6 +82,8 @@ pub enum Reply {
     Turned(NumList, NumList, NumList),
     /// The number of the operation that was executed.
     ExecutedOp(u64),
+    /// The number of the handle whose close was executed.
+    ExecutedClose(u64),
     /// The event was refused, and changed nothing.
     Refused(Refusal),
 }
@@ -89,6 +95,7 @@ pub fn worked_rows()
     ensures refused_in_order { RefusedInOrder }
     ensures late_cancel { LateCancel }
     ensures full_queue { FullQueue }
+    ensures close_under_read { CloseUnderRead }
 
     // Outcomes.
     ensures refused_outcomes { RefusedOutcomes }

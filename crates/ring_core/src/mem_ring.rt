@@ -274,7 +274,7 @@ fn take_entry(entry: Entry, flying: &mut Flights, done: &mut VecDeque<Completion
     ensures room { (flying.new.room ≡ flying.old.room) × (deque_capacity done.new ≡ deque_capacity done.old) }
 {
     match entry.body {
-        Body::Call(_) => flying.push_reserved(entry),
+        Body::Call(_) | Body::Close(_) => flying.push_reserved(entry),
         Body::Cancel(key) => {
             flying.mark(key);
             done.push_back_reserved(completion_for(entry, Outcome::Count(0)));

@@ -3,7 +3,7 @@ ghost use Rattle.std.specs.Prelude.{◌≡◌, ◌≤◌, ◌<◌, ◌++◌, Ok,
 ghost use Rattle.std.specs.List.{concat};
 ghost use Rattle.rent_buf.specs.Buffer.{shown};
 ghost use Rattle.rent_buf.specs.Parts.{bytes_of};
-ghost use Rattle.ring_core.specs.Request.{named, way_of, held_of, shape_of, call_of, plain_request, room_of, shown_by, held_after};
+ghost use Rattle.ring_core.specs.Request.{named, listed, way_of, held_of, shape_of, call_of, plain_request, room_of, shown_by, held_after};
 ghost use Rattle.ring_core.specs.Request.{request_copied, held_copied, IsMade, HeldFailed};
 ghost use Rattle.ring_core.specs.Surroundings.{around, request_around};
 ghost use Rattle.ring_core.specs.Effect.{count_told};
@@ -61,6 +61,15 @@ pub enum Way {
     Reads,
     /// Out of what the request holds to the handle.
     Sends,
+}
+
+/// The handles that a request names, without the request. (not in monoio)
+#[derive(Clone, Copy, Debug, PartialEq, Eq)]
+pub enum Names {
+    /// There is no request.
+    Nothing,
+    /// This handle.
+    One(u64),
 }
 
 /// What a request asks a handle for, without its buffer. (not in monoio)
@@ -122,6 +131,18 @@ impl<B, V> Request<B, V> {
             Request::ReadVec { .. } => 1,
             Request::Send { .. } => 1,
             Request::WriteVec { .. } => 1,
+        }
+    }
+
+    /// The handles that it names. (not in monoio)
+    pub fn names(&self) -> Names
+        ensures { listed result ≡ named self.now }
+    {
+        match self {
+            Request::Recv { fd, .. } => Names::One(fd.number()),
+            Request::ReadVec { fd, .. } => Names::One(fd.number()),
+            Request::Send { fd, .. } => Names::One(fd.number()),
+            Request::WriteVec { fd, .. } => Names::One(fd.number()),
         }
     }
 

@@ -2,7 +2,7 @@
 ghost use Rattle.std.specs.Prelude.{◌≡◌, ◌<◌, ◌&&◌, [], ◌∷◌, ◌++◌, length, OnOk, OnErr, IfOk};
 ghost use Rattle.ring_core.specs.World.{fresh, gives_bytes, takes_bytes, with_end, output_at, WorldFeeds, WorldEnds};
 ghost use Rattle.ring_core.specs.Outcome.{may_read, may_send, may_fail};
-ghost use Rattle.ring_core.specs.Called.{MovesFor, RunsFor};
+ghost use Rattle.ring_core.specs.Called.{ClosesFor, MovesFor, RunsFor};
 
 use crate::entry::{Body, Flight};
 use crate::input::Input;
@@ -148,7 +148,7 @@ impl World {
 
     // Carries an entry in flight out with a reported outcome, where that is allowed to it (`is_allowed_body`): moves its bytes
     // between the handle and the payload of its data word (`body_effect`), and returns the outcome. After an error nothing has
-    // changed. No cancel is ever in flight: none is allowed.
+    // changed. A close moves nothing. No cancel is ever in flight: none is allowed.
     pub(crate) fn execute<P: Payloads>(
         &mut self,
         flight: &Flight,
@@ -157,8 +157,10 @@ impl World {
     ) -> Result<Outcome, RunError>
         ensures { RunsFor P.stores P.takes_memory flight.now told (P.offered payloads.old flight.now.entry.word) self.old self.new payloads.old payloads.new result }
     {
-        let Body::Call(call) = flight.entry.body else {
-            return Err(RunError::NotAllowed);
+        let call = match flight.entry.body {
+            Body::Call(call) => call,
+            Body::Close(_) => return close_outcome(told),
+            Body::Cancel(_) => return Err(RunError::NotAllowed),
         };
         match told {
             Told::Count(k) => match self.transfer(call, k, flight.entry.word, payloads) {
@@ -210,6 +212,17 @@ fn may_end_with(canceled: bool, e: u16) -> bool
         canceled
     } else {
         e >= 1 && e <= LAST_ERROR
+    }
+}
+
+// How a close ends with a reported outcome, where that is allowed to it. It moves nothing.
+fn close_outcome(told: Told) -> Result<Outcome, RunError>
+    ensures { ClosesFor told result }
+{
+    match told {
+        Told::Count(0) => Ok(Outcome::Count(0)),
+        Told::Fail(e) if may_end_with(false, e) => Ok(Outcome::Fail(e)),
+        _ => Err(RunError::NotAllowed),
     }
 }
 

@@ -1,13 +1,14 @@
 -- Whose cancel is recorded: of an operation with a property alone, where each cancel in the queue is one of such an operation.
-use Rattle.std.proofs.Common.{◌≡◌, ◌⊎◌, inl, inr, ℕ, zero, suc, Bool, true, false, List, [], ◌∷◌, ◌++◌, length, Option, Some, None}
-use Rattle.std.proofs.Common.{option_map, slice_get, refl, sym, ◌∙◌, ap, subst, if◌then◌else◌, ◌==◌}
+use Rattle.std.proofs.Common.{◌≡◌, ◌⊎◌, inl, inr, ℕ, zero, suc, Bool, true, false, List, [], ◌∷◌, ◌++◌, length, map, Option, Some, None}
+use Rattle.std.proofs.Common.{slice_get, refl, sym, ◌∙◌, ap, subst, if◌then◌else◌, ◌==◌}
 use Rattle.ring_core.specs.Lists.{amended}
 use Rattle.ring_core.specs.Ledger.{Ledger, Operation, InFlight, Gone, Queued, Req, Cancel, Item, Op}
-use Rattle.ring_core.specs.Queue.{at_place, with_cancel, take_one, take_each, take_all, make_room, append}
+use Rattle.ring_core.specs.Queue.{with_op, at_place, with_cancel, take_one, take_each, take_all, make_room, append, push, push_each}
+use Rattle.ring_core.specs.Queue.{became_unheld, with_gone, leave}
 use Rattle.ring_core.specs.Turn.{with_reap, reap_if, reap_op, reap_one, reap_each, reap_all}
 use Rattle.ring_core.proofs.Taken.{queue-take_each}
-use Rattle.run_laws.proofs.Reaping.{same-each}
-use Rattle.run_laws.proofs.Listed.{changed-cases, joined-cases, joined}
+use Rattle.ring_core.proofs.Amended.{changed-cases, joined-cases, there-before}
+use Rattle.ring_core.proofs.Listed.{joined}
 
 -- Each cancel among these entries is one of an operation with this property.
 abbrev pub CancelsOf : (ℕ → Type 0) → List Queued → Type 0
@@ -21,11 +22,6 @@ TakenOf P ops = (n : ℕ) (o : Operation) → slice_get ops n ≡ Some o → o.c
 pub record Asked (P : ℕ → Type 0) (L : Ledger) : Type 0 where
   pub waiting : CancelsOf P L.queue
   pub taken : TakenOf P L.ops
-
--- What was looked up after a change was there before it.
-there-before : {A : Type 0} (f : A → A) (x : Option A) (y : A) → option_map f x ≡ Some y → (z : A) × (x ≡ Some z) × (y ≡ f z)
-there-before f None y h = (let e : ⊥ = cc in absurd e)
-there-before f (Some z) y h = (z, refl, (let e : f z ≡ y = cc in sym e))
 
 module _ (P : ℕ → Type 0) where
   -- A property that another one follows from.
@@ -50,6 +46,7 @@ module _ (P : ℕ → Type 0) where
   taken-one : (L : Ledger) (entry : Queued) → CancelsOf P (entry ∷ []) → TakenOf P L.ops → TakenOf P (take_one L entry).ops
   taken-one L (Req m) of h = taken-changed L.ops m (at_place InFlight) (λ o is. inl is) h
   taken-one L (Cancel m) of h = taken-changed L.ops m with_cancel (λ o is. inr (of m 0 refl)) h
+  taken-one L (Queued.Close k) of h = h
 
   -- The first of some entries, and the rest.
   first-of : (entry : Queued) (entries : List Queued) → CancelsOf P (entry ∷ entries) → CancelsOf P (entry ∷ [])
@@ -88,6 +85,21 @@ module _ (P : ℕ → Type 0) where
     | inr e ↦ h n place (sym e.1 ∙ there)
   ]
 
+  -- The close of a handle is pushed.
+  pub asked-push_close : (L : Ledger) (k : ℕ) → Asked P L → Asked P (push L (Queued.Close k))
+  asked-push_close L k h =
+      let room = asked-make_room L h in
+      record { waiting = cancels-append (make_room L).queue (Queued.Close k) room.waiting one; taken = room.taken }
+    where
+      one : CancelsOf P (Queued.Close k ∷ [])
+      one n zero there = (let e : ⊥ = cc in absurd e)
+      one n (suc place) there = (let e : ⊥ = cc in absurd e)
+
+  -- Closes are pushed.
+  pub asked-push_closes : (L : Ledger) (handles : List ℕ) → Asked P L → Asked P (push_each L (map Queued.Close handles))
+  asked-push_closes L [] h = h
+  asked-push_closes L (k ∷ handles) h = asked-push_closes (push L (Queued.Close k)) handles (asked-push_close L k h)
+
   -- A cancel of an operation with the property joins the queue.
   pub asked-appended : (M : Ledger) (m : ℕ) → P m → Asked P M → Asked P (append M (Cancel m))
   asked-appended M m p h = record { waiting = cancels-append M.queue (Cancel m) h.waiting (one m p); taken = h.taken }
@@ -111,24 +123,33 @@ module _ (P : ℕ → Type 0) where
       one n zero there = (let e : ⊥ = cc in absurd e)
       one n (suc place) there = (let e : ⊥ = cc in absurd e)
 
-  -- A completion reaped.
-  taken-if : (dropped : Bool) (L : Ledger) (m : ℕ) → TakenOf P L.ops → TakenOf P (reap_if dropped L m).ops
-  taken-if true L m h = taken-changed L.ops m (at_place Gone) (λ o is. inl is) h
-  taken-if false L m h = taken-changed L.ops m with_reap (λ o is. inl is) h
+  -- A change of one operation that records no cancel.
+  pub asked-op : (L : Ledger) (n : ℕ) (change : Operation → Operation) → ((o : Operation) → (change o).canceled ≡ o.canceled) →
+      Asked P L → Asked P (with_op L n change)
+  asked-op L n change keeps h =
+      record { waiting = h.waiting; taken = taken-changed L.ops n change (λ o is. inl (sym (keeps o) ∙ is)) h.taken }
 
-  -- The completion of an operation that was looked up leaves whose cancels were taken.
-  taken-op : (L : Ledger) (m : ℕ) (x : Option Operation) → TakenOf P L.ops → TakenOf P (reap_op L m x).ops
-  taken-op L m None h = h
-  taken-op L m (Some o) h = taken-if o.dropped L m h
+  -- An operation that leaves.
+  pub asked-leave : (L : Ledger) (n : ℕ) → Asked P L → Asked P (leave L n)
+  asked-leave L n h =
+      asked-push_closes (with_gone L n) (became_unheld L (with_gone L n)) (asked-op L n (at_place Gone) (λ o. refl) h)
+
+  -- The completion of an operation that was dropped, or wasn't.
+  asked-if : (dropped : Bool) (L : Ledger) (m : ℕ) → Asked P L → Asked P (reap_if dropped L m)
+  asked-if true L m h = asked-leave L m h
+  asked-if false L m h = asked-op L m with_reap (λ o. refl) h
+
+  -- The same of an operation that was looked up.
+  asked-reap_op : (L : Ledger) (m : ℕ) (x : Option Operation) → Asked P L → Asked P (reap_op L m x)
+  asked-reap_op L m None h = h
+  asked-reap_op L m (Some o) h = asked-if o.dropped L m h
 
   -- Completions reaped, in order.
-  taken-reaped : (L : Ledger) (items : List Item) → TakenOf P L.ops → TakenOf P (reap_each L items).ops
-  taken-reaped L [] h = h
-  taken-reaped L (Op m ∷ items) h = taken-reaped (reap_one L (Op m)) items (taken-op L m (slice_get L.ops m) h)
+  asked-each : (L : Ledger) (items : List Item) → Asked P L → Asked P (reap_each L items)
+  asked-each L [] h = h
+  asked-each L (Op m ∷ items) h = asked-each (reap_one L (Op m)) items (asked-reap_op L m (slice_get L.ops m) h)
+  asked-each L (Item.Close k ∷ items) h = asked-each L items h
 
-  -- All that stood reaped.
+  -- All that was done reaped.
   pub asked-reap_all : (L : Ledger) → Asked P L → Asked P (reap_all L).0
-  asked-reap_all L h = record {
-    waiting = subst (CancelsOf P) (sym (same-each (record L { done = [] }) L.done).queue) h.waiting;
-    taken = taken-reaped (record L { done = [] }) L.done h.taken;
-  }
+  asked-reap_all L h = asked-each (record L { done = [] }) L.done (record { waiting = h.waiting; taken = h.taken })

@@ -5,34 +5,34 @@ use Rattle.ring_core.specs.declared.ledger.Event.{Event}
 use Rattle.ring_core.specs.declared.ledger.Event.TheVariants.{Drop}
 use Rattle.ring_core.specs.declared.ledger.Reply.TheVariants.{Dropped}
 use Rattle.ring_core.specs.Ledger.{Ledger, Operation, Place, InQueue, InFlight, InDone, Reaped, Gone, Queued, empty, is_kept}
-use Rattle.ring_core.specs.Queue.{with_op, at_place, make_room, push}
+use Rattle.ring_core.specs.Queue.{with_op, at_place, make_room, push, became_unheld, with_gone, leave}
 use Rattle.ring_core.specs.Step.{with_drop, drop_at}
 use Rattle.ring_core.specs.Run.{replies}
 use Rattle.run_laws.specs.Moments.{IsDropped}
-use Rattle.ring_core.proofs.Amended.{get-amended}
-use Rattle.run_laws.proofs.Taking.{in_queue, in_flight, in_done}
-use Rattle.run_laws.proofs.Listed.{changed-cases, listed-make_room, listed-appended, listed-changed}
-use Rattle.run_laws.proofs.Asked.{taken-changed, asked-make_room, asked-appended}
+use Rattle.ring_core.proofs.Amended.{get-amended, changed-cases}
+use Rattle.ring_core.proofs.Taking.{in_queue, in_flight, in_done, Listed}
+use Rattle.ring_core.proofs.Listed.{listed-changed}
+use Rattle.ring_core.proofs.Ending.{listed-gone}
+use Rattle.run_laws.proofs.Asked.{asked-op, asked-make_room, asked-appended}
 use Rattle.run_laws.proofs.Moments.{Placed, Owned, History, reaped-before}
 use Rattle.run_laws.proofs.History.{given-next, placed-next, history-next}
-use Rattle.run_laws.proofs.Trace.{AskedBefore, Trace, asked-on, history-room}
+use Rattle.run_laws.proofs.Trace.{AskedBefore, Trace, asked-on, history-room, trace-closes}
 
 module _ (capacity : ℕ) (events : List Event) (k : ℕ) where
   -- The cancel of an operation that was asked for is pushed: no history tells it.
-  pub trace-pushed : (M : Ledger) (n : ℕ) → Trace capacity events k M → AskedBefore capacity events k n →
+  pub trace-pushed : (M : Ledger) (n : ℕ) → Listed M → Trace capacity events k M → AskedBefore capacity events k n →
       Trace capacity events k (push M (Queued.Cancel n))
-  trace-pushed M n trace asked =
+  trace-pushed M n lists trace asked =
       let P : ℕ → Type 0 = AskedBefore capacity events k in
       record {
-        lists = listed-appended (make_room M) n (listed-make_room M trace.lists);
-        history = history-room capacity events k M trace;
+        history = history-room capacity events k M lists trace;
         asked = asked-appended P (make_room M) n asked (asked-make_room P M trace.asked);
       }
 
   -- A dropped operation that is reaped leaves.
-  trace-left : (M : Ledger) (n : ℕ) (o : Operation) (outcome : Outcome) → Trace capacity events k M → slice_get M.ops n ≡ Some o →
-      o.place ≡ Reaped outcome → o.dropped ≡ true → Trace capacity events k (with_op M n (at_place Gone))
-  trace-left M n o outcome trace there reaped dropped =
+  trace-left : (M : Ledger) (n : ℕ) (o : Operation) (outcome : Outcome) → Listed M → Trace capacity events k M →
+      slice_get M.ops n ≡ Some o → o.place ≡ Reaped outcome → o.dropped ≡ true → Trace capacity events k (leave M n)
+  trace-left M n o outcome lists trace there reaped dropped =
       let was : History capacity events k n (Some o) = subst (History capacity events k n) there (trace.history n) in
       let gone : History capacity events k n (Some (at_place Gone o)) = record {
         given = was.given;
@@ -41,22 +41,18 @@ module _ (capacity : ℕ) (events : List Event) (k : ℕ) where
             subst (λ d. Owned capacity events k n d false) (sym dropped)
             (subst (λ d. Owned capacity events k n d (is_kept o.place)) dropped was.owned);
       } in
-      record {
-        lists =
-            listed-changed M n (at_place Gone) o trace.lists there
-            (record { queue = sym (ap in_queue reaped); flight = sym (ap in_flight reaped); done = sym (ap in_done reaped) });
+      trace-closes capacity events k (with_gone M n) (became_unheld M (with_gone M n))
+      (listed-gone M n o lists there
+      (record { queue = ap in_queue reaped; flight = ap in_flight reaped; done = ap in_done reaped })) (record {
         history = λ m. elim (changed-cases (at_place Gone) M.ops n m) [
           | inl e ↦ subst (History capacity events k m) (sym (e.1 ∙ ap (option_map (at_place Gone)) there))
               (subst (λ x. History capacity events k x (Some (at_place Gone o))) (sym e.0) gone)
           | inr e ↦ subst (History capacity events k m) (sym e.1) (trace.history m)
         ];
-        asked = record {
-          waiting = trace.asked.waiting;
-          taken = taken-changed (AskedBefore capacity events k) M.ops n (at_place Gone) (λ o is. inl is) trace.asked.taken;
-        };
-      }
+        asked = asked-op (AskedBefore capacity events k) M n (at_place Gone) (λ o. refl) trace.asked;
+      })
 
-module _ (capacity : ℕ) (events : List Event) (k : ℕ) (L : Ledger) (trace : Trace capacity events k L)
+module _ (capacity : ℕ) (events : List Event) (k : ℕ) (L : Ledger) (lists : Listed L) (trace : Trace capacity events k L)
     (n : ℕ) (o : Operation) (here : slice_get events k ≡ Some (Drop n)) (there : slice_get L.ops n ≡ Some o)
     (reply : slice_get (replies (empty capacity) events) k ≡ Some Dropped) where
   -- The event drops n.
@@ -76,9 +72,7 @@ module _ (capacity : ℕ) (events : List Event) (k : ℕ) (L : Ledger) (trace : 
   -- The operation is dropped, and stays at its place.
   trace-marked : Trace capacity events (suc k) (with_op L n with_drop)
   trace-marked =
-      let asked = asked-on capacity events k L trace in
       record {
-        lists = listed-changed L n with_drop o trace.lists there (record { queue = refl; flight = refl; done = refl });
         history = λ m. elim (changed-cases with_drop L.ops n m) [
           | inl e ↦ subst (History capacity events (suc k) m) (sym (e.1 ∙ ap (option_map with_drop) there))
               (subst (λ x. History capacity events (suc k) x (Some (with_drop o))) (sym e.0) history-dropped)
@@ -91,16 +85,17 @@ module _ (capacity : ℕ) (events : List Event) (k : ℕ) (L : Ledger) (trace : 
                 drops_none = λ p q. e.0 (let w : n ≡ m = cc in sym w);
               }) (λ q. cc) (trace.history m))
         ];
-        asked = record {
-          waiting = asked.waiting;
-          taken = taken-changed (AskedBefore capacity events (suc k)) L.ops n with_drop (λ o is. inl is) asked.taken;
-        };
+        asked = asked-op (AskedBefore capacity events (suc k)) L n with_drop (λ o. refl) (asked-on capacity events k L lists trace);
       }
+
+  -- The lists hold what the places say after it was dropped.
+  listed-marked : Listed (with_op L n with_drop)
+  listed-marked = listed-changed L n with_drop o lists there (record { queue = refl; flight = refl; done = refl })
 
   -- Its cancel is pushed.
   trace-cancels : Trace capacity events (suc k) (push (with_op L n with_drop) (Queued.Cancel n))
   trace-cancels =
-      trace-pushed capacity events (suc k) (with_op L n with_drop) n trace-marked
+      trace-pushed capacity events (suc k) (with_op L n with_drop) n listed-marked trace-marked
       (record { ask = k; before = omega arith; asked = inr drops })
 
   -- A Drop, by the place of the operation.
@@ -109,6 +104,6 @@ module _ (capacity : ℕ) (events : List Event) (k : ℕ) (L : Ledger) (trace : 
   trace-dropped InFlight e = trace-cancels
   trace-dropped (InDone outcome) e = trace-cancels
   trace-dropped (Reaped outcome) e =
-      trace-left capacity events (suc k) (with_op L n with_drop) n (with_drop o) outcome trace-marked
+      trace-left capacity events (suc k) (with_op L n with_drop) n (with_drop o) outcome listed-marked trace-marked
       (get-amended with_drop L.ops n ∙ ap (option_map with_drop) there) e refl
   trace-dropped Gone e = trace-cancels

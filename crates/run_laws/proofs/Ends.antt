@@ -7,7 +7,7 @@ use Rattle.rent_buf.specs.Held.{HeldBuf}
 use Rattle.ring_core.specs.declared.request.Told.{Told}
 use Rattle.ring_core.specs.declared.request.Told.TheVariants.{Fail}
 use Rattle.ring_core.specs.declared.ledger.Event.{Event}
-use Rattle.ring_core.specs.declared.ledger.Event.TheVariants.{Give, Feed, End, Look, Submit, Poll, Drop, Cancel, Turn, Exec}
+use Rattle.ring_core.specs.declared.ledger.Event.TheVariants.{Give, Feed, End, Look, Close, Submit, Poll, Drop, Cancel, Turn, Exec}
 use Rattle.ring_core.specs.declared.ledger.Refusal.{Refusal}
 use Rattle.ring_core.specs.declared.ledger.Refusal.TheVariants.{NotFlying, BadOutcome}
 use Rattle.ring_core.specs.declared.ledger.Reply.TheVariants.{Turned}
@@ -15,7 +15,7 @@ use Rattle.ring_core.specs.Lists.{passes}
 use Rattle.ring_core.specs.declared.request.TheConstants.{CANCELED}
 use Rattle.ring_core.specs.Ledger.{Ledger, Operation, Place, InQueue, InFlight, InDone, Reaped, Gone, Item, Op, empty}
 use Rattle.ring_core.specs.Queue.{take_all}
-use Rattle.ring_core.specs.Turn.{ops_in, tasks_woken, exec_step}
+use Rattle.ring_core.specs.Turn.{ops_in, closes_in, tasks_woken, exec_step}
 use Rattle.ring_core.specs.Refusal.{cause, refused_if, allowed}
 use Rattle.ring_core.specs.Step.{step, row, answered, poll_at, poll_step, drop_step}
 use Rattle.ring_core.specs.Run.{replies, ledger_before, IsReaped}
@@ -23,14 +23,15 @@ use Rattle.run_laws.specs.Moments.{NamesReaped}
 use Rattle.run_laws.specs.Headline.{ReapNames, KeptUntilReaped, CanceledWhereAsked}
 use Rattle.ring_core.proofs.Numbers.{below-or-not}
 use Rattle.ring_core.proofs.Taken.{done-take_each}
-use Rattle.run_laws.proofs.Occurring.{same-cases, listed}
-use Rattle.run_laws.proofs.Taking.{in_done, done_mark}
-use Rattle.run_laws.proofs.Listed.{flying-there}
-use Rattle.run_laws.proofs.Replies.{reply-at, reply-event, step-row}
+use Rattle.ring_core.proofs.Occurring.{same-cases, listed}
+use Rattle.ring_core.proofs.Taking.{in_done, done_mark}
+use Rattle.ring_core.proofs.Listed.{flying-there}
+use Rattle.ring_core.proofs.Stepping.{step-row}
+use Rattle.run_laws.proofs.Replies.{reply-at, reply-event}
 use Rattle.run_laws.proofs.Moments.{Placed, History}
 use Rattle.run_laws.proofs.Trace.{Trace}
 use Rattle.run_laws.proofs.Reached.{reached}
-use Rattle.run_laws.proofs.Polls.{traced, executed-once}
+use Rattle.run_laws.proofs.Polls.{traced, lists_before, executed-once}
 
 -- What stands among completions is named at a place.
 listed-named : (n : ℕ) (items : List Item) → 1 ≤ listed n items → (place : ℕ) × (slice_get (ops_in items) place ≡ Some n)
@@ -39,6 +40,7 @@ listed-named n (Op m ∷ items) h = elim (same-cases n m) [
   | inl e ↦ (0, ap Some (sym e.0))
   | inr e ↦ (let r = listed-named n items (let z = e.1 in omega arith) in (suc r.0, r.1))
 ]
+listed-named n (Item.Close k ∷ items) h = listed-named n items h
 
 -- What is named at a place stands among them.
 named-listed : (n : ℕ) (items : List Item) (place : ℕ) → slice_get (ops_in items) place ≡ Some n → 1 ≤ listed n items
@@ -48,6 +50,7 @@ named-listed n (Op m ∷ items) zero h = elim (same-cases n m) [
   | inr e ↦ absurd (e.0 (let q : m ≡ n = cc in sym q))
 ]
 named-listed n (Op m ∷ items) (suc place) h = (let r = named-listed n items place h in omega arith)
+named-listed n (Item.Close k ∷ items) place h = named-listed n items place h
 
 -- A Poll isn't answered as a Turn.
 poll-no-turn : (L : Ledger) (n task : ℕ) (o : Operation) (p : Place) (reaped closed woken : List ℕ) →
@@ -75,6 +78,7 @@ exec-no-turn : (L : Ledger) (place : ℕ) (told : Told) (x : Option Item) (reape
     (exec_step L place told x).1 ≡ Turned reaped closed woken → ⊥
 exec-no-turn L place told None reaped closed woken h = cc
 exec-no-turn L place told (Some (Op n)) reaped closed woken h = cc
+exec-no-turn L place told (Some (Item.Close k)) reaped closed woken h = cc
 
 -- Only a Turn is answered so.
 turn-row : (L : Ledger) (e : Event) (reaped closed woken : List ℕ) → (row L e).1 ≡ Turned reaped closed woken → e ≡ Turn
@@ -82,6 +86,7 @@ turn-row L (Give kind) reaped closed woken h = cc
 turn-row L (Feed x bytes) reaped closed woken h = cc
 turn-row L (End x) reaped closed woken h = cc
 turn-row L (Look x) reaped closed woken h = cc
+turn-row L (Close x) reaped closed woken h = cc
 turn-row L (Submit request) reaped closed woken h = cc
 turn-row L (Poll n task) reaped closed woken h = absurd (poll-step-no-turn L n task (slice_get L.ops n) reaped closed woken h)
 turn-row L (Drop n) reaped closed woken h = absurd (drop-no-turn L n (slice_get L.ops n) reaped closed woken h)
@@ -96,18 +101,21 @@ turn-answered L e None reaped closed woken h = turn-row L e reaped closed woken 
 turn-answered L e (Some refusal) reaped closed woken h = cc
 
 -- Only a turn is answered as a turn.
-turn-step : (L : Ledger) (e : Event) (reaped closed woken : List ℕ) → (step L e).1 ≡ Turned reaped closed woken → e ≡ Turn
+pub turn-step : (L : Ledger) (e : Event) (reaped closed woken : List ℕ) → (step L e).1 ≡ Turned reaped closed woken → e ≡ Turn
 unfolding step
 turn-step L e reaped closed woken h = turn-answered L e (cause L e) reaped closed woken h
 
--- What a Turn names stood among the completions before it.
-turn-names : (L : Ledger) (reaped closed woken : List ℕ) → (step L Turn).1 ≡ Turned reaped closed woken → reaped ≡ ops_in L.done
+-- What a Turn names was among the completions before it: the operations, and the closes.
+pub turn-names : (L : Ledger) (reaped closed woken : List ℕ) → (step L Turn).1 ≡ Turned reaped closed woken →
+    (reaped ≡ ops_in L.done) × (closed ≡ closes_in L.done)
 turn-names L reaped closed woken h =
     let T : Ledger = take_all L in
-    let q : Turned (ops_in T.done) [] (tasks_woken T.ops (ops_in T.done)) ≡ Turned reaped closed woken = sym
+    let q : Turned (ops_in T.done) (closes_in T.done) (tasks_woken T.ops (ops_in T.done)) ≡ Turned reaped closed woken = sym
     (ap (λ s. s.1) (step-row L Turn refl)) ∙ h in
     let e : ops_in T.done ≡ reaped = cc in
-    sym e ∙ ap ops_in (done-take_each (record L { queue = [] }) L.queue)
+    let f : closes_in T.done ≡ closed = cc in
+    let d = done-take_each (record L { queue = [] }) L.queue in
+    (sym e ∙ ap ops_in d, sym f ∙ ap closes_in d)
 
 -- What stands in flight, and isn't refused its outcome, is allowed it.
 allowed-there : (L : Ledger) (told : Told) (b : Bool) (x : Option Item) →
@@ -148,11 +156,12 @@ module _ (capacity : ℕ) (events : List Event) where
       let T : Ledger = take_all L in
       let t : Trace capacity events i L = traced capacity events i Turn x.turn.event in
       let mark : done_mark (slice_get L.ops n) ≡ 1 = done-of_reap n i x (slice_get L.ops n) (t.history n) in
-      let stands : listed n T.done ≡ 1 = ap (listed n) (done-take_each (record L { queue = [] }) L.queue) ∙ t.lists.standing n ∙ mark in
+      let stands : listed n T.done ≡ 1 = ap (listed n) (done-take_each (record L { queue = [] }) L.queue)
+      ∙ (lists_before capacity events i).standing n ∙ mark in
       let p = listed-named n T.done (omega (arith, stands)) in
       record {
         reaped = ops_in T.done;
-        closed = [];
+        closed = closes_in T.done;
         woken = tasks_woken T.ops (ops_in T.done);
         place = p.0;
         reply = reply-at (empty capacity) events i Turn x.turn.event ∙ ap (λ s. Some s.1) (step-row L Turn refl);
@@ -192,9 +201,9 @@ module _ (capacity : ℕ) (events : List Event) where
       let turn : r.0 ≡ Turn = turn-step L r.0 x.reaped x.closed x.woken answer in
       let event : slice_get events i ≡ Some Turn = r.1 ∙ ap Some turn in
       let t : Trace capacity events i L = traced capacity events i Turn event in
-      let names : x.reaped ≡ ops_in L.done = turn-names L x.reaped x.closed x.woken (sym (ap (λ e. (step L e).1) turn) ∙ answer) in
+      let names : x.reaped ≡ ops_in L.done = (turn-names L x.reaped x.closed x.woken (sym (ap (λ e. (step L e).1) turn) ∙ answer)).0 in
       let stands : 1 ≤ listed n L.done = named-listed n L.done x.place (sym (ap (λ ns. slice_get ns x.place) names) ∙ x.named) in
-      reap-of_done n i event (slice_get L.ops n) (let s = t.lists.standing n in omega arith) (t.history n)
+      reap-of_done n i event (slice_get L.ops n) (let s = (lists_before capacity events i).standing n in omega arith) (t.history n)
 
   -- A Turn names exactly the operations that it reaps.
   pub reap-names : ReapNames capacity events (replies (empty capacity) events)
@@ -213,7 +222,8 @@ module _ (capacity : ℕ) (events : List Event) where
       let L : Ledger = ledger_before capacity events i in
       let told : Told = Fail CANCELED in
       let t : Trace capacity events i L = traced capacity events i (Exec x.place told) x.event in
-      let f : (o : Operation) × (slice_get L.ops n ≡ Some o) × (o.place ≡ InFlight) = flying-there L x.place n t.lists x.item in
+      let f : (o : Operation) × (slice_get L.ops n ≡ Some o) × (o.place ≡ InFlight) =
+      flying-there L x.place n (lists_before capacity events i) x.item in
       let allows : allowed L (Op n) told ≡ true = sym (ap (passes (λ item. allowed L item told)) x.item)
       ∙ allowed-there L told (nat_le (length L.flying) x.place) (slice_get L.flying x.place) x.unrefused in
       let canceled : f.0.canceled ≡ true = sym (ap (passes (λ o. o.canceled)) f.1) ∙ allows in

@@ -14,8 +14,8 @@ use Rattle.ring_core.specs.Ledger.{Operation, Place, InQueue, InFlight, InDone, 
 use Rattle.ring_core.specs.Run.{replies, IsGiven}
 use Rattle.run_laws.specs.Moments.{IsReapedBefore, IsHandedBefore, IsDroppedBefore}
 use Rattle.ring_core.proofs.Numbers.{same-or-not, below-or-not}
-use Rattle.run_laws.proofs.Taking.{taken_place, with_take, Took}
-use Rattle.run_laws.proofs.Reaping.{place_after, ended_place, with_end}
+use Rattle.ring_core.proofs.Taking.{taken_place, with_take, Took}
+use Rattle.ring_core.proofs.Reaping.{place_after, ended_place, with_end}
 use Rattle.run_laws.proofs.Replies.{executed-reply}
 use Rattle.run_laws.proofs.Moments.{NotBefore, Executes, Hands, Drops, Given, Stands, WasReaped, reaped-before, Placed, Owned, Unknown}
 use Rattle.run_laws.proofs.Moments.{History, IsCalm}

@@ -10,6 +10,8 @@ pub use Rattle.run_laws.proofs.Numbers.{given-in-order}
 pub use Rattle.run_laws.proofs.Polls.{pending-until-reaped, reaped-or-not, hands-back-own, given-once, executed-once, reaped-once, one-own}
 pub use Rattle.run_laws.proofs.Once.{handed-once, dropped-once, refused-where-gone, first-poll-hands}
 pub use Rattle.run_laws.proofs.Ends.{reap-names, kept-until-reaped, canceled-where-asked}
+pub use Rattle.run_laws.proofs.Closed.{closed-once, closed-when-released, unheld-closes, closed-only}
+pub use Rattle.run_laws.proofs.Over.{closed-when-over}
 
 -- There are as many replies as events.
 pub one-reply-each : (capacity : ℕ) (events : List Event) → OneReplyEach events (replies (empty capacity) events)

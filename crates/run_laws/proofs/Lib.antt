@@ -1,7 +1,3 @@
-pub mod Occurring
-pub mod Taking
-pub mod Reaping
-pub mod Listed
 pub mod Asked
 pub mod Replies
 pub mod Numbers
@@ -13,4 +9,9 @@ pub mod Reached
 pub mod Polls
 pub mod Once
 pub mod Ends
+pub mod Times
+pub mod Closing
+pub mod Unused
+pub mod Closed
+pub mod Over
 pub mod Laws

@@ -1,23 +1,25 @@
 -- Numbers are given in order.
-use Rattle.std.proofs.Common.{◌≡◌, ℕ, zero, suc, ◌+◌, cond, List, [], ◌∷◌, length, take, count_by, Option, Some, None, slice_get, refl, sym}
+use Rattle.std.proofs.Common.{◌≡◌, ℕ, zero, suc, ◌+◌, cond, Bool, true, false, List, [], ◌∷◌, length, take, count_by, Option, Some, None}
+use Rattle.std.proofs.Common.{slice_get, refl, sym}
 use Rattle.std.proofs.Common.{◌∙◌, ap, arith, length-append}
 use Rattle.std.proofs.lemmas.List.Sums.{sum_by-cons}
 use Rattle.ring_core.specs.declared.request.Told.{Told}
 use Rattle.ring_core.specs.declared.ledger.Event.{Event}
-use Rattle.ring_core.specs.declared.ledger.Event.TheVariants.{Give, Feed, End, Look, Submit, Poll, Drop, Cancel, Turn, Exec}
+use Rattle.ring_core.specs.declared.ledger.Event.TheVariants.{Give, Feed, End, Look, Close, Submit, Poll, Drop, Cancel, Turn, Exec}
 use Rattle.ring_core.specs.declared.ledger.Refusal.{Refusal}
 use Rattle.ring_core.specs.declared.ledger.Reply.{Reply}
 use Rattle.ring_core.specs.declared.ledger.Reply.TheVariants.{Submitted}
 use Rattle.ring_core.specs.Ledger.{Ledger, Operation, Place, InQueue, InFlight, InDone, Reaped, Gone, Item, Op, empty, new_operation}
-use Rattle.ring_core.specs.Queue.{take_all, at_place, with_op}
+use Rattle.ring_core.specs.Queue.{take_all, with_op, is_unheld}
 use Rattle.ring_core.specs.Turn.{exec_op, exec_step, with_result, effect_of, complete_at}
 use Rattle.ring_core.specs.Refusal.{cause}
 use Rattle.ring_core.specs.Step.{step, row, answered, poll_at, poll_step, with_drop, drop_at, drop_step, with_task, with_new_op}
+use Rattle.ring_core.specs.Step.{with_user, close_if}
 use Rattle.ring_core.specs.Run.{after, replies}
 use Rattle.run_laws.specs.Headline.{gives_number, GivenInOrder}
 use Rattle.ring_core.proofs.Amended.{length-amended}
 use Rattle.ring_core.proofs.Taken.{length-take_each, length-make_room}
-use Rattle.run_laws.proofs.Reaping.{length-reap_all}
+use Rattle.ring_core.proofs.Staying.{stays-length, stays-leave, stays-reap_each}
 use Rattle.run_laws.proofs.Replies.{reply-at, reply-event}
 
 -- The operations of a next ledger: one more exactly where the reply gives a number, and that is their count before.
@@ -30,7 +32,7 @@ numbers-op : (L : Ledger) (n task : ℕ) (o : Operation) (p : Place) → Numbers
 numbers-op L n task o InQueue = record { count = length-amended (with_task task) L.ops n ∙ omega arith; number = λ m q. cc }
 numbers-op L n task o InFlight = record { count = length-amended (with_task task) L.ops n ∙ omega arith; number = λ m q. cc }
 numbers-op L n task o (InDone outcome) = record { count = length-amended (with_task task) L.ops n ∙ omega arith; number = λ m q. cc }
-numbers-op L n task o (Reaped outcome) = record { count = length-amended (at_place Gone) L.ops n ∙ omega arith; number = λ m q. cc }
+numbers-op L n task o (Reaped outcome) = record { count = stays-length (stays-leave L n) ∙ omega arith; number = λ m q. cc }
 numbers-op L n task o Gone = record { count = length-amended (with_task task) L.ops n ∙ omega arith; number = λ m q. cc }
 
 -- A poll gives no number.
@@ -43,7 +45,7 @@ length-drop_at : (L : Ledger) (n : ℕ) (p : Place) → length (drop_at L n p).o
 length-drop_at L n InQueue = length-make_room L
 length-drop_at L n InFlight = length-make_room L
 length-drop_at L n (InDone outcome) = length-make_room L
-length-drop_at L n (Reaped outcome) = length-amended (at_place Gone) L.ops n
+length-drop_at L n (Reaped outcome) = stays-length (stays-leave L n)
 length-drop_at L n Gone = length-make_room L
 
 -- A drop gives no number.
@@ -65,6 +67,12 @@ numbers-exec : (L : Ledger) (place : ℕ) (told : Told) (x : Option Item) → Nu
 numbers-exec L place told None = record { count = omega arith; number = λ m q. cc }
 numbers-exec L place told (Some (Op n)) =
     record { count = length-exec_op (complete_at L place (Op n)) n told (slice_get L.ops n) ∙ omega arith; number = λ m q. cc }
+numbers-exec L place told (Some (Item.Close k)) = record { count = omega arith; number = λ m q. cc }
+
+-- A close that is pushed, or isn't, keeps the count.
+length-closed : (b : Bool) (L : Ledger) (h : ℕ) → length (close_if b L h).ops ≡ length L.ops
+length-closed true L h = length-make_room L
+length-closed false L h = refl
 
 -- Each row keeps the count, and a Submit gives it.
 numbers-row : (L : Ledger) (e : Event) → Numbers L (row L e)
@@ -72,6 +80,9 @@ numbers-row L (Give kind) = record { count = omega arith; number = λ m q. cc }
 numbers-row L (Feed h bytes) = record { count = omega arith; number = λ m q. cc }
 numbers-row L (End h) = record { count = omega arith; number = λ m q. cc }
 numbers-row L (Look h) = record { count = omega arith; number = λ m q. cc }
+numbers-row L (Close h) =
+    let U : Ledger = with_user L h false in
+    record { count = length-closed (is_unheld U h) U h ∙ omega arith; number = λ m q. cc }
 numbers-row L (Submit request) = record {
   count = length-make_room (with_new_op L (new_operation request)) ∙ length-append L.ops (new_operation request ∷ []) ∙ omega arith;
   number = λ m q. cc;
@@ -80,7 +91,11 @@ numbers-row L (Poll n task) = numbers-poll L n task (slice_get L.ops n)
 numbers-row L (Drop n) = numbers-drop L n (slice_get L.ops n)
 numbers-row L (Cancel n) = record { count = length-make_room L ∙ omega arith; number = λ m q. cc }
 numbers-row L Turn =
-    record { count = length-reap_all (take_all L) ∙ length-take_each (record L { queue = [] }) L.queue ∙ omega arith; number = λ m q. cc }
+    record {
+      count = stays-length (stays-reap_each (record (take_all L) { done = [] }) (take_all L).done)
+          ∙ length-take_each (record L { queue = [] }) L.queue ∙ omega arith;
+      number = λ m q. cc;
+    }
 numbers-row L (Exec place told) = numbers-exec L place told (slice_get L.flying place)
 
 -- Numbers are given in order by an event with whatever cause.

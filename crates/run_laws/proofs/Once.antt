@@ -3,7 +3,7 @@ use Rattle.std.proofs.Common.{◌≡◌, ◌⊎◌, inl, inr, ℕ, ◌<◌, ◌�
 use Rattle.std.proofs.Common.{◌∙◌, ap, subst, arith}
 use Rattle.ring_core.specs.declared.request.Told.{Told}
 use Rattle.ring_core.specs.declared.ledger.Event.{Event}
-use Rattle.ring_core.specs.declared.ledger.Event.TheVariants.{Give, Feed, End, Look, Submit, Poll, Drop, Cancel, Turn, Exec}
+use Rattle.ring_core.specs.declared.ledger.Event.TheVariants.{Give, Feed, End, Look, Close, Submit, Poll, Drop, Cancel, Turn, Exec}
 use Rattle.ring_core.specs.declared.ledger.Refusal.{Refusal}
 use Rattle.ring_core.specs.declared.ledger.Refusal.TheVariants.{NoOp}
 use Rattle.ring_core.specs.declared.ledger.Reply.TheVariants.{Refused}
@@ -13,11 +13,12 @@ use Rattle.ring_core.specs.Refusal.{cause, lacks_op, refused_if}
 use Rattle.ring_core.specs.Run.{replies, ledger_before, IsExecuted}
 use Rattle.run_laws.specs.Moments.{operation_of, IsAbout, IsReapedBefore, IsGivenBefore, IsHandedBefore, IsDroppedBefore}
 use Rattle.run_laws.specs.Headline.{HandedOnce, DroppedOnce, RefusedWhereGone, FirstPollHands}
-use Rattle.run_laws.proofs.Listed.{flying-there}
-use Rattle.run_laws.proofs.Replies.{reply-at, step-refused, step-caused}
+use Rattle.ring_core.proofs.Listed.{flying-there}
+use Rattle.ring_core.proofs.Stepping.{step-refused}
+use Rattle.run_laws.proofs.Replies.{reply-at, step-caused}
 use Rattle.run_laws.proofs.Moments.{NotBefore, Given, Hands, Drops, Owned, History}
 use Rattle.run_laws.proofs.Trace.{Trace}
-use Rattle.run_laws.proofs.Polls.{traced, answer, reaped-once}
+use Rattle.run_laws.proofs.Polls.{traced, lists_before, answer, reaped-once}
 
 -- An event about an operation is refused where that isn't its user's, and by no other test.
 cause-about : (L : Ledger) (e : Event) (n : ℕ) → operation_of e ≡ Some n → cause L e ≡ refused_if (lacks_op L n) NoOp None
@@ -25,6 +26,7 @@ cause-about L (Give kind) n h = (let f : ⊥ = cc in absurd f)
 cause-about L (Feed x bytes) n h = (let f : ⊥ = cc in absurd f)
 cause-about L (End x) n h = (let f : ⊥ = cc in absurd f)
 cause-about L (Look x) n h = (let f : ⊥ = cc in absurd f)
+cause-about L (Close x) n h = (let f : ⊥ = cc in absurd f)
 cause-about L (Submit request) n h = (let f : ⊥ = cc in absurd f)
 cause-about L (Poll m task) n h = ap (λ k. refused_if (lacks_op L k) NoOp None) (let e : m ≡ n = cc in e)
 cause-about L (Drop m) n h = ap (λ k. refused_if (lacks_op L k) NoOp None) (let e : m ≡ n = cc in e)
@@ -134,7 +136,8 @@ module _ (capacity : ℕ) (events : List Event) where
   executed-given n i j told lt x =
       let L : Ledger = ledger_before capacity events i in
       let t : Trace capacity events i L = traced capacity events i (Exec x.place told) x.event in
-      let f : (o : Operation) × (slice_get L.ops n ≡ Some o) × (o.place ≡ InFlight) = flying-there L x.place n t.lists x.item in
+      let f : (o : Operation) × (slice_get L.ops n ≡ Some o) × (o.place ≡ InFlight) =
+      flying-there L x.place n (lists_before capacity events i) x.item in
       let h : History capacity events i n (Some f.0) = subst (History capacity events i n) f.1 (t.history n) in
       given-before n i j f.0 (omega arith) h.given
 

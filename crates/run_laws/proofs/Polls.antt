@@ -1,5 +1,5 @@
 -- The moments of an operation, each at most once, and what a Poll is answered, from the trace of the ledger before each event.
-use Rattle.std.proofs.Common.{◌≡◌, ◌⊎◌, inl, inr, ℕ, ◌<◌, ◌≤◌, true, List, length, Some, None, slice_get, sym, ◌∙◌, ap, subst, arith}
+use Rattle.std.proofs.Common.{◌≡◌, ◌⊎◌, inl, inr, ℕ, ◌<◌, ◌≤◌, true, List, length, take, Some, None, slice_get, sym, ◌∙◌, ap, subst, arith}
 use Rattle.std.proofs.lemmas.Option.{slice_get_within, slice_get_past}
 use Rattle.ring_core.specs.declared.ledger.Event.{Event}
 use Rattle.ring_core.specs.declared.ledger.Event.TheVariants.{Submit, Poll, Exec}
@@ -11,9 +11,12 @@ use Rattle.ring_core.specs.Step.{poll_at, poll_step}
 use Rattle.ring_core.specs.Run.{replies, ledger_before, IsGiven, IsReaped}
 use Rattle.run_laws.specs.Moments.{IsPolled, IsReapedBefore, HandsOwn}
 use Rattle.run_laws.specs.Headline.{PendingUntilReaped, ReapedOrNot, HandsBackOwn, GivenOnce, ExecutedOnce, ReapedOnce, OneOwn}
-use Rattle.run_laws.proofs.Listed.{flying-there}
+use Rattle.ring_core.proofs.Listed.{flying-there}
 use Rattle.ring_core.proofs.Numbers.{same-or-not, below-or-above}
-use Rattle.run_laws.proofs.Replies.{reply-at, step-row, OwnedAt, found}
+use Rattle.ring_core.proofs.Taking.{Listed}
+use Rattle.ring_core.proofs.Stepping.{step-row, OwnedAt, found}
+use Rattle.ring_core.proofs.Lawful.{lawful-ledger}
+use Rattle.run_laws.proofs.Replies.{reply-at}
 use Rattle.run_laws.proofs.Moments.{NotBefore, Executes, Placed, History, reaped-before}
 use Rattle.run_laws.proofs.Trace.{Trace}
 use Rattle.run_laws.proofs.Reached.{reached}
@@ -31,12 +34,17 @@ module _ (capacity : ℕ) (events : List Event) where
   pub traced : (i : ℕ) (e : Event) → slice_get events i ≡ Some e → Trace capacity events i (ledger_before capacity events i)
   traced i e h = reached capacity events i (let l = slice_get_within events i e h in omega arith)
 
+  -- Its lists hold what its places say.
+  pub lists_before : (i : ℕ) → Listed (ledger_before capacity events i)
+  lists_before i = (lawful-ledger capacity (take i events)).lists
+
   -- What was executed isn't in flight again.
   executed-late : (n i j : ℕ) → i < j → Executes capacity events n i → Executes capacity events n j → ⊥
   executed-late n i j lt x y =
       let L : Ledger = ledger_before capacity events j in
       let t : Trace capacity events j L = traced j (Exec y.1.place y.0) y.1.event in
-      let f : (o : Operation) × (slice_get L.ops n ≡ Some o) × (o.place ≡ InFlight) = flying-there L y.1.place n t.lists y.1.item in
+      let f : (o : Operation) × (slice_get L.ops n ≡ Some o) × (o.place ≡ InFlight) =
+      flying-there L y.1.place n (lists_before j) y.1.item in
       let h : History capacity events j n (Some f.0) = subst (History capacity events j n) f.1 (t.history n) in
       let p : Placed capacity events j n f.0.buffer InFlight = subst (Placed capacity events j n f.0.buffer) f.2 h.placed in
       p i lt x

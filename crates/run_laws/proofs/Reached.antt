@@ -1,37 +1,81 @@
 -- Each ledger of a run has its trace.
-use Rattle.std.proofs.Common.{◌≡◌, ℕ, zero, suc, ◌≤◌, inl, inr, List, length, Option, Some, None, slice_get, refl, sym, ◌∙◌, ap, subst}
+use Rattle.std.proofs.Common.{◌≡◌, ℕ, zero, suc, ◌≤◌, inl, inr, Bool, true, false, List, [], ◌∷◌, length, take, Option, Some, None}
+use Rattle.std.proofs.Common.{slice_get, refl, sym, ◌∙◌, ap, subst}
 use Rattle.std.proofs.Common.{arith}
 use Rattle.std.proofs.lemmas.Option.{slice_get_cases}
 use Rattle.ring_core.specs.declared.request.Told.{Told}
 use Rattle.ring_core.specs.declared.ledger.Event.{Event}
-use Rattle.ring_core.specs.declared.ledger.Event.TheVariants.{Give, Feed, End, Look, Submit, Poll, Drop, Cancel, Turn, Exec}
+use Rattle.ring_core.specs.declared.ledger.Event.TheVariants.{Give, Feed, End, Look, Close, Submit, Poll, Drop, Cancel, Turn, Exec}
 use Rattle.ring_core.specs.declared.ledger.Refusal.{Refusal}
-use Rattle.ring_core.specs.declared.ledger.Reply.TheVariants.{Dropped, Asked, Refused}
-use Rattle.ring_core.specs.Ledger.{Ledger, Operation, InFlight, Op, empty}
-use Rattle.ring_core.specs.Queue.{with_op}
+use Rattle.ring_core.specs.declared.ledger.Reply.TheVariants.{Released, Dropped, Asked, ExecutedClose, Refused}
+use Rattle.ring_core.specs.Ledger.{Ledger, Operation, InFlight, Item, Op, empty}
+use Rattle.ring_core.specs.Queue.{with_op, is_unheld}
 use Rattle.ring_core.specs.Turn.{effect_of, complete_at, exec_op, exec_step}
 use Rattle.ring_core.specs.Refusal.{cause}
-use Rattle.ring_core.specs.Step.{step, row, poll_at, poll_step, with_drop, drop_at, drop_step}
+use Rattle.ring_core.specs.Step.{step, row, poll_at, poll_step, with_drop, drop_at, drop_step, with_user, close_if}
 use Rattle.ring_core.specs.Run.{replies, ledger_before, IsExecuted}
-use Rattle.run_laws.proofs.Listed.{flying-there}
-use Rattle.run_laws.proofs.Replies.{reply-at, after-next, step-refused, step-row, OwnedAt, found, dropped-row, executed-there}
-use Rattle.run_laws.proofs.Trace.{Trace, trace-world, trace-turn, trace-submit, trace-polled, trace-executed}
+use Rattle.ring_core.proofs.Listed.{flying-there}
+use Rattle.ring_core.proofs.Taking.{Listed}
+use Rattle.ring_core.proofs.Stepping.{step-refused, step-row, OwnedAt, found, executed-there}
+use Rattle.ring_core.proofs.Lawful.{lawful-ledger}
+use Rattle.run_laws.proofs.Replies.{reply-at, after-next, dropped-row}
+use Rattle.run_laws.proofs.Trace.{Trace, trace-closes, trace-world, trace-turn, trace-submit, trace-polled, trace-executed}
 use Rattle.run_laws.proofs.Dropped.{trace-pushed, trace-dropped}
 
 -- The row of an event passes the trace on.
 module _ (capacity : ℕ) (events : List Event) (k : ℕ) (trace : Trace capacity events k (ledger_before capacity events k)) where
-  -- An Exec moves the operation from flight to done, with its outcome.
+  -- The lists of the ledger hold what its places say.
+  lists : Listed (ledger_before capacity events k)
+  lists = (lawful-ledger capacity (take k events)).lists
+
+  -- An Exec moves what is in flight to what is done: an operation with its outcome, or the close of a handle.
+  item-next : (place : ℕ) (told : Told) (item : Item) → slice_get events k ≡ Some (Exec place told) →
+      cause (ledger_before capacity events k) (Exec place told) ≡ None →
+      slice_get (ledger_before capacity events k).flying place ≡ Some item →
+      slice_get (replies (empty capacity) events) k ≡ Some (exec_step (ledger_before capacity events k) place told (Some item)).1 →
+      Trace capacity events (suc k) (exec_step (ledger_before capacity events k) place told (Some item)).0
+  item-next place told (Op m) here unrefused item reply =
+      let L : Ledger = ledger_before capacity events k in
+      let f : (o : Operation) × (slice_get L.ops m ≡ Some o) × (o.place ≡ InFlight) = flying-there L place m lists item in
+      let executed : IsExecuted capacity events m k told = record { place = place; event = here; unrefused = unrefused; item = item } in
+      subst (λ x. Trace capacity events (suc k) (exec_op (complete_at L place (Op m)) m told x)) (sym f.1)
+      (trace-executed capacity events k L lists trace place m told f.0 (effect_of L f.0.request told) executed item f.1 f.2 refl here)
+  item-next place told (Item.Close h) here unrefused item reply =
+      let L : Ledger = ledger_before capacity events k in
+      let same : Trace capacity events (suc k) L =
+      trace-world capacity events k L lists trace (Exec place told) (ExecutedClose h) here reply
+      (λ m. record { gives_none = λ q. cc; executes_none = λ q. cc; hands_none = λ t outcome buffer p q. cc; drops_none = λ p q. cc })
+      (λ q. cc) L.world L.owners in
+      record { history = same.history; asked = record { waiting = same.asked.waiting; taken = same.asked.taken } }
+
+  -- An Exec.
   exec-next : (place : ℕ) (told : Told) → slice_get events k ≡ Some (Exec place told) →
       cause (ledger_before capacity events k) (Exec place told) ≡ None →
+      slice_get (replies (empty capacity) events) k ≡ Some (row (ledger_before capacity events k) (Exec place told)).1 →
       Trace capacity events (suc k) (row (ledger_before capacity events k) (Exec place told)).0
-  exec-next place told here unrefused =
+  exec-next place told here unrefused reply =
       let L : Ledger = ledger_before capacity events k in
-      let i : (m : ℕ) × (slice_get L.flying place ≡ Some (Op m)) = executed-there L place told unrefused in
-      let f : (o : Operation) × (slice_get L.ops i.0 ≡ Some o) × (o.place ≡ InFlight) = flying-there L place i.0 trace.lists i.1 in
-      let executed : IsExecuted capacity events i.0 k told = record { place = place; event = here; unrefused = unrefused; item = i.1 } in
-      subst (λ s. Trace capacity events (suc k) s.0) (sym (ap (exec_step L place told) i.1))
-      (subst (λ x. Trace capacity events (suc k) (exec_op (complete_at L place (Op i.0)) i.0 told x)) (sym f.1)
-      (trace-executed capacity events k L trace place i.0 told f.0 (effect_of L f.0.request told) executed i.1 f.1 f.2 refl here))
+      let i : (item : Item) × (slice_get L.flying place ≡ Some item) = executed-there L place told unrefused in
+      let e : exec_step L place told (slice_get L.flying place) ≡ exec_step L place told (Some i.0) = ap (exec_step L place told) i.1 in
+      subst (λ s. Trace capacity events (suc k) s.0) (sym e)
+      (item-next place told i.0 here unrefused i.1 (reply ∙ ap (λ s. Some s.1) e))
+
+  -- The close of a handle is pushed, or isn't.
+  trace-close_if : (b : Bool) (M : Ledger) (h : ℕ) → Listed M → Trace capacity events (suc k) M →
+      Trace capacity events (suc k) (close_if b M h)
+  trace-close_if true M h lists trace = trace-closes capacity events (suc k) M (h ∷ []) lists trace
+  trace-close_if false M h lists trace = trace
+
+  -- A Close takes the handle from its user.
+  close-next : (h : ℕ) → slice_get events k ≡ Some (Close h) → slice_get (replies (empty capacity) events) k ≡ Some Released →
+      Trace capacity events (suc k) (row (ledger_before capacity events k) (Close h)).0
+  close-next h here reply =
+      let L : Ledger = ledger_before capacity events k in
+      let U : Ledger = with_user L h false in
+      trace-close_if (is_unheld U h) U h (record { waiting = lists.waiting; flown = lists.flown; standing = lists.standing })
+      (trace-world capacity events k L lists trace (Close h) Released here reply
+      (λ m. record { gives_none = λ q. cc; executes_none = λ q. cc; hands_none = λ t outcome buffer p q. cc; drops_none = λ p q. cc })
+      (λ q. cc) L.world U.owners)
 
   -- A Poll leaves its operation waiting, or hands it over.
   poll-next : (n task : ℕ) → slice_get events k ≡ Some (Poll n task) → cause (ledger_before capacity events k) (Poll n task) ≡ None →
@@ -43,7 +87,7 @@ module _ (capacity : ℕ) (events : List Event) (k : ℕ) (trace : Trace capacit
       let o : Operation = f.operation in
       let e : poll_step L n task (slice_get L.ops n) ≡ poll_at L n task o o.place = ap (poll_step L n task) f.there in
       subst (λ s. Trace capacity events (suc k) s.0) (sym e)
-      (trace-polled capacity events k L trace n task o here f.there o.place refl f.kept f.undropped (reply ∙ ap (λ s. Some s.1) e))
+      (trace-polled capacity events k L lists trace n task o here f.there o.place refl f.kept f.undropped (reply ∙ ap (λ s. Some s.1) e))
 
   -- A Drop takes its operation from its user.
   drop-next : (n : ℕ) → slice_get events k ≡ Some (Drop n) → cause (ledger_before capacity events k) (Drop n) ≡ None →
@@ -55,17 +99,18 @@ module _ (capacity : ℕ) (events : List Event) (k : ℕ) (trace : Trace capacit
       let e : drop_step L n (slice_get L.ops n) ≡ (drop_at (with_op L n with_drop) n f.operation.place, Dropped) = ap
       (drop_step L n) f.there in
       subst (λ s. Trace capacity events (suc k) s.0) (sym e)
-      (trace-dropped capacity events k L trace n f.operation here f.there (reply ∙ ap Some (dropped-row L n f)) f.operation.place refl)
+      (trace-dropped capacity events k L lists trace n f.operation here f.there (reply ∙ ap Some (dropped-row L n f))
+      f.operation.place refl)
 
   -- A Cancel pushes the cancel of its operation.
   cancel-next : (n : ℕ) → slice_get events k ≡ Some (Cancel n) → slice_get (replies (empty capacity) events) k ≡ Some Asked →
       Trace capacity events (suc k) (row (ledger_before capacity events k) (Cancel n)).0
   cancel-next n here reply =
       let L : Ledger = ledger_before capacity events k in
-      let same : Trace capacity events (suc k) L = trace-world capacity events k L trace (Cancel n) Asked here reply
+      let same : Trace capacity events (suc k) L = trace-world capacity events k L lists trace (Cancel n) Asked here reply
       (λ m. record { gives_none = λ q. cc; executes_none = λ q. cc; hands_none = λ t outcome buffer p q. cc; drops_none = λ p q. cc })
-      (λ q. cc) L.world in
-      trace-pushed capacity events (suc k) L n same
+      (λ q. cc) L.world L.owners in
+      trace-pushed capacity events (suc k) L n lists same
       (record { ask = k; before = omega arith; asked = inl (record { event = here; reply = reply }) })
 
   -- Each row.
@@ -73,29 +118,31 @@ module _ (capacity : ℕ) (events : List Event) (k : ℕ) (trace : Trace capacit
       slice_get (replies (empty capacity) events) k ≡ Some (row (ledger_before capacity events k) e).1 →
       Trace capacity events (suc k) (row (ledger_before capacity events k) e).0
   row-next (Give kind) here unrefused reply =
-      trace-world capacity events k (ledger_before capacity events k) trace (Give kind) _ here reply
+      trace-world capacity events k (ledger_before capacity events k) lists trace (Give kind) _ here reply
       (λ n. record { gives_none = λ q. cc; executes_none = λ q. cc; hands_none = λ t outcome buffer p q. cc; drops_none = λ p q. cc })
-      (λ q. cc) _
+      (λ q. cc) _ _
   row-next (Feed h bytes) here unrefused reply =
-      trace-world capacity events k (ledger_before capacity events k) trace (Feed h bytes) _ here reply
+      trace-world capacity events k (ledger_before capacity events k) lists trace (Feed h bytes) _ here reply
       (λ n. record { gives_none = λ q. cc; executes_none = λ q. cc; hands_none = λ t outcome buffer p q. cc; drops_none = λ p q. cc })
-      (λ q. cc) _
+      (λ q. cc) _ _
   row-next (End h) here unrefused reply =
-      trace-world capacity events k (ledger_before capacity events k) trace (End h) _ here reply
+      trace-world capacity events k (ledger_before capacity events k) lists trace (End h) _ here reply
       (λ n. record { gives_none = λ q. cc; executes_none = λ q. cc; hands_none = λ t outcome buffer p q. cc; drops_none = λ p q. cc })
-      (λ q. cc) _
+      (λ q. cc) _ _
   row-next (Look h) here unrefused reply =
-      trace-world capacity events k (ledger_before capacity events k) trace (Look h) _ here reply
+      trace-world capacity events k (ledger_before capacity events k) lists trace (Look h) _ here reply
       (λ n. record { gives_none = λ q. cc; executes_none = λ q. cc; hands_none = λ t outcome buffer p q. cc; drops_none = λ p q. cc })
-      (λ q. cc) _
-  row-next (Submit request) here unrefused reply = trace-submit capacity events k (ledger_before capacity events k) trace request here reply
+      (λ q. cc) _ _
+  row-next (Close h) here unrefused reply = close-next h here reply
+  row-next (Submit request) here unrefused reply =
+      trace-submit capacity events k (ledger_before capacity events k) lists trace request here reply
   row-next (Poll n task) here unrefused reply = poll-next n task here unrefused reply
   row-next (Drop n) here unrefused reply = drop-next n here unrefused reply
   row-next (Cancel n) here unrefused reply = cancel-next n here reply
   row-next Turn here unrefused reply =
-      trace-turn capacity events k (ledger_before capacity events k) trace _ here reply
+      trace-turn capacity events k (ledger_before capacity events k) lists trace _ here reply
       (λ n. record { gives_none = λ q. cc; executes_none = λ q. cc; hands_none = λ t outcome buffer p q. cc; drops_none = λ p q. cc })
-  row-next (Exec place told) here unrefused reply = exec-next place told here unrefused
+  row-next (Exec place told) here unrefused reply = exec-next place told here unrefused reply
 
   -- A refused event is no Turn, since no Turn is refused.
   turn-unrefused : (L : Ledger) (e : Event) (refusal : Refusal) → cause L e ≡ Some refusal → e ≡ Turn → ⊥
@@ -106,9 +153,9 @@ module _ (capacity : ℕ) (events : List Event) (k : ℕ) (trace : Trace capacit
       slice_get (replies (empty capacity) events) k ≡ Some (Refused refusal) → cause (ledger_before capacity events k) e ≡ Some refusal →
       Trace capacity events (suc k) (ledger_before capacity events k)
   trace-refused e refusal here reply h =
-      trace-world capacity events k (ledger_before capacity events k) trace e (Refused refusal) here reply
+      trace-world capacity events k (ledger_before capacity events k) lists trace e (Refused refusal) here reply
       (λ n. record { gives_none = λ q. cc; executes_none = λ q. cc; hands_none = λ t outcome buffer p q. cc; drops_none = λ p q. cc })
-      (turn-unrefused (ledger_before capacity events k) e refusal h) (ledger_before capacity events k).world
+      (turn-unrefused (ledger_before capacity events k) e refusal h) _ _
 
   -- Each event, by its cause.
   cause-next : (e : Event) (c : Option Refusal) → slice_get events k ≡ Some e → cause (ledger_before capacity events k) e ≡ c →
@@ -126,7 +173,6 @@ module _ (capacity : ℕ) (events : List Event) (k : ℕ) (trace : Trace capacit
 -- Before the first event nothing was given.
 trace-start : (capacity : ℕ) (events : List Event) → Trace capacity events 0 (empty capacity)
 trace-start capacity events = record {
-  lists = record { waiting = λ n. refl; flown = λ n. refl; standing = λ n. refl };
   history =
       λ n. record {
         ungiven = λ j lt x. omega (arith, lt);

@@ -1,20 +1,19 @@
 -- The replies of a run, one by one: each is that of the step from the ledger before it.
-use Rattle.std.proofs.Common.{◌≡◌, ℕ, zero, suc, Bool, true, false, not, ◌&&◌, List, [], ◌∷◌, length, take, Option, Some, None, slice_get}
+use Rattle.std.proofs.Common.{◌≡◌, ℕ, zero, suc, List, [], ◌∷◌, length, take, Option, Some, None, slice_get}
 use Rattle.std.proofs.Common.{refl, sym, ◌∙◌, ap}
-use Rattle.std.specs.Prelude.{nat_le}
 use Rattle.ring_core.specs.declared.request.Told.{Told}
 use Rattle.ring_core.specs.declared.ledger.Event.{Event}
-use Rattle.ring_core.specs.declared.ledger.Event.TheVariants.{Give, Feed, End, Look, Submit, Poll, Drop, Cancel, Turn, Exec}
+use Rattle.ring_core.specs.declared.ledger.Event.TheVariants.{Give, Feed, End, Look, Close, Submit, Poll, Drop, Cancel, Turn, Exec}
 use Rattle.ring_core.specs.declared.ledger.Reply.{Reply}
 use Rattle.ring_core.specs.declared.ledger.Reply.TheVariants.{Dropped, ExecutedOp, Refused}
 use Rattle.ring_core.specs.declared.ledger.Refusal.{Refusal}
-use Rattle.ring_core.specs.declared.ledger.Refusal.TheVariants.{NoOp, NotFlying, BadOutcome}
-use Rattle.ring_core.specs.Lists.{passes}
-use Rattle.ring_core.specs.Ledger.{Ledger, Operation, Place, InQueue, InFlight, InDone, Reaped, Gone, Item, Op, empty, is_kept, is_owned}
-use Rattle.ring_core.specs.Refusal.{cause, refused_if, lacks_op, allowed}
+use Rattle.ring_core.specs.Ledger.{Ledger, Operation, Place, InQueue, InFlight, InDone, Reaped, Gone, Item, Op, empty}
+use Rattle.ring_core.specs.Refusal.{cause}
 use Rattle.ring_core.specs.Turn.{exec_step}
 use Rattle.ring_core.specs.Step.{step, row, answered, poll_at, poll_step, drop_step}
 use Rattle.ring_core.specs.Run.{after, replies, ledger_before, IsExecuted}
+pub use Rattle.ring_core.proofs.Stepping.{step-refused, step-row}
+use Rattle.ring_core.proofs.Stepping.{OwnedAt, found, executed-there}
 use Rattle.run_laws.specs.Headline.{RefusedExactly}
 
 -- There is one reply for each event.
@@ -43,57 +42,6 @@ after-next L [] k e h = cc
 after-next L (x ∷ events) zero e h = let q : x ≡ e = cc in ap (λ y. (step L y).0) q
 after-next L (x ∷ events) (suc k) e h = after-next (step L x).0 events k e h
 
--- A refused event changes nothing.
-pub step-refused : (L : Ledger) (e : Event) (refusal : Refusal) → cause L e ≡ Some refusal → step L e ≡ (L, Refused refusal)
-unfolding step
-step-refused L e refusal h = ap (λ c. answered c L e) h
-
--- An event that isn't refused has its row.
-pub step-row : (L : Ledger) (e : Event) → cause L e ≡ None → step L e ≡ row L e
-unfolding step
-step-row L e h = ap (λ c. answered c L e) h
-
--- An operation of a number that is its user's.
-pub record OwnedAt (L : Ledger) (n : ℕ) : Type 0 where
-  pub operation : Operation
-  pub there : slice_get L.ops n ≡ Some operation
-  pub kept : is_kept operation.place ≡ true
-  pub undropped : operation.dropped ≡ false
-
--- A test that refuses nothing passes.
-unrefused : (b : Bool) → refused_if (not b) NoOp None ≡ None → b ≡ true
-unrefused true h = refl
-unrefused false h = (let f : ⊥ = cc in absurd f)
-
--- What is its user's is neither gone nor dropped.
-kept-undropped : (kept dropped : Bool) → (kept && not dropped) ≡ true → (kept ≡ true) × (dropped ≡ false)
-kept-undropped true true h = (let f : ⊥ = cc in absurd f)
-kept-undropped true false h = (refl, refl)
-kept-undropped false dropped h = (let f : ⊥ = cc in absurd f)
-
--- What was looked up and is its user's is there.
-owned-there : (L : Ledger) (n : ℕ) (x : Option Operation) → slice_get L.ops n ≡ x → passes is_owned x ≡ true → OwnedAt L n
-owned-there L n None there h = (let f : ⊥ = cc in absurd f)
-owned-there L n (Some o) there h =
-    let k = kept-undropped (is_kept o.place) o.dropped h in record { operation = o; there = there; kept = k.0; undropped = k.1 }
-
--- An event about an operation that isn't refused as NoOp finds it, and it is its user's.
-pub found : (L : Ledger) (n : ℕ) → refused_if (lacks_op L n) NoOp None ≡ None → OwnedAt L n
-found L n h = owned-there L n (slice_get L.ops n) refl (unrefused (passes is_owned (slice_get L.ops n)) h)
-
--- What has neither cause of an Exec is an item in flight.
-item-there : (L : Ledger) (told : Told) (b : Bool) (x : Option Item) →
-    refused_if b NotFlying (refused_if (not (passes (λ item. allowed L item told) x)) BadOutcome None) ≡ None → (m : ℕ)
-    × (x ≡ Some (Op m))
-item-there L told true x h = (let f : ⊥ = cc in absurd f)
-item-there L told false None h = (let f : ⊥ = cc in absurd f)
-item-there L told false (Some (Op m)) h = (m, refl)
-
--- An Exec that isn't refused finds an operation in flight.
-pub executed-there : (L : Ledger) (place : ℕ) (told : Told) → cause L (Exec place told) ≡ None → (m : ℕ)
-    × (slice_get L.flying place ≡ Some (Op m))
-executed-there L place told h = item-there L told (nat_le (length L.flying) place) (slice_get L.flying place) h
-
 -- The reply to an Exec that isn't refused names the operation.
 pub executed-row : (L : Ledger) (place m : ℕ) (told : Told) → slice_get L.flying place ≡ Some (Op m) →
     (row L (Exec place told)).1 ≡ ExecutedOp m
@@ -120,12 +68,18 @@ place-answers L n task o (InDone outcome) c h = cc
 place-answers L n task o (Reaped outcome) c h = cc
 place-answers L n task o Gone c h = cc
 
+-- An Exec of what is in flight isn't refused.
+item-answers : (L : Ledger) (place : ℕ) (told : Told) (item : Item) (c : Refusal) → (exec_step L place told (Some item)).1 ≡ Refused c → ⊥
+item-answers L place told (Op m) c h = cc
+item-answers L place told (Item.Close k) c h = cc
+
 -- An event that isn't refused isn't answered so.
 row-answers : (L : Ledger) (e : Event) (c : Refusal) → cause L e ≡ None → (row L e).1 ≡ Refused c → ⊥
 row-answers L (Give kind) c h r = cc
 row-answers L (Feed x bytes) c h r = cc
 row-answers L (End x) c h r = cc
 row-answers L (Look x) c h r = cc
+row-answers L (Close x) c h r = cc
 row-answers L (Submit request) c h r = cc
 row-answers L (Poll n task) c h r =
     (let f = found L n h in let a = ap (λ x. (poll_step L n task x).1) f.there in
@@ -133,7 +87,8 @@ row-answers L (Poll n task) c h r =
 row-answers L (Drop n) c h r = (let f = found L n h in let a : (row L (Drop n)).1 ≡ Dropped = dropped-row L n f in cc)
 row-answers L (Cancel n) c h r = cc
 row-answers L Turn c h r = cc
-row-answers L (Exec place told) c h r = (let t = executed-there L place told h in let a = executed-row L place t.0 told t.1 in cc)
+row-answers L (Exec place told) c h r =
+    (let t = executed-there L place told h in item-answers L place told t.0 c (ap (λ x. (exec_step L place told x).1) (sym t.1) ∙ r))
 
 -- What is answered with a refusal has that cause, whatever was looked up.
 by_cause : (L : Ledger) (e : Event) (c : Refusal) (x : Option Refusal) → cause L e ≡ x → (answered x L e).1 ≡ Refused c → cause L e ≡ Some c

@@ -1,5 +1,6 @@
--- Every ledger that events lead to has lists that hold what its places say, a history of each number, and cancels that were asked for.
-use Rattle.std.proofs.Common.{◌≡◌, inl, inr, ℕ, suc, true, false, List, length, Some, option_map, slice_get, refl, sym, ◌∙◌, ap, subst}
+-- Every ledger that events led to has a history of each number, and cancels that were asked for.
+use Rattle.std.proofs.Common.{◌≡◌, inl, inr, ℕ, suc, true, false, List, length, map, Option, Some, option_map, slice_get, refl, sym, ◌∙◌}
+use Rattle.std.proofs.Common.{ap, subst}
 use Rattle.std.proofs.Common.{arith}
 use Rattle.rent_buf.specs.Buffer.{Buffer}
 use Rattle.rent_buf.specs.Parts.{Parts}
@@ -12,18 +13,22 @@ use Rattle.ring_core.specs.declared.ledger.Event.TheVariants.{Submit, Poll, Turn
 use Rattle.ring_core.specs.declared.ledger.Reply.{Reply}
 use Rattle.ring_core.specs.declared.ledger.Reply.TheVariants.{Submitted, Pending, Handed, ExecutedOp}
 use Rattle.ring_core.specs.Effect.{Effect}
-use Rattle.ring_core.specs.Ledger.{Ledger, Operation, Place, InQueue, InFlight, InDone, Reaped, Gone, Op, empty, new_operation, is_kept}
-use Rattle.ring_core.specs.Queue.{with_op, at_place, take_all, make_room}
+use Rattle.ring_core.specs.Ledger.{Ledger, Operation, Owner, Place, InQueue, InFlight, InDone, Reaped, Gone, Queued, Op, empty}
+use Rattle.ring_core.specs.Ledger.{new_operation}
+use Rattle.ring_core.specs.Ledger.{is_kept}
+use Rattle.ring_core.specs.Queue.{with_op, at_place, take_all, make_room, push_each, became_unheld, with_gone, leave}
 use Rattle.ring_core.specs.Turn.{turn_step, effect_of, with_result, with_effect, complete_at}
 use Rattle.ring_core.specs.Step.{submit_step, with_task, poll_at}
 use Rattle.ring_core.specs.Run.{replies, ledger_before, IsExecuted}
 use Rattle.ring_core.proofs.Taken.{length-make_room}
 use Rattle.run_laws.specs.Moments.{IsHanded, IsCanceledBefore}
-use Rattle.run_laws.proofs.Taking.{in_queue, in_flight, in_done, Listed, take_all-ops, listed-take_all}
-use Rattle.run_laws.proofs.Reaping.{reap_all-ops, listed-reap_all}
-use Rattle.run_laws.proofs.Listed.{changed-cases, joined-cases, joined, submit-joined, make_room-ops, listed-make_room, listed-joined}
-use Rattle.run_laws.proofs.Listed.{listed-changed, listed-executed}
-use Rattle.run_laws.proofs.Asked.{Asked, asked-more, taken-changed, asked-take_all, asked-make_room, asked-joined, asked-reap_all}
+use Rattle.ring_core.proofs.Amended.{changed-cases, joined-cases}
+use Rattle.ring_core.proofs.Taking.{in_queue, in_flight, in_done, Listed, take_all-ops, listed-take_all}
+use Rattle.ring_core.proofs.Reaping.{reap_all-ops, closed-take_all}
+use Rattle.ring_core.proofs.Listed.{joined, submit-joined, MayTake, make_room-ops, push_closes-ops}
+use Rattle.ring_core.proofs.Ending.{listed-gone}
+use Rattle.run_laws.proofs.Asked.{Asked, asked-more, asked-op, asked-push_closes, asked-take_all, asked-make_room, asked-joined}
+use Rattle.run_laws.proofs.Asked.{asked-reap_all}
 use Rattle.run_laws.proofs.Replies.{executed-reply}
 use Rattle.run_laws.proofs.Moments.{Executes, Hands, Drops, Given, Placed, Owned, Unknown, History, IsCalm, reaped-before}
 use Rattle.run_laws.proofs.History.{not-before-next, given-next, owned-next, was_reaped-next, history-next, history-reaped, history-taken}
@@ -32,9 +37,8 @@ use Rattle.run_laws.proofs.History.{not-before-next, given-next, owned-next, was
 abbrev pub AskedBefore : ℕ → List Event → ℕ → ℕ → Type 0
 AskedBefore capacity events k n = IsCanceledBefore events (replies (empty capacity) events) n k
 
--- Before the event at k, the ledger's lists hold what its places say, each number has its history, and each cancel was asked for.
+-- Before the event at k, each number has its history, and each cancel was asked for.
 pub record Trace (capacity : ℕ) (events : List Event) (k : ℕ) (L : Ledger) : Type 0 where
-  pub lists : Listed L
   pub history : (n : ℕ) → History capacity events k n (slice_get L.ops n)
   pub asked : Asked (AskedBefore capacity events k) L
 
@@ -42,16 +46,31 @@ pub record Trace (capacity : ℕ) (events : List Event) (k : ℕ) (L : Ledger) :
 pub asked-next : (capacity : ℕ) (events : List Event) (k n : ℕ) → AskedBefore capacity events k n → AskedBefore capacity events (suc k) n
 asked-next capacity events k n h = record { ask = h.ask; before = (let b = h.before in omega arith); asked = h.asked }
 
-module _ (capacity : ℕ) (events : List Event) (k : ℕ) (L : Ledger) (trace : Trace capacity events k L) where
+-- Taking is no event of a history.
+history-may_take : (capacity : ℕ) (events : List Event) (k n : ℕ) (x y : Option Operation) → MayTake x y → History capacity events k n x →
+    History capacity events k n y
+history-may_take capacity events k n x y (inl e) h = subst (History capacity events k n) (sym e) h
+history-may_take capacity events k n x y (inr took) h = history-taken capacity events k n x y took h
+
+-- Nor is the push of closes.
+pub trace-closes : (capacity : ℕ) (events : List Event) (k : ℕ) (M : Ledger) (handles : List ℕ) → Listed M → Trace capacity events k M →
+    Trace capacity events k (push_each M (map Queued.Close handles))
+trace-closes capacity events k M handles lists trace = record {
+  history = λ n. history-may_take capacity events k n (slice_get M.ops n) (slice_get (push_each M (map Queued.Close handles)).ops n)
+      (push_closes-ops M handles lists n) (trace.history n);
+  asked = asked-push_closes (AskedBefore capacity events k) M handles trace.asked;
+}
+
+module _ (capacity : ℕ) (events : List Event) (k : ℕ) (L : Ledger) (lists : Listed L) (trace : Trace capacity events k L) where
   -- One event more asks for no less.
   pub asked-on : Asked (AskedBefore capacity events (suc k)) L
   asked-on = asked-more (AskedBefore capacity events k) (AskedBefore capacity events (suc k)) L (asked-next capacity events k) trace.asked
 
   -- An event that changes handles alone, or nothing.
   pub trace-world : (e : Event) (r : Reply) → slice_get events k ≡ Some e → slice_get (replies (empty capacity) events) k ≡ Some r →
-      ((n : ℕ) → IsCalm e r n) → (e ≡ Turn → ⊥) → (world : List HandleState) → Trace capacity events (suc k) (record L { world = world })
-  trace-world e r here reply calm turns world = record {
-    lists = record { waiting = trace.lists.waiting; flown = trace.lists.flown; standing = trace.lists.standing };
+      ((n : ℕ) → IsCalm e r n) → (e ≡ Turn → ⊥) → (world : List HandleState) (owners : List Owner) →
+      Trace capacity events (suc k) (record L { world = world; owners = owners })
+  trace-world e r here reply calm turns world owners = record {
     history = λ n. history-next capacity events k e r here reply n (slice_get L.ops n) (calm n) turns (trace.history n);
     asked = record { waiting = asked-on.waiting; taken = asked-on.taken };
   }
@@ -62,21 +81,17 @@ module _ (capacity : ℕ) (events : List Event) (k : ℕ) (L : Ledger) (trace : 
   trace-turn r here reply calm =
       let T : Ledger = take_all L in
       let P : ℕ → Type 0 = AskedBefore capacity events (suc k) in
-      let lists : Listed T = listed-take_all L trace.lists in
       record {
-        lists = listed-reap_all T lists;
-        history = λ n. subst (History capacity events (suc k) n) (sym (reap_all-ops T lists n))
+        history = λ n. subst (History capacity events (suc k) n) (sym (reap_all-ops T (closed-take_all L) (listed-take_all L lists) n))
             (history-reaped capacity events k Turn r here reply n (slice_get T.ops n) (calm n) refl
-            (history-taken capacity events k n (slice_get L.ops n) (slice_get T.ops n) (take_all-ops L trace.lists n) (trace.history n)));
+            (history-taken capacity events k n (slice_get L.ops n) (slice_get T.ops n) (take_all-ops L lists n) (trace.history n)));
         asked = asked-reap_all P T (asked-take_all P L asked-on);
       }
 
   -- Making room is no event of a history.
   pub history-room : (n : ℕ) → History capacity events k n (slice_get (make_room L).ops n)
-  history-room n = elim (make_room-ops L trace.lists n) [
-    | inl e ↦ subst (History capacity events k n) (sym e) (trace.history n)
-    | inr took ↦ history-taken capacity events k n (slice_get L.ops n) (slice_get (make_room L).ops n) took (trace.history n)
-  ]
+  history-room n =
+      history-may_take capacity events k n (slice_get L.ops n) (slice_get (make_room L).ops n) (make_room-ops L lists n) (trace.history n)
 
   module _ (request : Request Buffer Parts) (here : slice_get events k ≡ Some (Submit request))
       (reply : slice_get (replies (empty capacity) events) k ≡ Some (Submitted (length L.ops))) where
@@ -114,19 +129,10 @@ module _ (capacity : ℕ) (events : List Event) (k : ℕ) (L : Ledger) (trace : 
     pub trace-submit : Trace capacity events (suc k) (submit_step L request)
     trace-submit =
         let P : ℕ → Type 0 = AskedBefore capacity events (suc k) in
-        subst (Trace capacity events (suc k)) (sym (submit-joined L request trace.lists)) (record {
-          lists = listed-joined (make_room L) (new_operation request) refl (listed-make_room L trace.lists);
+        subst (Trace capacity events (suc k)) (sym (submit-joined L request lists)) (record {
           history = history-joined;
           asked = asked-joined P (make_room L) (new_operation request) refl (asked-make_room P L asked-on);
         })
-
-  -- A change of one operation that records no cancel.
-  asked-changed : (n : ℕ) (change : Operation → Operation) → ((o : Operation) → (change o).canceled ≡ o.canceled) →
-      Asked (AskedBefore capacity events (suc k)) (with_op L n change)
-  asked-changed n change keeps = record {
-    waiting = asked-on.waiting;
-    taken = taken-changed (AskedBefore capacity events (suc k)) L.ops n change (λ o is. inl (sym (keeps o) ∙ is)) asked-on.taken;
-  }
 
   module _ (n task : ℕ) (o : Operation) (here : slice_get events k ≡ Some (Poll n task)) (there : slice_get L.ops n ≡ Some o) where
     -- The history of the operation that is polled.
@@ -144,7 +150,6 @@ module _ (capacity : ℕ) (events : List Event) (k : ℕ) (L : Ledger) (trace : 
           drops_none = λ p q. cc;
         } in
         record {
-          lists = listed-changed L n (with_task task) o trace.lists there (record { queue = refl; flight = refl; done = refl });
           history = λ m. elim (changed-cases (with_task task) L.ops n m) [
             | inl e ↦ subst (History capacity events (suc k) m) (sym (e.1 ∙ ap (option_map (with_task task)) there))
                 (history-next capacity events k (Poll n task) Pending here reply m (Some o) (calm m) (λ q. cc)
@@ -153,7 +158,7 @@ module _ (capacity : ℕ) (events : List Event) (k : ℕ) (L : Ledger) (trace : 
                 (history-next capacity events k (Poll n task) Pending here reply m (slice_get L.ops m) (calm m) (λ q. cc)
                 (trace.history m))
           ];
-          asked = asked-changed n (with_task task) (λ o. refl);
+          asked = asked-op (AskedBefore capacity events (suc k)) L n (with_task task) (λ o. refl) asked-on;
         }
 
     module _ (outcome : Outcome) (reaped : o.place ≡ Reaped outcome) (undropped : o.dropped ≡ false)
@@ -180,11 +185,8 @@ module _ (capacity : ℕ) (events : List Event) (k : ℕ) (L : Ledger) (trace : 
           }
 
       -- A Poll that hands over.
-      trace-hands : Trace capacity events (suc k) (with_op L n (at_place Gone))
-      trace-hands = record {
-        lists =
-            listed-changed L n (at_place Gone) o trace.lists there
-            (record { queue = sym (ap in_queue reaped); flight = sym (ap in_flight reaped); done = sym (ap in_done reaped) });
+      trace-handed : Trace capacity events (suc k) (with_gone L n)
+      trace-handed = record {
         history = λ m. elim (changed-cases (at_place Gone) L.ops n m) [
           | inl e ↦ subst (History capacity events (suc k) m) (sym (e.1 ∙ ap (option_map (at_place Gone)) there)) (history-handed m e.0)
           | inr e ↦ subst (History capacity events (suc k) m) (sym e.1)
@@ -196,8 +198,15 @@ module _ (capacity : ℕ) (events : List Event) (k : ℕ) (L : Ledger) (trace : 
                 drops_none = λ p q. cc;
               }) (λ q. cc) (trace.history m))
         ];
-        asked = asked-changed n (at_place Gone) (λ o. refl);
+        asked = asked-op (AskedBefore capacity events (suc k)) L n (at_place Gone) (λ o. refl) asked-on;
       }
+
+      -- The handles that it held alone are closed.
+      trace-hands : Trace capacity events (suc k) (leave L n)
+      trace-hands =
+          trace-closes capacity events (suc k) (with_gone L n) (became_unheld L (with_gone L n))
+          (listed-gone L n o lists there
+          (record { queue = ap in_queue reaped; flight = ap in_flight reaped; done = ap in_done reaped })) trace-handed
 
     -- A Poll, by the place of the operation.
     pub trace-polled : (p : Place) → o.place ≡ p → is_kept p ≡ true → o.dropped ≡ false →
@@ -250,9 +259,8 @@ module _ (capacity : ℕ) (events : List Event) (k : ℕ) (L : Ledger) (trace : 
     -- An Exec.
     pub trace-executed : Trace capacity events (suc k) (with_effect (complete_at L place (Op m)) m told result)
     trace-executed =
-        let kept = asked-changed m (with_result told result) (λ o. refl) in
+        let kept = asked-op (AskedBefore capacity events (suc k)) L m (with_result told result) (λ o. refl) asked-on in
         record {
-          lists = listed-executed L place m o (with_result told result) result.outcome trace.lists item there flies refl result.world;
           history = λ n. elim (changed-cases (with_result told result) L.ops m n) [
             | inl e ↦ subst (History capacity events (suc k) n) (sym (e.1 ∙ ap (option_map (with_result told result)) there))
                 (history-done n e.0)

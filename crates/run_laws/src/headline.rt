@@ -6,6 +6,7 @@ ghost use Rattle.ring_core.specs.Run.{replies};
 ghost use Rattle.run_laws.specs.Headline.{OneReplyEach, RefusedExactly, PendingUntilReaped, ReapedOrNot, HandsBackOwn, HandedOnce};
 ghost use Rattle.run_laws.specs.Headline.{DroppedOnce, RefusedWhereGone, FirstPollHands, ReapNames, KeptUntilReaped};
 ghost use Rattle.run_laws.specs.Headline.{CanceledWhereAsked, GivenOnce, ExecutedOnce, ReapedOnce, OneOwn, GivenInOrder};
+ghost use Rattle.run_laws.specs.Closes.{ClosedOnce, ClosedWhenReleased, ClosedWhenOver, UnheldCloses, ClosedOnly};
 
 /// The laws of whole runs of the machine, read from its definitions alone: for every capacity and every list of
 /// events, with numbers of any size. There is one reply for each event, and it is `Refused` exactly when the
@@ -14,8 +15,11 @@ ghost use Rattle.run_laws.specs.Headline.{CanceledWhereAsked, GivenOnce, Execute
 /// operation's own buffer with its own outcome, as the events that gave and executed it tell them. What was handed
 /// over or dropped is there no more. A turn names exactly the operations that it reaps, and until then each is kept,
 /// also a dropped one. The error of a cancel comes only where that operation's own cancel was asked for, or it was
-/// dropped. Each operation is given, executed and reaped at most once, and numbers are given in order from 0. The
-/// body does nothing. (not in monoio)
+/// dropped. Each operation is given, executed and reaped at most once, and numbers are given in order from 0.
+///
+/// The close of a handle is named by at most one turn, and once: only after its user closed it, and after each
+/// operation on it was handed back, or was dropped and reaped. A handle that nobody holds has its close on the way,
+/// or it was named. The body does nothing. (not in monoio)
 pub fn headline()
     ensures one_each { (capacity : ℕ) (events : List Event) → OneReplyEach events (replies (empty capacity) events) }
     ensures refused { (capacity : ℕ) (events : List Event) → RefusedExactly capacity events (replies (empty capacity) events) }
@@ -40,4 +44,11 @@ pub fn headline()
     ensures reaped { (capacity : ℕ) (events : List Event) → ReapedOnce capacity events }
     ensures own { (capacity : ℕ) (events : List Event) → OneOwn capacity events }
     ensures in_order { (capacity : ℕ) (events : List Event) → GivenInOrder (replies (empty capacity) events) }
+
+    // The close of a handle.
+    ensures closed_once { (capacity : ℕ) (events : List Event) → ClosedOnce (replies (empty capacity) events) }
+    ensures closed_released { (capacity : ℕ) (events : List Event) → ClosedWhenReleased events (replies (empty capacity) events) }
+    ensures closed_over { (capacity : ℕ) (events : List Event) → ClosedWhenOver capacity events (replies (empty capacity) events) }
+    ensures closed_unheld { (capacity : ℕ) (events : List Event) → UnheldCloses capacity events (replies (empty capacity) events) }
+    ensures closed_only { (capacity : ℕ) (events : List Event) → ClosedOnly capacity events }
 {}

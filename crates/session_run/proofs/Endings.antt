@@ -1,19 +1,22 @@
 -- What a command has done, by its words and its status.
-use Rattle.std.proofs.Common.{◌≡◌, ◌*◌, inl, inr, Bool, IsTrue, ℕ, List, Option, Some, sym, subst}
+use Rattle.std.proofs.Common.{◌≡◌, ◌*◌, ◌⊎◌, inl, inr, Bool, IsTrue, ℕ, List, Option, Some, sym, subst}
 use Rattle.ring_core.specs.declared.ledger.Event.{Event}
 use Rattle.ring_core.specs.Ledger.{empty}
 use Rattle.ring_core.specs.Run.{replies}
 use Rattle.session_run.specs.declared.command.Command.{Command}
-use Rattle.session_run.specs.declared.command.Command.TheVariants.{Run, Generate, Wake}
+use Rattle.session_run.specs.declared.command.Command.TheVariants.{Run, Generate, Wake, Copy}
 use Rattle.session_run.specs.declared.input.NoEvents.{NoEvents}
 use Rattle.session_run.specs.declared.top.Kept.{Kept}
 use Rattle.session_run.specs.declared.top.Status.{Status}
 use Rattle.session_run.specs.declared.top.Status.TheVariants.{Done, BadWords, BadLine, TooLong, ReadFault, WriteFault, OutOfMemory}
-use Rattle.session_run.specs.Command.{IsRun, IsGenerate, IsWake, ReadsCommand}
+use Rattle.session_run.specs.Command.{IsRun, IsGenerate, IsWake, IsCopy, ReadsCommand}
 use Rattle.session_run.specs.Generated.{generated_events}
-use Rattle.session_run.specs.Top.{SumsFor, WakesFor, WasRead, IsBadLine, all_right, of_replies, of_bad_line, bad_line_text, reply_lines}
-use Rattle.session_run.specs.Ends.{Reading, Writing, RunEnds, RunsEvents, RefusesFor, CommandEnds, WhyNoEvents, WritesLine}
+use Rattle.session_run.specs.Top.{SumsFor, WakesFor, WasRead, IsBadLine, all_right, of_replies, of_bad_line, bad_line_text}
+use Rattle.session_run.specs.Top.{reply_lines}
+use Rattle.session_run.specs.Ends.{Reading, Writing, RunEnds, RunsEvents, RefusesFor, CommandEnds, CopiesFor}
+use Rattle.session_run.specs.Ends.{WhyNoEvents, WritesLine}
 use Rattle.session_run.proofs.Commands.{same-capacity, same-rounds, same-counts, not-both, not-run-generate, not-wake-generate}
+use Rattle.session_run.proofs.Commands.{not-run-copy, not-wake-copy, not-generate-copy, same-prefix}
 use Rattle.session_run.proofs.Reading.{few-read}
 
 -- What running the events of an input has done is what the command has done.
@@ -76,6 +79,8 @@ run-ends ts tk words (Run c) capacity source sink kept status reads run ends =
     subst (λ k. RunEnds ts tk k source sink kept status) (same-capacity words c capacity reads run) ends
 run-ends ts tk words (Generate s r) capacity source sink kept status reads run ends = absurd (not-run-generate words capacity s r run reads)
 run-ends ts tk words (Wake s c) capacity source sink kept status reads run ends = absurd (not-both words capacity s c run reads)
+run-ends ts tk words (Copy c word) capacity source sink kept status reads run ends =
+    absurd (not-run-copy words capacity c reads.prefix run reads.is_copy)
 
 -- The same of `gen`.
 pub sum-ends : (ts tk : Bool) (words : List (List ℕ)) (command : Command) (seed rounds : ℕ) (source : Reading) (sink : Writing)
@@ -87,6 +92,8 @@ sum-ends ts tk words (Generate s r) seed rounds source sink kept status reads ge
     subst (λ k. SumsFor tk (generated_events k rounds) sink.taken sink.now kept status) same.0
     (subst (λ k. SumsFor tk (generated_events s k) sink.taken sink.now kept status) same.1 ends)
 sum-ends ts tk words (Wake s c) seed rounds source sink kept status reads gen ends = absurd (not-wake-generate words s c seed rounds reads gen)
+sum-ends ts tk words (Copy c word) seed rounds source sink kept status reads gen ends =
+    absurd (not-generate-copy words seed rounds c reads.prefix gen reads.is_copy)
 
 -- The same of `wake`.
 pub wake-ends : (ts tk : Bool) (words : List (List ℕ)) (command : Command) (senders count : ℕ) (source : Reading) (sink : Writing)
@@ -97,3 +104,39 @@ wake-ends ts tk words (Generate s r) senders count source sink kept status reads
 wake-ends ts tk words (Wake s c) senders count source sink kept status reads wake ends =
     let same = same-counts words s senders c count reads wake in
     subst (λ k. WakesFor tk (k * count) sink.taken sink.now status) same.0 (subst (λ k. WakesFor tk (s * k) sink.taken sink.now status) same.1 ends)
+wake-ends ts tk words (Copy c word) senders count source sink kept status reads wake ends =
+    absurd (not-wake-copy words senders count c reads.prefix wake reads.is_copy)
+
+-- The same of `copy`.
+pub copy-ends : (ts tk : Bool) (words : List (List ℕ)) (command : Command) (capacity : ℕ) (prefix : List ℕ) (source : Reading)
+    (sink : Writing) (kept : Option Kept) (status : Status) →
+    ReadsCommand words (Some command) → IsCopy words capacity prefix → CommandEnds ts tk command source sink kept status →
+    CopiesFor ts tk prefix source sink status
+copy-ends ts tk words (Run c) capacity prefix source sink kept status reads copy ends =
+    absurd (not-run-copy words c capacity prefix reads copy)
+copy-ends ts tk words (Generate s r) capacity prefix source sink kept status reads copy ends =
+    absurd (not-generate-copy words s r capacity prefix reads copy)
+copy-ends ts tk words (Wake s c) capacity prefix source sink kept status reads copy ends =
+    absurd (not-wake-copy words s c capacity prefix reads copy)
+copy-ends ts tk words (Copy c word) capacity prefix source sink kept status reads copy ends =
+    ends prefix (same-prefix words c capacity word.now prefix reads copy)
+
+-- A command other than `copy` has written nothing, where too many bytes were read or a read failed.
+pub written-late : (ts tk : Bool) (words : List (List ℕ)) (command : Command) (source : Reading) (sink : Writing) (kept : Option Kept)
+    (status : Status) →
+    ReadsCommand words (Some command) → CommandEnds ts tk command source sink kept status →
+    ((capacity : ℕ) (prefix : List ℕ) → IsCopy words capacity prefix → ⊥) → (status ≡ TooLong) ⊎ (status ≡ ReadFault) → IsTrue tk →
+    sink.now ≡ sink.taken
+written-late ts tk words (Run c) source sink kept status reads ends other (inl is) =
+    (subst (λ s. RunEnds ts tk c source sink kept s) is ends).1
+written-late ts tk words (Run c) source sink kept status reads ends other (inr is) =
+    (subst (λ s. RunEnds ts tk c source sink kept s) is ends).1
+written-late ts tk words (Generate s r) source sink kept status reads ends other (inl is) =
+    absurd (subst (λ x. SumsFor tk (generated_events s r) sink.taken sink.now kept x) is ends)
+written-late ts tk words (Generate s r) source sink kept status reads ends other (inr is) =
+    absurd (subst (λ x. SumsFor tk (generated_events s r) sink.taken sink.now kept x) is ends)
+written-late ts tk words (Wake s c) source sink kept status reads ends other (inl is) =
+    absurd (subst (λ x. WakesFor tk (s * c) sink.taken sink.now x) is ends)
+written-late ts tk words (Wake s c) source sink kept status reads ends other (inr is) =
+    absurd (subst (λ x. WakesFor tk (s * c) sink.taken sink.now x) is ends)
+written-late ts tk words (Copy c word) source sink kept status reads ends other why = absurd (other c reads.prefix reads.is_copy)

@@ -3,11 +3,11 @@ use Rattle.std.proofs.Common.{◌≡◌, ◌≤◌, ℕ, zero, suc, ◌+◌, Boo
 use Rattle.std.specs.List.{AllZip}
 use Rattle.ring_core.specs.declared.ledger.Event.{Event}
 use Rattle.session_run.specs.declared.input.NoEvents.{NoEvents}
-use Rattle.session_run.specs.TextEvent.{StandsFor}
-use Rattle.session_run.specs.TextLines.{lines, AreEvents, IsFirstWrong}
+use Rattle.event_text.specs.TextEvent.{StandsFor}
+use Rattle.event_text.specs.TextLines.{lines, AreEvents, IsFirstWrong}
 use Rattle.session_run.specs.Top.{TookFew, WasRead, IsBadLine, half_read, all_right}
 use Rattle.session_run.specs.Ends.{IsAll, ReadShort, Took, WhyStopped, WhyUnread}
-use Rattle.session_run.proofs.TextCuts.{drop-whole}
+use Rattle.event_text.proofs.TextCuts.{drop-whole}
 use Rattle.session_run.proofs.Writing.{rose-later}
 
 -- What was taken away, then what is left, is the list.

@@ -13,7 +13,7 @@ use Rattle.ring_core.specs.Ledger.{Gone, is_kept, is_live, is_owned, live_ops, u
 use Rattle.ring_core.specs.Request.{named}
 use Rattle.ring_core.specs.declared.ledger.TheConstants.{MOST_LIVE}
 use Rattle.ring_core.specs.Refusal.{cause, refused_if, lacks_handle}
-use Rattle.ring_core.specs.declared.ledger.Event.TheVariants.{Feed, End, Look, Submit, Poll, Drop, Cancel}
+use Rattle.ring_core.specs.declared.ledger.Event.TheVariants.{Feed, End, Look, Close, Submit, Poll, Drop, Cancel}
 use Rattle.ring_core.specs.World.{is_ended_at}
 use Rattle.ring_core.specs.declared.ledger.Refusal.TheVariants.{NoOp, NoHandle, Full, BadHandleEvent}
 use Rattle.driver_core.specs.declared.op.Op.{Op}
@@ -28,8 +28,8 @@ use Rattle.session_run.specs.declared.session.Session.{Session}
 use Rattle.std.specs.FinMap.{get}
 use Rattle.session_run.specs.Token.{token_at, by_number}
 use Rattle.session_run.specs.Session.{SessionStands}
-use Rattle.session_run.proofs.TextFields.{and-true}
-use Rattle.session_run.proofs.TextHex.{false-from}
+use Rattle.event_text.proofs.TextFields.{and-true}
+use Rattle.event_text.proofs.TextHex.{false-from}
 
 -- A feed of a handle that the user doesn't hold is refused.
 pub cause-feed : (L : Ledger) (h : ℕ) (bytes : List ℕ) → user_holds L h ≡ false → cause L (Feed h bytes) ≡ Some NoHandle
@@ -43,6 +43,10 @@ cause-end L h absent = ap (λ held. refused_if (not held || false) NoHandle (ref
 -- So is a look at one.
 pub cause-look : (L : Ledger) (h : ℕ) → user_holds L h ≡ false → cause L (Look h) ≡ Some NoHandle
 cause-look L h absent = ap (λ held. refused_if (not held || false) NoHandle None) absent
+
+-- So is a close of one.
+pub cause-close : (L : Ledger) (h : ℕ) → user_holds L h ≡ false → cause L (Close h) ≡ Some NoHandle
+cause-close L h absent = ap (λ held. refused_if (not held || false) NoHandle None) absent
 
 -- The test of an order.
 pub nat_le-true : (a b : ℕ) → a ≤ b → nat_le a b ≡ true
@@ -75,7 +79,7 @@ pub cause-submit_handle : (session : Session) (L : Ledger) (request : Request Bu
     holds_all session.driver (named request) ≡ false → cause L (Submit request) ≡ Some NoHandle
 cause-submit_handle session L request stands absent =
     ap (λ lacks. refused_if lacks NoHandle (refused_if (nat_le MOST_LIVE (length (live_ops L))) Full None))
-    (lacks_handle-holds_all session.driver L stands.driver.handles (named request) ∙ ap not absent)
+    (lacks_handle-holds_all session.driver L stands.driver.handles.holders.users (named request) ∙ ap not absent)
 
 -- Another one is refused as Full where as many operations as there may be are live.
 pub cause-submit_full : (session : Session) (L : Ledger) (request : Request Buffer Parts) (live : ℕ) → SessionStands session L →
@@ -83,7 +87,7 @@ pub cause-submit_full : (session : Session) (L : Ledger) (request : Request Buff
     cause L (Submit request) ≡ Some Full
 cause-submit_full session L request live stands held count full =
     ap (λ lacks. refused_if lacks NoHandle (refused_if (nat_le MOST_LIVE (length (live_ops L))) Full None))
-    (lacks_handle-holds_all session.driver L stands.driver.handles (named request) ∙ ap not held)
+    (lacks_handle-holds_all session.driver L stands.driver.handles.holders.users (named request) ∙ ap not held)
     ∙ ap (λ b. refused_if b Full None) (ap (λ k. nat_le MOST_LIVE k) (sym stands.driver.operations.in_slots.counted ∙ sym count)
     ∙ nat_le-true MOST_LIVE live full)
 
@@ -92,7 +96,7 @@ pub unrefused-submit : (session : Session) (L : Ledger) (request : Request Buffe
     holds_all session.driver (named request) ≡ true → live ≡ live_slots session.driver → live < MOST_LIVE → cause L (Submit request) ≡ None
 unrefused-submit session L request live stands held count fewer =
     ap (λ lacks. refused_if lacks NoHandle (refused_if (nat_le MOST_LIVE (length (live_ops L))) Full None))
-    (lacks_handle-holds_all session.driver L stands.driver.handles (named request) ∙ ap not held)
+    (lacks_handle-holds_all session.driver L stands.driver.handles.holders.users (named request) ∙ ap not held)
     ∙ ap (λ b. refused_if b Full None) (ap (λ k. nat_le MOST_LIVE k) (sym stands.driver.operations.in_slots.counted ∙ sym count)
     ∙ nat_le-false MOST_LIVE live fewer)
 

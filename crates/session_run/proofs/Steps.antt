@@ -19,13 +19,13 @@ use Rattle.uring_driver.specs.Handles.{LooksFor}
 use Rattle.ring_core.specs.declared.mem_ring.ExecRefusal.{ExecRefusal}
 use Rattle.rent_buf.specs.declared.fault.OutOfMemory.{OutOfMemory as NoMemory}
 use Rattle.driver_core.specs.declared.op.Executed.{Executed}
-use Rattle.driver_core.specs.declared.op.Executed.TheVariants.{Op as ExecutedNumber}
+use Rattle.driver_core.specs.declared.op.Executed.TheVariants.{Op as ExecutedNumber, Close as ExecutedHandle}
 use Rattle.uring_driver.specs.Executed.{ExecutesFor}
 use Rattle.session_run.specs.Executed.{reply_to, AnswersRefusal}
 use Rattle.ring_core.specs.declared.ledger.Refusal.{Refusal}
 use Rattle.ring_core.specs.declared.ledger.Refusal.TheVariants.{NotFlying, BadOutcome}
 use Rattle.ring_core.specs.declared.ledger.Reply.{Reply}
-use Rattle.ring_core.specs.declared.ledger.Reply.TheVariants.{Refused, ExecutedOp, Output, Submitted as Given}
+use Rattle.ring_core.specs.declared.ledger.Reply.TheVariants.{Refused, ExecutedOp, ExecutedClose, Output, Submitted as Given}
 use Rattle.ring_core.proofs.Amended.{length-amended}
 use Rattle.run_laws.proofs.Replies.{step-refused}
 use Rattle.driver_core.specs.declared.op.Op.{Op}
@@ -46,16 +46,19 @@ use Rattle.ring_core.specs.declared.request.Request.{Request}
 use Rattle.uring_driver.specs.Stands.{Stands, Answers}
 use Rattle.session_run.specs.declared.session.Session.{Session}
 use Rattle.session_run.specs.Token.{token_at, by_number}
-use Rattle.session_run.specs.Session.{AreHeld, SessionStands, SessionAnswers, StepsFor}
+use Rattle.session_run.specs.Session.{AreHeld, AreSingle, SessionStands, SessionAnswers, StepsFor}
 use Rattle.session_run.proofs.KeptTokens.{are_held-kept, are_held-taken, are_held-added}
+use Rattle.session_run.proofs.Single.{single-same}
 
 -- A session that keeps its tokens stands for a ledger where its driver does, which has nothing due and holds the tokens that it held.
 pub stands-kept : (old new : Session) (L M : Ledger) → SessionStands old L → by_number new.tokens ≡ by_number old.tokens →
-    Stands (λ r. r) built new.driver M → (due_in old.driver ≡ [] → due_in new.driver ≡ []) → KeepsTokens old.driver new.driver →
+    Stands (λ r. r) built new.driver M → (due_in old.driver ≡ [] → due_in new.driver ≡ []) →
+    (AreSingle old.driver → AreSingle new.driver) → KeepsTokens old.driver new.driver →
     given_by new.driver ≡ given_by old.driver → SessionStands new M
-stands-kept old new L M stands tokens driver due kept given = record {
+stands-kept old new L M stands tokens driver due single kept given = record {
   driver = driver;
   none_due = due stands.none_due;
+  single = single stands.single;
   numbered = ap (λ items. length items) tokens ∙ stands.numbered ∙ sym given;
   tokens = subst (λ items. AreHeld items new.driver) (sym tokens) (are_held-kept (by_number old.tokens) old.driver new.driver stands.tokens kept);
 }
@@ -63,11 +66,11 @@ stands-kept old new L M stands tokens driver due kept given = record {
 -- A driver's answer, where it keeps all tokens, is the session's.
 pub answers-kept : (old new : Session) (L : Ledger) (event : Event) (reply : Reply) → SessionStands old L →
     by_number new.tokens ≡ by_number old.tokens → Answers (λ r. r) built L event reply new.driver →
-    (due_in old.driver ≡ [] → due_in new.driver ≡ []) → KeepsTokens old.driver new.driver → given_by new.driver ≡ given_by old.driver →
-    SessionAnswers L event reply new
-answers-kept old new L event reply stands tokens answers due kept given = record {
+    (due_in old.driver ≡ [] → due_in new.driver ≡ []) → (AreSingle old.driver → AreSingle new.driver) →
+    KeepsTokens old.driver new.driver → given_by new.driver ≡ given_by old.driver → SessionAnswers L event reply new
+answers-kept old new L event reply stands tokens answers due single kept given = record {
   reply_is = answers.reply_is;
-  stands = stands-kept old new L (step L event).0 stands tokens answers.stands due kept given;
+  stands = stands-kept old new L (step L event).0 stands tokens answers.stands due single kept given;
 }
 
 -- Where the driver and the tokens are the same, a session stands for the same ledger.
@@ -76,6 +79,7 @@ pub stands-same : (old new : Session) (L : Ledger) → SessionStands old L → n
 stands-same old new L stands driver tokens = record {
   driver = subst (λ d. Stands (λ r. r) built d L) (sym driver) stands.driver;
   none_due = ap (λ d. due_in d) driver ∙ stands.none_due;
+  single = subst (λ d. AreSingle d) (sym driver) stands.single;
   numbered = ap (λ items. length items) tokens ∙ stands.numbered ∙ ap (λ d. given_by d) (sym driver);
   tokens = subst (λ d. AreHeld (by_number new.tokens) d) (sym driver) (subst (λ items. AreHeld items old.driver) (sym tokens) stands.tokens);
 }
@@ -89,12 +93,12 @@ answers-refused old new L event refusal stands named driver tokens =
     record { reply_is = ap (λ next. next.1) same; stands = subst (λ next. SessionStands new next.0) (sym same) (stands-same old new L stands driver tokens) }
 
 -- A turn that stopped over the ring in memory changed nothing.
-pub stopped-same : (L : Ledger) (old new : IoUringDriver RingView Buf) (turned : Turned) (stop : Stop) →
-    TurnsFor (λ r. r) built true L old new turned (Some stop) → new ≡ old
-stopped-same L old new turned RingFault turns = absurd (turns refl)
-stopped-same L old new turned Busy turns = absurd (turns.0 refl)
-stopped-same L old new turned (BadCompletion word) turns = absurd turns
-stopped-same L old new turned OutOfMemory turns = turns
+pub stopped-same : (L : Ledger) (old new : IoUringDriver RingView Buf) (turned : Turned) (queued : List ℕ) (stop : Stop) →
+    TurnsFor (λ r. r) built true L old new turned queued (Some stop) → new ≡ old
+stopped-same L old new turned queued RingFault turns = absurd (turns refl)
+stopped-same L old new turned queued Busy turns = absurd (turns.0 refl)
+stopped-same L old new turned queued (BadCompletion word) turns = absurd turns
+stopped-same L old new turned queued OutOfMemory turns = turns
 
 -- A driver with the same slots holds the same tokens.
 pub kept-same_slots : (old new : IoUringDriver RingView Buf) → SameSlots old new → KeepsTokens old new
@@ -116,7 +120,7 @@ pub stands-unsubmitted : (old new : Session) (L : Ledger) (request : Request Buf
     by_number new.tokens ≡ by_number old.tokens → (due_in old.driver ≡ [] → due_in new.driver ≡ []) →
     SubmitRefused (λ r. r) built true request old.driver new.driver refused → SessionStands new L
 stands-unsubmitted old new L request refused stands tokens due why =
-    stands-kept old new L L stands tokens (stands-refused old.driver new.driver L refused.why why.why stands.driver) due (kept-same_slots old.driver new.driver why.same) why.same.given
+    stands-kept old new L L stands tokens (stands-refused old.driver new.driver L refused.why why.why stands.driver) due (single-same old.driver new.driver why.same.holding) (kept-same_slots old.driver new.driver why.same) why.same.given
 
 -- What a look shows is the session's answer, which stays as it is.
 pub answers-looked : (session : Session) (L : Ledger) (h : ℕ) (shown : Shown) (bytes : List ℕ) → SessionStands session L →
@@ -128,13 +132,15 @@ answers-looked session L h shown bytes stands is looks =
 -- An operation that is handed over or dropped leaves with its token.
 pub answers-taken : (old new : Session) (L : Ledger) (n : ℕ) (op : Op) (event : Event) (reply : Reply) → SessionStands old L →
     token_at (by_number old.tokens) n ≡ Some op → by_number new.tokens ≡ amended (by_number old.tokens) n (λ token. None) →
-    DropsToken old.driver new.driver op → (due_in old.driver ≡ [] → due_in new.driver ≡ []) → given_by new.driver ≡ given_by old.driver →
+    DropsToken old.driver new.driver op → (due_in old.driver ≡ [] → due_in new.driver ≡ []) →
+    (AreSingle old.driver → AreSingle new.driver) → given_by new.driver ≡ given_by old.driver →
     Answers (λ r. r) built L event reply new.driver → SessionAnswers L event reply new
-answers-taken old new L n op event reply stands there tokens taken due given answers = record {
+answers-taken old new L n op event reply stands there tokens taken due single given answers = record {
   reply_is = answers.reply_is;
   stands = record {
     driver = answers.stands;
     none_due = due stands.none_due;
+    single = single stands.single;
     numbered = ap (λ items. length items) tokens ∙ length-amended (λ token. None) (by_number old.tokens) n ∙ stands.numbered ∙ sym given;
     tokens = subst (λ items. AreHeld items new.driver) (sym tokens) (are_held-taken (by_number old.tokens) old.driver new.driver n op there stands.tokens taken);
   };
@@ -147,12 +153,14 @@ length-added xs x = length-append xs (x ∷ [])
 -- A new operation's token stands at the end.
 pub answers-added : (old new : Session) (L : Ledger) (op : Op) (event : Event) (reply : Reply) → SessionStands old L →
     by_number new.tokens ≡ by_number old.tokens ++ Some op ∷ [] → AddsTo old.driver new.driver op →
-    (due_in old.driver ≡ [] → due_in new.driver ≡ []) → Answers (λ r. r) built L event reply new.driver → SessionAnswers L event reply new
-answers-added old new L op event reply stands tokens adds due answers = record {
+    (due_in old.driver ≡ [] → due_in new.driver ≡ []) → (AreSingle old.driver → AreSingle new.driver) →
+    Answers (λ r. r) built L event reply new.driver → SessionAnswers L event reply new
+answers-added old new L op event reply stands tokens adds due single answers = record {
   reply_is = answers.reply_is;
   stands = record {
     driver = answers.stands;
     none_due = due stands.none_due;
+    single = single stands.single;
     numbered = ap (λ items. length items) tokens ∙ length-added (by_number old.tokens) (Some op) ∙ ap (λ k. k + 1) stands.numbered ∙ sym adds.next;
     tokens = subst (λ items. AreHeld items new.driver) (sym tokens) (are_held-added (by_number old.tokens) old.driver new.driver op stands.numbered stands.tokens adds);
   };
@@ -162,17 +170,21 @@ answers-added old new L op event reply stands tokens adds due answers = record {
 pub answers-submitted : (old new : Session) (L : Ledger) (request : Request Buf Parts) (submitted : Submitted) (op : Op) →
     submitted ≡ Submitted.Op op → SessionStands old L → by_number new.tokens ≡ by_number old.tokens ++ Some op ∷ [] →
     AddsToken old.driver new.driver submitted → (due_in old.driver ≡ [] → due_in new.driver ≡ []) →
-    SubmitsFor (λ r. r) built L request new.driver submitted →
+    (AreSingle old.driver → AreSingle new.driver) → SubmitsFor (λ r. r) built L request new.driver submitted →
     SessionAnswers L (Submit (plain_request built request)) (Given (number_of op)) new
-answers-submitted old new L request submitted op is stands tokens adds due answers =
-    answers-added old new L op _ _ stands tokens (subst (λ s. AddsToken old.driver new.driver s) is adds) due (subst (λ s. SubmitsFor (λ r. r) built L request new.driver s) is answers)
+answers-submitted old new L request submitted op is stands tokens adds due single answers =
+    answers-added old new L op _ _ stands tokens (subst (λ s. AddsToken old.driver new.driver s) is adds) due single (subst (λ s. SubmitsFor (λ r. r) built L request new.driver s) is answers)
 
 -- What was executed is the session's answer.
 pub answers-executed : (old new : Session) (L : Ledger) (place : ℕ) (told : Told) (executed : Executed) → SessionStands old L →
     by_number new.tokens ≡ by_number old.tokens → ExecutesFor built L place told new.driver (Ok executed) →
-    (due_in old.driver ≡ [] → due_in new.driver ≡ []) → KeepsTokens old.driver new.driver → given_by new.driver ≡ given_by old.driver →
+    (due_in old.driver ≡ [] → due_in new.driver ≡ []) → (AreSingle old.driver → AreSingle new.driver) →
+    KeepsTokens old.driver new.driver → given_by new.driver ≡ given_by old.driver →
     SessionAnswers L (Exec place told) (reply_to executed) new
-answers-executed old new L place told (ExecutedNumber n) stands tokens answers due kept given = answers-kept old new L (Exec place told) (ExecutedOp n) stands tokens answers due kept given
+answers-executed old new L place told (ExecutedNumber n) stands tokens answers due single kept given =
+    answers-kept old new L (Exec place told) (ExecutedOp n) stands tokens answers due single kept given
+answers-executed old new L place told (ExecutedHandle h) stands tokens answers due single kept given =
+    answers-kept old new L (Exec place told) (ExecutedClose h) stands tokens answers due single kept given
 
 -- So is an execution that was refused.
 pub steps-unexecuted : (old new : Session) (L : Ledger) (place : ℕ) (told : Told) (why : ExecRefusal) (result : Result Reply NoMemory) →

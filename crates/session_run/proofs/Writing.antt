@@ -5,8 +5,8 @@ use Rattle.ring_core.specs.declared.ledger.Reply.{Reply}
 use Rattle.ring_core.specs.Counts.{Rose}
 use Rattle.rent_io.specs.declared.source.Failed.{Failed}
 use Rattle.session_run.specs.declared.output.Unwritten.{Unwritten}
-use Rattle.session_run.specs.TextReply.{reply_text}
-use Rattle.session_run.specs.TextWrites.{Starts}
+use Rattle.event_text.specs.TextReply.{reply_text}
+use Rattle.event_text.specs.TextWrites.{Starts}
 use Rattle.session_run.specs.Top.{ended, reply_lines, WrotePrefix}
 use Rattle.session_run.specs.Ends.{Sent, WhyUnwritten, Wrote, WritesAll}
 

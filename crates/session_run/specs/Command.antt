@@ -1,8 +1,11 @@
 -- What the words of the command line ask for.
-use Rattle.std.specs.Prelude.{ℕ, ◌≡◌, ◌≤◌, List, [], ◌∷◌, Option, Some, None, ⊤, codes, decimal}
-use Rattle.session_run.specs.declared.command.TheConstants.{MOST_COUNT, MOST_ENTRIES, MOST_ROUNDS, MOST_SEED, MOST_SENDERS}
+use Rattle.std.specs.Prelude.{ℕ, ◌≡◌, ◌≤◌, List, [], ◌∷◌, Option, Some, None, IsSome, ⊤, codes, decimal}
+use Rattle.session_run.specs.declared.command.TheConstants.{MOST_CAPACITY, MOST_COUNT, MOST_ENTRIES, MOST_ROUNDS, MOST_SEED, MOST_SENDERS}
 use Rattle.session_run.specs.declared.command.Command.{Command}
-use Rattle.session_run.specs.declared.command.Command.TheVariants.{Run, Generate, Wake}
+use Rattle.session_run.specs.declared.command.Command.TheVariants.{Run, Generate, Wake, Copy}
+use Rattle.event_text.specs.TextEvent.{AreBytes}
+use Rattle.event_text.specs.TextReads.{bytes_of}
+use Rattle.event_text.specs.TextWords.{bytes_word}
 
 -- The words are `run CAP`, with a capacity from 1 to 4294967295.
 pub record IsRun (words : List (List ℕ)) (capacity : ℕ) : Type 0 where
@@ -22,11 +25,19 @@ pub record IsGenerate (words : List (List ℕ)) (seed rounds : ℕ) : Type 0 whe
   pub small : rounds ≤ MOST_ROUNDS
   pub words_are : words ≡ codes "gen" ∷ decimal seed ∷ decimal rounds ∷ []
 
+-- The words are `copy CAP PREFIXHEX`, with a capacity from 1 to 16777216, and the word of a prefix.
+pub record IsCopy (words : List (List ℕ)) (capacity : ℕ) (prefix : List ℕ) : Type 0 where
+  pub positive : 1 ≤ capacity
+  pub fits : capacity ≤ MOST_CAPACITY
+  pub bytes : AreBytes prefix
+  pub words_are : words ≡ codes "copy" ∷ decimal capacity ∷ bytes_word prefix ∷ []
+
 -- The words are no command's.
 pub record IsNoCommand (words : List (List ℕ)) : Type 0 where
   pub no_run : (capacity : ℕ) → IsRun words capacity → ⊥
   pub no_generate : (seed rounds : ℕ) → IsGenerate words seed rounds → ⊥
   pub no_wake : (senders count : ℕ) → IsWake words senders count → ⊥
+  pub no_copy : (capacity : ℕ) (prefix : List ℕ) → IsCopy words capacity prefix → ⊥
 
 -- The word is a capacity.
 pub record IsCapacity (word : List ℕ) (capacity : ℕ) : Type 0 where
@@ -71,26 +82,37 @@ ReadsRounds first second None = (seed rounds : ℕ) → AreRounds first second s
 ReadsRounds first second (Some (Generate seed rounds)) = AreRounds first second seed rounds
 ReadsRounds first second (Some _) = ⊥
 
+-- The words are `copy` with this capacity, and the prefix that a word writes.
+pub record IsCopyOf (words : List (List ℕ)) (capacity : ℕ) (word : List ℕ) : Type 0 where
+  pub prefix : List ℕ
+  pub writes : bytes_of word ≡ Some prefix
+  pub is_copy : IsCopy words capacity prefix
+
 -- The command of words: none exactly when they are no command's.
 abbrev pub ReadsCommand : List (List ℕ) → Option Command → Type 0
 ReadsCommand words None = IsNoCommand words
 ReadsCommand words (Some (Run capacity)) = IsRun words capacity
 ReadsCommand words (Some (Generate seed rounds)) = IsGenerate words seed rounds
 ReadsCommand words (Some (Wake senders count)) = IsWake words senders count
+ReadsCommand words (Some (Copy capacity word)) = IsCopyOf words capacity word.now
 
--- The numbers of a command are within its bounds.
+-- The numbers of a command are within its bounds, and the word of a prefix writes one.
 abbrev pub IsWithin : Command → Type 0
 IsWithin (Run capacity) = 1 ≤ capacity
 IsWithin (Generate seed rounds) = rounds ≤ MOST_ROUNDS
 IsWithin (Wake senders count) = senders ≤ MOST_SENDERS
+IsWithin (Copy capacity word) = IsSome (bytes_of word.now)
 
 -- The command reads no input.
 abbrev pub ReadsNothing : Command → Type 0
 ReadsNothing (Run capacity) = ⊥
 ReadsNothing (Generate seed rounds) = ⊤
 ReadsNothing (Wake senders count) = ⊤
+ReadsNothing (Copy capacity word) = ⊥
 
--- The command is `wake`.
-abbrev pub IsWakeCommand : Command → Type 0
-IsWakeCommand (Wake senders count) = ⊤
-IsWakeCommand _ = ⊥
+-- The command keeps nothing.
+abbrev pub KeepsNothing : Command → Type 0
+KeepsNothing (Run capacity) = ⊥
+KeepsNothing (Generate seed rounds) = ⊥
+KeepsNothing (Wake senders count) = ⊤
+KeepsNothing (Copy capacity word) = ⊤

@@ -1,10 +1,13 @@
 -- What the parts of the top call have done: reading, running, writing. `top` cites `RunEnds`; the rest is for the functions it calls.
-use Rattle.std.specs.Prelude.{ℕ, ◌≡◌, ◌<◌, ◌≤◌, ◌+◌, ◌*◌, ◌⊎◌, Bool, IsTrue, List, [], ◌++◌, length, drop, Option, Some, Result, Ok, Err}
+use Rattle.std.specs.Prelude.{ℕ, ◌≡◌, ◌<◌, ◌≤◌, ◌+◌, ◌*◌, ◌⊎◌, Bool, IsTrue, List, [], ◌++◌, length, Option, Some, Result, Ok, Err}
 use Rattle.ring_core.specs.declared.ledger.Event.{Event}
 use Rattle.ring_core.specs.Counts.{Rose}
 use Rattle.ring_core.specs.Ledger.{empty}
 use Rattle.ring_core.specs.Run.{ledger, replies}
+pub use Rattle.rent_io.specs.Call.{Reading, Writing, Took, reading, writing}
 use Rattle.rent_io.specs.declared.source.Failed.{Failed}
+use Rattle.copy_run.specs.Ending.{CopyEnds}
+use Rattle.copy_run.specs.declared.copying.Ending.{Ending}
 use Rattle.session_run.specs.declared.session.Session.{Session}
 use Rattle.session_run.specs.declared.top.Status.{Status}
 use Rattle.session_run.specs.declared.top.Status.TheVariants.{Done, BadWords, BadLine, TooLong, ReadFault, WriteFault, OutOfMemory}
@@ -14,34 +17,11 @@ use Rattle.session_run.specs.declared.output.Unwritten.{Unwritten}
 use Rattle.session_run.specs.declared.top.Kept.{Kept}
 use Rattle.session_run.specs.declared.top.Kept.TheVariants.{Run}
 use Rattle.session_run.specs.declared.command.Command.{Command}
-use Rattle.session_run.specs.declared.command.Command.TheVariants.{Run as RunOf, Generate, Wake}
+use Rattle.session_run.specs.declared.command.Command.TheVariants.{Run as RunOf, Generate, Wake, Copy}
 use Rattle.session_run.specs.Session.{SessionStands}
 use Rattle.session_run.specs.Generated.{generated_events}
+use Rattle.event_text.specs.TextReads.{bytes_of}
 use Rattle.session_run.specs.Top.{most_input, RunDone, LineRefused, NoLineWrong, TookTooMany, IsBadLine, WrotePrefix, WroteSome, SumsFor, TookFew, WakesFor, bad_line_text, reply_lines}
-
--- What a source had left and has left, and its count of faults before and after.
-pub record Reading : Type 0 where
-  pub left : List ℕ
-  pub rest : List ℕ
-  pub faults : ℕ
-  pub later : ℕ
-
--- What a sink had taken and has taken, its count of faults before and after, and whether it is flushed.
-pub record Writing : Type 0 where
-  pub taken : List ℕ
-  pub now : List ℕ
-  pub faults : ℕ
-  pub later : ℕ
-  pub flushed : Bool
-
--- What a call did to a source.
-abbrev pub reading : {S : Type 0} → (S → List ℕ) → (S → ℕ) → S → S → Reading
-reading left faults old new = record { left = left old; rest = left new; faults = faults old; later = faults new }
-
--- What a call did to a sink.
-abbrev pub writing : {K : Type 0} → (K → List ℕ) → (K → ℕ) → (K → Bool) → K → K → Writing
-writing taken faults flushed old new =
-    record { taken = taken old; now = taken new; faults = faults old; later = faults new; flushed = flushed new }
 
 -- No count of faults rose, as far as the source and the sink tell it.
 pub record NoFaults (tells_source tells_sink : Bool) (source : Reading) (sink : Writing) : Type 0 where
@@ -60,11 +40,6 @@ pub record IsAll (left rest text : List ℕ) : Type 0 where
   pub within : length text ≤ most_input
   pub all : text ≡ left
   pub to_its_end : rest ≡ []
-
--- So many bytes were taken of what was left.
-pub record Took (left rest : List ℕ) (n : ℕ) : Type 0 where
-  pub there : n ≤ length left
-  pub taken : rest ≡ drop n left
 
 -- Memory ran out for what was read of a source that tells its bytes: no more than it may have, no line that could be looked at is
 -- wrong, and no fault was counted.
@@ -162,6 +137,21 @@ RunEnds tells_source tells_sink capacity source sink kept ReadFault = Rose sourc
 RunEnds tells_source tells_sink capacity source sink kept WriteFault = Rose sink.faults sink.later × WroteSome tells_source tells_sink capacity source.left source.rest sink.taken sink.now
 RunEnds tells_source tells_sink capacity source sink kept OutOfMemory = RanShort tells_source tells_sink source sink × ((IsTrue tells_sink → sink.now ≡ sink.taken) ⊎ WroteSome tells_source tells_sink capacity source.left source.rest sink.taken sink.now)
 
+-- What `copy` has done, by the status: what a copy has done that ends so.
+abbrev pub CopiesFor : Bool → Bool → List ℕ → Reading → Writing → Status → Type 0
+CopiesFor tells_source tells_sink prefix source sink Done =
+    CopyEnds tells_source tells_sink most_input prefix source sink Ending.Done
+CopiesFor tells_source tells_sink prefix source sink BadWords = ⊥
+CopiesFor tells_source tells_sink prefix source sink BadLine = ⊥
+CopiesFor tells_source tells_sink prefix source sink TooLong =
+    CopyEnds tells_source tells_sink most_input prefix source sink Ending.TooLong
+CopiesFor tells_source tells_sink prefix source sink ReadFault =
+    CopyEnds tells_source tells_sink most_input prefix source sink Ending.ReadFault
+CopiesFor tells_source tells_sink prefix source sink WriteFault =
+    CopyEnds tells_source tells_sink most_input prefix source sink Ending.WriteFault
+CopiesFor tells_source tells_sink prefix source sink OutOfMemory =
+    CopyEnds tells_source tells_sink most_input prefix source sink Ending.OutOfMemory
+
 -- What a command that reads nothing has done to a sink, by the status.
 abbrev pub SinkEnds : Bool → Writing → Status → Type 0
 SinkEnds tells sink Done = IsTrue sink.flushed
@@ -174,13 +164,15 @@ abbrev pub CommandEnds : Bool → Bool → Command → Reading → Writing → O
 CommandEnds tells_source tells_sink (RunOf capacity) source sink kept status = RunEnds tells_source tells_sink capacity source sink kept status
 CommandEnds tells_source tells_sink (Generate seed rounds) source sink kept status = SumsFor tells_sink (generated_events seed rounds) sink.taken sink.now kept status
 CommandEnds tells_source tells_sink (Wake senders count) source sink kept status = WakesFor tells_sink (senders * count) sink.taken sink.now status
+CommandEnds tells_source tells_sink (Copy capacity word) source sink kept status =
+    (prefix : List ℕ) → bytes_of word.now ≡ Some prefix → CopiesFor tells_source tells_sink prefix source sink status
 
 -- What every command has done, by the status.
 abbrev pub StatusFor : Bool → Bool → Reading → Writing → Status → Type 0
 StatusFor tells_source tells_sink source sink Done = IsTrue sink.flushed
 StatusFor tells_source tells_sink source sink BadWords = ⊥
 StatusFor tells_source tells_sink source sink BadLine = LineRefused tells_source tells_sink source.left source.rest sink.taken sink.now
-StatusFor tells_source tells_sink source sink TooLong = (IsTrue tells_source → TookTooMany source.left source.rest) × (IsTrue tells_sink → sink.now ≡ sink.taken)
-StatusFor tells_source tells_sink source sink ReadFault = Rose source.faults source.later × (IsTrue tells_sink → sink.now ≡ sink.taken)
+StatusFor tells_source tells_sink source sink TooLong = IsTrue tells_source → TookTooMany source.left source.rest
+StatusFor tells_source tells_sink source sink ReadFault = Rose source.faults source.later
 StatusFor tells_source tells_sink source sink WriteFault = Rose sink.faults sink.later
 StatusFor tells_source tells_sink source sink OutOfMemory = RanShort tells_source tells_sink source sink

@@ -2,16 +2,17 @@
 use Rattle.std.specs.Prelude.{◌≡◌, Result, Ok, IsErr}
 use Rattle.rent_buf.specs.declared.fault.OutOfMemory.{OutOfMemory as NoMemory}
 use Rattle.ring_core.specs.declared.ledger.Reply.{Reply}
-use Rattle.ring_core.specs.declared.ledger.Reply.TheVariants.{ExecutedOp, Refused}
+use Rattle.ring_core.specs.declared.ledger.Reply.TheVariants.{ExecutedOp, ExecutedClose, Refused}
 use Rattle.ring_core.specs.declared.ledger.Refusal.TheVariants.{NotFlying as NoFlight, BadOutcome as WrongOutcome}
 use Rattle.ring_core.specs.declared.mem_ring.ExecRefusal.{ExecRefusal}
 use Rattle.ring_core.specs.declared.mem_ring.ExecRefusal.TheVariants.{NotFlying, BadOutcome, OutOfMemory}
 use Rattle.driver_core.specs.declared.op.Executed.{Executed}
-use Rattle.driver_core.specs.declared.op.Executed.TheVariants.{Op}
+use Rattle.driver_core.specs.declared.op.Executed.TheVariants.{Op, Close}
 
 -- The reply to what was executed.
 abbrev pub reply_to : Executed → Reply
 reply_to (Op n) = ExecutedOp n
+reply_to (Close h) = ExecutedClose h
 
 -- A refused execution is answered with its name; if memory runs out there is no reply.
 abbrev pub AnswersRefusal : ExecRefusal → Result Reply NoMemory → Type 0

@@ -1,11 +1,3 @@
-pub mod TextWords
-pub mod TextEvent
-pub mod TextReply
-pub mod TextLines
-pub mod TextWrites
-pub mod TextReads
-pub mod TextEventReads
-pub mod TextValid
 pub mod Token
 pub mod Session
 pub mod Executed

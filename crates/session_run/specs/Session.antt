@@ -1,9 +1,9 @@
 -- When a session stands for a ledger, and what its steps answer. Cited by `Session` and by the top call.
-use Rattle.std.specs.Prelude.{ℕ, ◌≡◌, ◌↔◌, List, [], length, Option, Some, None, Result, Ok, Err}
+use Rattle.std.specs.Prelude.{ℕ, ◌≡◌, ◌≤◌, ◌↔◌, List, [], length, Option, Some, None, Result, Ok, Err}
 use Rattle.rent_buf.specs.Buf.{built}
 use Rattle.rent_buf.specs.declared.fault.OutOfMemory.{OutOfMemory}
 use Rattle.ring_core.specs.declared.ledger.Event.{Event}
-use Rattle.ring_core.specs.declared.ledger.Event.TheVariants.{End, Poll, Drop}
+use Rattle.ring_core.specs.declared.ledger.Event.TheVariants.{End, Close, Poll, Drop}
 use Rattle.ring_core.specs.declared.ledger.Reply.{Reply}
 use Rattle.ring_core.specs.Ring.{RingView}
 use Rattle.ring_core.specs.Ledger.{Ledger}
@@ -12,7 +12,8 @@ use Rattle.ring_core.specs.Step.{step}
 use Rattle.rent_buf.specs.declared.plain.Buf.{Buf}
 use Rattle.driver_core.specs.declared.op.Op.{Op}
 use Rattle.uring_driver.specs.declared.uring.IoUringDriver.{IoUringDriver}
-use Rattle.uring_driver.specs.Uring.{given_by, due_in}
+use Rattle.uring_driver.specs.Holding.{user_count}
+use Rattle.uring_driver.specs.Uring.{given_by, due_in, holding_in}
 use Rattle.uring_driver.specs.Op.{Holds, number_of}
 use Rattle.uring_driver.specs.Stands.{Stands}
 use Rattle.session_run.specs.declared.session.Session.{Session}
@@ -31,11 +32,16 @@ driver_in session = session.driver
 abbrev pub tokens_in : Session → Tokens
 tokens_in session = session.tokens
 
--- A driver and tokens stand for a ledger: the driver does, and nothing is due in it; and there is a place for each operation that
--- was given, with its token where the driver holds it.
+-- The user holds each handle once at most.
+abbrev pub AreSingle : IoUringDriver RingView Buf → Type 0
+AreSingle driver = (h : ℕ) → user_count (holding_in driver) h ≤ 1
+
+-- A driver and tokens stand for a ledger: the driver does, nothing is due in it, and its user holds each handle once at most; and there is
+-- a place for each operation that was given, with its token where the driver holds it.
 pub record PartsStand (engine : IoUringDriver RingView Buf) (kept : Tokens) (L : Ledger) : Type 0 where
   pub driver : Stands (λ r. r) built engine L
   pub none_due : due_in engine ≡ []
+  pub single : AreSingle engine
   pub numbered : length (by_number kept) ≡ given_by engine
   pub tokens : AreHeld (by_number kept) engine
 
@@ -63,9 +69,10 @@ abbrev pub StepsFor : Ledger → Event → Session → Result Reply OutOfMemory 
 StepsFor L event new (Ok reply) = SessionAnswers L event reply new
 StepsFor L event new (Err refused) = RanOut L event new
 
--- The event takes no memory: it is an end, a poll or a drop.
+-- The event takes no memory: it is an end, a close, a poll or a drop.
 abbrev pub TakesNoMemory : Event → Type 0
 TakesNoMemory (End h) = Unit {0}
+TakesNoMemory (Close h) = Unit {0}
 TakesNoMemory (Poll n task) = Unit {0}
 TakesNoMemory (Drop n) = Unit {0}
 TakesNoMemory _ = ⊥

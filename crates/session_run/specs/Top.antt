@@ -1,12 +1,13 @@
 -- What the top call has done, by its status. `top` cites these, and so do the functions that it calls. A prefix of a text is what
 -- it begins with.
-use Rattle.std.specs.Prelude.{ℕ, ◌≡◌, ◌≤◌, ◌<◌, Bool, true, false, IsTrue, List, [], ◌∷◌, ◌++◌, length, drop, Option, Some, codes, decimal}
+use Rattle.std.specs.Prelude.{ℕ, ◌≡◌, ◌≤◌, Bool, true, false, IsTrue, List, [], ◌∷◌, ◌++◌, length, drop, Option, Some, codes, decimal}
 use Rattle.std.specs.List.{AllZip, count_by}
 use Rattle.ring_core.specs.declared.ledger.Event.{Event}
 use Rattle.ring_core.specs.declared.ledger.Reply.{Reply}
 use Rattle.ring_core.specs.declared.ledger.Reply.TheVariants.{Handed, Refused}
 use Rattle.ring_core.specs.Ledger.{empty}
 use Rattle.ring_core.specs.Run.{ledger, replies}
+pub use Rattle.rent_io.specs.Call.{TookMore}
 use Rattle.session_run.specs.declared.session.Session.{Session}
 use Rattle.session_run.specs.declared.top.Kept.{Kept}
 use Rattle.session_run.specs.declared.top.Kept.TheVariants.{Run}
@@ -15,10 +16,10 @@ use Rattle.session_run.specs.declared.top.Status.TheVariants.{Done, BadWords, Ba
 use Rattle.session_run.specs.declared.generated.TheConstants.{ENTRIES}
 use Rattle.session_run.specs.declared.input.TheConstants.{MOST_INPUT, PIECE}
 use Rattle.session_run.specs.Session.{SessionStands}
-use Rattle.session_run.specs.TextEvent.{StandsFor}
-use Rattle.session_run.specs.TextReply.{reply_text}
-use Rattle.session_run.specs.TextLines.{lines, IsFirstWrong}
-use Rattle.session_run.specs.TextWrites.{Starts}
+use Rattle.event_text.specs.TextEvent.{StandsFor}
+use Rattle.event_text.specs.TextReply.{reply_text}
+use Rattle.event_text.specs.TextLines.{lines, IsFirstWrong}
+use Rattle.event_text.specs.TextWrites.{Starts}
 
 -- The number with which the program ends.
 abbrev pub exit_number : Status → ℕ
@@ -99,13 +100,6 @@ pub record LineRefused (tells_source tells_sink : Bool) (left rest taken now : L
   pub n : ℕ
   pub bad : IsTrue tells_source → IsBadLine left rest n
   pub written : IsTrue tells_sink → now ≡ taken ++ bad_line_text n
-
--- More bytes were taken than this many.
-pub record TookMore (bound : ℕ) (left rest : List ℕ) : Type 0 where
-  pub count : ℕ
-  pub many : bound < count
-  pub there : count ≤ length left
-  pub taken : rest ≡ drop count left
 
 -- More bytes were taken than the input may have.
 abbrev pub TookTooMany : List ℕ → List ℕ → Type 0

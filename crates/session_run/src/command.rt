@@ -1,8 +1,8 @@
 //! The words of the command line.
-ghost use Rattle.std.specs.Prelude.{map, string_bytes, ◌∷◌, []};
+ghost use Rattle.std.specs.Prelude.{map, codes, string_bytes, ◌∷◌, []};
 ghost use Rattle.session_run.specs.Command.{ReadsCapacity, ReadsCounts, ReadsRounds, ReadsCommand, ReadsUpTo};
 
-use crate::text::read_number;
+use event_text::{count_bytes, read_number};
 
 /// The most entries of `run`'s queue. (not in monoio)
 pub const MOST_ENTRIES: u64 = 4294967295;
@@ -19,19 +19,25 @@ pub const MOST_SENDERS: u64 = 64;
 /// The most wakers of each sender of `wake`. (not in monoio)
 pub const MOST_COUNT: u64 = 100000;
 
+/// The most bytes of each buffer of `copy`. (not in monoio)
+pub const MOST_CAPACITY: u64 = 16777216;
+
 /// A command of the program. (not in monoio)
 #[derive(Clone, Copy, Debug, PartialEq, Eq)]
-pub enum Command {
+pub enum Command<'a> {
     /// `run CAP`: runs the events that are read, over a queue of so many entries, at least one.
     Run(u32),
     /// `gen SEED COUNT`: generates the events of so many rounds from a seed, and runs them.
     Generate(u32, u32),
     /// `wake SENDERS COUNT`: so many senders, at most 64, send so many wakers each, at most 100000.
     Wake(u64, u32),
+    /// `copy CAP PREFIXHEX`: writes the bytes that this word writes, and then the input, by way of buffers of so many bytes, at
+    /// least one.
+    Copy(u32, &'a [u8]),
 }
 
 /// The command that words write; `None` if they write none. Numbers have no sign and no leading zero. (not in monoio)
-pub fn command_of(words: &[String]) -> Option<Command>
+pub fn command_of(words: &[String]) -> Option<Command<'_>>
     ensures { ReadsCommand (map string_bytes words.now) result }
 {
     match words {
@@ -42,7 +48,7 @@ pub fn command_of(words: &[String]) -> Option<Command>
 }
 
 // The command `run` of two words.
-fn run_of(name: &str, capacity: &str) -> Option<Command>
+fn run_of<'a>(name: &str, capacity: &str) -> Option<Command<'a>>
     ensures { ReadsCommand (name.now ∷ capacity.now ∷ []) result }
 {
     if name == "run" {
@@ -53,7 +59,7 @@ fn run_of(name: &str, capacity: &str) -> Option<Command>
 }
 
 // The command of a capacity: a decimal number from 1 to 4294967295.
-fn capacity_of(word: &[u8]) -> Option<Command>
+fn capacity_of<'a>(word: &[u8]) -> Option<Command<'a>>
     ensures { ReadsCapacity word.now result }
 {
     match read_number(word) {
@@ -64,8 +70,8 @@ fn capacity_of(word: &[u8]) -> Option<Command>
     }
 }
 
-// The command of three words: `wake` or `gen`, and two numbers.
-fn counted_of(name: &str, first: &str, second: &str) -> Option<Command>
+// The command of three words: `wake` or `gen`, and two numbers, or `copy`, a number and bytes.
+fn counted_of<'a>(name: &str, first: &str, second: &'a str) -> Option<Command<'a>>
     ensures { ReadsCommand (name.now ∷ first.now ∷ second.now ∷ []) result }
 {
     if name == "wake" {
@@ -74,11 +80,14 @@ fn counted_of(name: &str, first: &str, second: &str) -> Option<Command>
     if name == "gen" {
         return generate_of(first.as_bytes(), second.as_bytes());
     }
+    if name == "copy" {
+        return copy_of(first.as_bytes(), second.as_bytes());
+    }
     None
 }
 
 // The command of how many senders there are, and how many wakers each sends.
-fn wake_of(senders: &[u8], count: &[u8]) -> Option<Command>
+fn wake_of<'a>(senders: &[u8], count: &[u8]) -> Option<Command<'a>>
     ensures { ReadsCounts senders.now count.now result }
 {
     let senders = number_up_to(senders, MOST_SENDERS)?;
@@ -87,12 +96,24 @@ fn wake_of(senders: &[u8], count: &[u8]) -> Option<Command>
 }
 
 // The command of a seed, and how many rounds it generates.
-fn generate_of(seed: &[u8], rounds: &[u8]) -> Option<Command>
+fn generate_of<'a>(seed: &[u8], rounds: &[u8]) -> Option<Command<'a>>
     ensures { ReadsRounds seed.now rounds.now result }
 {
     let seed = number_up_to(seed, MOST_SEED)?;
     let rounds = number_up_to(rounds, MOST_ROUNDS)?;
     Some(Command::Generate(seed as u32, rounds as u32))
+}
+
+// The command of a capacity from 1 to 16777216, and the word of a prefix.
+fn copy_of<'a>(capacity: &[u8], prefix: &'a [u8]) -> Option<Command<'a>>
+    ensures { ReadsCommand (codes "copy" ∷ capacity.now ∷ prefix.now ∷ []) result }
+{
+    let capacity = number_up_to(capacity, MOST_CAPACITY)?;
+    if capacity == 0 {
+        return None;
+    }
+    let _ = count_bytes(prefix)?;
+    Some(Command::Copy(capacity as u32, prefix))
 }
 
 // A decimal number that isn't greater than the most.

@@ -6,7 +6,7 @@ ghost use Rattle.session_run.specs.Top.{generated_text, is_ready, is_refused, su
 ghost use Rattle.session_run.specs.Generated.{asked, generated_events, next_state, round_events, small_read, told};
 
 use crate::session::Session;
-use crate::text::put_number;
+use event_text::put_number;
 use rent_buf::{BufSpec, ByteList, Kind, OutOfMemory, PartsSpec};
 use ring_core::{CANCELED, Event, HandleKind, Reply, Request, SharedFd, Told};
 use std::alloc::Global;

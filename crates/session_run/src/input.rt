@@ -3,7 +3,7 @@ ghost use Rattle.std.specs.Prelude.{◌≡◌, ◌≤◌, ◌<◌, ◌+◌, ◌+
 ghost use Rattle.session_run.specs.Top.{WasRead};
 ghost use Rattle.session_run.specs.Ends.{IsAll, WhyNoEvents, WhyStopped, WhyUnread};
 
-use crate::text::{LinesError, read_events};
+use event_text::{LinesError, read_events};
 use rent_io::ByteSource;
 use ring_core::Event;
 use std::alloc::{AllocError, Global};

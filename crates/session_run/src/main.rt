@@ -1,4 +1,5 @@
-//! Runs the events that it reads on the completion engine, and writes the replies; or sends wakers to a driver that parks.
+//! Runs the events that it reads on the completion engine, and writes the replies; or sends wakers to a driver that
+//! parks, or copies what it reads.
 #![tactic(auto)]
 
 pub mod command;
@@ -6,12 +7,12 @@ pub mod generated;
 mod input;
 mod output;
 pub mod session;
-pub mod text;
 pub mod tokens;
 pub mod top;
 mod usage;
 pub mod wake;
 
+pub use event_text::{LinesError, read_events, write_event, write_reply};
 use rent_io::{StdSink, StdSource};
 use std::process::ExitCode;
 use top::{Kept, Status, top};

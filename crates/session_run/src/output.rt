@@ -3,12 +3,12 @@ ghost use Rattle.std.specs.Prelude.{◌≡◌, ◌<◌, ◌≤◌, ◌++◌, [],
 ghost use Rattle.ring_core.specs.Ledger.{empty};
 ghost use Rattle.ring_core.specs.Run.{ledger, replies};
 ghost use Rattle.session_run.specs.Session.{SessionStands};
-ghost use Rattle.session_run.specs.TextReply.{reply_text};
+ghost use Rattle.event_text.specs.TextReply.{reply_text};
 ghost use Rattle.session_run.specs.Top.{ended, reply_lines};
 ghost use Rattle.session_run.specs.Ends.{Sent, WhyUnwritten, WritesAll};
 
 use crate::session::Session;
-use crate::text::write_reply;
+use event_text::write_reply;
 use itoa::Buffer;
 use rent_buf::OutOfMemory;
 use rent_io::{ByteSink, Failed};

@@ -5,6 +5,7 @@ ghost use Rattle.ring_core.specs.Request.{named, held_of, plain_request};
 ghost use Rattle.ring_core.specs.Ledger.{Ledger, empty};
 ghost use Rattle.ring_core.specs.Refusal.{cause};
 ghost use Rattle.ring_core.specs.Run.{ledger, replies};
+ghost use Rattle.run_laws.specs.Closes.{ClosedOnce, ClosedWhenReleased, ClosedWhenOver, UnheldCloses};
 ghost use Rattle.run_laws.specs.Headline.{OneReplyEach, RefusedExactly, PendingUntilReaped, HandsBackOwn, FirstPollHands, HandedOnce, DroppedOnce, ReapNames, CanceledWhereAsked};
 ghost use Rattle.ring_core.specs.declared.ledger.Event.TheVariants.{Give, Feed, End, Submit, Poll, Drop, Cancel, Turn, Exec};
 ghost use Rattle.uring_driver.specs.Uring.{holds_all, given_by};
@@ -15,7 +16,8 @@ use crate::tokens::Tokens;
 use op_slots::slab::MAX_LIVE;
 use rent_buf::{Buf, BufSpec, ByteList, Held, HeldBuf, OutOfMemory, PartsSpec, VecBuf};
 use ring_core::{
-    Event, ExecRefusal, HandleKind, Look, MemRing, Refusal, Reply, Request, Told, WorldError,
+    Event, ExecRefusal, HandleKind, Look, MemRing, Refusal, Reply, Request, SharedFd, Told,
+    WorldError,
 };
 use std::alloc::{AllocError, Global};
 use thiserror::Error;
@@ -101,7 +103,7 @@ impl Session {
 
     /// One step of the machine: does what the event says on the driver, and answers what the machine replies. `OutOfMemory`
     /// comes if memory runs out, and then nothing has happened. It comes only at an event that the machine doesn't refuse, and
-    /// never at a poll, a drop or an end. (not in monoio)
+    /// never at a close, a poll, a drop or an end. (not in monoio)
     pub fn step(&mut self, event: &Event) -> Result<Reply, OutOfMemory>
         ensures answers { (L : Ledger) → SessionStands self.old L → StepsFor L event.now self.new result }
         ensures memory { TakesNoMemory event.now → IsOk result }
@@ -111,6 +113,7 @@ impl Session {
             Event::Feed(h, bytes) => self.feed(*h, bytes.as_slice()),
             Event::End(h) => Ok(self.end(*h)),
             Event::Look(h) => self.look(*h),
+            Event::Close(h) => Ok(self.close(*h)),
             Event::Submit(request) => self.submit_copy(request),
             Event::Poll(n, task) => Ok(self.poll(*n, *task)),
             Event::Drop(n) => Ok(self.give_up(*n)),
@@ -162,6 +165,13 @@ impl Session {
         // asked for, or it was dropped, before.
         ensures names { IfOk result (λ run. ReapNames capacity events.now run.0.items) }
         ensures canceled { IfOk result (λ run. CanceledWhereAsked capacity events.now run.0.items) }
+
+        // A turn names the close of a handle once at most: after its user gave the handle up, and after each operation on it was
+        // returned, or dropped and reaped. A handle that nobody holds has its close in the lists, or a turn named it.
+        ensures closed_once { IfOk result (λ run. ClosedOnce run.0.items) }
+        ensures closed_released { IfOk result (λ run. ClosedWhenReleased events.now run.0.items) }
+        ensures closed_over { IfOk result (λ run. ClosedWhenOver capacity events.now run.0.items) }
+        ensures closed_unheld { IfOk result (λ run. UnheldCloses capacity events.now run.0.items) }
     {
         let mut replies = Vec::with_capacity(alloc, events.len())?;
         let mut session = Session::new(alloc, capacity)?;
@@ -176,7 +186,8 @@ impl Session {
     fn give(&mut self, kind: HandleKind) -> Result<Reply, OutOfMemory>
         ensures { (L : Ledger) → SessionStands self.old L → StepsFor L (Give kind) self.new result }
     {
-        if self.driver.handles() >= MOST_GIVEN {
+        let next = self.driver.handles();
+        if next >= MOST_GIVEN || self.driver.known(next) {
             return Err(OutOfMemory);
         }
         match self.driver.give(kind) {
@@ -189,7 +200,7 @@ impl Session {
     fn feed(&mut self, h: u64, bytes: &[u8]) -> Result<Reply, OutOfMemory>
         ensures { (L : Ledger) → SessionStands self.old L → StepsFor L (Feed h bytes.now) self.new result }
     {
-        if !self.driver.user_holds(h) {
+        if !self.driver.has_handle(h) {
             return Ok(Reply::Refused(Refusal::NoHandle));
         }
         match self.driver.feed(h, bytes) {
@@ -203,7 +214,7 @@ impl Session {
     fn end(&mut self, h: u64) -> Reply
         ensures { (L : Ledger) → SessionStands self.old L → SessionAnswers L (End h) result self.new }
     {
-        if !self.driver.user_holds(h) {
+        if !self.driver.has_handle(h) {
             return Reply::Refused(Refusal::NoHandle);
         }
         match self.driver.end(h) {
@@ -216,13 +227,24 @@ impl Session {
     fn look(&self, h: u64) -> Result<Reply, OutOfMemory>
         ensures { (L : Ledger) → SessionStands self.now L → StepsFor L (Event.Look h) self.now result }
     {
-        if !self.driver.user_holds(h) {
+        if !self.driver.has_handle(h) {
             return Ok(Reply::Refused(Refusal::NoHandle));
         }
         match self.driver.look(h) {
             Ok(look) => Ok(Reply::Output(shown_by(look))),
             Err(_) => Err(OutOfMemory),
         }
+    }
+
+    // The user gives a handle up.
+    fn close(&mut self, h: u64) -> Reply
+        ensures { (L : Ledger) → SessionStands self.old L → SessionAnswers L (Event.Close h) result self.new }
+    {
+        if !self.driver.user_holds(h) {
+            return Reply::Refused(Refusal::NoHandle);
+        }
+        self.driver.close(SharedFd::new(h));
+        Reply::Released
     }
 
     // A copy of a request is submitted.
@@ -398,6 +420,7 @@ fn executed_reply(executed: Executed) -> Reply
 {
     match executed {
         Executed::Op(n) => Reply::ExecutedOp(n),
+        Executed::Close(h) => Reply::ExecutedClose(h),
     }
 }
 

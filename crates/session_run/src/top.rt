@@ -1,19 +1,23 @@
 //! The top call: all that the program does, over any source and sink.
-ghost use Rattle.std.specs.Prelude.{◌≡◌, ◌≤◌, ◌<◌, ◌*◌, ◌⊎◌, ◌↔◌, map, string_bytes, None, IfOk, IsTrue, ℕ};
+ghost use Rattle.std.specs.Prelude.{◌≡◌, ◌≤◌, ◌<◌, ◌*◌, ◌⊎◌, ◌↔◌, map, string_bytes, List, None, Some, IfOk, IsSome, IsTrue, ℕ};
 ghost use Rattle.ring_core.specs.Run.{ledger};
 ghost use Rattle.session_run.specs.Session.{SessionStands};
 ghost use Rattle.ring_core.specs.Counts.{Rose};
-ghost use Rattle.session_run.specs.Command.{IsRun, IsGenerate, IsWake, IsNoCommand, IsWakeCommand, IsWithin, ReadsNothing};
+ghost use Rattle.session_run.specs.Command.{IsRun, IsGenerate, IsWake, IsCopy, IsNoCommand, IsWithin, KeepsNothing, ReadsNothing};
 ghost use Rattle.session_run.specs.Generated.{generated_events};
 ghost use Rattle.session_run.specs.Top.{LineRefused, SumsFor, TookTooMany, WakesFor, exit_number, summary_text};
-ghost use Rattle.session_run.specs.Ends.{CommandEnds, RanShort, RefusesFor, RunEnds, RunsEvents, SinkEnds, StatusFor, reading, writing};
+ghost use Rattle.event_text.specs.TextReads.{bytes_of};
+ghost use Rattle.session_run.specs.Ends.{CommandEnds, CopiesFor, RanShort, RefusesFor, RunEnds, RunsEvents, SinkEnds, StatusFor};
+ghost use Rattle.session_run.specs.Ends.{reading, writing};
 
 use crate::command::{Command, MOST_SENDERS, command_of};
 use crate::generated::{ENTRIES, generated, run_counted};
-use crate::input::{NoEvents, source_events};
+use crate::input::{MOST_INPUT, NoEvents, source_events};
 use crate::output::{Unwritten, write_last, write_number, write_replies};
 use crate::session::Session;
 use crate::wake::wake_all;
+use copy_run::{Ending, copy_all};
+use event_text::read_bytes;
 use rent_buf::OutOfMemory;
 use rent_io::{ByteSink, ByteSource};
 use ring_core::Event;
@@ -34,9 +38,9 @@ pub enum Status {
     BadWords,
     /// The whole input was read, and a line of it is no event's text. Nothing was run, and `line N` was written.
     BadLine,
-    /// More than 16777216 bytes were read. Nothing was written.
+    /// More than 16777216 bytes were read. `run` has written nothing, and `copy` only the first of its prefix and its input.
     TooLong,
-    /// The source failed. Nothing was written.
+    /// The source failed. `run` has written nothing, and `copy` only the first of its prefix and what it read.
     ReadFault,
     /// The sink failed. A prefix of the text was written.
     WriteFault,
@@ -79,7 +83,8 @@ impl Drop for Kept {
 /// each reply and a newline as it comes. `gen SEED COUNT` reads nothing: it runs the events that the seed generates over a
 /// queue of 8 entries, and writes how many there are, how many were refused, and how many polls were ready. `wake SENDERS
 /// COUNT` reads nothing: each sender sends so many wakers from a thread of its own, and `drained N` and a newline are written.
-/// The condition is that nothing is kept yet. (not in monoio)
+/// `copy CAP PREFIXHEX` writes the bytes of `PREFIXHEX`, and then all that it reads, by way of buffers of `CAP` bytes. The
+/// condition is that nothing is kept yet. (not in monoio)
 pub fn top<R: Threads + Wait + Clock + Sync, S: ByteSource, K: ByteSink>(
     rt: &R,
     alloc: Global,
@@ -100,21 +105,26 @@ pub fn top<R: Threads + Wait + Clock + Sync, S: ByteSource, K: ByteSink>(
         SumsFor K.tells (generated_events seed rounds) (K.taken sink.old) (K.taken sink.new) kept.new result }
     ensures wakes { (senders count : ℕ) → IsWake (map string_bytes words.now) senders count →
         WakesFor K.tells (senders * count) (K.taken sink.old) (K.taken sink.new) result }
+    ensures copies { (capacity : ℕ) (prefix : List ℕ) → IsCopy (map string_bytes words.now) capacity prefix →
+        CopiesFor S.tells K.tells prefix (reading S.left S.faults source.old source.new)
+        (writing K.taken K.faults K.is_flushed sink.old sink.new) result }
 
-    // `gen` and `wake` read nothing. Only Done keeps something, and `wake` keeps nothing.
+    // `gen` and `wake` read nothing. Only Done keeps something, and `wake` and `copy` keep nothing.
     ensures unread_sums { (seed rounds : ℕ) → IsGenerate (map string_bytes words.now) seed rounds → source.new ≡ source.old }
     ensures unread_wakes { (senders count : ℕ) → IsWake (map string_bytes words.now) senders count → (source.new ≡ source.old) ×
         (kept.new ≡ None) }
+    ensures unkept_copies { (capacity : ℕ) (prefix : List ℕ) → IsCopy (map string_bytes words.now) capacity prefix → kept.new ≡ None }
     ensures kept { (result ≡ Status.Done → ⊥) → kept.new ≡ None }
 
-    // Done means that the sink is flushed. Each other status has its cause, whatever the command.
+    // Done means that the sink is flushed. Each other status has its cause, whatever the command; `copy` alone writes before all is read.
     ensures flushed { result ≡ Status.Done → IsTrue (K.is_flushed sink.new) }
     ensures bad_line { result ≡ Status.BadLine → LineRefused S.tells K.tells (S.left source.old) (S.left source.new) (K.taken sink.old)
         (K.taken sink.new) }
     ensures too_long { result ≡ Status.TooLong → IsTrue S.tells → TookTooMany (S.left source.old) (S.left source.new) }
     ensures read_fault { result ≡ Status.ReadFault → Rose (S.faults source.old) (S.faults source.new) }
     ensures write_fault { result ≡ Status.WriteFault → Rose (K.faults sink.old) (K.faults sink.new) }
-    ensures unwritten { (result ≡ Status.TooLong) ⊎ (result ≡ Status.ReadFault) → IsTrue K.tells → K.taken sink.new ≡ K.taken sink.old }
+    ensures unwritten { ((capacity : ℕ) (prefix : List ℕ) → IsCopy (map string_bytes words.now) capacity prefix → ⊥) →
+        (result ≡ Status.TooLong) ⊎ (result ≡ Status.ReadFault) → IsTrue K.tells → K.taken sink.new ≡ K.taken sink.old }
     ensures memory { result ≡ Status.OutOfMemory →
         RanShort S.tells K.tells (reading S.left S.faults source.old source.new) (writing K.taken K.faults K.is_flushed sink.old sink.new) }
 {
@@ -128,25 +138,26 @@ pub fn top<R: Threads + Wait + Clock + Sync, S: ByteSource, K: ByteSink>(
 fn run_command<R: Threads + Wait + Clock + Sync, S: ByteSource, K: ByteSink>(
     rt: &R,
     alloc: Global,
-    command: Command,
+    command: Command<'_>,
     source: &mut S,
     sink: &mut K,
     kept: &mut Option<Kept>,
 ) -> Status
     requires within { IsWithin command }
     requires fresh { kept.old ≡ None }
-    ensures ends { CommandEnds S.tells K.tells command (reading S.left S.faults source.old source.new)
+    ensures ends { CommandEnds S.tells K.tells command.entry (reading S.left S.faults source.old source.new)
         (writing K.taken K.faults K.is_flushed sink.old sink.new) kept.new result }
     ensures status { StatusFor S.tells K.tells (reading S.left S.faults source.old source.new)
         (writing K.taken K.faults K.is_flushed sink.old sink.new) result }
     ensures kept { (result ≡ Status.Done → ⊥) → kept.new ≡ None }
-    ensures unread { ReadsNothing command → source.new ≡ source.old }
-    ensures unkept { IsWakeCommand command → kept.new ≡ None }
+    ensures unread { ReadsNothing command.entry → source.new ≡ source.old }
+    ensures unkept { KeepsNothing command.entry → kept.new ≡ None }
 {
     match command {
         Command::Run(capacity) => run_lines(alloc, capacity, source, sink, kept),
         Command::Generate(seed, rounds) => run_generated(alloc, seed, rounds, sink, kept),
         Command::Wake(senders, count) => run_wake(rt, alloc, senders, count, sink),
+        Command::Copy(capacity, word) => run_copy(rt, alloc, capacity, word, source, sink),
     }
 }
 
@@ -266,6 +277,39 @@ fn run_wake<R: Threads + Wait + Clock + Sync, K: ByteSink>(
     match write_number(b"drained ", settled.drained, sink) {
         Ok(()) => Status::Done,
         Err(_) => Status::WriteFault,
+    }
+}
+
+// Copies the prefix that a word writes, and then what is read.
+fn run_copy<R: Wait, S: ByteSource, K: ByteSink>(
+    rt: &R,
+    alloc: Global,
+    capacity: u32,
+    word: &[u8],
+    source: &mut S,
+    sink: &mut K,
+) -> Status
+    requires { IsSome (bytes_of word.now) }
+    ensures { (prefix : List ℕ) → bytes_of word.now ≡ Some prefix → CopiesFor S.tells K.tells prefix
+        (reading S.left S.faults source.old source.new) (writing K.taken K.faults K.is_flushed sink.old sink.new) result }
+{
+    let Ok(Some(prefix)) = read_bytes(alloc, word) else {
+        return Status::OutOfMemory;
+    };
+    match copy_all(
+        rt,
+        alloc,
+        capacity as usize,
+        MOST_INPUT,
+        prefix,
+        source,
+        sink,
+    ) {
+        Ending::Done => Status::Done,
+        Ending::TooLong => Status::TooLong,
+        Ending::ReadFault => Status::ReadFault,
+        Ending::WriteFault => Status::WriteFault,
+        Ending::OutOfMemory => Status::OutOfMemory,
     }
 }
 

@@ -15,6 +15,7 @@ pub(crate) const HELP: &str =
 usage: session_run run CAP
        session_run gen SEED COUNT
        session_run wake SENDERS COUNT
+       session_run copy CAP PREFIXHEX
        session_run --help
        session_run --version
 
@@ -28,6 +29,9 @@ gen SEED COUNT       runs COUNT rounds of seven events (0 to 100000) that SEED
 wake SENDERS COUNT   wakes a parked driver COUNT times (0 to 100000) from each
                      of SENDERS threads (0 to 64), and writes how many wake-ups
                      it drained
+copy CAP PREFIXHEX   writes the bytes of PREFIXHEX (hexadecimal digits, or -
+                     for none) and then standard input, by way of buffers of
+                     CAP bytes (1 to 16777216)
 
 exit status: 0 success; 1 invalid command line; 2 invalid line, whose number
 is printed; 3 more than 16777216 bytes of input; 4 reading failed; 5 writing
@@ -37,7 +41,8 @@ failed; 6 out of memory";
 pub(crate) const VERSION: &str = "session_run 0.1.0";
 
 /// The line that standard error gets for an invalid command line.
-pub(crate) const USAGE: &str = "usage: session_run run CAP | gen SEED COUNT | wake SENDERS COUNT";
+pub(crate) const USAGE: &str =
+    "usage: session_run run CAP | gen SEED COUNT | wake SENDERS COUNT | copy CAP PREFIXHEX";
 
 /// What a person may ask for in place of a command.
 #[derive(Clone, Copy, Debug, PartialEq, Eq)]

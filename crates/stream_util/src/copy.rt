@@ -106,8 +106,10 @@ impl Copy {
         ensures joined { IsSameJoined R.tells W.tells (record { reader = R.reader reader.old; writer = W.writer writer.old })
             (record { reader = R.reader reader.new; writer = W.writer writer.new }) self.held (held_in result) }
         ensures ends { EndsStay (W.writer writer.old) (W.writer writer.new) }
+        ensures within { length (held_in result) ≤ 4096 }
     {
         let _ = self.count();
+        let _ = self.held();
         let mut copy = self;
         for _turn in 0..turns {
             match copy.poll(reader, writer, task) {

@@ -1,6 +1,6 @@
--- Steps that calls are made of: a slot's life changes with its operation, an operation leaves with its slot, and a cancel joins the
--- queue's end.
-use Rattle.std.proofs.Common.{◌≡◌, ◌≢◌, inl, inr, ℕ, true, false, [], ◌∷◌, ◌++◌, Some, refl, sym, ◌∙◌, ap, subst}
+-- Steps that calls are made of: a slot's life changes with its operation, an operation leaves with its slot, and a cancel or a close
+-- joins the queue's end.
+use Rattle.std.proofs.Common.{◌≡◌, ◌≢◌, inl, inr, ℕ, true, false, [], ◌∷◌, ◌++◌, Some, refl, sym, ◌∙◌, ap, subst, arith}
 use Rattle.std.proofs.lemmas.List.{map-append}
 use Rattle.std.specs.Prelude.{slice_get}
 use Rattle.std.specs.Ordering.{nat_cmp}
@@ -101,62 +101,48 @@ module _ {B : Type 0} (buffer : B → Buffer) (v : RingView) (slots : FinMap nat
         (λ n a. both n InFlight (λ q. cc) a) (λ i c h b a. both c.serial (InDone c.outcome) (λ q. cc) a) old.in_lists;
   }
 
--- A cancel of the operation of a live slot joins the queue's end.
-module _ {B : Type 0} (buffer : B → Buffer) (w : RingView) (slots : FinMap nat_cmp (Slot B)) (M : Ledger) (key : ℕ) (s : Slot B)
-    (number : ℕ)
-    (old : Means buffer w slots M) (there : get slots key ≡ Some s) (serial : s.serial ≡ number) where
-  abbrev c' : Entry
-  c' = cancel_entry key number
+-- An entry that isn't a call joins the queue's end. A cancel of a key means the same of each call that is there.
+module _ {B : Type 0} (buffer : B → Buffer) (w : RingView) (slots : FinMap nat_cmp (Slot B)) (M : Ledger) (new : Entry)
+    (old : Means buffer w slots M) (not_call : is_call new.body ≡ false) (queued : QueuedFor buffer slots M.ops new new.body)
+    (meets : (key : ℕ) → new.body ≡ Cancels key → (e : Entry) → EntryFor buffer slots e → Meets e key new.serial) where
+  meets-last : (e c : Entry) (key : ℕ) → EntryFor buffer slots e → c ≡ new → c.body ≡ Cancels key → Meets e key c.serial
+  meets-last e c key E h b = subst (λ x. Meets e key x.serial) (sym h) (meets key (ap (λ x. x.body) (sym h) ∙ b) e E)
 
-  -- At its push the key is that of the number alone.
-  meets : (e : Entry) → EntryFor buffer slots e → Meets e key number
-  meets e E = record {
-    by_word = λ h. sym E.serial ∙ ap (λ x. x.serial) (some E.slot s (get slots e.word) E.there (ap (get slots) h ∙ there)) ∙ serial;
-    by_serial = λ h. old.in_slots.one e.word key E.slot s E.there there (E.serial ∙ h ∙ sym serial);
-  }
+  no-call : (x : Entry) → x ≡ new → is_call x.body ≡ true → ⊥
+  no-call x h q = (let z : false ≡ true = sym (ap (λ y. is_call y.body) h ∙ not_call) ∙ q in cc)
 
-  last-key : (c : Entry) (k : ℕ) → c ≡ c' → c.body ≡ Cancels k → (key ≡ k) × (number ≡ c.serial)
-  last-key c k h b = (let q : Cancels key ≡ Cancels k = sym (ap (λ x. x.body) h) ∙ b in (cc, ap (λ x. x.serial) (sym h)))
-
-  meets-last : (e c : Entry) (k : ℕ) → EntryFor buffer slots e → c ≡ c' → c.body ≡ Cancels k → Meets e k c.serial
-  unfolding last-key
-  meets-last e c k E h b = (let l = last-key c k h b in subst (λ x. Meets e x c.serial) l.0 (subst (λ x. Meets e key x) l.1 (meets e E)))
-
-  no-call : (x : Entry) → x ≡ c' → is_call x.body ≡ true → ⊥
-  no-call x h q = (let z : false ≡ true = sym (ap (λ y. is_call y.body) h) ∙ q in cc)
-
-  cancels-more : CancelsMean (w.queue ++ c' ∷ []) w.flying
+  cancels-more : CancelsMean (w.queue ++ new ∷ []) w.flying
   cancels-more = record {
-    before = λ i j e c k h l b less q. elim (get-pushed w.queue c' i e h) [
-      | inl a ↦ elim (get-pushed w.queue c' j c l) [
+    before = λ i j e c k h l b less q. elim (get-pushed w.queue new i e h) [
+      | inl a ↦ elim (get-pushed w.queue new j c l) [
         | inl d ↦ old.in_lists.cancels.before i j e c k a d b less q
         | inr d ↦ meets-last e c k (call-queued buffer slots M.ops e e.body (old.in_lists.in_queue i e a) q).0 d.1 b
       ]
       | inr a ↦ absurd (no-call e a.1 q)
     ];
-    flown = λ i j f c k h l b q. elim (get-pushed w.queue c' j c l) [
+    flown = λ i j f c k h l b q. elim (get-pushed w.queue new j c l) [
       | inl d ↦ old.in_lists.cancels.flown i j f c k h d b q
       | inr d ↦ meets-last f.entry c k (call-flown buffer slots M.ops f f.entry.body (old.in_lists.in_flight i f h) q).0 d.1 b
     ];
   }
 
-  pub means-canceled : Means buffer (record w { queue = w.queue ++ cancel_entry key number ∷ [] }) slots (append M (Cancel number))
-  means-canceled = record {
+  pub means-joined : Means buffer (record w { queue = w.queue ++ new ∷ [] }) slots (append M (queued_of new))
+  means-joined = record {
     capacity = old.capacity;
     world = old.world;
     in_slots = old.in_slots;
     in_lists = (let l = old.in_lists in record {
-      queue = ap (λ x. x ++ Cancel number ∷ []) l.queue ∙ sym (map-append queued_of w.queue (c' ∷ []));
+      queue = ap (λ x. x ++ queued_of new ∷ []) l.queue ∙ sym (map-append queued_of w.queue (new ∷ []));
       flying = l.flying;
       done = l.done;
-      in_queue = λ i x h. elim (get-pushed w.queue c' i x h) [
+      in_queue = λ i x h. elim (get-pushed w.queue new i x h) [
         | inl a ↦ l.in_queue i x a
-        | inr a ↦ subst (λ y. QueuedFor buffer slots M.ops y y.body) (sym a.1) refl
+        | inr a ↦ subst (λ y. QueuedFor buffer slots M.ops y y.body) (sym a.1) queued
       ];
       in_flight = l.in_flight;
       in_done = l.in_done;
-      queue_once = λ i j x y h k a b q. elim (get-pushed w.queue c' i x h) [
-        | inl d ↦ elim (get-pushed w.queue c' j y k) [ inl e ↦ l.queue_once i j x y d e a b q | inr e ↦ absurd (no-call y e.1 b) ]
+      queue_once = λ i j x y h k a b q. elim (get-pushed w.queue new i x h) [
+        | inl d ↦ elim (get-pushed w.queue new j y k) [ inl e ↦ l.queue_once i j x y d e a b q | inr e ↦ absurd (no-call y e.1 b) ]
         | inr d ↦ absurd (no-call x d.1 a)
       ];
       flight_once = l.flight_once;
@@ -164,3 +150,24 @@ module _ {B : Type 0} (buffer : B → Buffer) (w : RingView) (slots : FinMap nat
       cancels = cancels-more;
     });
   }
+
+-- A cancel of the operation of a live slot.
+module _ {B : Type 0} (buffer : B → Buffer) (w : RingView) (slots : FinMap nat_cmp (Slot B)) (M : Ledger) (key : ℕ) (s : Slot B)
+    (number : ℕ)
+    (old : Means buffer w slots M) (there : get slots key ≡ Some s) (serial : s.serial ≡ number) where
+  -- Its key is no close's word.
+  pub cancel-queues : QueuedFor buffer slots M.ops (cancel_entry key number) (Cancels key)
+  cancel-queues = (refl, let below = old.in_slots.below key s there in omega (arith, below))
+
+  -- Its key is that of its number alone.
+  pub cancel-meets : (k : ℕ) → Cancels key ≡ Cancels k → (e : Entry) → EntryFor buffer slots e → Meets e k number
+  cancel-meets k same e E =
+      let q : key ≡ k = cc in
+      subst (λ x. Meets e x number) q (record {
+        by_word = λ h. sym E.serial ∙ ap (λ x. x.serial) (some E.slot s (get slots e.word) E.there (ap (get slots) h ∙ there)) ∙ serial;
+        by_serial = λ h. old.in_slots.one e.word key E.slot s E.there there (E.serial ∙ h ∙ sym serial);
+      })
+
+  -- It joins the queue's end.
+  pub means-canceled : Means buffer (record w { queue = w.queue ++ cancel_entry key number ∷ [] }) slots (append M (Cancel number))
+  means-canceled = means-joined buffer w slots M (cancel_entry key number) old refl cancel-queues cancel-meets

@@ -13,7 +13,6 @@ use Rattle.ring_core.specs.Ring.{RingView, IsLater, TookFront, EntersFor, IsPush
 use Rattle.ring_core.specs.Ring.{flying_after, done_after_entry, done_after}
 use Rattle.uring_driver.specs.Pending.{Pending}
 use Rattle.uring_driver.specs.Submissions.{with_spare, with_due, room_made, pending_ring, TakesFront, Enters, KeptOut, Posts, PendingMoves}
-use Rattle.uring_driver.specs.Submissions.{KeepsPending}
 
 -- What is taken in two parts is taken in one.
 flying-joined : (flying : List Flight) (xs ys : List Entry) → flying_after flying (xs ++ ys) ≡ flying_after (flying_after flying xs) ys
@@ -113,6 +112,7 @@ module _ {R : Type 0} (view : R → RingView) (tells : Bool) where
   enters-none old = record {
     later = later-same (view old.ring) (view old.ring).spare;
     few_done = omega arith;
+    more_done = omega arith;
     same_room = refl;
     told = λ t. took-none (pending_ring view old) (view old.ring).spare;
   }
@@ -121,6 +121,7 @@ module _ {R : Type 0} (view : R → RingView) (tells : Bool) where
   enters-on a b c f g = record {
     later = later-on (view a.ring) (view b.ring) (view c.ring) f.later g.later;
     few_done = (let x = f.few_done in let y = g.few_done in omega (arith, x, y));
+    more_done = (let x = f.more_done in let y = g.more_done in omega (arith, x, y));
     same_room = g.same_room ∙ f.same_room;
     told = λ t. took-on (pending_ring view a) (pending_ring view b) (pending_ring view c) (f.told t) (g.told t);
   }
@@ -131,6 +132,7 @@ module _ {R : Type 0} (view : R → RingView) (tells : Bool) where
   enters-by old ring (Ok n) e = record {
     later = e.later;
     few_done = (let a = e.all in let b = ap length e.emptied in let c = e.few_done in omega (arith, a, b, c));
+    more_done = e.more_done;
     same_room = refl;
     told =
         λ t. subst (λ w. TakesFront (pending_ring view old) (with_due w old.due)) (sym (e.told t))
@@ -139,12 +141,14 @@ module _ {R : Type 0} (view : R → RingView) (tells : Bool) where
   enters-by old ring (Err Fault) e = record {
     later = e.1.later;
     few_done = (let a = e.1.rest in let c = e.1.few_done in omega (arith, a, c));
+    more_done = e.1.more_done;
     same_room = refl;
     told = λ t. took-behind e.1.count (view old.ring) (view ring) old.due (e.1.told t);
   }
   enters-by old ring (Err Busy) e = record {
     later = e.1.later;
     few_done = (let a = e.1.rest in let c = e.1.few_done in omega (arith, a, c));
+    more_done = e.1.more_done;
     same_room = refl;
     told = λ t. took-behind e.1.count (view old.ring) (view ring) old.due (e.1.told t);
   }
@@ -187,6 +191,15 @@ room-spare : (v : RingView) (spare : ℕ) (b : Bool) →
     (if b then entered (with_spare v spare) else with_spare v spare) ≡ with_spare (if b then entered v else v) spare
 room-spare v spare true = refl
 room-spare v spare false = refl
+
+-- Making room in a ring keeps its capacity, by whether it takes.
+room-capacity-by : (v : RingView) (b : Bool) → (if b then entered v else v).capacity ≡ v.capacity
+room-capacity-by v true = refl
+room-capacity-by v false = refl
+
+-- Making room in a ring keeps its capacity.
+pub room-capacity : (v : RingView) → (room_made v).capacity ≡ v.capacity
+room-capacity v = room-capacity-by v (length v.queue == v.capacity)
 
 -- Where nothing is due, the ring is as it is.
 none-behind : (v : RingView) (due : List Entry) → due ≡ [] → with_due v due ≡ v
@@ -231,6 +244,8 @@ module _ {R : Type 0} (view : R → RingView) (tells : Bool) where
       (enters : Enters view tells old mid)
       (told : IsTrue tells → pending_ring view new ≡ with_spare (pushed (pending_ring view mid) entry) (view new.ring).spare)
       (later : IsLater (view mid.ring) (view new.ring))
+      (more : length (view new.ring).queue + length new.due ≡ length (view mid.ring).queue + length mid.due + 1)
+      (done : length (view new.ring).done ≡ length (view mid.ring).done)
       (due : mid.due ≡ [] → length (view mid.ring).queue < (view mid.ring).capacity → new.due ≡ []) where
     exactly : (result : Result Unit EnterError) → OnOk result (mid.due ≡ []) →
         OnOk result (length (view mid.ring).queue < (view mid.ring).capacity) →
@@ -258,6 +273,8 @@ module _ {R : Type 0} (view : R → RingView) (tells : Bool) where
     joins result none room pend kept less some = record {
       later = later-on (view old.ring) (view mid.ring) (view new.ring) enters.later later;
       room = λ h. less ∙ enters.same_room;
+      few_done = (let a = enters.few_done in omega (arith, a, more, done));
+      more_done = (let a = enters.more_done in omega (arith, a, done));
       told = λ h t. (pending_ring view mid, enters.told t, told t);
       exact = λ h s fits. exactly result none room pend kept s fits;
     }
@@ -269,11 +286,6 @@ module _ {R : Type 0} (view : R → RingView) (tells : Bool) where
     joins-steady (Ok u) none room kept s = due none room
     joins-steady (Err Fault) none room kept s = absurd (kept.1 s)
     joins-steady (Err Busy) none room kept s = absurd (kept.1 s)
-
--- A prefix of what is pending was taken, and nothing joined.
-pub moves-front : (v w : RingView) (ys : List Entry) → TakesFront v w → ys ≡ w.queue → PendingMoves v.queue ys []
-moves-front v w ys t h =
-    record { count = t.count; within = t.took.within; moved = h ∙ t.took.queue ∙ sym (append-nil (drop t.count v.queue)) }
 
 -- An entry joined it.
 pub moves-join : (v mid w : RingView) (e : Entry) (spare : ℕ) → TakesFront v mid → w ≡ with_spare (pushed mid e) spare →
@@ -293,15 +305,6 @@ later-behind v w due due' l =
 -- Where the queue with what is due behind it fits, their lengths together do.
 pub fits-split : (queue due : List Entry) (capacity : ℕ) → length (queue ++ due) ≤ capacity → length queue + length due ≤ capacity
 fits-split queue due capacity h = (let l = length-append queue due in omega (arith, l, h))
-
--- Where their lengths together fit, the queue with what is due behind it does.
-pub fits-joined : (queue due : List Entry) (capacity : ℕ) → length queue + length due ≤ capacity → length (queue ++ due) ≤ capacity
-fits-joined queue due capacity h = (let l = length-append queue due in omega (arith, l, h))
-
--- What is pending is the same where the ring keeps its queue.
-pub still-pending : {R : Type 0} (view : R → RingView) (tells : Bool) (old new : Pending R) → KeepsPending view tells old new →
-    IsTrue tells → (pending_ring view new).queue ≡ (pending_ring view old).queue
-still-pending view tells old new k t = ap (λ v. v.queue ++ new.due) (k.ring t) ∙ ap (λ xs. (view old.ring).queue ++ xs) k.due
 
 -- A completion is taken off, behind which all that is pending stays.
 pub taken-behind : {R : Type 0} (view : R → RingView) (old new : Pending R) (rest : List Completion) →

@@ -1,7 +1,6 @@
 -- What an execution does to a ring and slots that mean a ledger.
-use Rattle.std.proofs.Common.{◌≡◌, ◌≢◌, ◌⊎◌, inl, inr, ℕ, ◌≤◌, Bool, true, false, Option, List, ◌++◌, [], ◌∷◌, Some, refl, sym, ◌∙◌}
-use Rattle.std.proofs.Common.{ap, subst, arith, length, map, flat_map}
-use Rattle.std.specs.Prelude.{slice_get, remove}
+use Rattle.std.proofs.Common.{◌≡◌, ◌≢◌, ℕ, ◌≤◌, Bool, true, false, Option, List, [], ◌∷◌, Some, refl, sym, ◌∙◌, ap, subst, arith, length}
+use Rattle.std.specs.Prelude.{slice_get}
 use Rattle.std.specs.Ordering.{nat_cmp}
 use Rattle.std.specs.FinMap.{FinMap, get, insert}
 use Rattle.rent_buf.specs.Buffer.{Buffer}
@@ -31,14 +30,14 @@ use Rattle.driver_core.specs.Ops.{Ops}
 use Rattle.driver_core.specs.Slot.{KeepsNumbers}
 use Rattle.driver_core.specs.Slots.{SlotFor, SlotsStand, life_of}
 use Rattle.driver_core.specs.Operations.{StoresAt}
-use Rattle.uring_driver.specs.Lists.{EntryFor, CompletionFor, DoneFor, IsAt, IsFlown, ListsStand, is_call, names_slot, queued_of, item_of}
-use Rattle.uring_driver.specs.Lists.{done_items_of}
+use Rattle.uring_driver.specs.Lists.{EntryFor, CompletionFor, DoneFor, IsAt, IsFlown, ListsStand, is_call, names_slot, done_items_in}
 use Rattle.uring_driver.proofs.Means.{Means}
-use Rattle.driver_core.proofs.Lists.{some, skip, skip-not, skip-one, get-removed, map-removed, get-pushed}
+use Rattle.driver_core.proofs.Lists.{some, skip, skip-not}
 use Rattle.driver_core.proofs.Maps.{put-same, put-self}
 use Rattle.driver_core.proofs.Slots.{slots-replaced, other-slot}
 use Rattle.driver_core.proofs.Filling.{filled-where-fits}
-use Rattle.uring_driver.proofs.Kept.{queued-kept, flight-kept, done-kept, slot-done, done-pushed}
+use Rattle.uring_driver.proofs.Kept.{slot-done}
+use Rattle.uring_driver.proofs.Finishing.{lists-finished}
 use Rattle.uring_driver.proofs.Flights.{o, s, slot-there, n-is, there-s, which, flies, request-is, life-is, allows-is, comes-is, here}
 
 -- An operation that was executed keeps its stage of life.
@@ -230,25 +229,10 @@ module _ {B : Type 0} (buffer : B → Buffer) (v : RingView) (before after : Ops
     serial = stored-is.serial ∙ n-is buffer v slots L place fin.flight old fin.there calls ∙ sym serial;
   }
 
-  queue-is : v'.queue ≡ v.queue
-  queue-is = ap (λ x. x.queue) fin.ring
-
-  flying-is : v'.flying ≡ remove v.flying place
-  flying-is = ap (λ x. x.flying) fin.ring
-
-  done-is : v'.done ≡ v.done ++ c ∷ []
-  done-is = ap (λ x. x.done) fin.ring ∙ ap (λ x. v.done ++ x ∷ []) (sym fin.answer)
-
   keyed : target c.word ≡ Keyed c.word
   keyed =
       let below = old.in_slots.below fin.flight.entry.word slot (slot-there buffer v slots L place fin.flight old fin.there calls) in
       target-slot c.word (omega (arith, word, below))
-
-  flew : (i : ℕ) (x : Flight) → slice_get v'.flying i ≡ Some x → slice_get v.flying (skip place i) ≡ Some x
-  flew i x h = sym (get-removed v.flying place i) ∙ ap (λ xs. slice_get xs i) (sym flying-is) ∙ h
-
-  done-at : (i : ℕ) (x : Completion) → slice_get v'.done i ≡ Some x → (slice_get v.done i ≡ Some x) ⊎ ((i ≡ length v.done) × (x ≡ c))
-  done-at i x h = get-pushed v.done c i x (ap (λ xs. slice_get xs i) (sym done-is) ∙ h)
 
   -- What was done before is of another operation.
   done-other : (i : ℕ) (x : Completion) → slice_get v.done i ≡ Some x → names_slot (target x.word) ≡ true → x.serial ≢ n
@@ -256,54 +240,19 @@ module _ {B : Type 0} (buffer : B → Buffer) (v : RingView) (before after : Ops
       (λ z. cc)
 
   lists-stand : ListsStand buffer slots' v' L'
-  lists-stand =
-      let l = old.in_lists in
-      record {
-        queue = l.queue ∙ ap (map queued_of) (sym queue-is);
-        flying = ap (λ x. remove x place) l.flying ∙ sym (map-removed item_of v.flying place) ∙ ap (map item_of) (sym flying-is);
-        done = ap (λ x. x ++ Op n ∷ []) l.done ∙ ap (λ x. flat_map done_items_of v.done ++ Op x ∷ []) (sym serial)
-            ∙ sym (done-pushed v.done c c.word keyed) ∙ ap (flat_map done_items_of) (sym done-is);
-        in_queue = λ i x h. (
-            queued-kept buffer slots slots' L.ops ops' x x.body
-            (λ _ a. (let q = not-this x.serial InQueue a.1 (λ r. cc) in (entry-kept x a.0 q, at-kept x.serial InQueue a.1 q)))
-            (l.in_queue i x (ap (λ xs. slice_get xs i) (sym queue-is) ∙ h)));
-        in_flight = λ i x h. (
-            let at = flew i x h in
-            flight-kept buffer slots slots' L.ops ops' x x.marked x.entry.body
-            (λ b a. (
-            let q : x.entry.serial ≢ n = λ r. skip-not place i (l.flight_once (skip place i) place x fin.flight at fin.there b calls r) in
-            (entry-kept x.entry a.0 q, flown-kept x a.1 q)))
-            (l.in_flight (skip place i) x at));
-        in_done = λ i x h. elim (done-at i x h) [
-          | inl r ↦ done-kept slots slots' L.ops ops' x (target x.word)
-              (λ _ a. (
-              let q = not-this x.serial (InDone x.outcome) a.1 (λ y. cc) in
-              (completion-kept x a.0 q, at-kept x.serial (InDone x.outcome) a.1 q)))
-              (l.in_done i x r)
-          | inr r ↦ subst (λ y. DoneFor slots' ops' y (target y.word)) (sym r.1) (subst (λ t. DoneFor slots' ops' c t) (sym keyed)
-              (new-completion, subst (λ y. IsAt ops' y (InDone c.outcome)) (sym serial) new-place))
-        ];
-        queue_once = λ i j x y h k a b r. l.queue_once i j x y (ap (λ xs. slice_get xs i) (sym queue-is) ∙ h)
-            (ap (λ xs. slice_get xs j) (sym queue-is) ∙ k) a b r;
-        flight_once = λ i j x y h k a b r. skip-one place i j
-            (l.flight_once (skip place i) (skip place j) x y (flew i x h) (flew j y k) a b r);
-        done_once = λ i j x y h k p q r. elim (done-at i x h) [
-          | inl a ↦ elim (done-at j y k) [
-            | inl b ↦ l.done_once i j x y a b p q r
-            | inr b ↦ absurd (done-other i x a p (r ∙ ap (λ z. z.serial) b.1 ∙ serial))
-          ]
-          | inr a ↦ elim (done-at j y k) [
-            | inl b ↦ absurd (done-other j y b q (sym r ∙ ap (λ z. z.serial) a.1 ∙ serial))
-            | inr b ↦ a.0 ∙ sym b.0
-          ]
-        ];
-        cancels = record {
-          before = λ i j x y key h k b less q. l.cancels.before i j x y key (ap (λ xs. slice_get xs i) (sym queue-is) ∙ h)
-              (ap (λ xs. slice_get xs j) (sym queue-is) ∙ k) b less q;
-          flown = λ i j x y key h k b q. l.cancels.flown (skip place i) j x y key (flew i x h) (ap (λ xs. slice_get xs j) (sym queue-is)
-              ∙ k) b q;
-        };
-      }
+  lists-stand = lists-finished buffer slots slots' v v' place told sent got c fin L ops' result.world (Op n) old.in_lists
+      (ap (done_items_in c) keyed ∙ ap (λ x. Op x ∷ []) serial)
+      (λ x a. (let q = not-this x.serial InQueue a.1 (λ r. cc) in (entry-kept x a.0 q, at-kept x.serial InQueue a.1 q)))
+      (λ i x at b a. (
+      let q : x.entry.serial ≢ n = λ r. skip-not place i
+      (old.in_lists.flight_once (skip place i) place x fin.flight at fin.there b calls r) in
+      (entry-kept x.entry a.0 q, flown-kept x a.1 q)))
+      (λ x a. (
+      let q = not-this x.serial (InDone x.outcome) a.1 (λ y. cc) in
+      (completion-kept x a.0 q, at-kept x.serial (InDone x.outcome) a.1 q)))
+      (subst (λ t. DoneFor slots' ops' c t) (sym keyed)
+      (new-completion, subst (λ y. IsAt ops' y (InDone c.outcome)) (sym serial) new-place))
+      (λ i x h p _ r. done-other i x h p (r ∙ serial))
 
   pub means-executed : Means buffer v' after.slots.values
       (with_effect (complete_at L place (Op fin.flight.entry.serial)) fin.flight.entry.serial told

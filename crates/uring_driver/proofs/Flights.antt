@@ -1,5 +1,5 @@
 -- A call in flight at a place, of a ring and slots that mean a ledger, and what executing it gives.
-use Rattle.std.proofs.Common.{◌≡◌, ℕ, true, List, Some, refl, sym, ◌∙◌, ap, subst, length, take}
+use Rattle.std.proofs.Common.{◌≡◌, ℕ, true, List, Some, sym, ◌∙◌, ap, subst}
 use Rattle.std.specs.Prelude.{slice_get}
 use Rattle.std.specs.Ordering.{nat_cmp}
 use Rattle.std.specs.FinMap.{FinMap, get}
@@ -7,41 +7,26 @@ use Rattle.rent_buf.specs.Buffer.{Buffer}
 use Rattle.ring_core.specs.Ring.{RingView}
 use Rattle.ring_core.specs.MemRing.{body_effect, is_allowed_body}
 use Rattle.ring_core.specs.Outcome.{is_allowed}
-use Rattle.ring_core.specs.Effect.{effect, without_front}
-use Rattle.ring_core.specs.World.{with_output}
+use Rattle.ring_core.specs.Effect.{effect}
 use Rattle.ring_core.specs.Request.{call_of, sent_of, shown_by, plain_request, IsHolding}
-use Rattle.ring_core.specs.declared.world.HandleState.{HandleState}
-use Rattle.ring_core.specs.declared.entry.Body.{Body}
-use Rattle.ring_core.specs.declared.entry.Body.TheVariants.{Call as Calls, Cancel as Cancels}
 use Rattle.ring_core.specs.declared.entry.Flight.{Flight}
-use Rattle.ring_core.specs.declared.request.Call.{Call}
-use Rattle.ring_core.specs.declared.request.Call.TheVariants.{In, Out}
 use Rattle.ring_core.specs.declared.request.Told.{Told}
-use Rattle.ring_core.specs.declared.request.Told.TheVariants.{Count, Fail}
-use Rattle.ring_core.specs.Ledger.{Ledger, Operation, InFlight}
+use Rattle.ring_core.specs.Ledger.{Ledger, Operation, InFlight, Item}
 use Rattle.ring_core.specs.Payloads.{comes, body_comes}
-use Rattle.ring_core.proofs.Amended.{length-amended}
 use Rattle.ring_core.proofs.Requests.{holding-same, effect-shown}
 use Rattle.driver_core.specs.declared.slot.Slot.{Slot}
 use Rattle.driver_core.specs.Slots.{SlotFor, is_early, life_of}
-use Rattle.uring_driver.specs.Lists.{EntryFor, IsFlown, is_call}
+use Rattle.uring_driver.specs.Lists.{EntryFor, IsFlown, is_call, item_of}
 use Rattle.uring_driver.proofs.Means.{Means}
-use Rattle.driver_core.proofs.Lists.{some}
+use Rattle.driver_core.proofs.Lists.{some, get-map}
 use Rattle.uring_driver.proofs.Kept.{call-flown}
 
--- An executed call leaves as many handles.
-pub length-effect : (world : List HandleState) (call : Call) (sent : List ℕ) (told : Told) →
-    length (effect world call sent told).world ≡ length world
-length-effect world (In h want) sent (Count k) = length-amended (without_front k) world h
-length-effect world (In h want) sent (Fail e) = refl
-length-effect world (Out h offered) sent (Count k) = length-amended (with_output (take k sent)) world h
-length-effect world (Out h offered) sent (Fail e) = refl
-
--- So does an executed entry.
-pub length-body-effect : (world : List HandleState) (body : Body) (sent : List ℕ) (told : Told) →
-    length (body_effect world body sent told).world ≡ length world
-length-body-effect world (Calls call) sent told = length-effect world call sent told
-length-body-effect world (Cancels key) sent told = refl
+-- What is in flight is the ledger's item.
+pub flying-at : {B : Type 0} (buffer : B → Buffer) (v : RingView) (slots : FinMap nat_cmp (Slot B)) (L : Ledger) (place : ℕ) (flight : Flight)
+    (item : Item) → Means buffer v slots L → slice_get v.flying place ≡ Some flight → item_of flight ≡ item →
+    slice_get L.flying place ≡ Some item
+flying-at buffer v slots L place flight item old there is = ap (λ x. slice_get x place) old.in_lists.flying
+    ∙ get-map item_of v.flying place flight there ∙ ap (λ x. Some x) is
 
 -- A call in flight at a place, in a ring and slots that mean a ledger.
 module _ {B : Type 0} (buffer : B → Buffer) (v : RingView) (slots : FinMap nat_cmp (Slot B)) (L : Ledger) (place : ℕ) (flight : Flight)

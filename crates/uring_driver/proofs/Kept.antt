@@ -1,5 +1,6 @@
 -- Lists that mean the same after a change of slots and of operations that keeps what each entry needs.
-use Rattle.std.proofs.Common.{◌≡◌, ℕ, Bool, true, List, [], ◌∷◌, ◌++◌, Some, refl, sym, ◌∙◌, ap, subst, append-nil, flat_map}
+use Rattle.std.proofs.Common.{◌≡◌, ◌≤◌, ◌<◌, ◌^◌, ℕ, Bool, true, false, List, [], ◌∷◌, ◌++◌, Some, refl, sym, ◌∙◌, ap, subst, append-nil}
+use Rattle.std.proofs.Common.{arith, flat_map}
 use Rattle.std.proofs.lemmas.List.Concat.{flat_map-append}
 use Rattle.std.specs.Prelude.{slice_get}
 use Rattle.std.specs.Ordering.{nat_cmp}
@@ -8,30 +9,35 @@ use Rattle.rent_buf.specs.Buffer.{Buffer}
 use Rattle.ring_core.specs.Ring.{RingView}
 use Rattle.ring_core.specs.Request.{call_of, plain_request}
 use Rattle.ring_core.specs.declared.entry.Body.{Body}
-use Rattle.ring_core.specs.declared.entry.Body.TheVariants.{Call as Calls, Cancel as Cancels}
+use Rattle.ring_core.specs.declared.entry.Body.TheVariants.{Call as Calls, Cancel as Cancels, Close as Closes}
 use Rattle.ring_core.specs.declared.entry.Entry.{Entry}
 use Rattle.ring_core.specs.declared.entry.Completion.{Completion}
 use Rattle.ring_core.specs.declared.entry.Flight.{Flight}
 use Rattle.ring_core.specs.declared.entry.Target.{Target}
-use Rattle.ring_core.specs.declared.entry.Target.TheVariants.{Slot as Keyed, Reserved}
-use Rattle.ring_core.specs.Entry.{target}
+use Rattle.ring_core.specs.declared.entry.Target.TheVariants.{Slot as Keyed, Handle, Reserved}
+use Rattle.ring_core.specs.Entry.{target, close_entry}
 use Rattle.ring_core.specs.Ledger.{Ledger, Op, Operation, Place, InQueue, InFlight, InDone}
 use Rattle.driver_core.specs.declared.slot.Slot.{Slot}
 use Rattle.uring_driver.specs.Lists.{EntryFor, CompletionFor, IsAt, IsFlown, QueuedFor, FlightFor, DoneFor, ListsStand, is_call, names_slot}
 use Rattle.uring_driver.specs.Lists.{item_in, done_items_in, done_items_of}
-use Rattle.ring_core.specs.declared.entry.TheConstants.{CANCEL_WORD}
+use Rattle.ring_core.specs.declared.entry.TheConstants.{CANCEL_WORD, FIRST_CLOSE}
 
 -- What a call in the queue is.
 pub call-queued : {B : Type 0} (buffer : B → Buffer) (slots : FinMap nat_cmp (Slot B)) (ops : List Operation) (e : Entry) (b : Body) →
     QueuedFor buffer slots ops e b → is_call b ≡ true → EntryFor buffer slots e × IsAt ops e.serial InQueue
 call-queued buffer slots ops e (Calls call) q h = q
 call-queued buffer slots ops e (Cancels key) q h = (let f : ⊥ = cc in absurd f)
+call-queued buffer slots ops e (Closes k) q h = (let f : ⊥ = cc in absurd f)
 
--- The word of a cancel in the queue.
+-- What a cancel in the queue is: its word is reserved, and its key is no close's word.
 pub cancel-queued : {B : Type 0} (buffer : B → Buffer) (slots : FinMap nat_cmp (Slot B)) (ops : List Operation) (e : Entry) (b : Body) →
-    QueuedFor buffer slots ops e b → (key : ℕ) → b ≡ Cancels key → e.word ≡ CANCEL_WORD
-cancel-queued buffer slots ops e (Calls call) q key h = (let f : ⊥ = cc in absurd f)
-cancel-queued buffer slots ops e (Cancels k) q key h = q
+    QueuedFor buffer slots ops e b → (key : ℕ) → b ≡ Cancels key → (e.word ≡ CANCEL_WORD) × (key < FIRST_CLOSE)
+cancel-queued buffer slots ops e b q key h = subst (λ x. QueuedFor buffer slots ops e x) h q
+
+-- What a close in the queue is.
+pub close-queued : {B : Type 0} (buffer : B → Buffer) (slots : FinMap nat_cmp (Slot B)) (ops : List Operation) (e : Entry) (b : Body) →
+    QueuedFor buffer slots ops e b → (h : ℕ) → b ≡ Closes h → (e ≡ close_entry h) × (h < 2 ^ 62)
+close-queued buffer slots ops e b q h is = subst (λ x. QueuedFor buffer slots ops e x) is q
 
 -- What an entry in the queue means is kept by all that keeps it of a call.
 pub queued-kept : {B : Type 0} (buffer : B → Buffer) (slots slots' : FinMap nat_cmp (Slot B)) (ops ops' : List Operation) (e : Entry)
@@ -39,6 +45,7 @@ pub queued-kept : {B : Type 0} (buffer : B → Buffer) (slots slots' : FinMap na
     EntryFor buffer slots' e × IsAt ops' e.serial InQueue) → QueuedFor buffer slots ops e b → QueuedFor buffer slots' ops' e b
 queued-kept buffer slots slots' ops ops' e (Calls call) go q = go refl q
 queued-kept buffer slots slots' ops ops' e (Cancels key) go q = q
+queued-kept buffer slots slots' ops ops' e (Closes h) go q = q
 
 -- Where what is in flight is.
 pub flown-at : (ops : List Operation) (f : Flight) → IsFlown ops f → IsAt ops f.entry.serial InFlight
@@ -49,24 +56,35 @@ pub call-flown : {B : Type 0} (buffer : B → Buffer) (slots : FinMap nat_cmp (S
     FlightFor buffer slots ops f b → is_call b ≡ true → EntryFor buffer slots f.entry × IsFlown ops f
 call-flown buffer slots ops f (Calls call) q h = q
 call-flown buffer slots ops f (Cancels key) q h = absurd q
+call-flown buffer slots ops f (Closes k) q h = (let f : ⊥ = cc in absurd f)
 
--- What an entry in flight means is kept by all that keeps it of a call, also where its mark changes.
+-- What is in flight and isn't a call has the word of a close.
+pub close-flown : {B : Type 0} (buffer : B → Buffer) (slots : FinMap nat_cmp (Slot B)) (ops : List Operation) (f : Flight) (b : Body) →
+    FlightFor buffer slots ops f b → is_call b ≡ false → FIRST_CLOSE ≤ f.entry.word
+close-flown buffer slots ops f (Calls call) q h = (let f : ⊥ = cc in absurd f)
+close-flown buffer slots ops f (Cancels key) q h = absurd q
+close-flown buffer slots ops f (Closes k) q h = (let w = ap (λ e. e.word) q.0 in omega (arith, w))
+
+-- What an entry in flight means is kept by all that keeps it of a call, also where the mark of a call changes.
 pub flight-kept : {B : Type 0} (buffer : B → Buffer) (slots slots' : FinMap nat_cmp (Slot B)) (ops ops' : List Operation) (f : Flight)
-    (m : Bool) (b : Body) → (is_call b ≡ true → EntryFor buffer slots f.entry × IsFlown ops f →
+    (m : Bool) (b : Body) → (is_call b ≡ false → m ≡ f.marked) → (is_call b ≡ true → EntryFor buffer slots f.entry × IsFlown ops f →
     EntryFor buffer slots' f.entry × IsFlown ops' (record f { marked = m })) →
     FlightFor buffer slots ops f b → FlightFor buffer slots' ops' (record f { marked = m }) b
-flight-kept buffer slots slots' ops ops' f m (Calls call) go q = go refl q
-flight-kept buffer slots slots' ops ops' f m (Cancels key) go q = q
+flight-kept buffer slots slots' ops ops' f m (Calls call) stays go q = go refl q
+flight-kept buffer slots slots' ops ops' f m (Cancels key) stays go q = q
+flight-kept buffer slots slots' ops ops' f m (Closes h) stays go q = (q.0, q.1, stays refl ∙ q.2)
 
 -- A call in flight is an operation.
 pub call-item : (e : Entry) (b : Body) → is_call b ≡ true → item_in e b ≡ Op e.serial
 call-item e (Calls call) h = refl
 call-item e (Cancels key) h = (let f : ⊥ = cc in absurd f)
+call-item e (Closes k) h = (let f : ⊥ = cc in absurd f)
 
 -- What a completion is whose word names a slot.
 pub slot-done : {B : Type 0} (slots : FinMap nat_cmp (Slot B)) (ops : List Operation) (c : Completion) (t : Target) →
     DoneFor slots ops c t → names_slot t ≡ true → CompletionFor slots c × IsAt ops c.serial (InDone c.outcome)
 slot-done slots ops c (Keyed key) q h = q
+slot-done slots ops c (Handle k) q h = (let f : ⊥ = cc in absurd f)
 slot-done slots ops c (Reserved word) q h = (let f : ⊥ = cc in absurd f)
 
 -- What a completion means is kept by all that keeps it where its word names a slot.
@@ -74,12 +92,8 @@ pub done-kept : {B : Type 0} (slots slots' : FinMap nat_cmp (Slot B)) (ops ops' 
     (names_slot t ≡ true → CompletionFor slots c × IsAt ops c.serial (InDone c.outcome) →
     CompletionFor slots' c × IsAt ops' c.serial (InDone c.outcome)) → DoneFor slots ops c t → DoneFor slots' ops' c t
 done-kept slots slots' ops ops' c (Keyed key) go q = go refl q
+done-kept slots slots' ops ops' c (Handle h) go q = q
 done-kept slots slots' ops ops' c (Reserved word) go q = q
-
--- The last completion is its operation's where its word names a slot.
-pub done-pushed : (xs : List Completion) (c : Completion) (key : ℕ) → target c.word ≡ Keyed key →
-    flat_map done_items_of (xs ++ c ∷ []) ≡ flat_map done_items_of xs ++ Op c.serial ∷ []
-done-pushed xs c key h = flat_map-append done_items_of xs (c ∷ []) ∙ ap (λ t. flat_map done_items_of xs ++ (done_items_in c t ++ [])) h
 
 -- The last completion means nothing where its word is reserved.
 pub done-reserved : (xs : List Completion) (c : Completion) (word : ℕ) → target c.word ≡ Reserved word →
@@ -133,7 +147,7 @@ module _ {B : Type 0} (buffer : B → Buffer) (slots slots' : FinMap nat_cmp (Sl
         in_queue = λ i e h. queued-kept buffer slots slots' L.ops ops' e e.body
             (λ q a. (let k = in_queue e.serial (at e.serial InQueue a.1) in
             (entry-kept e k.0 a.0, at-kept e.serial InQueue k.1 (at e.serial InQueue a.1)))) (old.in_queue i e h);
-        in_flight = λ i f h. flight-kept buffer slots slots' L.ops ops' f f.marked f.entry.body
+        in_flight = λ i f h. flight-kept buffer slots slots' L.ops ops' f f.marked f.entry.body (λ _. refl)
             (λ q a. (let b = subst (λ x. IsFlown x f) same a.1 in let k = in_flight f.entry.serial (flown-at ops f b) in
             (entry-kept f.entry k.0 a.0, flown-kept f k.1 b))) (old.in_flight i f h);
         in_done = λ i c h. done-kept slots slots' L.ops ops' c (target c.word)

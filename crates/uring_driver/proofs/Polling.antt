@@ -1,27 +1,33 @@
 -- What a poll of a live slot does to a driver that stands for a ledger, and to its tokens.
-use Rattle.std.proofs.Common.{◌≡◌, ◌≤◌, ℕ, true, [], ◌∷◌, ◌++◌, Option, Some, None, refl, sym, ◌∙◌, ap, subst, length, arith}
+use Rattle.std.proofs.Common.{◌≡◌, ◌≤◌, ◌<◌, ◌^◌, ℕ, Bool, true, List, map, Option, Some, None, refl, sym, ◌∙◌, ap, subst, length, arith, IsTrue}
 use Rattle.std.specs.Prelude.{◌↔◌, slice_get}
-use Rattle.std.specs.FinMap.{get, insert, remove}
+use Rattle.std.specs.FinMap.{get, insert, remove, len}
 use Rattle.rent_buf.specs.Buffer.{Buffer}
 use Rattle.op_slots.specs.declared.lifecycle.Lifecycle.{Lifecycle}
 use Rattle.op_slots.specs.declared.lifecycle.Lifecycle.TheVariants.{Submitted, Waiting, Ignored, Completed}
 use Rattle.op_slots.specs.declared.lifecycle.AfterPoll.TheVariants.{Pending as Waits}
 use Rattle.op_slots.specs.Lifecycle.{after_poll, polled}
 use Rattle.ring_core.specs.Ring.{RingView}
-use Rattle.ring_core.specs.Lists.{amended, numbers_where}
-use Rattle.ring_core.specs.Request.{plain_request, held_of, IsHolding}
+use Rattle.ring_core.specs.Lists.{amended, has_number}
+use Rattle.ring_core.specs.Entry.{close_entry}
+use Rattle.ring_core.specs.Request.{named, plain_request, held_of, IsHolding}
 use Rattle.ring_core.specs.declared.request.Outcome.{Outcome}
 use Rattle.ring_core.specs.declared.ledger.Event.TheVariants.{Poll}
 use Rattle.ring_core.specs.declared.ledger.Reply.TheVariants.{Pending, Handed}
-use Rattle.ring_core.specs.Ledger.{Ledger, Place, InQueue, InFlight, InDone, Reaped, Gone, is_kept, is_owned, user_holds}
-use Rattle.ring_core.specs.Queue.{with_op, at_place}
-use Rattle.ring_core.specs.Run.{ledger}
+use Rattle.ring_core.specs.Ledger.{Ledger, Operation, Place, InQueue, InFlight, InDone, Reaped, Gone, is_kept, is_owned}
+use Rattle.ring_core.specs.Queue.{with_op, with_gone, at_place, leave}
 use Rattle.ring_core.specs.Step.{with_task}
 use Rattle.ring_core.proofs.Amended.{get-amended-same, length-amended}
+use Rattle.ring_core.proofs.Holders.{HoldsSame, holders-op}
+use Rattle.ring_core.proofs.Taking.{in_queue}
+use Rattle.ring_core.proofs.Requests.{named-holding, named-mapped}
 use Rattle.driver_core.specs.declared.slot.Slot.{Slot}
 use Rattle.uring_driver.specs.declared.uring.IoUringDriver.{IoUringDriver}
-use Rattle.uring_driver.specs.Uring.{ring_in, pending, is_among}
-use Rattle.uring_driver.specs.Submissions.{pending_ring}
+use Rattle.uring_driver.specs.Holding.{ops_left, HandlesStand}
+use Rattle.uring_driver.specs.Uring.{room_in}
+use Rattle.uring_driver.specs.Submissions.{pending_ring, PostsEach}
+use Rattle.driver_core.specs.Holds.{unheld_by, CanLeave}
+use Rattle.driver_core.proofs.Holds.{len-left}
 use Rattle.driver_core.specs.Slot.{with_life, is_owned_life, is_flying}
 use Rattle.driver_core.specs.Slots.{SlotFor, waiting, life_of, owned_life}
 use Rattle.driver_core.specs.declared.op.Done.{Done}
@@ -35,8 +41,12 @@ use Rattle.driver_core.proofs.Tokens.{held-slot}
 use Rattle.uring_driver.specs.Op.{Holds, number_of}
 use Rattle.uring_driver.specs.PollOp.{PollsFor, PollsOp, IsPending, IsUnreaped, IsUnreapedOp, IsUnreapedPlace}
 use Rattle.uring_driver.specs.Stands.{Stands, Answers}
-use Rattle.uring_driver.proofs.Steps.{is_waiting, step-poll-waiting, step-poll-reaped, reached-more}
-use Rattle.uring_driver.proofs.Means.{Means, means-of, ring-of}
+use Rattle.uring_driver.proofs.Steps.{is_waiting, step-poll-waiting, step-poll-reaped}
+use Rattle.uring_driver.proofs.Means.{Means, means-of}
+use Rattle.uring_driver.proofs.Posting.{FitsQueue}
+use Rattle.uring_driver.proofs.Holders.{handles-same}
+use Rattle.uring_driver.proofs.Answering.{lawful-of, fits-of, answers-parts}
+use Rattle.uring_driver.proofs.Lefts.{parts-left, live-left}
 use Rattle.uring_driver.proofs.Changing.{means-changed, means-freed}
 use Rattle.driver_core.proofs.Counts.{where-all, where-less}
 use Rattle.driver_core.proofs.Owned.{Owned, owned-slot}
@@ -90,25 +100,26 @@ life-waits (InDone r) t task h = polled-waiting t task
 life-waits (Reaped r) t task h = (let f : ⊥ = cc in absurd f)
 life-waits Gone t task h = (let f : ⊥ = cc in absurd f)
 
+-- A task that waits leaves who holds what.
+task-holds : (task : ℕ) (o : Operation) → HoldsSame o (with_task task o)
+task-holds task o = record { request = refl; live = refl }
+
 module _ {R B : Type 0} (view : R → RingView) (buffer : B → Buffer) (d new : IoUringDriver R B) (L : Ledger) (key task : ℕ) (s : Slot B)
-    (old : Stands view buffer d L) (there : get d.slots.values key ≡ Some s) (mine : is_owned_life s.life ≡ true) (ring : new.ring ≡ d.ring)
-    (given : new.given ≡ d.given) (first : new.first ≡ d.first) (held : new.held ≡ d.held) where
+    (old : Stands view buffer d L) (there : get d.slots.values key ≡ Some s) (mine : is_owned_life s.life ≡ true)
+    (given : new.given ≡ d.given) where
   -- The operation of the slot, which its user may still drop.
   my : Owned buffer L s
   my = owned-slot buffer L s (old.operations.in_slots.holds key s there) mine
 
-  -- What is pending fits as it did.
-  fits-still : length (pending view new) ≤ (view (ring_in new)).capacity
-  fits-still = subst (λ p. length (pending_ring view p).queue ≤ (view p.ring).capacity) (sym ring) old.fits
-
   -- A poll of an operation that isn't reaped.
-  pub stands-waits : after_poll s.life ≡ Waits → new.slots.values ≡ insert d.slots.values key (with_life s (polled s.life task)) →
+  pub stands-waits : new.ring ≡ d.ring → new.holding ≡ d.holding → after_poll s.life ≡ Waits →
+      new.slots.values ≡ insert d.slots.values key (with_life s (polled s.life task)) →
       Answers view buffer L (Poll s.serial task) Pending new
   unfolding my
-  stands-waits waits_here slots =
+  stands-waits ring holding waits_here slots =
       let o = my.fit.operation in
       let w = pending-waits o.place o.task my.fit.live (ap after_poll (sym my.life) ∙ waits_here) in
-      let e = step-poll-waiting L s.serial task o my.fit.there my.owned w in
+      let M = with_op L s.serial (with_task task) in
       let fits : SlotFor buffer (amended L.ops s.serial (with_task task)) (with_life s (polled s.life task)) = record {
         operation = with_task task o;
         there = get-amended-same (with_task task) L.ops s.serial o my.fit.there;
@@ -119,31 +130,19 @@ module _ {R B : Type 0} (view : R → RingView) (buffer : B → Buffer) (d new :
         fresh = my.fit.fresh;
         uncanceled = my.fit.uncanceled;
       } in
-      let means = subst (λ K. Means buffer (pending_ring view new.ring) new.slots.values K) (sym (ap (λ x. x.0) e))
-      (subst (λ x. Means buffer (pending_ring view x) new.slots.values (with_op L s.serial (with_task task))) (sym ring)
-      (subst (λ x. Means buffer (pending_ring view d.ring) x (with_op L s.serial (with_task task))) (sym slots)
+      let means = subst (λ x. Means buffer (pending_ring view x) new.slots.values M) (sym ring)
+      (subst (λ x. Means buffer (pending_ring view d.ring) x M) (sym slots)
       (means-changed buffer (pending_ring view d.ring) d.slots.values L key s (polled s.life task) (with_task task) o
-      (means-of old) there my.fit.there (λ p. (refl, refl)) fits))) in
-      record {
-        reply_is = ap (λ x. x.1) e;
-        stands = record {
-          events = old.events ++ Poll s.serial task ∷ [];
-          reached = reached-more L (view (ring_in new)).capacity old.events (Poll s.serial task)
-              (old.reached ∙ ap (λ x. ledger (view x.ring).capacity old.events) (sym ring));
-          operations = record {
-            numbered = given ∙ old.operations.numbered ∙ sym (length-amended (with_task task) L.ops s.serial)
-                ∙ ap (λ x. length x.0.ops) (sym e);
-            in_slots = means.in_slots;
-          };
-          handles = λ h. ap (λ k. is_among k new.held h) first ∙ ap (λ k. is_among d.first k h) held ∙ old.handles h
-              ∙ ap (λ x. user_holds x.0 h) (sym e);
-          room = (let a = where-all is_owned (with_task task) L.ops s.serial (λ p. refl) in
-              let b = ap (λ x. length (numbers_where is_owned 0 x.0.ops)) e in let c = ap (λ p. p.room) ring in let r = old.room in
-              omega (arith, a, b, c, r));
-          fits = fits-still;
-          ring = ring-of means;
-        };
-      }
+      (means-of old) there my.fit.there (λ p. (refl, refl)) fits)) in
+      answers-parts view buffer d new L M (Poll s.serial task) Pending old
+      (step-poll-waiting L s.serial task o my.fit.there my.owned w) (ap (λ p. (view p.ring).capacity) ring) means
+      (given ∙ old.operations.numbered ∙ sym (length-amended (with_task task) L.ops s.serial))
+      (subst (λ x. HandlesStand x M) (sym holding)
+      (handles-same d.holding L old.handles M (holders-op L s.serial (with_task task) (λ p q. task-holds task p)) (λ h. refl)))
+      (let a = where-all is_owned (with_task task) L.ops s.serial (λ p. refl) in
+      let b = ap (λ x. len x.table.holders) holding in let c = ap (λ p. p.room) ring in let r = old.room in
+      omega (arith, a, b, c, r))
+      (subst (λ p. FitsQueue view p) (sym ring) (fits-of view d old))
 
   -- An operation whose poll waits isn't reaped.
   pub waits-unreaped : after_poll s.life ≡ Waits → IsUnreaped L s.serial
@@ -151,40 +150,47 @@ module _ {R B : Type 0} (view : R → RingView) (buffer : B → Buffer) (d new :
   waits-unreaped waits_here = subst (λ x. IsUnreapedOp x) (sym my.fit.there) (unreaped-place my.fit.operation.place
       (pending-waits my.fit.operation.place my.fit.operation.task my.fit.live (ap after_poll (sym my.life) ∙ waits_here)))
 
+  -- The slot names what its operation does.
+  names : named my.fit.operation.request ≡ named s.request
+  names = sym (named-holding my.fit.operation.request my.fit.operation.buffer (plain_request buffer s.request) my.fit.request)
+      ∙ named-mapped buffer (λ parts. parts) s.request
+
   -- A poll of an operation that was reaped.
-  pub stands-takes : (r : Outcome) → s.life ≡ Completed r → new.slots.values ≡ remove d.slots.values key →
+  pub stands-takes : (tells steady : Bool) → IsTrue steady → (r : Outcome) → s.life ≡ Completed r →
+      new.slots.values ≡ remove d.slots.values key → new.holding ≡ ops_left d.holding (named s.request) →
+      length (unheld_by d.holding.table (named s.request)) ≤ room_in d →
+      ((h : ℕ) → has_number h (unheld_by d.holding.table (named s.request)) ≡ true → h < 2 ^ 62) →
+      CanLeave d.holding.table (named s.request) →
+      PostsEach view tells steady d.ring new.ring (map close_entry (unheld_by d.holding.table (named s.request))) →
       Answers view buffer L (Poll s.serial task) (Handed r (held_of (plain_request buffer s.request))) new
-  unfolding my
-  stands-takes r life slots =
+  unfolding my names
+  stands-takes tells steady always r life slots holding room below may posts =
       let o = my.fit.operation in
       let w = take-reaped o.place o.task r my.fit.live (sym my.life ∙ life) in
-      let e = step-poll-reaped L s.serial task o my.fit.there my.owned r w in
-      let buf : o.buffer ≡ held_of (plain_request buffer s.request) = sym my.fit.request.holds in
-      let means = subst (λ K. Means buffer (pending_ring view new.ring) new.slots.values K) (sym (ap (λ x. x.0) e))
-      (subst (λ x. Means buffer (pending_ring view x) new.slots.values (with_op L s.serial (at_place Gone))) (sym ring)
-      (subst (λ x. Means buffer (pending_ring view d.ring) x (with_op L s.serial (at_place Gone))) (sym slots)
-      (means-freed buffer (pending_ring view d.ring) d.slots.values L key s (at_place Gone) o r
-      (means-of old) there my.fit.there w refl))) in
-      record {
-        reply_is = ap (λ x. x.1) e ∙ ap (λ x. Handed r x) buf;
-        stands = record {
-          events = old.events ++ Poll s.serial task ∷ [];
-          reached = reached-more L (view (ring_in new)).capacity old.events (Poll s.serial task)
-              (old.reached ∙ ap (λ x. ledger (view x.ring).capacity old.events) (sym ring));
-          operations = record {
-            numbered = given ∙ old.operations.numbered ∙ sym (length-amended (at_place Gone) L.ops s.serial)
-                ∙ ap (λ x. length x.0.ops) (sym e);
-            in_slots = means.in_slots;
-          };
-          handles = λ h. ap (λ k. is_among k new.held h) first ∙ ap (λ k. is_among d.first k h) held ∙ old.handles h
-              ∙ ap (λ x. user_holds x.0 h) (sym e);
-          room = (let a = where-less is_owned (at_place Gone) L.ops s.serial o my.fit.there my.owned refl in
-              let b = ap (λ x. length (numbers_where is_owned 0 x.0.ops)) e in let c = ap (λ p. p.room) ring in let r = old.room in
-              omega (arith, a, b, c, r));
-          fits = fits-still;
-          ring = ring-of means;
-        };
-      }
+      let M = leave L s.serial in
+      let us : List ℕ → List ℕ = λ hs. unheld_by d.holding.table hs in
+      let lawful = lawful-of old in
+      let freed = subst (λ x. Means buffer (pending_ring view d.ring) x (with_gone L s.serial)) (sym slots)
+      (means-freed buffer (pending_ring view d.ring) d.slots.values L key s (at_place Gone) o r (means-of old) there my.fit.there w refl) in
+      let left = parts-left view buffer tells steady new.slots.values d.ring new.ring d.holding L s.serial o always freed old.handles
+      my.fit.there my.fit.live lawful.known (live-left L s.serial o lawful my.fit.there (ap in_queue w))
+      (subst (λ hs. (h : ℕ) → has_number h (us hs) ≡ true → h < 2 ^ 62) (sym names) below)
+      (subst (λ hs. length (us hs) ≤ room_in d) (sym names) room) (fits-of view d old)
+      (subst (λ hs. PostsEach view tells steady d.ring new.ring (map close_entry (us hs))) (sym names) posts) in
+      answers-parts view buffer d new L M (Poll s.serial task) (Handed r (held_of (plain_request buffer s.request))) old
+      (step-poll-reaped L s.serial task o my.fit.there my.owned r w ∙ ap (λ x. (M, Handed r x)) (sym my.fit.request.holds))
+      left.capacity left.means
+      (given ∙ old.operations.numbered ∙ sym (left.count ∙ length-amended (at_place Gone) L.ops s.serial))
+      (subst (λ x. HandlesStand x M) (ap (ops_left d.holding) names ∙ sym holding) left.handles)
+      (let a = where-less is_owned (at_place Gone) L.ops s.serial o my.fit.there my.owned refl in
+      let b = ap length left.owned in
+      let c = left.room in
+      let e = ap (λ hs. length (us hs)) names in
+      let f = len-left d.holding.table (named s.request) may in
+      let g = ap (λ x. len x.table.holders) holding in
+      let r = old.room in
+      omega (arith, a, b, c, e, f, g, r))
+      left.fits
 
   -- One whose slot is completed is.
   pub takes-reaped : (r : Outcome) → s.life ≡ Completed r → IsUnreaped L s.serial → ⊥
@@ -192,32 +198,42 @@ module _ {R B : Type 0} (view : R → RingView) (buffer : B → Buffer) (d new :
   takes-reaped r life unreaped = subst (λ x. IsUnreapedPlace x) (take-reaped my.fit.operation.place my.fit.operation.task r my.fit.live
       (sym my.life ∙ life)) (subst (λ x. IsUnreapedOp x) my.fit.there unreaped)
 
+-- What a poll that takes did to a driver's parts: the handles that the operation named were let go, and their closes posted.
+pub record TakesParts {R B : Type 0} (view : R → RingView) (tells steady : Bool) (d new : IoUringDriver R B) (handles : List ℕ) : Type 0 where
+  pub holding : new.holding ≡ ops_left d.holding handles
+  pub room : length (unheld_by d.holding.table handles) ≤ room_in d
+  pub below : (h : ℕ) → has_number h (unheld_by d.holding.table handles) ≡ true → h < 2 ^ 62
+  pub may : CanLeave d.holding.table handles
+  pub posts : PostsEach view tells steady d.ring new.ring (map close_entry (unheld_by d.holding.table handles))
+
 -- The answers of a poll, by what it did to the slot of its token.
 module _ {R B : Type 0} (view : R → RingView) (buffer : B → Buffer) (d new : IoUringDriver R B) (op : Op) (task : ℕ) (holds : Holds d op)
-    (L : Ledger) (old : Stands view buffer d L)
-    (ring : new.ring ≡ d.ring) (given : new.given ≡ d.given) (first : new.first ≡ d.first) (held : new.held ≡ d.held) where
+    (L : Ledger) (old : Stands view buffer d L) (given : new.given ≡ d.given) where
   -- The slot that the token names.
   has : Owner d.slots.values op.key op.number
   has = held-slot d.slots.values op holds
 
   -- A poll that waits answers what the machine does.
-  waits : PollsAt d.slots.values op.key task new.slots.values None → Answers view buffer L (Poll (number_of op) task) Pending new
-  waits polls =
+  pub poll-waits : new.ring ≡ d.ring → new.holding ≡ d.holding → PollsAt d.slots.values op.key task new.slots.values None →
+      Answers view buffer L (Poll (number_of op) task) Pending new
+  poll-waits ring holding polls =
       let s = has.slot in
       let is = polls s has.there in
       subst (λ n. Answers view buffer L (Poll n task) Pending new) has.serial
-      (stands-waits view buffer d new L op.key task s old has.there has.owned ring given first held
-      (waits-flies s.life is.0 has.owned) is.1)
+      (stands-waits view buffer d new L op.key task s old has.there has.owned given ring holding (waits-flies s.life is.0 has.owned) is.1)
 
   -- One that takes answers what the machine does.
-  takes : (done : Done B) → PollsAt d.slots.values op.key task new.slots.values (Some done) →
+  takes : (tells steady : Bool) → IsTrue steady → (done : Done B) → PollsAt d.slots.values op.key task new.slots.values (Some done) →
+      TakesParts view tells steady d new (named done.request) →
       Answers view buffer L (Poll (number_of op) task) (Handed done.outcome (held_of (plain_request buffer done.request))) new
-  takes done polls =
+  takes tells steady always done polls parts =
       let s = has.slot in
       let is = polls s has.there in
+      let own = subst (λ r. TakesParts view tells steady d new (named r)) is.1 parts in
       subst (λ r. Answers view buffer L (Poll (number_of op) task) (Handed done.outcome (held_of (plain_request buffer r))) new) (sym is.1)
       (subst (λ n. Answers view buffer L (Poll n task) (Handed done.outcome (held_of (plain_request buffer s.request))) new) has.serial
-      (stands-takes view buffer d new L op.key task s old has.there has.owned ring given first held done.outcome is.0 is.2))
+      (stands-takes view buffer d new L op.key task s old has.there has.owned given tells steady always done.outcome is.0 is.2 own.holding
+      own.room own.below own.may own.posts))
 
   -- What it takes is the operation's own request.
   owns : (done : Done B) → PollsAt d.slots.values op.key task new.slots.values (Some done) →
@@ -232,10 +248,10 @@ module _ {R B : Type 0} (view : R → RingView) (buffer : B → Buffer) (d new :
             fit.request;
       }
 
-  -- A poll answers what the machine does, and hands out the operation's own request.
-  pub polls-for : (result : PollOp B) → PollsOp d new op task result → PollsFor view buffer L op task new result
-  polls-for (Answer.Pending back) polls = waits polls
-  polls-for (Answer.Ready done) polls = (takes done polls, owns done polls)
+  -- It hands out the operation's own request.
+  pub poll-takes : (tells steady : Bool) → IsTrue steady → (done : Done B) → PollsAt d.slots.values op.key task new.slots.values (Some done) →
+      TakesParts view tells steady d new (named done.request) → PollsFor view buffer L op task new (Answer.Ready done)
+  poll-takes tells steady always done polls parts = (takes tells steady always done polls parts, owns done polls)
 
   -- A poll is pending exactly while the operation isn't reaped.
   pub pending-unreaped : (result : PollOp B) → PollsOp d new op task result → IsPending result ↔ IsUnreaped L (number_of op)
@@ -243,13 +259,12 @@ module _ {R B : Type 0} (view : R → RingView) (buffer : B → Buffer) (d new :
     λ _. (let s = has.slot in
         let is = polls s has.there in
         subst (λ n. IsUnreaped L n) has.serial
-        (waits-unreaped view buffer d new L op.key task s old has.there has.owned ring given first held
-        (waits-flies s.life is.0 has.owned))),
+        (waits-unreaped view buffer d new L op.key task s old has.there has.owned given (waits-flies s.life is.0 has.owned))),
     λ _. tt,
   )
   pending-unreaped (Answer.Ready done) polls = (
     λ f. absurd f,
     λ unreaped. (let s = has.slot in
-        takes-reaped view buffer d new L op.key task s old has.there has.owned ring given first held done.outcome (polls s has.there).0
+        takes-reaped view buffer d new L op.key task s old has.there has.owned given done.outcome (polls s has.there).0
         (subst (λ n. IsUnreaped L n) (sym has.serial) unreaped)),
   )

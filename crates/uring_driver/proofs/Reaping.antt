@@ -10,16 +10,19 @@ use Rattle.ring_core.specs.Ring.{RingView, with_done}
 use Rattle.ring_core.specs.Lists.{amended}
 use Rattle.ring_core.specs.declared.entry.Completion.{Completion}
 use Rattle.ring_core.specs.declared.request.Outcome.{Outcome}
-use Rattle.ring_core.specs.Ledger.{Ledger, Op, Operation, Place, InQueue, InFlight, InDone, Gone, is_live, is_kept}
-use Rattle.ring_core.specs.Queue.{at_place}
-use Rattle.ring_core.specs.Turn.{reap_one, reap_op, reap_if, reaped_place, with_reap, task_if, task_woken}
+use Rattle.ring_core.specs.Ledger.{Ledger, Operation, Place, InQueue, InFlight, InDone, Gone, is_live, is_kept}
+use Rattle.ring_core.specs.Queue.{at_place, with_op, with_gone}
+use Rattle.ring_core.specs.Request.{named as handles_of, plain_request}
+use Rattle.ring_core.specs.Turn.{reaped_place, with_reap, task_if}
 use Rattle.ring_core.proofs.Amended.{get-amended-same, get-amended-other}
+use Rattle.ring_core.proofs.Requests.{named-holding, named-mapped}
 use Rattle.driver_core.specs.declared.slot.Slot.{Slot}
 use Rattle.driver_core.specs.Slot.{with_life, is_flying, task_in, slots_completed, named_by, named_if, slots_if, slots_after}
+use Rattle.driver_core.specs.Holds.{if_dropped, dropped_in}
 use Rattle.driver_core.specs.Slots.{SlotFor, SlotsStand, waiting, life_of, is_early}
-use Rattle.ring_core.specs.declared.entry.Target.TheVariants.{Slot as Keyed, Reserved as Unnamed}
+use Rattle.ring_core.specs.declared.entry.Target.TheVariants.{Slot as Keyed}
 use Rattle.ring_core.specs.Entry.{target}
-use Rattle.uring_driver.specs.Lists.{CompletionFor, DoneFor, IsAt, ListsStand, names_slot, done_items_in, done_items_of}
+use Rattle.uring_driver.specs.Lists.{CompletionFor, DoneFor, IsAt, ListsStand, names_slot, done_items_of}
 use Rattle.uring_driver.proofs.Means.{Means}
 use Rattle.driver_core.proofs.Lists.{some}
 use Rattle.driver_core.proofs.Maps.{remove-put}
@@ -52,17 +55,22 @@ wakes-task : (b : Bool) (r : Outcome) (t : Option ℕ) → option_to_list (task_
 wakes-task true r t = refl
 wakes-task false r t = wakes t
 
+-- A slot that waits leaves no handle.
+none-waiting : (t : Option ℕ) (handles : List ℕ) → if_dropped (waiting t) handles ≡ []
+none-waiting None handles = refl
+none-waiting (Some t) handles = refl
+
 -- The completion of a slot that waits stays in it.
 slots-waiting : {B : Type 0} (t : Option ℕ) (m : FinMap nat_cmp (Slot B)) (k : ℕ) (x : Slot B) →
     slots_completed (waiting t) m k x ≡ insert m k x
 slots-waiting None m k x = refl
 slots-waiting (Some t) m k x = refl
 
--- A completion of a reserved word changes nothing but that it is gone.
-pub means-reserved : {B : Type 0} (buffer : B → Buffer) (v : RingView) (slots : FinMap nat_cmp (Slot B)) (L : Ledger) (c : Completion)
-    (rest : List Completion) → Means buffer v slots L → v.done ≡ c ∷ rest → (word : ℕ) → target c.word ≡ Unnamed word →
-    Means buffer (with_done v rest) slots L
-means-reserved buffer v slots L c rest old first word reserved =
+-- A completion is taken off: what is left means the ledger without what it means.
+pub means-less : {B : Type 0} (buffer : B → Buffer) (v : RingView) (slots : FinMap nat_cmp (Slot B)) (L : Ledger) (c : Completion)
+    (rest : List Completion) → Means buffer v slots L → v.done ≡ c ∷ rest →
+    Means buffer (with_done v rest) slots (record L { done = flat_map done_items_of rest })
+means-less buffer v slots L c rest old first =
     let later : (i : ℕ) (x : Completion) → slice_get rest i ≡ Some x →
     slice_get v.done (suc i) ≡ Some x = λ i x h. ap (λ xs. slice_get xs (suc i)) first ∙ h in
     let l = old.in_lists in
@@ -73,7 +81,7 @@ means-reserved buffer v slots L c rest old first word reserved =
       in_lists = record {
         queue = l.queue;
         flying = l.flying;
-        done = l.done ∙ ap (flat_map done_items_of) first ∙ ap (λ t. done_items_in c t ++ flat_map done_items_of rest) reserved;
+        done = refl;
         in_queue = l.in_queue;
         in_flight = l.in_flight;
         in_done = λ i x h. l.in_done (suc i) x (later i x h);
@@ -83,6 +91,25 @@ means-reserved buffer v slots L c rest old first word reserved =
         cancels = l.cancels;
       };
     }
+
+-- What the ledger has done is what the first completion means, and then what the rest do.
+pub done-first : {B : Type 0} (buffer : B → Buffer) (v : RingView) (slots : FinMap nat_cmp (Slot B)) (L : Ledger) (c : Completion)
+    (rest : List Completion) → Means buffer v slots L → v.done ≡ c ∷ rest → L.done ≡ done_items_of c ++ flat_map done_items_of rest
+done-first buffer v slots L c rest old first = old.in_lists.done ∙ ap (flat_map done_items_of) first
+
+-- What the completion of an operation comes to: the operation is done with its outcome, and it is named with its task. Where it wasn't
+-- dropped its slot is completed, and it is reaped; else its slot goes, with the handles that it names, and it is gone.
+pub record Completes {B : Type 0} (buffer : B → Buffer) (v : RingView) (slots : FinMap nat_cmp (Slot B)) (L : Ledger) (c : Completion)
+    (rest : List Completion) : Type 0 where
+  pub operation : Operation
+  pub there : slice_get L.ops c.serial ≡ Some operation
+  pub done : operation.place ≡ InDone c.outcome
+  pub named : Names (named_by (get slots c.word)) c.serial (task_if operation.dropped operation.task)
+  pub kept : operation.dropped ≡ false → Means buffer (with_done v rest) (slots_after slots c (get slots c.word))
+      (with_op (record L { done = flat_map done_items_of rest }) c.serial with_reap) × (dropped_in (get slots c.word) ≡ [])
+  pub left : operation.dropped ≡ true → Means buffer (with_done v rest) (slots_after slots c (get slots c.word))
+      (with_gone (record L { done = flat_map done_items_of rest }) c.serial)
+      × (dropped_in (get slots c.word) ≡ handles_of operation.request)
 
 module _ {B : Type 0} (buffer : B → Buffer) (v : RingView) (slots : FinMap nat_cmp (Slot B)) (L : Ledger) (c : Completion)
     (rest : List Completion)
@@ -194,23 +221,12 @@ module _ {B : Type 0} (buffer : B → Buffer) (v : RingView) (slots : FinMap nat
   later : (i : ℕ) (x : Completion) → slice_get rest i ≡ Some x → slice_get v.done (suc i) ≡ Some x
   later i x h = ap (λ xs. slice_get xs (suc i)) first ∙ h
 
-  -- The lists without it.
+  -- The ledger without it.
   abbrev taken-off : Ledger
   taken-off = record L { done = flat_map done_items_of rest }
 
-  lists-less : ListsStand buffer slots (with_done v rest) taken-off
-  lists-less = (let l = old.in_lists in record {
-    queue = l.queue;
-    flying = l.flying;
-    done = refl;
-    in_queue = l.in_queue;
-    in_flight = l.in_flight;
-    in_done = λ i x h. l.in_done (suc i) x (later i x h);
-    queue_once = l.queue_once;
-    flight_once = l.flight_once;
-    done_once = λ i j x y h k a b r. (let z = l.done_once (suc i) (suc j) x y (later i x h) (later j y k) a b r in cc);
-    cancels = l.cancels;
-  })
+  less : Means buffer (with_done v rest) slots taken-off
+  less = means-less buffer v slots L c rest old first
 
   lists-reaped : (slots' : FinMap nat_cmp (Slot B)) (f : Operation → Operation) → ((n : ℕ) → n ≢ c.serial → KeepsSlot slots slots' n) →
       ListsStand buffer slots' (with_done v rest) (record taken-off { ops = amended L.ops c.serial f })
@@ -222,53 +238,76 @@ module _ {B : Type 0} (buffer : B → Buffer) (v : RingView) (slots : FinMap nat
       let q : x.serial ≢ c.serial = λ r. (let z = old.in_lists.done_once (suc i) 0 x c (later i x h) at_head b (ap names_slot keyed) r in
       cc) in
       (keeps x.serial q, op-kept f x.serial q)))
-      lists-less
+      less.in_lists
 
-  by_drop : (b : Bool) → o.dropped ≡ b →
-      Means buffer (with_done v rest) (slots_completed (life_of b (InDone c.outcome) o.task) slots c.word t) (reap_if b taken-off c.serial)
-  by_drop true h = subst (λ m. Means buffer (with_done v rest) m (reap_if true taken-off c.serial)) (sym (remove-put slots c.word t))
+  -- The slots once it is completed, by whether its operation was dropped.
+  abbrev after : Bool → FinMap nat_cmp (Slot B)
+  after b = slots_completed (life_of b (InDone c.outcome) o.task) slots c.word t
+
+  kept-by : (b : Bool) → o.dropped ≡ b → b ≡ false → Means buffer (with_done v rest) (after b) (with_op taken-off c.serial with_reap)
+  kept-by true d h = (let f : ⊥ = cc in absurd f)
+  kept-by false d h = subst (λ m. Means buffer (with_done v rest) m (with_op taken-off c.serial with_reap))
+      (sym (slots-waiting o.task slots c.word t)) (record {
+        capacity = old.capacity;
+        world = old.world;
+        in_slots = slots-reaped d;
+        in_lists = lists-reaped (insert slots c.word t) with_reap (slot-kept d);
+      })
+
+  left-by : (b : Bool) → o.dropped ≡ b → b ≡ true → Means buffer (with_done v rest) (after b) (with_gone taken-off c.serial)
+  left-by true d h = subst (λ m. Means buffer (with_done v rest) m (with_gone taken-off c.serial)) (sym (remove-put slots c.word t))
       (record {
         capacity = old.capacity;
         world = old.world;
         in_slots = slots-left;
         in_lists = lists-reaped (remove slots c.word) (at_place Gone) slot-left;
       })
-  by_drop false h = subst (λ m. Means buffer (with_done v rest) m (reap_if false taken-off c.serial))
-      (sym (slots-waiting o.task slots c.word t)) (record {
-        capacity = old.capacity;
-        world = old.world;
-        in_slots = slots-reaped h;
-        in_lists = lists-reaped (insert slots c.word t) with_reap (slot-kept h);
-      })
-
-  means-reaped : Means buffer (with_done v rest) (slots_completed s.life slots c.word t) (reap_one taken-off (Op c.serial))
-  means-reaped = subst (λ K. Means buffer (with_done v rest) (slots_completed s.life slots c.word t) K)
-      (sym (ap (reap_op taken-off c.serial) which))
-      (subst (λ l. Means buffer (with_done v rest) (slots_completed l slots c.word t) (reap_if o.dropped taken-off c.serial)) (sym life-is)
-      (by_drop o.dropped refl))
+  left-by false d h = (let f : ⊥ = cc in absurd f)
 
   flies : is_flying s.life ≡ true
   flies = ap is_flying life-is ∙ done-flies o.dropped c.outcome o.task
 
+  -- The slots once it is treated.
+  after-is : slots_after slots c (get slots c.word) ≡ after o.dropped
+  after-is = ap (slots_after slots c) slot-there ∙ ap (λ b. slots_if b slots c s) flies ∙ ap (λ l. slots_completed l slots c.word t) life-is
+
+  -- The handles that it leaves, by whether its operation was dropped.
+  names-by : (b : Bool) → dropped_in (get slots c.word) ≡ if_dropped (life_of b (InDone c.outcome) o.task) (handles_of s.request) →
+      (b ≡ false → dropped_in (get slots c.word) ≡ []) × (b ≡ true → dropped_in (get slots c.word) ≡ handles_of o.request)
+  unfolding o mine
+  names-by true is = (
+    λ h. (let f : ⊥ = cc in absurd f),
+    λ h. is ∙ sym (named-mapped buffer (λ parts. parts) s.request)
+        ∙ named-holding mine.operation.request mine.operation.buffer (plain_request buffer s.request) mine.request,
+  )
+  names-by false is = (λ h. is ∙ none-waiting o.task (handles_of s.request), λ h. (let f : ⊥ = cc in absurd f))
+
+  dropped-is : dropped_in (get slots c.word) ≡ if_dropped (life_of o.dropped (InDone c.outcome) o.task) (handles_of s.request)
+  dropped-is = ap dropped_in slot-there ∙ ap (λ l. if_dropped l (handles_of s.request)) life-is
+
   named-here : named_by (get slots c.word) ≡ Some (s.serial, task_in s.life)
   named-here = ap named_by slot-there ∙ ap (λ b. named_if b s) flies
 
-  -- The ledger's first completion is this one, and it names that operation and its task.
-  pub first-done : L.done ≡ Op c.serial ∷ flat_map done_items_of rest
-  first-done = old.in_lists.done ∙ ap (flat_map done_items_of) first ∙ ap (λ t. done_items_in c t ++ flat_map done_items_of rest) keyed
-
-  pub names-first : Names (named_by (get slots c.word)) c.serial (task_woken (slice_get L.ops c.serial))
+  pub completes : Completes buffer v slots L c rest
   unfolding s
-  names-first = record {
-    task = task_in s.life;
-    is = named-here ∙ ap (λ n. Some (n, task_in s.life)) n-is;
-    woken = ap (λ l. option_to_list (task_in l)) life-is ∙ wakes-task o.dropped c.outcome o.task ∙ sym (ap task_woken which);
+  completes = record {
+    operation = o;
+    there = which;
+    done = stands-done;
+    named = record {
+      task = task_in s.life;
+      is = named-here ∙ ap (λ n. Some (n, task_in s.life)) n-is;
+      woken = ap (λ l. option_to_list (task_in l)) life-is ∙ wakes-task o.dropped c.outcome o.task;
+    };
+    kept = λ h. (
+      subst (λ m. Means buffer (with_done v rest) m (with_op taken-off c.serial with_reap)) (sym after-is) (kept-by o.dropped refl h),
+      (names-by o.dropped dropped-is).0 h,
+    );
+    left = λ h. (
+      subst (λ m. Means buffer (with_done v rest) m (with_gone taken-off c.serial)) (sym after-is) (left-by o.dropped refl h),
+      (names-by o.dropped dropped-is).1 h,
+    );
   }
-
-  -- What is left means what the ledger's reap leaves.
-  pub means-first : Means buffer (with_done v rest) (slots_after slots c (get slots c.word)) (reap_one taken-off (Op c.serial))
-  means-first = subst (λ m. Means buffer (with_done v rest) m (reap_one taken-off (Op c.serial)))
-      (sym (ap (slots_after slots c) slot-there ∙ ap (λ b. slots_if b slots c s) flies)) means-reaped
 
 -- Where no completion is ready, none is in the ledger.
 pub ended : {B : Type 0} (buffer : B → Buffer) (v : RingView) (slots : FinMap nat_cmp (Slot B)) (L : Ledger) → Means buffer v slots L →

@@ -1,43 +1,47 @@
 -- What each call keeps of what holds of every driver.
-use Rattle.std.proofs.Common.{◌≡◌, ◌≢◌, inl, inr, ℕ, zero, suc, ◌+◌, ◌≤◌, ◌<◌, Option, Some, None, refl, sym, ◌∙◌, ap, subst, arith}
-use Rattle.std.specs.Prelude.{IsSome}
+use Rattle.std.proofs.Common.{◌≡◌, ◌≢◌, inl, inr, ℕ, ◌+◌, ◌≤◌, ◌<◌, Option, Some, None, refl, sym, ◌∙◌, ap, subst, arith}
+use Rattle.std.specs.Prelude.{IsSome, is_some}
 use Rattle.std.specs.Ordering.{nat_cmp}
-use Rattle.std.specs.FinMap.{FinMap, get, insert, remove, empty, len, get-empty, len-empty, empty_of_len}
+use Rattle.std.specs.FinMap.{FinMap, get, insert, remove, empty, len, get-empty, len-empty}
 use Rattle.driver_core.specs.declared.op.Op.{Op}
 use Rattle.driver_core.specs.declared.op.PollOp.{PollOp}
 use Rattle.driver_core.specs.declared.op.PollOp.TheVariants.{Pending, Ready}
+use Rattle.handle_core.specs.Table.{Table}
 use Rattle.driver_core.specs.declared.slot.Slot.{Slot}
 use Rattle.driver_core.specs.Op.{PollsTokens}
 use Rattle.driver_core.specs.Ops.{Ops}
 use Rattle.driver_core.specs.Slot.{number_at, serial_of, KeepsNumbers}
 use Rattle.uring_driver.specs.State.{IsSound}
 use Rattle.ring_core.proofs.Numbers.{same-or-not}
-use Rattle.driver_core.proofs.Maps.{gone-other, len-new, len-gone}
+use Rattle.driver_core.proofs.Maps.{gone-other, len-new, len-gone, len-some}
 use Rattle.driver_core.proofs.Numbers.{owner}
 
 -- An option without a value has none.
 none-some : {X : Type 0} (x : X) (o : Option X) → o ≡ None → o ≡ Some x → ⊥
 none-some {X} x o n s = (let z : ◌≡◌ {A = Option X} None (Some x) = sym n ∙ s in cc)
 
--- Slots with no new number, and no less room.
-pub sound-shrinks : {B : Type 0} (room room' : ℕ) (slots slots' : FinMap nat_cmp (Slot B)) → IsSound room slots → room ≤ room' →
-    ((key number : ℕ) → number_at slots' key ≡ Some number → number_at slots key ≡ Some number) → IsSound room' slots'
-sound-shrinks room room' slots slots' s more sub = record {
+-- Slots with no new number, and no less room beside what the closes of held handles need.
+pub sound-shrinks : {B : Type 0} (room room' : ℕ) (slots slots' : FinMap nat_cmp (Slot B)) (table table' : Table) → IsSound room slots table →
+    room + len table'.holders ≤ room' + len table.holders →
+    ((key number : ℕ) → number_at slots' key ≡ Some number → number_at slots key ≡ Some number) → IsSound room' slots' table'
+sound-shrinks room room' slots slots' table table' s more sub = record {
   owned = s.owned;
   few = (let a = s.few in omega (arith, a, more));
   all = λ key number h. s.all key number (sub key number h);
 }
 
--- Slots that keep their numbers, and no less room.
-pub sound-keeps : {B : Type 0} (room room' : ℕ) (slots slots' : FinMap nat_cmp (Slot B)) → IsSound room slots → room ≤ room' →
-    KeepsNumbers slots slots' → IsSound room' slots'
-sound-keeps room room' slots slots' s more keeps = sound-shrinks room room' slots slots' s more (λ key number h. sym (keeps key) ∙ h)
+-- Slots that keep their numbers, and no less room beside that.
+pub sound-keeps : {B : Type 0} (room room' : ℕ) (slots slots' : FinMap nat_cmp (Slot B)) (table table' : Table) → IsSound room slots table →
+    room + len table'.holders ≤ room' + len table.holders → KeepsNumbers slots slots' → IsSound room' slots' table'
+sound-keeps room room' slots slots' table table' s more keeps =
+    sound-shrinks room room' slots slots' table table' s more (λ key number h. sym (keeps key) ∙ h)
 
--- No slot.
-pub sound-empty : {B : Type 0} (room : ℕ) (slots : FinMap nat_cmp (Slot B)) → slots ≡ empty → IsSound room slots
-sound-empty {B} room slots fresh = record {
+-- No slot, and no handle.
+pub sound-empty : {B : Type 0} (room : ℕ) (slots : FinMap nat_cmp (Slot B)) (table : Table) → slots ≡ empty → len table.holders ≡ 0 →
+    IsSound room slots table
+sound-empty {B} room slots table fresh none = record {
   owned = empty;
-  few = (let a = len-empty nat_cmp (Slot B) in omega (arith, a));
+  few = (let a = len-empty nat_cmp (Slot B) in omega (arith, a, none));
   all =
       λ key number h. absurd
       (none-some number (number_at slots key) (ap (λ m. number_at m key) fresh ∙ ap serial_of (get-empty {X = Slot B} nat_cmp key)) h);
@@ -47,43 +51,37 @@ sound-empty {B} room slots fresh = record {
 there : {B : Type 0} (slots : FinMap nat_cmp (Slot B)) (key number : ℕ) → number_at slots key ≡ Some number → IsSome (get slots key)
 there slots key number h = subst (λ o. IsSome o) (sym (owner slots key number h).there) refl
 
--- Room for each live slot.
-pub sound-live : {B : Type 0} (room : ℕ) (slots : FinMap nat_cmp (Slot B)) → len slots ≤ room → IsSound room slots
-sound-live room slots more = record {
+-- Room for each live slot, and each held handle.
+pub sound-live : {B : Type 0} (room : ℕ) (slots : FinMap nat_cmp (Slot B)) (table : Table) → len slots + len table.holders ≤ room →
+    IsSound room slots table
+sound-live room slots table more = record {
   owned = slots;
   few = more;
   all = there slots;
 }
 
 -- A new slot, with room for each.
-pub sound-more : {B : Type 0} (room : ℕ) (slots slots' : FinMap nat_cmp (Slot B)) (key : ℕ) (t : Slot B) → get slots key ≡ None →
-    slots' ≡ insert slots key t → len slots + 1 ≤ room → IsSound room slots'
-sound-more room slots slots' key t free is more =
-    sound-live room slots' (let a = ap len is ∙ len-new slots key t free in omega (arith, a, more))
+pub sound-more : {B : Type 0} (room : ℕ) (slots slots' : FinMap nat_cmp (Slot B)) (table : Table) (key : ℕ) (t : Slot B) →
+    get slots key ≡ None → slots' ≡ insert slots key t → len slots + 1 + len table.holders ≤ room → IsSound room slots' table
+sound-more room slots slots' table key t free is more =
+    sound-live room slots' table (let a = ap len is ∙ len-new slots key t free in omega (arith, a, more))
 
 -- The value of an option that has one.
 value-of : {X : Type 0} (o : Option X) → IsSome o → (x : X) × (o ≡ Some x)
 value-of None h = (let f : ⊥ = cc in absurd f)
 value-of (Some x) h = (x, refl)
 
--- A number that isn't 0 is above 0.
-positive : (k : ℕ) → (k ≡ 0 → ⊥) → 0 < k
-positive zero h = absurd (h refl)
-positive (suc k) h = omega arith
-
 -- A map with something at a key has at least one key.
 has-key : {B : Type 0} (m : FinMap nat_cmp (Slot B)) (key : ℕ) → IsSome (get m key) → 0 < len m
-has-key {B} m key h = positive (len m) (λ z.
-    let v = value-of (get m key) h in
-    none-some v.0 (get m key) (ap (λ x. get x key) (empty_of_len m z) ∙ get-empty {X = Slot B} nat_cmp key) v.1)
+has-key m key h = len-some m key (ap is_some (value-of (get m key) h).1)
 
 -- A slot of its user's has room for its cancel.
-pub sound-room : {B : Type 0} (room : ℕ) (slots : FinMap nat_cmp (Slot B)) (key number : ℕ) → IsSound room slots →
+pub sound-room : {B : Type 0} (room : ℕ) (slots : FinMap nat_cmp (Slot B)) (table : Table) (key number : ℕ) → IsSound room slots table →
     number_at slots key ≡ Some number → 0 < room
-sound-room room slots key number s h = (let a = s.few in let b = has-key s.owned key (s.all key number h) in omega (arith, a, b))
+sound-room room slots table key number s h = (let a = s.few in let b = has-key s.owned key (s.all key number h) in omega (arith, a, b))
 
 -- One slot less is its user's.
-module _ {B : Type 0} (room : ℕ) (slots slots' : FinMap nat_cmp (Slot B)) (key number : ℕ) (s : IsSound room slots)
+module _ {B : Type 0} (room : ℕ) (slots slots' : FinMap nat_cmp (Slot B)) (table : Table) (key number : ℕ) (s : IsSound room slots table)
     (h : number_at slots key ≡ Some number)
     (gone : number_at slots' key ≡ None) (kept : (k : ℕ) → k ≢ key → number_at slots' k ≡ number_at slots k) where
   sub : (k n : ℕ) → number_at slots' k ≡ Some n → (number_at slots k ≡ Some n) × (k ≢ key)
@@ -92,27 +90,29 @@ module _ {B : Type 0} (room : ℕ) (slots slots' : FinMap nat_cmp (Slot B)) (key
     | inr e ↦ (sym (kept k e) ∙ g, e)
   ]
 
-  pub sound-gone : IsSound room slots'
-  sound-gone = sound-shrinks room room slots slots' s (omega arith) (λ k n g. (sub k n g).0)
+  pub sound-gone : (room' : ℕ) (table' : Table) → room + len table'.holders ≤ room' + len table.holders → IsSound room' slots' table'
+  sound-gone room' table' more = sound-shrinks room room' slots slots' table table' s more (λ k n g. (sub k n g).0)
 
   -- It needs room for one cancel less.
-  pub sound-less : (room' : ℕ) → room' + 1 ≡ room → IsSound room' slots'
+  pub sound-less : (room' : ℕ) → room' + 1 ≡ room → IsSound room' slots' table
   sound-less room' less = record {
     owned = remove s.owned key;
     few = (
         let v = value-of (get s.owned key) (s.all key number h) in
         let a = len-gone s.owned key v.0 v.1 in
         let b = s.few in
-        omega (arith, a, b, less));
+        let c = has-key s.owned key (s.all key number h) in
+        omega (arith, a, b, c, less));
     all = λ k n g. subst (λ o. IsSome o) (sym (gone-other s.owned key k (sub k n g).1)) (s.all k n (sub k n g).0);
   }
 
 -- A poll makes no token.
-pub sound-polled : {B : Type 0} (room : ℕ) (old new : Ops B) (op : Op) (result : PollOp B) → IsSound room old.slots.values →
-    PollsTokens old new op result → IsSound room new.slots.values
-sound-polled room old new op (Pending back) s tokens =
-    sound-shrinks room room old.slots.values new.slots.values s (omega arith)
+pub sound-polled : {B : Type 0} (room room' : ℕ) (table table' : Table) (old new : Ops B) (op : Op) (result : PollOp B) →
+    IsSound room old.slots.values table → PollsTokens old new op result → room + len table'.holders ≤ room' + len table.holders →
+    IsSound room' new.slots.values table'
+sound-polled room room' table table' old new op (Pending back) s tokens more =
+    sound-shrinks room room' old.slots.values new.slots.values table table' s more
     (λ key number h. (let o : Op = record { number = number; key = key } in (tokens.1 o).1 h))
-sound-polled room old new op (Ready done) s tokens =
-    sound-shrinks room room old.slots.values new.slots.values s (omega arith)
+sound-polled room room' table table' old new op (Ready done) s tokens more =
+    sound-shrinks room room' old.slots.values new.slots.values table table' s more
     (λ key number h. (let o : Op = record { number = number; key = key } in ((tokens o).0 h).0))

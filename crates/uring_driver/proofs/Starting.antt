@@ -1,7 +1,7 @@
 -- A fresh driver, a new handle, and bytes that arrive.
-use Rattle.std.proofs.Common.{◌≡◌, ◌≤◌, ℕ, true, false, ◌+◌, List, [], ◌∷◌, ◌++◌, length}
-use Rattle.std.proofs.Common.{Option, Some, None, refl, sym, ◌∙◌, ap, subst, arith, length-append}
-use Rattle.std.specs.Prelude.{nat_lt, IsTrue, IfOk, Result, Ok, Err}
+use Rattle.std.proofs.Common.{◌≡◌, ◌≤◌, ℕ, true, false, List, [], ◌∷◌, ◌++◌, length}
+use Rattle.std.proofs.Common.{Option, Some, None, refl, sym, ◌∙◌, ap, subst, arith}
+use Rattle.std.specs.Prelude.{IsTrue, IfOk, Result, Ok, Err}
 use Rattle.std.specs.Ordering.{nat_cmp}
 use Rattle.std.specs.FinMap as finite
 use Rattle.rent_buf.specs.Buffer.{Buffer}
@@ -20,18 +20,19 @@ use Rattle.ring_core.specs.declared.ledger.Event.{Event}
 use Rattle.ring_core.specs.declared.ledger.Event.TheVariants.{Give, Feed, End}
 use Rattle.ring_core.specs.declared.ledger.Reply.{Reply}
 use Rattle.ring_core.specs.declared.ledger.Reply.TheVariants.{Handle, Fed, Ended, Output}
-use Rattle.ring_core.specs.Ledger.{Ledger, empty, is_owned, user_holds}
-use Rattle.ring_core.specs.Step.{step, give_step, with_handle}
+use Rattle.ring_core.specs.Ledger.{Ledger, Owner, empty, is_owned}
+use Rattle.ring_core.specs.Step.{step, new_owner, give_step, with_handle}
 use Rattle.ring_core.specs.Run.{ledger}
-use Rattle.ring_core.proofs.Amended.{length-amended}
+use Rattle.handle_core.specs.declared.table.Holders.{Holders}
 use Rattle.driver_core.specs.declared.slot.Slot.{Slot}
 use Rattle.uring_driver.specs.declared.uring.IoUringDriver.{IoUringDriver}
-use Rattle.uring_driver.specs.Uring.{ring_in, due_in, room_in, pending, whole_ring, is_among, first_with, holds_handle}
+use Rattle.uring_driver.specs.Uring.{ring_in, due_in, room_in, pending, whole_ring, holds_handle}
+use Rattle.uring_driver.specs.Holding.{IsSameHolding, HandlesStand}
 use Rattle.uring_driver.specs.Submissions.{IsIdle, with_spare, with_due, pending_ring}
 use Rattle.uring_driver.specs.Handles.{RefusedFor, LooksFor}
-use Rattle.uring_driver.specs.Stands.{Stands, Answers}
+use Rattle.uring_driver.specs.Stands.{owed, Stands, Answers}
 use Rattle.uring_driver.proofs.Means.{Means, means-of, ring-of}
-use Rattle.uring_driver.proofs.Handles.{none-among, one-more}
+use Rattle.uring_driver.proofs.Holders.{handles-none, handles-room, handles-world}
 use Rattle.uring_driver.proofs.Steps.{reached-more, step-give, step-feed, step-end, step-look, cause-feed, cause-end}
 use Rattle.uring_driver.proofs.Heads.{means-view}
 
@@ -69,8 +70,9 @@ means-empty {B} buffer capacity = record {
 -- A driver over an idle ring with no handles stands for the empty ledger.
 pub stands-empty : {R B : Type 0} (view : R → RingView) (buffer : B → Buffer) (d : IoUringDriver R B) (ring : R) →
     d.ring ≡ record { ring = ring; due = []; room = 0 } → d.slots.values ≡ finite.empty {X = Slot B} {R = nat_cmp} → d.given ≡ 0 →
-    d.first ≡ 0 → d.held ≡ 0 → IsIdle (view ring) → (view ring).world ≡ [] → Stands view buffer d (empty (view ring).capacity)
-stands-empty {R} {B} view buffer d ring is slots given first held idle world =
+    d.holding.table.holders ≡ finite.empty {X = Holders} {R = nat_cmp} →
+    d.holding.closing.holders ≡ finite.empty {X = Holders} {R = nat_cmp} → IsIdle (view ring) → (view ring).world ≡ [] → Stands view buffer d (empty (view ring).capacity)
+stands-empty {R} {B} view buffer d ring is slots given none closed idle world =
     let means = subst (λ x. Means buffer (pending_ring view x) d.slots.values (empty (view ring).capacity)) (sym is)
     (subst (λ (m : finite.FinMap nat_cmp (Slot B)). Means buffer (with_due (view ring) []) m (empty (view ring).capacity)) (sym slots)
     (means-view buffer (fresh_ring (view ring).capacity) (with_due (view ring) []) (finite.empty {X = Slot B} {R = nat_cmp})
@@ -80,19 +82,19 @@ stands-empty {R} {B} view buffer d ring is slots given first held idle world =
       events = [];
       reached = ap (λ x. empty (view x.ring).capacity) (sym is);
       operations = record { numbered = given; in_slots = means.in_slots };
-      handles = λ h. ap (λ k. is_among k d.held h) first ∙ ap (λ k. is_among 0 k h) held ∙ none-among h;
-      room = omega arith;
+      handles = handles-none d.holding (view ring).capacity none closed;
+      room = (let a = ap finite.len none in let b = finite.len-empty nat_cmp Holders in omega (arith, a, b));
       fits = (let a = ap (λ x. length ((view x.ring).queue ++ x.due)) is in let b = ap (λ xs. length (xs ++ [])) idle.queue in
           omega (arith, a, b));
       ring = ring-of means;
     }
 
--- A driver that differs in memory alone stands for the same ledger.
-pub stands-same : {R B : Type 0} (view : R → RingView) (buffer : B → Buffer) (d new : IoUringDriver R B) (L : Ledger) (spare : ℕ) →
-    view (ring_in new) ≡ with_spare (view (ring_in d)) spare → due_in new ≡ due_in d → room_in d ≤ room_in new →
-    new.slots.values ≡ d.slots.values → new.given ≡ d.given → new.first ≡ d.first → new.held ≡ d.held → Stands view buffer d L →
+-- A driver that differs in memory alone, with room for what is owed, stands for the same ledger.
+pub stands-reserved : {R B : Type 0} (view : R → RingView) (buffer : B → Buffer) (d new : IoUringDriver R B) (L : Ledger) (spare : ℕ) →
+    view (ring_in new) ≡ with_spare (view (ring_in d)) spare → due_in new ≡ due_in d → owed L new.holding ≤ room_in new →
+    new.slots.values ≡ d.slots.values → new.given ≡ d.given → IsSameHolding d.holding new.holding → Stands view buffer d L →
     Stands view buffer new L
-stands-same view buffer d new L spare ring due room slots given first held old =
+stands-reserved view buffer d new L spare ring due room slots given holding old =
     let means = subst (λ m. Means buffer (whole_ring view new) m L) (sym slots)
     (means-view buffer (whole_ring view d) (whole_ring view new) d.slots.values L (ap (λ x. x.capacity) ring)
     (ap (λ x. x.queue ++ due_in new) ring ∙ ap (λ xs. (view (ring_in d)).queue ++ xs) due) (ap (λ x. x.flying) ring)
@@ -101,18 +103,27 @@ stands-same view buffer d new L spare ring due room slots given first held old =
       events = old.events;
       reached = old.reached ∙ ap (λ x. ledger x.capacity old.events) (sym ring);
       operations = record { numbered = given ∙ old.operations.numbered; in_slots = means.in_slots };
-      handles = λ h. ap (λ k. is_among k new.held h) first ∙ ap (λ k. is_among d.first k h) held ∙ old.handles h;
-      room = (let r = old.room in omega (arith, r, room));
+      handles = handles-room d.holding new.holding L holding old.handles;
+      room = room;
       fits = (let a = ap (λ x. length (x.queue ++ due_in new)) ring in let b = ap (λ xs. length ((view (ring_in d)).queue ++ xs)) due in
           let k = ap (λ x. x.capacity) ring in let f = old.fits in omega (arith, a, b, k, f));
       ring = ring-of means;
     }
 
--- What stands on the handles changes in both.
-means-world : {B : Type 0} (buffer : B → Buffer) (v : RingView) (slots : finite.FinMap nat_cmp (Slot B)) (L : Ledger)
-    (world world' : List HandleState) → world ≡ world' → Means buffer v slots L →
-    Means buffer (with_world v world) slots (record L { world = world' })
-means-world buffer v slots L world world' same old = record {
+-- A driver that differs in memory alone stands for the same ledger.
+pub stands-same : {R B : Type 0} (view : R → RingView) (buffer : B → Buffer) (d new : IoUringDriver R B) (L : Ledger) (spare : ℕ) →
+    view (ring_in new) ≡ with_spare (view (ring_in d)) spare → due_in new ≡ due_in d → room_in d ≤ room_in new →
+    new.slots.values ≡ d.slots.values → new.given ≡ d.given → IsSameHolding d.holding new.holding → Stands view buffer d L →
+    Stands view buffer new L
+stands-same view buffer d new L spare ring due room slots given holding old =
+    stands-reserved view buffer d new L spare ring due
+    (let r = old.room in let h = ap finite.len holding.table in omega (arith, r, h, room)) slots given holding old
+
+-- What stands on the handles changes in both, and whose they are in the ledger.
+pub means-world : {B : Type 0} (buffer : B → Buffer) (v : RingView) (slots : finite.FinMap nat_cmp (Slot B)) (L : Ledger)
+    (world world' : List HandleState) (owners : List Owner) → world ≡ world' → Means buffer v slots L →
+    Means buffer (with_world v world) slots (record L { world = world'; owners = owners })
+means-world buffer v slots L world world' owners same old = record {
   capacity = old.capacity;
   world = same;
   in_slots = old.in_slots;
@@ -131,7 +142,7 @@ means-world buffer v slots L world world' same old = record {
 }
 
 module _ {B : Type 0} (buffer : B → Buffer) (d new : IoUringDriver RingView B) (L : Ledger) (old : Stands (λ r. r) buffer d L)
-    (slots : new.slots ≡ d.slots) (due : due_in new ≡ due_in d) (room : room_in new ≡ room_in d) (given : new.given ≡ d.given) where
+    (slots : new.slots ≡ d.slots) (due : due_in new ≡ due_in d) (given : new.given ≡ d.given) where
   -- The handles alone change in the ring.
   fits-still : (world : List HandleState) → ring_in new ≡ with_world (ring_in d) world →
       length (pending (λ r. r) new) ≤ (ring_in new).capacity
@@ -139,16 +150,15 @@ module _ {B : Type 0} (buffer : B → Buffer) (d new : IoUringDriver RingView B)
       let b = ap (λ xs. length ((ring_in d).queue ++ xs)) due in let k = ap (λ x. x.capacity) ring in let f = old.fits in
       omega (arith, a, b, k, f))
 
-  -- A new handle is the user's.
+  -- A new handle of the ring, of which its holders and the memory that is owed say the same.
   pub stands-gives : (kind : HandleKind) (fd : ℕ) → fd ≡ length (ring_in d).world →
-      ring_in new ≡ with_world (ring_in d) ((ring_in d).world ++ fresh kind ∷ []) → new.first ≡ first_with d.first d.held fd →
-      new.held ≡ d.held + 1 →
+      ring_in new ≡ with_world (ring_in d) ((ring_in d).world ++ fresh kind ∷ []) → HandlesStand new.holding (give_step L (fresh kind)) →
+      owed L new.holding ≤ room_in new →
       Answers (λ r. r) buffer L (Give kind) (Handle fd) new
-  stands-gives kind fd number ring first held =
+  stands-gives kind fd number ring handles room =
       let m = means-of old in
       let e = step-give L kind in
       let count : fd ≡ length L.world = number ∙ ap length m.world in
-      let size : length L.world + 1 ≡ length (L.world ++ fresh kind ∷ []) = sym (length-append L.world (fresh kind ∷ [])) in
       let means = subst (λ K. Means buffer (whole_ring (λ r. r) new) new.slots.values K) (sym (ap (λ y. y.0) e))
       (subst (λ r. Means buffer (with_due r (due_in new)) new.slots.values (give_step L (fresh kind))) (sym ring)
       (subst (λ xs. Means buffer (with_due (with_world (ring_in d) ((ring_in d).world ++ fresh kind ∷ [])) xs) new.slots.values
@@ -156,7 +166,7 @@ module _ {B : Type 0} (buffer : B → Buffer) (d new : IoUringDriver RingView B)
       (subst (λ s. Means buffer (with_due (with_world (ring_in d) ((ring_in d).world ++ fresh kind ∷ [])) (due_in d)) s.values
       (give_step L (fresh kind))) (sym slots)
       (means-world buffer (whole_ring (λ r. r) d) d.slots.values L ((ring_in d).world ++ fresh kind ∷ []) (L.world ++ fresh kind ∷ [])
-      (ap (λ w. w ++ fresh kind ∷ []) m.world) m)))) in
+      (L.owners ++ new_owner ∷ []) (ap (λ w. w ++ fresh kind ∷ []) m.world) m)))) in
       record {
         reply_is = ap (λ y. y.1) e ∙ ap (λ n. Handle n) (sym count);
         stands = record {
@@ -164,10 +174,8 @@ module _ {B : Type 0} (buffer : B → Buffer) (d new : IoUringDriver RingView B)
           reached = reached-more L (ring_in new).capacity old.events (Give kind)
               (old.reached ∙ ap (λ x. ledger x.capacity old.events) (sym ring));
           operations = record { numbered = given ∙ old.operations.numbered ∙ ap (λ x. length x.0.ops) (sym e); in_slots = means.in_slots };
-          handles = λ h. ap (λ k. is_among k new.held h) (first ∙ ap (first_with d.first d.held) count)
-              ∙ ap (λ k. is_among (first_with d.first d.held (length L.world)) k h) held
-              ∙ one-more d.first d.held (length L.world) old.handles h ∙ ap (nat_lt h) size ∙ ap (λ x. user_holds x.0 h) (sym e);
-          room = (let b = ap (λ x. length (numbers_where is_owned 0 x.0.ops)) e in let r = old.room in omega (arith, b, r, room));
+          handles = subst (λ K. HandlesStand new.holding K) (sym (ap (λ y. y.0) e)) handles;
+          room = (let b = ap (λ x. length (numbers_where is_owned 0 x.0.ops)) e in omega (arith, b, room));
           fits = fits-still ((ring_in d).world ++ fresh kind ∷ []) ring;
           ring = ring-of means;
         };
@@ -176,9 +184,9 @@ module _ {B : Type 0} (buffer : B → Buffer) (d new : IoUringDriver RingView B)
   -- What stands on a handle changes: the step of the machine is this change.
   stands-changes : (event : Event) (reply : Reply) (h : ℕ) (change : HandleState → HandleState) →
       step L event ≡ (with_handle L h change, reply) → ring_in new ≡ with_world (ring_in d) (amended (ring_in d).world h change) →
-      new.first ≡ d.first → new.held ≡ d.held →
+      new.holding ≡ d.holding → room_in new ≡ room_in d →
       Answers (λ r. r) buffer L event reply new
-  stands-changes event reply h change e ring first held =
+  stands-changes event reply h change e ring holding room =
       let m = means-of old in
       let means = subst (λ K. Means buffer (whole_ring (λ r. r) new) new.slots.values K) (sym (ap (λ y. y.0) e))
       (subst (λ r. Means buffer (with_due r (due_in new)) new.slots.values (with_handle L h change)) (sym ring)
@@ -187,7 +195,7 @@ module _ {B : Type 0} (buffer : B → Buffer) (d new : IoUringDriver RingView B)
       (subst (λ s. Means buffer (with_due (with_world (ring_in d) (amended (ring_in d).world h change)) (due_in d)) s.values
       (with_handle L h change)) (sym slots)
       (means-world buffer (whole_ring (λ r. r) d) d.slots.values L (amended (ring_in d).world h change) (amended L.world h change)
-      (ap (λ w. amended w h change) m.world) m)))) in
+      L.owners (ap (λ w. amended w h change) m.world) m)))) in
       record {
         reply_is = ap (λ y. y.1) e;
         stands = record {
@@ -195,9 +203,11 @@ module _ {B : Type 0} (buffer : B → Buffer) (d new : IoUringDriver RingView B)
           reached = reached-more L (ring_in new).capacity old.events event (old.reached
               ∙ ap (λ x. ledger x.capacity old.events) (sym ring));
           operations = record { numbered = given ∙ old.operations.numbered ∙ ap (λ x. length x.0.ops) (sym e); in_slots = means.in_slots };
-          handles = λ k. ap (λ n. is_among n new.held k) first ∙ ap (λ n. is_among d.first n k) held ∙ old.handles k
-              ∙ ap (nat_lt k) (sym (length-amended change L.world h)) ∙ ap (λ x. user_holds x.0 k) (sym e);
-          room = (let b = ap (λ x. length (numbers_where is_owned 0 x.0.ops)) e in let r = old.room in omega (arith, b, r, room));
+          handles = subst (λ K. HandlesStand new.holding K) (sym (ap (λ y. y.0) e))
+              (subst (λ x. HandlesStand x (with_handle L h change)) (sym holding)
+              (handles-world d.holding L old.handles (amended L.world h change)));
+          room = (let b = ap (λ x. length (numbers_where is_owned 0 x.0.ops)) e in let k = ap (λ x. finite.len x.table.holders) holding in
+              let r = old.room in omega (arith, b, k, r, room));
           fits = fits-still (amended (ring_in d).world h change) ring;
           ring = ring-of means;
         };
@@ -205,17 +215,18 @@ module _ {B : Type 0} (buffer : B → Buffer) (d new : IoUringDriver RingView B)
 
   -- Bytes arrive at a handle of the user.
   pub stands-feeds : (h : ℕ) (bytes : List ℕ) → IsTrue (holds_handle d h) → is_ended_at (ring_in d).world h ≡ false →
-      ring_in new ≡ with_world (ring_in d) (amended (ring_in d).world h (with_input bytes)) → new.first ≡ d.first → new.held ≡ d.held →
-      Answers (λ r. r) buffer L (Feed h bytes) Fed new
-  stands-feeds h bytes user live ring first held = stands-changes (Feed h bytes) Fed h (with_input bytes)
-      (step-feed L h bytes (sym (old.handles h) ∙ user) (ap (λ w. is_ended_at w h) (sym old.ring.world) ∙ live)) ring first held
+      ring_in new ≡ with_world (ring_in d) (amended (ring_in d).world h (with_input bytes)) → new.holding ≡ d.holding →
+      room_in new ≡ room_in d → Answers (λ r. r) buffer L (Feed h bytes) Fed new
+  stands-feeds h bytes user live ring holding room = stands-changes (Feed h bytes) Fed h (with_input bytes)
+      (step-feed L h bytes (sym (old.handles.holders.users h) ∙ user) (ap (λ w. is_ended_at w h) (sym old.ring.world) ∙ live)) ring
+      holding room
 
   -- The end of what arrives at a handle of the user.
   pub stands-ends : (h : ℕ) → IsTrue (holds_handle d h) → is_ended_at (ring_in d).world h ≡ false →
-      ring_in new ≡ with_world (ring_in d) (amended (ring_in d).world h with_end) → new.first ≡ d.first → new.held ≡ d.held →
-      Answers (λ r. r) buffer L (End h) Ended new
-  stands-ends h user live ring first held = stands-changes (End h) Ended h with_end
-      (step-end L h (sym (old.handles h) ∙ user) (ap (λ w. is_ended_at w h) (sym old.ring.world) ∙ live)) ring first held
+      ring_in new ≡ with_world (ring_in d) (amended (ring_in d).world h with_end) → new.holding ≡ d.holding →
+      room_in new ≡ room_in d → Answers (λ r. r) buffer L (End h) Ended new
+  stands-ends h user live ring holding room = stands-changes (End h) Ended h with_end
+      (step-end L h (sym (old.handles.holders.users h) ∙ user) (ap (λ w. is_ended_at w h) (sym old.ring.world) ∙ live)) ring holding room
 
 module _ {B : Type 0} (buffer : B → Buffer) (d : IoUringDriver RingView B) (L : Ledger) (old : Stands (λ r. r) buffer d L) (h : ℕ)
     (user : IsTrue (holds_handle d h)) where
@@ -223,19 +234,19 @@ module _ {B : Type 0} (buffer : B → Buffer) (d : IoUringDriver RingView B) (L 
   pub refuses-feed : (bytes : List ℕ) (world : List HandleState) (why : WorldError) → WorldFeeds bytes (ring_in d).world h world (Err why) →
       RefusedFor L (Feed h bytes) why
   refuses-feed bytes world BadHandleEvent at =
-      cause-feed L h bytes true (sym (old.handles h) ∙ user) (ap (λ w. is_ended_at w h) (sym old.ring.world) ∙ at.0)
+      cause-feed L h bytes true (sym (old.handles.holders.users h) ∙ user) (ap (λ w. is_ended_at w h) (sym old.ring.world) ∙ at.0)
   refuses-feed bytes world OutOfMemory at =
-      cause-feed L h bytes false (sym (old.handles h) ∙ user) (ap (λ w. is_ended_at w h) (sym old.ring.world) ∙ at.0)
+      cause-feed L h bytes false (sym (old.handles.holders.users h) ∙ user) (ap (λ w. is_ended_at w h) (sym old.ring.world) ∙ at.0)
 
   -- An end that wasn't marked has its cause.
   pub refuses-end : (world : List HandleState) (why : WorldError) → WorldEnds (ring_in d).world h world (Err why) → RefusedFor L (End h) why
   refuses-end world BadHandleEvent at =
-      cause-end L h true (sym (old.handles h) ∙ user) (ap (λ w. is_ended_at w h) (sym old.ring.world) ∙ at.0)
+      cause-end L h true (sym (old.handles.holders.users h) ∙ user) (ap (λ w. is_ended_at w h) (sym old.ring.world) ∙ at.0)
   refuses-end world OutOfMemory at = absurd at
 
   -- A look shows what the machine replies.
   pub looks : (look : Look) → look ≡ Bytes (output_at (ring_in d).world h) → LooksFor L h look
-  looks look is = subst (λ x. LooksFor L h x) (sym is) (step-look L h (sym (old.handles h) ∙ user)
+  looks look is = subst (λ x. LooksFor L h x) (sym is) (step-look L h (sym (old.handles.holders.users h) ∙ user)
       ∙ ap (λ w. (L, Output (output_at w h))) (sym old.ring.world))
 
 -- A look that comes back shows what the machine replies, for every ledger that the driver stands for.

@@ -3,6 +3,7 @@ use Rattle.std.proofs.Common.{◌≡◌, ◌<◌, ◌≤◌, ℕ, Bool, true, fa
 use Rattle.std.proofs.Common.{not, ◌||◌}
 use Rattle.std.specs.Prelude.{slice_get, nat_le}
 use Rattle.std.proofs.lemmas.Bool.Decides.{nat_tests}
+use Rattle.std.proofs.lemmas.Option.{slice_get_within}
 use Rattle.rent_buf.specs.Buffer.{Buffer}
 use Rattle.rent_buf.specs.Parts.{Parts}
 use Rattle.ring_core.specs.declared.request.Request.{Request}
@@ -10,22 +11,24 @@ use Rattle.ring_core.specs.declared.request.Told.{Told}
 use Rattle.ring_core.specs.declared.request.Outcome.{Outcome}
 use Rattle.ring_core.specs.declared.world.HandleKind.{HandleKind}
 use Rattle.ring_core.specs.declared.ledger.Event.{Event}
-use Rattle.ring_core.specs.declared.ledger.Event.TheVariants.{Give, Feed, End, Look, Submit, Poll, Drop, Cancel as Asks, Turn, Exec}
+use Rattle.ring_core.specs.declared.ledger.Event.TheVariants.{Give, Feed, End, Look, Close, Submit, Poll, Drop, Cancel as Asks, Turn, Exec}
 use Rattle.ring_core.specs.declared.ledger.Reply.TheVariants.{Handle, Fed, Ended, Output, Submitted, Pending, Handed, Dropped, Asked}
+use Rattle.ring_core.specs.declared.ledger.Reply.TheVariants.{Released}
 use Rattle.ring_core.specs.declared.ledger.Refusal.{Refusal}
 use Rattle.ring_core.specs.declared.ledger.Refusal.TheVariants.{NoOp, NoHandle, Full, NotFlying, BadOutcome, BadHandleEvent}
 use Rattle.ring_core.specs.Lists.{passes}
 use Rattle.ring_core.specs.Outcome.{is_allowed}
 use Rattle.ring_core.specs.Request.{named, call_of}
 use Rattle.ring_core.specs.World.{fresh, with_input, with_end, is_ended_at, output_at}
-use Rattle.ring_core.specs.Ledger.{Ledger, Operation, Place, InQueue, InFlight, InDone, Reaped, Gone, Cancel, Op, is_owned, live_ops}
+use Rattle.ring_core.specs.Ledger.{Ledger, Operation, Place, InQueue, InFlight, InDone, Reaped, Gone, Cancel, Item, Op, is_owned}
+use Rattle.ring_core.specs.Ledger.{live_ops}
 use Rattle.ring_core.specs.Ledger.{user_holds, empty}
 use Rattle.ring_core.specs.Queue.{with_op, push, leave}
 use Rattle.ring_core.specs.Refusal.{cause, refused_if, lacks_handle, allowed}
 use Rattle.ring_core.specs.declared.ledger.TheConstants.{MOST_LIVE}
 use Rattle.ring_core.specs.Turn.{turn_step, exec_step}
 use Rattle.ring_core.specs.Step.{step, answered, give_step, poll_at, poll_step, drop_at, drop_step, submit_step, with_handle, with_task}
-use Rattle.ring_core.specs.Step.{with_drop}
+use Rattle.ring_core.specs.Step.{with_drop, close_step}
 use Rattle.ring_core.specs.Run.{after, ledger}
 
 -- One more event is one step more.
@@ -159,56 +162,55 @@ pub step-look : (L : Ledger) (h : ℕ) → user_holds L h ≡ true → step L (L
 unfolding step
 step-look L h user = ap (λ b. answered (refused_if (not b || false) NoHandle None) L (Look h)) user
 
+-- The close of a handle that the user holds: the user holds it no more.
+pub step-close : (L : Ledger) (h : ℕ) → user_holds L h ≡ true → step L (Close h) ≡ (close_step L h, Released)
+unfolding step
+step-close L h user = ap (λ b. answered (refused_if (not b || false) NoHandle None) L (Close h)) user
+
 -- The test doesn't find a number at most another that is below it.
 below-test : (n k : ℕ) → k < n → nat_le n k ≡ false
 below-test n k h = grind (arith, nat_tests)
 
 -- The test finds a number that is at most another at most it.
-pub past-test : (n k : ℕ) → n ≤ k → nat_le n k ≡ true
+past-test : (n k : ℕ) → n ≤ k → nat_le n k ≡ true
 past-test n k h = grind (arith, nat_tests)
 
--- An execution of an allowed outcome isn't refused, and is that of its operation.
-pub step-exec : (L : Ledger) (place n : ℕ) (told : Told) (o : Operation) → place < length L.flying →
-    slice_get L.flying place ≡ Some (Op n) → slice_get L.ops n ≡ Some o → is_allowed L.world o.canceled (call_of o.request) told ≡ true →
-    step L (Exec place told) ≡ exec_step L place told (Some (Op n))
-unfolding step
-step-exec L place n told o within there which allows =
-    ap (λ b. answered (refused_if b NotFlying
-    (refused_if (not (passes (λ item. allowed L item told) (slice_get L.flying place))) BadOutcome None)) L (Exec place told))
-    (below-test (length L.flying) place within)
-    ∙ ap (λ x. answered (refused_if (not (passes (λ item. allowed L item told) x)) BadOutcome None) L (Exec place told)) there
-    ∙ ap (λ x. answered (refused_if
-    (not (passes (λ operation. is_allowed L.world operation.canceled (call_of operation.request) told) x)) BadOutcome None) L
-    (Exec place told)) which
-    ∙ ap (λ b. answered (refused_if (not b) BadOutcome None) L (Exec place told)) allows
-    ∙ ap (exec_step L place told) there
+-- An execution is refused by what is in flight, and by the outcome of what is at the place.
+abbrev exec-cause : Bool → Bool → Option Refusal
+exec-cause past allows = refused_if past NotFlying (refused_if (not allows) BadOutcome None)
+
+-- The cause of an execution at a place where something is in flight.
+cause-exec : (L : Ledger) (place : ℕ) (told : Told) (item : Item) (allows : Bool) → slice_get L.flying place ≡ Some item →
+    allowed L item told ≡ allows → cause L (Exec place told) ≡ exec-cause false allows
+cause-exec L place told item allows there is =
+    ap (λ b. exec-cause b (passes (λ x. allowed L x told) (slice_get L.flying place)))
+    (below-test (length L.flying) place (slice_get_within L.flying place item there))
+    ∙ ap (λ x. exec-cause false (passes (λ y. allowed L y told) x)) there ∙ ap (exec-cause false) is
 
 -- An execution of an allowed outcome is not refused.
-pub unrefused-exec : (L : Ledger) (place n : ℕ) (told : Told) (o : Operation) → place < length L.flying →
-    slice_get L.flying place ≡ Some (Op n) → slice_get L.ops n ≡ Some o → is_allowed L.world o.canceled (call_of o.request) told ≡ true →
-    cause L (Exec place told) ≡ None
-unrefused-exec L place n told o within there which allows =
-    ap (λ b. refused_if b NotFlying (refused_if (not (passes (λ item. allowed L item told) (slice_get L.flying place))) BadOutcome None))
-    (below-test (length L.flying) place within)
-    ∙ ap (λ x. refused_if (not (passes (λ item. allowed L item told) x)) BadOutcome None) there
-    ∙ ap (λ x. refused_if (not
-    (passes (λ operation. is_allowed L.world operation.canceled (call_of operation.request) told) x)) BadOutcome None) which
-    ∙ ap (λ b. refused_if (not b) BadOutcome None) allows
+pub unrefused-exec : (L : Ledger) (place : ℕ) (told : Told) (item : Item) → slice_get L.flying place ≡ Some item →
+    allowed L item told ≡ true → cause L (Exec place told) ≡ None
+unrefused-exec L place told item there allows = cause-exec L place told item true there allows
+
+-- It is that of the item.
+pub step-exec : (L : Ledger) (place : ℕ) (told : Told) (item : Item) → slice_get L.flying place ≡ Some item →
+    allowed L item told ≡ true → step L (Exec place told) ≡ exec_step L place told (Some item)
+unfolding step
+step-exec L place told item there allows =
+    ap (λ why. answered why L (Exec place told)) (unrefused-exec L place told item there allows) ∙ ap (exec_step L place told) there
+
+-- An execution of an outcome that isn't allowed is refused.
+pub cause-outcome : (L : Ledger) (place : ℕ) (told : Told) (item : Item) → slice_get L.flying place ≡ Some item →
+    allowed L item told ≡ false → cause L (Exec place told) ≡ Some BadOutcome
+cause-outcome L place told item there forbids = cause-exec L place told item false there forbids
+
+-- An outcome is allowed to an operation in flight as it is to its call.
+pub allowed-op : (L : Ledger) (n : ℕ) (told : Told) (o : Operation) → slice_get L.ops n ≡ Some o →
+    allowed L (Op n) told ≡ is_allowed L.world o.canceled (call_of o.request) told
+allowed-op L n told o which = ap (passes (λ operation. is_allowed L.world operation.canceled (call_of operation.request) told)) which
 
 -- An execution past what is in flight is refused.
 pub cause-flying : (L : Ledger) (place : ℕ) (told : Told) → length L.flying ≤ place → cause L (Exec place told) ≡ Some NotFlying
 cause-flying L place told h =
     ap (λ b. refused_if b NotFlying (refused_if (not (passes (λ item. allowed L item told) (slice_get L.flying place))) BadOutcome None))
     (past-test (length L.flying) place h)
-
--- An execution of an outcome that isn't allowed is refused.
-pub cause-outcome : (L : Ledger) (place n : ℕ) (told : Told) (o : Operation) → place < length L.flying →
-    slice_get L.flying place ≡ Some (Op n) → slice_get L.ops n ≡ Some o → is_allowed L.world o.canceled (call_of o.request) told ≡ false →
-    cause L (Exec place told) ≡ Some BadOutcome
-cause-outcome L place n told o within there which forbids =
-    ap (λ b. refused_if b NotFlying (refused_if (not (passes (λ item. allowed L item told) (slice_get L.flying place))) BadOutcome None))
-    (below-test (length L.flying) place within)
-    ∙ ap (λ x. refused_if (not (passes (λ item. allowed L item told) x)) BadOutcome None) there
-    ∙ ap (λ x. refused_if (not
-    (passes (λ operation. is_allowed L.world operation.canceled (call_of operation.request) told) x)) BadOutcome None) which
-    ∙ ap (λ b. refused_if (not b) BadOutcome None) forbids

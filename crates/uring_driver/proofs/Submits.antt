@@ -1,7 +1,7 @@
 -- What a submission answers, of a driver that stands for a ledger.
-use Rattle.std.proofs.Common.{◌≡◌, inl, inr, ℕ, suc, ◌+◌, ◌<◌, ◌≤◌, Bool, true, false, List, []}
+use Rattle.std.proofs.Common.{◌≡◌, ℕ, suc, ◌+◌, ◌<◌, ◌≤◌, Bool, true, false, List, []}
 use Rattle.std.proofs.Common.{◌∷◌, ◌++◌, length, Some, None, refl, sym, ◌∙◌, ap, subst, arith, length-append}
-use Rattle.std.specs.Prelude.{slice_get, nat_le, nat_lt, IsTrue, ◌==◌, if◌then◌else◌}
+use Rattle.std.specs.Prelude.{slice_get, nat_le, IsTrue, ◌==◌, if◌then◌else◌}
 use Rattle.std.specs.Ordering.{nat_cmp}
 use Rattle.std.specs.FinMap.{FinMap, get, insert, len}
 use Rattle.std.proofs.lemmas.Bool.Decides.{nat_tests}
@@ -12,14 +12,13 @@ use Rattle.op_slots.specs.declared.lifecycle.Lifecycle.TheVariants.{Submitted as
 use Rattle.ring_core.specs.Ring.{RingView, pushed}
 use Rattle.ring_core.specs.Request.{named, call_of, plain_request}
 use Rattle.ring_core.specs.declared.request.Request.{Request}
-use Rattle.ring_core.specs.declared.request.Request.TheVariants.{Recv, ReadVec, Send, WriteVec}
-use Rattle.ring_core.specs.declared.entry.Body.{Body}
-use Rattle.ring_core.specs.declared.entry.Body.TheVariants.{Call as Calls, Cancel as Cancels}
+use Rattle.ring_core.proofs.Requests.{named-mapped}
+use Rattle.ring_core.specs.declared.entry.Body.TheVariants.{Call as Calls}
 use Rattle.ring_core.specs.declared.entry.Entry.{Entry}
 use Rattle.ring_core.specs.declared.ledger.Event.TheVariants.{Submit}
 use Rattle.ring_core.specs.declared.ledger.Reply.TheVariants.{Submitted}
 use Rattle.ring_core.specs.Lists.{numbers_where}
-use Rattle.ring_core.specs.Ledger.{Ledger, Queued, Req, Cancel, Operation, InFlight, is_live, is_owned, live_ops, new_operation, user_holds}
+use Rattle.ring_core.specs.Ledger.{Ledger, Queued, Req, Cancel, Operation, InFlight, is_live, is_owned, live_ops, new_operation}
 use Rattle.ring_core.specs.Queue.{take_one, take_each, take_all, make_room, append, push, at_place, with_cancel}
 use Rattle.ring_core.specs.declared.ledger.TheConstants.{MOST_LIVE}
 use Rattle.ring_core.specs.Step.{submit_step, with_new_op}
@@ -28,36 +27,33 @@ use Rattle.driver_core.specs.declared.op.SubmitFault.{SubmitFault}
 use Rattle.driver_core.specs.declared.op.SubmitFault.TheVariants.{Full, RingFault, Busy, OutOfMemory}
 use Rattle.driver_core.specs.declared.slot.Slot.{Slot}
 use Rattle.uring_driver.specs.declared.uring.IoUringDriver.{IoUringDriver}
-use Rattle.uring_driver.specs.Uring.{ring_in, room_in, whole_ring, is_among, holds_all}
-use Rattle.ring_core.specs.declared.request.Call.{Call}
+use Rattle.uring_driver.specs.Uring.{ring_in, room_in, whole_ring, holds_all}
+use Rattle.uring_driver.specs.Holding.{HandlesStand}
+use Rattle.driver_core.specs.Holds.{with_ops, CanJoin}
+use Rattle.driver_core.proofs.Holds.{len-joined}
 use Rattle.driver_core.specs.declared.op.Op.{Op}
-use Rattle.uring_driver.specs.Op.{call_for, number_of}
-use Rattle.driver_core.specs.Op.{AddsToken}
 use Rattle.driver_core.specs.Ops.{Ops}
 use Rattle.driver_core.specs.Operations.{Submits, new_slot}
-use Rattle.driver_core.specs.Slot.{number_at}
-use Rattle.uring_driver.specs.Submissions.{with_spare, room_made, PendingMoves}
-use Rattle.uring_driver.specs.Lists.{queued_of, queued_in, is_call}
+use Rattle.uring_driver.specs.Submissions.{with_spare, room_made}
 use Rattle.uring_driver.specs.Stands.{Stands, Answers}
 use Rattle.uring_driver.specs.Submitted.{IsSameRing, WhyRefused, Unprepared}
 use Rattle.ring_core.proofs.Amended.{amended-append, amended-append-fixed}
-use Rattle.driver_core.proofs.Lists.{map-get}
 use Rattle.driver_core.proofs.Counts.{where-more, where-within, owned-lives}
 use Rattle.uring_driver.proofs.Means.{Means, means-of, ring-of}
-use Rattle.uring_driver.proofs.Kept.{call-queued}
-use Rattle.uring_driver.proofs.Handles.{lacks-none}
+use Rattle.uring_driver.proofs.Entering.{room-capacity}
+use Rattle.uring_driver.proofs.Holders.{lacks-none, req-queued, means-live, handles-joined}
 use Rattle.uring_driver.proofs.Starting.{stands-same}
 use Rattle.uring_driver.proofs.Steps.{reached-more, step-submit}
 use Rattle.uring_driver.proofs.Submitting.{means-pushed}
 use Rattle.uring_driver.proofs.Heads.{means-view}
 use Rattle.uring_driver.proofs.Taking.{means-room, owned-room}
 use Rattle.ring_core.proofs.Taken.{length-take_each, length-make_room}
-use Rattle.uring_driver.proofs.Turns.{room-world, room-capacity}
 
 -- A request in the queue is that of an operation that there is.
 abbrev IsKnown : ℕ → Queued → Type 0
 IsKnown count (Req n) = n < count
 IsKnown count (Cancel n) = Unit {0}
+IsKnown count (Queued.Close h) = Unit {0}
 
 -- Each entry of a queue does.
 abbrev AllKnown : ℕ → List Queued → Type 0
@@ -77,6 +73,7 @@ module _ (o : Operation) (fixed : with_cancel o ≡ o) where
   take_one-new_op L (Req n) h = ap (λ ops. record (take_one L (Req n)) { ops = ops })
       (amended-append L.ops (o ∷ []) n (at_place InFlight) h)
   take_one-new_op L (Cancel n) h = ap (λ ops. record L { ops = ops }) (amended-append-fixed L.ops o n with_cancel fixed)
+  take_one-new_op L (Queued.Close k) h = refl
 
   -- Taking entries leaves it.
   take_each-new_op : (L : Ledger) (qs : List Queued) → AllKnown (length L.ops) qs →
@@ -94,36 +91,22 @@ module _ (o : Operation) (fixed : with_cancel o ≡ o) where
       (take_each-new_op (record L { queue = [] }) L.queue h)
       ∙ ap (λ M. append M q) (if-new_op (length L.queue == L.capacity) L (take_all L) o)
 
--- An entry that means a request is that of a call, and has its number.
-req-call : (e : Entry) (b : Body) (n : ℕ) → queued_in e b ≡ Req n → (e.serial ≡ n) × (is_call b ≡ true)
-req-call e (Calls call) n h = (let q : Req e.serial ≡ Req n = h in (cc, refl))
-req-call e (Cancels key) n h = (let f : ⊥ = cc in absurd f)
-
 -- What is queued was given before.
 queue-numbers : {B : Type 0} (buffer : B → Buffer) (v : RingView) (slots : FinMap nat_cmp (Slot B)) (L : Ledger) → Means buffer v slots L →
     (i n : ℕ) → slice_get L.queue i ≡ Some (Req n) → n < length L.ops
 queue-numbers buffer v slots L old i n h =
-    let g = map-get queued_of v.queue i (Req n) (ap (λ xs. slice_get xs i) (sym old.in_lists.queue) ∙ h) in
-    let r = req-call g.0 g.0.body n (sym g.2) in
-    let at = (call-queued buffer slots L.ops g.0 g.0.body (old.in_lists.in_queue i g.0 g.1) r.1).1 in
-    slice_get_within L.ops n at.operation (ap (slice_get L.ops) (sym r.0) ∙ at.there)
+    let at = req-queued buffer v slots L old i n h in slice_get_within L.ops n at.operation at.there
 
 -- Each entry names an operation that there is, where each request in the queue does.
 all-known : (count : ℕ) (qs : List Queued) → ((i n : ℕ) → slice_get qs i ≡ Some (Req n) → n < count) → AllKnown count qs
 all-known count [] h = tt
 all-known count (Req n ∷ qs) h = (h 0 n refl, all-known count qs (λ i m g. h (suc i) m g))
 all-known count (Cancel n ∷ qs) h = (tt, all-known count qs (λ i m g. h (suc i) m g))
+all-known count (Queued.Close k ∷ qs) h = (tt, all-known count qs (λ i m g. h (suc i) m g))
 
 -- There is room for one more live operation.
 is-room : (n : ℕ) → n < 4294967232 → nat_le MOST_LIVE n ≡ false
 is-room n h = grind (arith, nat_tests)
-
--- A request as plain data names the same handles.
-named-plain : {B : Type 0} (buffer : B → Buffer) (r : Request B Parts) → named (plain_request buffer r) ≡ named r
-named-plain buffer (Recv fd buf) = refl
-named-plain buffer (ReadVec fd parts) = refl
-named-plain buffer (Send fd buf) = refl
-named-plain buffer (WriteVec fd parts) = refl
 
 module _ {R B : Type 0} (view : R → RingView) (buffer : B → Buffer) where
   -- A submission that went well answers what the machine does.
@@ -134,15 +117,17 @@ module _ {R B : Type 0} (view : R → RingView) (buffer : B → Buffer) where
       mid ≡ with_spare (room_made (whole_ring view d)) spare → length mid.queue < mid.capacity →
       whole_ring view new
       ≡ with_spare (pushed mid (record { word = key; serial = d.given; body = Calls (call_of (plain_request buffer request)) })) spare' →
-      len d.slots.values + 1 ≤ room_in new →
-      new.given ≡ d.given + 1 → new.first ≡ d.first → new.held ≡ d.held → (number : ℕ) → number ≡ d.given →
+      len d.slots.values + len d.holding.table.holders + 1 ≤ room_in new → CanJoin d.holding.table (named request) →
+      new.given ≡ d.given + 1 → new.holding ≡ record d.holding { table = with_ops d.holding.table (named request) } →
+      (number : ℕ) → number ≡ d.given →
       Answers view buffer L (Submit (plain_request buffer request)) (Submitted number) new
-  stands-submits d new L request key spare spare' mid old user few free below put made has_room ring more given first held number is =
+  stands-submits d new L request key spare spare' mid old user few free below put made has_room ring more can given holding number is =
       let r = plain_request buffer request in
       let v = whole_ring view d in
       let before = means-of old in
       let entry : Entry = record { word = key; serial = d.given; body = Calls (call_of r) } in
-      let user' = lacks-none d L (named r) old.handles (ap (holds_all d) (named-plain buffer request) ∙ user) in
+      let names : named r ≡ named request = named-mapped buffer (λ parts. parts) request in
+      let user' = lacks-none d L (named r) old.handles.holders.users (ap (holds_all d) names ∙ user) in
       let s = step-submit L r user' (is-room (length (live_ops L)) (subst (λ n. n < 4294967232) old.operations.in_slots.counted few)) in
       let M = make_room L in
       let order : submit_step L r ≡ append (with_new_op M (new_operation r)) (Req d.given) =
@@ -174,15 +159,19 @@ module _ {R B : Type 0} (view : R → RingView) (buffer : B → Buffer) where
                 ∙ ap (λ x. length x.0.ops) (sym e);
             in_slots = means.in_slots;
           };
-          handles = λ h. ap (λ k. is_among k new.held h) first ∙ ap (λ k. is_among d.first k h) held ∙ old.handles h
-              ∙ ap (λ w. nat_lt h (length w)) (sym (room-world L)) ∙ ap (λ x. user_holds x.0 h) (sym e);
+          handles = subst (λ K. HandlesStand new.holding K) (sym (ap (λ x. x.0) e))
+              (subst (λ h. HandlesStand h (append (with_new_op M (new_operation r)) (Req d.given)))
+              (sym (holding ∙ ap (λ hs. record d.holding { table = with_ops d.holding.table hs }) (sym names)))
+              (handles-joined d.holding L r d.given (means-live buffer v d.slots.values L before) old.handles));
           room = (
               let a = where-more is_owned M.ops (new_operation r) refl in
               let b = owned-room buffer v d.slots.values L before in
               let c = where-within is_owned is_live L.ops owned-lives in
               let k = old.operations.in_slots.counted in
               let f = ap (λ x. length (numbers_where is_owned 0 x.0.ops)) e in
-              omega (arith, a, b, c, k, f, more));
+              let h = ap (λ x. len x.table.holders) holding in
+              let j = len-joined d.holding.table (named request) can in
+              omega (arith, a, b, c, k, f, h, j, more));
           fits = (let a = ap (λ x. length x.queue) ring in let b = length-append mid.queue (entry ∷ []) in
               let k = ap (λ x. x.capacity) ring in omega (arith, a, b, k, has_room));
           ring = ring-of means;
@@ -198,7 +187,10 @@ module _ {R B : Type 0} (view : R → RingView) (buffer : B → Buffer) where
   why-refused d new steady RingFault same values h = (h.1, h.2, h.3)
   why-refused d new steady Busy same values h = (h.1, h.2, h.3)
   why-refused d new steady OutOfMemory same values h = λ L old. stands-same view buffer d new L _ h.1.ring h.1.due h.1.room values
-      (ap (λ x. x.given) same) (ap (λ x. x.first) same) (ap (λ x. x.held) same) old
+      (ap (λ x. x.given) same) (record {
+        table = ap (λ x. x.holding.table.holders) same;
+        closing = ap (λ x. x.holding.closing.holders) same;
+      }) old
 
   -- Where memory ran out the ring has other room at most.
   pub same-room : (d new : IoUringDriver R B) (steady : Bool) (why : SubmitFault) →
@@ -207,38 +199,6 @@ module _ {R B : Type 0} (view : R → RingView) (buffer : B → Buffer) where
   same-room d new steady RingFault h e = (let f : ⊥ = cc in absurd f)
   same-room d new steady Busy h e = (let f : ⊥ = cc in absurd f)
   same-room d new steady OutOfMemory h e = record { ring = h.1.ring; due = h.1.due }
-
--- The entry that joined is that of the new token's call.
-pub entry-is : {B : Type 0} (buffer : B → Buffer) (request : Request B Parts) (old new : List Entry) (op : Op) (word serial : ℕ)
-    (call : Call) → word ≡ op.key → serial ≡ op.number → call ≡ call_of (plain_request buffer request) →
-    PendingMoves old new (record { word = word; serial = serial; body = Calls call } ∷ []) →
-    PendingMoves old new (call_for op (call_of (plain_request buffer request)) ∷ [])
-entry-is buffer request old new op word serial call key number calls moves =
-    subst (λ w. PendingMoves old new (record {
-      word = w;
-      serial = op.number;
-      body = Calls (call_of (plain_request buffer request));
-    } ∷ [])) key
-    (subst (λ n. PendingMoves old new (record {
-      word = word;
-      serial = n;
-      body = Calls (call_of (plain_request buffer request));
-    } ∷ [])) number
-    (subst (λ c. PendingMoves old new (record { word = word; serial = serial; body = Calls c } ∷ [])) calls moves))
-
--- A token that was added to the slots that were there before is added.
-pub adds-over : {B : Type 0} (old mid new : Ops B) (op : Op) → mid.slots.values ≡ old.slots.values → mid.given ≡ old.given →
-    AddsToken mid new op → AddsToken old new op
-adds-over old mid new op same given adds = record {
-  this = adds.this;
-  kept = λ other holds. adds.kept other (subst (λ m. number_at m other.key ≡ Some (number_of other)) (sym same) holds);
-  only = λ other holds. elim (adds.only other holds) [
-    | inl e ↦ inl e
-    | inr h ↦ inr (subst (λ m. number_at m other.key ≡ Some (number_of other)) same h)
-  ];
-  number = adds.number ∙ given;
-  next = adds.next ∙ ap (λ n. n + 1) given;
-}
 
 -- What a submission put in the slots, over those that were there before.
 pub put-over : {B : Type 0} (old mid new : Ops B) (request : Request B Parts) (op : Op) → mid.slots.values ≡ old.slots.values →

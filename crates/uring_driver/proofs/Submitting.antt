@@ -176,7 +176,7 @@ module _ {B : Type 0} (buffer : B → Buffer) (w : RingView) (slots : FinMap nat
         },
       )
     ];
-    in_flight = λ i x h. flight-kept buffer slots (insert slots key t) M.ops ops' x x.marked x.entry.body
+    in_flight = λ i x h. flight-kept buffer slots (insert slots key t) M.ops ops' x x.marked x.entry.body (λ _. refl)
         (λ _ m. (entry-kept x.entry m.0, flown-kept x m.1)) (l.in_flight i x h);
     in_done = λ i c h. done-kept slots (insert slots key t) M.ops ops' c (target c.word)
         (λ _ m. (completion-kept c m.0, at-kept c.serial (InDone c.outcome) m.1)) (l.in_done i c h);

@@ -9,7 +9,7 @@ use Rattle.rent_buf.specs.Buffer.{Buffer}
 use Rattle.ring_core.specs.Ring.{RingView, entered, flying_after_entry, flying_after, done_after_entry, done_after, IsLater, TookFront}
 use Rattle.ring_core.specs.Lists.{numbers_where}
 use Rattle.ring_core.specs.declared.entry.Body.{Body}
-use Rattle.ring_core.specs.declared.entry.Body.TheVariants.{Call as Calls, Cancel as Cancels}
+use Rattle.ring_core.specs.declared.entry.Body.TheVariants.{Call as Calls, Cancel as Cancels, Close as Closes}
 use Rattle.ring_core.specs.declared.entry.Entry.{Entry}
 use Rattle.ring_core.specs.Ledger.{Ledger, Queued, Req, Cancel, is_owned}
 use Rattle.ring_core.specs.Queue.{take_one, take_each, take_all, make_room, with_cancel}
@@ -22,6 +22,7 @@ use Rattle.driver_core.proofs.Counts.{where-all}
 use Rattle.uring_driver.proofs.Heads.{means-view}
 use Rattle.uring_driver.proofs.TakingCalls.{means-call, owned-call}
 use Rattle.uring_driver.proofs.TakingCancels.{cancel-owned, means-cancel}
+use Rattle.uring_driver.proofs.TakingCloses.{means-close}
 
 module _ {B : Type 0} (buffer : B → Buffer) (v : RingView) (slots : FinMap nat_cmp (Slot B)) (L : Ledger) (e : Entry) (rest : List Entry)
     (old : Means buffer v slots L) (first : v.queue ≡ e ∷ rest) where
@@ -33,6 +34,7 @@ module _ {B : Type 0} (buffer : B → Buffer) (v : RingView) (slots : FinMap nat
   }) slots (take_one (record L { queue = map queued_of rest }) (queued_in e b))
   by_body (Calls call) h = means-call buffer v slots L e rest old first call h
   by_body (Cancels key) h = means-cancel buffer v slots L e rest old first key h
+  by_body (Closes k) h = means-close buffer v slots L e rest old first k h
 
   -- One entry is taken: by its word in the ring, and by its number in the ledger.
   pub means-took : Means buffer (record v {
@@ -48,6 +50,7 @@ module _ {B : Type 0} (buffer : B → Buffer) (v : RingView) (slots : FinMap nat
       (queued_in e b)).ops) ≡ length (numbers_where is_owned 0 L.ops)
   owned-body (Calls call) h = owned-call buffer v slots L e rest old first call h
   owned-body (Cancels key) h = where-all is_owned with_cancel L.ops e.serial cancel-owned
+  owned-body (Closes k) h = refl
 
   -- Its operation belongs to whom it did.
   pub owned-took : length (numbers_where is_owned 0 (take_one (record L { queue = map queued_of rest }) (queued_of e)).ops)
@@ -58,6 +61,7 @@ module _ {B : Type 0} (buffer : B → Buffer) (v : RingView) (slots : FinMap nat
 take-queue : (L : Ledger) (q : Queued) (qs : List Queued) → record (take_one L q) { queue = qs } ≡ take_one (record L { queue = qs }) q
 take-queue L (Req n) qs = refl
 take-queue L (Cancel n) qs = refl
+take-queue L (Queued.Close h) qs = refl
 
 -- A prefix of the queue is taken, in order.
 pub means-front : {B : Type 0} (buffer : B → Buffer) (slots : FinMap nat_cmp (Slot B)) (es rest : List Entry) (v : RingView) (L : Ledger) →

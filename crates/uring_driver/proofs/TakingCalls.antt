@@ -134,7 +134,7 @@ module _ {B : Type 0} (buffer : B → Buffer) (v : RingView) (slots : FinMap nat
     in_queue = λ i x h. queued-kept buffer slots slots L.ops ops' x x.body (λ c a. (a.0, stays x.serial InQueue (behind i x h c) a.1))
         (old.in_lists.in_queue (suc i) x (later i x h));
     in_flight = λ i x h. elim (get-pushed v.flying f' i x h) [
-      | inl r ↦ flight-kept buffer slots slots L.ops ops' x x.marked x.entry.body (λ _ a. (a.0, flown-stays x a.1))
+      | inl r ↦ flight-kept buffer slots slots L.ops ops' x x.marked x.entry.body (λ _. refl) (λ _ a. (a.0, flown-stays x a.1))
           (old.in_lists.in_flight i x r)
       | inr r ↦ subst (λ y. FlightFor buffer slots ops' y y.entry.body) (sym r.1)
           (subst (λ b. FlightFor buffer slots ops' f' b) (sym body) (here.0, now-flown))

@@ -1,5 +1,5 @@
 -- What taking a cancel off the queue does to a ring and slots that mean a ledger.
-use Rattle.std.proofs.Common.{◌≡◌, inl, inr, ℕ, suc, Bool, true, false, List, [], ◌∷◌, ◌++◌, map, Option, Some, None, refl, sym, ◌∙◌}
+use Rattle.std.proofs.Common.{◌≡◌, ◌<◌, inl, inr, ℕ, suc, Bool, true, false, List, [], ◌∷◌, ◌++◌, map, Option, Some, None, refl, sym, ◌∙◌}
 use Rattle.std.proofs.Common.{ap, subst, arith}
 use Rattle.std.specs.Prelude.{slice_get, ◌==◌, ◌||◌}
 use Rattle.std.specs.Ordering.{nat_cmp}
@@ -13,7 +13,7 @@ use Rattle.ring_core.specs.declared.entry.Body.TheVariants.{Cancel as Cancels}
 use Rattle.ring_core.specs.declared.entry.Entry.{Entry}
 use Rattle.ring_core.specs.declared.entry.Flight.{Flight}
 use Rattle.ring_core.specs.declared.entry.Completion.{Completion}
-use Rattle.ring_core.specs.declared.entry.TheConstants.{CANCEL_WORD}
+use Rattle.ring_core.specs.declared.entry.TheConstants.{CANCEL_WORD, FIRST_CLOSE}
 use Rattle.ring_core.specs.declared.entry.Target.TheVariants.{Reserved}
 use Rattle.ring_core.specs.Entry.{target}
 use Rattle.ring_core.proofs.Targets.{target-cancel}
@@ -26,7 +26,7 @@ use Rattle.uring_driver.specs.Lists.{IsAt, IsFlown, FlightFor, DoneFor, Meets, L
 use Rattle.uring_driver.proofs.Means.{Means}
 use Rattle.ring_core.proofs.Numbers.{equal-other, same-or-not}
 use Rattle.driver_core.proofs.Lists.{map-get, get-pushed, amended-absent}
-use Rattle.uring_driver.proofs.Kept.{cancel-queued, queued-kept, flight-kept, done-kept, done-reserved}
+use Rattle.uring_driver.proofs.Kept.{cancel-queued, close-flown, queued-kept, flight-kept, done-kept, done-reserved}
 use Rattle.driver_core.proofs.Slots.{slots-amended}
 use Rattle.uring_driver.proofs.Heads.{at-head, behind-head, cancels-left}
 
@@ -80,9 +80,12 @@ module _ {B : Type 0} (buffer : B → Buffer) (v : RingView) (slots : FinMap nat
   abbrev answer : Completion
   answer = record { word = e.word; serial = e.serial; outcome = Counted 0 }
 
+  is-cancel : (e.word ≡ CANCEL_WORD) × (key < FIRST_CLOSE)
+  is-cancel = cancel-queued buffer slots L.ops e e.body (old.in_lists.in_queue 0 e at_head) key body
+
   -- The word of its completion is reserved, and names no slot.
   reserved : target e.word ≡ Reserved CANCEL_WORD
-  reserved = ap target (cancel-queued buffer slots L.ops e e.body (old.in_lists.in_queue 0 e at_head) key body) ∙ target-cancel
+  reserved = ap target is-cancel.0 ∙ target-cancel
 
   not-named : (c : Completion) → c ≡ answer → names_slot (target c.word) ≡ true → ⊥
   not-named c h q = (let z : false ≡ true = sym (ap (λ x. names_slot (target x.word)) h ∙ ap names_slot reserved) ∙ q in cc)
@@ -121,6 +124,14 @@ module _ {B : Type 0} (buffer : B → Buffer) (v : RingView) (slots : FinMap nat
         }
       ]
 
+  -- It has no close's word, so no close is marked.
+  close-unmarked : (i : ℕ) (f : Flight) → slice_get v.flying i ≡ Some f → is_call f.entry.body ≡ false →
+      (marked_by key f).marked ≡ f.marked
+  close-unmarked i f h c =
+      let below = is-cancel.1 in
+      let above = close-flown buffer slots L.ops f f.entry.body (old.in_lists.in_flight i f h) c in
+      ap (λ b. f.marked || b) (equal-other f.entry.word key (λ q. omega (arith, below, above, q))) ∙ or-false f.marked
+
   marked-fits : (t : Slot B) → t.serial ≡ e.serial → SlotFor buffer L.ops t → SlotFor buffer marked_ops t
   marked-fits t q m = record {
     operation = record m.operation { canceled = (canceled_at m.operation.place m.operation).canceled };
@@ -149,7 +160,7 @@ module _ {B : Type 0} (buffer : B → Buffer) (v : RingView) (slots : FinMap nat
     in_flight = λ i f h. (
         let g = map-get (marked_by key) v.flying i f h in
         subst (λ y. FlightFor buffer slots marked_ops y y.entry.body) (sym g.2)
-        (flight-kept buffer slots slots L.ops marked_ops g.0 (marked_by key g.0).marked g.0.entry.body
+        (flight-kept buffer slots slots L.ops marked_ops g.0 (marked_by key g.0).marked g.0.entry.body (close-unmarked i g.0 g.1)
         (λ c a. (a.0, flown-marked i g.0 g.1 c a.1))
         (old.in_lists.in_flight i g.0 g.1)));
     in_done = λ i c h. elim (get-pushed v.done answer i c h) [

@@ -25,6 +25,7 @@ pub record HasBegun {R B : Type 0} (view : R → RingView) (tells steady : Bool)
   pub same : SameSlots old new
   pub entered : EnteredFor view tells steady old.ring new.ring begun.busy
   pub none_reaped : begun.named.reaped.items ≡ []
+  pub none_closed : begun.named.closed.items ≡ []
   pub none_woken : begun.named.woken.items ≡ []
   pub room : HasRoom begun.named (length (view (ring_in new)).done)
 

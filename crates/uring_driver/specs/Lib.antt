@@ -1,4 +1,5 @@
 pub mod Pending
+pub mod Holding
 pub mod Submissions
 pub mod Uring
 pub mod Op
@@ -7,8 +8,10 @@ pub mod Stands
 pub mod Submitted
 pub mod PollOp
 pub mod Handles
+pub mod Released
 pub mod Executed
 pub mod Reap
+pub mod Reaps
 pub mod Turned
 pub mod Begun
 pub mod Parked

@@ -1,18 +1,18 @@
 -- What the lists of a ring mean in the ledger. Its entries are read by serials there; the ring itself compares words alone.
 -- Cited by `Stands`.
-use Rattle.std.specs.Prelude.{ℕ, ◌≡◌, ◌<◌, Bool, true, false, List, [], ◌∷◌, map, flat_map, Some, slice_get, ⊤}
+use Rattle.std.specs.Prelude.{ℕ, ◌≡◌, ◌<◌, ◌^◌, Bool, true, false, List, [], ◌∷◌, map, flat_map, Some, slice_get, ⊤}
 use Rattle.std.specs.Ordering.{nat_cmp}
 use Rattle.std.specs.FinMap as finite
 use Rattle.rent_buf.specs.Buffer.{Buffer}
 use Rattle.ring_core.specs.declared.entry.Body.{Body}
-use Rattle.ring_core.specs.declared.entry.Body.TheVariants.{Call as Calls, Cancel as Cancels}
+use Rattle.ring_core.specs.declared.entry.Body.TheVariants.{Call as Calls, Cancel as Cancels, Close as Closes}
 use Rattle.ring_core.specs.declared.entry.Entry.{Entry}
 use Rattle.ring_core.specs.declared.entry.Flight.{Flight}
 use Rattle.ring_core.specs.declared.entry.Completion.{Completion}
-use Rattle.ring_core.specs.declared.entry.TheConstants.{CANCEL_WORD}
+use Rattle.ring_core.specs.declared.entry.TheConstants.{CANCEL_WORD, FIRST_CLOSE}
 use Rattle.ring_core.specs.declared.entry.Target.{Target}
-use Rattle.ring_core.specs.declared.entry.Target.TheVariants.{Slot as Keyed, Reserved}
-use Rattle.ring_core.specs.Entry.{target}
+use Rattle.ring_core.specs.declared.entry.Target.TheVariants.{Slot as Keyed, Handle, Reserved}
+use Rattle.ring_core.specs.Entry.{target, close_entry}
 use Rattle.ring_core.specs.Request.{call_of, plain_request}
 use Rattle.ring_core.specs.Ring.{RingView}
 use Rattle.ring_core.specs.Ledger.{Ledger, Queued, Req, Cancel, Item, Op, Operation, Place, InQueue, InFlight, InDone}
@@ -22,6 +22,7 @@ use Rattle.driver_core.specs.declared.slot.Slot.{Slot}
 abbrev pub queued_in : Entry → Body → Queued
 queued_in entry (Calls call) = Req entry.serial
 queued_in entry (Cancels key) = Cancel entry.serial
+queued_in entry (Closes h) = Queued.Close h
 
 -- What an entry means in the queue.
 abbrev pub queued_of : Entry → Queued
@@ -31,19 +32,22 @@ queued_of entry = queued_in entry entry.body
 abbrev pub is_call : Body → Bool
 is_call (Calls call) = true
 is_call (Cancels key) = false
+is_call (Closes h) = false
 
--- What an entry with a body means in flight: a call is its operation. A cancel is never in flight (`FlightFor`).
+-- What an entry with a body means in flight: a call is its operation, a close its handle's. A cancel is never in flight (`FlightFor`).
 abbrev pub item_in : Entry → Body → Item
 item_in entry (Calls call) = Op entry.serial
 item_in entry (Cancels key) = Op entry.serial
+item_in entry (Closes h) = Item.Close h
 
 -- What an entry in flight means.
 abbrev pub item_of : Flight → Item
 item_of flight = item_in flight.entry flight.entry.body
 
--- What a completion means, by what its word names: a slot is its operation, and a reserved word is nothing.
+-- What a completion means, by what its word names: a slot is its operation, a handle its close, and a reserved word is nothing.
 abbrev pub done_items_in : Completion → Target → List Item
 done_items_in completion (Keyed key) = Op completion.serial ∷ []
+done_items_in completion (Handle h) = Item.Close h ∷ []
 done_items_in completion (Reserved word) = []
 
 -- What a completion means.
@@ -53,6 +57,7 @@ done_items_of completion = done_items_in completion (target completion.word)
 -- What a word names is a slot.
 abbrev pub names_slot : Target → Bool
 names_slot (Keyed key) = true
+names_slot (Handle h) = false
 names_slot (Reserved word) = false
 
 -- No two elements of a list that pass a test have one number.
@@ -86,19 +91,23 @@ pub record CompletionFor {B : Type 0} (slots : finite.FinMap nat_cmp (Slot B)) (
   pub there : finite.get slots completion.word ≡ Some slot
   pub serial : slot.serial ≡ completion.serial
 
--- What stands in the queue, by its body: a call is that of an operation that is queued, and the word of a cancel is reserved.
+-- What stands in the queue, by its body: a call is that of an operation that is queued; the word of a cancel is reserved, and its key is
+-- no close's word; a close is that of a handle below the bound of handles.
 abbrev pub QueuedFor : {B : Type 0} → (B → Buffer) → finite.FinMap nat_cmp (Slot B) → List Operation → Entry → Body → Type 0
 QueuedFor buffer slots ops entry (Calls call) = EntryFor buffer slots entry × IsAt ops entry.serial InQueue
-QueuedFor buffer slots ops entry (Cancels key) = entry.word ≡ CANCEL_WORD
+QueuedFor buffer slots ops entry (Cancels key) = (entry.word ≡ CANCEL_WORD) × (key < FIRST_CLOSE)
+QueuedFor buffer slots ops entry (Closes h) = (entry ≡ close_entry h) × (h < 2 ^ 62)
 
--- What is in flight, by its body: a call is that of an operation that is in flight, and a cancel never flies.
+-- What is in flight, by its body: a call is that of an operation that is in flight, a close is never marked, and a cancel never flies.
 abbrev pub FlightFor : {B : Type 0} → (B → Buffer) → finite.FinMap nat_cmp (Slot B) → List Operation → Flight → Body → Type 0
 FlightFor buffer slots ops flight (Calls call) = EntryFor buffer slots flight.entry × IsFlown ops flight
 FlightFor buffer slots ops flight (Cancels key) = ⊥
+FlightFor buffer slots ops flight (Closes h) = (flight.entry ≡ close_entry h) × (h < 2 ^ 62) × (flight.marked ≡ false)
 
--- What is done, by what its word names: a slot is that of an operation that is done with this outcome, and a reserved word says nothing.
+-- What is done, by what its word names: a slot is that of an operation that is done with this outcome, and another word says nothing.
 abbrev pub DoneFor : {B : Type 0} → finite.FinMap nat_cmp (Slot B) → List Operation → Completion → Target → Type 0
 DoneFor slots ops completion (Keyed key) = CompletionFor slots completion × IsAt ops completion.serial (InDone completion.outcome)
+DoneFor slots ops completion (Handle h) = ⊤
 DoneFor slots ops completion (Reserved word) = ⊤
 
 -- An entry has a cancel's key exactly where it has the cancel's number.

@@ -1,10 +1,15 @@
 -- What a poll answers.
-use Rattle.std.specs.Prelude.{ℕ, Option, Some, None, slice_get}
+use Rattle.std.specs.Prelude.{ℕ, ◌≡◌, Bool, IsTrue, ◌⊎◌, List, [], map, Option, Some, None, slice_get}
 use Rattle.rent_buf.specs.Buffer.{Buffer}
 use Rattle.ring_core.specs.Ledger.{Ledger, Operation, Place, InQueue, InFlight, InDone, Reaped, Gone}
 use Rattle.ring_core.specs.Ring.{RingView}
 use Rattle.driver_core.specs.declared.op.Op.{Op}
 use Rattle.driver_core.specs.declared.op.PollOp.{PollOp}
+use Rattle.driver_core.specs.declared.op.PollOp.TheVariants.{Pending, Ready}
+use Rattle.driver_core.specs.Holds.{unheld_by}
+use Rattle.ring_core.specs.declared.entry.Entry.{Entry}
+use Rattle.ring_core.specs.Entry.{close_entry}
+use Rattle.ring_core.specs.Request.{named}
 use Rattle.driver_core.specs.Answers.{PollsFor as PollsBy}
 use Rattle.driver_core.specs.Operations.{PollsOp as PollsIn}
 use Rattle.driver_core.specs.Op.{PollsTokens as PollsTokensIn}
@@ -12,6 +17,7 @@ use Rattle.driver_core.specs.Requests.{ReturnsRequest as ReturnsIn}
 use Rattle.uring_driver.specs.declared.uring.IoUringDriver.{IoUringDriver}
 use Rattle.uring_driver.specs.Op.{ops_in}
 use Rattle.uring_driver.specs.Stands.{Stands}
+use Rattle.uring_driver.specs.Holding.{ops_left}
 pub use Rattle.driver_core.specs.Op.{IsPending}
 
 -- A poll answers what the machine does. What is ready has its outcome, and its own request with its buffer.
@@ -47,3 +53,17 @@ IsUnreapedOp (Some operation) = IsUnreapedPlace operation.place
 -- The operation of a number was given and isn't reaped.
 abbrev pub IsUnreaped : Ledger → ℕ → Type 0
 IsUnreaped L number = IsUnreapedOp (slice_get L.ops number)
+
+-- What a poll leaves of who holds handles, over any ring: one that is pending keeps all; one that is ready is of an operation that is gone.
+abbrev pub PollsHandles : {R B : Type 0} → IoUringDriver R B → IoUringDriver R B → PollOp B → Type 0
+PollsHandles old new (Pending back) = new.holding ≡ old.holding
+PollsHandles old new (Ready done) = new.holding ≡ ops_left old.holding (named done.request)
+
+-- The closes that a poll makes pending: of each handle that the operation named which is gone, and that nobody holds any more.
+abbrev pub closes_of_poll : {R B : Type 0} → IoUringDriver R B → PollOp B → List Entry
+closes_of_poll old (Pending back) = []
+closes_of_poll old (Ready done) = map close_entry (unheld_by old.holding.table (named done.request))
+
+-- A poll leaves the ring's lists as the machine's push does: the ring always takes its whole queue, or the poll is pending and queues nothing.
+abbrev pub IsExactPoll : {B : Type 0} → Bool → PollOp B → Type 0
+IsExactPoll steady result = IsTrue steady ⊎ IsPending result

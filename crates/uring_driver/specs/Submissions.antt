@@ -1,5 +1,5 @@
 -- The ring as the driver uses it: what is pending, and what entering it and joining it do. Cited by `Submissions`, and by the driver's calls.
-use Rattle.std.specs.Prelude.{ℕ, ◌≡◌, ◌+◌, ◌<◌, ◌≤◌, ◌==◌, ◌⊎◌, if◌then◌else◌, Bool, IsTrue, List, [], ◌++◌, length, drop}
+use Rattle.std.specs.Prelude.{ℕ, ◌≡◌, ◌+◌, ◌<◌, ◌≤◌, ◌==◌, ◌⊎◌, if◌then◌else◌, Bool, IsTrue, List, [], ◌∷◌, ◌++◌, length, drop}
 use Rattle.ring_core.specs.Counts.{Rose}
 use Rattle.ring_core.specs.declared.entry.Entry.{Entry}
 use Rattle.ring_core.specs.declared.ring.EnterError.{EnterError}
@@ -43,10 +43,12 @@ pub record TakesFront (old new : RingView) : Type 0 where
   pub count : ℕ
   pub took : TookFront count old new
 
--- What is pending went towards the ring, and a prefix of it was taken, with at most one completion for each of its entries.
+-- What is pending went towards the ring, and a prefix of it was taken, with at most one completion for each of its entries. No completion
+-- was lost.
 pub record Enters {R : Type 0} (view : R → RingView) (tells : Bool) (old new : Pending R) : Type 0 where
   pub later : IsLater (view old.ring) (view new.ring)
   pub few_done : length (view new.ring).done + (length (view new.ring).queue + length new.due) ≤ length (view old.ring).done + (length (view old.ring).queue + length old.due)
+  pub more_done : length (view old.ring).done ≤ length (view new.ring).done
   pub same_room : new.room ≡ old.room
   pub told : IsTrue tells → TakesFront (pending_ring view old) (pending_ring view new)
 
@@ -63,6 +65,8 @@ KeptOut steady old new Busy = Rose old.busies new.busies × (IsTrue steady → �
 pub record Posts {R : Type 0} (view : R → RingView) (tells steady : Bool) (old new : Pending R) (entry : Entry) : Type 0 where
   pub later : IsLater (view old.ring) (view new.ring)
   pub room : 0 < old.room → new.room + 1 ≡ old.room
+  pub few_done : length (view new.ring).done + (length (view new.ring).queue + length new.due) ≤ length (view old.ring).done + (length (view old.ring).queue + length old.due) + 1
+  pub more_done : length (view old.ring).done ≤ length (view new.ring).done
   pub told : 0 < old.room → IsTrue tells → (mid : RingView) × TakesFront (pending_ring view old) mid × (pending_ring view new ≡ with_spare (pushed mid entry) (view new.ring).spare)
   pub exact : 0 < old.room → IsTrue steady → length (view old.ring).queue + length old.due ≤ (view old.ring).capacity →
       (pending_ring view new ≡ with_spare (pushed (room_made (pending_ring view old)) entry) (view new.ring).spare) × (length (view new.ring).queue + length new.due ≤ (view new.ring).capacity)
@@ -78,3 +82,9 @@ pub record KeepsPending {R : Type 0} (view : R → RingView) (tells : Bool) (old
   pub due : new.due ≡ old.due
   pub room : new.room ≡ old.room
   pub ring : IsTrue tells → view new.ring ≡ with_done (view old.ring) (view new.ring).done
+
+-- Entries joined what is pending, one after another, each as `Posts` says.
+abbrev pub PostsEach : {R : Type 0} → (R → RingView) → Bool → Bool → Pending R → Pending R → List Entry → Type 0
+PostsEach view tells steady old new [] = new ≡ old
+PostsEach {R} view tells steady old new (entry ∷ entries) =
+    (mid : Pending R) × Posts view tells steady old mid entry × PostsEach view tells steady mid new entries

@@ -57,12 +57,11 @@ pub record SameOps {R B : Type 0} (old new : IoUringDriver R B) : Type 0 where
   pub slots : new.slots ≡ old.slots
   pub given : new.given ≡ old.given
 
--- The slots and the counts of a driver are as before; its ring may have changed.
+-- The slots, the count and the handles of a driver are as before; its ring may have changed.
 pub record SameSlots {R B : Type 0} (old new : IoUringDriver R B) : Type 0 where
   pub slots : new.slots.values ≡ old.slots.values
   pub given : new.given ≡ old.given
-  pub first : new.first ≡ old.first
-  pub held : new.held ≡ old.held
+  pub holding : new.holding ≡ old.holding
 
 -- Why a submission was refused, and what it left of the ring. Full: the driver is the same. A fault of the ring: that count rose,
 -- since the queue was full or an entry was due, and a prefix of what is pending may have been entered; a steady ring has none. OutOfMemory: the driver stands for what it stood for.
@@ -83,11 +82,12 @@ pub record IsSameRing {R B : Type 0} (view : R → RingView) (old new : IoUringD
   pub ring : IsSameButRoom (view (ring_in old)) (view (ring_in new))
   pub due : due_in new ≡ due_in old
 
--- The memory of a submission is taken, with that of one cancel for each slot and for the new one; nothing is due, and the queue has room.
-pub record IsPrepared {B : Type 0} (view : RingView) (due : List Entry) (room : ℕ) (slots : Slots (Slot B)) : Type 0 where
+-- The memory of a submission is taken, with that of one cancel for each slot and for the new one, and of one close for each handle that is
+-- held; nothing is due, and the queue has room.
+pub record IsPrepared {B : Type 0} (view : RingView) (due : List Entry) (room : ℕ) (slots : Slots (Slot B)) (handles : ℕ) : Type 0 where
   pub few : map.len slots.values < MAX_LIVE
   pub slot : 0 < slots.room
-  pub spare : map.len slots.values + 2 ≤ room
+  pub spare : map.len slots.values + handles + 2 ≤ room
   pub none_due : due ≡ []
   pub queue : length view.queue < view.capacity
 

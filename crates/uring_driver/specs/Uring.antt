@@ -1,10 +1,10 @@
 -- What the readers of a driver show. Cited by `IoUringDriver` and by whoever holds one.
-use Rattle.std.specs.Prelude.{ℕ, ◌≡◌, ◌+◌, ◌⊎◌, ◌==◌, if◌then◌else◌, Bool, true, ◌&&◌, List, [], ◌∷◌, ◌++◌}
+use Rattle.std.specs.Prelude.{ℕ, Bool, true, ◌&&◌, List, [], ◌∷◌, ◌++◌}
 use Rattle.std.specs.FinMap as map
 use Rattle.ring_core.specs.declared.entry.Entry.{Entry}
 use Rattle.ring_core.specs.Ring.{RingView}
 use Rattle.uring_driver.specs.declared.uring.IoUringDriver.{IoUringDriver}
-pub use Rattle.uring_driver.specs.State.{is_among}
+use Rattle.uring_driver.specs.Holding.{Holding, is_users}
 use Rattle.uring_driver.specs.Submissions.{pending_ring}
 
 -- The driver's ring.
@@ -35,21 +35,13 @@ live_slots driver = map.len driver.slots.values
 abbrev pub given_by : {R B : Type 0} → IoUringDriver R B → ℕ
 given_by driver = driver.given
 
--- How many handles were given.
-abbrev pub handles_of : {R B : Type 0} → IoUringDriver R B → ℕ
-handles_of driver = driver.held
+-- Who holds the driver's handles, and which closes aren't reaped.
+abbrev pub holding_in : {R B : Type 0} → IoUringDriver R B → Holding
+holding_in driver = driver.holding
 
--- The first handle, once h was given after so many others.
-abbrev pub first_with : ℕ → ℕ → ℕ → ℕ
-first_with first count h = if count == 0 then h else first
-
--- A handle follows those that were given: it has the next number, or none was given.
-abbrev pub IsNextHandle : {R B : Type 0} → IoUringDriver R B → ℕ → Type 0
-IsNextHandle driver h = (driver.held ≡ 0) ⊎ (h ≡ driver.first + driver.held)
-
--- The user holds a handle: the driver gave it.
+-- The user holds a handle.
 abbrev pub holds_handle : {R B : Type 0} → IoUringDriver R B → ℕ → Bool
-holds_handle driver h = is_among driver.first driver.held h
+holds_handle driver h = is_users driver.holding h
 
 -- The user holds each of these handles.
 abbrev pub holds_all : {R B : Type 0} → IoUringDriver R B → List ℕ → Bool

@@ -20,7 +20,8 @@ fn turn_twice<D: Driver>(driver: &mut D) -> bool
 #[test]
 fn one_read_by_the_crates_alone(rt: HostRuntime) -> Result<(), Fail> {
     let mut driver: IoUringDriver<MemRing, Rent> = IoUringDriver::new_with_entries(rt.alloc(), 8)?;
-    assert!(rt; driver.handles() < 1 << 62);
+    let next = driver.handles();
+    assert!(rt; next < 1 << 62 && !driver.known(next));
     let fd = driver.give(HandleKind::Stream)?;
 
     // From here to its last poll the buffer is the engine's.
@@ -32,7 +33,7 @@ fn one_read_by_the_crates_alone(rt: HostRuntime) -> Result<(), Fail> {
     };
 
     // Bytes arrive. A turn takes the queue, the ring executes what is in flight, and a turn reaps it.
-    assert!(rt; driver.user_holds(fd.number()));
+    assert!(rt; driver.has_handle(fd.number()));
     assert!(rt; driver.feed(fd.number(), b"hello").is_ok());
     let _ = driver.submit();
     assert_eq!(rt; driver.execute(0, Told::Count(5)), Ok(Executed::Op(0)));

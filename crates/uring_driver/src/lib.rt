@@ -1,6 +1,7 @@
 //! The completion driver: it keeps a slot for each operation in flight, and a ring's entries mean those slots.
 #![tactic(auto)]
 
+mod holding;
 mod submissions;
 pub mod uring;
 

@@ -169,6 +169,8 @@ impl<R: Ring> Submissions<R> {
         ensures due { self.old.due ≡ [] → length (R.view self.old.ring).queue < (R.view self.old.ring).capacity → self.new.due ≡ [] }
         ensures room { self.new.room + 1 ≡ self.old.room }
         ensures later { IsLater (R.view self.old.ring) (R.view self.new.ring) }
+        ensures more { length (R.view self.new.ring).queue + length self.new.due ≡ length (R.view self.old.ring).queue + length self.old.due + 1 }
+        ensures done { length (R.view self.new.ring).done ≡ length (R.view self.old.ring).done }
     {
         self.room -= 1;
         if !self.due.is_empty() {
@@ -213,6 +215,13 @@ impl<R: Ring> Submissions<R> {
 }
 
 impl Submissions<MemRing> {
+    /// How many handles the ring's world has.
+    pub fn handles(&self) -> u64
+        ensures { result ≡ length self.now.ring.world }
+    {
+        self.ring.handles().count()
+    }
+
     /// A new handle of the ring's world.
     pub fn give(&mut self, kind: HandleKind) -> Result<u64, OutOfMemory>
         ensures number { IfOk result (λ h. h ≡ length self.old.ring.world) }

@@ -3,6 +3,7 @@ ghost use Rattle.std.specs.Prelude.{◌≡◌, [], ◌∷◌};
 ghost use Rattle.ring_core.specs.Request.{named};
 
 use super::*;
+use handle_core::Released;
 use rent_buf::{
     Buf, BufSpec, ByteList, IoBuf, IoBufMut, IoVecBuf, Kind, OutOfMemory, PartsSpec, VecBuf,
 };
@@ -49,7 +50,8 @@ fn list(alloc: Global, bytes: &[u8]) -> Result<ByteList, OutOfMemory> {
 
 // A new stream.
 pub(crate) fn give(rt: &impl Abort, driver: &mut IoUringDriver<MemRing, Buf>) -> SharedFd {
-    assert!(rt; driver.handles() < 1 << 62);
+    let next = driver.handles();
+    assert!(rt; next < 1 << 62 && !driver.known(next));
     driver
         .give(HandleKind::Stream)
         .expect(rt, "memory is at hand")
@@ -164,18 +166,39 @@ fn cancel<R: Ring, B: IoBufMut + Drop>(rt: &impl Abort, driver: &mut IoUringDriv
     assert!(rt; driver.cancel_op(op).is_ok());
 }
 
-// A turn, and what it names.
+// A turn that names no close, and what it names.
 fn turn<R: Ring, B: IoBufMut + Drop>(
     rt: &impl Abort,
     driver: &mut IoUringDriver<R, B>,
     reaped: &[u64],
     woken: &[u64],
 ) {
+    turn_closing(rt, driver, reaped, &[], woken);
+}
+
+// A turn, and what it names.
+fn turn_closing<R: Ring, B: IoBufMut + Drop>(
+    rt: &impl Abort,
+    driver: &mut IoUringDriver<R, B>,
+    reaped: &[u64],
+    closed: &[u64],
+    woken: &[u64],
+) {
     let turned = driver.submit();
     assert_eq!(rt; turned.stop, None);
     assert_eq!(rt; turned.reaped.as_slice(), reaped);
-    assert_eq!(rt; turned.closed.as_slice(), [].as_slice());
+    assert_eq!(rt; turned.closed.as_slice(), closed);
     assert_eq!(rt; turned.woken.as_slice(), woken);
+}
+
+// The user drops a hold of a handle.
+fn release<R: Ring, B: IoBufMut + Drop>(
+    rt: &impl Abort,
+    driver: &mut IoUringDriver<R, B>,
+    fd: SharedFd,
+) -> Released {
+    assert!(rt; driver.user_holds(fd.number()));
+    driver.release(fd)
 }
 
 // Bytes arrive at a handle.
@@ -185,13 +208,13 @@ pub(crate) fn feed(
     fd: SharedFd,
     bytes: &[u8],
 ) {
-    assert!(rt; driver.user_holds(fd.number()));
+    assert!(rt; driver.has_handle(fd.number()));
     assert!(rt; driver.feed(fd.number(), bytes).is_ok());
 }
 
 // What was sent to a handle.
 fn sent(rt: &impl Abort, driver: &mut IoUringDriver<MemRing, Buf>, fd: SharedFd, bytes: &str) {
-    assert!(rt; driver.user_holds(fd.number()));
+    assert!(rt; driver.has_handle(fd.number()));
     let Look::Bytes(list) = driver.look(fd.number()).expect(rt, "memory is at hand");
     assert_eq!(rt; list.as_slice(), bytes.as_bytes());
 }
@@ -202,7 +225,7 @@ fn end(
     driver: &mut IoUringDriver<MemRing, Buf>,
     fd: SharedFd,
 ) -> Result<(), WorldError> {
-    assert!(rt; driver.user_holds(fd.number()));
+    assert!(rt; driver.has_handle(fd.number()));
     driver.end(fd.number())
 }
 
@@ -423,7 +446,7 @@ fn a_read_past_the_end(rt: HostRuntime) -> Result<(), Fail> {
     );
     assert_eq!(rt; end(&rt, &mut driver, fd), Ok(()));
     assert_eq!(rt; end(&rt, &mut driver, fd), Err(WorldError::BadHandleEvent));
-    assert!(rt; driver.user_holds(fd.number()));
+    assert!(rt; driver.has_handle(fd.number()));
     assert_eq!(rt;
         driver.feed(fd.number(), b"a"),
         Err(WorldError::BadHandleEvent)
@@ -431,5 +454,43 @@ fn a_read_past_the_end(rt: HostRuntime) -> Result<(), Fail> {
     assert_eq!(rt; driver.execute(0, Told::Count(0)), Ok(Executed::Op(0)));
     turn(&rt, &mut driver, &[0], &[]);
     ready(&rt, &mut driver, op, Outcome::Count(0), "");
+    Ok(())
+}
+
+// A handle that its user holds twice is closing from its last release on, until the turn that names its close.
+#[test]
+fn the_last_release_closes(rt: HostRuntime) -> Result<(), Fail> {
+    let mut driver: IoUringDriver<MemRing, Buf> = IoUringDriver::new_with_entries(rt.alloc(), 4)?;
+    let fd = give(&rt, &mut driver);
+    assert!(rt; driver.user_holds(0) && driver.user_count(0) < 1 << 62);
+    driver.hold(fd);
+    assert_eq!(rt; release(&rt, &mut driver, fd), Released::Held);
+    assert!(rt; driver.user_holds(0) && !driver.closing(0));
+    assert_eq!(rt; release(&rt, &mut driver, fd), Released::Last);
+    assert!(rt; !driver.user_holds(0) && driver.closing(0) && driver.known(0));
+    turn(&rt, &mut driver, &[], &[]);
+    assert_eq!(rt; driver.execute(0, Told::Count(0)), Ok(Executed::Close(0)));
+    turn_closing(&rt, &mut driver, &[], &[0], &[]);
+    assert!(rt; !driver.known(0));
+    Ok(())
+}
+
+// A handle that the user adopts needs not be the ring's. It is closed by the poll of the last operation on it.
+#[test]
+fn an_adopted_handle_is_closed_by_a_poll(rt: HostRuntime) -> Result<(), Fail> {
+    let mut driver: IoUringDriver<MemRing, Buf> = IoUringDriver::new_with_entries(rt.alloc(), 4)?;
+    assert!(rt; !driver.known(7));
+    let fd = driver.adopt(7)?;
+    assert!(rt; driver.user_holds(7) && !driver.has_handle(7));
+    let request = read(rt.alloc(), fd)?;
+    let op = submit(&rt, &mut driver, request);
+    assert!(rt; driver.user_holds(7));
+    assert_eq!(rt; driver.close(fd), Released::Held);
+    turn(&rt, &mut driver, &[], &[]);
+    assert_eq!(rt; driver.execute(0, Told::Fail(104)), Ok(Executed::Op(0)));
+    turn(&rt, &mut driver, &[0], &[]);
+    assert!(rt; !driver.closing(7));
+    ready(&rt, &mut driver, op, Outcome::Fail(104), "");
+    assert!(rt; driver.closing(7));
     Ok(())
 }

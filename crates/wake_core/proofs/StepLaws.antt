@@ -1,17 +1,21 @@
 -- Over lists of steps, wakers come out once and in order.
-use Rattle.std.proofs.Common.{◌≡◌, ℕ, ◌+◌, ◌≤◌, ◌≢◌, List, [], ◌∷◌, ◌++◌, map, refl, sym, ap, ◌∙◌, subst, arith, append_assoc, append-nil, inl, inr}
+use Rattle.std.proofs.Common.{◌≡◌, ℕ, ◌+◌, ◌≤◌, ◌≢◌, List, [], ◌∷◌, ◌++◌, map, refl, sym, ap, ◌∙◌, subst, arith, append_assoc, append-nil}
+use Rattle.std.proofs.Common.{inl, inr}
 use Rattle.std.proofs.lemmas.Bool.Decides.{eqb_tells}
 use Rattle.wake_core.specs.declared.senders.SenderStage.{SenderStage}
 use Rattle.wake_core.specs.declared.senders.SenderStage.TheVariants.{Pushed}
 use Rattle.wake_core.specs.declared.waker.Waker.{Waker}
 use Rattle.wake_core.specs.SenderState.{SenderState}
 use Rattle.wake_core.specs.SenderTable.{sender_of, with_sender}
-use Rattle.wake_core.specs.Step.{Step, Push, ReadFlag, SetToken, Nudge, DrainFirst, ClearFlag, DrainAgain, FallAsleep, TakeToken, Rouse, SetFlag, DrainRest, after, pushed_by, drained_by, AdmitsAll, after_all, pushed_by_all, drained_by_all, EachWakerOnce, KeepsOrder}
+use Rattle.wake_core.specs.Step.{Step, Push, ReadFlag, SetToken, Nudge, DrainFirst, ClearFlag, DrainAgain, FallAsleep, TakeToken, Rouse}
+use Rattle.wake_core.specs.Step.{SetFlag, DrainRest, after, pushed_by, drained_by, AdmitsAll, after_all, pushed_by_all, drained_by_all}
+use Rattle.wake_core.specs.Step.{EachWakerOnce, KeepsOrder}
 use Rattle.wake_core.specs.Waker.{waker}
 use Rattle.wake_core.specs.WakerList.{wakers_of, numbers_of, numbers_between}
 use Rattle.wake_core.specs.WakeSafety.{WakeSafety}
 use Rattle.wake_core.specs.WakeState.{Wake, first_wake, next_waker, after_push}
-use Rattle.wake_core.proofs.NumberLemmas.{numbers_between-append, numbers_between-none, numbers_between-one, wakers_of-same, wakers_of-other, wakers_of-append, numbers_of-append}
+use Rattle.wake_core.proofs.NumberLemmas.{numbers_between-append, numbers_between-none, numbers_between-one, wakers_of-same}
+use Rattle.wake_core.proofs.NumberLemmas.{wakers_of-other, wakers_of-append, numbers_of-append}
 use Rattle.wake_core.proofs.StepSafety.{safe_first}
 use Rattle.wake_core.proofs.TableLemmas.{sender_of-written, sender_of-other, each_sender, sender_of-map}
 
@@ -50,48 +54,74 @@ record Grew (ws : List Waker) (s low high : ℕ) : Type 0 where
   rises : low ≤ high
   numbers : numbers_of s ws ≡ numbers_between low high
 
+-- no wakers, and a count that stays
 grew_none : (s low high : ℕ) → high ≡ low → Grew [] s low high
 grew_none s low high e = record { rises = omega arith; numbers = sym (numbers_between-none low) ∙ ap (numbers_between low) (sym e) }
 
+-- one waker of the sender
 grew_one : (s n t high : ℕ) → high ≡ n + 1 → Grew (waker s n t ∷ []) s n high
 grew_one s n t high e = record {
   rises = omega arith;
-  numbers = ap (map (λ (w : Waker). w.number)) (wakers_of-same s (waker s n t) [] refl) ∙ sym (numbers_between-one n) ∙ ap (numbers_between n) (sym e);
+  numbers = ap (map (λ (w : Waker). w.number)) (wakers_of-same s (waker s n t) [] refl)
+      ∙ sym (numbers_between-one n)
+      ∙ ap (numbers_between n) (sym e);
 }
 
+-- one waker of another sender
 grew_other : (s u n t low high : ℕ) → u ≢ s → high ≡ low → Grew (waker s n t ∷ []) u low high
 grew_other s u n t low high differ e = record {
   rises = omega arith;
-  numbers = ap (map (λ (w : Waker). w.number)) (wakers_of-other u (waker s n t) [] (λ f. differ (sym f))) ∙ sym (numbers_between-none low) ∙ ap (numbers_between low) (sym e);
+  numbers = ap (map (λ (w : Waker). w.number)) (wakers_of-other u (waker s n t) [] (λ f. differ (sym f)))
+      ∙ sym (numbers_between-none low)
+      ∙ ap (numbers_between low) (sym e);
 }
 
+-- two lists joined
 grew_more : (ws vs : List Waker) (s low middle high : ℕ) → Grew ws s low middle → Grew vs s middle high → Grew (ws ++ vs) s low high
 grew_more ws vs s low middle high first rest =
     let rises = first.rises in
     let goes_on = rest.rises in
     record {
       rises = omega arith;
-      numbers = numbers_of-append s ws vs ∙ (λ i. first.numbers i ++ rest.numbers i) ∙ numbers_between-append low middle high rises goes_on;
+      numbers = numbers_of-append s ws vs
+          ∙ (λ i. first.numbers i ++ rest.numbers i)
+          ∙ numbers_between-append low middle high rises goes_on;
     }
 
--- another stage changes no pushed count, and no drain does
-pushed_of-at : (xs : List SenderState) (s : ℕ) (to : SenderStage) (u : ℕ) → (sender_of (with_sender xs s (record (sender_of xs s) { stage = to })) u).pushed ≡ (sender_of xs u).pushed
-pushed_of-at xs s to = each_sender (λ u x. x.pushed ≡ (sender_of xs u).pushed) xs s (record (sender_of xs s) { stage = to }) refl (λ u differ. refl)
+-- another stage changes no pushed count
+pushed_of-at : (xs : List SenderState) (s : ℕ) (to : SenderStage) (u : ℕ)
+    → (sender_of (with_sender xs s (record (sender_of xs s) { stage = to })) u).pushed ≡ (sender_of xs u).pushed
+pushed_of-at xs s to =
+    each_sender (λ u x. x.pushed ≡ (sender_of xs u).pushed) xs s (record (sender_of xs s) { stage = to }) refl (λ u differ. refl)
 
-grew_push : (w : Wake) (s t u : ℕ) → Grew (next_waker w s t ∷ []) u (pushed_of w u) (pushed_of (after_push w s t) u)
+-- these wakers are what a sender's pushed count grew by from one state to another
+abbrev GrewTo : List Waker → Wake → Wake → ℕ → Type 0
+GrewTo ws w next s = Grew ws s (pushed_of w s) (pushed_of next s)
+
+-- a push
+grew_push : (w : Wake) (s t u : ℕ) → GrewTo (next_waker w s t ∷ []) w (after_push w s t) u
 grew_push w s t u =
     let v = sender_of w.senders s in
     let v' : SenderState = record v { stage = Pushed; pushed = v.pushed + 1 } in
+    let next = after_push w s t in
+    let Q : ℕ → Type 0 = λ u. GrewTo (next_waker w s t ∷ []) w next u in
+    let own = ap (λ (x : SenderState). x.pushed) (sender_of-written w.senders s v') in
     elim (eqb_tells u s) [
-      | inl e ↦ (let Q : ℕ → Type 0 = λ u. Grew (next_waker w s t ∷ []) u (pushed_of w u) (pushed_of (after_push w s t) u) in
-          subst Q (sym e.1) (grew_one s v.pushed t (pushed_of (after_push w s t) s) (ap (λ (x : SenderState). x.pushed) (sender_of-written w.senders s v'))))
-      | inr e ↦ grew_other s u v.pushed t (pushed_of w u) (pushed_of (after_push w s t) u) e.1 (ap (λ (x : SenderState). x.pushed) (sender_of-other w.senders s u v' e.1))
+      | inl e ↦ subst Q (sym e.1) (grew_one s v.pushed t (pushed_of next s) own)
+      | inr e ↦ grew_other s u v.pushed t (pushed_of w u) (pushed_of next u) e.1
+          (ap (λ (x : SenderState). x.pushed) (sender_of-other w.senders s u v' e.1))
     ]
 
-grew_drain : (w : Wake) (s : ℕ) (step : Step) → (after w step).senders ≡ (after w DrainRest).senders → pushed_by w step ≡ [] → Grew (pushed_by w step) s (pushed_of w s) (pushed_of (after w step) s)
-grew_drain w s step drained none = subst (λ ws. Grew ws s (pushed_of w s) (pushed_of (after w step) s)) (sym none) (grew_none s (pushed_of w s) (pushed_of (after w step) s) (ap (λ xs. (sender_of xs s).pushed) drained ∙ ap (λ (x : SenderState). x.pushed) (sender_of-map w.senders s)))
+-- a drain
+grew_drain : (w : Wake) (s : ℕ) (step : Step) → (after w step).senders ≡ (after w DrainRest).senders → pushed_by w step ≡ []
+    → GrewTo (pushed_by w step) w (after w step) s
+grew_drain w s step drained none =
+    let same : pushed_of (after w step) s ≡ pushed_of w s =
+    ap (λ xs. (sender_of xs s).pushed) drained ∙ ap (λ (x : SenderState). x.pushed) (sender_of-map w.senders s) in
+    subst (λ ws. GrewTo ws w (after w step) s) (sym none) (grew_none s (pushed_of w s) (pushed_of (after w step) s) same)
 
-grew_step : (w : Wake) (step : Step) (s : ℕ) → Grew (pushed_by w step) s (pushed_of w s) (pushed_of (after w step) s)
+-- any step
+grew_step : (w : Wake) (step : Step) (s : ℕ) → GrewTo (pushed_by w step) w (after w step) s
 grew_step w (Push u t) s = grew_push w u t s
 grew_step w (ReadFlag u) s = grew_none s (pushed_of w s) _ (pushed_of-at w.senders u _ s)
 grew_step w (SetToken u) s = grew_none s (pushed_of w s) _ (pushed_of-at w.senders u _ s)
@@ -105,14 +135,15 @@ grew_step w Rouse s = grew_none s (pushed_of w s) _ refl
 grew_step w SetFlag s = grew_none s (pushed_of w s) _ refl
 grew_step w DrainRest s = grew_drain w s DrainRest refl refl
 
-grew_steps : (w : Wake) (steps : List Step) (s : ℕ) → Grew (pushed_by_all w steps) s (pushed_of w s) (pushed_of (after_all w steps) s)
+-- a list of steps
+grew_steps : (w : Wake) (steps : List Step) (s : ℕ) → GrewTo (pushed_by_all w steps) w (after_all w steps) s
 grew_steps w [] s = grew_none s (pushed_of w s) (pushed_of w s) refl
 grew_steps w (step ∷ steps) s =
     let next = after w step in
-    grew_more (pushed_by w step) (pushed_by_all next steps) s (pushed_of w s) (pushed_of next s) (pushed_of (after_all next steps) s) (grew_step w step s) (grew_steps next steps s)
+    grew_more (pushed_by w step) (pushed_by_all next steps) s (pushed_of w s) (pushed_of next s) (pushed_of (after_all next steps) s)
+    (grew_step w step s) (grew_steps next steps s)
 
--- the laws
-
+-- from a wake-safe state on, what is drained is what waited and was pushed, in that order
 pub keeps_order : (w : Wake) (steps : List Step) → WakeSafety w → AdmitsAll w steps → KeepsOrder w steps
 keeps_order w steps safe can = record {
   wakers = steps_in_order w steps;
@@ -126,6 +157,7 @@ keeps_order w steps safe can = record {
       ∙ numbers_between-append v.drained v.pushed (pushed_of (after_all w steps) s) run.within grew.rises);
 }
 
+-- from the first state on, each sender's wakers come out once and in order
 pub each_waker_once : (steps : List Step) (s : ℕ) → AdmitsAll first_wake steps → EachWakerOnce steps s
 each_waker_once steps s can =
     let order = keeps_order first_wake steps safe_first can in

@@ -2,13 +2,16 @@
 use Rattle.std.proofs.Common.{◌≡◌, ◌<◌, List, [], ◌∷◌, All, Bool, true, false, refl, sym, subst, arith, inl, inr}
 use Rattle.std.specs.Prelude.{◌⊎◌}
 use Rattle.std.proofs.lemmas.List.Elements.{All-nil}
+use Rattle.wake_core.specs.declared.state.TheConstants.{MAX_SENDERS}
 use Rattle.wake_core.specs.declared.waker.Waker.{Waker}
 use Rattle.wake_core.specs.SenderState.{SenderState}
 use Rattle.wake_core.specs.SenderTable.{sender_of}
-use Rattle.wake_core.specs.Step.{Step, Push, ReadFlag, SetToken, Nudge, DrainFirst, ClearFlag, DrainAgain, FallAsleep, TakeToken, Rouse, SetFlag, DrainRest, Admits, after, AdmitsAll, after_all}
+use Rattle.wake_core.specs.Step.{Step, Push, ReadFlag, SetToken, Nudge, DrainFirst, ClearFlag, DrainAgain, FallAsleep, TakeToken, Rouse}
+use Rattle.wake_core.specs.Step.{SetFlag, DrainRest, Admits, after, AdmitsAll, after_all}
 use Rattle.wake_core.specs.WakeSafety.{MaySleep, IsMidSend, AreMidSend, WakeSafety, IsTold}
 use Rattle.wake_core.specs.WakeState.{Wake, first_wake}
-use Rattle.wake_core.proofs.SafetyLemmas.{safe_push, safe_read_flag, safe_set_token, safe_nudge, safe_drain, safe_drain_first, safe_clear_flag, safe_drain_again, safe_fall_asleep, safe_take_token, safe_rouse, safe_set_flag}
+use Rattle.wake_core.proofs.SafetyLemmas.{safe_push, safe_read_flag, safe_set_token, safe_nudge, safe_drain, safe_drain_first}
+use Rattle.wake_core.proofs.SafetyLemmas.{safe_clear_flag, safe_drain_again, safe_fall_asleep, safe_take_token, safe_rouse, safe_set_flag}
 
 -- the first state
 pub safe_first : WakeSafety first_wake
@@ -16,7 +19,7 @@ safe_first = record {
   flag_fits = refl;
   none_slept_over = λ asleep unset. absurd asleep;
   numbers_run_on = λ u. record { within = omega arith; numbers = refl };
-  within_limits = record { numbered = All-nil (λ (x : Waker). x.sender < 65536); counted = λ u. omega arith };
+  within_limits = record { numbered = All-nil (λ (x : Waker). x.sender < MAX_SENDERS); counted = λ u. omega arith };
   booked = record { all_pushes = refl; all_drains = refl };
 }
 
@@ -41,7 +44,8 @@ safe_steps w [] safe can = safe
 safe_steps w (step ∷ steps) safe can = safe_steps (after w step) steps (safe_step w step safe can.0) can.1
 
 -- the token is set, or it isn't
-told : (q : List Waker) (xs : List SenderState) (token : Bool) → (token ≡ false → AreMidSend q xs) → (token ≡ true) ⊎ All (λ (x : Waker). IsMidSend (sender_of xs x.sender).stage) q
+told : (q : List Waker) (xs : List SenderState) (token : Bool) → (token ≡ false → AreMidSend q xs)
+    → (token ≡ true) ⊎ All (λ (x : Waker). IsMidSend (sender_of xs x.sender).stage) q
 told q xs true are = inl refl
 told q xs false are = inr (are refl).each
 

@@ -1,5 +1,6 @@
 -- Lemmas on tables by number, and on the senders in one.
-use Rattle.std.proofs.Common.{◌≡◌, ℕ, zero, suc, ◌+◌, ◌<◌, ◌≤◌, ◌≢◌, List, [], ◌∷◌, ◌++◌, length, map, get_or, refl, ap, arith, slice_set, replicate, sum_by, subst, sym, inl, inr}
+use Rattle.std.proofs.Common.{◌≡◌, ℕ, zero, suc, ◌+◌, ◌<◌, ◌≤◌, ◌≢◌, List, [], ◌∷◌, ◌++◌, length, map, get_or, refl, ap, arith, slice_set}
+use Rattle.std.proofs.Common.{replicate, sum_by, subst, sym, inl, inr}
 use Rattle.std.proofs.lemmas.Bool.Decides.{eqb_tells}
 use Rattle.std.proofs.lemmas.List.Sums.{sum_by-cons}
 use Rattle.wake_core.specs.SenderState.{SenderState, new_sender, all_drained}
@@ -29,12 +30,14 @@ slice_set-with_entry d [] s v placed = absurd (omega arith)
 slice_set-with_entry d (x ∷ xs) zero v placed = refl
 slice_set-with_entry d (x ∷ xs) (suc s) v placed = ap (λ ys. x ∷ ys) (slice_set-with_entry d xs s v (omega arith))
 
+-- a write past the end of an empty table, over empty entries up to there
 replicate-with_entry : {X : Type 0} (d : X) (k : ℕ) (v : X) → replicate k d ++ v ∷ [] ≡ with_entry d [] k v
 replicate-with_entry d zero v = refl
 replicate-with_entry d (suc k) v = ap (λ ys. d ∷ ys) (replicate-with_entry d k v)
 
 -- a write past the end, over empty entries up to there
-pub append-with_entry : {X : Type 0} (d : X) (xs : List X) (s k : ℕ) (v : X) → s ≡ length xs + k → (xs ++ replicate k d) ++ v ∷ [] ≡ with_entry d xs s v
+pub append-with_entry : {X : Type 0} (d : X) (xs : List X) (s k : ℕ) (v : X) → s ≡ length xs + k
+    → (xs ++ replicate k d) ++ v ∷ [] ≡ with_entry d xs s v
 append-with_entry d [] s k v past = let same : s ≡ k = omega arith in rw same (replicate-with_entry d k v)
 append-with_entry d (x ∷ xs) zero k v past = absurd (omega arith)
 append-with_entry d (x ∷ xs) (suc s) k v past = ap (λ ys. x ∷ ys) (append-with_entry d xs s k v (omega arith))
@@ -57,25 +60,32 @@ entry_of-other d (x ∷ xs) zero (suc t) v differ = refl
 entry_of-other d (x ∷ xs) (suc s) zero v differ = refl
 entry_of-other d (x ∷ xs) (suc s) (suc t) v differ = entry_of-other d xs s t v (λ e. differ (ap suc e))
 
+-- the sender that was written is there
 pub sender_of-written : (xs : List SenderState) (s : ℕ) (v : SenderState) → sender_of (with_sender xs s v) s ≡ v
 sender_of-written xs s v = entry_of-written new_sender xs s v
 
+-- the other senders stay
 pub sender_of-other : (xs : List SenderState) (s t : ℕ) (v : SenderState) → t ≢ s → sender_of (with_sender xs s v) t ≡ sender_of xs t
 sender_of-other xs s t v differ = entry_of-other new_sender xs s t v differ
 
 -- what holds of a written sender, and of each other sender as it was, holds of each
-pub each_sender : (P : ℕ → SenderState → Type 0) (xs : List SenderState) (s : ℕ) (v : SenderState) → P s v → ((u : ℕ) → u ≢ s → P u (sender_of xs u)) → (u : ℕ) → P u (sender_of (with_sender xs s v) u)
-each_sender P xs s v here others u = elim (eqb_tells u s) [
-  | inl e ↦ (let Q : ℕ → Type 0 = λ u. P u (sender_of (with_sender xs s v) u) in subst Q (sym e.1) (subst (P s) (sym (sender_of-written xs s v)) here))
-  | inr e ↦ subst (P u) (sym (sender_of-other xs s u v e.1)) (others u e.1)
-]
+pub each_sender : (P : ℕ → SenderState → Type 0) (xs : List SenderState) (s : ℕ) (v : SenderState) → P s v
+    → ((u : ℕ) → u ≢ s → P u (sender_of xs u)) → (u : ℕ) → P u (sender_of (with_sender xs s v) u)
+each_sender P xs s v here others u =
+    let Q : ℕ → Type 0 = λ u. P u (sender_of (with_sender xs s v) u) in
+    elim (eqb_tells u s) [
+      | inl e ↦ subst Q (sym e.1) (subst (P s) (sym (sender_of-written xs s v)) here)
+      | inr e ↦ subst (P u) (sym (sender_of-other xs s u v e.1)) (others u e.1)
+    ]
 
 -- the sum of a count that a new sender has at 0
-pub sum_by-with_sender : (f : SenderState → ℕ) (xs : List SenderState) (s : ℕ) (v : SenderState) → f new_sender ≡ 0 → sum_by f (with_sender xs s v) + f (sender_of xs s) ≡ sum_by f xs + f v
+pub sum_by-with_sender : (f : SenderState → ℕ) (xs : List SenderState) (s : ℕ) (v : SenderState) → f new_sender ≡ 0
+    → sum_by f (with_sender xs s v) + f (sender_of xs s) ≡ sum_by f xs + f v
 sum_by-with_sender f [] zero v none = omega arith
 sum_by-with_sender f [] (suc s) v none = omega (arith, sum_by-cons f new_sender (with_sender [] s v), sum_by-with_sender f [] s v none)
 sum_by-with_sender f (x ∷ xs) zero v none = omega (arith, sum_by-cons f v xs, sum_by-cons f x xs)
-sum_by-with_sender f (x ∷ xs) (suc s) v none = omega (arith, sum_by-cons f x (with_sender xs s v), sum_by-cons f x xs, sum_by-with_sender f xs s v none)
+sum_by-with_sender f (x ∷ xs) (suc s) v none =
+    omega (arith, sum_by-cons f x (with_sender xs s v), sum_by-cons f x xs, sum_by-with_sender f xs s v none)
 
 -- each sender after a drain
 pub sender_of-map : (xs : List SenderState) (s : ℕ) → sender_of (map all_drained xs) s ≡ all_drained (sender_of xs s)
@@ -83,17 +93,29 @@ sender_of-map [] s = refl
 sender_of-map (x ∷ xs) zero = refl
 sender_of-map (x ∷ xs) (suc s) = sender_of-map xs s
 
+-- how many wakers a sender pushed
+abbrev pushed_of : SenderState → ℕ
+pushed_of v = v.pushed
+
+-- how many wakers of a sender were drained
+abbrev drained_of : SenderState → ℕ
+drained_of v = v.drained
+
 -- after a drain, all that was pushed was drained
 pub total_drained-map : (xs : List SenderState) → total_drained (map all_drained xs) ≡ total_pushed xs
 total_drained-map [] = refl
-total_drained-map (x ∷ xs) = omega (arith, sum_by-cons (λ (v : SenderState). v.drained) (all_drained x) (map all_drained xs), sum_by-cons (λ (v : SenderState). v.pushed) x xs, total_drained-map xs)
+total_drained-map (x ∷ xs) =
+    omega (arith, sum_by-cons drained_of (all_drained x) (map all_drained xs), sum_by-cons pushed_of x xs, total_drained-map xs)
 
 -- a drain pushes nothing
 pub total_pushed-map : (xs : List SenderState) → total_pushed (map all_drained xs) ≡ total_pushed xs
 total_pushed-map [] = refl
-total_pushed-map (x ∷ xs) = omega (arith, sum_by-cons (λ (v : SenderState). v.pushed) (all_drained x) (map all_drained xs), sum_by-cons (λ (v : SenderState). v.pushed) x xs, total_pushed-map xs)
+total_pushed-map (x ∷ xs) =
+    omega (arith, sum_by-cons pushed_of (all_drained x) (map all_drained xs), sum_by-cons pushed_of x xs, total_pushed-map xs)
 
 -- where each sender's wakers were all drained, the totals are equal
-pub total_drained-equal : (xs : List SenderState) → ((s : ℕ) → (sender_of xs s).drained ≡ (sender_of xs s).pushed) → total_drained xs ≡ total_pushed xs
+pub total_drained-equal : (xs : List SenderState) → ((s : ℕ) → (sender_of xs s).drained ≡ (sender_of xs s).pushed)
+    → total_drained xs ≡ total_pushed xs
 total_drained-equal [] same = refl
-total_drained-equal (x ∷ xs) same = omega (arith, sum_by-cons (λ (v : SenderState). v.drained) x xs, sum_by-cons (λ (v : SenderState). v.pushed) x xs, same 0, total_drained-equal xs (λ s. same (suc s)))
+total_drained-equal (x ∷ xs) same =
+    omega (arith, sum_by-cons drained_of x xs, sum_by-cons pushed_of x xs, same 0, total_drained-equal xs (λ s. same (suc s)))

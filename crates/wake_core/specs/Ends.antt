@@ -1,4 +1,4 @@
--- What contracts see of the ends that a sender and a sleeper keep between locks. Cited by `locked`.
+-- What contracts see of the ends: what a sender and a sleeper each keep for themselves between locks. Cited by `locked`.
 use Rattle.std.specs.Prelude.{ℕ, List, [], Option, None, Bool, true, false}
 use Rattle.wake_core.specs.declared.locked.sender.SendDue.{SendDue}
 use Rattle.wake_core.specs.declared.locked.sender.SendDue.TheVariants.{Nothing, SetToken}
@@ -6,26 +6,35 @@ use Rattle.wake_core.specs.declared.locked.sleeper.RoundDue.{RoundDue}
 use Rattle.wake_core.specs.declared.locked.sleeper.RoundDue.TheVariants.{DrainFirst}
 use Rattle.wake_core.specs.declared.waker.Waker.{Waker}
 
--- a sender's end: its number, how many wakers it pushed, the task of the last one, and what it is to do next
+-- a sender's end
 pub record Sending : Type 0 where
+  -- its number among the senders of its sleeper
   pub number : ℕ
+  -- how many wakers it pushed
   pub sent : ℕ
+  -- the task of the last one
   pub last : Option ℕ
+  -- what it is to do next
   pub due : SendDue
 
--- what is due once a sender read the flag: nothing if that ended its send, else the token
+-- what a sender is to do once it read the flag: nothing if that ended its send, else to set the token
 abbrev pub due_after : Bool → SendDue
 due_after true = Nothing
 due_after false = SetToken
 
--- a sleeper's end: how many wakers its drains gave, what the last drains of each kind gave, the limit that its last round waited
--- with, if it waited, and what it is to do next
+-- a sleeper's end
 pub record Draining : Type 0 where
+  -- how many wakers all its drains gave
   pub taken : ℕ
+  -- what the first drain of its last round gave
   pub first : List Waker
+  -- what the second drain of its last round gave
   pub again : List Waker
+  -- what the drain of its last `settle` gave
   pub rest : List Waker
+  -- the limit in milliseconds that its last round waited with: `None` if it didn't wait, `Some None` if it waited without a limit
   pub waited : Option (Option ℕ)
+  -- what it is to do next
   pub due : RoundDue
 
 -- the end of a sleeper that drained nothing yet

@@ -1,10 +1,13 @@
 -- What contracts see of a sender. Cited by `RemoteSender` and by the settling of the sleeper.
 use Rattle.std.specs.Prelude.{ℕ, List, Option, None, sum_by}
 
--- its number, how many wakers it sent, and the task of the last one
+-- a sender of wakers
 pub record Remote : Type 0 where
+  -- its number among the senders of its sleeper
   pub number : ℕ
+  -- how many wakers it sent
   pub sent : ℕ
+  -- the task of the last one
   pub last : Option ℕ
 
 -- the sender with this number, which sent nothing yet

@@ -3,10 +3,13 @@ use Rattle.std.specs.Prelude.{ℕ}
 use Rattle.wake_core.specs.declared.senders.SenderStage.{SenderStage}
 use Rattle.wake_core.specs.declared.senders.SenderStage.TheVariants.{Idle}
 
--- its stage, how many wakers it pushed, and how many of these the drains gave out
+-- a sender, in the wake state
 pub record SenderState : Type 0 where
+  -- how far it is in its send
   pub stage : SenderStage
+  -- how many wakers it pushed: its pushed count
   pub pushed : ℕ
+  -- how many of these came out of drains: its drained count
   pub drained : ℕ
 
 -- a sender that pushed nothing yet: it is idle, with both counts 0

@@ -2,13 +2,13 @@
 use Rattle.std.specs.Prelude.{ℕ, zero, suc, List, [], ◌∷◌, sum_by}
 use Rattle.wake_core.specs.SenderState.{SenderState, new_sender}
 
--- what stands at this number; past the end of the table that is `nothing`
+-- the entry at this number, or `nothing` past the end of the table
 abbrev pub entry_of : {X : Type 0} → X → List X → ℕ → X
 entry_of nothing [] number = nothing
 entry_of nothing (entry ∷ rest) zero = entry
 entry_of nothing (entry ∷ rest) (suc number) = entry_of nothing rest number
 
--- the table with this entry at this number, and all others as before
+-- the table with this entry at this number, and all others as before; past its end it is filled up with `nothing`
 abbrev pub with_entry : {X : Type 0} → X → List X → ℕ → X → List X
 with_entry nothing [] zero entry = entry ∷ []
 with_entry nothing [] (suc number) entry = nothing ∷ with_entry nothing [] number entry

@@ -2,15 +2,19 @@
 use Rattle.std.specs.Prelude.{ℕ, List, [], Option, None}
 use Rattle.wake_core.specs.declared.waker.Waker.{Waker}
 
--- how many senders it made; how many wakers its drains gave, which is its share of drains; the two lists that the drains of its
--- last round gave; what its last `settle` gave; and the limit in milliseconds that its last round waited with: `None` if it
--- didn't wait, `Some None` if it waited without a limit
+-- a sleeper
 pub record Sleeping : Type 0 where
+  -- how many senders it made
   pub made : ℕ
+  -- how many wakers all its drains gave
   pub taken : ℕ
+  -- what the first drain of its last round gave
   pub first : List Waker
+  -- what the second drain of its last round gave
   pub again : List Waker
+  -- what the drain of its last `settle` gave
   pub rest : List Waker
+  -- the limit in milliseconds that its last round waited with: `None` if it didn't wait, `Some None` if it waited without a limit
   pub waited : Option (Option ℕ)
 
 -- a sleeper that made no sender and drained nothing yet

@@ -8,12 +8,17 @@ use Rattle.wake_core.specs.WakeState.{after_set_token, after_nudge, CanDrainFirs
 use Rattle.wake_core.specs.WakeState.{CanDrainAgain, after_drain_again, CanFallAsleep, after_fall_asleep, CanTakeToken, after_take_token}
 use Rattle.wake_core.specs.WakeState.{CanRouse, after_rouse, CanSetFlag, after_set_flag, after_drain_rest}
 
--- a step: a push of a sender and a task, the other steps of a sender or of a handle, and those of the sleeper
+-- a step
 pub data Step : Type 0 where
+  -- the sender with this number pushes a waker for this task
   Push : ℕ → ℕ → Step
+  -- the sender with this number reads the flag
   ReadFlag : ℕ → Step
+  -- the sender with this number sets the token
   SetToken : ℕ → Step
+  -- an `UnparkHandle` unparks the sleeper
   Nudge : Step
+  -- the sleeper makes these, in this order, in a round
   DrainFirst : Step
   ClearFlag : Step
   DrainAgain : Step
@@ -21,6 +26,7 @@ pub data Step : Type 0 where
   TakeToken : Step
   Rouse : Step
   SetFlag : Step
+  -- a drain at any stage
   DrainRest : Step
 
 -- the step may be made in this state
@@ -88,11 +94,14 @@ drained_by_all state (step ∷ steps) = drained_by state step ++ drained_by_all 
 -- from the first state on, each waker comes out of the drains once and in order: of each sender, what the drains gave and what
 -- still waits is what it pushed, with the numbers 0, 1, 2 and so on
 pub record EachWakerOnce (steps : List Step) (sender : ℕ) : Type 0 where
-  pub wakers : wakers_of sender (drained_by_all first_wake steps) ++ wakers_of sender (after_all first_wake steps).queue ≡ wakers_of sender (pushed_by_all first_wake steps)
-  pub numbers : numbers_of sender (drained_by_all first_wake steps) ++ numbers_of sender (after_all first_wake steps).queue ≡ numbers_between 0 (sender_of (after_all first_wake steps).senders sender).pushed
+  pub wakers : wakers_of sender (drained_by_all first_wake steps) ++ wakers_of sender (after_all first_wake steps).queue
+      ≡ wakers_of sender (pushed_by_all first_wake steps)
+  pub numbers : numbers_of sender (drained_by_all first_wake steps) ++ numbers_of sender (after_all first_wake steps).queue
+      ≡ numbers_between 0 (sender_of (after_all first_wake steps).senders sender).pushed
 
 -- from any wake-safe state on: what the drains gave and what still waits is what waited at first and what was pushed, in that
 -- order, and the numbers of each sender's wakers among these run on from its drained count
 pub record KeepsOrder (state : Wake) (steps : List Step) : Type 0 where
   pub wakers : drained_by_all state steps ++ (after_all state steps).queue ≡ state.queue ++ pushed_by_all state steps
-  pub numbers : (sender : ℕ) → numbers_of sender (drained_by_all state steps ++ (after_all state steps).queue) ≡ numbers_between (sender_of state.senders sender).drained (sender_of (after_all state steps).senders sender).pushed
+  pub numbers : (sender : ℕ) → numbers_of sender (drained_by_all state steps ++ (after_all state steps).queue)
+      ≡ numbers_between (sender_of state.senders sender).drained (sender_of (after_all state steps).senders sender).pushed

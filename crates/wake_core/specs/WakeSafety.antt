@@ -1,10 +1,11 @@
--- Wake safety: what every wake state keeps, so that no waker is slept over. It is the invariant of `WakeState`, and
--- `WakeState::is_safe` shows it.
+-- Wake safety: what holds of every wake state, so that a sleeper doesn't sleep on while a waker waits for it. It is the invariant of
+-- `WakeState`, and `WakeState::is_safe` shows it.
 use Rattle.std.specs.Prelude.{◌≡◌, ℕ, ◌<◌, ◌≤◌, List, length, All, Bool, true, false, ⊤, ◌⊎◌}
 use Rattle.wake_core.specs.declared.senders.SenderStage.{SenderStage}
 use Rattle.wake_core.specs.declared.senders.SenderStage.TheVariants.{Idle, Pushed, Called}
 use Rattle.wake_core.specs.declared.sleeper.SleeperStage.{SleeperStage}
 use Rattle.wake_core.specs.declared.sleeper.SleeperStage.TheVariants.{Awake, First, Cleared, Second, Asleep, Up}
+use Rattle.wake_core.specs.declared.state.TheConstants.{MAX_PUSHED, MAX_SENDERS}
 use Rattle.wake_core.specs.declared.waker.Waker.{Waker}
 use Rattle.wake_core.specs.SenderState.{SenderState}
 use Rattle.wake_core.specs.SenderTable.{sender_of, total_pushed, total_drained}
@@ -47,19 +48,20 @@ pub record RunsOn (queue : List Waker) (number : ℕ) (sender : SenderState) : T
   pub within : sender.drained ≤ sender.pushed
   pub numbers : numbers_of number queue ≡ numbers_between sender.drained sender.pushed
 
--- each waker names a sender below 65536, and no pushed count passes 4294967295
+-- each waker names a sender below `MAX_SENDERS`, and no pushed count passes `MAX_PUSHED`
 pub record IsWithinLimits (queue : List Waker) (senders : List SenderState) : Type 0 where
-  pub numbered : All (λ (w : Waker). w.sender < 65536) queue
-  pub counted : (number : ℕ) → (sender_of senders number).pushed ≤ 4294967295
+  pub numbered : All (λ (w : Waker). w.sender < MAX_SENDERS) queue
+  pub counted : (number : ℕ) → (sender_of senders number).pushed ≤ MAX_PUSHED
 
--- the booked total of pushes is the sum of the pushed counts, and that of drains is the sum of the drained counts
+-- the total of the ledger of pushes is the sum of the pushed counts, and that of drains is the sum of the drained counts
 pub record IsBooked (senders : List SenderState) (pushes drains : ℕ) : Type 0 where
   pub all_pushes : pushes ≡ total_pushed senders
   pub all_drains : drains ≡ total_drained senders
 
--- while the sleeper sleeps, the token is set, or the sender of each waker that waits is between its push and the end of its send
+-- while the sleeper sleeps, the token is set, or the sender of each waker in the queue is between its push and the end of its send
 abbrev pub IsTold : Wake → Type 0
-IsTold state = state.stage ≡ Asleep → (state.token ≡ true) ⊎ All (λ (w : Waker). IsMidSend (sender_of state.senders w.sender).stage) state.queue
+IsTold state =
+    state.stage ≡ Asleep → (state.token ≡ true) ⊎ All (λ (w : Waker). IsMidSend (sender_of state.senders w.sender).stage) state.queue
 
 -- wake safety, in five parts
 pub record WakeSafety (state : Wake) : Type 0 where
@@ -70,7 +72,7 @@ pub record WakeSafety (state : Wake) : Type 0 where
   pub none_slept_over : MaySleep state.stage → state.token ≡ false → AreMidSend state.queue state.senders
   -- the numbers of each sender's wakers in the queue run, in order, from its drained count to its pushed count less one
   pub numbers_run_on : (number : ℕ) → RunsOn state.queue number (sender_of state.senders number)
-  -- each waker names a sender below 65536, and no pushed count passes 4294967295
+  -- each waker names a sender below `MAX_SENDERS`, and no pushed count passes `MAX_PUSHED`
   pub within_limits : IsWithinLimits state.queue state.senders
-  -- the booked total of pushes is the sum of the pushed counts, and that of drains is the sum of the drained counts
+  -- the total of the ledger of pushes is the sum of the pushed counts, and that of drains is the sum of the drained counts
   pub booked : IsBooked state.senders state.pushes state.drains

@@ -8,7 +8,7 @@ use crate::locked::handle::Nudging;
 use crate::locked::sender::{SendDue, SenderEnd};
 use crate::locked::sleeper::{RoundDue, SleeperEnd};
 use crate::park::Sleeper;
-use crate::state::WakeState;
+use crate::state::{PUSH_PARTS, WakeState};
 use crate::unpark::UnparkHandle;
 use std::alloc::Global;
 use std::sync::ledger::{Blank, Ledger};
@@ -60,16 +60,17 @@ pub struct WakeCell<P: Ledger, D: Ledger> {
 }
 
 impl<P: Ledger, D: Ledger> WakeCell<P, D> {
-    /// A cell whose state is the first one, and its sleeper, which has made no sender and taken no waker.
+    /// A cell whose state is the first one, and its sleeper, which has made no sender and drained nothing yet.
     ///
-    /// The blanks are of the two ledgers: that of pushes has a part for each sender and one for the sleeper, that of drains
-    /// has one part. If memory runs out the blanks are dropped. (not in monoio)
+    /// `pushes` and `drains` are two ledgers that nothing was counted in: `pushes` is cut into `PUSH_PARTS` parts, one for each
+    /// sender that the sleeper may make and one for the sleeper, and `drains` is one part. `OutOfMemory` if there is no room for
+    /// the cell: then both are dropped. (not in monoio)
     pub fn new(
         alloc: Global,
         pushes: Blank,
         drains: Blank,
     ) -> Result<(WakeCell<P, D>, Sleeper<P, D>), OutOfMemory>
-        requires pushes { (pushes.name ≡ P.name) × (pushes.parts ≡ P.parts) × (pushes.parts ≡ 65537) }
+        requires pushes { (pushes.name ≡ P.name) × (pushes.parts ≡ P.parts) × (pushes.parts ≡ PUSH_PARTS) }
         requires drains { (drains.name ≡ D.name) × (drains.parts ≡ D.parts) × (drains.parts ≡ 1) }
         ensures { IfOk result (λ made. made.1 ≡ new_sleeper) }
     {

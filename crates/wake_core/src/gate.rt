@@ -2,9 +2,9 @@
 use std::sync::Wait;
 use std::time::Clock;
 
-/// A place between a sender's push and its reading of the flag, outside the lock. (not in monoio)
+/// Where a sender pauses between its push and its reading of the flag, outside the lock. (not in monoio)
 pub trait Gate: Sync {
-    /// Comes back when this sender may read the flag.
+    /// Returns when the sender with this number may go on and read the flag. (not in monoio)
     fn pause<R: Wait + Clock>(&self, rt: &R, sender: u64);
 }
 

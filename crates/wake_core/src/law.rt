@@ -11,7 +11,7 @@ pub fn each_step_is_safe()
     ensures steps { (state : Wake) → (steps : List Step) → WakeSafety state → AdmitsAll state steps → WakeSafety (after_all state steps) }
 {}
 
-/// No sleeper sleeps over a waker that nobody will tell it of. (not in monoio)
+/// While the sleeper sleeps, the token is set, or the sender of each waker that waits has yet to end its send. (not in monoio)
 pub fn sleeper_is_told()
     ensures { (state : Wake) → WakeSafety state → IsTold state }
 {}

@@ -21,6 +21,6 @@ pub use park::{SenderError, Settled, Sleeper, Woken};
 pub use remote::RemoteSender;
 pub use senders::SenderStage;
 pub use sleeper::SleeperStage;
-pub use state::{MAX_PUSHED, MAX_SENDERS, WakeState};
+pub use state::{MAX_PUSHED, MAX_SENDERS, PUSH_PARTS, WakeState};
 pub use unpark::{Unpark, UnparkError, UnparkHandle};
 pub use waker::{Waker, WakerList};

@@ -8,7 +8,7 @@ use crate::cell::Shared;
 use crate::locked;
 use crate::locked::sleeper::SleeperEnd;
 use crate::remote::{RemoteSender, gather};
-use crate::state::MAX_SENDERS;
+use crate::state::{MAX_SENDERS, PUSH_PARTS};
 use crate::waker::WakerList;
 use std::alloc::Global;
 use std::marker::Model;
@@ -17,7 +17,7 @@ use std::sync::{Arc, Wait};
 use std::time::Clock;
 use thiserror::Error;
 
-/// Why no sender was made. The sleeper is as it was.
+/// Why no sender was made. The sleeper is as it was. (not in monoio)
 #[derive(Clone, Copy, Debug, PartialEq, Eq, Error)]
 pub enum SenderError {
     /// The sleeper made `MAX_SENDERS` senders already. A number isn't used again, also if its sender was dropped.
@@ -46,11 +46,11 @@ pub struct Settled {
     pub rest: WakerList,
 }
 
-/// The one that drains wakers and sleeps while there are none, as the thread of a driver.
+/// What drains wakers, and sleeps while there are none: it belongs to the thread of a driver.
 ///
 /// A contract sees how many senders it made, how many wakers its drains gave, what the two drains of its last round gave,
-/// what its last `settle` gave, and whether and with which limit its last round waited. It makes at most `MAX_SENDERS`
-/// senders ever. (not in monoio; it is the part of monoio's drivers that parks)
+/// what its last `settle` gave, and whether its last round waited, and with which limit. It makes at most `MAX_SENDERS`
+/// senders ever. (not in monoio, where a driver itself parks)
 #[derive(Drop)]
 pub struct Sleeper<P: Ledger, D: Ledger> {
     alloc: Global,
@@ -64,6 +64,7 @@ impl<P: Ledger, D: Ledger> Model for Sleeper<P, D> {
     ghost use Rattle.std.specs.Prelude.{◌≡◌, ◌+◌, ◌≤◌};
     ghost use Rattle.wake_core.specs.Sleeping.{Sleeping};
     ghost use Rattle.wake_core.specs.declared.locked.sleeper.RoundDue.TheVariants.{DrainFirst};
+    ghost use Rattle.wake_core.specs.declared.state.TheConstants.{MAX_SENDERS, PUSH_PARTS};
 
     ghost Value = { Sleeping };
 
@@ -77,8 +78,8 @@ impl<P: Ledger, D: Ledger> Model for Sleeper<P, D> {
     } };
 
     // No call of a round is left out.
-    ghost invariant = { λ s. (P.parts ≡ 65537) × (D.parts ≡ 1) × (s.unmade.parts + s.made ≡ 65537) × (s.made ≤ 65536)
-        × (s.unmade.amount ≡ 0) × (s.drains.due ≡ DrainFirst) };
+    ghost invariant = { λ s. (P.parts ≡ PUSH_PARTS) × (D.parts ≡ 1) × (s.unmade.parts + s.made ≡ PUSH_PARTS)
+        × (s.made ≤ MAX_SENDERS) × (s.unmade.amount ≡ 0) × (s.drains.due ≡ DrainFirst) };
 }
 
 impl<P: Ledger, D: Ledger> Sleeper<P, D> {
@@ -89,7 +90,7 @@ impl<P: Ledger, D: Ledger> Sleeper<P, D> {
         unmade: Share<P>,
         drains: Share<D>,
     ) -> Sleeper<P, D>
-        requires unmade { (P.parts ≡ 65537) × (unmade.parts ≡ P.parts) × (unmade.amount ≡ 0) }
+        requires unmade { (P.parts ≡ PUSH_PARTS) × (unmade.parts ≡ P.parts) × (unmade.amount ≡ 0) }
         requires drains { (D.parts ≡ 1) × (drains.parts ≡ D.parts) × (drains.amount ≡ 0) }
         ensures { result ≡ new_sleeper }
     {
@@ -111,12 +112,12 @@ impl<P: Ledger, D: Ledger> Sleeper<P, D> {
 
     /// Makes the sender with the next number, which sent nothing yet. Takes no lock.
     ///
-    /// It answers `TooMany` exactly when `made` is 65536, and `OutOfMemory` if there is no room for another reference to the
-    /// cell; at both the sleeper is as it was. (monoio: cloning the sender of a thread's channel of wakers)
+    /// It answers `TooMany` exactly when `made` is `MAX_SENDERS`, and `OutOfMemory` if there is no room for another reference
+    /// to the cell; after either the sleeper is as it was. (monoio: cloning the sender of a thread's channel of wakers)
     pub fn sender(&mut self) -> Result<RemoteSender<P, D>, SenderError>
         ensures sender { IfOk result (λ sender. sender ≡ new_remote self.old.made) }
         ensures made { IfOk result (λ sender. self.new ≡ record self.old { made = self.old.made + 1 }) }
-        ensures many { (result ≡ Err SenderError.TooMany) ↔ (self.old.made ≡ 65536) }
+        ensures many { (result ≡ Err SenderError.TooMany) ↔ (self.old.made ≡ MAX_SENDERS) }
         ensures err { OnErr result (self.new ≡ self.old) }
     {
         if self.made == MAX_SENDERS {
@@ -132,7 +133,7 @@ impl<P: Ledger, D: Ledger> Sleeper<P, D> {
     }
 
     /// One round: drains, clears the flag, drains again, falls asleep, waits for the token, gets up, and sets the flag. Each
-    /// of these calls is made, under a lock of its own, and makes its step if the stage found there admits it.
+    /// of these calls is made, under a lock of its own, and makes its step if the stage that it finds admits it.
     ///
     /// It doesn't wait if `ready` is true, nor if a drain gave something. Else it waits until a sender or a handle sets the
     /// token, and no longer than `limit` milliseconds if there is a limit. Nothing else ends the wait: a completion that
@@ -161,10 +162,10 @@ impl<P: Ledger, D: Ledger> Sleeper<P, D> {
         Woken { first, again }
     }
 
-    /// The last drain, once all senders are given back: what all drains gave is what these senders sent. Takes no memory.
+    /// The last drain, once all senders are returned: what all drains gave is what these senders sent. Takes no memory.
     ///
-    /// The list holds each sender that this sleeper made, `made` in number: the empty one if it made none. A sender that was
-    /// dropped is missing for good, and its sleeper can't be settled. (not in monoio)
+    /// `senders` has each sender that this sleeper made, `made` in number. A sender that was dropped is missing for good, and
+    /// its sleeper can't be settled. (not in monoio)
     pub fn settle<R: Wait>(&mut self, rt: &R, senders: Vec<RemoteSender<P, D>>) -> Settled
         requires { length senders.items ≡ self.old.made }
         ensures sum { result.drained ≡ sent_by senders.items }
@@ -174,7 +175,7 @@ impl<P: Ledger, D: Ledger> Sleeper<P, D> {
     {
         let mut all = self.unmade.empty();
         let drained = gather(&mut all, senders);
-        let left = MAX_SENDERS + 1 - self.made;
+        let left = PUSH_PARTS - self.made;
         self.unmade.give(&mut all, left, 0);
         let mut state = self.shared.state.lock(rt);
         let rest = locked::sleeper::settle(&mut state, &mut all, &mut self.drains);

@@ -7,6 +7,7 @@ use crate::fault::OutOfMemory;
 use crate::gate::Gate;
 use crate::locked;
 use crate::locked::sender::{SendDue, SenderEnd};
+use crate::state::{MAX_PUSHED, MAX_SENDERS, PUSH_PARTS};
 use crate::unpark::UnparkError;
 use std::marker::Model;
 use std::sync::ledger::{Ledger, Share};
@@ -15,8 +16,8 @@ use std::time::Clock;
 
 /// Sends wakers to the sleeper that made it. A contract sees its number, how many wakers it sent, and the task of the last.
 ///
-/// It belongs to that sleeper for good: it is given back only all at once, by `Sleeper::settle`, and a sender that is dropped
-/// keeps its number. It sends at most `MAX_PUSHED` wakers ever: at 100,000 wakers a second, those of 12 hours.
+/// It belongs to that sleeper for good: only `Sleeper::settle` takes it back, with all others, and the number of a sender that
+/// was dropped isn't used again. It sends at most `MAX_PUSHED` wakers ever: at 100,000 a second, those of 12 hours.
 /// (not in monoio, which keeps a channel of wakers for each thread)
 #[derive(Drop)]
 pub struct RemoteSender<P: Ledger, D: Ledger> {
@@ -44,7 +45,7 @@ fn push<P: Ledger, D: Ledger, R: Wait>(
     task: u64,
     end: &mut SenderEnd<P>,
 ) -> Result<(), UnparkError>
-    requires room { end.old.sent < 4294967295 }
+    requires room { end.old.sent < MAX_PUSHED }
     requires due { end.old.due ≡ SendDue.Nothing }
     ensures ok { OnOk result (end.new ≡ record end.old { sent = end.old.sent + 1; last = Some task; due = SendDue.ReadFlag }) }
     ensures err { OnErr result (end.new ≡ end.old) }
@@ -66,7 +67,7 @@ impl<P: Ledger, D: Ledger> RemoteSender<P, D> {
         number: u64,
         share: Share<P>,
     ) -> RemoteSender<P, D>
-        requires numbered { number < 65536 }
+        requires numbered { number < MAX_SENDERS }
         requires part { (share.parts ≡ 1) × (share.amount ≡ 0) }
         ensures { result ≡ new_remote number }
     {
@@ -100,7 +101,7 @@ impl<P: Ledger, D: Ledger> RemoteSender<P, D> {
     /// memory runs out or the last of the cell, its handles and its senders is dropped.
     /// (monoio: sending a `Waker` to the thread that owns the task, then `UnparkHandle::unpark`)
     pub fn send<R: Wait>(&mut self, rt: &R, task: u64) -> Result<(), UnparkError>
-        requires { self.old.sent < 4294967295 }
+        requires { self.old.sent < MAX_PUSHED }
         ensures ok { OnOk result (self.new ≡ record self.old { sent = self.old.sent + 1; last = Some task }) }
         ensures err { OnErr result (self.new ≡ self.old) }
     {
@@ -117,7 +118,7 @@ impl<P: Ledger, D: Ledger> RemoteSender<P, D> {
         task: u64,
         gate: &G,
     ) -> Result<(), UnparkError>
-        requires { self.old.sent < 4294967295 }
+        requires { self.old.sent < MAX_PUSHED }
         ensures ok { OnOk result (self.new ≡ record self.old { sent = self.old.sent + 1; last = Some task }) }
         ensures err { OnErr result (self.new ≡ self.old) }
     {
@@ -133,7 +134,7 @@ pub(crate) fn gather<P: Ledger, D: Ledger>(
     all: &mut Share<P>,
     senders: Vec<RemoteSender<P, D>>,
 ) -> u64
-    requires { P.parts ≡ 65537 }
+    requires { P.parts ≡ PUSH_PARTS }
     ensures parts { all.new.parts ≡ all.old.parts + length senders.items }
     ensures amount { all.new.amount ≡ all.old.amount + sent_by senders.items }
     ensures total { result ≡ sent_by senders.items }

@@ -4,6 +4,7 @@ ghost use Rattle.wake_core.specs.SenderSlot.{new_slot};
 ghost use Rattle.wake_core.specs.SenderTable.{entry_of, with_entry};
 
 use crate::fault::OutOfMemory;
+use crate::state::MAX_SENDERS;
 use std::alloc::Global;
 use std::marker::Model;
 
@@ -83,7 +84,7 @@ impl SenderTable {
 
     // Writes the slot of the sender with this number, and makes room for it where there is none.
     pub(crate) fn put(&mut self, number: u64, slot: SenderSlot) -> Result<(), OutOfMemory>
-        requires { number < 65536 }
+        requires { number < MAX_SENDERS }
         ensures ok { OnOk result (self.new ≡ with_entry new_slot self.old number slot) }
         ensures err { OnErr result (self.new ≡ self.old) }
     {

@@ -17,11 +17,15 @@ use std::marker::Model;
 use std::mem;
 use std::sync::ledger::{Blank, Book, Ledger, Share};
 
-/// Senders have the numbers below this: it is the most that one sleeper makes, ever.
+/// The most senders that one sleeper makes, ever. Their numbers are below this. (not in monoio)
 pub const MAX_SENDERS: u64 = 65536;
 
-/// The most wakers that one sender pushes, ever.
+/// The most wakers that one sender pushes, ever. (not in monoio)
 pub const MAX_PUSHED: u64 = 4294967295;
+
+/// How many parts the ledger of pushes has: one for each sender that a sleeper may make, and one for the sleeper.
+/// (not in monoio)
+pub const PUSH_PARTS: u64 = MAX_SENDERS + 1;
 
 /// What the senders and the sleeper share: the wakers that wait, the flag (true: the sleeper is awake), the token
 /// (true: the sleeper is to wake), the stages and counts of the senders, and the stage of the sleeper.
@@ -42,15 +46,15 @@ pub struct WakeState<P: Ledger, D: Ledger> {
 }
 
 impl<P: Ledger, D: Ledger> Model for WakeState<P, D> {
-    ghost use Rattle.wake_core.specs.SenderSlot.{states_of};
+    ghost use Rattle.wake_core.specs.SenderSlot.{seen};
     ghost use Rattle.wake_core.specs.WakeSafety.{WakeSafety};
     ghost use Rattle.wake_core.specs.WakeState.{Wake};
 
     ghost Value = { Wake };
 
-    ghost view = { λ s. record { queue = s.queue.items; flag = s.flag; token = s.token; senders = states_of s.queue.items s.senders; pushes = s.pushes.total; drains = s.drains.total; stage = s.stage } };
+    ghost view = { λ s. seen s.queue.items s.flag s.token s.senders s.pushes.total s.drains.total s.stage };
 
-    ghost invariant = { λ s. WakeSafety (record { queue = s.queue.items; flag = s.flag; token = s.token; senders = states_of s.queue.items s.senders; pushes = s.pushes.total; drains = s.drains.total; stage = s.stage }) };
+    ghost invariant = { λ s. WakeSafety (seen s.queue.items s.flag s.token s.senders s.pushes.total s.drains.total s.stage) };
 }
 
 // The stage of a sender once it has read this flag.
@@ -111,7 +115,7 @@ impl<P: Ledger, D: Ledger> WakeState<P, D> {
         self.senders.get(sender).pushed
     }
 
-    /// Tells the caller that this state is wake-safe, as every value of the type is. Does nothing. (not in monoio)
+    /// Shows the caller that this state is wake-safe, as every value of the type is. Does nothing. (not in monoio)
     pub fn is_safe(&self)
         ensures safe { WakeSafety self.now }
 
@@ -169,7 +173,7 @@ impl<P: Ledger, D: Ledger> WakeState<P, D> {
         self.token = true;
     }
 
-    /// Sets the token where the flag is false, so that the sleeper wakes. (monoio: `UnparkHandle::unpark`)
+    /// Sets the token if the flag is false, so that the sleeper wakes. (monoio: `UnparkHandle::unpark`)
     pub fn nudge(&mut self)
         ensures { self.new ≡ after_nudge self.old }
     {
@@ -196,7 +200,7 @@ impl<P: Ledger, D: Ledger> WakeState<P, D> {
         WakerList::from_vec(queue)
     }
 
-    // Tells what was booked to one who has all shares of both ledgers in hand. Does nothing.
+    // Shows a caller that has all shares of both ledgers in hand what their totals are. Does nothing.
     pub(crate) fn audit(&mut self, all_pushes: &mut Share<P>, all_drains: &mut Share<D>)
         requires pushes { all_pushes.old.parts ≡ P.parts }
         requires drains { all_drains.old.parts ≡ D.parts }

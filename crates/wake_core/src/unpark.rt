@@ -8,7 +8,7 @@ use std::sync::ledger::Ledger;
 use std::sync::{Arc, Wait};
 use thiserror::Error;
 
-/// Why the sleeper was not woken.
+/// Why the sleeper was not woken. (not in monoio, whose `unpark` answers an `io::Error`)
 #[derive(Clone, Copy, Debug, PartialEq, Eq, Error)]
 pub enum UnparkError {
     /// Memory ran out. Nothing was sent.
@@ -18,7 +18,7 @@ pub enum UnparkError {
 
 /// What wakes a sleeper. (monoio: `Unpark`)
 pub trait Unpark {
-    /// Wakes the sleeper where it sleeps or is about to.
+    /// Wakes the sleeper if it sleeps or is about to. (monoio: `Unpark::unpark`)
     fn unpark<R: Wait>(&self, rt: &R) -> Result<(), UnparkError>;
 }
 

@@ -1,13 +1,13 @@
 // What operations hold: the handles that they name, and those that they made.
-ghost use Rattle.std.specs.Prelude.{◌≡◌, ◌-◌, ◌<◌, ◌^◌, ◌↔◌, None, OnOk, OnErr};
+ghost use Rattle.std.specs.Prelude.{◌≡◌, ◌-◌, ◌<◌, ◌↔◌, None, OnOk, OnErr};
 ghost use Rattle.std.specs.FinMap as map;
 ghost use Rattle.handle_core.specs.Table.{IsHeld, holders_at, with_holders, without_handle};
 ghost use Rattle.handle_core.specs.Table.{nobody, by_operation, with_user, with_operation, without_operation};
 
-use super::{HandleTable, Holders, OutOfMemory, Released};
+use super::{HandleTable, Holders, MAX_HOLDS, OutOfMemory, Released};
 
 impl HandleTable {
-    /// An operation holds a handle that nobody held. It uses up one place of the reserved room, and takes no memory. Not in monoio.
+    /// An operation holds a handle that nobody held. It uses up one place of the reserved room, and takes no memory. (not in monoio)
     pub fn add_op_reserved(&mut self, h: u64)
         requires fresh { map.get self.old.holders h ≡ None }
         requires room { 0 < self.old.spare }
@@ -22,7 +22,7 @@ impl HandleTable {
         );
     }
 
-    /// An operation holds a handle that nobody held. The reserved room stays. If memory runs out, nothing changes. Not in monoio.
+    /// An operation holds a handle that nobody held. The reserved room stays. If memory runs out, nothing changes. (not in monoio)
     pub fn add_op(&mut self, h: u64) -> Result<(), OutOfMemory>
         requires fresh { map.get self.old.holders h ≡ None }
         ensures ok { OnOk result (self.new ≡ with_holders self.old h by_operation) }
@@ -37,12 +37,11 @@ impl HandleTable {
         )
     }
 
-    /// One more operation holds a handle of the table, of which operations have fewer than 2^62 holds. It takes no memory.
-    ///
-    /// monoio: `SharedFd::clone`, of an operation.
+    /// One more operation holds a handle of the table, of which operations have fewer than `MAX_HOLDS` holds. It takes no memory.
+    /// (monoio: `SharedFd::clone`, of an operation)
     pub fn hold_op(&mut self, h: u64)
         requires known { IsHeld self.old h }
-        requires counter { (holders_at self.old h).operations < 2 ^ 62 }
+        requires counter { (holders_at self.old h).operations < MAX_HOLDS }
         ensures { self.new ≡ with_holders self.old h (with_operation (holders_at self.old h)) }
     {
         let Some(held) = self.handles.get_mut(&h) else {
@@ -52,9 +51,7 @@ impl HandleTable {
     }
 
     /// An operation drops its hold, of which there is at least one. The handle leaves the table with its last hold of either sort, which is
-    /// when it is to be closed. It takes no memory.
-    ///
-    /// monoio: the drop of a `SharedFd`, of an operation.
+    /// when it is to be closed. It takes no memory. (monoio: the drop of a `SharedFd`, of an operation)
     pub fn release_op(&mut self, h: u64) -> Released
         requires held { 0 < (holders_at self.old h).operations }
         ensures last { (result ≡ Released.Last) ↔ (without_operation (holders_at self.old h) ≡ nobody) }
@@ -72,11 +69,11 @@ impl HandleTable {
         Released::Last
     }
 
-    /// An operation's hold, of which there is at least one, becomes the user's, who has fewer than 2^62: the operation made the handle, and
-    /// its result is returned. It takes no memory. Not in monoio.
+    /// An operation's hold, of which there is at least one, becomes the user's, who has fewer than `MAX_HOLDS`: the operation made the
+    /// handle, and its result is returned. It takes no memory. (not in monoio)
     pub fn hand_over(&mut self, h: u64)
         requires held { 0 < (holders_at self.old h).operations }
-        requires counter { (holders_at self.old h).user < 2 ^ 62 }
+        requires counter { (holders_at self.old h).user < MAX_HOLDS }
         ensures { self.new ≡ with_holders self.old h (with_user (without_operation (holders_at self.old h))) }
     {
         let Some(held) = self.handles.get_mut(&h) else {

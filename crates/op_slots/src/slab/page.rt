@@ -1,5 +1,6 @@
 //! A page of a slab: a fixed number of places, each empty or with a value.
-ghost use Rattle.std.specs.Prelude.{◌≡◌, ◌-◌, ◌<◌, ◌↔◌, ◌≤◌, length, replicate, IsTrue, IsSome, OnOk, OnErr, Some, None, option_copied, slice_set};
+ghost use Rattle.std.specs.Prelude.{◌≡◌, ◌-◌, ◌<◌, ◌↔◌, ◌≤◌, length, replicate, IsTrue, IsSome, OnOk, OnErr, Some, None, option_copied};
+ghost use Rattle.std.specs.Prelude.{slice_set};
 ghost use Rattle.std.specs.Borrow.{Lends, sem};
 ghost use Rattle.op_slots.specs.Page.{at, taken, spare};
 ghost use Rattle.op_slots.specs.Entry.{value_of};

@@ -1,6 +1,7 @@
 //! Which keys lie on which page.
 ghost use Rattle.std.specs.Prelude.{◌≡◌, ◌+◌, ◌<◌, ◌≤◌, IfSome, IfNone};
-ghost use Rattle.op_slots.specs.Pages.{page_of as page_by_rule, places_on as places_by_rule, first_key as first_by_rule, IsPageIn, IsOnNoPage};
+ghost use Rattle.op_slots.specs.Pages.{page_of as page_by_rule, places_on as places_by_rule, first_key as first_by_rule, IsPageIn};
+ghost use Rattle.op_slots.specs.Pages.{IsOnNoPage};
 
 use super::MAX_LIVE;
 

@@ -3,7 +3,7 @@ use crate::*;
 
 // An error and its text.
 #[rattlefmt::skip]
-const TEXTS: [(IoFault, &str); 8] = [
+const TEXTS: &[(IoFault, &str)] = &[
     (IoFault::Os(0), "os error 0"),
     (IoFault::Os(4095), "os error 4095"),
     (IoFault::UnexpectedEof, "failed to fill whole buffer"),
@@ -21,16 +21,19 @@ fn failed(fault: IoFault) -> BufResult<usize, ()> {
 
 #[test]
 fn prints_errors(rt: HostRuntime) -> Result<(), OutOfMemory> {
-    let alloc = rt.alloc();
-    for (fault, text) in TEXTS {
+    for &(fault, text) in TEXTS {
         assert_eq!(rt; failed(fault).0, Err(fault));
-        assert_eq!(rt; format!(in alloc; "{fault}")?.as_str(), text);
+        assert_eq!(rt; format!(in rt.alloc(); "{fault}")?.as_str(), text);
     }
-    assert_eq!(rt; format!(in alloc; "{OutOfMemory}")?.as_str(), "OutOfMemory");
+    Ok(())
+}
+
+#[test]
+fn prints_refusals(rt: HostRuntime) -> Result<(), OutOfMemory> {
     let (long, out) = (PartsError::TooLong, PartsError::OutOfMemory);
     assert_eq!(rt;
-        format!(in alloc; "{long} {out}")?.as_str(),
-        "TooLong OutOfMemory"
+        format!(in rt.alloc(); "{OutOfMemory} {long} {out}")?.as_str(),
+        "OutOfMemory TooLong OutOfMemory"
     );
     Ok(())
 }

@@ -1,24 +1,36 @@
 //! Lists of bytes and of numbers.
 use crate::*;
+use std::alloc::Global;
 
-#[test]
-fn grows_and_copies_lists(rt: HostRuntime) -> Result<(), OutOfMemory> {
-    let alloc = rt.alloc();
-    let (mut bytes, mut numbers) = (ByteList::new(alloc), NumList::new(alloc));
-    assert!(rt; bytes.is_empty() && numbers.is_empty());
+// A list of `abc`, made in two steps.
+fn bytes_of(alloc: Global) -> Result<ByteList, OutOfMemory> {
+    let mut bytes = ByteList::new(alloc);
     bytes.push(b'a')?;
     bytes.append(b"bc")?;
+    Ok(bytes)
+}
+
+#[test]
+fn grows_and_copies_bytes(rt: HostRuntime) -> Result<(), OutOfMemory> {
+    assert!(rt; ByteList::new(rt.alloc()).is_empty());
+    let bytes = bytes_of(rt.alloc())?;
+    assert_eq!(rt; (bytes.as_slice(), bytes.len()), (b"abc".as_slice(), 3));
+    let copy = bytes.try_clone()?;
+    assert_eq!(rt; copy, bytes);
+    assert!(rt; ByteList::from_vec(copy.into_vec()) == bytes);
+    Ok(())
+}
+
+#[test]
+fn grows_and_copies_numbers(rt: HostRuntime) -> Result<(), OutOfMemory> {
+    let mut numbers = NumList::new(rt.alloc());
+    assert!(rt; numbers.is_empty());
     numbers.push(7)?;
-    assert_eq!(rt;
-        (bytes.as_slice(), numbers.as_slice()),
-        (b"abc".as_slice(), [7].as_slice())
-    );
-    assert_eq!(rt; (bytes.len(), numbers.len()), (3, 1));
-    let (more, again) = (bytes.try_clone()?, numbers.try_clone()?);
-    assert_eq!(rt; (&more, &again), (&bytes, &numbers));
-    let more = more.into_vec();
+    assert_eq!(rt; (numbers.as_slice(), numbers.len()), ([7].as_slice(), 1));
+    let copy = numbers.try_clone()?;
+    assert_eq!(rt; copy, numbers);
     numbers.push(8)?;
-    assert!(rt; again != numbers && ByteList::from_vec(more) == bytes);
-    assert_eq!(rt; NumList::from_vec(again.into_vec()).len(), 1);
+    assert!(rt; copy != numbers);
+    assert_eq!(rt; NumList::from_vec(copy.into_vec()).len(), 1);
     Ok(())
 }

@@ -3,10 +3,11 @@ ghost use Rattle.std.specs.Prelude.{◌≡◌, IfOk};
 
 use crate::trials::{fill_range, list_of, set_first};
 use crate::*;
+use std::alloc::Global;
 
 // Total, begin and end, bytes, and whether they are a buffer.
 #[rattlefmt::skip]
-const SPECS: [(usize, usize, usize, &str, bool); 7] = [
+const SPECS: &[(usize, usize, usize, &str, bool)] = &[
     (10, 1, 8, "0123", true),
     (2, 1, 2, "a", true),
     (0, 0, 0, "", true),
@@ -16,25 +17,40 @@ const SPECS: [(usize, usize, usize, &str, bool); 7] = [
     (2, 0, 1, "abc", false),
 ];
 
+// The spec of this kind, total and bytes, and of this range, if it is one.
+fn spec_of(
+    alloc: Global,
+    (kind, total, bytes): (Kind, usize, &str),
+    (begin, end): (usize, usize),
+) -> Result<Option<BufSpec>, OutOfMemory> {
+    Ok(BufSpec::new(kind, total, begin, end, list_of(alloc, bytes)?))
+}
+
+// The kind, the total and the range of a spec.
+fn shape_of(spec: &BufSpec) -> (Kind, usize, (usize, usize)) {
+    (spec.kind(), spec.total(), (spec.begin(), spec.end()))
+}
+
+// The spec of what was built of a copy.
+fn copied(spec: &BufSpec) -> Result<BufSpec, OutOfMemory> {
+    Ok(spec.try_clone()?.build()?.into_spec())
+}
+
 #[test]
 fn builds_what_a_spec_describes(rt: HostRuntime) -> Result<(), OutOfMemory> {
-    for (total, begin, end, bytes, is_buffer) in SPECS {
-        let list = list_of(rt.alloc(), bytes)?;
-        let spec = BufSpec::new(Kind::Vector, total, begin, end, list);
+    for &(total, begin, end, bytes, is_buffer) in SPECS {
+        let spec = spec_of(rt.alloc(), (Kind::Vector, total, bytes), (begin, end))?;
         assert_eq!(rt;
             spec.is_some(),
             is_buffer,
             "{begin} to {end} of {total} with {bytes:?}"
         );
         let Some(spec) = spec else { continue };
-        assert_eq!(rt; (spec.kind(), spec.total()), (Kind::Vector, total));
-        assert_eq!(rt; (spec.begin(), spec.end()), (begin, end));
+        assert_eq!(rt; shape_of(&spec), (Kind::Vector, total, (begin, end)));
         assert_eq!(rt; spec.bytes(), bytes.as_bytes());
-        let copy = spec.try_clone()?;
-        let back = copy.build()?.into_spec();
+        let back = copied(&spec)?;
         assert_eq!(rt; back, spec);
-        let (held, same) = (HeldBuf::One(back), HeldBuf::One(spec));
-        assert_eq!(rt; held, same);
+        assert_eq!(rt; HeldBuf::One(back), HeldBuf::One(spec));
     }
     Ok(())
 }
@@ -65,7 +81,7 @@ fn rebuilt(spec: BufSpec) -> Result<BufSpec, OutOfMemory>
 // What the row shows; the kind, the total and the bytes of a buffer, and its range; where a store
 // begins in the range, and what is stored; and the bytes then.
 #[rattlefmt::skip]
-const KINDS: [(&str, (Kind, usize, &str), (usize, usize), (usize, &str), &str); 10] = [
+const KINDS: &[(&str, (Kind, usize, &str), (usize, usize), (usize, &str), &str)] = &[
     ("a vector ends with what was stored", (Kind::Vector, 10, "01234567"), (1, 8), (1, "x"), "01x"),
     ("a vector is shorter after a short store", (Kind::Vector, 4, "0123"), (0, 4), (0, "ab"), "ab"),
     ("a grown one is as long", (Kind::Grown, 4, "0123"), (0, 4), (0, "ab"), "ab23"),
@@ -78,28 +94,35 @@ const KINDS: [(&str, (Kind, usize, &str), (usize, usize), (usize, &str), &str); 
     ("an empty store keeps a fixed buffer", (Kind::Fixed, 4, "0123"), (2, 4), (0, ""), "0123"),
 ];
 
+// The spec after a store in what was built of it, if the range has room.
+fn stored(spec: BufSpec, at: usize, bytes: &[u8]) -> Result<Option<BufSpec>, OutOfMemory> {
+    let mut buf = rebuilt(spec)?.build()?;
+    let room = buf.bytes_total();
+    if at > buf.bytes_init() || at > room || bytes.len() > room - at {
+        return Ok(None);
+    }
+    buf.store(at, bytes);
+    Ok(Some(buf.into_spec()))
+}
+
 #[test]
 fn stores_by_kind(rt: HostRuntime) -> Result<(), OutOfMemory> {
-    for (name, (kind, total, held), (begin, end), (at, bytes), want) in KINDS {
-        let list = list_of(rt.alloc(), held)?;
-        let Some(spec) = BufSpec::new(kind, total, begin, end, list) else {
+    for &(name, (kind, total, held), range, (at, bytes), want) in KINDS {
+        let Some(spec) = spec_of(rt.alloc(), (kind, total, held), range)? else {
             return Err(OutOfMemory);
         };
-        let mut buf = rebuilt(spec)?.build()?;
-        let room = buf.bytes_total();
-        assert!(rt; at <= buf.bytes_init() && at <= room && bytes.len() <= room - at);
-        buf.store(at, bytes.as_bytes());
-        let spec = buf.into_spec();
+        let spec = stored(spec, at, bytes.as_bytes())?;
+        assert!(rt; spec.is_some(), "in the row {name:?}");
+        let Some(spec) = spec else { continue };
+        assert_eq!(rt; shape_of(&spec), (kind, total, range));
         assert_eq!(rt; spec.bytes(), want.as_bytes(), "in the row {name:?}");
-        assert_eq!(rt; (spec.kind(), spec.total()), (kind, total));
-        assert_eq!(rt; (spec.begin(), spec.end()), (begin, end));
     }
     Ok(())
 }
 
 // The kind, the total and the bytes of a buffer, and whether they are one.
 #[rattlefmt::skip]
-const BOUNDS: [(Kind, usize, &str, bool); 5] = [
+const BOUNDS: &[(Kind, usize, &str, bool)] = &[
     (Kind::Grown, 3, "ab", true),
     (Kind::Grown, 1, "ab", false),
     (Kind::Fixed, 2, "ab", true),
@@ -109,9 +132,8 @@ const BOUNDS: [(Kind, usize, &str, bool); 5] = [
 
 #[test]
 fn a_fixed_buffer_is_full(rt: HostRuntime) -> Result<(), OutOfMemory> {
-    for (kind, total, bytes, is_buffer) in BOUNDS {
-        let list = list_of(rt.alloc(), bytes)?;
-        let spec = BufSpec::new(kind, total, 0, total, list);
+    for &(kind, total, bytes, is_buffer) in BOUNDS {
+        let spec = spec_of(rt.alloc(), (kind, total, bytes), (0, total))?;
         assert_eq!(rt;
             spec.is_some(),
             is_buffer,

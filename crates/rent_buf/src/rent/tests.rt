@@ -1,5 +1,5 @@
 //! Vectors with a stated total.
-use crate::trials::{fill_range, set_first, vec_of};
+use crate::trials::{fill_range, list_of, set_first, sizes, vec_of};
 use crate::*;
 
 #[test]
@@ -15,22 +15,24 @@ fn fills_and_clears_a_vector(rt: HostRuntime) -> Result<(), OutOfMemory> {
     set_first(&mut rent, b'a');
     assert_eq!(rt; rent.bytes(), b"a12345".as_slice());
     rent.clear();
-    assert_eq!(rt; (rent.bytes_init(), rent.bytes_total()), (0, 10));
+    assert_eq!(rt; sizes(&rent), (0, 10));
     Ok(())
 }
 
 #[test]
 fn refuses_a_total_past_memory(rt: HostRuntime) -> Result<(), OutOfMemory> {
-    let alloc = rt.alloc();
-    assert!(rt; Rent::with_total(alloc, usize::MAX).is_err());
-    let Err((refusal, vec)) = Rent::from_vec(vec_of(alloc, "7")?, usize::MAX) else {
-        assert!(rt; false, "a vector of all memory");
-        return Ok(());
+    assert!(rt; Rent::with_total(rt.alloc(), usize::MAX).is_err());
+    let Err((refusal, vec)) = Rent::from_vec(vec_of(rt.alloc(), "7")?, usize::MAX) else {
+        return Ok(assert!(rt; false, "a vector of all memory"));
     };
-    assert_eq!(rt; format!(in alloc; "{refusal}")?.as_str(), "OutOfMemory");
-    assert_eq!(rt; vec.as_slice(), b"7".as_slice());
+    assert_eq!(rt; (refusal, vec.as_slice()), (OutOfMemory, b"7".as_slice()));
+    Ok(())
+}
+
+#[test]
+fn builds_no_buffer_past_memory(rt: HostRuntime) -> Result<(), OutOfMemory> {
     let most = usize::MAX;
-    let Some(spec) = BufSpec::new(Kind::Vector, most, 0, most, ByteList::from_vec(vec)) else {
+    let Some(spec) = BufSpec::new(Kind::Vector, most, 0, most, list_of(rt.alloc(), "7")?) else {
         return Err(OutOfMemory);
     };
     assert!(rt; spec.try_clone().is_err());

@@ -3,7 +3,7 @@ ghost use Rattle.std.specs.Prelude.{◌≡◌, ◌≤◌, length, IfOk};
 ghost use Rattle.rent_buf.specs.Parts.{part_at};
 ghost use Rattle.rent_buf.specs.VecWrapper.{behind_first};
 
-use crate::trials::{fill_range, holds, parts_of, set_first, shows};
+use crate::trials::{fill_range, holds, parts_of, set_first, shows, sizes};
 use crate::*;
 
 // Fills the first part by code that knows only `IoBufMut`, through a slice of the wrapper. The parts
@@ -29,10 +29,6 @@ fn shows_the_first_part(rt: HostRuntime) -> Result<(), OutOfMemory> {
         return Err(OutOfMemory);
     };
     holds(&rt, first, "abc");
-    let Err(back) = IoVecWrapper::new(parts_of(rt.alloc(), &[])?) else {
-        return Err(OutOfMemory);
-    };
-    shows(&rt, &back, &[]);
     Ok(())
 }
 
@@ -47,12 +43,26 @@ fn fills_the_first_part(rt: HostRuntime) -> Result<(), OutOfMemory> {
     let mut first = fill_range(first, 2, 4, b"x");
     assert!(rt; first.bytes_init() > 0);
     set_first(&mut first, b'z');
-    assert_eq!(rt; (first.bytes_init(), first.bytes_total()), (3, 4));
+    assert_eq!(rt; sizes(&first), (3, 4));
     shows(&rt, &first.into_inner(), &["zax", "de"]);
-    let Err(back) = IoVecWrapperMut::new(parts_of(rt.alloc(), &[])?) else {
+    Ok(())
+}
+
+#[test]
+fn no_parts_come_back(rt: HostRuntime) -> Result<(), OutOfMemory> {
+    let Err(back) = IoVecWrapper::new(parts_of(rt.alloc(), &[])?) else {
         return Err(OutOfMemory);
     };
     shows(&rt, &back, &[]);
+    let Err(back) = IoVecWrapperMut::new(back) else {
+        return Err(OutOfMemory);
+    };
+    shows(&rt, &back, &[]);
+    Ok(())
+}
+
+#[test]
+fn fills_the_first_part_as_a_slice(rt: HostRuntime) -> Result<(), OutOfMemory> {
     let parts = parts_of(rt.alloc(), &["0123", "de"])?;
     assert!(rt; parts.parts_len() == 2 && parts.room(0) == 4);
     let Ok(parts) = fill_first(parts, b"ab") else {

@@ -1,7 +1,7 @@
 ghost use Rattle.session_run.specs.Session.{AreParts};
 
 use super::*;
-use crate::text::{read_events, write_reply};
+use event_text::{read_events, write_reply};
 use std::test::Fail;
 
 // Executes what is first in flight, by a call of the driver itself. With the tokens it stays that of a session.

@@ -6,7 +6,7 @@ use std::test::Fail;
 
 // Runs of the program: a name, the capacity's word, the lines, the status, and the replies, separated by `;`.
 #[rattlefmt::skip]
-const ROWS: [(&str, &str, &str, Status, &str); 22] = [
+const ROWS: [(&str, &str, &str, Status, &str); 23] = [
     ("one read", "1",
      "give stream;submit recv 0 v 4 0 4 -;poll 0 7;feed 0 6162;turn;exec 0 ok 2;poll 0 7;turn;poll 0 7;poll 0 7", Status::Done,
      "handle 0;op 0;pending;fed;turned - - -;executed op 0;pending;turned 0 - 7;ready ok 2 v 4 0 4 6162;refused NoOp;"),
@@ -60,6 +60,9 @@ const ROWS: [(&str, &str, &str, Status, &str); 22] = [
     ("nothing after a drop", "4",
      "drop 0;cancel 0;give stream;submit recv 0 v 1 0 1 -;drop 0;drop 0;cancel 0;poll 0 1", Status::Done,
      "refused NoOp;refused NoOp;handle 0;op 0;dropped;refused NoOp;refused NoOp;refused NoOp;"),
+    ("a close under a read", "4",
+     "give stream;submit recv 0 v 1 0 1 -;turn;close 0;exec 0 err 104;turn;poll 0 5;look 0;turn;exec 0 ok 0;turn;close 0", Status::Done,
+     "handle 0;op 0;turned - - -;released;executed op 0;turned 0 - -;ready err 104 v 1 0 1 -;refused NoHandle;turned - - -;executed close 0;turned - 0 -;refused NoHandle;"),
     ("an empty line", "4", "give stream;;", Status::BadLine, "line 2;"),
 ];
 
@@ -169,6 +172,37 @@ const WORDS: [(&str, Option<u64>, Status, &str); 21] = [
     ("wake 2 3", Some(0), Status::WriteFault, ""),
 ];
 
+// Words of `copy` for the input `cd`, a read that fails, a write or flush that fails, the status, and what was written.
+#[rattlefmt::skip]
+const COPIES: [(&str, Option<u64>, Option<u64>, Status, &str); 13] = [
+    ("copy 8 6162", None, None, Status::Done, "abcd"),
+    ("copy 16777216 -", None, None, Status::Done, "cd"),
+    ("copy 1 6162", Some(0), None, Status::ReadFault, "ab"),
+    ("copy 8 6162", None, Some(0), Status::WriteFault, ""),
+    ("copy 8 6162", None, Some(1), Status::WriteFault, "abcd"),
+    ("copy 0 -", None, None, Status::BadWords, ""),
+    ("copy 16777217 -", None, None, Status::BadWords, ""),
+    ("copy 08 -", None, None, Status::BadWords, ""),
+    ("copy 8 616", None, None, Status::BadWords, ""),
+    ("copy 8 6A", None, None, Status::BadWords, ""),
+    ("copy 8 ", None, None, Status::BadWords, ""),
+    ("copy 8", None, None, Status::BadWords, ""),
+    ("copy 8 61 62", None, None, Status::BadWords, ""),
+];
+
+#[test]
+fn copies(rt: HostRuntime) -> Result<(), Fail> {
+    for (text, read, write, status, output) in COPIES {
+        let words = split_words(rt.alloc(), text)?;
+        let source = MemSource::new(lines_of(rt.alloc(), "cd")?, failing(rt.alloc(), read)?);
+        let (ended, sink) = run_top(&rt, rt.alloc(), words.as_slice(), source, write)?;
+        let wanted = lines_of(rt.alloc(), output)?;
+        assert_eq!(rt; ended, status, "for {text:?}");
+        assert_eq!(rt; sink.taken(), wanted.as_slice(), "for {text:?}");
+    }
+    Ok(())
+}
+
 // Words with one space between them.
 fn split_words(alloc: Global, text: &str) -> Result<Vec<String>, AllocError> {
     let mut words = Vec::new(alloc);
@@ -193,17 +227,14 @@ fn commands_that_read_nothing(rt: HostRuntime) -> Result<(), Fail> {
 
 #[test]
 fn an_input_that_is_too_long_is_refused(rt: HostRuntime) -> Result<(), Fail> {
-    let bytes = ByteList::from_vec(vec![in rt.alloc(); b'\n'; 16777217]?);
-    let source = MemSource::new(bytes, failing(rt.alloc(), None)?);
-    let (ended, sink) = run_top(
-        &rt,
-        rt.alloc(),
-        run_words(rt.alloc(), "4")?.as_slice(),
-        source,
-        None,
-    )?;
-    assert_eq!(rt; ended, Status::TooLong);
-    assert_eq!(rt; sink.taken().len(), 0);
+    for text in ["run 4", "copy 16777216 -"] {
+        let bytes = ByteList::from_vec(vec![in rt.alloc(); b'\n'; 16777217]?);
+        let source = MemSource::new(bytes, failing(rt.alloc(), None)?);
+        let words = split_words(rt.alloc(), text)?;
+        let (ended, sink) = run_top(&rt, rt.alloc(), words.as_slice(), source, None)?;
+        assert_eq!(rt; ended, Status::TooLong, "for {text:?}");
+        assert_eq!(rt; sink.taken().len(), 0, "for {text:?}");
+    }
     Ok(())
 }
 

@@ -1,7 +1,6 @@
 // What the program tells a person, and the number with which it ends.
 use super::*;
 use crate::session::RunError;
-use crate::text::LinesError;
 use rent_io::Failed;
 use std::alloc::{AllocError, Global};
 use std::cell::Cell;
@@ -72,7 +71,7 @@ fn is_line(kept: &Cell<Option<String>>, line: Option<&str>) -> bool {
 #[rattlefmt::skip]
 const STATUSES: [(Status, u8, Option<&str>); 7] = [
     (Status::Done, 0, None),
-    (Status::BadWords, 1, Some("usage: session_run run CAP | gen SEED COUNT | wake SENDERS COUNT")),
+    (Status::BadWords, 1, Some("usage: session_run run CAP | gen SEED COUNT | wake SENDERS COUNT | copy CAP PREFIXHEX")),
     (Status::BadLine, 2, None),
     (Status::TooLong, 3, Some("session_run: the input has more than 16777216 bytes")),
     (Status::ReadFault, 4, Some("session_run: reading the input failed")),
@@ -97,12 +96,13 @@ fn each_status_has_its_number_and_line(rt: HostRuntime) -> Result<(), Fail> {
 
 // The lines of the help.
 #[rattlefmt::skip]
-const LINES: [&str; 22] = [
+const LINES: [&str; 26] = [
     "Runs a completion I/O engine with owned buffers on events that it reads.",
     "",
     "usage: session_run run CAP",
     "       session_run gen SEED COUNT",
     "       session_run wake SENDERS COUNT",
+    "       session_run copy CAP PREFIXHEX",
     "       session_run --help",
     "       session_run --version",
     "",
@@ -116,6 +116,9 @@ const LINES: [&str; 22] = [
     "wake SENDERS COUNT   wakes a parked driver COUNT times (0 to 100000) from each",
     "                     of SENDERS threads (0 to 64), and writes how many wake-ups",
     "                     it drained",
+    "copy CAP PREFIXHEX   writes the bytes of PREFIXHEX (hexadecimal digits, or -",
+    "                     for none) and then standard input, by way of buffers of",
+    "                     CAP bytes (1 to 16777216)",
     "",
     "exit status: 0 success; 1 invalid command line; 2 invalid line, whose number",
     "is printed; 3 more than 16777216 bytes of input; 4 reading failed; 5 writing",
@@ -181,14 +184,6 @@ fn help_and_version_are_asked_for_alone(rt: HostRuntime) -> Result<(), Fail> {
 #[test]
 fn errors_are_written_as_their_names(rt: HostRuntime) -> Result<(), Fail> {
     let alloc = rt.alloc();
-    assert_eq!(rt;
-        format!(in alloc; "{}", LinesError::BadLine(3))?.as_str(),
-        "BadLine"
-    );
-    assert_eq!(rt;
-        format!(in alloc; "{}", LinesError::OutOfMemory)?.as_str(),
-        "OutOfMemory"
-    );
     assert_eq!(rt;
         format!(in alloc; "{}", RunError::OutOfMemory)?.as_str(),
         "OutOfMemory"

@@ -1,5 +1,5 @@
 //! The calls of a driver over the ring in memory: its handles, and what executes its operations.
-ghost use Rattle.std.specs.Prelude.{◌≡◌, ◌≤◌, ◌<◌, ◌+◌, ◌^◌, ◌++◌, ◌||◌, ◌==◌, ℕ, [], ◌∷◌, IsTrue, IfOk, IfErr, OnOk, OnErr, length};
+ghost use Rattle.std.specs.Prelude.{◌≡◌, ◌≤◌, ◌<◌, ◌^◌, ◌++◌, ◌&&◌, nat_lt, false, [], ◌∷◌, IsTrue, IfOk, IfErr, OnOk, OnErr, length};
 ghost use Rattle.ring_core.specs.World.{fresh, output_at, WorldFeeds, WorldEnds};
 ghost use Rattle.ring_core.specs.Surroundings.{around};
 ghost use Rattle.ring_core.specs.Ledger.{Ledger, empty};
@@ -7,16 +7,21 @@ ghost use Rattle.ring_core.specs.declared.ledger.Event.TheVariants.{Give};
 ghost use Rattle.ring_core.specs.declared.ledger.Reply.TheVariants.{Handle};
 ghost use Rattle.uring_driver.specs.Op.{HoldsNone, KeepsTokens, KeepsRequests, KeepsSurroundings};
 ghost use Rattle.uring_driver.specs.Submissions.{IsSameButWorld};
-ghost use Rattle.uring_driver.specs.Uring.{ring_in, due_in, pending, given_by, handles_of, holds_handle, first_with, IsNextHandle};
+ghost use Rattle.ring_core.specs.Entry.{target};
+ghost use Rattle.uring_driver.specs.Holding.{knows, IsSameHolding};
+ghost use Rattle.uring_driver.specs.Released.{Adopts};
+ghost use Rattle.uring_driver.specs.Uring.{ring_in, due_in, pending, given_by, holding_in, holds_handle};
 ghost use Rattle.uring_driver.specs.Stands.{Stands, Answers};
-ghost use Rattle.uring_driver.specs.Submitted.{SameSlots, SameOps};
+ghost use Rattle.uring_driver.specs.Submitted.{SameSlots, SameOps, IsSameRing};
 ghost use Rattle.uring_driver.specs.Handles.{FeedsFor, EndsFor, LooksFor};
-ghost use Rattle.uring_driver.specs.Executed.{ExecutesFor, ExecutesOver};
+ghost use Rattle.uring_driver.specs.Executed.{ExecutesFor, ExecutesOver, executed_as};
 
 use crate::uring::IoUringDriver;
 use driver_core::Executed;
 use rent_buf::{IoBufMut, OutOfMemory};
-use ring_core::{ExecRefusal, HandleKind, Look, MemRing, SharedFd, Told, WorldError};
+use ring_core::{
+    Completion, ExecRefusal, HandleKind, Look, MemRing, SharedFd, Target, Told, WorldError,
+};
 use std::alloc::Global;
 
 // How many entries the queue of a new driver holds.
@@ -45,35 +50,57 @@ impl<B: IoBufMut + Drop> IoUringDriver<MemRing, B> {
         }
     }
 
-    /// A new handle of the user: fewer than `2^62` were created before. (not in monoio)
+    /// How many handles the ring has. (not in monoio)
+    pub fn handles(&self) -> u64
+        ensures { result ≡ length (ring_in self.now).world }
+    {
+        self.ring.handles()
+    }
+
+    /// The user holds a handle of the ring: one that it adopted need not be the ring's. (not in monoio)
+    pub fn has_handle(&self, h: u64) -> bool
+        ensures { result ≡ (holds_handle self.now h && nat_lt h (length (ring_in self.now).world)) }
+    {
+        self.user_holds(h) && h < self.handles()
+    }
+
+    /// A new handle of the ring, which the user holds: its number is how many the ring had, fewer than `2^62`, and wasn't known. The memory
+    /// of its close is reserved, so that no later call that closes it needs any. `OutOfMemory` comes if memory runs out, and then nothing
+    /// but reserved memory has changed. (not in monoio)
     pub fn give(&mut self, kind: HandleKind) -> Result<SharedFd, OutOfMemory>
-        requires { handles_of self.old < 2 ^ 62 }
+        requires counter { length (ring_in self.old).world < 2 ^ 62 }
+        requires fresh { knows (holding_in self.old) (length (ring_in self.old).world) ≡ false }
         ensures answers { IfOk result (λ fd. (L : Ledger) → Stands (λ r. r) B.buffer self.old L →
             Answers (λ r. r) B.buffer L (Give kind) (Handle fd) self.new) }
-        // Over a ring with handles of its own the new one is the user's too, beside those that were created.
-        ensures held { IfOk result (λ fd. IsNextHandle self.old fd →
-            (h : ℕ) → holds_handle self.new h ≡ (holds_handle self.old h || h == fd)) }
-        // The ring has one handle more, which is the one that is answered.
+        // The ring has one handle more, which is the one that is answered, and the user holds it.
         ensures number { IfOk result (λ fd. fd ≡ length (ring_in self.old).world) }
         ensures world { OnOk result ((ring_in self.new).world ≡ (ring_in self.old).world ++ fresh kind ∷ []) }
-        ensures rest { IsSameButWorld self.old.ring self.new.ring × SameOps self.old self.new }
-        ensures err { OnErr result (self.new ≡ self.old) }
+        ensures handles { OnOk result (Adopts (holding_in self.old) (length (ring_in self.old).world) (holding_in self.new)) }
+        ensures ops { SameOps self.old self.new }
+        ensures err { OnErr result (IsSameRing (λ r. r) self.old self.new × IsSameHolding (holding_in self.old) (holding_in self.new)) }
+        ensures stands { OnErr result ((L : Ledger) → Stands (λ r. r) B.buffer self.old L → Stands (λ r. r) B.buffer self.new L) }
         ensures tokens { KeepsTokens self.old self.new }
         ensures requests { KeepsRequests self.old self.new }
         ensures pending { pending (λ r. r) self.new ≡ pending (λ r. r) self.old }
         ensures due { due_in self.new ≡ due_in self.old }
         ensures given { given_by self.new ≡ given_by self.old }
     {
-        let h = self.ring.give(kind)?;
-        self.first = first_of(self.first, self.held, h);
-        self.held += 1;
-        Ok(SharedFd::new(h))
+        let h = self.ring.handles();
+        let fd = self.adopt(h)?;
+        match self.ring.give(kind) {
+            Ok(_) => Ok(fd),
+            Err(why) => {
+                self.handles.forget(h);
+                Err(why)
+            }
+        }
     }
 
-    /// Bytes arrive at a handle that the user holds: they join its input's end. `BadHandleEvent` comes exactly when its end is
+    /// Bytes arrive at a handle of the ring that the user holds: they join its input's end. `BadHandleEvent` comes exactly when its end is
     /// marked. (not in monoio)
     pub fn feed(&mut self, h: u64, bytes: &[u8]) -> Result<(), WorldError>
-        requires { IsTrue (holds_handle self.old h) }
+        requires held { IsTrue (holds_handle self.old h) }
+        requires here { h < length (ring_in self.old).world }
         ensures answers { (L : Ledger) → Stands (λ r. r) B.buffer self.old L → FeedsFor B.buffer L h bytes.now self.new result }
         // Over every driver: the handle changes as the ring's world says, and nothing else.
         ensures feeds { WorldFeeds bytes.now (ring_in self.old).world h (ring_in self.new).world result }
@@ -92,10 +119,11 @@ impl<B: IoBufMut + Drop> IoUringDriver<MemRing, B> {
         Ok(())
     }
 
-    /// The end of what arrives at a handle that the user holds. `BadHandleEvent` comes exactly when it is marked already. It
+    /// The end of what arrives at a handle of the ring that the user holds. `BadHandleEvent` comes exactly when it is marked already. It
     /// takes no memory, so `OutOfMemory` doesn't come. (not in monoio)
     pub fn end(&mut self, h: u64) -> Result<(), WorldError>
-        requires { IsTrue (holds_handle self.old h) }
+        requires held { IsTrue (holds_handle self.old h) }
+        requires here { h < length (ring_in self.old).world }
         ensures answers { (L : Ledger) → Stands (λ r. r) B.buffer self.old L → EndsFor B.buffer L h self.new result }
         // Over every driver: the handle changes as the ring's world says, and nothing else.
         ensures ends { WorldEnds (ring_in self.old).world h (ring_in self.new).world result }
@@ -115,23 +143,24 @@ impl<B: IoBufMut + Drop> IoUringDriver<MemRing, B> {
         Ok(())
     }
 
-    /// What was sent to a handle that the user holds, copied once. (not in monoio)
+    /// What was sent to a handle of the ring that the user holds, copied once. (not in monoio)
     pub fn look(&self, h: u64) -> Result<Look, OutOfMemory>
-        requires { IsTrue (holds_handle self.now h) }
+        requires held { IsTrue (holds_handle self.now h) }
+        requires here { h < length (ring_in self.now).world }
         ensures answers { IfOk result (λ look. (L : Ledger) → Stands (λ r. r) B.buffer self.now L → LooksFor L h look) }
         ensures looks { IfOk result (λ look. look ≡ Look.Bytes (output_at (ring_in self.now).world h)) }
     {
         self.ring.look(h)
     }
 
-    /// Executes what is in flight at a place with a reported outcome: it becomes the last completion. The bytes that come go
+    /// Executes what is in flight at a place with a reported outcome: it becomes the last completion. A close moves nothing. The bytes that come go
     /// from the handle's input into the operation's buffer, and those that are sent are copied from the buffer to the handle's
     /// output; an error leaves the buffer as it was submitted. Only a send takes memory. (not in monoio)
     pub fn execute(&mut self, place: usize, told: Told) -> Result<Executed, ExecRefusal>
         ensures answers { (L : Ledger) → Stands (λ r. r) B.buffer self.old L → ExecutesFor B.buffer L place told self.new result }
         // Over every driver: what its ring does with its operations, and nothing else.
         ensures executes { ExecutesOver B.buffer self.old place told self.new result }
-        ensures first { (self.new.first ≡ self.old.first) × (self.new.held ≡ self.old.held) }
+        ensures handles { holding_in self.new ≡ holding_in self.old }
         ensures err { OnErr result (self.new ≡ self.old) }
         ensures tokens { KeepsTokens self.old self.new }
         // Bytes come to a buffer at most: what surrounds it stays.
@@ -144,13 +173,16 @@ impl<B: IoBufMut + Drop> IoUringDriver<MemRing, B> {
             Ok(completion) => completion,
             Err(why) => return Err(why),
         };
-        Ok(Executed::Op(completion.serial))
+        Ok(executed(completion))
     }
 }
 
-// The first handle, once `h` was created after `held` others.
-fn first_of(first: u64, held: u64, h: u64) -> u64
-    ensures { result ≡ first_with first held h }
+// What a completion says was executed: the close of the handle that its word names, or else the operation of its serial.
+fn executed(completion: Completion) -> Executed
+    ensures { result ≡ executed_as completion (target completion.word) }
 {
-    if held == 0 { h } else { first }
+    match Target::of(completion.word) {
+        Target::Handle(h) => Executed::Close(h),
+        Target::Slot(_) | Target::Reserved(_) => Executed::Op(completion.serial),
+    }
 }

@@ -4,7 +4,7 @@ ghost use Rattle.ring_core.specs.declared.ledger.Event.TheVariants.{Turn};
 ghost use Rattle.ring_core.specs.Step.{step};
 ghost use Rattle.wake_core.specs.WakerList.{IsInOrder};
 ghost use Rattle.uring_driver.specs.Op.{KeepsRequests};
-ghost use Rattle.uring_driver.specs.Stands.{StandsIfTold};
+ghost use Rattle.uring_driver.specs.Stands.{StandsIfSteady};
 ghost use Rattle.uring_driver.specs.Turned.{TurnMeets};
 ghost use Rattle.uring_driver.specs.Parked.{DrainsFor};
 
@@ -19,7 +19,7 @@ use std::time::Clock;
 use wake_core::{Sleeper, WakerList, Woken};
 
 impl<R: Ring, B: IoBufMut + Drop> Driver for IoUringDriver<R, B> {
-    ghost stands = { StandsIfTold R.view B.buffer R.tells };
+    ghost stands = { StandsIfSteady R.view B.buffer R.steady };
 
     ghost turned = { λ L. (step L Turn).0 };
 
@@ -32,7 +32,8 @@ impl<R: Ring, B: IoBufMut + Drop> Driver for IoUringDriver<R, B> {
     ghost legacy = { false };
 
     /// Memory is taken once, for as many numbers as are ready, queued and due; none is taken where there are none. After Busy
-    /// what was ready is treated. (monoio: `submit`)
+    /// what was ready is treated. Where the slot of a dropped operation goes, the close of each handle that nobody holds any more joins
+    /// what is pending; a later turn names it. (monoio: `submit`)
     fn submit(&mut self) -> Turned {
         match self.begin_turn() {
             Ok(begun) => self.end_turn(begun),

@@ -1,18 +1,22 @@
 //! What a turn of the driver does: it treats the completions that are ready, in order.
-ghost use Rattle.std.specs.Prelude.{◌≡◌, ◌≤◌, ◌<◌, ◌+◌, ◌++◌, ◌||◌, ◌∷◌, [], nat_lt, Some, IsTrue, IfOk, IfErr, IfSome, option_to_list, length, vec_len, vec_capacity};
-ghost use Rattle.uring_driver.specs.Submissions.{KeepsPending};
+ghost use Rattle.std.specs.Prelude.{◌≡◌, ◌≤◌, ◌<◌, ◌+◌, ◌++◌, ◌||◌, ◌∷◌, ℕ, [], nat_lt, Some, IsTrue, IfOk, IfErr, option_to_list, length, vec_len, vec_capacity};
+ghost use Rattle.ring_core.specs.Entry.{target};
 ghost use Rattle.driver_core.specs.Slot.{KeepsNumbers};
 ghost use Rattle.driver_core.specs.Requests.{KeepsRequests};
+ghost use Rattle.uring_driver.specs.State.{IsSound, AreHolding};
 ghost use Rattle.uring_driver.specs.Op.{ops_in};
-ghost use Rattle.uring_driver.specs.Reap.{TookOff, IsStray, HasRoom, EndsAt, TreatsFirst, treat_each, treated_behind, treated_to};
+ghost use Rattle.uring_driver.specs.Reap.{HasRoom, treat_one};
+ghost use Rattle.uring_driver.specs.Reaps.{Treats, PostsAll, Reaps, ReapsAll, midway};
 ghost use Rattle.uring_driver.specs.Uring.{ring_in};
 ghost use Rattle.uring_driver.specs.Begun.{HasBegun, CannotBegin, EndsTurn, HasTreated, why_stopped};
 
+use crate::holding::Handles;
 use crate::submissions::Submissions;
 use crate::uring::IoUringDriver;
+use crate::uring::leave::let_go;
 use driver_core::{Operations, Stop, Turned};
 use rent_buf::{IoBufMut, NumList, OutOfMemory};
-use ring_core::{EnterError, Ring, Target};
+use ring_core::{Completion, EnterError, Ring, Target};
 use std::alloc::Global;
 
 /// Whom a turn named so far, in the order of the completions.
@@ -20,6 +24,8 @@ use std::alloc::Global;
 pub struct Named {
     /// The operations whose completions were treated, by their numbers.
     pub reaped: Vec<u64>,
+    /// The handles whose closes were treated.
+    pub closed: Vec<u64>,
     /// The tasks to wake.
     pub woken: Vec<u64>,
 }
@@ -68,8 +74,8 @@ impl<R: Ring, B: IoBufMut + Drop> IoUringDriver<R, B> {
         ensures treated { HasTreated result.stop }
     {
         let Begun { mut named, busy } = begun;
-        let bad = reap_all(&mut self.ring, &mut self.ops, &mut named);
-        turned(self.alloc, named, stop_of(busy, bad))
+        let bad = reap_all(&mut self.ring, &mut self.ops, &mut self.handles, &mut named);
+        turned(named, stop_of(busy, bad))
     }
 
     // What allocates its memory.
@@ -86,42 +92,79 @@ impl<R: Ring, B: IoBufMut + Drop> IoUringDriver<R, B> {
     {
         let named = Named {
             reaped: Vec::new(self.alloc),
+            closed: Vec::new(self.alloc),
             woken: Vec::new(self.alloc),
         };
-        turned(self.alloc, named, Some(stop))
+        turned(named, Some(stop))
     }
 }
 
-// Takes the first completion off, and treats it. It answers the word of one that names no slot in flight.
+// Takes the first completion off, and treats it. It answers the word of a stray one.
 fn reap_one<R: Ring, B: Drop>(
     ring: &mut Submissions<R>,
     ops: &mut Operations<B>,
+    handles: &mut Handles,
     named: &mut Named,
 ) -> Option<u64>
     requires some { 0 < length (R.view ring.old.ring).done }
-    requires room { HasRoom named.old (length (R.view ring.old.ring).done) }
-    ensures room { HasRoom named.new (length (R.view ring.new.ring).done) }
+    requires room { HasRoom named.old 1 }
+    requires sound { IsSound ring.old.room ops.old.slots.values handles.old.table }
+    requires holding { AreHolding handles.old.table ops.old.slots.values ops.old.given }
+    ensures reaps { Reaps R.view R.tells R.steady (midway ring.old ops.old handles.old) (midway ring.new ops.new handles.new) named.old named.new 1 result }
+    ensures none_due { IsTrue R.steady → ring.old.due ≡ [] → ring.new.due ≡ [] }
+    ensures room { (count : ℕ) → HasRoom named.old (count + 1) → HasRoom named.new count }
     ensures numbers { KeepsNumbers ops.old.slots.values ops.new.slots.values }
     ensures requests { KeepsRequests ops.old ops.new }
     ensures given { ops.new.given ≡ ops.old.given }
-    ensures took { TookOff 1 (R.view ring.old.ring) (R.view ring.new.ring) }
-    ensures same { KeepsPending R.view R.tells ring.old ring.new }
-    ensures bad { IfSome result (λ word. IsStray ops.new.slots.values word) }
-    ensures treats { IsTrue R.tells →
-        TreatsFirst (treated_behind named.old (treat_each ops.old.slots.values (R.view ring.old.ring).done)) ops.new.slots.values named.new (R.view ring.new.ring).done result }
+    ensures sound { IsSound ring.new.room ops.new.slots.values handles.new.table }
+    ensures holding { AreHolding handles.new.table ops.new.slots.values ops.new.given }
 {
     let Some(completion) = ring.next() else {
         unreachable!();
     };
+    treat(ring, ops, handles, named, &completion)
+}
+
+// Treats a completion that was taken off: it completes its slot, or its close is reaped. Where the slot of a dropped operation goes, its
+// handles are let go. It answers the word of a stray one.
+fn treat<R: Ring, B: Drop>(
+    ring: &mut Submissions<R>,
+    ops: &mut Operations<B>,
+    handles: &mut Handles,
+    named: &mut Named,
+    completion: &Completion,
+) -> Option<u64>
+    requires room { HasRoom named.old 1 }
+    requires sound { IsSound ring.old.room ops.old.slots.values handles.old.table }
+    requires holding { AreHolding handles.old.table ops.old.slots.values ops.old.given }
+    ensures treats { Treats (treat_one (target completion.now.word) ops.old.slots.values handles.old completion.now) ops.new.slots.values handles.new named.old named.new result }
+    ensures posts { PostsAll R.view R.tells R.steady ring.old ring.new (treat_one (target completion.now.word) ops.old.slots.values handles.old completion.now).queued }
+    ensures none_due { IsTrue R.steady → ring.old.due ≡ [] → ring.new.due ≡ [] }
+    ensures room { (count : ℕ) → HasRoom named.old (count + 1) → HasRoom named.new count }
+    ensures numbers { KeepsNumbers ops.old.slots.values ops.new.slots.values }
+    ensures requests { KeepsRequests ops.old ops.new }
+    ensures given { ops.new.given ≡ ops.old.given }
+    ensures sound { IsSound ring.new.room ops.new.slots.values handles.new.table }
+    ensures holding { AreHolding handles.new.table ops.new.slots.values ops.new.given }
+{
     match Target::of(completion.word) {
         Target::Reserved(_) => None,
-        Target::Slot(_) => match ops.complete(&completion) {
-            None => Some(completion.word),
-            Some((number, task)) => {
-                note(named, number, task);
-                None
+        Target::Handle(h) => {
+            if !handles.closed(h) {
+                return Some(completion.word);
             }
-        },
+            named.closed.push_reserved(h);
+            None
+        }
+        Target::Slot(key) => {
+            let names = ops.dropped_names(key);
+            let Some((number, task)) = ops.complete(completion) else {
+                return Some(completion.word);
+            };
+            note(named, number, task);
+            let_go(ring, handles, names);
+            None
+        }
     }
 }
 
@@ -130,6 +173,7 @@ fn note(named: &mut Named, number: u64, task: Option<u64>)
     requires reaped { vec_len named.old.reaped < vec_capacity named.old.reaped }
     requires woken { vec_len named.old.woken < vec_capacity named.old.woken }
     ensures reaped { named.new.reaped.items ≡ named.old.reaped.items ++ number ∷ [] }
+    ensures closed { named.new.closed ≡ named.old.closed }
     ensures woken { named.new.woken.items ≡ named.old.woken.items ++ option_to_list task }
     ensures reaped_room { (vec_len named.new.reaped ≤ vec_len named.old.reaped + 1) × (vec_capacity named.new.reaped ≡ vec_capacity named.old.reaped) }
     ensures woken_room { (vec_len named.new.woken ≤ vec_len named.old.woken + 1) × (vec_capacity named.new.woken ≡ vec_capacity named.old.woken) }
@@ -141,25 +185,27 @@ fn note(named: &mut Named, number: u64, task: Option<u64>)
     }
 }
 
-/// Treats the completions that are ready when it is called, in order. It ends early at one that names no slot in flight, and
-/// answers its word.
+/// Treats the completions that are ready when it is called, in order. It ends early at a stray one, and answers its word.
 pub fn reap_all<R: Ring, B: Drop>(
     ring: &mut Submissions<R>,
     ops: &mut Operations<B>,
+    handles: &mut Handles,
     named: &mut Named,
 ) -> Option<u64>
-    requires { HasRoom named.old (length (R.view ring.old.ring).done) }
+    requires room { HasRoom named.old (length (R.view ring.old.ring).done) }
+    requires sound { IsSound ring.old.room ops.old.slots.values handles.old.table }
+    requires holding { AreHolding handles.old.table ops.old.slots.values ops.old.given }
+    ensures reaps { ReapsAll R.view R.tells R.steady (midway ring.old ops.old handles.old) (midway ring.new ops.new handles.new) named.old named.new result }
+    ensures none_due { IsTrue R.steady → ring.old.due ≡ [] → ring.new.due ≡ [] }
     ensures numbers { KeepsNumbers ops.old.slots.values ops.new.slots.values }
     ensures requests { KeepsRequests ops.old ops.new }
     ensures given { ops.new.given ≡ ops.old.given }
-    ensures ring { EndsAt (R.view ring.old.ring) (R.view ring.new.ring) ops.new.slots.values result }
-    ensures same { KeepsPending R.view R.tells ring.old ring.new }
-    ensures treats { IsTrue R.tells →
-        treated_behind named.old (treat_each ops.old.slots.values (R.view ring.old.ring).done) ≡ treated_to ops.new.slots.values named.new result (R.view ring.new.ring).done }
+    ensures sound { IsSound ring.new.room ops.new.slots.values handles.new.table }
+    ensures holding { AreHolding handles.new.table ops.new.slots.values ops.new.given }
 {
     let ready = ring.ready();
     for i in 0..ready {
-        if let Some(word) = reap_one(ring, ops, named) {
+        if let Some(word) = reap_one(ring, ops, handles, named) {
             return Some(word);
         }
     }
@@ -167,16 +213,20 @@ pub fn reap_all<R: Ring, B: Drop>(
 }
 
 /// What a turn did, by whom it named.
-pub fn turned(alloc: Global, named: Named, stop: Option<Stop>) -> Turned
+pub fn turned(named: Named, stop: Option<Stop>) -> Turned
     ensures reaped { result.reaped ≡ named.reaped.items }
-    ensures closed { result.closed ≡ [] }
+    ensures closed { result.closed ≡ named.closed.items }
     ensures woken { result.woken ≡ named.woken.items }
     ensures stop { result.stop ≡ stop }
 {
-    let Named { reaped, woken } = named;
+    let Named {
+        reaped,
+        closed,
+        woken,
+    } = named;
     Turned {
         reaped: NumList::from_vec(reaped),
-        closed: NumList::from_vec(Vec::new(alloc)),
+        closed: NumList::from_vec(closed),
         woken: NumList::from_vec(woken),
         stop,
     }
@@ -195,12 +245,18 @@ pub fn stop_of(busy: bool, bad: Option<u64>) -> Option<Stop>
 /// Nobody, with room for `count` numbers in each list. It takes no memory for none.
 pub fn nobody(alloc: Global, count: usize) -> Result<Named, OutOfMemory>
     ensures reaped { IfOk result (λ named. named.reaped.items ≡ []) }
+    ensures closed { IfOk result (λ named. named.closed.items ≡ []) }
     ensures woken { IfOk result (λ named. named.woken.items ≡ []) }
     ensures room { IfOk result (λ named. HasRoom named count) }
 {
     let reaped = with_room(alloc, count)?;
+    let closed = with_room(alloc, count)?;
     let woken = with_room(alloc, count)?;
-    Ok(Named { reaped, woken })
+    Ok(Named {
+        reaped,
+        closed,
+        woken,
+    })
 }
 
 // An empty list with room for `count` numbers. It takes no memory for none.

@@ -7,7 +7,7 @@ ghost use Rattle.wake_core.specs.WakeState.{next_waker};
 
 use crate::fault::OutOfMemory;
 use crate::senders::SenderStage;
-use crate::state::{MAX_PUSHED, WakeState};
+use crate::state::{MAX_PUSHED, MAX_SENDERS, WakeState};
 use std::marker::Model;
 use std::sync::Condvar;
 use std::sync::ledger::{Ledger, Share};
@@ -39,18 +39,19 @@ pub(crate) struct SenderEnd<P: Ledger> {
 impl<P: Ledger> Model for SenderEnd<P> {
     ghost use Rattle.std.specs.Prelude.{◌≡◌, ◌<◌, ◌≤◌};
     ghost use Rattle.wake_core.specs.Ends.{Sending};
+    ghost use Rattle.wake_core.specs.declared.state.TheConstants.{MAX_PUSHED, MAX_SENDERS};
 
     ghost Value = { Sending };
 
     ghost view = { λ s. record { number = s.number; sent = s.sent; last = s.last; due = s.due } };
 
-    ghost invariant = { λ s. (s.share.parts ≡ 1) × (s.share.amount ≡ s.sent) × (s.number < 65536) × (s.sent ≤ 4294967295) };
+    ghost invariant = { λ s. (s.share.parts ≡ 1) × (s.share.amount ≡ s.sent) × (s.number < MAX_SENDERS) × (s.sent ≤ MAX_PUSHED) };
 }
 
 impl<P: Ledger> SenderEnd<P> {
     // The end of the sender with this number, which sent nothing yet.
     pub(crate) fn new(number: u64, share: Share<P>) -> SenderEnd<P>
-        requires numbered { number < 65536 }
+        requires numbered { number < MAX_SENDERS }
         requires part { (share.parts ≡ 1) × (share.amount ≡ 0) }
         ensures { result ≡ record { number = number; sent = 0; last = None; due = SendDue.Nothing } }
     {
@@ -66,7 +67,7 @@ impl<P: Ledger> SenderEnd<P> {
     // Its sender's number.
     pub(crate) fn number(&self) -> u64
         ensures number { result ≡ self.now.number }
-        ensures bound { result < 65536 }
+        ensures bound { result < MAX_SENDERS }
     {
         self.number
     }
@@ -74,7 +75,7 @@ impl<P: Ledger> SenderEnd<P> {
     // How many wakers it pushed.
     pub(crate) fn sent(&self) -> u64
         ensures sent { result ≡ self.now.sent }
-        ensures bound { result ≤ 4294967295 }
+        ensures bound { result ≤ MAX_PUSHED }
     {
         self.sent
     }
@@ -83,7 +84,7 @@ impl<P: Ledger> SenderEnd<P> {
     pub(crate) fn into_share(self) -> (u64, Share<P>)
         ensures sent { result.0 ≡ self.sent }
         ensures share { (result.1.parts ≡ 1) × (result.1.amount ≡ self.sent) }
-        ensures bound { self.sent ≤ 4294967295 }
+        ensures bound { self.sent ≤ MAX_PUSHED }
     {
         let SenderEnd {
             number: _,
@@ -121,9 +122,9 @@ pub(crate) fn push<P: Ledger, D: Ledger>(
     task: u64,
     end: &mut SenderEnd<P>,
 ) -> Result<bool, OutOfMemory>
-    requires room { end.old.sent < 4294967295 }
+    requires room { end.old.sent < MAX_PUSHED }
     requires due { end.old.due ≡ SendDue.Nothing }
-    ensures full { (result ≡ Ok false) ↔ (4294967295 ≤ (sender_of state.old.senders end.old.number).pushed) }
+    ensures full { (result ≡ Ok false) ↔ (MAX_PUSHED ≤ (sender_of state.old.senders end.old.number).pushed) }
     ensures kept { result ≡ Ok false → (state.new ≡ state.old) × (end.new ≡ end.old) }
 
     // The waker that it pushed names this sender and this task.

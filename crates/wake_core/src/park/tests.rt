@@ -33,7 +33,7 @@ fn send_park_settle<P: Ledger, D: Ledger, R: Wait + Clock + Abort>(
     pushes: Blank,
     drains: Blank,
 ) -> Result<(), Fail>
-    requires pushes { (pushes.name ≡ P.name) × (pushes.parts ≡ P.parts) × (pushes.parts ≡ 65537) }
+    requires pushes { (pushes.name ≡ P.name) × (pushes.parts ≡ P.parts) × (pushes.parts ≡ PUSH_PARTS) }
     requires drains { (drains.name ≡ D.name) × (drains.parts ≡ D.parts) × (drains.parts ≡ 1) }
 {
     let (_cell, mut sleeper) = WakeCell::<P, D>::new(alloc, pushes, drains)?;
@@ -62,7 +62,7 @@ fn park_and_park_again<P: Ledger, D: Ledger, R: Wait + Clock + Abort>(
     pushes: Blank,
     drains: Blank,
 ) -> Result<(), Fail>
-    requires pushes { (pushes.name ≡ P.name) × (pushes.parts ≡ P.parts) × (pushes.parts ≡ 65537) }
+    requires pushes { (pushes.name ≡ P.name) × (pushes.parts ≡ P.parts) × (pushes.parts ≡ PUSH_PARTS) }
     requires drains { (drains.name ≡ D.name) × (drains.parts ≡ D.parts) × (drains.parts ≡ 1) }
 {
     let (_cell, mut sleeper) = WakeCell::<P, D>::new(alloc, pushes, drains)?;
@@ -88,7 +88,7 @@ fn make_too_many<P: Ledger, D: Ledger, R: Abort>(
     pushes: Blank,
     drains: Blank,
 ) -> Result<(), Fail>
-    requires pushes { (pushes.name ≡ P.name) × (pushes.parts ≡ P.parts) × (pushes.parts ≡ 65537) }
+    requires pushes { (pushes.name ≡ P.name) × (pushes.parts ≡ P.parts) × (pushes.parts ≡ PUSH_PARTS) }
     requires drains { (drains.name ≡ D.name) × (drains.parts ≡ D.parts) × (drains.parts ≡ 1) }
 {
     let (_cell, mut sleeper) = WakeCell::<P, D>::new(alloc, pushes, drains)?;
@@ -99,13 +99,18 @@ fn make_too_many<P: Ledger, D: Ledger, R: Abort>(
         panic!(rt; "one sender too many");
     };
     assert_eq!(rt; refused, SenderError::TooMany);
-    assert_eq!(rt; sleeper.made(), 65536);
+    assert_eq!(rt; sleeper.made(), MAX_SENDERS);
     Ok(())
 }
 
 #[test]
 fn what_was_sent_is_drained_or_left(rt: HostRuntime) -> Result<(), Fail> {
-    send_park_settle::<Brand, Brand, HostRuntime>(&rt, rt.alloc(), Blank::new(65537), Blank::new(1))
+    send_park_settle::<Brand, Brand, HostRuntime>(
+        &rt,
+        rt.alloc(),
+        Blank::new(PUSH_PARTS),
+        Blank::new(1),
+    )
 }
 
 #[test]
@@ -113,12 +118,17 @@ fn a_sleeper_that_parked_parks_again(rt: HostRuntime) -> Result<(), Fail> {
     park_and_park_again::<Brand, Brand, HostRuntime>(
         &rt,
         rt.alloc(),
-        Blank::new(65537),
+        Blank::new(PUSH_PARTS),
         Blank::new(1),
     )
 }
 
 #[test]
 fn one_sender_more_is_too_many(rt: HostRuntime) -> Result<(), Fail> {
-    make_too_many::<Brand, Brand, HostRuntime>(&rt, rt.alloc(), Blank::new(65537), Blank::new(1))
+    make_too_many::<Brand, Brand, HostRuntime>(
+        &rt,
+        rt.alloc(),
+        Blank::new(PUSH_PARTS),
+        Blank::new(1),
+    )
 }

@@ -98,17 +98,32 @@ fn nudge_and_rouse<P: Ledger, D: Ledger, R: Abort>(
 
 #[test]
 fn a_sleeper_falls_asleep_and_is_woken(rt: HostRuntime) -> Result<(), Fail> {
-    sleep_and_wake::<Brand, Brand, HostRuntime>(&rt, rt.alloc(), Blank::new(65537), Blank::new(1))?;
+    sleep_and_wake::<Brand, Brand, HostRuntime>(
+        &rt,
+        rt.alloc(),
+        Blank::new(PUSH_PARTS),
+        Blank::new(1),
+    )?;
     Ok(())
 }
 
 #[test]
 fn an_awake_sleeper_drains_what_senders_sent(rt: HostRuntime) -> Result<(), Fail> {
-    send_to_awake::<Brand, Brand, HostRuntime>(&rt, rt.alloc(), Blank::new(65537), Blank::new(1))?;
+    send_to_awake::<Brand, Brand, HostRuntime>(
+        &rt,
+        rt.alloc(),
+        Blank::new(PUSH_PARTS),
+        Blank::new(1),
+    )?;
     Ok(())
 }
 
 #[test]
 fn a_sleeper_is_nudged_and_roused(rt: HostRuntime) {
-    nudge_and_rouse::<Brand, Brand, HostRuntime>(&rt, rt.alloc(), Blank::new(65537), Blank::new(1));
+    nudge_and_rouse::<Brand, Brand, HostRuntime>(
+        &rt,
+        rt.alloc(),
+        Blank::new(PUSH_PARTS),
+        Blank::new(1),
+    );
 }

@@ -57,3 +57,7 @@ returns-clause-short_send c = refl
 pub returns-clause-parts_send : goal.returns-clause-parts_send
 unfolding step
 returns-clause-parts_send c = refl
+
+pub returns-clause-close_under_read : goal.returns-clause-close_under_read
+unfolding step
+returns-clause-close_under_read c = refl

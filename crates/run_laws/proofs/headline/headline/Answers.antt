@@ -2,6 +2,7 @@
 use Rattle.run_laws.proofs.Laws.{one-reply-each, refused-exactly, pending-until-reaped, reaped-or-not, hands-back-own, handed-once}
 use Rattle.run_laws.proofs.Laws.{dropped-once, refused-where-gone, first-poll-hands, reap-names, kept-until-reaped, canceled-where-asked}
 use Rattle.run_laws.proofs.Laws.{given-once, executed-once, reaped-once, one-own, given-in-order}
+use Rattle.run_laws.proofs.Laws.{closed-once, closed-when-released, closed-when-over, unheld-closes, closed-only}
 use Rattle.run_laws.proofs.headline.headline.Goals as goal
 
 pub returns-clause-one_each : goal.returns-clause-one_each
@@ -54,3 +55,18 @@ returns-clause-own c = one-own
 
 pub returns-clause-in_order : goal.returns-clause-in_order
 returns-clause-in_order c = given-in-order
+
+pub returns-clause-closed_once : goal.returns-clause-closed_once
+returns-clause-closed_once c = closed-once
+
+pub returns-clause-closed_released : goal.returns-clause-closed_released
+returns-clause-closed_released c = closed-when-released
+
+pub returns-clause-closed_over : goal.returns-clause-closed_over
+returns-clause-closed_over c = closed-when-over
+
+pub returns-clause-closed_unheld : goal.returns-clause-closed_unheld
+returns-clause-closed_unheld c = unheld-closes
+
+pub returns-clause-closed_only : goal.returns-clause-closed_only
+returns-clause-closed_only c = closed-only

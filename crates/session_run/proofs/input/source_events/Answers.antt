@@ -1,5 +1,5 @@
 use Rattle.std.proofs.Common.{subst}
-use Rattle.session_run.specs.TextLines.{AreEvents, IfBadLine, IfShort, IsFirstWrong, lines}
+use Rattle.event_text.specs.TextLines.{AreEvents, IfBadLine, IfShort, IsFirstWrong, lines}
 use Rattle.session_run.proofs.Reading.{right-short, was-read, was-wrong}
 use Rattle.session_run.proofs.input.source_events.Goals as goal
 

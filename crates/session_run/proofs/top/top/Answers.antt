@@ -1,5 +1,5 @@
-use Rattle.session_run.proofs.Commands.{reads-nothing, generate-nothing, is-wake}
-use Rattle.session_run.proofs.Endings.{run-ends, sum-ends, wake-ends}
+use Rattle.session_run.proofs.Commands.{reads-nothing, generate-nothing, wake-keeps, copy-keeps}
+use Rattle.session_run.proofs.Endings.{run-ends, sum-ends, wake-ends, copy-ends, written-late}
 use Rattle.session_run.proofs.top.top.Goals as goal
 
 pub returns-in-Some-clause-runs : goal.returns-in-Some-clause-runs
@@ -21,5 +21,18 @@ returns-in-Some-clause-unread_sums g c = λ seed rounds gen.
 pub returns-in-Some-clause-unread_wakes : goal.returns-in-Some-clause-unread_wakes
 returns-in-Some-clause-unread_wakes g c = λ senders count wake. (
   c.run_command.ensures.unread (reads-nothing _ c.in-Some.command senders count c.in-Some.ensures wake),
-  c.run_command.ensures.unkept (is-wake _ c.in-Some.command senders count c.in-Some.ensures wake),
+  c.run_command.ensures.unkept (wake-keeps _ c.in-Some.command senders count c.in-Some.ensures wake),
 )
+
+pub returns-in-Some-clause-copies : goal.returns-in-Some-clause-copies
+returns-in-Some-clause-copies g c = λ capacity prefix copy.
+    copy-ends g.S.ByteSource.tells g.K.ByteSink.tells _ c.in-Some.command capacity prefix _ _ _ _ c.in-Some.ensures copy
+    c.run_command.ensures.ends
+
+pub returns-in-Some-clause-unkept_copies : goal.returns-in-Some-clause-unkept_copies
+returns-in-Some-clause-unkept_copies g c = λ capacity prefix copy.
+    c.run_command.ensures.unkept (copy-keeps _ c.in-Some.command capacity prefix c.in-Some.ensures copy)
+
+pub returns-in-Some-clause-unwritten : goal.returns-in-Some-clause-unwritten
+returns-in-Some-clause-unwritten g c = λ other why.
+    written-late g.S.ByteSource.tells g.K.ByteSink.tells _ c.in-Some.command _ _ _ _ c.in-Some.ensures c.run_command.ensures.ends other why

@@ -1,4 +1,5 @@
 use Rattle.std.proofs.Common.{◌≡◌, ◌+◌, ◌*◌, ◌≤◌, length, vec_len}
+use Rattle.wake_core.specs.declared.state.TheConstants.{MAX_PUSHED}
 use Rattle.wake_core.specs.Remote.{sent_by}
 use Rattle.wake_core.proofs.remote.gather.Given as goal
 
@@ -8,7 +9,7 @@ invariant-loop-sender g l = record {
   parts : l.all.parts + length l.senders.items ≡ l.initial.all.parts + length l.initial.senders.items;
   amount : l.all.amount + sent_by l.senders.items ≡ l.initial.all.amount + sent_by l.initial.senders.items;
   total : l.total + sent_by l.senders.items ≡ sent_by l.initial.senders.items;
-  bound : l.total ≤ l.all.parts * 4294967295;
+  bound : l.total ≤ l.all.parts * MAX_PUSHED;
 }
 
 abbrev pub decreases-loop-sender : goal.decreases-loop-sender

@@ -10,7 +10,7 @@ use crate::gate::Gate;
 use crate::park::{Sleeper, Woken};
 use crate::remote::RemoteSender;
 use crate::sleeper::SleeperStage;
-use crate::state::MAX_PUSHED;
+use crate::state::{MAX_PUSHED, PUSH_PARTS};
 use crate::unpark::{Unpark, UnparkHandle};
 use crate::waker::Waker;
 use std::alloc::{AllocError, Global};
@@ -119,7 +119,7 @@ where
     P: Ledger + Send + Sync,
     D: Ledger + Send + Sync,
     R: Threads + Wait + Clock + Sync + Abort,
-    requires pushes { (pushes.name ≡ P.name) × (pushes.parts ≡ P.parts) × (pushes.parts ≡ 65537) }
+    requires pushes { (pushes.name ≡ P.name) × (pushes.parts ≡ P.parts) × (pushes.parts ≡ PUSH_PARTS) }
     requires drains { (drains.name ≡ D.name) × (drains.parts ≡ D.parts) × (drains.parts ≡ 1) }
 {
     let (cell, mut sleeper) = WakeCell::<P, D>::new(alloc, pushes, drains)?;
@@ -142,7 +142,7 @@ where
     P: Ledger + Send + Sync,
     D: Ledger + Send + Sync,
     R: Threads + Wait + Clock + Sync + Abort,
-    requires pushes { (pushes.name ≡ P.name) × (pushes.parts ≡ P.parts) × (pushes.parts ≡ 65537) }
+    requires pushes { (pushes.name ≡ P.name) × (pushes.parts ≡ P.parts) × (pushes.parts ≡ PUSH_PARTS) }
     requires drains { (drains.name ≡ D.name) × (drains.parts ≡ D.parts) × (drains.parts ≡ 1) }
 {
     let (_cell, mut sleeper) = WakeCell::<P, D>::new(alloc, pushes, drains)?;
@@ -162,7 +162,7 @@ where
     P: Ledger + Send + Sync,
     D: Ledger + Send + Sync,
     R: Threads + Wait + Clock + Sync + Abort,
-    requires pushes { (pushes.name ≡ P.name) × (pushes.parts ≡ P.parts) × (pushes.parts ≡ 65537) }
+    requires pushes { (pushes.name ≡ P.name) × (pushes.parts ≡ P.parts) × (pushes.parts ≡ PUSH_PARTS) }
     requires drains { (drains.name ≡ D.name) × (drains.parts ≡ D.parts) × (drains.parts ≡ 1) }
 {
     let (cell, mut sleeper) = WakeCell::<P, D>::new(alloc, pushes, drains)?;
@@ -216,7 +216,7 @@ where
     P: Ledger + Send + Sync,
     D: Ledger + Send + Sync,
     R: Threads + Wait + Clock + Sync + Abort,
-    requires pushes { (pushes.name ≡ P.name) × (pushes.parts ≡ P.parts) × (pushes.parts ≡ 65537) }
+    requires pushes { (pushes.name ≡ P.name) × (pushes.parts ≡ P.parts) × (pushes.parts ≡ PUSH_PARTS) }
     requires drains { (drains.name ≡ D.name) × (drains.parts ≡ D.parts) × (drains.parts ≡ 1) }
 {
     let (_cell, mut sleeper) = WakeCell::<P, D>::new(alloc, pushes, drains)?;
@@ -367,7 +367,7 @@ where
     P: Ledger + Send + Sync,
     D: Ledger + Send + Sync,
     R: Threads + Wait + Clock + Sync + Abort,
-    requires pushes { (pushes.name ≡ P.name) × (pushes.parts ≡ P.parts) × (pushes.parts ≡ 65537) }
+    requires pushes { (pushes.name ≡ P.name) × (pushes.parts ≡ P.parts) × (pushes.parts ≡ PUSH_PARTS) }
     requires drains { (drains.name ≡ D.name) × (drains.parts ≡ D.parts) × (drains.parts ≡ 1) }
 {
     let (_cell, mut sleeper) = WakeCell::<P, D>::new(alloc, pushes, drains)?;
@@ -394,25 +394,40 @@ where
 
 #[test]
 fn an_unpark_ends_a_park(rt: HostRuntime) -> Result<(), Fail> {
-    unpark_twice::<Brand, Brand, HostRuntime>(&rt, rt.alloc(), Blank::new(65537), Blank::new(1))
+    unpark_twice::<Brand, Brand, HostRuntime>(
+        &rt,
+        rt.alloc(),
+        Blank::new(PUSH_PARTS),
+        Blank::new(1),
+    )
 }
 
 #[test]
 fn a_limit_ends_a_park(rt: HostRuntime) -> Result<(), Fail> {
-    wait_for_limit::<Brand, Brand, HostRuntime>(&rt, rt.alloc(), Blank::new(65537), Blank::new(1))
+    wait_for_limit::<Brand, Brand, HostRuntime>(
+        &rt,
+        rt.alloc(),
+        Blank::new(PUSH_PARTS),
+        Blank::new(1),
+    )
 }
 
 #[test]
 fn a_send_ends_a_park(rt: HostRuntime) -> Result<(), Fail> {
-    send_twice::<Brand, Brand, HostRuntime>(&rt, rt.alloc(), Blank::new(65537), Blank::new(1))
+    send_twice::<Brand, Brand, HostRuntime>(&rt, rt.alloc(), Blank::new(PUSH_PARTS), Blank::new(1))
 }
 
 #[test]
 fn a_sender_stopped_before_the_flag_ends_a_park(rt: HostRuntime) -> Result<(), Fail> {
-    stop_at_gate::<Brand, Brand, HostRuntime>(&rt, rt.alloc(), Blank::new(65537), Blank::new(1))
+    stop_at_gate::<Brand, Brand, HostRuntime>(
+        &rt,
+        rt.alloc(),
+        Blank::new(PUSH_PARTS),
+        Blank::new(1),
+    )
 }
 
 #[test]
 fn senders_beside_a_sleeper_lose_and_reorder_nothing(rt: HostRuntime) -> Result<(), Fail> {
-    send_beside::<Brand, Brand, HostRuntime>(&rt, rt.alloc(), Blank::new(65537), Blank::new(1))
+    send_beside::<Brand, Brand, HostRuntime>(&rt, rt.alloc(), Blank::new(PUSH_PARTS), Blank::new(1))
 }

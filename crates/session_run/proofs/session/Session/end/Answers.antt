@@ -2,15 +2,17 @@ use Rattle.std.proofs.Common.{refl, sym, subst, ◌∙◌}
 use Rattle.ring_core.specs.declared.ledger.Event.TheVariants.{End}
 use Rattle.uring_driver.specs.Handles.{RefusedFor}
 use Rattle.session_run.proofs.Refusals.{cause-end}
+use Rattle.session_run.proofs.Single.{has-held, single-same}
 use Rattle.session_run.proofs.Steps.{answers-kept, answers-refused}
 use Rattle.session_run.proofs.session.Session.end.Goals as goal
 
-pub returns-then-not-user_holds : goal.returns-then-not-user_holds
-returns-then-not-user_holds c = λ L stands. answers-refused c.args.self.now _ L _ _ stands
-    (cause-end L c.args.h (sym (stands.driver.handles c.args.h) ∙ sym c.user_holds.ensures ∙ c.if-not-user_holds.true)) refl refl
+pub returns-then-not-has_handle : goal.returns-then-not-has_handle
+returns-then-not-has_handle c = λ L stands. answers-refused c.args.self.now _ L _ _ stands
+    (cause-end L c.args.h (sym (has-held c.args.self.now.driver L c.args.h stands.driver) ∙ sym c.has_handle.ensures ∙ c.if-not-has_handle.true)) refl refl
 
 pub returns-in-Ok : goal.returns-in-Ok
-returns-in-Ok c = λ L stands. answers-kept c.args.self.now _ L _ _ stands refl (c.in-Ok.ensures.answers L stands.driver) (λ none. c.in-Ok.ensures.due ∙ none) c.in-Ok.ensures.tokens c.in-Ok.ensures.given
+returns-in-Ok c = λ L stands. answers-kept c.args.self.now _ L _ _ stands refl (c.in-Ok.ensures.answers L stands.driver) (λ none. c.in-Ok.ensures.due ∙ none)
+    (single-same c.args.self.now.driver c.end.new.self c.in-Ok.ensures.rest.1.holding) c.in-Ok.ensures.tokens c.in-Ok.ensures.given
 
 pub returns-in-Err : goal.returns-in-Err
 returns-in-Err c = λ L stands. answers-refused c.args.self.now _ L _ _ stands

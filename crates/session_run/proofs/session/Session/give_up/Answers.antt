@@ -6,6 +6,7 @@ use Rattle.uring_driver.specs.Stands.{Answers}
 use Rattle.session_run.specs.Token.{token_at, by_number}
 use Rattle.session_run.proofs.KeptTokens.{emptied-none}
 use Rattle.session_run.proofs.Refusals.{cause-drop, no_token-lacks}
+use Rattle.session_run.proofs.Single.{single-dropped}
 use Rattle.session_run.proofs.Steps.{answers-refused, answers-taken}
 use Rattle.session_run.proofs.session.Session.give_up.Goals as goal
 
@@ -21,5 +22,6 @@ drop_op-requires c = c.holds.ensures.0 c.if-not-holds.false
 pub returns-else-not-holds : goal.returns-else-not-holds
 returns-else-not-holds c = λ L stands.
     let there = sym c.in-Some.ensures.value in
-    answers-taken c.args.self.now _ L c.args.n c.in-Some.op _ _ stands there c.in-Some.ensures.rest c.drop_op.ensures.tokens (c.drop_op.ensures.none_due refl) c.drop_op.ensures.given
+    answers-taken c.args.self.now _ L c.args.n c.in-Some.op _ _ stands there c.in-Some.ensures.rest c.drop_op.ensures.tokens (c.drop_op.ensures.none_due refl)
+    (single-dropped c.args.self.now.driver c.drop_op.new.self c.in-Some.op (c.holds.ensures.0 c.if-not-holds.false) c.drop_op.ensures.drops) c.drop_op.ensures.given
     (subst (λ n. Answers (λ r. r) built L (Drop n) Dropped c.drop_op.new.self) ((stands.tokens c.args.n c.in-Some.op).0 there).1 (c.drop_op.ensures.answers refl L stands.driver))

@@ -1,11 +1,12 @@
 use Rattle.std.proofs.Common.{refl, sym, ◌∙◌}
 use Rattle.session_run.proofs.Refusals.{cause-look, unrefused-look}
+use Rattle.session_run.proofs.Single.{has-held}
 use Rattle.session_run.proofs.Steps.{answers-looked, answers-refused}
 use Rattle.session_run.proofs.session.Session.look.Goals as goal
 
-pub returns-then-not-user_holds : goal.returns-then-not-user_holds
-returns-then-not-user_holds c = λ L stands. answers-refused c.args.self.now _ L _ _ stands
-    (cause-look L c.args.h (sym (stands.driver.handles c.args.h) ∙ sym c.user_holds.ensures ∙ c.if-not-user_holds.true)) refl refl
+pub returns-then-not-has_handle : goal.returns-then-not-has_handle
+returns-then-not-has_handle c = λ L stands. answers-refused c.args.self.now _ L _ _ stands
+    (cause-look L c.args.h (sym (has-held c.args.self.now.driver L c.args.h stands.driver) ∙ sym c.has_handle.ensures ∙ c.if-not-has_handle.true)) refl refl
 
 pub returns-in-Ok : goal.returns-in-Ok
 returns-in-Ok c = λ L stands. answers-looked c.args.self.now L c.args.h c.in-Ok.look _ stands c.shown_by.ensures
@@ -14,5 +15,5 @@ returns-in-Ok c = λ L stands. answers-looked c.args.self.now L c.args.h c.in-Ok
 pub returns-in-Err : goal.returns-in-Err
 returns-in-Err c = λ L stands. record {
   stands = stands;
-  unrefused = unrefused-look L c.args.h (sym (stands.driver.handles c.args.h) ∙ sym c.user_holds.ensures ∙ c.if-not-user_holds.false);
+  unrefused = unrefused-look L c.args.h (sym (has-held c.args.self.now.driver L c.args.h stands.driver) ∙ sym c.has_handle.ensures ∙ c.if-not-has_handle.false);
 }

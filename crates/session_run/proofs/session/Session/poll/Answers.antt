@@ -1,4 +1,4 @@
-use Rattle.std.proofs.Common.{◌≡◌, Some, None, ap, refl, sym, subst, ◌∙◌}
+use Rattle.std.proofs.Common.{◌≡◌, Some, None, ap, inl, refl, sym, subst, ◌∙◌}
 use Rattle.rent_buf.specs.Buf.{built}
 use Rattle.ring_core.specs.Lists.{amended}
 use Rattle.ring_core.specs.Request.{held_of, plain_request}
@@ -8,6 +8,7 @@ use Rattle.uring_driver.specs.Stands.{Answers}
 use Rattle.session_run.specs.Token.{token_at, by_number}
 use Rattle.session_run.proofs.KeptTokens.{emptied-none, token_at-emptied, put-taken}
 use Rattle.session_run.proofs.Refusals.{cause-poll, no_token-lacks}
+use Rattle.session_run.proofs.Single.{single-same, single-left}
 use Rattle.session_run.proofs.Steps.{answers-kept, answers-refused, answers-taken}
 use Rattle.session_run.proofs.session.Session.poll.Goals as goal
 
@@ -28,10 +29,12 @@ returns-in-Pending c = λ L stands.
     let back = ap (λ o. amended (by_number c.take.new.self) c.args.n (λ token. Some o)) c.in-Pending.ensures.tokens.0 in
     answers-kept c.args.self.now _ L _ _ stands
     (c.put.ensures emptied ∙ back ∙ ap (λ x. amended x c.args.n (λ token. Some c.in-Some.op)) c.in-Some.ensures.rest ∙ put-taken items c.args.n c.in-Some.op there)
-    (subst (λ n. Answers (λ r. r) built L (Poll n c.args.task) Pending c.poll_op.new.self) ((stands.tokens c.args.n c.in-Some.op).0 there).1 (c.in-Pending.ensures.answers L stands.driver)) (λ none. c.poll_op.ensures.due ∙ none) c.in-Pending.ensures.tokens.1 c.poll_op.ensures.given
+    (subst (λ n. Answers (λ r. r) built L (Poll n c.args.task) Pending c.poll_op.new.self) ((stands.tokens c.args.n c.in-Some.op).0 there).1 (c.in-Pending.ensures.answers (inl refl) L stands.driver))
+    (c.poll_op.ensures.none_due refl) (single-same c.args.self.now.driver c.poll_op.new.self c.in-Pending.ensures.handles) c.in-Pending.ensures.tokens.1 c.poll_op.ensures.given
 
 pub returns-in-Ready : goal.returns-in-Ready
 returns-in-Ready c = λ L stands.
     let there = sym c.in-Some.ensures.value in
-    rw c.plain_held.ensures (answers-taken c.args.self.now _ L c.args.n c.in-Some.op _ _ stands there c.in-Some.ensures.rest c.in-Ready.ensures.tokens (λ none. c.poll_op.ensures.due ∙ none) c.poll_op.ensures.given
-    (subst (λ n. Answers (λ r. r) built L (Poll n c.args.task) (Handed c.in-Ready.done.outcome (held_of (plain_request built c.in-Ready.done.request))) c.poll_op.new.self) ((stands.tokens c.args.n c.in-Some.op).0 there).1 (c.in-Ready.ensures.answers L stands.driver).0))
+    rw c.plain_held.ensures (answers-taken c.args.self.now _ L c.args.n c.in-Some.op _ _ stands there c.in-Some.ensures.rest c.in-Ready.ensures.tokens
+    (c.poll_op.ensures.none_due refl) (single-left c.args.self.now.driver c.poll_op.new.self _ c.in-Ready.ensures.handles) c.poll_op.ensures.given
+    (subst (λ n. Answers (λ r. r) built L (Poll n c.args.task) (Handed c.in-Ready.done.outcome (held_of (plain_request built c.in-Ready.done.request))) c.poll_op.new.self) ((stands.tokens c.args.n c.in-Some.op).0 there).1 (c.in-Ready.ensures.answers (inl refl) L stands.driver).0))

@@ -1,6 +1,9 @@
 use Rattle.std.proofs.Common.{◌+◌, sym, subst, add-one, arith}
 use Rattle.ring_core.specs.Ledger.{empty}
 use Rattle.run_laws.specs.Headline.{RefusedExactly, PendingUntilReaped, HandsBackOwn, FirstPollHands, HandedOnce, DroppedOnce, ReapNames, CanceledWhereAsked}
+use Rattle.run_laws.specs.Closes.{ClosedOnce, ClosedWhenReleased, ClosedWhenOver, UnheldCloses}
+use Rattle.run_laws.proofs.Closed.{closed-once, closed-when-released, unheld-closes}
+use Rattle.run_laws.proofs.Over.{closed-when-over}
 use Rattle.run_laws.proofs.Laws.{refused-exactly, pending-until-reaped, hands-back-own, first-poll-hands, handed-once, dropped-once, reap-names, canceled-where-asked}
 use Rattle.session_run.specs.Session.{SessionStands}
 use Rattle.session_run.proofs.Runs.{get-there, after-one_more, replies-one_more, replies-done}
@@ -49,3 +52,19 @@ returns-clause-names c =
 pub returns-clause-canceled : goal.returns-clause-canceled
 returns-clause-canceled c =
     subst (λ rs. CanceledWhereAsked c.args.capacity c.args.events.now rs) (sym (replies-done (empty c.args.capacity) c.args.events.now c.loop-event.event-index _ _ (omega arith) c.loop-event.invariant.all)) (canceled-where-asked c.args.capacity c.args.events.now)
+
+pub returns-clause-closed_once : goal.returns-clause-closed_once
+returns-clause-closed_once c =
+    subst (λ rs. ClosedOnce rs) (sym (replies-done (empty c.args.capacity) c.args.events.now c.loop-event.event-index _ _ (omega arith) c.loop-event.invariant.all)) (closed-once c.args.capacity c.args.events.now)
+
+pub returns-clause-closed_released : goal.returns-clause-closed_released
+returns-clause-closed_released c =
+    subst (λ rs. ClosedWhenReleased c.args.events.now rs) (sym (replies-done (empty c.args.capacity) c.args.events.now c.loop-event.event-index _ _ (omega arith) c.loop-event.invariant.all)) (closed-when-released c.args.capacity c.args.events.now)
+
+pub returns-clause-closed_over : goal.returns-clause-closed_over
+returns-clause-closed_over c =
+    subst (λ rs. ClosedWhenOver c.args.capacity c.args.events.now rs) (sym (replies-done (empty c.args.capacity) c.args.events.now c.loop-event.event-index _ _ (omega arith) c.loop-event.invariant.all)) (closed-when-over c.args.capacity c.args.events.now)
+
+pub returns-clause-closed_unheld : goal.returns-clause-closed_unheld
+returns-clause-closed_unheld c =
+    subst (λ rs. UnheldCloses c.args.capacity c.args.events.now rs) (sym (replies-done (empty c.args.capacity) c.args.events.now c.loop-event.event-index _ _ (omega arith) c.loop-event.invariant.all)) (unheld-closes c.args.capacity c.args.events.now)

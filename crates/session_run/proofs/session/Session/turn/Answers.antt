@@ -1,19 +1,26 @@
-use Rattle.std.proofs.Common.{true, refl, subst}
+use Rattle.std.proofs.Common.{true, inl, refl, subst}
 use Rattle.rent_buf.specs.Buf.{built}
-use Rattle.uring_driver.specs.Turned.{TurnsFor}
+use Rattle.uring_driver.specs.Turned.{TurnsFor, TreatsFor}
+use Rattle.session_run.proofs.Single.{single-turned}
 use Rattle.session_run.proofs.Steps.{answers-kept, stands-same, stopped-same}
 use Rattle.session_run.proofs.session.Session.turn.Goals as goal
 
 pub returns-in-None : goal.returns-in-None
-returns-in-None c = λ L stands. answers-kept c.args.self.now _ L _ _ stands refl
-    (subst (λ stop. TurnsFor (λ r. r) built true L c.args.self.now.driver c.submit-turned.new.self c.submit-turned.result stop) c.in-None.is (c.submit-turned.ensures.turns.turns refl L stands.driver))
-    (c.submit-turned.ensures.turns.none_due refl) c.submit-turned.ensures.turns.tokens c.submit-turned.ensures.turns.given
+returns-in-None c = λ L stands.
+    let old = c.args.self.now.driver in
+    let new = c.submit-turned.new.self in
+    let turned = c.submit-turned.result in
+    let meets = c.submit-turned.ensures.turns in
+    let turns = subst (λ stop. TurnsFor (λ r. r) built true L old new turned meets.queued stop) c.in-None.is (meets.turns refl L stands.driver) in
+    let treats = subst (λ stop. TreatsFor (λ r. r) true old new turned meets.queued stop) c.in-None.is meets.treats in
+    answers-kept c.args.self.now _ L _ _ stands refl (turns.1 (inl refl)) (meets.none_due refl)
+    (single-turned old new turned meets.queued _ treats) meets.tokens meets.given
 
 pub returns-in-Some : goal.returns-in-Some
-returns-in-Some c = λ L stands. record {
-  unrefused = refl;
-  stands = stands-same c.args.self.now _ L stands
-      (stopped-same L c.args.self.now.driver c.submit-turned.new.self c.submit-turned.result c.in-Some.field-0
-      (subst (λ stop. TurnsFor (λ r. r) built true L c.args.self.now.driver c.submit-turned.new.self c.submit-turned.result stop) c.in-Some.is (c.submit-turned.ensures.turns.turns refl L stands.driver)))
-      refl;
-}
+returns-in-Some c = λ L stands.
+    let old = c.args.self.now.driver in
+    let new = c.submit-turned.new.self in
+    let turned = c.submit-turned.result in
+    let meets = c.submit-turned.ensures.turns in
+    let turns = subst (λ stop. TurnsFor (λ r. r) built true L old new turned meets.queued stop) c.in-Some.is (meets.turns refl L stands.driver) in
+    record { unrefused = refl; stands = stands-same c.args.self.now _ L stands (stopped-same L old new turned meets.queued c.in-Some.field-0 turns) refl }

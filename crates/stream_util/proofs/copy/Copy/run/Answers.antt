@@ -1,10 +1,14 @@
-use Rattle.std.proofs.Common.{◌∙◌, refl, arith}
+use Rattle.std.proofs.Common.{◌∙◌, ap, length, refl, arith}
 use Rattle.stream_util.specs.Copy.{Ends}
 use Rattle.stream_util.proofs.Copies.{ran_none, ran_again, ran_waits, ran_ends, copies_all, same_joined}
 use Rattle.stream_util.proofs.copy.Copy.run.Goals as goal
 
 pub loop-turn-init : goal.loop-turn-init
-loop-turn-init g c = (ran_none _ _ _ c.args.self (omega (arith, c.count.ensures, c.count.type_inv)), (refl, refl))
+loop-turn-init g c = (
+  ran_none _ _ _ c.args.self (omega (arith, c.count.ensures, c.count.type_inv)),
+  (refl, refl),
+  omega (arith, ap length c.held.ensures.value, c.held.ensures.within),
+)
 
 pub returns-in-Pending-clause-answer : goal.returns-in-Pending-clause-answer
 returns-in-Pending-clause-answer g c = ran_waits _ _ _ _ _ _ _ _ c.loop-turn.invariant.0 c.in-Pending.ensures.answer
@@ -33,6 +37,7 @@ pub loop-turn-preserved : goal.loop-turn-preserved
 loop-turn-preserved g c = (
   ran_again _ _ _ _ _ _ _ _ c.loop-turn.invariant.0 c.poll.ensures.counts c.in-Again.ensures.answer,
   (c.poll.ensures.ends.0 ∙ c.loop-turn.invariant.1.0, c.poll.ensures.ends.1 ∙ c.loop-turn.invariant.1.1),
+  c.in-Again.ensures.within,
 )
 
 pub returns-clause-answer : goal.returns-clause-answer

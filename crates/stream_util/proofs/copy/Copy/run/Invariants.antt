@@ -1,8 +1,9 @@
+use Rattle.std.proofs.Common.{◌≤◌, length}
 use Rattle.rent_io.specs.Writer.{EndsStay}
 use Rattle.stream_util.proofs.Copies.{Ran}
 use Rattle.stream_util.proofs.copy.Copy.run.Given as goal
 
--- What the polls so far moved.
+-- What the polls so far moved, and how much is held.
 abbrev pub invariant-loop-turn : goal.invariant-loop-turn
 invariant-loop-turn g l =
     let reader = g.R.AsyncReadRent.reader in
@@ -10,3 +11,4 @@ invariant-loop-turn g l =
     Ran g.R.AsyncReadRent.tells g.W.AsyncWriteRent.tells (record { reader = reader l.fn.reader; writer = writer l.fn.writer })
     (record { reader = reader l.reader; writer = writer l.writer }) l.fn.self l.copy
     × EndsStay (writer l.fn.writer) (writer l.writer)
+    × (length l.copy.held ≤ 4096)

@@ -1,21 +1,21 @@
-use Rattle.std.proofs.Common.{◌≡◌, length, IsTrue}
-use Rattle.uring_driver.specs.Submissions.{KeepsPending}
+use Rattle.std.proofs.Common.{◌≡◌, ◌-◌, [], length, None, IsTrue}
 use Rattle.driver_core.specs.Slot.{KeepsNumbers}
 use Rattle.driver_core.specs.Requests.{KeepsRequests}
-use Rattle.uring_driver.specs.Reap.{TookOff, HasRoom, treat_each, treated_behind}
+use Rattle.uring_driver.specs.State.{IsSound, AreHolding}
+use Rattle.uring_driver.specs.Reap.{HasRoom}
+use Rattle.uring_driver.specs.Reaps.{Reaps, midway}
 use Rattle.uring_driver.proofs.uring.turn.reap_all.Given as goal
 
--- So many completions were taken off, and those that are left come, behind the ones that were named, to what all come to.
+-- So many reaps were made, and there is room for as many more as are left of those that were ready.
 abbrev pub invariant-loop-i : goal.invariant-loop-i
 invariant-loop-i g l = record {
-  room : HasRoom l.named (length (g.R.Ring.view l.ring.ring).done);
+  reaps : Reaps g.R.Ring.view g.R.Ring.tells g.R.Ring.steady (midway l.initial.ring l.initial.ops l.initial.handles)
+      (midway l.ring l.ops l.handles) l.initial.named l.named l.i None;
+  none_due : IsTrue g.R.Ring.steady → l.initial.ring.due ≡ [] → l.ring.due ≡ [];
+  room : HasRoom l.named (length (g.R.Ring.view l.initial.ring.ring).done - l.i);
   numbers : KeepsNumbers l.initial.ops.slots.values l.ops.slots.values;
   requests : KeepsRequests l.initial.ops l.ops;
   given : l.ops.given ≡ l.initial.ops.given;
-  took : TookOff l.i (g.R.Ring.view l.initial.ring.ring) (g.R.Ring.view l.ring.ring);
-  same : KeepsPending g.R.Ring.view g.R.Ring.tells l.initial.ring l.ring;
-  treats : IsTrue g.R.Ring.tells →
-      treated_behind l.initial.named
-      (treat_each l.initial.ops.slots.values (g.R.Ring.view l.initial.ring.ring).done) ≡ treated_behind l.named
-      (treat_each l.ops.slots.values (g.R.Ring.view l.ring.ring).done);
+  sound : IsSound l.ring.room l.ops.slots.values l.handles.table;
+  holding : AreHolding l.handles.table l.ops.slots.values l.ops.given;
 }

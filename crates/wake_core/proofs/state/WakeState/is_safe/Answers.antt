@@ -1,7 +1,7 @@
 use Rattle.std.proofs.Common.{◌≡◌, ◌+◌, length, subst}
+use Rattle.wake_core.specs.SenderSlot.{seen}
 use Rattle.wake_core.specs.WakeState.{Wake}
 use Rattle.wake_core.proofs.NumberLemmas.{level_of_safe}
-use Rattle.wake_core.proofs.ViewLemmas.{seen}
 use Rattle.wake_core.proofs.state.WakeState.is_safe.Goals as goal
 
 pub returns-clause-level : goal.returns-clause-level

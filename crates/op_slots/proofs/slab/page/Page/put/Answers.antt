@@ -1,6 +1,7 @@
 use Rattle.std.proofs.Common.{◌≡◌, Some, length, sym, ap, ◌∙◌, arith}
 use Rattle.op_slots.specs.Page.{spare}
-use Rattle.op_slots.proofs.Entries.{full_at_end, next_within, read_at_next, next_not_occupied, sound-push, sound-fill, written, pushed, at-entry, at-past_entries, spare_is, place_within}
+use Rattle.op_slots.proofs.Entries.{full_at_end, next_within, read_at_next, next_not_occupied, sound-push, sound-fill, written, pushed}
+use Rattle.op_slots.proofs.Entries.{at-entry, at-past_entries, spare_is, place_within}
 use Rattle.op_slots.proofs.slab.page.Page.put.Goals as goal
 
 pub push_reserved-requires : goal.push_reserved-requires

@@ -2,11 +2,8 @@ use Rattle.std.proofs.Common.{refl, ap, ◌∙◌}
 use Rattle.uring_driver.proofs.Starting.{stands-ends, refuses-end}
 use Rattle.uring_driver.proofs.uring.memory.IoUringDriver+MemRing+B.end.Goals as goal
 use Rattle.ring_core.specs.Ring.{RingView}
-use Rattle.ring_core.specs.World.{with_end}
-use Rattle.ring_core.proofs.Amended.{length-amended}
 use Rattle.uring_driver.specs.State.{State, IsSound}
-use Rattle.uring_driver.proofs.Handles.{in-world-same}
-use Rattle.std.proofs.Common.{IsTrue, length, sym, subst}
+use Rattle.std.proofs.Common.{IsTrue, sym, subst}
 use Rattle.ring_core.specs.Lends.{with_world}
 use Rattle.uring_driver.specs.Uring.{ring_in, holds_handle}
 
@@ -16,16 +13,15 @@ returns-clause-answers g c =
       ring = c.self.inside.ring;
       slots = c.self.inside.ops.slots;
       given = c.self.inside.ops.given;
-      first = c.self.inside.first;
-      held = c.self.inside.held;
+      holding = c.self.inside.handles;
     } in
-    let holds = subst (λ x. IsTrue (holds_handle x c.args.h)) (sym c.self.view_is) c.requires in
+    let holds = subst (λ x. IsTrue (holds_handle x c.args.h)) (sym c.self.view_is) c.requires.held in
     rw (← c.self.view_is) (
     λ L stands.
     let changed = c.in-Ok.ensures.rest in
     stands-ends g.B.IoBufMut.buffer d _ L stands refl (ap (λ x. x.due) changed)
-    (ap (λ x. x.room) changed) refl c.args.h holds c.in-Ok.ensures.ends.0
-    (ap (λ x. x.ring) changed ∙ ap (with_world (ring_in d)) c.in-Ok.ensures.ends.1) refl refl)
+    refl c.args.h holds c.in-Ok.ensures.ends.0
+    (ap (λ x. x.ring) changed ∙ ap (with_world (ring_in d)) c.in-Ok.ensures.ends.1) refl (ap (λ x. x.room) changed))
 
 pub returns-in-Err-clause-answers : goal.returns-in-Err-clause-answers
 returns-in-Err-clause-answers g c =
@@ -33,18 +29,16 @@ returns-in-Err-clause-answers g c =
       ring = c.self.inside.ring;
       slots = c.self.inside.ops.slots;
       given = c.self.inside.ops.given;
-      first = c.self.inside.first;
-      held = c.self.inside.held;
+      holding = c.self.inside.handles;
     } in
-    let holds = subst (λ x. IsTrue (holds_handle x c.args.h)) (sym c.self.view_is) c.requires in
+    let holds = subst (λ x. IsTrue (holds_handle x c.args.h)) (sym c.self.view_is) c.requires.held in
     rw (← c.self.view_is) (
     λ L stands. refuses-end g.B.IoBufMut.buffer d L stands c.args.h holds _ c.in-Err.why c.in-Err.ensures.ends)
 
 pub invariant_of-self-2 : goal.invariant_of-self-2
 invariant_of-self-2 g c =
-    let changed = c.in-Ok.ensures.rest in
-    let world = c.self.inside.ring.ring.world in (
-      subst (λ n. IsSound n c.self.inside.ops.slots.values) (sym (ap (λ x. x.room) changed)) c.self.invariant.0,
-      in-world-same c.self.inside.first c.self.inside.held _ _
-          (ap length c.in-Ok.ensures.ends.1 ∙ length-amended with_end world c.args.h) c.self.invariant.1,
+    let changed = c.in-Ok.ensures.rest in (
+      subst (λ n. IsSound n c.self.inside.ops.slots.values c.self.inside.handles.table) (sym (ap (λ x. x.room) changed))
+          c.self.invariant.0,
+      c.self.invariant.1,
     )

@@ -1,15 +1,15 @@
-use Rattle.std.proofs.Common.{ap, arith, false, length, refl}
+use Rattle.std.proofs.Common.{arith, false, refl, sym, subst, Ok}
 use Rattle.ring_core.specs.Ring.{RingView}
 use Rattle.ring_core.specs.Payloads.{body_comes}
 use Rattle.ring_core.specs.Surroundings.{around}
-use Rattle.driver_core.specs.Slot.{number_at}
 use Rattle.driver_core.specs.Operations.{offered, Stores}
-use Rattle.uring_driver.specs.State.{State}
+use Rattle.uring_driver.specs.State.{State, IsSound, AreHolding}
+use Rattle.uring_driver.specs.Executed.{ExecutesFor}
 use Rattle.uring_driver.proofs.Sound.{sound-keeps}
 use Rattle.uring_driver.proofs.Executing.{executed-numbers}
-use Rattle.uring_driver.proofs.Handles.{in-world-same}
-use Rattle.uring_driver.proofs.Executions.{refused-keeps, refused-ring, finished-handles, stands-executes, refuses-executes}
-use Rattle.uring_driver.proofs.Storing.{executed-at, executed-keeps}
+use Rattle.uring_driver.proofs.Executions.{stands-executes}
+use Rattle.uring_driver.proofs.Refusing.{refused-keeps, refuses-executes}
+use Rattle.uring_driver.proofs.Storing.{executed-at, executed-keeps, executed-holding}
 use Rattle.uring_driver.proofs.uring.memory.IoUringDriver+MemRing+B.execute.Goals as goal
 
 pub invariant_of-self : goal.invariant_of-self
@@ -18,11 +18,10 @@ invariant_of-self g c =
     let kept = refused-keeps (offered g.B.IoBufMut.buffer) stores (λ n. false) c.self.inside.ring.ring c.execute.new.self.ring
     c.args.place c.args.told c.self.inside.ops c.execute.new.payloads c.in-Err.why c.in-Err.ensures.executes in
     let room = c.in-Err.ensures.room in
-    let same = refused-ring (offered g.B.IoBufMut.buffer) stores (λ n. false) c.self.inside.ring.ring c.execute.new.self.ring
-    c.args.place c.args.told c.self.inside.ops c.execute.new.payloads c.in-Err.why c.in-Err.ensures.executes in (
-      sound-keeps c.self.inside.ring.room c.execute.new.self.room c.self.inside.ops.slots.values c.execute.new.payloads.slots.values
-          c.self.invariant.0 (omega (arith, room)) (λ key. ap (λ x. number_at x.slots.values key) kept),
-      in-world-same c.self.inside.first c.self.inside.held _ _ (ap (λ v. length v.world) same) c.self.invariant.1,
+    let table = c.self.inside.handles.table in (
+      subst (λ n. IsSound n c.execute.new.payloads.slots.values table) (sym room)
+          (subst (λ x. IsSound c.self.inside.ring.room x.slots.values table) (sym kept) c.self.invariant.0),
+      subst (λ x. AreHolding table x.slots.values x.given) (sym kept) c.self.invariant.1,
     )
 
 pub returns-in-Err-clause-answers : goal.returns-in-Err-clause-answers
@@ -31,8 +30,7 @@ returns-in-Err-clause-answers g c =
       ring = c.self.inside.ring;
       slots = c.self.inside.ops.slots;
       given = c.self.inside.ops.given;
-      first = c.self.inside.first;
-      held = c.self.inside.held;
+      holding = c.self.inside.handles;
     } in
     rw (← c.self.view_is) (
     λ L stands. refuses-executes g.B.IoBufMut.buffer d L c.args.place c.args.told stands (offered g.B.IoBufMut.buffer)
@@ -42,12 +40,14 @@ returns-in-Err-clause-answers g c =
 pub invariant_of-self-2 : goal.invariant_of-self-2
 invariant_of-self-2 g c =
     let executed = executed-at g.B.IoBufMut.buffer (around g.B.IoBufMut.under g.B.IoBufMut.beside) c.in-Ok.ensures.executes in
-    let kept = executed-numbers g.B.IoBufMut.buffer c.self.inside.ops c.execute.new.payloads c.in-Ok.completion.word executed.got
-    (body_comes executed.finishes.flight.entry.body c.args.told) executed.stored in
+    let comes = body_comes executed.finishes.flight.entry.body c.args.told in
+    let kept = executed-numbers g.B.IoBufMut.buffer c.self.inside.ops c.execute.new.payloads c.in-Ok.completion.word executed.got comes
+    executed.stored in
     let room = c.in-Ok.ensures.room in (
       sound-keeps c.self.inside.ring.room c.execute.new.self.room c.self.inside.ops.slots.values c.execute.new.payloads.slots.values
-          c.self.invariant.0 (omega (arith, room)) kept.0,
-      in-world-same c.self.inside.first c.self.inside.held _ _ (finished-handles _ _ _ _ _ _ _ executed.finishes) c.self.invariant.1,
+          c.self.inside.handles.table c.self.inside.handles.table c.self.invariant.0 (omega (arith, room)) kept.0,
+      executed-holding g.B.IoBufMut.buffer c.self.inside.handles.table c.self.inside.ops c.execute.new.payloads c.in-Ok.completion.word
+          executed.got comes executed.stored c.self.invariant.1,
     )
 
 pub returns-clause-answers : goal.returns-clause-answers
@@ -56,18 +56,24 @@ returns-clause-answers g c =
       ring = c.self.inside.ring;
       slots = c.self.inside.ops.slots;
       given = c.self.inside.ops.given;
-      first = c.self.inside.first;
-      held = c.self.inside.held;
+      holding = c.self.inside.handles;
+    } in
+    let new : State RingView g.row.B.Denot = record {
+      ring = c.execute.new.self;
+      slots = c.execute.new.payloads.slots;
+      given = c.execute.new.payloads.given;
+      holding = c.self.inside.handles;
     } in
     rw (← c.self.view_is) (
-    λ L stands. stands-executes g.B.IoBufMut.buffer d L c.args.place c.args.told stands _ c.in-Ok.completion
+    λ L stands. subst (λ x. ExecutesFor g.B.IoBufMut.buffer L c.args.place c.args.told new (Ok x)) (sym c.executed.ensures)
+    (stands-executes g.B.IoBufMut.buffer d L c.args.place c.args.told stands new c.in-Ok.completion
     (executed-at g.B.IoBufMut.buffer (around g.B.IoBufMut.under g.B.IoBufMut.beside) c.in-Ok.ensures.executes)
-    c.in-Ok.ensures.due c.in-Ok.ensures.room refl refl)
+    c.in-Ok.ensures.due c.in-Ok.ensures.room refl))
 
 pub returns-clause-executes : goal.returns-clause-executes
 returns-clause-executes g c = rw (← c.self.view_is) (record {
   completion = c.in-Ok.completion;
-  numbered = refl;
+  named = c.executed.ensures;
   executed = executed-at g.B.IoBufMut.buffer (around g.B.IoBufMut.under g.B.IoBufMut.beside) c.in-Ok.ensures.executes;
 })
 

@@ -1,53 +1,78 @@
-use Rattle.std.proofs.Common.{◌≡◌, ◌+◌, [], ◌∷◌, length, true, refl, sym, ap, ◌∙◌, subst, arith, length-append}
-use Rattle.ring_core.specs.World.{fresh}
-use Rattle.uring_driver.specs.Uring.{first_with, is_among}
-use Rattle.uring_driver.proofs.Handles.{one-beside, in-world-next}
-use Rattle.uring_driver.proofs.Starting.{stands-gives}
-use Rattle.uring_driver.proofs.uring.memory.IoUringDriver+MemRing+B.give.Goals as goal
+use Rattle.std.proofs.Common.{refl, sym, ◌∙◌, ap, subst, length, arith}
 use Rattle.ring_core.specs.Ring.{RingView}
-use Rattle.uring_driver.specs.State.{State, IsSound}
+use Rattle.uring_driver.specs.Holding.{knows}
+use Rattle.uring_driver.specs.Released.{Adopts, HasCloseRoom}
+use Rattle.uring_driver.specs.State.{State}
+use Rattle.uring_driver.specs.Submitted.{SameOps, IsSameRing}
+use Rattle.uring_driver.specs.Submissions.{with_spare}
+use Rattle.uring_driver.specs.Uring.{ring_in}
+use Rattle.uring_driver.proofs.Closings.{unknown}
+use Rattle.uring_driver.proofs.Giving.{adopted, same-forgotten, kept-without, gives, stands-forgotten}
+use Rattle.uring_driver.proofs.uring.memory.IoUringDriver+MemRing+B.give.Goals as goal
 
-pub returns-clause-answers : goal.returns-clause-answers
-returns-clause-answers g c =
-    let d : State RingView g.row.B.Denot = record {
-      ring = c.self.inside.ring;
-      slots = c.self.inside.ops.slots;
-      given = c.self.inside.ops.given;
-      first = c.self.inside.first;
-      held = c.self.inside.held;
+pub forget-requires : goal.forget-requires
+forget-requires g c =
+    adopted c.args.self.now.holding c.self-2.inside.handles c.handles-h.result
+    (subst (λ x. Adopts c.args.self.now.holding c.handles-h.result x.holding) (sym c.self-2.view_is) c.in_ok-fd.ensures.handles)
+
+pub invariant_of-self-in-Err : goal.invariant_of-self-in-Err
+invariant_of-self-in-Err g c =
+    let mid = c.self-2.inside.handles in
+    let h = c.handles-h.result in
+    let adopts = subst (λ x. Adopts c.args.self.now.holding h x.holding) (sym c.self-2.view_is) c.in_ok-fd.ensures.handles in
+    let same = ap (λ p. p.room) c.in-Err.ensures.err in
+    kept-without c.self-2.inside.ring.room c.give.new.self.room c.self-2.inside.ops.slots.values c.self-2.inside.ops.given mid
+    c.forget.new.self h c.self-2.invariant (adopted c.args.self.now.holding mid h adopts)
+    c.forget.ensures (omega (arith, same))
+
+pub returns-in-Ok-clause-answers : goal.returns-in-Ok-clause-answers
+returns-in-Ok-clause-answers g c =
+    let d : State RingView g.row.B.Denot = c.args.self.now in
+    let mid : State RingView g.row.B.Denot = record {
+      ring = c.self-2.inside.ring;
+      slots = c.self-2.inside.ops.slots;
+      given = c.self-2.inside.ops.given;
+      holding = c.self-2.inside.handles;
     } in
-    rw (← c.self.view_is) (
-    λ L stands.
-    stands-gives g.B.IoBufMut.buffer d _ L stands refl (ap (λ x. x.due) c.in_ok-h.ensures.ok)
-    (ap (λ x. x.room) c.in_ok-h.ensures.ok) refl c.args.kind c.new.result (c.new.ensures ∙ c.in_ok-h.ensures.number)
-    (ap (λ x. x.ring) c.in_ok-h.ensures.ok)
-    (c.first_of-self-inside.ensures ∙ ap (first_with d.first d.held) (sym c.new.ensures)) refl)
+    let h = c.handles-h.result in
+    let number = c.handles-h.ensures ∙ ap (λ (x : State RingView g.row.B.Denot). length (ring_in x).world) c.self.view_is in
+    let unknown_one = ap (knows d.holding) number ∙ c.requires.fresh in
+    let adopts = subst (λ x. Adopts d.holding h x.holding) (sym c.self-2.view_is) c.in_ok-fd.ensures.handles in
+    let same = subst (λ x. SameOps d x × IsSameRing (λ r. r) d x) (sym c.self-2.view_is) c.in_ok-fd.ensures.rest in
+    let room = subst (λ x. HasCloseRoom x) (sym c.self-2.view_is) c.in_ok-fd.ensures.room in
+    λ L stands. rw c.in_ok-fd.ensures.fd (gives g.B.IoBufMut.buffer d mid (record mid { ring = c.give.new.self }) h unknown_one adopts
+    same room refl refl c.args.kind L stands number c.in-Ok.ensures.ok refl)
 
-pub returns-clause-held : goal.returns-clause-held
-returns-clause-held g c =
-    let d : State RingView g.row.B.Denot = record {
-      ring = c.self.inside.ring;
-      slots = c.self.inside.ops.slots;
-      given = c.self.inside.ops.given;
-      first = c.self.inside.first;
-      held = c.self.inside.held;
-    } in
-    rw (← c.self.view_is) (
-    λ next h.
-    ap (λ k. is_among k (d.held + 1) h) (c.first_of-self-inside.ensures ∙ ap (first_with d.first d.held) (sym c.new.ensures))
-    ∙ one-beside d.first d.held c.new.result next h)
-
-pub invariant_of-self-2 : goal.invariant_of-self-2
-invariant_of-self-2 g c =
-    let first = c.self.inside.first in
-    let held = c.self.inside.held in
-    let world = c.self.inside.ring.ring.world in
-    let ok = c.in_ok-h.ensures.ok in (
-      subst (λ n. IsSound n c.self.inside.ops.slots.values) (sym (ap (λ x. x.room) ok)) c.self.invariant.0,
-      λ h is.
-          let below = in-world-next first held (length world) c.self.invariant.1 h
-          (subst (λ f. is_among f (held + 1) h ≡ true)
-          (c.first_of-self-inside.ensures ∙ ap (first_with first held) c.in_ok-h.ensures.number) is) in
-          let more = ap (λ x. length x.ring.world) ok ∙ length-append world (fresh c.args.kind ∷ []) in
-          omega (arith, below, more),
+pub returns-in-Err-clause-err : goal.returns-in-Err-clause-err
+returns-in-Err-clause-err g c =
+    let d : State RingView g.row.B.Denot = c.args.self.now in
+    let h = c.handles-h.result in
+    let number = c.handles-h.ensures ∙ ap (λ (x : State RingView g.row.B.Denot). length (ring_in x).world) c.self.view_is in
+    let none = (unknown d.holding h (ap (knows d.holding) number ∙ c.requires.fresh)).0 in
+    let adopts = subst (λ x. Adopts d.holding h x.holding) (sym c.self-2.view_is) c.in_ok-fd.ensures.handles in
+    let same = subst (λ x. SameOps d x × IsSameRing (λ r. r) d x) (sym c.self-2.view_is) c.in_ok-fd.ensures.rest in
+    let ring = c.in-Err.ensures.err in (
+      record {
+        ring = ap (λ p. p.ring) ring ∙ same.1.ring ∙ ap (λ p. with_spare (ring_in d) p.ring.spare) (sym ring);
+        due = ap (λ p. p.due) ring ∙ same.1.due;
+      },
+      same-forgotten d.holding c.self-2.inside.handles h adopts c.forget.new.self none c.forget.ensures,
     )
+
+pub returns-in-Err-clause-stands : goal.returns-in-Err-clause-stands
+returns-in-Err-clause-stands g c =
+    let d : State RingView g.row.B.Denot = c.args.self.now in
+    let mid : State RingView g.row.B.Denot = record {
+      ring = c.self-2.inside.ring;
+      slots = c.self-2.inside.ops.slots;
+      given = c.self-2.inside.ops.given;
+      holding = c.self-2.inside.handles;
+    } in
+    let h = c.handles-h.result in
+    let number = c.handles-h.ensures ∙ ap (λ (x : State RingView g.row.B.Denot). length (ring_in x).world) c.self.view_is in
+    let unknown_one = ap (knows d.holding) number ∙ c.requires.fresh in
+    let adopts = subst (λ x. Adopts d.holding h x.holding) (sym c.self-2.view_is) c.in_ok-fd.ensures.handles in
+    let same = subst (λ x. SameOps d x × IsSameRing (λ r. r) d x) (sym c.self-2.view_is) c.in_ok-fd.ensures.rest in
+    let room = subst (λ x. HasCloseRoom x) (sym c.self-2.view_is) c.in_ok-fd.ensures.room in
+    λ L stands. stands-forgotten g.B.IoBufMut.buffer d mid (record mid { ring = c.give.new.self; holding = c.forget.new.self }) h
+    unknown_one adopts same room refl refl L stands c.in-Err.ensures.err c.forget.ensures

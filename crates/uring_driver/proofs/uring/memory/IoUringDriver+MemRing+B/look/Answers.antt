@@ -11,9 +11,8 @@ returns-clause-answers g c =
       ring = c.self.inside.ring;
       slots = c.self.inside.ops.slots;
       given = c.self.inside.ops.given;
-      first = c.self.inside.first;
-      held = c.self.inside.held;
+      holding = c.self.inside.handles;
     } in
-    let holds = subst (λ x. IsTrue (holds_handle x c.args.h)) (sym c.self.view_is) c.requires in
+    let holds = subst (λ x. IsTrue (holds_handle x c.args.h)) (sym c.self.view_is) c.requires.held in
     rw (← c.self.view_is) (
     looks-if g.B.IoBufMut.buffer d c.args.h holds c.look.result c.look.ensures)

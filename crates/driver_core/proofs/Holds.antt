@@ -1,0 +1,195 @@
+-- What tables of holders are, handle by handle, once operations joined or left.
+use Rattle.std.proofs.Common.{◌≡◌, ◌≢◌, ◌∙◌, inl, inr, ℕ, suc, ◌+◌, ◌<◌, ◌^◌, Bool, true, false, not, List, [], ◌∷◌, length, Option, Some, None, refl, sym, ap, subst, arith}
+use Rattle.std.specs.Prelude.{is_some, IsSome, unwrap_or}
+use Rattle.std.proofs.lemmas.Bool.Decides.{nat_tests}
+use Rattle.std.specs.FinMap.{get, len}
+use Rattle.handle_core.specs.declared.table.Holders.{Holders}
+use Rattle.handle_core.specs.Table.{Table, IsHeld, holders_at, with_holders, with_operation, without_operation, nobody}
+use Rattle.ring_core.specs.Lists.{has_number}
+use Rattle.ring_core.proofs.Numbers.{same-or-not}
+use Rattle.ring_core.proofs.Leaving.{Ascends, ascends-not, has-first, has-other}
+use Rattle.driver_core.specs.Holds.{is_nobody, settled, settle_if, left_holders, with_ops, without_ops, front_if, unheld_by, CanJoin, CanLeave}
+use Rattle.driver_core.proofs.Maps.{put-same, put-other, gone-same, gone-other, len-put, len-gone, len-some}
+
+-- Holders of a handle that were written are its holders.
+pub with-same : (table : Table) (h : ℕ) (held : Holders) → holders_at (with_holders table h held) h ≡ held
+with-same table h held = ap (λ o. unwrap_or o nobody) (put-same table.holders h held)
+
+-- They leave those of another handle.
+pub with-other : (table : Table) (h : ℕ) (held : Holders) (k : ℕ) → k ≢ h → holders_at (with_holders table h held) k ≡ holders_at table k
+with-other table h held k e = ap (λ o. unwrap_or o nobody) (put-other table.holders h held k e)
+
+-- Nobody is among holders of whom nobody is.
+pub nobody-is : (held : Holders) → is_nobody held ≡ true → held ≡ nobody
+nobody-is held none = (
+    let a : held.user ≡ 0 = grind (arith, nat_tests) in
+    let b : held.operations ≡ 0 = grind (arith, nat_tests) in
+    ap (λ x. record held { user = x }) a ∙ ap (λ x. record { user = 0; operations = x }) b)
+
+-- Holders on which a handle settled, by whether somebody is among them.
+settled-by : (table : Table) (h : ℕ) (held : Holders) (b : Bool) → (b ≡ true → held ≡ nobody) → holders_at (settle_if b table h held) h ≡ held
+settled-by table h held true none = ap (λ o. unwrap_or o nobody) (gone-same table.holders h) ∙ sym (none refl)
+settled-by table h held false none = with-same table h held
+
+-- The holders on which a handle settled are its holders.
+pub settled-same : (table : Table) (h : ℕ) (held : Holders) → holders_at (settled table h held) h ≡ held
+settled-same table h held = settled-by table h held (is_nobody held) (nobody-is held)
+
+-- Settling one handle leaves the holders of each other one, whether it leaves the table or not.
+settled-beside : (table : Table) (h : ℕ) (held : Holders) (b : Bool) (k : ℕ) → k ≢ h → holders_at (settle_if b table h held) k ≡ holders_at table k
+settled-beside table h held true k e = ap (λ o. unwrap_or o nobody) (gone-other table.holders h k e)
+settled-beside table h held false k e = with-other table h held k e
+
+-- They leave those of another handle.
+pub settled-other : (table : Table) (h : ℕ) (held : Holders) (k : ℕ) → k ≢ h → holders_at (settled table h held) k ≡ holders_at table k
+settled-other table h held k e = settled-beside table h held (is_nobody held) k e
+
+-- An operation that joined leaves how often the user holds each handle.
+pub user-joined : (table : Table) (handles : List ℕ) (k : ℕ) → (holders_at (with_ops table handles) k).user ≡ (holders_at table k).user
+user-joined table [] k = refl
+user-joined table (h ∷ handles) k =
+    user-joined (with_holders table h (with_operation (holders_at table h))) handles k ∙ (elim (same-or-not k h) [
+      | inl e ↦ (
+          ap (λ x. (holders_at (with_holders table h (with_operation (holders_at table h))) x).user) e
+          ∙ ap (λ x. x.user) (with-same table h (with_operation (holders_at table h))) ∙ ap (λ x. (holders_at table x).user) (sym e))
+      | inr e ↦ ap (λ x. x.user) (with-other table h (with_operation (holders_at table h)) k e)
+    ])
+
+-- So does one that left.
+pub user-left : (table : Table) (handles : List ℕ) (k : ℕ) → (holders_at (without_ops table handles) k).user ≡ (holders_at table k).user
+user-left table [] k = refl
+user-left table (h ∷ handles) k =
+    user-left (settled table h (left_holders table h)) handles k ∙ (elim (same-or-not k h) [
+      | inl e ↦ (
+          ap (λ x. (holders_at (settled table h (left_holders table h)) x).user) e
+          ∙ ap (λ x. x.user) (settled-same table h (left_holders table h)) ∙ ap (λ x. (holders_at table x).user) (sym e))
+      | inr e ↦ ap (λ x. x.user) (settled-other table h (left_holders table h) k e)
+    ])
+
+-- A handle that isn't among those that an operation names has the holders that it had, once the operation joined.
+pub joined-other : (table : Table) (handles : List ℕ) (k : ℕ) → has_number k handles ≡ false →
+    holders_at (with_ops table handles) k ≡ holders_at table k
+joined-other table [] k not = refl
+joined-other table (h ∷ handles) k not =
+    elim (same-or-not k h) [
+      | inl e ↦ absurd (let a : ◌≡◌ {A = Bool} true false = sym (ap (λ x. has_number x (h ∷ handles)) e ∙ has-first h handles) ∙ not in cc)
+      | inr e ↦ (
+          joined-other (with_holders table h (with_operation (holders_at table h))) handles k (sym (has-other k h handles e) ∙ not)
+          ∙ with-other table h (with_operation (holders_at table h)) k e)
+    ]
+
+-- The same, once it left.
+pub left-other : (table : Table) (handles : List ℕ) (k : ℕ) → has_number k handles ≡ false →
+    holders_at (without_ops table handles) k ≡ holders_at table k
+left-other table [] k not = refl
+left-other table (h ∷ handles) k not =
+    elim (same-or-not k h) [
+      | inl e ↦ absurd (let a : ◌≡◌ {A = Bool} true false = sym (ap (λ x. has_number x (h ∷ handles)) e ∙ has-first h handles) ∙ not in cc)
+      | inr e ↦ (
+          left-other (settled table h (left_holders table h)) handles k (sym (has-other k h handles e) ∙ not)
+          ∙ settled-other table h (left_holders table h) k e)
+    ]
+
+-- A handle among those that an operation names, which rise, is held once more once the operation joined.
+pub joined-one : (table : Table) (j : ℕ) (handles : List ℕ) → Ascends j handles → (k : ℕ) → has_number k handles ≡ true →
+    holders_at (with_ops table handles) k ≡ with_operation (holders_at table k)
+joined-one table j [] rise k there = (let f : ⊥ = cc in absurd f)
+joined-one table j (h ∷ handles) rise k there =
+    elim (same-or-not k h) [
+      | inl e ↦ (
+          joined-other (with_holders table h (with_operation (holders_at table h))) handles k
+          (ap (λ x. has_number x handles) e ∙ ascends-not h (suc h) handles (omega arith) rise.1)
+          ∙ ap (holders_at (with_holders table h (with_operation (holders_at table h)))) e
+          ∙ with-same table h (with_operation (holders_at table h)) ∙ ap (λ x. with_operation (holders_at table x)) (sym e))
+      | inr e ↦ (
+          joined-one (with_holders table h (with_operation (holders_at table h))) (suc h) handles rise.1 k (sym (has-other k h handles e) ∙ there)
+          ∙ ap with_operation (with-other table h (with_operation (holders_at table h)) k e))
+    ]
+
+-- It is held once less once the operation left.
+pub left-one : (table : Table) (j : ℕ) (handles : List ℕ) → Ascends j handles → (k : ℕ) → has_number k handles ≡ true →
+    holders_at (without_ops table handles) k ≡ left_holders table k
+left-one table j [] rise k there = (let f : ⊥ = cc in absurd f)
+left-one table j (h ∷ handles) rise k there =
+    elim (same-or-not k h) [
+      | inl e ↦ (
+          left-other (settled table h (left_holders table h)) handles k
+          (ap (λ x. has_number x handles) e ∙ ascends-not h (suc h) handles (omega arith) rise.1)
+          ∙ ap (holders_at (settled table h (left_holders table h))) e
+          ∙ settled-same table h (left_holders table h) ∙ ap (left_holders table) (sym e))
+      | inr e ↦ (
+          left-one (settled table h (left_holders table h)) (suc h) handles rise.1 k (sym (has-other k h handles e) ∙ there)
+          ∙ ap without_operation (settled-other table h (left_holders table h) k e))
+    ]
+
+-- An operation that named handles which rise, each held by an operation, may leave.
+pub can-leave : (table : Table) (j : ℕ) (handles : List ℕ) → Ascends j handles →
+    ((k : ℕ) → has_number k handles ≡ true → 0 < (holders_at table k).operations) → CanLeave table handles
+can-leave table j [] rise held = tt
+can-leave table j (h ∷ handles) rise held = (
+  held h (has-first h handles),
+  can-leave (settled table h (left_holders table h)) (suc h) handles rise.1 (λ k there.
+      let e : k ≢ h = (λ same.
+      let a : ◌≡◌ {A = Bool} true false = sym there ∙ ap (λ x. has_number x handles) same ∙ ascends-not h (suc h) handles (omega arith) rise.1 in
+      let f : ⊥ = cc in f) in
+      subst (λ x. 0 < x.operations) (sym (settled-other table h (left_holders table h) k e)) (held k (has-other k h handles e ∙ there))),
+)
+
+-- A number of a list of numbers that are above another isn't that one.
+pub above-other : (h : ℕ) (handles : List ℕ) → Ascends (suc h) handles → (k : ℕ) → has_number k handles ≡ true → k ≢ h
+above-other h handles rise k there same =
+    let a : ◌≡◌ {A = Bool} true false = sym there ∙ ap (λ x. has_number x handles) same ∙ ascends-not h (suc h) handles (omega arith) rise in
+    let f : ⊥ = cc in f
+
+-- An operation may join handles that rise, are held, and are held by fewer operations than the bound.
+pub can-join : (table : Table) (j : ℕ) (handles : List ℕ) → Ascends j handles → ((k : ℕ) → has_number k handles ≡ true → IsHeld table k) →
+    ((k : ℕ) → has_number k handles ≡ true → (holders_at table k).operations < 2 ^ 62) → CanJoin table handles
+can-join table j [] rise held few = tt
+can-join table j (h ∷ handles) rise held few = (
+  held h (has-first h handles),
+  few h (has-first h handles),
+  can-join (with_holders table h (with_operation (holders_at table h))) (suc h) handles rise.1
+      (λ k there.
+      let e = above-other h handles rise.1 k there in
+      subst (λ o. IsSome o) (sym (put-other table.holders h (with_operation (holders_at table h)) k e))
+      (held k (has-other k h handles e ∙ there)))
+      (λ k there.
+      let e = above-other h handles rise.1 k there in
+      subst (λ x. x.operations < 2 ^ 62) (sym (with-other table h (with_operation (holders_at table h)) k e))
+      (few k (has-other k h handles e ∙ there))),
+)
+
+-- A handle that somebody holds has an entry.
+entry-of : (o : Option Holders) → 0 < (unwrap_or o nobody).user + (unwrap_or o nobody).operations → (x : Holders) × (o ≡ Some x)
+entry-of None some = absurd (omega arith)
+entry-of (Some x) some = (x, refl)
+
+-- So many handles are in the table as before, once an operation joined.
+pub len-joined : (table : Table) (handles : List ℕ) → CanJoin table handles → len (with_ops table handles).holders ≡ len table.holders
+len-joined table [] may = refl
+len-joined table (h ∷ handles) may =
+    let was = some-holders (get table.holders h) may.0 in
+    len-joined (with_holders table h (with_operation (holders_at table h))) handles may.2
+    ∙ len-put table.holders h (with_operation (holders_at table h)) was.0 was.1
+  where
+    some-holders : (o : Option Holders) → IsSome o → (x : Holders) × (o ≡ Some x)
+    some-holders None h = (let f : ⊥ = cc in absurd f)
+    some-holders (Some x) h = (x, refl)
+
+-- So many handles are in the table once one settled on holders: one fewer where that is nobody.
+len-settled : (table : Table) (h : ℕ) (held x : Holders) (b : Bool) (handles : List ℕ) → get table.holders h ≡ Some x → 0 < len table.holders →
+    len (settle_if b table h held).holders + length (front_if b h handles) ≡ len table.holders + length handles
+len-settled table h held x true handles there some = (let a = len-gone table.holders h x there in omega (arith, a, some))
+len-settled table h held x false handles there some = (let a = len-put table.holders h held x there in omega (arith, a))
+
+-- Once an operation left, so many handles fewer are in the table as nobody holds any more.
+pub len-left : (table : Table) (handles : List ℕ) → CanLeave table handles →
+    len (without_ops table handles).holders + length (unheld_by table handles) ≡ len table.holders
+len-left table [] may = omega arith
+len-left table (h ∷ handles) may =
+    let was = entry-of (get table.holders h) (omega (arith, may.0)) in
+    let some = len-some table.holders h (ap is_some was.1) in
+    let rest = len-left (settled table h (left_holders table h)) handles may.1 in
+    let here = len-settled table h (left_holders table h) was.0 (is_nobody (left_holders table h))
+    (unheld_by (settled table h (left_holders table h)) handles) was.1 some in
+    omega (arith, rest, here)

@@ -1,0 +1,12 @@
+pub mod TextCuts
+pub mod TextNumbers
+pub mod TextHex
+mod TextTable
+mod TextWrites
+pub mod TextFields
+mod TextSpaces
+mod TextParts
+mod TextRequests
+mod TextEvents
+mod TextLinesRead
+mod TextValid

@@ -1,0 +1,47 @@
+-- The lines of a text, and the first of them that stands for no event.
+use Rattle.std.specs.Prelude.{◌≡◌, ℕ, ◌+◌, ◌==◌, List, [], ◌∷◌, ◌++◌, length, if◌then◌else◌}
+use Rattle.std.specs.List.{AllZip}
+use Rattle.ring_core.specs.declared.ledger.Event.{Event}
+use Rattle.event_text.specs.TextEvent.{StandsFor}
+use Rattle.event_text.specs.declared.text.LinesError.{LinesError}
+use Rattle.event_text.specs.declared.text.LinesError.TheVariants.{BadLine, OutOfMemory}
+
+-- A byte in front of the first line.
+abbrev pub onto_first : ℕ → List (List ℕ) → List (List ℕ)
+onto_first byte [] = (byte ∷ []) ∷ []
+onto_first byte (line ∷ lines) = (byte ∷ line) ∷ lines
+
+-- The lines: the pieces that end with the byte 10, without it, then the rest where it isn't empty.
+abbrev pub lines : List ℕ → List (List ℕ)
+lines [] = []
+lines (byte ∷ bytes) = if byte == 10 then [] ∷ lines bytes else onto_first byte (lines bytes)
+
+-- A line stands for no event.
+abbrev pub IsWrong : List ℕ → Type 0
+IsWrong line = (event : Event) → StandsFor line event → ⊥
+
+-- The line of this number, counted from 1, stands for no event, and each line before it stands for one.
+pub record IsFirstWrong (all : List (List ℕ)) (n : ℕ) : Type 0 where
+  pub before : List (List ℕ)
+  pub events : List Event
+  pub line : List ℕ
+  pub behind : List (List ℕ)
+  pub split : all ≡ before ++ line ∷ behind
+  pub number : n ≡ length before + 1
+  pub right : AllZip StandsFor before events
+  pub wrong : IsWrong line
+
+-- Each line stands for an event.
+pub record AreEvents (all : List (List ℕ)) : Type 0 where
+  pub events : List Event
+  pub stand : AllZip StandsFor all events
+
+-- A fact of the number of a bad line.
+abbrev pub IfBadLine : (ℕ → Type 0) → LinesError → Type 0
+IfBadLine P (BadLine number) = P number
+IfBadLine P OutOfMemory = Unit {0}
+
+-- A fact that holds if memory ran out.
+abbrev pub IfShort : Type 0 → LinesError → Type 0
+IfShort P (BadLine number) = Unit {0}
+IfShort P OutOfMemory = P

@@ -1,0 +1,258 @@
+//! Events as text: one line each, read and written.
+ghost use Rattle.std.specs.Prelude.{◌≡◌, ◌++◌, ◌^◌, IfOk, OnOk, OnErr};
+ghost use Rattle.event_text.specs.TextWrites.{Starts};
+ghost use Rattle.event_text.specs.TextEvent.{event_text};
+ghost use Rattle.event_text.specs.TextReads.{words, words_behind, handle_kind_of};
+ghost use Rattle.event_text.specs.TextEventReads.{event_of, feed_of, submit_of, poll_of, exec_of, give_of, numbered_by, turn_of, told_of, told_below};
+
+use crate::request::{put_request, read_request};
+use crate::word::hex::put_bytes;
+use crate::word::number::put_number;
+use crate::word::{
+    first_word, is_word, last_bytes, last_number, next_number, next_word, put, put_byte,
+    put_counted,
+};
+use rent_buf::{BufSpec, OutOfMemory, PartsSpec};
+use ring_core::{Event, HandleKind, Request, Told};
+use std::alloc::Global;
+
+/// The event that a line stands for.
+#[tactic(auto, unfolding(crate::specs::TextEventReads::event_by))]
+pub(crate) fn event_of_line(alloc: Global, line: &[u8]) -> Result<Option<Event>, OutOfMemory>
+    ensures { IfOk result (λ event. event ≡ event_of (words line.now)) }
+{
+    let (word, rest) = first_word(line);
+    if is_word(word, b"turn") {
+        return Ok(turn_event(rest));
+    }
+    if is_word(word, b"exec") {
+        return Ok(exec_event(rest));
+    }
+    if is_word(word, b"poll") {
+        return Ok(poll_event(rest));
+    }
+    if is_word(word, b"feed") {
+        return feed_event(alloc, rest);
+    }
+    if is_word(word, b"submit") {
+        return submit_event(alloc, rest);
+    }
+    if is_word(word, b"give") {
+        return Ok(give_event(rest));
+    }
+    Ok(numbered_event(word, rest))
+}
+
+/// The event of one number, by its first word and what is behind that. It takes no memory.
+#[tactic(auto, unfolding(crate::specs::TextEventReads::numbered_by))]
+pub(crate) fn numbered_event(word: &[u8], rest: &[u8]) -> Option<Event>
+    ensures { result ≡ numbered_by word.now (words_behind rest.now) }
+{
+    if is_word(word, b"drop") {
+        return last_number(rest).map(Event::Drop);
+    }
+    if is_word(word, b"cancel") {
+        return last_number(rest).map(Event::Cancel);
+    }
+    if is_word(word, b"end") {
+        return last_number(rest).map(Event::End);
+    }
+    if is_word(word, b"look") {
+        return last_number(rest).map(Event::Look);
+    }
+    if is_word(word, b"close") {
+        return last_number(rest).map(Event::Close);
+    }
+    None
+}
+
+/// Appends the text of an event, with no newline. If memory runs out, `out` is unchanged. (not in monoio)
+pub fn write_event(event: &Event, out: &mut Vec<u8>) -> Result<(), OutOfMemory>
+    ensures ok { OnOk result (out.new.items ≡ out.old.items ++ event_text event.now) }
+    ensures err { OnErr result (out.new.items ≡ out.old.items) }
+{
+    let before = out.len();
+    match put_event(event, out) {
+        Ok(()) => Ok(()),
+        Err(error) => {
+            out.truncate(before);
+            Err(error)
+        }
+    }
+}
+
+// The events by the words behind their first one.
+
+pub(crate) fn turn_event(rest: &[u8]) -> Option<Event>
+    ensures { result ≡ turn_of (words_behind rest.now) }
+{
+    match next_word(rest) {
+        None => Some(Event::Turn),
+        Some(_) => None,
+    }
+}
+
+pub(crate) fn give_event(rest: &[u8]) -> Option<Event>
+    ensures { result ≡ give_of (words_behind rest.now) }
+{
+    let (word, rest) = next_word(rest)?;
+    let kind = handle_kind(word)?;
+    match next_word(rest) {
+        None => Some(Event::Give(kind)),
+        Some(_) => None,
+    }
+}
+
+fn feed_event(alloc: Global, rest: &[u8]) -> Result<Option<Event>, OutOfMemory>
+    ensures { IfOk result (λ event. event ≡ feed_of (words_behind rest.now)) }
+{
+    let Some((h, rest)) = next_number(rest) else {
+        return Ok(None);
+    };
+    match last_bytes(alloc, rest)? {
+        Some(bytes) => Ok(Some(Event::Feed(h, bytes))),
+        None => Ok(None),
+    }
+}
+
+fn submit_event(alloc: Global, rest: &[u8]) -> Result<Option<Event>, OutOfMemory>
+    ensures { IfOk result (λ event. event ≡ submit_of (words_behind rest.now)) }
+{
+    match read_request(alloc, rest)? {
+        Some(request) => Ok(Some(Event::Submit(request))),
+        None => Ok(None),
+    }
+}
+
+pub(crate) fn poll_event(rest: &[u8]) -> Option<Event>
+    ensures { result ≡ poll_of (words_behind rest.now) }
+{
+    let (n, rest) = next_number(rest)?;
+    let (task, rest) = next_number(rest)?;
+    match next_word(rest) {
+        None => Some(Event::Poll(n, task)),
+        Some(_) => None,
+    }
+}
+
+pub(crate) fn exec_event(rest: &[u8]) -> Option<Event>
+    ensures { result ≡ exec_of (words_behind rest.now) }
+{
+    let (place, rest) = next_number(rest)?;
+    let told = read_told(rest)?;
+    Some(Event::Exec(place as usize, told))
+}
+
+fn read_told(rest: &[u8]) -> Option<Told>
+    ensures { result ≡ told_of (words_behind rest.now) }
+{
+    let (word, rest) = next_word(rest)?;
+    if is_word(word, b"ok") {
+        return read_count(rest);
+    }
+    if is_word(word, b"err") {
+        return read_error(rest);
+    }
+    None
+}
+
+// What is told by a count.
+fn read_count(rest: &[u8]) -> Option<Told>
+    ensures { result ≡ told_below (2 ^ 32) Told.Count (words_behind rest.now) }
+{
+    let k = last_number(rest)?;
+    if k > u32::MAX as u64 {
+        return None;
+    }
+    Some(Told::Count(k as u32))
+}
+
+// What is told by an error.
+fn read_error(rest: &[u8]) -> Option<Told>
+    ensures { result ≡ told_below (2 ^ 16) Told.Fail (words_behind rest.now) }
+{
+    let e = last_number(rest)?;
+    if e > u16::MAX as u64 {
+        return None;
+    }
+    Some(Told::Fail(e as u16))
+}
+
+fn handle_kind(word: &[u8]) -> Option<HandleKind>
+    ensures { result ≡ handle_kind_of word.now }
+{
+    if is_word(word, b"stream") {
+        Some(HandleKind::Stream)
+    } else {
+        None
+    }
+}
+
+// Each of these appends, and if memory runs out `out` begins as it was.
+
+fn put_event(event: &Event, out: &mut Vec<u8>) -> Result<(), OutOfMemory>
+    ensures ok { OnOk result (out.new.items ≡ out.old.items ++ event_text event.now) }
+    ensures err { OnErr result (Starts out.old.items out.new.items) }
+{
+    match event {
+        Event::Give(kind) => put_give(*kind, out),
+        Event::Feed(h, bytes) => put_feed(*h, bytes.as_slice(), out),
+        Event::End(h) => put_counted(b"end ", *h, out),
+        Event::Look(h) => put_counted(b"look ", *h, out),
+        Event::Close(h) => put_counted(b"close ", *h, out),
+        Event::Submit(request) => put_submit(request, out),
+        Event::Poll(n, task) => put_poll(*n, *task, out),
+        Event::Drop(n) => put_counted(b"drop ", *n, out),
+        Event::Cancel(n) => put_counted(b"cancel ", *n, out),
+        Event::Turn => put(b"turn", out),
+        Event::Exec(place, told) => put_exec(*place, *told, out),
+    }
+}
+
+fn put_give(kind: HandleKind, out: &mut Vec<u8>) -> Result<(), OutOfMemory>
+    ensures ok { OnOk result (out.new.items ≡ out.old.items ++ event_text (Event.Give kind)) }
+    ensures err { OnErr result (Starts out.old.items out.new.items) }
+{
+    match kind {
+        HandleKind::Stream => put(b"give stream", out),
+    }
+}
+
+fn put_feed(h: u64, bytes: &[u8], out: &mut Vec<u8>) -> Result<(), OutOfMemory>
+    ensures ok { OnOk result (out.new.items ≡ out.old.items ++ event_text (Event.Feed h bytes.now)) }
+    ensures err { OnErr result (Starts out.old.items out.new.items) }
+{
+    put(b"feed ", out)?;
+    put_number(h, out)?;
+    put_byte(b' ', out)?;
+    put_bytes(bytes, out)
+}
+
+fn put_submit(request: &Request<BufSpec, PartsSpec>, out: &mut Vec<u8>) -> Result<(), OutOfMemory>
+    ensures ok { OnOk result (out.new.items ≡ out.old.items ++ event_text (Event.Submit request.now)) }
+    ensures err { OnErr result (Starts out.old.items out.new.items) }
+{
+    put(b"submit ", out)?;
+    put_request(request, out)
+}
+
+fn put_poll(n: u64, task: u64, out: &mut Vec<u8>) -> Result<(), OutOfMemory>
+    ensures ok { OnOk result (out.new.items ≡ out.old.items ++ event_text (Event.Poll n task)) }
+    ensures err { OnErr result (Starts out.old.items out.new.items) }
+{
+    put(b"poll ", out)?;
+    put_number(n, out)?;
+    put_byte(b' ', out)?;
+    put_number(task, out)
+}
+
+fn put_exec(place: usize, told: Told, out: &mut Vec<u8>) -> Result<(), OutOfMemory>
+    ensures ok { OnOk result (out.new.items ≡ out.old.items ++ event_text (Event.Exec place told)) }
+    ensures err { OnErr result (Starts out.old.items out.new.items) }
+{
+    put_counted(b"exec ", place as u64, out)?;
+    match told {
+        Told::Count(k) => put_counted(b" ok ", k as u64, out),
+        Told::Fail(e) => put_counted(b" err ", e as u64, out),
+    }
+}

@@ -1,0 +1,19 @@
+//! The texts of events and of replies: words with one space between them, one text for each value.
+#![tactic(auto)]
+
+mod buffer;
+mod event;
+mod reply;
+mod request;
+mod text;
+mod valid;
+mod word;
+
+pub use event::write_event;
+pub use reply::write_reply;
+pub use text::{LinesError, read_events, texts_differ};
+pub use word::hex::{count_bytes, read_bytes};
+pub use word::number::{put_number, read_number};
+
+#[cfg(test)]
+mod tests;

@@ -1,0 +1,42 @@
+//! Numbers, in decimal digits.
+ghost use Rattle.std.specs.Prelude.{◌≡◌, ◌++◌, decimal, OnOk, OnErr};
+ghost use Rattle.event_text.specs.TextWrites.{Starts};
+ghost use Rattle.event_text.specs.TextReads.{number_of};
+
+use crate::word::put;
+use itoa::Buffer;
+use rent_buf::OutOfMemory;
+
+/// The number that a word writes: its decimal digits, with no sign and no leading zero, at most 2^64 - 1; `None` if it writes no
+/// such number. (not in monoio)
+pub fn read_number(word: &[u8]) -> Option<u64>
+    ensures { result ≡ number_of word.now }
+{
+    if word.is_empty() {
+        return None;
+    }
+    if word.len() > 1 && word[0] == b'0' {
+        return None;
+    }
+    let mut number: u64 = 0;
+    for byte in word {
+        if *byte < b'0' || b'9' < *byte {
+            return None;
+        }
+        let digit = (*byte - b'0') as u64;
+        if (u64::MAX - digit) / 10 < number {
+            return None;
+        }
+        number = number * 10 + digit;
+    }
+    Some(number)
+}
+
+/// Appends a number's decimal digits. If memory runs out, `out` begins as it was. (not in monoio)
+pub fn put_number(number: u64, out: &mut Vec<u8>) -> Result<(), OutOfMemory>
+    ensures ok { OnOk result (out.new.items ≡ out.old.items ++ decimal number) }
+    ensures err { OnErr result (Starts out.old.items out.new.items) }
+{
+    let mut buffer = Buffer::new();
+    put(buffer.format(number).as_bytes(), out)
+}

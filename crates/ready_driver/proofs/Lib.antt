@@ -1,0 +1,4 @@
+pub mod Bits
+pub mod Waiting
+pub mod Places
+pub mod Memory

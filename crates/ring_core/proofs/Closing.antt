@@ -1,0 +1,151 @@
+-- What each change of a ledger makes of its closes, by how many there are of a handle; and that its handles stay known.
+use Rattle.std.proofs.Common.{◌≡◌, inl, inr, ℕ, ◌+◌, ◌<◌, Bool, true, false, List, [], ◌∷◌, length}
+use Rattle.std.proofs.Common.{Some, slice_get, refl, sym, ◌∙◌, ap, arith}
+use Rattle.std.specs.Prelude.{if◌then◌else◌, ◌==◌}
+use Rattle.std.proofs.lemmas.List.{length-append}
+use Rattle.ring_core.specs.declared.world.HandleState.{HandleState}
+use Rattle.ring_core.specs.Lists.{amended, has_number}
+use Rattle.ring_core.specs.Request.{named}
+use Rattle.ring_core.specs.Ledger.{Ledger, Operation, Queued, Req, Cancel, Item, Op}
+use Rattle.ring_core.specs.Queue.{with_op, take_one, take_each, take_all, make_room, push, push_each}
+use Rattle.ring_core.specs.Turn.{complete_at}
+use Rattle.ring_core.specs.Step.{new_owner, give_step, with_handle, as_user, with_user, with_new_op}
+use Rattle.ring_core.specs.Closes.{closes_queued, closes_listed, close_count, AreKnown}
+use Rattle.ring_core.proofs.Amended.{length-amended, changed-cases, joined-cases, there-before}
+use Rattle.ring_core.proofs.Taken.{queue-take_each, done-take_each}
+use Rattle.ring_core.proofs.Occurring.{closes_queued-append, closes_listed-append, closes_listed-remove}
+use Rattle.ring_core.proofs.Staying.{Stays, stays-at}
+
+-- Closes that are taken fly.
+pub closes-flown : (L : Ledger) (entries : List Queued) (h : ℕ) →
+    closes_listed h (take_each L entries).flying ≡ closes_listed h L.flying + closes_queued h entries
+closes-flown L [] h = omega arith
+closes-flown L (Req n ∷ entries) h =
+    let r = closes-flown (take_one L (Req n)) entries h in let a = closes_listed-append h L.flying (Op n ∷ []) in omega arith
+closes-flown L (Cancel n ∷ entries) h = closes-flown (take_one L (Cancel n)) entries h
+closes-flown L (Queued.Close k ∷ entries) h =
+    let r = closes-flown (take_one L (Queued.Close k)) entries h in
+    let a = closes_listed-append h L.flying (Item.Close k ∷ []) in
+    omega arith
+
+-- Taking leaves how many closes there are.
+pub count-take_all : (L : Ledger) (h : ℕ) → close_count (take_all L) h ≡ close_count L h
+count-take_all L h =
+    let E : Ledger = record L { queue = [] } in
+    let q : closes_queued h (take_all L).queue ≡ 0 = ap (closes_queued h) (queue-take_each E L.queue) in
+    let f = closes-flown E L.queue h in
+    let d : closes_listed h (take_all L).done ≡ closes_listed h L.done = ap (closes_listed h) (done-take_each E L.queue) in
+    omega (arith, q, f, d)
+
+-- Room that is made, or not.
+count-room : (b : Bool) (L : Ledger) (h : ℕ) → close_count (if b then take_all L else L) h ≡ close_count L h
+count-room true L h = count-take_all L h
+count-room false L h = refl
+
+-- Making room leaves how many closes there are.
+pub count-make_room : (L : Ledger) (h : ℕ) → close_count (make_room L) h ≡ close_count L h
+count-make_room L h = count-room (length L.queue == L.capacity) L h
+
+-- A push adds the close that it pushes.
+pub count-push : (L : Ledger) (entry : Queued) (h : ℕ) → close_count (push L entry) h ≡ close_count L h + closes_queued h (entry ∷ [])
+count-push L entry h =
+    let M : Ledger = make_room L in
+    let r = count-make_room L h in
+    let a = closes_queued-append h M.queue (entry ∷ []) in
+    omega (arith, r, a)
+
+-- Pushes add the closes that they push.
+pub count-push_each : (L : Ledger) (entries : List Queued) (h : ℕ) →
+    close_count (push_each L entries) h ≡ close_count L h + closes_queued h entries
+count-push_each L [] h = omega arith
+count-push_each L (entry ∷ entries) h =
+    let r = count-push_each (push L entry) entries h in
+    let p = count-push L entry h in
+    let a = closes_queued-append h (entry ∷ []) entries in
+    omega (arith, r, p, a)
+
+-- What is completed is in flight no more, and done.
+pub count-complete_at : (L : Ledger) (place : ℕ) (item : Item) (h : ℕ) → slice_get L.flying place ≡ Some item →
+    close_count (complete_at L place item) h ≡ close_count L h
+count-complete_at L place item h there =
+    let r = closes_listed-remove h L.flying place item there in
+    let a = closes_listed-append h L.done (item ∷ []) in
+    omega (arith, r, a)
+
+-- What is named in a turn is done no more.
+pub count-first : (L : Ledger) (item : Item) (items : List Item) (h : ℕ) → L.done ≡ item ∷ items →
+    close_count (record L { done = items }) h + closes_listed h (item ∷ []) ≡ close_count L h
+count-first L item items h first =
+    let d = ap (closes_listed h) first in
+    let a = closes_listed-append h (item ∷ []) items in
+    omega (arith, d, a)
+
+-- Handles that are known stay known, where owners and handles stay as many, and what stays of each operation stays.
+pub known-stays : {L M : Ledger} → Stays L M → AreKnown L → AreKnown M
+known-stays {L} {M} s k = record {
+  known = λ n h p there names. (
+      let o = stays-at s n p there in
+      let below = k.known n h o.0 o.1 (ap (λ z. has_number h (named z.request)) (sym o.2) ∙ names) in
+      let e = ap length s.owners in
+      omega (arith, below, e));
+  together = ap length s.owners ∙ k.together ∙ sym (ap length s.world);
+}
+
+-- A change of lists alone.
+pub known-lists : (L : Ledger) (queue : List Queued) (flying done : List Item) → AreKnown L →
+    AreKnown (record L { queue = queue; flying = flying; done = done })
+known-lists L queue flying done k = record { known = k.known; together = k.together }
+
+-- Other handles, as many.
+pub known-world : (L : Ledger) (world : List HandleState) → length world ≡ length L.world → AreKnown L →
+    AreKnown (record L { world = world })
+known-world L world count k = record { known = k.known; together = k.together ∙ sym count }
+
+-- One handle changed.
+pub known-with_handle : (L : Ledger) (h : ℕ) (change : HandleState → HandleState) → AreKnown L → AreKnown (with_handle L h change)
+known-with_handle L h change k = known-world L (amended L.world h change) (length-amended change L.world h) k
+
+-- A new handle.
+pub known-give : (L : Ledger) (handle : HandleState) → AreKnown L → AreKnown (give_step L handle)
+known-give L handle k =
+    let o = length-append L.owners (new_owner ∷ []) in
+    let w = length-append L.world (handle ∷ []) in
+    let t = k.together in
+    record {
+      known = λ n h p there names. (let b = k.known n h p there names in omega (arith, b, o));
+      together = omega (arith, o, w, t);
+    }
+
+-- A handle that its user holds, or doesn't.
+pub known-with_user : (L : Ledger) (h : ℕ) (is_user : Bool) → AreKnown L → AreKnown (with_user L h is_user)
+known-with_user L h is_user k =
+    let e = length-amended (as_user is_user) L.owners h in
+    let t = k.together in
+    record {
+      known = λ n j p there names. (let b = k.known n j p there names in omega (arith, b, e));
+      together = omega (arith, e, t);
+    }
+
+-- A new operation that names known handles.
+pub known-new_op : (L : Ledger) (o : Operation) →
+    ((h : ℕ) → has_number h (named o.request) ≡ true → h < length L.owners) → AreKnown L → AreKnown (with_new_op L o)
+known-new_op L o names k = record {
+  known = λ n h p there is. elim (joined-cases L.ops o n) [
+    | inl e ↦ names h (let q : o ≡ p = (let w = sym e.2 ∙ there in cc) in ap (λ z. has_number h (named z.request)) q ∙ is)
+    | inr e ↦ k.known n h p (sym e.1 ∙ there) is
+  ];
+  together = k.together;
+}
+
+-- An operation changed that keeps its request.
+pub known-op : (L : Ledger) (n : ℕ) (change : Operation → Operation) → ((o : Operation) → (change o).request ≡ o.request) →
+    AreKnown L → AreKnown (with_op L n change)
+known-op L n change keeps k = record {
+  known = λ m h p there is. elim (changed-cases change L.ops n m) [
+    | inl e ↦ (
+        let b = there-before change (slice_get L.ops n) p (sym e.1 ∙ there) in
+        k.known n h b.0 b.1 (ap (λ r. has_number h (named r)) (sym (ap (λ z. z.request) b.2 ∙ keeps b.0)) ∙ is))
+    | inr e ↦ k.known m h p (sym e.1 ∙ there) is
+  ];
+  together = k.together;
+}

@@ -1,0 +1,40 @@
+-- How often the close of a handle is in the lists of a ledger, and what holds of every ledger that events led to.
+use Rattle.std.specs.Prelude.{ℕ, ◌≡◌, ◌≤◌, ◌<◌, ◌+◌, nat_lt, Bool, true, ◌==◌, List, [], ◌∷◌, length, Some, slice_get}
+use Rattle.ring_core.specs.Lists.{has_number}
+use Rattle.ring_core.specs.Ranks.{one_if}
+use Rattle.ring_core.specs.Request.{named}
+use Rattle.ring_core.specs.Ledger.{Ledger, Operation, Queued, Req, Cancel, Item, Op}
+use Rattle.ring_core.specs.Queue.{is_unheld}
+
+-- How often the close of a handle is among entries.
+abbrev pub closes_queued : ℕ → List Queued → ℕ
+closes_queued h [] = 0
+closes_queued h (Req n ∷ entries) = closes_queued h entries
+closes_queued h (Cancel n ∷ entries) = closes_queued h entries
+closes_queued h (Queued.Close k ∷ entries) = one_if (h == k) + closes_queued h entries
+
+-- How often the close of a handle is among items.
+abbrev pub closes_listed : ℕ → List Item → ℕ
+closes_listed h [] = 0
+closes_listed h (Op n ∷ items) = closes_listed h items
+closes_listed h (Item.Close k ∷ items) = one_if (h == k) + closes_listed h items
+
+-- How often the close of a handle is in the queue, in flight and done, together.
+abbrev pub close_count : Ledger → ℕ → ℕ
+close_count L h = closes_queued h L.queue + (closes_listed h L.flying + closes_listed h L.done)
+
+-- A handle is closing: its close is in the queue, in flight, or done.
+abbrev pub is_closing : Ledger → ℕ → Bool
+is_closing L h = nat_lt 0 (close_count L h)
+
+-- Each handle that an operation names is there, and each handle has its owner.
+pub record AreKnown (L : Ledger) : Type 0 where
+  pub known : (n h : ℕ) (operation : Operation) → slice_get L.ops n ≡ Some operation → has_number h (named operation.request) ≡ true →
+      h < length L.owners
+  pub together : length L.owners ≡ length L.world
+
+-- The close of each handle is in the lists at most once; and only where the handle is there, and nobody holds it.
+pub record ClosesOnce (L : Ledger) : Type 0 where
+  pub once : (h : ℕ) → close_count L h ≤ 1
+  pub unheld : (h : ℕ) → 1 ≤ close_count L h → is_unheld L h ≡ true
+  pub there : (h : ℕ) → 1 ≤ close_count L h → h < length L.owners

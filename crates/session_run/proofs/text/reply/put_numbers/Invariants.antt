@@ -1,7 +1,0 @@
-use Rattle.std.proofs.Common.{◌≡◌, ◌++◌, take}
-use Rattle.session_run.proofs.TextWrites.{behind_commas}
-use Rattle.session_run.proofs.text.reply.put_numbers.Given as goal
-
--- The numbers so far were appended, each behind a comma.
-abbrev pub invariant-loop-number : goal.invariant-loop-number
-invariant-loop-number l = l.out.items ≡ l.initial.out.items ++ behind_commas (take l.number-index l.number-items)

@@ -1,8 +1,0 @@
-use Rattle.session_run.proofs.TextEvents.{one_text, stands_once}
-use Rattle.session_run.proofs.text.texts_differ.Goals as goal
-
-pub returns-clause-events : goal.returns-clause-events
-returns-clause-events c = one_text
-
-pub returns-clause-lines : goal.returns-clause-lines
-returns-clause-lines c = stands_once

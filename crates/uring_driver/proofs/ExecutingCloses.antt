@@ -1,0 +1,73 @@
+-- What the execution of a handle's close does to a ring and slots that mean a ledger: nothing moves.
+use Rattle.std.proofs.Common.{◌≡◌, ◌<◌, ◌^◌, ℕ, true, false, List, Some, refl, sym, ◌∙◌, ap, subst}
+use Rattle.std.specs.Prelude.{slice_get}
+use Rattle.std.specs.Ordering.{nat_cmp}
+use Rattle.std.specs.FinMap.{FinMap}
+use Rattle.rent_buf.specs.Buffer.{Buffer}
+use Rattle.ring_core.specs.Ring.{RingView}
+use Rattle.ring_core.specs.Entry.{target, close_entry}
+use Rattle.ring_core.specs.declared.entry.Target.TheVariants.{Handle}
+use Rattle.ring_core.proofs.Targets.{target-close}
+use Rattle.ring_core.specs.Effect.{close_effect}
+use Rattle.ring_core.specs.MemRing.{IsFinished, body_effect, is_allowed_body}
+use Rattle.ring_core.specs.Outcome.{may_close}
+use Rattle.ring_core.specs.Payloads.{StoresIf, body_comes}
+use Rattle.ring_core.specs.declared.entry.Body.TheVariants.{Close as Closes}
+use Rattle.ring_core.specs.declared.entry.Flight.{Flight}
+use Rattle.ring_core.specs.declared.entry.Completion.{Completion}
+use Rattle.ring_core.specs.declared.request.Told.{Told}
+use Rattle.ring_core.specs.declared.request.Told.TheVariants.{Count, Fail}
+use Rattle.ring_core.specs.declared.world.HandleState.{HandleState}
+use Rattle.ring_core.specs.Ledger.{Ledger, Item}
+use Rattle.ring_core.specs.Turn.{complete_at}
+use Rattle.driver_core.specs.declared.slot.Slot.{Slot}
+use Rattle.uring_driver.specs.Lists.{FlightFor, DoneFor, names_slot, done_items_in}
+use Rattle.uring_driver.proofs.Means.{Means}
+use Rattle.uring_driver.proofs.Finishing.{lists-finished}
+
+-- An executed close leaves what stands on the handles.
+close-world : (world : List HandleState) (told : Told) → (close_effect world told).world ≡ world
+close-world world (Count k) = refl
+close-world world (Fail e) = refl
+
+-- A close in flight at a place, in a ring and slots that mean a ledger.
+module _ {B : Type 0} (buffer : B → Buffer) (v : RingView) (slots : FinMap nat_cmp (Slot B)) (L : Ledger) (place : ℕ) (flight : Flight)
+    (k : ℕ) (old : Means buffer v slots L) (there : slice_get v.flying place ≡ Some flight) (closes : flight.entry.body ≡ Closes k) where
+  here : (flight.entry ≡ close_entry k) × (k < 2 ^ 62) × (flight.marked ≡ false)
+  here = subst (λ b. FlightFor buffer slots L.ops flight b) closes (old.in_lists.in_flight place flight there)
+
+  -- Its word names the handle.
+  pub close-target : target flight.entry.word ≡ Handle k
+  close-target = ap (λ e. target e.word) here.0 ∙ target-close k here.1
+
+-- Its outcome is allowed exactly where it is to a close.
+pub close-allows : (world : List HandleState) (flight : Flight) (k : ℕ) (told : Told) → flight.entry.body ≡ Closes k →
+    is_allowed_body world flight.marked flight.entry.body told ≡ may_close told
+close-allows world flight k told closes = ap (λ b. is_allowed_body world flight.marked b told) closes
+
+module _ {B : Type 0} (buffer : B → Buffer) (v : RingView) (slots : FinMap nat_cmp (Slot B)) (L : Ledger) (place : ℕ) (told : Told)
+    (sent : List ℕ) (v' : RingView) (got : List ℕ) (c : Completion) (k : ℕ) (old : Means buffer v slots L)
+    (fin : IsFinished v place told sent v' got c) (closes : fin.flight.entry.body ≡ Closes k) where
+  -- Its completion's word names the handle.
+  pub close-named : target c.word ≡ Handle k
+  close-named = ap (λ x. target x.word) fin.answer ∙ close-target buffer v slots L place fin.flight k old fin.there closes
+
+  not-slot : names_slot (target c.word) ≡ true → ⊥
+  not-slot q = (let z : false ≡ true = sym (ap names_slot close-named) ∙ q in cc)
+
+  pub means-close-executed : Means buffer v' slots (complete_at L place (Item.Close k))
+  means-close-executed = record {
+    capacity = ap (λ x. x.capacity) fin.ring ∙ old.capacity;
+    world = ap (λ x. x.world) fin.ring ∙ ap (λ b. (body_effect v.world b sent told).world) closes ∙ close-world v.world told ∙ old.world;
+    in_slots = old.in_slots;
+    in_lists = lists-finished buffer slots slots v v' place told sent got c fin L L.ops L.world (Item.Close k) old.in_lists
+        (ap (done_items_in c) close-named) (λ x a. a) (λ i x h q a. a) (λ x a. a)
+        (subst (λ t. DoneFor slots L.ops c t) (sym close-named) tt) (λ i x h p q. absurd (not-slot q));
+  }
+
+-- An executed close changes no payload.
+pub close-stores : {P : Type 0} (stores : P → ℕ → List ℕ → P → Type 0) (flight : Flight) (told : Told) (k word : ℕ) (got : List ℕ)
+    (before after : P) → flight.entry.body ≡ Closes k → StoresIf stores (body_comes flight.entry.body told) before word got after →
+    after ≡ before
+close-stores stores flight told k word got before after closes stored =
+    subst (λ b. StoresIf stores (body_comes b told) before word got after) closes stored

@@ -1,0 +1,168 @@
+-- Who holds the handles of a driver, and which closes aren't reaped, after steps that change neither, and after a submission.
+use Rattle.std.proofs.Common.{◌≡◌, ℕ, true, false, not, ◌||◌, List, [], ◌∷◌, Some, refl, sym, ◌∙◌, ap}
+use Rattle.std.proofs.Common.{subst, arith}
+use Rattle.std.specs.Prelude.{slice_get, nat_lt, is_some, unwrap_or}
+use Rattle.std.specs.Ordering.{nat_cmp}
+use Rattle.std.specs.FinMap.{FinMap, get, get-empty, empty as map-empty}
+use Rattle.rent_buf.specs.Buffer.{Buffer}
+use Rattle.rent_buf.specs.Parts.{Parts}
+use Rattle.handle_core.specs.declared.table.Holders.{Holders}
+use Rattle.handle_core.specs.Table.{Table, holders_at, nobody}
+use Rattle.ring_core.specs.declared.world.HandleState.{HandleState}
+use Rattle.ring_core.specs.declared.entry.Body.{Body}
+use Rattle.ring_core.specs.declared.entry.Body.TheVariants.{Call as Calls, Cancel as Cancels, Close as Closes}
+use Rattle.ring_core.specs.declared.entry.Entry.{Entry}
+use Rattle.ring_core.specs.Ring.{RingView}
+use Rattle.ring_core.specs.declared.request.Request.{Request}
+use Rattle.ring_core.specs.declared.request.Told.{Told}
+use Rattle.ring_core.specs.Request.{named}
+use Rattle.ring_core.specs.Effect.{Effect}
+use Rattle.ring_core.specs.Ledger.{Ledger, Operation, Queued, Req, Item, Op, InQueue, is_kept, is_live, user_holds}
+use Rattle.ring_core.specs.Ledger.{new_operation, empty}
+use Rattle.ring_core.specs.Queue.{make_room, append, push, take_all}
+use Rattle.ring_core.specs.Refusal.{lacks_handle}
+use Rattle.ring_core.specs.Turn.{with_effect, with_result, complete_at}
+use Rattle.ring_core.specs.Step.{with_new_op}
+use Rattle.ring_core.specs.Closes.{closes_queued, close_count}
+use Rattle.ring_core.proofs.Numbers.{and-left, and-right}
+use Rattle.ring_core.proofs.Occurring.{closes_queued-append}
+use Rattle.ring_core.proofs.Holders.{SameHolders, AreLive, holders-op, holders-push, holders-take_all, holders-make_room}
+use Rattle.ring_core.proofs.Closing.{count-push, count-take_all, count-make_room, count-complete_at}
+use Rattle.ring_core.proofs.Leaving.{named-ascends}
+use Rattle.driver_core.specs.Holds.{with_ops}
+use Rattle.driver_core.specs.declared.slot.Slot.{Slot}
+use Rattle.driver_core.proofs.Lists.{some, map-get}
+use Rattle.driver_core.proofs.Counted.{counted-none, holders-stand-same, holders-stand-joined}
+use Rattle.uring_driver.specs.declared.uring.IoUringDriver.{IoUringDriver}
+use Rattle.uring_driver.specs.Holding.{Holding, IsSameHolding, HandlesStand}
+use Rattle.uring_driver.specs.State.{AreHolding}
+use Rattle.uring_driver.specs.Uring.{holds_handle, holds_all}
+use Rattle.uring_driver.specs.Lists.{IsAt, is_call, queued_in, queued_of}
+use Rattle.uring_driver.proofs.Means.{Means}
+use Rattle.uring_driver.proofs.Kept.{call-queued}
+
+-- The user lacks none of the handles that it holds.
+pub lacks-none : {R B : Type 0} (d : IoUringDriver R B) (L : Ledger) (handles : List ℕ) → ((h : ℕ) → holds_handle d h ≡ user_holds L h) →
+    holds_all d handles ≡ true → lacks_handle L handles ≡ false
+lacks-none d L [] all h = refl
+lacks-none d L (x ∷ xs) all h =
+    ap (λ b. not b || lacks_handle L xs) (sym (all x) ∙ and-left (holds_handle d x) (holds_all d xs) h)
+    ∙ lacks-none d L xs all (and-right (holds_handle d x) (holds_all d xs) h)
+
+-- An entry that means a request is that of a call, and has its number.
+req-call : (e : Entry) (b : Body) (n : ℕ) → queued_in e b ≡ Req n → (e.serial ≡ n) × (is_call b ≡ true)
+req-call e (Calls call) n h = (let q : Req e.serial ≡ Req n = h in (cc, refl))
+req-call e (Cancels key) n h = (let f : ⊥ = cc in absurd f)
+req-call e (Closes k) n h = (let f : ⊥ = cc in absurd f)
+
+module _ {B : Type 0} (buffer : B → Buffer) (v : RingView) (slots : FinMap nat_cmp (Slot B)) (L : Ledger)
+    (means : Means buffer v slots L) where
+  -- A request in the queue is that of an operation that is queued.
+  pub req-queued : (i n : ℕ) → slice_get L.queue i ≡ Some (Req n) → IsAt L.ops n InQueue
+  req-queued i n h =
+      let g = map-get queued_of v.queue i (Req n) (ap (λ xs. slice_get xs i) (sym means.in_lists.queue) ∙ h) in
+      let r = req-call g.0 g.0.body n (sym g.2) in
+      subst (λ x. IsAt L.ops x InQueue) r.0
+      (call-queued buffer slots L.ops g.0 g.0.body (means.in_lists.in_queue i g.0 g.1) r.1).1
+
+  -- So it is that of an operation that isn't gone.
+  pub means-live : AreLive L.ops L.queue
+  means-live = record {
+    live = λ i n o h there.
+        let a = req-queued i n h in
+        ap is_kept (ap (λ x. x.place) (some o a.operation (slice_get L.ops n) there a.there) ∙ a.stays);
+  }
+
+-- Other memory for more handles changes nothing.
+pub handles-room : (old new : Holding) (L : Ledger) → IsSameHolding old new → HandlesStand old L → HandlesStand new L
+handles-room old new L same stand = record {
+  holders = record {
+    users = λ h. ap (λ m. nat_lt 0 (holders_at (record { holders = m; spare = 0 }) h).user) same.table ∙ stand.holders.users h;
+    operations = λ h. ap (λ m. (holders_at (record { holders = m; spare = 0 }) h).operations) same.table ∙ stand.holders.operations h;
+  };
+  closing = λ h. ap (λ m. is_some (get m h)) same.closing ∙ stand.closing h;
+}
+
+-- Nothing is held.
+pub handles-none : (holding : Holding) (capacity : ℕ) → holding.table.holders ≡ map-empty → holding.closing.holders ≡ map-empty →
+    HandlesStand holding (empty capacity)
+handles-none holding capacity none closed =
+    let nothing = get-empty {X = Holders} nat_cmp in
+    record {
+      holders = record {
+        users = λ h. ap (λ m. nat_lt 0 (unwrap_or (get m h) nobody).user) none ∙ ap (λ o. nat_lt 0 (unwrap_or o nobody).user) (nothing h);
+        operations = λ h. ap (λ m. (unwrap_or (get m h) nobody).operations) none ∙ ap (λ o. (unwrap_or o nobody).operations) (nothing h);
+      };
+      closing = λ h. ap (λ m. is_some (get m h)) closed ∙ ap is_some (nothing h);
+    }
+
+-- No operation holds a handle.
+pub holding-none : {B : Type 0} (table : Table) (slots : FinMap nat_cmp (Slot B)) (given : ℕ) → table.holders ≡ map-empty →
+    slots ≡ map-empty → AreHolding table slots given
+holding-none table slots given none fresh =
+    let nobody-there : (h : ℕ) → (holders_at table h).operations ≡ 0 = λ h.
+    ap (λ m. (unwrap_or (get m h) nobody).operations) none
+    ∙ ap (λ o. (unwrap_or o nobody).operations) (get-empty {X = Holders} nat_cmp h) in
+    record {
+      counted = counted-none table slots nobody-there fresh;
+      few = λ h. (let z = nobody-there h in omega (arith, z));
+    }
+
+module _ (holding : Holding) (L : Ledger) (old : HandlesStand holding L) where
+  -- Each handle has the same holders, and as many closes.
+  pub handles-same : (M : Ledger) → SameHolders L M → ((h : ℕ) → close_count M h ≡ close_count L h) → HandlesStand holding M
+  handles-same M same count = record {
+    holders = holders-stand-same old.holders same;
+    closing = λ h. old.closing h ∙ ap (nat_lt 0) (sym (count h));
+  }
+
+  -- What stands on the handles changes.
+  pub handles-world : (world : List HandleState) → HandlesStand holding (record L { world = world })
+  handles-world world = handles-same (record L { world = world }) (record { users = λ h. refl; ops = λ h. refl }) (λ h. refl)
+
+  -- The queue is taken.
+  pub handles-take_all : AreLive L.ops L.queue → HandlesStand holding (take_all L)
+  handles-take_all live = handles-same (take_all L) (holders-take_all L live) (count-take_all L)
+
+  -- What isn't a close is pushed.
+  pub handles-push : (entry : Queued) → ((h : ℕ) → closes_queued h (entry ∷ []) ≡ 0) → AreLive L.ops L.queue →
+      HandlesStand holding (push L entry)
+  handles-push entry none live = handles-same (push L entry) (holders-push L entry live)
+      (λ h. (let a = count-push L entry h in let b = none h in omega (arith, a, b)))
+
+  -- An operation in flight is executed.
+  pub handles-executed : (place n : ℕ) (told : Told) (result : Effect) → slice_get L.flying place ≡ Some (Op n) →
+      ((o : Operation) → slice_get L.ops n ≡ Some o → is_live o ≡ true) →
+      HandlesStand holding (with_effect (complete_at L place (Op n)) n told result)
+  handles-executed place n told result there live =
+      let same = holders-op L n (with_result told result) (λ o at. record { request = refl; live = sym (live o at) }) in
+      handles-same (with_effect (complete_at L place (Op n)) n told result) (record { users = same.users; ops = same.ops })
+      (λ h. count-complete_at L place (Op n) h there)
+
+  -- A close in flight is executed.
+  pub handles-closed : (place k : ℕ) → slice_get L.flying place ≡ Some (Item.Close k) →
+      HandlesStand holding (complete_at L place (Item.Close k))
+  handles-closed place k there = handles-same (complete_at L place (Item.Close k)) (record { users = λ h. refl; ops = λ h. refl })
+      (λ h. count-complete_at L place (Item.Close k) h there)
+
+-- A new operation holds the handles that it names: room is made, and its request is queued.
+module _ (holding : Holding) (L : Ledger) (request : Request Buffer Parts) (n : ℕ) (live : AreLive L.ops L.queue) where
+  abbrev joined : Ledger
+  joined = append (with_new_op (make_room L) (new_operation request)) (Req n)
+
+  joined-count : (h : ℕ) → close_count joined h ≡ close_count L h
+  joined-count h =
+      let q = closes_queued-append h (make_room L).queue (Req n ∷ []) in
+      let m = count-make_room L h in
+      omega (arith, q, m)
+
+  pub handles-joined : HandlesStand holding L →
+      HandlesStand (record holding { table = with_ops holding.table (named request) })
+      (append (with_new_op (make_room L) (new_operation request)) (Req n))
+  handles-joined old = record {
+    holders = holders-stand-same
+        (holders-stand-joined holding.table (make_room L) (new_operation request)
+        (holders-stand-same old.holders (holders-make_room L live)) refl (named-ascends request))
+        (record { users = λ h. refl; ops = λ h. refl });
+    closing = λ h. old.closing h ∙ ap (nat_lt 0) (sym (joined-count h));
+  }

@@ -1,0 +1,221 @@
+-- Holders and closes stand for those of a ledger, once an operation or a user left.
+use Rattle.std.proofs.Common.{◌≡◌, ◌≢◌, ◌∙◌, inl, inr, ℕ, zero, suc, ◌+◌, ◌-◌, ◌<◌, ◌≤◌, Bool, true, false, not, ◌==◌, List, [], ◌∷◌, length, map, Some, refl, sym, ap, subst, arith, IsTrue, if◌then◌else◌, ◌^◌}
+use Rattle.std.specs.Prelude.{◌||◌, ◌&&◌, is_some, nat_lt, slice_get}
+use Rattle.std.proofs.lemmas.Bool.Decides.{nat_tests}
+use Rattle.std.specs.Ordering.{nat_cmp}
+use Rattle.std.specs.FinMap.{FinMap, get, insert}
+use Rattle.handle_core.specs.Table.{Table, with_holders, by_operation}
+use Rattle.rent_buf.specs.Buffer.{Buffer}
+use Rattle.ring_core.specs.Lists.{has_number, numbers_where}
+use Rattle.ring_core.specs.Ranks.{one_if}
+use Rattle.ring_core.specs.Request.{named, listed}
+use Rattle.ring_core.specs.Entry.{close_entry}
+use Rattle.ring_core.specs.Ring.{RingView}
+use Rattle.ring_core.specs.Ledger.{Ledger, Operation, Queued, Req, Cancel, Place, InQueue, InFlight, InDone, Reaped, Gone, is_live, is_owned}
+use Rattle.ring_core.specs.Queue.{at_place, canceled_at, with_cancel, take_one, take_each, take_all, push, push_each, with_gone, leave, became_unheld}
+use Rattle.ring_core.specs.Closes.{close_count, closes_queued, AreKnown}
+use Rattle.ring_core.proofs.Numbers.{same-or-not}
+use Rattle.ring_core.proofs.Closing.{count-push_each}
+use Rattle.ring_core.proofs.Holders.{AreLive, holders-push_closes, live-take_one, live-push_close}
+use Rattle.ring_core.proofs.Lawful.{Lawful, listed-live, listed-unasked}
+use Rattle.ring_core.proofs.Taking.{in_queue}
+use Rattle.ring_core.proofs.Turning.{live-gone}
+use Rattle.ring_core.specs.declared.entry.Entry.{Entry}
+use Rattle.ring_core.proofs.Where.{where-kept}
+use Rattle.ring_core.proofs.Staying.{stays-length, stays-push_each}
+use Rattle.ring_core.proofs.Leaving.{Ascends, named-ascends}
+use Rattle.ring_core.specs.declared.request.Names.{Names}
+use Rattle.ring_core.specs.declared.request.Names.TheVariants.{One as OneName}
+use Rattle.driver_core.specs.Holds.{is_nobody, left_holders, front_if, unheld_by}
+use Rattle.driver_core.proofs.Counted.{holders-stand-same, holders-stand-left, unheld-became}
+use Rattle.driver_core.specs.declared.slot.Slot.{Slot}
+use Rattle.driver_core.proofs.Maps.{put-same, put-other}
+use Rattle.uring_driver.specs.Pending.{Pending}
+use Rattle.uring_driver.specs.Submissions.{pending_ring, PostsEach}
+use Rattle.uring_driver.proofs.Means.{Means}
+use Rattle.uring_driver.proofs.Posting.{FitsQueue, posts-closes}
+use Rattle.uring_driver.specs.Holding.{Holding, with_closes, ops_left, HandlesStand}
+
+-- One of three tests, in another order.
+or-turn : (a b c : Bool) → ((a || b) || c) ≡ (a || (b || c))
+or-turn true b c = refl
+or-turn false b c = refl
+
+-- A close that joined what is closing is there, and all else stays.
+closing-one : (closing : Table) (h k spare : ℕ) →
+    is_some (get (record (with_holders closing h by_operation) { spare = spare }).holders k) ≡ (is_some (get closing.holders k) || (k == h))
+closing-one closing h k spare = elim (same-or-not k h) [
+  | inl e ↦ (
+      ap (λ x. is_some (get (insert closing.holders h by_operation) x)) e ∙ ap is_some (put-same closing.holders h by_operation)
+      ∙ sym (or-right (is_some (get closing.holders k)) (k == h) (same-is k h e)))
+  | inr e ↦ (
+      ap is_some (put-other closing.holders h by_operation k e)
+      ∙ sym (or-left (is_some (get closing.holders k)) (k == h) (other-is k h e)))
+] where
+  or-right : (a b : Bool) → b ≡ true → (a || b) ≡ true
+  or-right true b h = refl
+  or-right false b h = h
+
+  or-left : (a b : Bool) → b ≡ false → (a || b) ≡ a
+  or-left true b h = refl
+  or-left false b h = h
+
+  same-is : (a b : ℕ) → a ≡ b → (a == b) ≡ true
+  same-is a b h = grind (arith, nat_tests)
+
+  other-is : (a b : ℕ) → a ≢ b → (a == b) ≡ false
+  other-is a b h = grind (arith, nat_tests)
+
+-- What is closing once closes joined: what was, and these.
+pub closing-joined : (closing : Table) (handles : List ℕ) (k : ℕ) →
+    is_some (get (with_closes closing handles).holders k) ≡ (is_some (get closing.holders k) || has_number k handles)
+closing-joined closing [] k = or-none (is_some (get closing.holders k)) where
+  or-none : (b : Bool) → b ≡ (b || false)
+  or-none true = refl
+  or-none false = refl
+closing-joined closing (h ∷ handles) k =
+    closing-joined (record (with_holders closing h by_operation) { spare = closing.spare - 1 }) handles k
+    ∙ ap (λ b. b || has_number k handles) (closing-one closing h k (closing.spare - 1))
+    ∙ or-turn (is_some (get closing.holders k)) (k == h) (has_number k handles)
+
+-- A handle is closing where it was, or its close is among those that were pushed.
+pub closes-pushed : (a k : ℕ) (handles : List ℕ) →
+    nat_lt 0 (a + closes_queued k (map Queued.Close handles)) ≡ (nat_lt 0 a || has_number k handles)
+closes-pushed a k [] = or-none (nat_lt 0 a) (nat_lt 0 (a + 0)) (grind (arith, nat_tests)) where
+  or-none : (b c : Bool) → c ≡ b → c ≡ (b || false)
+  or-none true c h = h
+  or-none false c h = h
+closes-pushed a k (h ∷ handles) =
+    ap (nat_lt 0) (let e : a + (one_if (k == h) + closes_queued k (map Queued.Close handles)) ≡ (a + one_if (k == h)) + closes_queued k (map Queued.Close handles) = omega arith in e)
+    ∙ closes-pushed (a + one_if (k == h)) k handles
+    ∙ ap (λ b. b || has_number k handles) (one-more a (k == h))
+    ∙ or-turn (nat_lt 0 a) (k == h) (has_number k handles)
+  where
+    one-more : (a : ℕ) (b : Bool) → nat_lt 0 (a + one_if b) ≡ (nat_lt 0 a || b)
+    one-more a true = above a (nat_lt 0 a) refl where
+      above : (a : ℕ) (b : Bool) → nat_lt 0 a ≡ b → nat_lt 0 (a + 1) ≡ (b || true)
+      above a true h = grind (arith, nat_tests)
+      above a false h = grind (arith, nat_tests)
+    one-more a false = same (nat_lt 0 a) (nat_lt 0 (a + 0)) (grind (arith, nat_tests)) where
+      same : (b c : Bool) → c ≡ b → c ≡ (b || false)
+      same true c h = h
+      same false c h = h
+
+-- Once an operation that names these handles left, holders and closes stand for the ledger that it left.
+pub handles-left : (holding : Holding) (L : Ledger) (n : ℕ) (o : Operation) → HandlesStand holding L → slice_get L.ops n ≡ Some o →
+    is_live o ≡ true → Ascends 0 (named o.request) → AreKnown L → AreLive (with_gone L n).ops L.queue →
+    HandlesStand (ops_left holding (named o.request)) (leave L n)
+handles-left holding L n o stand there live rise known requests =
+    let us = became_unheld L (with_gone L n) in
+    let same : unheld_by holding.table (named o.request) ≡ us = unheld-became holding.table L n o stand.holders there live rise known in
+    record {
+      holders = holders-stand-same (holders-stand-left holding.table L n o stand.holders there live rise)
+          (holders-push_closes (with_gone L n) us requests);
+      closing = λ h.
+          ap (λ xs. is_some (get (with_closes holding.closing xs).holders h)) same ∙ closing-joined holding.closing us h
+          ∙ ap (λ b. b || has_number h us) (stand.closing h)
+          ∙ sym (ap (nat_lt 0) (count-push_each (with_gone L n) (map Queued.Close us) h) ∙ closes-pushed (close_count L h) h us);
+    }
+
+-- Of one name, the handle that nobody holds any more is that one.
+pub unheld-one : (table : Table) (names : Names) (h : ℕ) → names ≡ OneName h → is_nobody (left_holders table h) ≡ true →
+    unheld_by table (listed names) ≡ h ∷ []
+unheld-one table names h one none = ap (λ x. unheld_by table (listed x)) one ∙ ap (λ b. front_if b h []) none
+
+-- A cancel that was taken leaves whether its operation is its user's.
+owned-canceled : (p : Place) (o : Operation) → is_owned (canceled_at p o) ≡ is_owned o
+owned-canceled InQueue o = refl
+owned-canceled InFlight o = refl
+owned-canceled (InDone outcome) o = refl
+owned-canceled (Reaped outcome) o = refl
+owned-canceled Gone o = refl
+
+-- Taking one entry leaves which operations are their user's.
+owned-take_one : (L : Ledger) (entry : Queued) → AreLive L.ops (entry ∷ []) →
+    numbers_where is_owned 0 (take_one L entry).ops ≡ numbers_where is_owned 0 L.ops
+owned-take_one L (Req n) requests =
+    where-kept is_owned (at_place InFlight) L.ops n 0 (λ o there. ap (λ b. b && not o.dropped) (sym (requests.live 0 n o refl there)))
+owned-take_one L (Cancel n) requests = where-kept is_owned with_cancel L.ops n 0 (λ o there. owned-canceled o.place o)
+owned-take_one L (Queued.Close h) requests = refl
+
+-- Taking entries does.
+owned-take_each : (L : Ledger) (entries : List Queued) → AreLive L.ops entries →
+    numbers_where is_owned 0 (take_each L entries).ops ≡ numbers_where is_owned 0 L.ops
+owned-take_each L [] requests = refl
+owned-take_each L (entry ∷ entries) requests =
+    owned-take_each (take_one L entry) entries (live-take_one L entry entries requests)
+    ∙ owned-take_one L entry (record { live = λ place n o asks there. first-live place n o asks there })
+  where
+    first-live : (place n : ℕ) (o : Operation) → slice_get (entry ∷ []) place ≡ Some (Req n) → slice_get L.ops n ≡ Some o → is_live o ≡ true
+    first-live zero n o asks there = requests.live 0 n o asks there
+    first-live (suc place) n o asks there = (let f : ⊥ = cc in absurd f)
+
+-- Making room does.
+owned-made : (b : Bool) (L : Ledger) → AreLive L.ops L.queue →
+    numbers_where is_owned 0 (if b then take_all L else L).ops ≡ numbers_where is_owned 0 L.ops
+owned-made true L requests = owned-take_each (record L { queue = [] }) L.queue requests
+owned-made false L requests = refl
+
+-- Pushing an entry leaves which operations are their user's.
+pub owned-push : (L : Ledger) (entry : Queued) → AreLive L.ops L.queue →
+    numbers_where is_owned 0 (push L entry).ops ≡ numbers_where is_owned 0 L.ops
+owned-push L entry requests = owned-made (length L.queue == L.capacity) L requests
+
+-- Pushing closes leaves which operations are their user's.
+pub owned-push_closes : (L : Ledger) (handles : List ℕ) → AreLive L.ops L.queue →
+    numbers_where is_owned 0 (push_each L (map Queued.Close handles)).ops ≡ numbers_where is_owned 0 L.ops
+owned-push_closes L [] requests = refl
+owned-push_closes L (h ∷ handles) requests =
+    owned-push_closes (push L (Queued.Close h)) handles (live-push_close L h requests)
+    ∙ owned-made (length L.queue == L.capacity) L requests
+
+-- What the leaving of an operation makes of the parts of a driver: they stand for the ledger that it left, which has as many operations of
+-- its user's as the one in which it is gone.
+pub record LeftParts {R B : Type 0} (view : R → RingView) (buffer : B → Buffer) (slots : FinMap nat_cmp (Slot B)) (old new : Pending R)
+    (holding : Holding) (named_by : List ℕ) (K M : Ledger) : Type 0 where
+  pub means : Means buffer (pending_ring view new) slots M
+  pub handles : HandlesStand (ops_left holding named_by) M
+  pub room : new.room + length (unheld_by holding.table named_by) ≡ old.room
+  pub fits : FitsQueue view new
+  pub capacity : (view new.ring).capacity ≡ (view old.ring).capacity
+  pub owned : numbers_where is_owned 0 M.ops ≡ numbers_where is_owned 0 K.ops
+  pub count : length M.ops ≡ length K.ops
+
+-- An operation that holds these handles leaves: its slot is free, and the closes of those that nobody holds any more were posted.
+pub parts-left : {R B : Type 0} (view : R → RingView) (buffer : B → Buffer) (tells steady : Bool) (slots : FinMap nat_cmp (Slot B))
+    (old new : Pending R) (holding : Holding) (L : Ledger) (n : ℕ) (o : Operation) → IsTrue steady →
+    Means buffer (pending_ring view old) slots (with_gone L n) → HandlesStand holding L → slice_get L.ops n ≡ Some o → is_live o ≡ true →
+    AreKnown L → AreLive (with_gone L n).ops L.queue →
+    ((h : ℕ) → has_number h (unheld_by holding.table (named o.request)) ≡ true → h < 2 ^ 62) →
+    length (unheld_by holding.table (named o.request)) ≤ old.room → FitsQueue view old →
+    PostsEach view tells steady old new (map close_entry (unheld_by holding.table (named o.request))) →
+    LeftParts view buffer slots old new holding (named o.request) (with_gone L n) (leave L n)
+parts-left view buffer tells steady slots old new holding L n o always means stand there live known requests below room fits posts =
+    let us = unheld_by holding.table (named o.request) in
+    let same = unheld-became holding.table L n o stand.holders there live (named-ascends o.request) known in
+    let pushed = posts-closes view buffer tells steady slots always old new (with_gone L n) us means below room fits posts in
+    subst (λ hs. LeftParts view buffer slots old new holding (named o.request) (with_gone L n) (push_each (with_gone L n) (map Queued.Close hs))) same
+    (record {
+      means = pushed.means;
+      handles = subst (λ hs. HandlesStand (ops_left holding (named o.request)) (push_each (with_gone L n) (map Queued.Close hs))) (sym same)
+          (handles-left holding L n o stand there live (named-ascends o.request) known requests);
+      room = pushed.room;
+      fits = pushed.fits;
+      capacity = pushed.capacity;
+      owned = owned-push_closes (with_gone L n) us requests;
+      count = stays-length (stays-push_each (with_gone L n) (map Queued.Close us));
+    })
+
+-- Posts use up the room of one entry each.
+pub posts-room : {R : Type 0} (view : R → RingView) (tells steady : Bool) (old new : Pending R) (entries : List Entry) →
+    length entries ≤ old.room → PostsEach view tells steady old new entries → new.room + length entries ≡ old.room
+posts-room view tells steady old new [] room same = (let a = ap (λ p. p.room) same in omega (arith, a))
+posts-room view tells steady old new (entry ∷ entries) room posts =
+    let one = posts.1.room (omega (arith, room)) in
+    let rest = posts-room view tells steady posts.0 new entries (omega (arith, room, one)) posts.2 in
+    omega (arith, one, rest)
+
+-- What an operation that isn't queued leaves asks for no other one.
+pub live-left : (L : Ledger) (n : ℕ) (o : Operation) → Lawful L → slice_get L.ops n ≡ Some o → in_queue o.place ≡ 0 →
+    AreLive (with_gone L n).ops L.queue
+live-left L n o lawful there out = live-gone L.ops L.queue n (listed-unasked L n o lawful.lists there out) (listed-live L lawful.lists)

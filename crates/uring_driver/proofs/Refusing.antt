@@ -1,0 +1,76 @@
+-- Why an execution was refused, of a driver that stands for a ledger.
+use Rattle.std.proofs.Common.{◌≡◌, ℕ, Bool, List, Some, Err, refl, sym, ◌∙◌, ap, arith, length}
+use Rattle.std.specs.Prelude.{slice_get}
+use Rattle.std.proofs.lemmas.List.{length-map}
+use Rattle.rent_buf.specs.Buffer.{Buffer}
+use Rattle.ring_core.specs.Ring.{RingView}
+use Rattle.ring_core.specs.MemRing.{ExecutesFor, is_allowed_body}
+use Rattle.ring_core.specs.declared.entry.Body.{Body}
+use Rattle.ring_core.specs.declared.entry.Body.TheVariants.{Call as Calls, Cancel as Cancels, Close as Closes}
+use Rattle.ring_core.specs.declared.entry.Flight.{Flight}
+use Rattle.ring_core.specs.declared.request.Told.{Told}
+use Rattle.ring_core.specs.declared.mem_ring.ExecRefusal.{ExecRefusal}
+use Rattle.ring_core.specs.declared.mem_ring.ExecRefusal.TheVariants.{NotFlying, BadOutcome, OutOfMemory}
+use Rattle.ring_core.specs.Ledger.{Ledger, Item, Op}
+use Rattle.ring_core.specs.Refusal.{allowed}
+use Rattle.uring_driver.specs.declared.uring.IoUringDriver.{IoUringDriver}
+use Rattle.uring_driver.specs.Uring.{ring_in, whole_ring}
+use Rattle.uring_driver.specs.Lists.{FlightFor, is_call, item_in, item_of}
+use Rattle.uring_driver.specs.Executed.{RefusedFor}
+use Rattle.uring_driver.specs.Stands.{Stands}
+use Rattle.uring_driver.proofs.Means.{means-of}
+use Rattle.uring_driver.proofs.Kept.{call-item}
+use Rattle.uring_driver.proofs.Steps.{unrefused-exec, cause-flying, cause-outcome, allowed-op}
+use Rattle.uring_driver.proofs.Flights.{o, which, allows-is, flying-at}
+use Rattle.uring_driver.proofs.ExecutingCloses.{close-allows}
+
+-- A refused execution leaves what holds the bytes.
+pub refused-keeps : {P : Type 0} (offers : P → ℕ → List ℕ) (stores : P → ℕ → List ℕ → P → Type 0) (takes : ℕ → Bool) (old new : RingView)
+    (place : ℕ) (told : Told) (before after : P) (why : ExecRefusal) →
+    ExecutesFor offers stores takes old place told new before after (Err why) → after ≡ before
+refused-keeps offers stores takes old new place told before after NotFlying refused = refused.2
+refused-keeps offers stores takes old new place told before after BadOutcome refused = refused.2
+refused-keeps offers stores takes old new place told before after OutOfMemory refused = refused.2
+
+module _ {B : Type 0} (buffer : B → Buffer) (d : IoUringDriver RingView B) (L : Ledger) (place : ℕ) (told : Told)
+    (old : Stands (λ r. r) buffer d L) where
+  -- What is in flight is the ledger's item, and an outcome is allowed to it as it is to that, by its body.
+  AllowsFor : Flight → Type 0
+  AllowsFor flight = (item : Item) × (slice_get L.flying place ≡ Some item) ×
+      (allowed L item told ≡ is_allowed_body (ring_in d).world flight.marked flight.entry.body told)
+
+  allows-by : (flight : Flight) → slice_get (ring_in d).flying place ≡ Some flight → (b : Body) → flight.entry.body ≡ b →
+      FlightFor buffer d.slots.values L.ops flight b → AllowsFor flight
+  unfolding AllowsFor
+  allows-by flight at (Calls call) is _ =
+      let v = whole_ring (λ r. r) d in
+      let before = means-of old in
+      let slots = d.slots.values in
+      let calls = ap is_call is in
+      let n = flight.entry.serial in (
+        Op n,
+        flying-at buffer v slots L place flight (Op n) before at (call-item flight.entry flight.entry.body calls),
+        allowed-op L n told (o buffer v slots L place flight before at calls) (which buffer v slots L place flight before at calls)
+            ∙ sym (allows-is buffer v slots L place flight before at calls told),
+      )
+  allows-by flight at (Cancels key) is never = absurd never
+  allows-by flight at (Closes k) is _ = (
+    Item.Close k,
+    flying-at buffer (whole_ring (λ r. r) d) d.slots.values L place flight (Item.Close k) (means-of old) at (ap (item_in flight.entry) is),
+    sym (close-allows (ring_in d).world flight k told is),
+  )
+
+  allows-at : (flight : Flight) → slice_get (ring_in d).flying place ≡ Some flight → AllowsFor flight
+  allows-at flight at = allows-by flight at flight.entry.body refl (old.ring.in_lists.in_flight place flight at)
+
+  -- A refused execution has its cause; one that ran out of memory has none.
+  pub refuses-executes : {P : Type 0} (offers : P → ℕ → List ℕ) (stores : P → ℕ → List ℕ → P → Type 0) (new : RingView) (before after : P)
+      (takes : ℕ → Bool) (why : ExecRefusal) →
+      ExecutesFor offers stores takes (ring_in d) place told new before after (Err why) → RefusedFor L place told why
+  unfolding AllowsFor
+  refuses-executes offers stores new before after takes NotFlying past =
+      cause-flying L place told (omega (arith, ap length old.ring.in_lists.flying, length-map (ring_in d).flying item_of, past.0))
+  refuses-executes offers stores new before after takes BadOutcome bad =
+      let a = allows-at bad.0.flight bad.0.there in cause-outcome L place told a.0 a.1 (a.2 ∙ bad.0.forbids)
+  refuses-executes offers stores new before after takes OutOfMemory short =
+      let a = allows-at short.0.flight short.0.there in unrefused-exec L place told a.0 a.1 (a.2 ∙ short.0.allows)

@@ -1,0 +1,113 @@
+-- A whole turn, and one that can't begin.
+use Rattle.std.proofs.Common.{◌≡◌, inl, ℕ, Bool, true, false, [], ◌++◌, Option, Some, None, refl, sym, ◌∙◌, ap, subst}
+use Rattle.std.proofs.Common.{append-nil}
+use Rattle.std.specs.Prelude.{IsTrue, IfNone, take}
+use Rattle.std.proofs.lemmas.List.{take-append-drop}
+use Rattle.rent_buf.specs.Buffer.{Buffer}
+use Rattle.ring_core.specs.declared.ledger.Event.TheVariants.{Turn}
+use Rattle.ring_core.specs.Ledger.{Ledger}
+use Rattle.ring_core.specs.Ring.{RingView}
+use Rattle.ring_core.specs.Step.{step}
+use Rattle.driver_core.specs.declared.op.Stop.{Stop}
+use Rattle.driver_core.specs.declared.op.Stop.TheVariants.{RingFault, Busy, BadCompletion, OutOfMemory}
+use Rattle.driver_core.specs.declared.op.Turned.{Turned}
+use Rattle.driver_core.specs.Slot.{KeepsNumbers, number_at}
+use Rattle.driver_core.proofs.Tokens.{tokens-kept}
+use Rattle.uring_driver.specs.declared.uring.IoUringDriver.{IoUringDriver}
+use Rattle.uring_driver.specs.declared.uring.turn.Begun.{Begun}
+use Rattle.uring_driver.specs.declared.uring.turn.Named.{Named}
+use Rattle.uring_driver.specs.Stands.{Stands, StandsIfSteady}
+use Rattle.uring_driver.specs.Uring.{due_in, pending}
+use Rattle.uring_driver.specs.Submitted.{SameSlots}
+use Rattle.uring_driver.specs.Reap.{treat_each}
+use Rattle.uring_driver.specs.Reaps.{ReapsAll}
+use Rattle.uring_driver.specs.Turned.{TreatsNone, StopsFor, TreatsFor, TurnsFor, TurnMeets}
+use Rattle.uring_driver.specs.Begun.{EnteredFor, HasBegun, CannotBegin, why_stopped}
+use Rattle.uring_driver.proofs.Ending.{ends-of, moves, stops, treats}
+use Rattle.uring_driver.proofs.Turning.{turns}
+
+module _ {R B : Type 0} (view : R → RingView) (buffer : B → Buffer) (tells steady : Bool) where
+  -- What was begun, and then treated, is a whole turn.
+  pub whole : (old mid new : IoUringDriver R B) (begun : Begun) (turned : Turned) (named : Named) (bad : Option ℕ) →
+      HasBegun view tells steady old mid begun → ReapsAll view tells steady mid new begun.named named bad →
+      (IsTrue steady → due_in mid ≡ [] → due_in new ≡ []) → KeepsNumbers mid.slots.values new.slots.values → new.given ≡ mid.given →
+      turned.reaped ≡ named.reaped.items → turned.closed ≡ named.closed.items → turned.woken ≡ named.woken.items →
+      turned.stop ≡ why_stopped bad begun.busy → TurnMeets view buffer tells steady old new turned
+  whole old mid new begun turned named bad has reaps due numbers given reaped closed woken stop =
+      let ends = ends-of view tells steady mid new begun.named named bad reaps in
+      let queued = (treat_each mid.slots.values mid.holding ends.reaps.taken).queued in
+      record {
+        queued = queued;
+        turns = λ shows L stands. subst (λ s. TurnsFor view buffer steady L old new turned queued s) (sym stop)
+            (turns view buffer tells steady old mid new begun turned named bad has ends reaped closed woken given shows L stands);
+        stops = subst (λ s. StopsFor view old new turned queued s) (sym stop)
+            (stops view tells steady old mid new begun turned named bad has ends reaped closed woken);
+        treats = subst (λ s. TreatsFor view tells old new turned queued s) (sym stop)
+            (treats view tells steady old mid new begun turned named bad has ends reaped closed woken);
+        moves = moves view tells steady old mid new begun turned named bad has ends reaped closed woken;
+        none_due = λ always none. due always (none-due old mid begun.busy has.entered always);
+        tokens = tokens-kept old.slots.values new.slots.values
+            (subst (λ slots. KeepsNumbers slots new.slots.values) has.same.slots numbers);
+        given = given ∙ has.same.given;
+      }
+    where
+      none-due : (a b : IoUringDriver R B) (busy : Bool) → EnteredFor view tells steady a.ring b.ring busy → IsTrue steady → due_in b ≡ []
+      none-due a b false enter always = enter.2
+      none-due a b true enter always = absurd (enter.2 always)
+
+  -- A turn that can't begin treats nothing.
+  pub stopped : (old new : IoUringDriver R B) (turned : Turned) (stop : Stop) → CannotBegin view tells steady old new stop →
+      turned.reaped ≡ [] → turned.closed ≡ [] → turned.woken ≡ [] → turned.stop ≡ Some stop →
+      TurnMeets view buffer tells steady old new turned
+  stopped old new turned RingFault cannot reaped closed woken stop =
+      let none : TreatsNone old new turned [] =
+      record { same = cannot.1; reaped = reaped; closed = closed; woken = woken; none_queued = refl } in
+      record {
+        queued = [];
+        turns = λ shows L stands. subst (λ s. TurnsFor view buffer steady L old new turned [] s) (sym stop) cannot.3;
+        stops = subst (λ s. StopsFor view old new turned [] s) (sym stop) (cannot.0, none);
+        treats = subst (λ s. TreatsFor view tells old new turned [] s) (sym stop) tt;
+        moves = λ shows. (
+            let front = cannot.2.told shows in
+            let head = take front.count (pending view old) in
+            record {
+              entered = head;
+              moved = append-nil (pending view old) ∙ sym (take-append-drop front.count (pending view old))
+                  ∙ ap (λ xs. head ++ xs) (sym front.took.queue);
+            });
+        none_due = λ always none. absurd (cannot.3 always);
+        tokens = tokens-kept old.slots.values new.slots.values (λ key. ap (λ m. number_at m key) cannot.1.slots);
+        given = cannot.1.given;
+      }
+  stopped old new turned Busy cannot reaped closed woken stop = absurd cannot
+  stopped old new turned (BadCompletion word) cannot reaped closed woken stop = absurd cannot
+  stopped old new turned OutOfMemory cannot reaped closed woken stop =
+      let same : SameSlots old new = record {
+        slots = ap (λ d. d.slots.values) cannot;
+        given = ap (λ d. d.given) cannot;
+        holding = ap (λ d. d.holding) cannot;
+      } in
+      let none : TreatsNone old new turned [] =
+      record { same = same; reaped = reaped; closed = closed; woken = woken; none_queued = refl } in
+      record {
+        queued = [];
+        turns = λ shows L stands. subst (λ s. TurnsFor view buffer steady L old new turned [] s) (sym stop) cannot;
+        stops = subst (λ s. StopsFor view old new turned [] s) (sym stop) (cannot, none);
+        treats = subst (λ s. TreatsFor view tells old new turned [] s) (sym stop) tt;
+        moves = λ shows. record { entered = []; moved = append-nil (pending view old) ∙ sym (ap (pending view) cannot) };
+        none_due = λ always none. ap due_in cannot ∙ none;
+        tokens = tokens-kept old.slots.values new.slots.values (λ key. ap (λ m. number_at m key) same.slots);
+        given = same.given;
+      }
+
+  -- A turn that doesn't stop leads to the machine's next ledger, over a steady ring.
+  pub turn_stands : (IsTrue steady → IsTrue tells) → (old new : IoUringDriver R B) (turned : Turned) →
+      TurnMeets view buffer tells steady old new turned → IfNone turned.stop
+      ((L : Ledger) → StandsIfSteady view buffer steady old L → StandsIfSteady view buffer steady new (step L Turn).0)
+  turn_stands steady_tells old new turned meets = by-stop turned.stop meets.turns
+    where
+      by-stop : (stop : Option Stop) →
+          (IsTrue tells → (L : Ledger) → Stands view buffer old L → TurnsFor view buffer steady L old new turned meets.queued stop) →
+          IfNone stop ((L : Ledger) → StandsIfSteady view buffer steady old L → StandsIfSteady view buffer steady new (step L Turn).0)
+      by-stop None answer = λ L s. (s.0, ((answer (steady_tells s.0) L s.1).1 (inl s.0)).stands)
+      by-stop (Some stop) answer = tt
