@@ -5,6 +5,7 @@ ghost use Rattle.ring_core.specs.Ledger.{Ledger};
 use crate::{Driver, Executed, IoUringDriver, PollOp, Submitted};
 use rent_buf::{IoBuf, Rent};
 use ring_core::{HandleKind, MemRing, Outcome, Request, Told};
+use std::process::Abort;
 use std::test::Fail;
 
 // Two turns of any driver. Where neither stops, the driver stands for the ledger that is two turns on.
@@ -15,6 +16,12 @@ fn turn_twice<D: Driver>(driver: &mut D) -> bool
         return false;
     }
     driver.submit().stop.is_none()
+}
+
+// Bytes arrive at a handle of the ring.
+fn arrives(rt: &impl Abort, driver: &mut IoUringDriver<MemRing, Rent>, h: u64, bytes: &[u8]) {
+    assert!(rt; driver.has_handle(h));
+    assert!(rt; driver.feed(h, bytes).is_ok());
 }
 
 #[test]
@@ -33,8 +40,7 @@ fn one_read_by_the_crates_alone(rt: HostRuntime) -> Result<(), Fail> {
     };
 
     // Bytes arrive. A turn takes the queue, the ring executes what is in flight, and a turn reaps it.
-    assert!(rt; driver.has_handle(fd.number()));
-    assert!(rt; driver.feed(fd.number(), b"hello").is_ok());
+    arrives(&rt, &mut driver, fd.number(), b"hello");
     let _ = driver.submit();
     assert_eq!(rt; driver.execute(0, Told::Count(5)), Ok(Executed::Op(0)));
     assert!(rt; turn_twice(&mut driver));

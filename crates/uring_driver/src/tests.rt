@@ -191,6 +191,27 @@ fn turn_closing<R: Ring, B: IoBufMut + Drop>(
     assert_eq!(rt; turned.woken.as_slice(), woken);
 }
 
+// The user holds a handle once more.
+fn hold<R: Ring, B: IoBufMut + Drop>(
+    rt: &impl Abort,
+    driver: &mut IoUringDriver<R, B>,
+    fd: SharedFd,
+) {
+    assert!(rt; driver.user_holds(fd.number()));
+    assert!(rt; driver.user_count(fd.number()) < 1 << 62);
+    driver.hold(fd);
+}
+
+// The user gives a handle up.
+fn close<R: Ring, B: IoBufMut + Drop>(
+    rt: &impl Abort,
+    driver: &mut IoUringDriver<R, B>,
+    fd: SharedFd,
+) -> Released {
+    assert!(rt; driver.user_holds(fd.number()));
+    driver.close(fd)
+}
+
 // The user drops a hold of a handle.
 fn release<R: Ring, B: IoBufMut + Drop>(
     rt: &impl Abort,
@@ -462,8 +483,7 @@ fn a_read_past_the_end(rt: HostRuntime) -> Result<(), Fail> {
 fn the_last_release_closes(rt: HostRuntime) -> Result<(), Fail> {
     let mut driver: IoUringDriver<MemRing, Buf> = IoUringDriver::new_with_entries(rt.alloc(), 4)?;
     let fd = give(&rt, &mut driver);
-    assert!(rt; driver.user_holds(0) && driver.user_count(0) < 1 << 62);
-    driver.hold(fd);
+    hold(&rt, &mut driver, fd);
     assert_eq!(rt; release(&rt, &mut driver, fd), Released::Held);
     assert!(rt; driver.user_holds(0) && !driver.closing(0));
     assert_eq!(rt; release(&rt, &mut driver, fd), Released::Last);
@@ -484,8 +504,7 @@ fn an_adopted_handle_is_closed_by_a_poll(rt: HostRuntime) -> Result<(), Fail> {
     assert!(rt; driver.user_holds(7) && !driver.has_handle(7));
     let request = read(rt.alloc(), fd)?;
     let op = submit(&rt, &mut driver, request);
-    assert!(rt; driver.user_holds(7));
-    assert_eq!(rt; driver.close(fd), Released::Held);
+    assert_eq!(rt; close(&rt, &mut driver, fd), Released::Held);
     turn(&rt, &mut driver, &[], &[]);
     assert_eq!(rt; driver.execute(0, Told::Fail(104)), Ok(Executed::Op(0)));
     turn(&rt, &mut driver, &[0], &[]);
