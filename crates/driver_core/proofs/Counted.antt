@@ -1,5 +1,6 @@
 -- A table that counts the operations in slots, and that stands for the holders of a ledger, once operations joined or left.
-use Rattle.std.proofs.Common.{◌≡◌, ◌∙◌, inl, inr, ℕ, suc, ◌<◌, Bool, true, false, not, ◌==◌, List, [], ◌∷◌, ◌++◌, length, Option, Some, None, refl, sym, ap, arith, if◌then◌else◌}
+use Rattle.std.proofs.Common.{◌≡◌, ◌∙◌, inl, inr, ℕ, suc, ◌<◌, Bool, true, false, not, ◌==◌, List, [], ◌∷◌, ◌++◌, length, Option, Some}
+use Rattle.std.proofs.Common.{None, refl, sym, ap, arith, if◌then◌else◌}
 use Rattle.std.specs.Prelude.{◌⊎◌, ◌&&◌, is_some, nat_lt, slice_get, filter}
 use Rattle.std.proofs.Common.{length-append}
 use Rattle.std.proofs.lemmas.Bool.Decides.{nat_tests}
@@ -17,9 +18,11 @@ use Rattle.ring_core.proofs.Numbers.{same-or-not}
 use Rattle.ring_core.proofs.Holders.{SameHolders, unheld-count, holding-gone, holding-gone-other, holding-new_op}
 use Rattle.ring_core.proofs.Leaving.{Ascends, has-first, has-other, became-named}
 use Rattle.driver_core.specs.declared.slot.Slot.{Slot}
-use Rattle.driver_core.specs.Holds.{named_in, AreCounted, is_nobody, settled, left_holders, with_ops, without_ops, unheld_by, front_if, CanLeave, HoldersStand}
+use Rattle.driver_core.specs.Holds.{named_in, AreCounted, is_nobody, settled, left_holders, with_ops, without_ops, unheld_by, front_if}
+use Rattle.driver_core.specs.Holds.{CanLeave, HoldersStand}
 use Rattle.driver_core.proofs.Maps.{put-same, put-other, gone-same, gone-other, len-new, len-gone, len-some}
-use Rattle.driver_core.proofs.Holds.{user-joined, user-left, joined-other, joined-one, left-other, left-one, can-leave, settled-other, above-other}
+use Rattle.driver_core.proofs.Holds.{user-joined, user-left, joined-other, joined-one, left-other, left-one, can-leave, settled-other}
+use Rattle.driver_core.proofs.Holds.{above-other}
 
 -- What an option has that has something.
 pub some-of : {X : Type 0} (o : Option X) → is_some o ≡ true → (x : X) × (o ≡ Some x)
@@ -37,8 +40,8 @@ test-cases true = inl refl
 test-cases false = inr refl
 
 -- No slot names a handle.
-pub counted-none : {B : Type 0} (table : Table) (slots : FinMap nat_cmp (Slot B)) → ((h : ℕ) → (holders_at table h).operations ≡ 0) → slots ≡ empty →
-    AreCounted table slots
+pub counted-none : {B : Type 0} (table : Table) (slots : FinMap nat_cmp (Slot B)) → ((h : ℕ) → (holders_at table h).operations ≡ 0) →
+    slots ≡ empty → AreCounted table slots
 counted-none {B} table slots none is = λ h. record {
   keys = empty;
   few = len-empty nat_cmp (Slot B) ∙ sym (none h);
@@ -77,7 +80,8 @@ module _ {B : Type 0} (table : Table) (slots slots' : FinMap nat_cmp (Slot B)) (
     | inl names ↦ record {
       keys = insert (counted h).keys key s;
       few = (
-          let a = len-new (counted h).keys key s (none-of (get (counted h).keys key) ((counted h).each key ∙ ap (λ o. has_number h (named_in o)) free)) in
+          let a = len-new (counted h).keys key s
+          (none-of (get (counted h).keys key) ((counted h).each key ∙ ap (λ o. has_number h (named_in o)) free)) in
           let b = (counted h).few in
           let c = ap (λ x. x.operations) (joined-one table 0 (named s.request) rise h names) in
           omega (arith, a, b, c));
@@ -152,8 +156,8 @@ holders-stand-same stand same = record {
 }
 
 -- Once an operation joined, its table stands for the ledger with the new operation.
-pub holders-stand-joined : (table : Table) (L : Ledger) (o : Operation) → HoldersStand table L → is_live o ≡ true → Ascends 0 (named o.request) →
-    HoldersStand (with_ops table (named o.request)) (with_new_op L o)
+pub holders-stand-joined : (table : Table) (L : Ledger) (o : Operation) → HoldersStand table L → is_live o ≡ true →
+    Ascends 0 (named o.request) → HoldersStand (with_ops table (named o.request)) (with_new_op L o)
 holders-stand-joined table L o stand live rise = record {
   users = λ h. ap (nat_lt 0) (user-joined table (named o.request) h) ∙ stand.users h;
   operations = λ h. elim (test-cases (has_number h (named o.request))) [

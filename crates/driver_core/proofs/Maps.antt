@@ -1,17 +1,14 @@
 -- A finite map by numbers after a write and after a removal.
-use Rattle.std.proofs.Common.{◌≡◌, ◌≢◌, inl, inr, ℕ, zero, suc, ◌+◌, ◌-◌, ◌<◌, Bool, true, false, cond, Some, None, refl, sym, ◌∙◌, ap, arith}
+use Rattle.std.proofs.Common.{◌≡◌, ◌≢◌, inl, inr, ℕ, zero, suc, ◌+◌, ◌-◌, ◌<◌, Bool, true, false, cond, Some, None, refl, sym, ◌∙◌, ap}
+use Rattle.std.proofs.Common.{arith}
 use Rattle.std.specs.Prelude.{is_some}
-use Rattle.std.specs.Ordering.{nat_cmp, eq_by_cmp}
+use Rattle.std.specs.Ordering.{nat_cmp}
 use Rattle.std.specs.Cmp.{nat_cmp_total}
-use Rattle.std.specs.FinMap.{FinMap, get, insert, remove, len, get-empty, empty_of_len, get-insert, get-remove, len-insert, len-remove, same_map}
+use Rattle.std.specs.FinMap.{FinMap, get, insert, remove, len, get-empty, empty_of_len, get-insert, get-remove, len-insert, len-remove}
+use Rattle.std.specs.FinMap.{same_map}
 use Rattle.std.specs.FinMap.{nat_cmp-IsAntisymmetric}
-use Rattle.std.proofs.lemmas.Bool.Decides.{nat_tests}
-use Rattle.op_slots.proofs.Places.{differ}
+use Rattle.op_slots.proofs.Places.{same, differ}
 use Rattle.ring_core.proofs.Numbers.{same-or-not}
-
--- Equal numbers compare as equal.
-same : (a b : ℕ) → a ≡ b → eq_by_cmp nat_cmp a b ≡ true
-same a b e = grind (arith, nat_tests)
 
 -- What was written at a key is there, and all else stays.
 pub put-same : {X : Type 0} (m : FinMap nat_cmp X) (k : ℕ) (v : X) → get (insert m k v) k ≡ Some v

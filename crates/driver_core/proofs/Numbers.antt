@@ -70,7 +70,7 @@ module _ {B : Type 0} (m : FinMap nat_cmp (Slot B)) (key : ℕ) (s : Slot B) (li
       subst (λ x. KeepsNumbers m x) (sym (gone ∙ remove-put m key (record s { life = life }))) (keeps-gone m key s there owned)
 
 -- A slot that has a number is its user's, and was given that number.
-number-owned : (b : Bool) (serial number : ℕ) → number_if b serial ≡ Some number → (b ≡ true) × (serial ≡ number)
+pub number-owned : (b : Bool) (serial number : ℕ) → number_if b serial ≡ Some number → (b ≡ true) × (serial ≡ number)
 number-owned true serial number h = (refl, cc)
 number-owned false serial number h = cc
 

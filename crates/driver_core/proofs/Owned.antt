@@ -15,7 +15,7 @@ pub record Owned {B : Type 0} (buffer : B → Buffer) (L : Ledger) (s : Slot B) 
   pub life : s.life ≡ owned_life fit.operation.place fit.operation.task
 
 -- An operation whose slot is its user's wasn't dropped.
-not-dropped : (b : Bool) (p : Place) (t : Option ℕ) → is_owned_life (life_of b p t) ≡ true → b ≡ false
+pub not-dropped : (b : Bool) (p : Place) (t : Option ℕ) → is_owned_life (life_of b p t) ≡ true → b ≡ false
 not-dropped true p t h = (let f : ⊥ = cc in absurd f)
 not-dropped false p t h = refl
 

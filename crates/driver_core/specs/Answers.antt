@@ -35,4 +35,6 @@ pub record IsOwnRequest {B : Type 0} (buffer : B → Buffer) (L : Ledger) (numbe
 -- A poll answers what the machine does. What is ready has its outcome, and its own request with what it holds.
 abbrev pub PollsFor : {D B : Type 0} → (D → Ledger → Type 0) → (B → Buffer) → Ledger → Token → ℕ → D → PollOp B → Type 0
 PollsFor relation buffer L op task new (Pending back) = Answers relation L (Poll (number_of op) task) Waits new
-PollsFor relation buffer L op task new (Ready done) = Answers relation L (Poll (number_of op) task) (Handed done.outcome (held_of (plain_request buffer done.request))) new × IsOwnRequest buffer L (number_of op) done.request
+PollsFor relation buffer L op task new (Ready done) =
+    Answers relation L (Poll (number_of op) task) (Handed done.outcome (held_of (plain_request buffer done.request))) new
+    × IsOwnRequest buffer L (number_of op) done.request

@@ -15,7 +15,9 @@ pub record Ops (B : Type 0) : Type 0 where
 
 -- They are stored as the pair of their fields.
 abbrev pub ops_code : {B : Type 0} → Coded (Slot B) → Coded (Ops B)
-ops_code slot = code_by (Slots (Slot _) × ℕ) (coded× (slots_code slot) coded_ℕ) (λ o. (o.slots, o.given)) (λ t. record { slots = t.0; given = t.1 }) (λ _. refl)
+ops_code slot =
+    code_by (Slots (Slot _) × ℕ) (coded× (slots_code slot) coded_ℕ) (λ o. (o.slots, o.given)) (λ t. record { slots = t.0; given = t.1 })
+    (λ _. refl)
 
 -- A slot that its user may still drop has a key below the reserved words, and the number of an operation that was submitted.
 pub record IsOwnedSlot (given key number : ℕ) : Type 0 where

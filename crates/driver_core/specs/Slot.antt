@@ -65,14 +65,16 @@ abbrev pub with_life : {B : Type 0} → Slot B → Lifecycle Outcome → Slot B
 with_life slot life = record slot { life = life }
 
 -- A poll of a live slot: where it isn't completed its task is the new one.
-pub record PollsSlot {B : Type 0} (old : map.FinMap nat_cmp (Slot B)) (key task : ℕ) (new : map.FinMap nat_cmp (Slot B)) (answer : AfterPoll) : Type 0 where
+pub record PollsSlot {B : Type 0} (old : map.FinMap nat_cmp (Slot B)) (key task : ℕ) (new : map.FinMap nat_cmp (Slot B))
+    (answer : AfterPoll) : Type 0 where
   pub slot : Slot B
   pub there : map.get old key ≡ Some slot
   pub answers : answer ≡ after_poll slot.life
   pub slots : new ≡ map.insert old key (with_life slot (polled slot.life task))
 
 -- A drop of a live slot: where it isn't completed it is ignored from then on.
-pub record DropsSlot {B : Type 0} (old : map.FinMap nat_cmp (Slot B)) (key : ℕ) (new : map.FinMap nat_cmp (Slot B)) (answer : AfterDrop) : Type 0 where
+pub record DropsSlot {B : Type 0} (old : map.FinMap nat_cmp (Slot B)) (key : ℕ) (new : map.FinMap nat_cmp (Slot B))
+    (answer : AfterDrop) : Type 0 where
   pub slot : Slot B
   pub there : map.get old key ≡ Some slot
   pub answers : answer ≡ after_drop slot.life
@@ -82,7 +84,8 @@ pub record DropsSlot {B : Type 0} (old : map.FinMap nat_cmp (Slot B)) (key : ℕ
 -- own request comes out with its outcome, and it goes.
 abbrev pub PollsThis : {B : Type 0} → map.FinMap nat_cmp (Slot B) → ℕ → ℕ → map.FinMap nat_cmp (Slot B) → Slot B → Option (Done B) → Type 0
 PollsThis old key task new slot None = (is_flying slot.life ≡ true) × (new ≡ map.insert old key (with_life slot (polled slot.life task)))
-PollsThis old key task new slot (Some done) = (slot.life ≡ Completed done.outcome) × (done.request ≡ slot.request) × (new ≡ map.remove old key)
+PollsThis old key task new slot (Some done) =
+    (slot.life ≡ Completed done.outcome) × (done.request ≡ slot.request) × (new ≡ map.remove old key)
 
 abbrev pub PollsAt : {B : Type 0} → map.FinMap nat_cmp (Slot B) → ℕ → ℕ → map.FinMap nat_cmp (Slot B) → Option (Done B) → Type 0
 PollsAt {B} old key task new result = (slot : Slot B) → map.get old key ≡ Some slot → PollsThis old key task new slot result
@@ -121,7 +124,8 @@ slots_after slots completion None = slots
 slots_after slots completion (Some slot) = slots_if (is_flying slot.life) slots completion slot
 
 -- A completion was treated by the slot that its word names.
-pub record CompletesSlot {B : Type 0} (old : map.FinMap nat_cmp (Slot B)) (completion : Completion) (new : map.FinMap nat_cmp (Slot B)) (result : Option (ℕ × Option ℕ)) : Type 0 where
+pub record CompletesSlot {B : Type 0} (old : map.FinMap nat_cmp (Slot B)) (completion : Completion) (new : map.FinMap nat_cmp (Slot B))
+    (result : Option (ℕ × Option ℕ)) : Type 0 where
   pub answer : result ≡ named_by (map.get old completion.word)
   pub slots : new ≡ slots_after old completion (map.get old completion.word)
 
@@ -131,12 +135,15 @@ shown_in buffer None = []
 shown_in buffer (Some slot) = shown_by (plain_request buffer slot.request)
 
 -- A slot has bytes that came stored in what its request holds, and nothing else of it changed.
-pub record IsFilled {B : Type 0} (buffer : B → Buffer) (old : map.FinMap nat_cmp (Slot B)) (key : ℕ) (bytes : List ℕ) (new : map.FinMap nat_cmp (Slot B)) (slot : Slot B) : Type 0 where
+pub record IsFilled {B : Type 0} (buffer : B → Buffer) (old : map.FinMap nat_cmp (Slot B)) (key : ℕ) (bytes : List ℕ)
+    (new : map.FinMap nat_cmp (Slot B)) (slot : Slot B) : Type 0 where
   pub after : Slot B
   pub slots : new ≡ map.insert old key after
   pub serial : after.serial ≡ slot.serial
   pub life : after.life ≡ slot.life
-  pub request : IsHolding (plain_request buffer slot.request) (held_after (plain_request buffer slot.request) bytes) (plain_request buffer after.request)
+  pub request :
+      IsHolding (plain_request buffer slot.request) (held_after (plain_request buffer slot.request) bytes)
+      (plain_request buffer after.request)
 
 -- So many bytes fit what the request of the slot that was looked up holds. None do where there is no slot.
 abbrev pub fits_in : {B : Type 0} → (B → Buffer) → Option (Slot B) → ℕ → Bool

@@ -6,6 +6,7 @@ use Rattle.std.proofs.lemmas.Grind.{get_or_default_zero}
 use Rattle.std.proofs.lemmas.Option.{slice_get_within}
 use Rattle.std.proofs.Math.ListN.{length-set}
 use Rattle.std.proofs.lemmas.List.{length-append}
+use Rattle.ring_core.specs.declared.ranks.TheConstants.{WIDTH}
 use Rattle.ring_core.specs.Lists.{amended}
 use Rattle.ring_core.specs.Ranks.{one_if, kept_first, sum_first, AreCounted, less_one}
 
@@ -27,11 +28,11 @@ among-no i zero past = refl
 among-no zero (suc n) past = absurd (omega arith)
 among-no (suc i) (suc n) past = among-no i n (omega arith)
 
--- Which of 64 a place belongs to tells on which side of a multiple of 64 it is.
-among-scaled : (i n : ℕ) → among (i / 64) n ≡ among i (64 * n)
-among-scaled i n = elim (leb_tells n (i / 64)) [
-  | inl past ↦ among-no (i / 64) n past.1 ∙ sym (among-no i (64 * n) (let p = past.1 in omega arith))
-  | inr within ↦ among-yes (i / 64) n within.1 ∙ sym (among-yes i (64 * n) (let w = within.1 in omega arith))
+-- Which of `WIDTH` a place belongs to tells on which side of a multiple of `WIDTH` it is.
+among-scaled : (i n : ℕ) → among (i / WIDTH) n ≡ among i (WIDTH * n)
+among-scaled i n = elim (leb_tells n (i / WIDTH)) [
+  | inl past ↦ among-no (i / WIDTH) n past.1 ∙ sym (among-no i (WIDTH * n) (let p = past.1 in omega arith))
+  | inr within ↦ among-yes (i / WIDTH) n within.1 ∙ sym (among-yes i (WIDTH * n) (let w = within.1 in omega arith))
 ]
 
 -- One count more.
@@ -137,100 +138,100 @@ kept-left (suc n) zero (f ∷ flags) there = let same : f ≡ true = cc in let c
 kept-left (suc n) (suc i) (f ∷ flags) there = let rest = kept-left n i flags there in omega arith
 
 -- The counts after a slot joined.
-pub counted-joined : (flags : List Bool) (blocks groups : List ℕ) (at : ℕ) → at ≡ length flags → at < 64 * length blocks →
-    length blocks ≤ 64 * length groups → AreCounted flags blocks groups →
-    AreCounted (flags ++ true ∷ []) (amended blocks (at / 64) suc) (amended groups (at / 64 / 64) suc)
+pub counted-joined : (flags : List Bool) (blocks groups : List ℕ) (at : ℕ) → at ≡ length flags → at < WIDTH * length blocks →
+    length blocks ≤ WIDTH * length groups → AreCounted flags blocks groups →
+    AreCounted (flags ++ true ∷ []) (amended blocks (at / WIDTH) suc) (amended groups (at / WIDTH / WIDTH) suc)
 counted-joined flags blocks groups at end in_blocks in_groups counts =
-    let block : at / 64 < length blocks = omega arith in
-    let group : at / 64 / 64 < length groups = omega arith in record {
+    let block : at / WIDTH < length blocks = omega arith in
+    let group : at / WIDTH / WIDTH < length groups = omega arith in record {
       blocks_count = λ n.
-          let up = sum-counted n (at / 64) blocks block in
+          let up = sum-counted n (at / WIDTH) blocks block in
           let scaled = among-scaled at n in
           let before = counts.blocks_count n in
-          let joined = kept-joined (64 * n) flags in
-          let last = ap (λ i. among i (64 * n)) end in
+          let joined = kept-joined (WIDTH * n) flags in
+          let last = ap (λ i. among i (WIDTH * n)) end in
           omega arith;
       groups_count = λ n.
-          let up = sum-counted n (at / 64 / 64) groups group in
-          let scaled = among-scaled (at / 64) n in
+          let up = sum-counted n (at / WIDTH / WIDTH) groups group in
+          let scaled = among-scaled (at / WIDTH) n in
           let before = counts.groups_count n in
-          let below = sum-counted (64 * n) (at / 64) blocks block in
+          let below = sum-counted (WIDTH * n) (at / WIDTH) blocks block in
           omega arith;
     }
 
 -- The block of a kept slot counts it.
 pub block-some : (flags : List Bool) (blocks groups : List ℕ) (i : ℕ) → AreCounted flags blocks groups → slice_get flags i ≡ Some true →
-    0 < get_or blocks (i / 64) 0
+    0 < get_or blocks (i / WIDTH) 0
 block-some flags blocks groups i counts there =
-    let next = sum-next (i / 64) blocks in
-    let low = counts.blocks_count (i / 64) in
-    let high = counts.blocks_count (suc (i / 64)) in
+    let next = sum-next (i / WIDTH) blocks in
+    let low = counts.blocks_count (i / WIDTH) in
+    let high = counts.blocks_count (suc (i / WIDTH)) in
     let here = kept-next i flags true there in
-    let below = kept-more (64 * (i / 64)) i flags (omega arith) in
-    let above = kept-more (suc i) (64 * suc (i / 64)) flags (omega arith) in
+    let below = kept-more (WIDTH * (i / WIDTH)) i flags (omega arith) in
+    let above = kept-more (suc i) (WIDTH * suc (i / WIDTH)) flags (omega arith) in
     omega arith
 
 -- The group of a block that counts something counts it.
 pub group-some : (flags : List Bool) (blocks groups : List ℕ) (b : ℕ) → AreCounted flags blocks groups → 0 < get_or blocks b 0 →
-    0 < get_or groups (b / 64) 0
+    0 < get_or groups (b / WIDTH) 0
 group-some flags blocks groups b counts some =
-    let next = sum-next (b / 64) groups in
-    let low = counts.groups_count (b / 64) in
-    let high = counts.groups_count (suc (b / 64)) in
+    let next = sum-next (b / WIDTH) groups in
+    let low = counts.groups_count (b / WIDTH) in
+    let high = counts.groups_count (suc (b / WIDTH)) in
     let here = sum-next b blocks in
-    let below = sum-more (64 * (b / 64)) b blocks (omega arith) in
-    let above = sum-more (suc b) (64 * suc (b / 64)) blocks (omega arith) in
+    let below = sum-more (WIDTH * (b / WIDTH)) b blocks (omega arith) in
+    let above = sum-more (suc b) (WIDTH * suc (b / WIDTH)) blocks (omega arith) in
     omega arith
 
--- A block counts at most 64.
-pub block-few : (flags : List Bool) (blocks groups : List ℕ) (b : ℕ) → AreCounted flags blocks groups → get_or blocks b 0 ≤ 64
+-- A block counts at most `WIDTH`.
+pub block-few : (flags : List Bool) (blocks groups : List ℕ) (b : ℕ) → AreCounted flags blocks groups → get_or blocks b 0 ≤ WIDTH
 block-few flags blocks groups b counts =
     let next = sum-next b blocks in
     let low = counts.blocks_count b in
     let high = counts.blocks_count (suc b) in
-    let few = kept-few (64 * b) (64 * suc b) 64 flags (omega arith) in
+    let few = kept-few (WIDTH * b) (WIDTH * suc b) WIDTH flags (omega arith) in
     omega arith
 
--- A group counts at most 4096.
-pub group-few : (flags : List Bool) (blocks groups : List ℕ) (g : ℕ) → AreCounted flags blocks groups → get_or groups g 0 ≤ 4096
+-- A group counts at most `WIDTH * WIDTH`.
+pub group-few : (flags : List Bool) (blocks groups : List ℕ) (g : ℕ) → AreCounted flags blocks groups → get_or groups g 0 ≤ WIDTH * WIDTH
 group-few flags blocks groups g counts =
     let next = sum-next g groups in
     let low = counts.groups_count g in
     let high = counts.groups_count (suc g) in
-    let low_block = counts.blocks_count (64 * g) in
-    let high_block = counts.blocks_count (64 * suc g) in
-    let few = kept-few (64 * (64 * g)) (64 * (64 * suc g)) 4096 flags (omega arith) in
+    let low_block = counts.blocks_count (WIDTH * g) in
+    let high_block = counts.blocks_count (WIDTH * suc g) in
+    let few = kept-few (WIDTH * (WIDTH * g)) (WIDTH * (WIDTH * suc g)) (WIDTH * WIDTH) flags (omega arith) in
     omega arith
 
 -- The counts after a slot that was kept isn't any more.
 pub counted-left : (flags : List Bool) (blocks groups : List ℕ) (i : ℕ) → slice_get flags i ≡ Some true → AreCounted flags blocks groups →
-    AreCounted (set flags i false) (amended blocks (i / 64) less_one) (amended groups (i / 64 / 64) less_one)
+    AreCounted (set flags i false) (amended blocks (i / WIDTH) less_one) (amended groups (i / WIDTH / WIDTH) less_one)
 counted-left flags blocks groups i there counts =
     let block = block-some flags blocks groups i counts there in
-    let group = group-some flags blocks groups (i / 64) counts block in record {
+    let group = group-some flags blocks groups (i / WIDTH) counts block in record {
       blocks_count = λ n.
-          let down = sum-discounted n (i / 64) blocks block in
+          let down = sum-discounted n (i / WIDTH) blocks block in
           let scaled = among-scaled i n in
           let before = counts.blocks_count n in
-          let left = kept-left (64 * n) i flags there in
+          let left = kept-left (WIDTH * n) i flags there in
           omega arith;
       groups_count = λ n.
-          let down = sum-discounted n (i / 64 / 64) groups group in
-          let scaled = among-scaled (i / 64) n in
+          let down = sum-discounted n (i / WIDTH / WIDTH) groups group in
+          let scaled = among-scaled (i / WIDTH) n in
           let before = counts.groups_count n in
-          let below = sum-discounted (64 * n) (i / 64) blocks block in
+          let below = sum-discounted (WIDTH * n) (i / WIDTH) blocks block in
           omega arith;
     }
 
 -- The whole sum of the blocks is the number of kept slots.
-pub blocks-total : (flags : List Bool) (blocks groups : List ℕ) → length flags ≤ 64 * length blocks → AreCounted flags blocks groups →
+pub blocks-total : (flags : List Bool) (blocks groups : List ℕ) → length flags ≤ WIDTH * length blocks → AreCounted flags blocks groups →
     sum_first (length blocks) blocks ≡ kept_first (length flags) flags
-blocks-total flags blocks groups in_blocks counts = counts.blocks_count (length blocks) ∙ kept-end (64 * length blocks) flags in_blocks
+blocks-total flags blocks groups in_blocks counts = counts.blocks_count (length blocks) ∙ kept-end (WIDTH * length blocks) flags in_blocks
 
 -- The whole sum of the groups is that of the blocks.
-pub groups-total : (flags : List Bool) (blocks groups : List ℕ) → length blocks ≤ 64 * length groups → AreCounted flags blocks groups →
+pub groups-total : (flags : List Bool) (blocks groups : List ℕ) → length blocks ≤ WIDTH * length groups → AreCounted flags blocks groups →
     sum_first (length groups) groups ≡ sum_first (length blocks) blocks
-groups-total flags blocks groups in_groups counts = counts.groups_count (length groups) ∙ sum-end (64 * length groups) blocks in_groups
+groups-total flags blocks groups in_groups counts = counts.groups_count (length groups) ∙ sum-end (WIDTH * length groups) blocks in_groups
 
 -- Counts of 0 have the sum 0.
 sum-zeros : (n m : ℕ) → ◌≡◌ {A = ℕ} (sum_first n (replicate m 0)) 0
@@ -241,18 +242,19 @@ sum-zeros (suc n) (suc m) = let rest = sum-zeros n m in omega arith
 -- Of no slots, all counts are 0.
 pub counted-none : (blocks groups : List ℕ) (n m : ℕ) → blocks ≡ replicate n 0 → groups ≡ replicate m 0 → AreCounted [] blocks groups
 counted-none blocks groups n m no_blocks no_groups = record {
-  blocks_count = λ i. ap (sum_first i) no_blocks ∙ sum-zeros i n ∙ sym (kept-none (64 * i));
-  groups_count = λ i. ap (sum_first i) no_groups ∙ sum-zeros i m ∙ sym (sum-zeros (64 * i) n) ∙ sym (ap (sum_first (64 * i)) no_blocks);
+  blocks_count = λ i. ap (sum_first i) no_blocks ∙ sum-zeros i n ∙ sym (kept-none (WIDTH * i));
+  groups_count = λ i. ap (sum_first i) no_groups ∙ sum-zeros i m ∙ sym (sum-zeros (WIDTH * i) n)
+      ∙ sym (ap (sum_first (WIDTH * i)) no_blocks);
 }
 
 -- Counts with no slot kept are those of no slots.
-pub counted-empty : (flags : List Bool) (blocks groups : List ℕ) → length flags ≤ 64 * length blocks →
+pub counted-empty : (flags : List Bool) (blocks groups : List ℕ) → length flags ≤ WIDTH * length blocks →
     ◌≡◌ {A = ℕ} (kept_first (length flags) flags) 0 → AreCounted flags blocks groups → AreCounted [] blocks groups
 counted-empty flags blocks groups in_blocks empty counts = record {
   blocks_count = λ i.
       let count = counts.blocks_count i in
-      let all = kept-all (64 * i) flags in
-      let none = kept-none (64 * i) in
+      let all = kept-all (WIDTH * i) flags in
+      let none = kept-none (WIDTH * i) in
       omega arith;
   groups_count = counts.groups_count;
 }
@@ -286,21 +288,21 @@ slot-over flags at rest all flag left sum within here over =
     (kept-within (at + 1) flags (omega arith), omega arith)
 
 -- The blocks of a group in which a rank ends begin before the end of all blocks, and so do those that the rank is left to.
-pub group-found : (flags : List Bool) (blocks groups : List ℕ) (rank at rest : ℕ) → length flags ≤ 64 * length blocks →
+pub group-found : (flags : List Bool) (blocks groups : List ℕ) (rank at rest : ℕ) → length flags ≤ WIDTH * length blocks →
     AreCounted flags blocks groups → rank < kept_first (length flags) flags → sum_first at groups + rest ≡ rank →
-    (64 * at < length blocks) × (sum_first (64 * at) blocks + rest < sum_first (length blocks) blocks)
+    (WIDTH * at < length blocks) × (sum_first (WIDTH * at) blocks + rest < sum_first (length blocks) blocks)
 group-found flags blocks groups rank at rest in_blocks counts some found =
     let all = blocks-total flags blocks groups in_blocks counts in
     let same = counts.groups_count at in
-    (sum-within (64 * at) blocks (omega arith), omega arith)
+    (sum-within (WIDTH * at) blocks (omega arith), omega arith)
 
 -- The slots of a block in which a rank ends begin before the end of all slots, and so do those that the rank is left to.
 pub block-found : (flags : List Bool) (blocks groups : List ℕ) (rank at rest : ℕ) → AreCounted flags blocks groups →
     rank < kept_first (length flags) flags → sum_first at blocks + rest ≡ rank →
-    (64 * at < length flags) × (kept_first (64 * at) flags + rest < kept_first (length flags) flags)
+    (WIDTH * at < length flags) × (kept_first (WIDTH * at) flags + rest < kept_first (length flags) flags)
 block-found flags blocks groups rank at rest counts some found =
     let same = counts.blocks_count at in
-    (kept-within (64 * at) flags (omega arith), omega arith)
+    (kept-within (WIDTH * at) flags (omega arith), omega arith)
 
 -- One kept slot less, once one isn't kept any more.
 pub kept-less : (flags : List Bool) (i : ℕ) → slice_get flags i ≡ Some true →

@@ -121,14 +121,6 @@ live-none ops entries none = record {
       let f : ⊥ = cc in absurd f);
 }
 
--- A cancel asks for no operation.
-pub live-cancel : (ops : List Operation) (n : ℕ) → AreLive ops (Cancel n ∷ [])
-live-cancel ops n = record { live = λ place m o is there. one place m is }
-  where
-    one : (place m : ℕ) → slice_get (Cancel n ∷ []) place ≡ Some (Req m) → {b : Bool} → b ≡ true
-    one zero m is = (let f : ⊥ = cc in absurd f)
-    one (suc place) m is = (let f : ⊥ = cc in absurd f)
-
 -- Nor does a close.
 pub live-close : (ops : List Operation) (h : ℕ) → AreLive ops (Queued.Close h ∷ [])
 live-close ops h = record { live = λ place m o is there. one place m is }
@@ -230,11 +222,6 @@ live-make_room L h = live-room (length L.queue == L.capacity) L h
 pub live-push_close : (L : Ledger) (k : ℕ) → AreLive L.ops L.queue → AreLive (push L (Queued.Close k)).ops (push L (Queued.Close k)).queue
 live-push_close L k h =
     let M : Ledger = make_room L in live-append M.ops M.queue (Queued.Close k) (live-make_room L h) (live-close M.ops k)
-
--- The queue after a cancel was pushed.
-pub live-push_cancel : (L : Ledger) (n : ℕ) → AreLive L.ops L.queue → AreLive (push L (Cancel n)).ops (push L (Cancel n)).queue
-live-push_cancel L n h =
-    let M : Ledger = make_room L in live-append M.ops M.queue (Cancel n) (live-make_room L h) (live-cancel M.ops n)
 
 -- Closes pushed.
 pub holders-push_closes : (L : Ledger) (handles : List ℕ) → AreLive L.ops L.queue → SameHolders L (push_each L (map Queued.Close handles))

@@ -9,7 +9,8 @@ use Rattle.ring_core.specs.declared.entry.Flight.{Flight}
 use Rattle.ring_core.specs.Lists.{amended}
 use Rattle.ring_core.specs.Ring.{marked_by}
 use Rattle.ring_core.specs.Ranks.{kept_first, is_kept, kept}
-use Rattle.ring_core.specs.Flights.{InFlight, words_of, several, AreLinked}
+use Rattle.ring_core.specs.declared.flights.TheConstants.{SEVERAL}
+use Rattle.ring_core.specs.Flights.{InFlight, words_of, AreLinked}
 use Rattle.ring_core.proofs.Numbers.{equal-other, same-or-not}
 
 -- As many stand on kept slots as slots are kept.
@@ -72,7 +73,7 @@ kept-map f (true ∷ flags) (x ∷ xs) = ap (λ ys. f x ∷ ys) (kept-map f flag
 kept-map f (false ∷ flags) (x ∷ xs) = kept-map f flags xs
 
 -- A flag stays where nothing is added.
-or-false : (a b : Bool) → b ≡ false → (a || b) ≡ a
+pub or-false : (a b : Bool) → b ≡ false → (a || b) ≡ a
 or-false true b e = refl
 or-false false b e = e
 
@@ -129,12 +130,12 @@ word-there (y ∷ xs) (suc slot) x here = word-there xs slot x here
 
 -- A word that is kept on a slot is kept on the one that its link names.
 pub linked-one : (links : List ℕ) (flags : List Bool) (xs : List Flight) (word at : ℕ) → AreLinked links flags (words_of xs) →
-    word < length links → get_or links word 0 ≡ at → at < several → (slot : ℕ) (x : Flight) → slice_get flags slot ≡ Some true →
+    word < length links → get_or links word 0 ≡ at → at < SEVERAL → (slot : ℕ) (x : Flight) → slice_get flags slot ≡ Some true →
     slice_get xs slot ≡ Some x → x.entry.word ≡ word → slot ≡ at
 linked-one links flags xs word at linked within link one slot x there here same = elim (same-or-not at slot) [
   | inl is ↦ sym is
   | inr differs ↦ (
-      let many : get_or links word 0 ≡ several =
+      let many : get_or links word 0 ≡ SEVERAL =
       linked slot word there (word-there xs slot x here ∙ ap Some same) within (λ is. differs (sym link ∙ is)) in
       absurd (omega arith))
 ]
@@ -176,7 +177,7 @@ tested-gone (f ∷ flags) zero within test = ap Some test
 tested-gone (f ∷ flags) (suc slot) within test = tested-gone flags slot (omega arith) test
 
 -- The elements from a place on begin with the one that is there.
-drop-suc : {A : Type 0} (xs : List A) (i : ℕ) (x : A) → slice_get xs i ≡ Some x → drop i xs ≡ x ∷ drop (suc i) xs
+pub drop-suc : {A : Type 0} (xs : List A) (i : ℕ) (x : A) → slice_get xs i ≡ Some x → drop i xs ≡ x ∷ drop (suc i) xs
 drop-suc [] i x here = cc
 drop-suc (y ∷ xs) zero x here = let same : y ≡ x = cc in ap (λ z. z ∷ xs) same
 drop-suc (y ∷ xs) (suc i) x here = drop-suc xs i x here

@@ -2,6 +2,7 @@
 use Rattle.std.proofs.Common.{◌≡◌, ◌≢◌, inl, inr, ℕ, zero, suc, ◌+◌, ◌≤◌, ◌<◌, Bool, true, false, cond, not, ◌&&◌, ◌||◌}
 use Rattle.std.proofs.Common.{List, [], ◌∷◌, ◌++◌, length, Some, slice_get, refl, sym, ◌∙◌, ap, subst, arith}
 use Rattle.std.specs.Prelude.{filter, ◌==◌}
+use Rattle.std.proofs.Math.Bool.{and-false}
 use Rattle.std.proofs.lemmas.Bool.Decides.{eqb_tells}
 use Rattle.ring_core.specs.declared.request.Request.{Request}
 use Rattle.ring_core.specs.declared.request.Request.TheVariants.{Recv, ReadVec, Send, WriteVec}
@@ -72,15 +73,11 @@ filter-has p h (x ∷ xs) = elim (same-or-not h x) [
   | inr e ↦ there e (p x) ∙ filter-has p h xs ∙ sym (ap (λ b. b && p h) (has-other h x xs e))
 ]
   where
-    and-no : (b : Bool) → (b && false) ≡ false
-    and-no true = refl
-    and-no false = refl
-
     here : h ≡ x → has_number h (filter p xs) ≡ (has_number h xs && p h) → (b : Bool) → p x ≡ b →
         has_number h (cond b (x ∷ filter p xs) (filter p xs)) ≡ p h
     here e rest true is = subst (λ y. has_number h (y ∷ filter p xs) ≡ true) e (has-first h (filter p xs)) ∙ sym (ap p e ∙ is)
     here e rest false is =
-        rest ∙ ap (λ b. has_number h xs && b) (ap p e ∙ is) ∙ and-no (has_number h xs) ∙ sym (ap p e ∙ is)
+        rest ∙ ap (λ b. has_number h xs && b) (ap p e ∙ is) ∙ and-false (has_number h xs) ∙ sym (ap p e ∙ is)
 
     there : h ≢ x → (b : Bool) → has_number h (cond b (x ∷ filter p xs) (filter p xs)) ≡ has_number h (filter p xs)
     there e true = has-other h x (filter p xs) e

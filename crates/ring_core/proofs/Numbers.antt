@@ -1,6 +1,6 @@
--- Numbers and tests, by cases.
-use Rattle.std.proofs.Common.{◌≡◌, ◌≢◌, ◌⊎◌, inl, inr, ℕ, zero, suc, ◌<◌, ◌≤◌, Bool, true, false, refl, arith}
-use Rattle.std.specs.Prelude.{◌==◌, ◌&&◌, not, nat_le}
+-- Numbers, tests and options, by cases.
+use Rattle.std.proofs.Common.{◌≡◌, ◌≢◌, ◌⊎◌, inl, inr, ℕ, zero, suc, ◌<◌, ◌≤◌, Bool, true, false, Option, Some, None, refl, arith}
+use Rattle.std.specs.Prelude.{◌==◌, ◌&&◌, not, nat_le, is_some}
 use Rattle.std.proofs.lemmas.Bool.Decides.{eqb_tells, nat_tests}
 
 -- Two numbers are the same, or they aren't.
@@ -40,3 +40,13 @@ at_most-left n m false h = grind (arith, nat_tests)
 pub not-passes : (b : Bool) → not b ≡ true → b ≡ false
 not-passes true h = (let f : ⊥ = cc in absurd f)
 not-passes false h = refl
+
+-- An option that isn't none has a value.
+pub some-of : {X : Type 0} (o : Option X) → is_some o ≡ true → (x : X) × (o ≡ Some x)
+some-of None h = (let f : ⊥ = cc in absurd f)
+some-of (Some x) h = (x, refl)
+
+-- An option that has no value is none.
+pub none-of : {X : Type 0} (o : Option X) → is_some o ≡ false → o ≡ None
+none-of None h = refl
+none-of (Some x) h = (let f : ⊥ = cc in absurd f)

@@ -18,7 +18,7 @@ use Rattle.ring_core.proofs.Staying.{stays-take_all, stays-make_room, stays-push
 use Rattle.ring_core.proofs.Holders.{SameHolders, unheld-same, unheld-at, AreLive, live-push_close, holders-take_all, holders-make_room}
 use Rattle.ring_core.proofs.Holders.{holders-push}
 use Rattle.ring_core.proofs.Holders.{holders-op, held-by_user, HoldsSame}
-use Rattle.ring_core.proofs.Users.{unheld-gone, unheld-new_op, unheld-left}
+use Rattle.ring_core.proofs.Users.{unheld-gone, unheld-stays, unheld-left}
 use Rattle.ring_core.proofs.Leaving.{Ascends, ascends-not, has-first, has-later, became-ascends, became-is}
 use Rattle.ring_core.proofs.Closing.{count-take_all, count-make_room, count-push, count-complete_at, count-first}
 
@@ -131,11 +131,7 @@ once-op L n change keeps c = once-same L (with_op L n change) (λ h. refl) (hold
 pub once-new_op : (L : Ledger) (o : Operation) → ((h : ℕ) → is_holding h o ≡ true → is_unheld L h ≡ false) → ClosesOnce L →
     ClosesOnce (with_new_op L o)
 once-new_op L o names c =
-    once-fewer L (with_new_op L o) (λ h. omega arith) (λ h one is. by h is (is_holding h o) refl) (omega arith) c
-  where
-    by : (h : ℕ) → is_unheld L h ≡ true → (b : Bool) → is_holding h o ≡ b → is_unheld (with_new_op L o) h ≡ true
-    by h is true e = (let f : false ≡ true = sym (names h e) ∙ is in let g : ⊥ = cc in absurd g)
-    by h is false e = unheld-new_op L o h e ∙ is
+    once-fewer L (with_new_op L o) (λ h. omega arith) (λ h one is. unheld-stays L o names h is) (omega arith) c
 
 -- Other handles.
 pub once-world : (L : Ledger) (world : List HandleState) → ClosesOnce L → ClosesOnce (record L { world = world })

@@ -2,6 +2,7 @@
 use Rattle.std.proofs.Common.{◌≡◌, ℕ, ◌≤◌, Bool, true, false, List, [], Option, Some, None, refl, sym, ◌∙◌, ap, arith, length, take}
 use Rattle.std.specs.Prelude.{slice_get, nat_le, ◌&&◌, ◌||◌, ◌==◌}
 use Rattle.std.proofs.lemmas.List.{length-take, take-take}
+use Rattle.std.proofs.lemmas.Option.{same_Some}
 use Rattle.rent_buf.specs.Buffer.{Buffer}
 use Rattle.rent_buf.specs.Parts.{Parts}
 use Rattle.rent_buf.specs.Held.{HeldBuf}
@@ -39,14 +40,10 @@ rebuilt-own (ReadVec fd parts) = refl
 rebuilt-own (Send fd buf) = refl
 rebuilt-own (WriteVec fd parts) = refl
 
--- A value inside `Some`.
-some-is : {A : Type 0} (x y : A) → Some x ≡ Some y → x ≡ y
-some-is x y is = cc
-
 -- Requests of one shape that hold the same are equal.
 pub request-is : {B V : Type 0} (r s : Request B V) → shape_of r ≡ shape_of s → held_of r ≡ held_of s → r ≡ s
 request-is r s shape holds =
-    some-is r s (sym (rebuilt-own r) ∙ ap (λ x. rebuilt x (held_of r)) shape ∙ ap (rebuilt (shape_of s)) holds ∙ rebuilt-own s)
+    same_Some r s (sym (rebuilt-own r) ∙ ap (λ x. rebuilt x (held_of r)) shape ∙ ap (rebuilt (shape_of s)) holds ∙ rebuilt-own s)
 
 -- A request has its own shape, and holds what it holds.
 pub holding-own : (r : Request Buffer Parts) → IsHolding r (held_of r) r

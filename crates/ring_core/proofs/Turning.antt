@@ -51,7 +51,7 @@ known-exec_op L n told (Some o) k =
     (length-effect L.world (call_of o.request) (sent_of o.request) told) (known-op L n (with_result told result) (λ p. refl) k)
 
 -- What is reaped isn't gone by that, or was.
-reaped-kept : (p : Place) → is_kept (reaped_place p) ≡ is_kept p
+pub reaped-kept : (p : Place) → is_kept (reaped_place p) ≡ is_kept p
 reaped-kept InQueue = refl
 reaped-kept InFlight = refl
 reaped-kept (InDone outcome) = refl

@@ -17,7 +17,7 @@ use Rattle.ring_core.proofs.Users.{unheld-gone, unheld-left}
 use Rattle.ring_core.proofs.Holders.{holders-own, holders-op, HoldsSame, holders-take_all, holders-make_room}
 use Rattle.ring_core.proofs.Users.{user-with_user-other}
 use Rattle.ring_core.proofs.Holders.{held-by_op}
-use Rattle.ring_core.proofs.Users.{unheld-new_op}
+use Rattle.ring_core.proofs.Users.{unheld-new_op, unheld-stays}
 use Rattle.ring_core.proofs.Leaving.{has-first, has-other, became-is, is-became}
 use Rattle.ring_core.proofs.Closing.{count-take_all, count-make_room, count-push, count-push_each}
 use Rattle.ring_core.proofs.Turning.{reap-holds, live-gone, Reapable, reapable-one}
@@ -73,15 +73,11 @@ closing-make_room L live =
 pub closing-new_op : (L : Ledger) (o : Operation) → ((h : ℕ) → is_holding h o ≡ true → is_unheld L h ≡ false) → Closing L (with_new_op L o)
 closing-new_op L o names = record {
   count = refl;
-  stays = λ h is. old h is (is_holding h o) refl;
+  stays = λ h is. unheld-stays L o names h is;
   closes = λ h is. refl;
   comes = λ h within held is. absurd (new h held is (is_holding h o) refl);
 }
   where
-    old : (h : ℕ) → is_unheld L h ≡ true → (b : Bool) → is_holding h o ≡ b → is_unheld (with_new_op L o) h ≡ true
-    old h is true e = (let f : true ≡ false = sym is ∙ names h e in let g : ⊥ = cc in absurd g)
-    old h is false e = unheld-new_op L o h e ∙ is
-
     new : (h : ℕ) → is_unheld L h ≡ false → is_unheld (with_new_op L o) h ≡ true → (b : Bool) → is_holding h o ≡ b → ⊥
     new h held is true e =
         (let f : true ≡ false = sym is ∙ held-by_op (with_new_op L o) h (length L.ops) o (get-append-end L.ops o) e in cc)

@@ -32,6 +32,15 @@ unheld-new_op L o h other =
     ap (λ ns. is_empty ((if user_holds L h then User ∷ [] else []) ++ map ByOp ns))
     (holding-new_op L o h ∙ ap (λ b. holding_ops L h ++ (if b then length L.ops ∷ [] else [])) other ∙ append-nil (holding_ops L h))
 
+-- A handle that nobody holds stays so once an operation came that holds no such handle.
+pub unheld-stays : (L : Ledger) (o : Operation) → ((h : ℕ) → is_holding h o ≡ true → is_unheld L h ≡ false) → (h : ℕ) →
+    is_unheld L h ≡ true → is_unheld (with_new_op L o) h ≡ true
+unheld-stays L o names h is = by (is_holding h o) refl
+  where
+    by : (b : Bool) → is_holding h o ≡ b → is_unheld (with_new_op L o) h ≡ true
+    by true e = (let f : false ≡ true = sym (names h e) ∙ is in let g : ⊥ = cc in absurd g)
+    by false e = unheld-new_op L o h e ∙ is
+
 -- Whether the user holds a handle, after it was said of it.
 pub user-with_user : (L : Ledger) (h : ℕ) (is_user : Bool) → h < length L.owners → user_holds (with_user L h is_user) h ≡ is_user
 user-with_user L h is_user within =

@@ -55,7 +55,8 @@ pub record IsRun {P : Type 0} (stores : P → ℕ → List ℕ → P → Type 0)
   pub allowed : is_allowed_body old flight.marked flight.entry.body told ≡ true
   pub answer : outcome ≡ (body_effect old flight.entry.body sent told).outcome
   pub world : new ≡ (body_effect old flight.entry.body sent told).world
-  pub stored : StoresIf stores (body_comes flight.entry.body told) before flight.entry.word (body_effect old flight.entry.body sent told).got after
+  pub stored :
+      StoresIf stores (body_comes flight.entry.body told) before flight.entry.word (body_effect old flight.entry.body sent told).got after
 
 -- What carrying out an entry in flight answers and leaves: one case for each answer, and but for memory no two of them can hold at once.
 abbrev pub RunsFor : {P : Type 0} → (P → ℕ → List ℕ → P → Type 0) → (ℕ → Bool) → Flight → Told → List ℕ →

@@ -9,7 +9,8 @@ use Rattle.ring_core.specs.declared.request.Call.{Call}
 
 -- What a data word names: below the words of closes the slot of that key, and from there on a handle, up to the reserved words.
 abbrev pub target : ℕ → Target
-target word = if nat_lt word FIRST_CLOSE then Slot word else if nat_lt word FIRST_RESERVED then Handle (word - FIRST_CLOSE) else Reserved word
+target word =
+    if nat_lt word FIRST_CLOSE then Slot word else if nat_lt word FIRST_RESERVED then Handle (word - FIRST_CLOSE) else Reserved word
 
 -- The entry of an operation's call: its word is the key of the operation's slot.
 abbrev pub call_entry : ℕ → ℕ → Call → Entry

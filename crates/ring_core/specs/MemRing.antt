@@ -1,5 +1,6 @@
 -- What executing an entry in flight does to the ring in memory.
-use Rattle.std.specs.Prelude.{ℕ, ◌≡◌, ◌≤◌, Bool, true, false, List, [], ◌∷◌, ◌++◌, length, remove, slice_get, nat_le, option_map, Option, Some, None, Result, Ok, Err}
+use Rattle.std.specs.Prelude.{ℕ, ◌≡◌, ◌≤◌, Bool, true, false, List, [], ◌∷◌, ◌++◌, length, remove, slice_get, nat_le, option_map, Option}
+use Rattle.std.specs.Prelude.{Some, None, Result, Ok, Err}
 use Rattle.ring_core.specs.declared.request.Told.{Told}
 use Rattle.ring_core.specs.declared.request.Outcome.{Outcome}
 use Rattle.ring_core.specs.declared.entry.Body.{Body}
@@ -41,7 +42,8 @@ finished view place entry result = record view {
 }
 
 -- The entry at a place was executed, as its effect says.
-pub record IsFinished (old : RingView) (place : ℕ) (told : Told) (sent : List ℕ) (new : RingView) (got : List ℕ) (completion : Completion) : Type 0 where
+pub record IsFinished (old : RingView) (place : ℕ) (told : Told) (sent : List ℕ) (new : RingView) (got : List ℕ)
+    (completion : Completion) : Type 0 where
   pub flight : Flight
   pub there : slice_get old.flying place ≡ Some flight
   pub allows : is_allowed_body old.world flight.marked flight.entry.body told ≡ true

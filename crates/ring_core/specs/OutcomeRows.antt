@@ -1,8 +1,9 @@
 -- Worked runs of the machine on outcomes: which are allowed, and what an end changes.
-use Rattle.std.specs.Prelude.{◌≡◌, [], ◌∷◌}
+use Rattle.std.specs.Prelude.{◌≡◌, ◌+◌, [], ◌∷◌}
 use Rattle.rent_buf.specs.declared.held.Held.TheVariants.{One}
 use Rattle.ring_core.specs.declared.world.HandleKind.TheVariants.{Stream}
 use Rattle.ring_core.specs.declared.request.Request.TheVariants.{Recv}
+use Rattle.ring_core.specs.declared.request.TheConstants.{CANCELED, LAST_ERROR}
 use Rattle.ring_core.specs.declared.request.Told.TheVariants.{Count, Fail}
 use Rattle.ring_core.specs.declared.request.Outcome.{Outcome}
 use Rattle.ring_core.specs.declared.ledger.Event.TheVariants.{Give, Feed, End, Submit, Poll, Turn, Exec}
@@ -32,7 +33,7 @@ RefusedOutcomes =
     Refused BadOutcome ∷
     ExecutedOp 0 ∷ [])
 
--- Errors: 0 and 4096 aren't any, that of a cancel wants one, and another hands back the submitted buffer.
+-- Errors: 0 and what is above `LAST_ERROR` aren't any, that of a cancel wants one, and another hands back the submitted buffer.
 abbrev pub Errors : Type 0
 Errors =
     replies (empty 4) (
@@ -41,8 +42,8 @@ Errors =
     Submit (Recv 0 (vector 2 0 2 (48 ∷ 49 ∷ []))) ∷
     Turn ∷
     Exec 0 (Fail 0) ∷
-    Exec 0 (Fail 4096) ∷
-    Exec 0 (Fail 125) ∷
+    Exec 0 (Fail (LAST_ERROR + 1)) ∷
+    Exec 0 (Fail CANCELED) ∷
     Exec 0 (Fail 104) ∷
     Turn ∷
     Poll 0 1 ∷ [])

@@ -1,5 +1,6 @@
 -- Which slots are kept, found by rank. Cited by `Ranks`.
 use Rattle.std.specs.Prelude.{ℕ, zero, suc, ◌+◌, ◌*◌, ◌-◌, ◌≡◌, ◌≤◌, Bool, true, false, List, [], ◌∷◌, slice_get}
+use Rattle.ring_core.specs.declared.ranks.TheConstants.{WIDTH}
 use Rattle.ring_core.specs.Lists.{passes}
 
 -- Slots: each that was joined is kept, or isn't any more; and for how many there is memory.
@@ -35,10 +36,10 @@ kept (flag ∷ flags) [] = []
 kept (true ∷ flags) (x ∷ xs) = x ∷ kept flags xs
 kept (false ∷ flags) (x ∷ xs) = kept flags xs
 
--- A block counts the kept ones of 64 slots, and a group those of 64 blocks.
+-- A block counts the kept ones of `WIDTH` slots, and a group those of `WIDTH` blocks.
 pub record AreCounted (flags : List Bool) (blocks groups : List ℕ) : Type 0 where
-  pub blocks_count : (n : ℕ) → sum_first n blocks ≡ kept_first (64 * n) flags
-  pub groups_count : (n : ℕ) → sum_first n groups ≡ sum_first (64 * n) blocks
+  pub blocks_count : (n : ℕ) → sum_first n blocks ≡ kept_first (WIDTH * n) flags
+  pub groups_count : (n : ℕ) → sum_first n groups ≡ sum_first (WIDTH * n) blocks
 
 -- A number less one, where it isn't 0.
 abbrev pub less_one : ℕ → ℕ
@@ -48,5 +49,5 @@ less_one n = n - 1
 pub record HasSlots (slots room capacity blocks groups : ℕ) : Type 0 where
   pub within : slots ≤ room
   pub memory : room ≤ capacity
-  pub in_blocks : room ≤ 64 * blocks
-  pub in_groups : blocks ≤ 64 * groups
+  pub in_blocks : room ≤ WIDTH * blocks
+  pub in_groups : blocks ≤ WIDTH * groups

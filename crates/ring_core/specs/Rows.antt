@@ -5,11 +5,13 @@ use Rattle.rent_buf.specs.declared.kind.Kind.TheVariants.{Vector}
 use Rattle.rent_buf.specs.declared.held.Held.TheVariants.{One}
 use Rattle.ring_core.specs.declared.world.HandleKind.TheVariants.{Stream}
 use Rattle.ring_core.specs.declared.request.Request.TheVariants.{Recv}
+use Rattle.ring_core.specs.declared.request.TheConstants.{CANCELED}
 use Rattle.ring_core.specs.declared.request.Told.TheVariants.{Count, Fail}
 use Rattle.ring_core.specs.declared.request.Outcome.{Outcome}
 use Rattle.ring_core.specs.declared.ledger.Event.TheVariants.{Give, Feed, Look, Close, Submit, Poll, Drop, Cancel, Turn, Exec}
 use Rattle.ring_core.specs.declared.ledger.Refusal.TheVariants.{NoOp, NoHandle, NotFlying, BadOutcome}
-use Rattle.ring_core.specs.declared.ledger.Reply.TheVariants.{Handle, Fed, Released, Submitted, Pending, Handed, Dropped, Asked, Turned, ExecutedOp, ExecutedClose}
+use Rattle.ring_core.specs.declared.ledger.Reply.TheVariants.{Handle, Fed, Released, Submitted, Pending, Handed, Dropped, Asked, Turned}
+use Rattle.ring_core.specs.declared.ledger.Reply.TheVariants.{ExecutedOp, ExecutedClose}
 use Rattle.ring_core.specs.declared.ledger.Reply.TheVariants.{Refused}
 use Rattle.ring_core.specs.Ledger.{empty}
 use Rattle.ring_core.specs.Run.{replies}
@@ -70,7 +72,7 @@ LateCancel =
     Poll 0 1 ∷
     Submit (Recv 0 (vector 1 0 1 [])) ∷
     Turn ∷
-    Exec 0 (Fail 125) ∷
+    Exec 0 (Fail CANCELED) ∷
     Feed 0 (98 ∷ []) ∷
     Exec 0 (Count 1) ∷
     Turn ∷
@@ -101,7 +103,7 @@ FullQueue =
     Submit (Recv 0 (vector 1 0 1 [])) ∷
     Drop 1 ∷
     Turn ∷
-    Exec 1 (Fail 125) ∷
+    Exec 1 (Fail CANCELED) ∷
     Turn ∷
     Poll 1 7 ∷ [])
     ≡ (
@@ -127,7 +129,7 @@ CloseUnderRead =
     Poll 0 5 ∷
     Look 0 ∷
     Turn ∷
-    Exec 0 (Fail 125) ∷
+    Exec 0 (Fail CANCELED) ∷
     Exec 0 (Count 0) ∷
     Turn ∷ [])
     ≡ (

@@ -9,7 +9,8 @@ use Rattle.ring_core.specs.declared.ledger.Event.TheVariants.{Give, Feed, End, L
 use Rattle.ring_core.specs.declared.ledger.Refusal.{Refusal}
 use Rattle.ring_core.specs.declared.ledger.Refusal.TheVariants.{NoOp}
 use Rattle.ring_core.specs.declared.ledger.Reply.{Reply}
-use Rattle.ring_core.specs.declared.ledger.Reply.TheVariants.{Handle, Fed, Ended, Released, Output, Submitted, Pending, Handed, Dropped, Asked}
+use Rattle.ring_core.specs.declared.ledger.Reply.TheVariants.{Handle, Fed, Ended, Released, Output, Submitted, Pending, Handed, Dropped}
+use Rattle.ring_core.specs.declared.ledger.Reply.TheVariants.{Asked}
 use Rattle.ring_core.specs.declared.ledger.Reply.TheVariants.{Refused}
 use Rattle.ring_core.specs.Lists.{amended}
 use Rattle.ring_core.specs.World.{fresh, with_input, with_end, output_at}

@@ -1,5 +1,6 @@
 //! Slots of which some are kept, found by their rank among these.
-ghost use Rattle.std.specs.Prelude.{◌≡◌, ◌<◌, ◌≤◌, ◌+◌, ◌-◌, ◌^◌, [], ◌∷◌, ◌++◌, true, false, suc, length, replicate, get_or, slice_get, slice_set, Some, IfOk};
+ghost use Rattle.std.specs.Prelude.{◌≡◌, ◌<◌, ◌≤◌, ◌+◌, ◌-◌, ◌^◌, [], ◌∷◌, ◌++◌, true, false, suc, length, replicate, get_or, slice_get};
+ghost use Rattle.std.specs.Prelude.{slice_set, Some, IfOk};
 ghost use Rattle.ring_core.specs.Lists.{amended};
 ghost use Rattle.ring_core.specs.Ranks.{kept_first, sum_first, is_kept, less_one};
 
@@ -10,7 +11,7 @@ use std::marker::Model;
 const WIDTH: usize = 64;
 
 /// Slots, in order, each of which is kept until it is released. The slot of a rank is found by counts on two levels: it looks
-/// at a group for each 4096 slots, and then at 64 counts and 64 slots at most. (not in monoio)
+/// at a group for each `WIDTH * WIDTH` slots, and then at `WIDTH` counts and `WIDTH` slots at most. (not in monoio)
 #[derive(Debug, Drop)]
 pub(crate) struct Ranks {
     flags: Vec<bool>,

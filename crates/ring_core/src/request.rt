@@ -10,7 +10,7 @@ ghost use Rattle.ring_core.specs.Effect.{count_told};
 
 use crate::payloads::{append_first, append_first_parts};
 use handle_core::SharedFd;
-use rent_buf::{ByteList, Held, IoBuf, IoBufMut, IoVecBuf, IoVecBufMut, OutOfMemory, VecBuf};
+use rent_buf::{ByteList, Held, IoBufMut, IoVecBuf, IoVecBufMut, OutOfMemory, VecBuf};
 
 /// The most bytes that one request asks for.
 pub const MOST_ASKED: usize = 2147483647;

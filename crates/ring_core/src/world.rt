@@ -1,6 +1,6 @@
 //! The handles of a machine in memory.
 ghost use Rattle.std.specs.Prelude.{◌≡◌, ◌<◌, ◌&&◌, [], ◌∷◌, ◌++◌, length, OnOk, OnErr, IfOk};
-ghost use Rattle.ring_core.specs.World.{fresh, gives_bytes, takes_bytes, with_end, output_at, WorldFeeds, WorldEnds};
+ghost use Rattle.ring_core.specs.World.{fresh, gives_bytes, takes_bytes, output_at, WorldFeeds, WorldEnds};
 ghost use Rattle.ring_core.specs.Outcome.{may_read, may_send, may_fail};
 ghost use Rattle.ring_core.specs.Called.{ClosesFor, MovesFor, RunsFor};
 

@@ -1,10 +1,10 @@
 use super::*;
-use crate::entry::{CANCEL_WORD, FIRST_RESERVED};
+use crate::entry::CANCEL_WORD;
 use crate::payloads::append_first_parts;
-use crate::request::{Call, Request};
+use crate::request::Call;
 use crate::world::{HandleKind, Look, World, WorldError};
 use handle_core::SharedFd;
-use rent_buf::{Rent, VecBuf};
+use rent_buf::VecBuf;
 use std::test::Fail;
 
 // A read of the handle 0.

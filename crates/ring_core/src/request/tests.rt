@@ -1,5 +1,5 @@
 use super::*;
-use rent_buf::Rent;
+use rent_buf::{IoBuf, Rent};
 use std::alloc::Global;
 use std::test::Fail;
 
