@@ -1,5 +1,5 @@
 -- A table that counts the operations in slots, and that stands for the holders of a ledger, once operations joined or left.
-use Rattle.std.proofs.Common.{◌≡◌, ◌∙◌, inl, inr, ℕ, suc, ◌<◌, Bool, true, false, not, ◌==◌, List, [], ◌∷◌, ◌++◌, length, Option, Some}
+use Rattle.std.proofs.Common.{◌≡◌, ◌∙◌, inl, inr, ℕ, suc, ◌<◌, Bool, true, false, not, ◌==◌, List, [], ◌∷◌, ◌++◌, length, Some}
 use Rattle.std.proofs.Common.{None, refl, sym, ap, arith, if◌then◌else◌}
 use Rattle.std.specs.Prelude.{◌⊎◌, ◌&&◌, is_some, nat_lt, slice_get, filter}
 use Rattle.std.proofs.Common.{length-append}
@@ -15,6 +15,7 @@ use Rattle.ring_core.specs.Queue.{with_gone, is_unheld, became_unheld}
 use Rattle.ring_core.specs.Step.{with_new_op}
 use Rattle.ring_core.specs.Closes.{AreKnown}
 use Rattle.ring_core.proofs.Numbers.{same-or-not}
+pub use Rattle.ring_core.proofs.Numbers.{some-of, none-of}
 use Rattle.ring_core.proofs.Holders.{SameHolders, unheld-count, holding-gone, holding-gone-other, holding-new_op}
 use Rattle.ring_core.proofs.Leaving.{Ascends, has-first, has-other, became-named}
 use Rattle.driver_core.specs.declared.slot.Slot.{Slot}
@@ -23,16 +24,6 @@ use Rattle.driver_core.specs.Holds.{CanLeave, HoldersStand}
 use Rattle.driver_core.proofs.Maps.{put-same, put-other, gone-same, gone-other, len-new, len-gone, len-some}
 use Rattle.driver_core.proofs.Holds.{user-joined, user-left, joined-other, joined-one, left-other, left-one, can-leave, settled-other}
 use Rattle.driver_core.proofs.Holds.{above-other}
-
--- What an option has that has something.
-pub some-of : {X : Type 0} (o : Option X) → is_some o ≡ true → (x : X) × (o ≡ Some x)
-some-of None h = (let f : ⊥ = cc in absurd f)
-some-of (Some x) h = (x, refl)
-
--- An option that has nothing is none.
-pub none-of : {X : Type 0} (o : Option X) → is_some o ≡ false → o ≡ None
-none-of None h = refl
-none-of (Some x) h = (let f : ⊥ = cc in absurd f)
 
 -- A test passes, or it doesn't.
 pub test-cases : (b : Bool) → (b ≡ true) ⊎ (b ≡ false)

@@ -2,6 +2,7 @@
 use Rattle.std.proofs.Common.{◌≡◌, ◌∙◌, ℕ, ◌^◌, ◌<◌, List, [], ◌∷◌, refl, ap, sym, subst, arith, inl, inr}
 use Rattle.std.specs.Prelude.{true, nat_lt, if◌then◌else◌, Option, Some, None, option_and_then, option_map, bytes_eq, codes, decimal}
 use Rattle.std.proofs.lemmas.Bool.{ltb-true, lt-ltb}
+use Rattle.std.proofs.lemmas.Option.{same_Some}
 use Rattle.std.proofs.lemmas.Slice.Eq.{bytes_eq-Decides}
 use Rattle.rent_buf.specs.Buffer.{Buffer}
 use Rattle.rent_buf.specs.Parts.{Parts}
@@ -15,9 +16,11 @@ use Rattle.ring_core.specs.declared.world.HandleKind.TheVariants.{Stream}
 use Rattle.event_text.specs.TextEvent.{IsEvent, IsTold, StandsFor, event_text, event_words, handle_kind_word, request_words, told_words}
 use Rattle.event_text.specs.TextLines.{IsWrong}
 use Rattle.event_text.specs.TextReads.{words, number_field, last_number_of, bytes_end, at_end, handle_kind_of}
-use Rattle.event_text.specs.TextEventReads.{request_of, told_below, told_of, give_of, feed_of, submit_of, poll_of, numbered_of, exec_of, turn_of, numbered_by, event_by, event_of}
+use Rattle.event_text.specs.TextEventReads.{request_of, told_below, told_of, give_of, feed_of, submit_of, poll_of, numbered_of, exec_of}
+use Rattle.event_text.specs.TextEventReads.{turn_of, numbered_by, event_by, event_of}
 use Rattle.event_text.specs.TextWords.{spaced, bytes_word}
-use Rattle.event_text.proofs.TextFields.{and_then-Some, map-Some, if-Some, either-Some, some_same, at_end-Some, number_field-Some, last_number-Some, bytes_end-Some, handle_kind_of-Some}
+use Rattle.event_text.proofs.TextFields.{and_then-Some, map-Some, if-Some, either-Some, at_end-Some, number_field-Some, last_number-Some}
+use Rattle.event_text.proofs.TextFields.{bytes_end-Some, handle_kind_of-Some}
 use Rattle.event_text.proofs.TextHex.{bytes_of-bytes_word}
 use Rattle.event_text.proofs.TextNumbers.{number_of-decimal}
 use Rattle.event_text.proofs.TextRequests.{request_of-words, request_read, solid_request}
@@ -259,7 +262,7 @@ event_of-wrong line none event stands = none_isnt_some event (sym none ∙ stand
 
 -- A line stands for one event at most.
 pub stands_once : (line : List ℕ) (a b : Event) → StandsFor line a → StandsFor line b → a ≡ b
-stands_once line a b first second = some_same a b (sym (stands-event_of line a first) ∙ stands-event_of line b second)
+stands_once line a b first second = same_Some a b (sym (stands-event_of line a first) ∙ stands-event_of line b second)
 
 -- Two events with one text are one.
 pub one_text : (a b : Event) → IsEvent a → IsEvent b → event_text a ≡ event_text b → a ≡ b

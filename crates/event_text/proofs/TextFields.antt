@@ -1,7 +1,9 @@
 -- What the words of a line are read as, part by part: each is read exactly when it is written.
 use Rattle.std.proofs.Common.{◌≡◌, ◌∙◌, ℕ, ◌^◌, ◌<◌, List, [], ◌∷◌, length, refl, ap, sym, subst, arith, inl, inr}
-use Rattle.std.specs.Prelude.{Bool, true, false, ◌⊎◌, ◌&&◌, if◌then◌else◌, nat_le, Option, Some, None, option_and_then, option_map, bytes_eq, codes, decimal}
+use Rattle.std.specs.Prelude.{Bool, true, false, ◌⊎◌, ◌&&◌, if◌then◌else◌, nat_le, Option, Some, None, option_and_then, option_map}
+use Rattle.std.specs.Prelude.{bytes_eq, codes, decimal}
 use Rattle.std.proofs.lemmas.Bool.{leb-true, le-leb, eq-eqb, eqb-true}
+use Rattle.std.proofs.lemmas.Option.{same_Some}
 use Rattle.std.proofs.lemmas.Slice.Eq.{bytes_eq-Decides}
 use Rattle.rent_buf.specs.Buffer.{Buffer, BufferBounds, IsFull}
 use Rattle.rent_buf.specs.declared.kind.Kind.{Kind}
@@ -9,7 +11,8 @@ use Rattle.rent_buf.specs.declared.kind.Kind.TheVariants.{Vector, Grown, Fixed}
 use Rattle.ring_core.specs.declared.world.HandleKind.{HandleKind}
 use Rattle.ring_core.specs.declared.world.HandleKind.TheVariants.{Stream}
 use Rattle.event_text.specs.TextEvent.{AreBytes, IsBuffer, buffer_kind_word, buffer_words, handle_kind_word}
-use Rattle.event_text.specs.TextReads.{number_of, number_field, last_number_of, bytes_end, at_end, handle_kind_of, buffer_kind_of, kind_field, is_full, bounded, buffer_of}
+use Rattle.event_text.specs.TextReads.{number_of, number_field, last_number_of, bytes_end, at_end, handle_kind_of, buffer_kind_of}
+use Rattle.event_text.specs.TextReads.{kind_field, is_full, bounded, buffer_of}
 use Rattle.event_text.specs.TextWords.{bytes_word}
 use Rattle.event_text.proofs.TextHex.{bytes_of-bytes_word, bytes_of-Some}
 use Rattle.event_text.proofs.TextNumbers.{number_of-decimal, number_of-Some}
@@ -36,10 +39,6 @@ pub either-Some : {A : Type 0} (b : Bool) (o p : Option A) (value : A) → (if b
 either-Some true o p value is = inl (refl, is)
 either-Some false o p value is = inr is
 
--- What is the same as an answer is the same.
-pub some_same : {A : Type 0} (x y : A) → Some x ≡ Some y → x ≡ y
-some_same x y is = cc
-
 -- Two tests that pass together pass alone.
 pub and-true : (a b : Bool) → (a && b) ≡ true → (a ≡ true) × (b ≡ true)
 and-true true true is = (refl, refl)
@@ -57,7 +56,7 @@ pub number_field-Some : (words rest : List (List ℕ)) (n : ℕ) → number_fiel
 number_field-Some [] rest n is = absurd (cc)
 number_field-Some (word ∷ words) rest n is =
     let read = and_then-Some (λ (number : ℕ). Some (number, words)) (number_of word) (n, rest) is in
-    let pair : (read.0, words) ≡ (n, rest) = some_same (read.0, words) (n, rest) read.2 in
+    let pair : (read.0, words) ≡ (n, rest) = same_Some (read.0, words) (n, rest) read.2 in
     let same : read.0 ≡ n = ap (λ (p : ℕ × List (List ℕ)). p.0) pair in
     let behind : words ≡ rest = ap (λ (p : ℕ × List (List ℕ)). p.1) pair in
     let number = number_of-Some word n (read.1 ∙ ap (λ (m : ℕ). Some m) same) in
@@ -84,7 +83,7 @@ buffer_kind_of-word Fixed = refl
 -- The first of two answers, or the other.
 either-kind : (b : Bool) (kind : Kind) (o : Option Kind) (y : Kind) → (if b then Some kind else o) ≡ Some y
     → ((b ≡ true) × (kind ≡ y)) ⊎ (o ≡ Some y)
-either-kind true kind o y is = inl (refl, some_same kind y is)
+either-kind true kind o y is = inl (refl, same_Some kind y is)
 either-kind false kind o y is = inr is
 
 -- A word that is read as a buffer's kind is that kind's.
@@ -96,7 +95,7 @@ buffer_kind_of-Some word kind is =
         | inl it ↦ (bytes_eq-Decides word (codes "g")).0 it.0 ∙ ap buffer_kind_word it.1
         | inr is ↦
             let it = if-Some (bytes_eq word (codes "b")) (Some Fixed) kind is in
-            (bytes_eq-Decides word (codes "b")).0 it.0 ∙ ap buffer_kind_word (some_same Fixed kind it.1)
+            (bytes_eq-Decides word (codes "b")).0 it.0 ∙ ap buffer_kind_word (same_Some Fixed kind it.1)
       ]
     ]
 
@@ -106,7 +105,7 @@ pub kind_field-Some : (words rest : List (List ℕ)) (kind : Kind) → kind_fiel
 kind_field-Some [] rest kind is = absurd (cc)
 kind_field-Some (word ∷ words) rest kind is =
     let read = and_then-Some (λ (k : Kind). Some (k, words)) (buffer_kind_of word) (kind, rest) is in
-    let pair : (read.0, words) ≡ (kind, rest) = some_same (read.0, words) (kind, rest) read.2 in
+    let pair : (read.0, words) ≡ (kind, rest) = same_Some (read.0, words) (kind, rest) read.2 in
     let same : read.0 ≡ kind = ap (λ (p : Kind × List (List ℕ)). p.0) pair in
     let behind : words ≡ rest = ap (λ (p : Kind × List (List ℕ)). p.1) pair in
     let first : word ≡ buffer_kind_word kind = buffer_kind_of-Some word kind (read.1 ∙ ap (λ (k : Kind). Some k) same) in
@@ -146,7 +145,7 @@ bounded-Some b c is =
     (nat_le b.end b.total) four.0 in
     let two = and-true (nat_le (length b.bytes) b.total && nat_le b.begin b.end) (nat_le b.begin (length b.bytes)) three.0 in
     let one = and-true (nat_le (length b.bytes) b.total) (nat_le b.begin b.end) two.0 in (
-      some_same b c tests.1,
+      same_Some b c tests.1,
       record {
         fits = leb-true (length b.bytes) b.total one.0;
         ordered = leb-true b.begin b.end one.1;

@@ -1,9 +1,11 @@
 -- The bytes that hexadecimal digits write.
-use Rattle.std.proofs.Common.{◌≡◌, ◌∙◌, ℕ, zero, suc, ◌+◌, ◌*◌, ◌/◌, ◌%◌, ◌<◌, ◌≤◌, List, [], ◌∷◌, ◌++◌, length, get_or, take, drop, refl, ap, arith, inl, inr, append_assoc, drop-cons}
+use Rattle.std.proofs.Common.{◌≡◌, ◌∙◌, ℕ, zero, suc, ◌+◌, ◌*◌, ◌/◌, ◌%◌, ◌<◌, ◌≤◌, List, [], ◌∷◌, ◌++◌, length, get_or, take, drop, refl}
+use Rattle.std.proofs.Common.{ap, arith, inl, inr, append_assoc, drop-cons}
 use Rattle.std.specs.Prelude.{Bool, true, false, Option, Some, None, ◌==◌, ◌||◌, ◌⊎◌, if◌then◌else◌, bytes_eq, codes}
 use Rattle.std.proofs.lemmas.Bool.Decides.{nat_tests}
 use Rattle.std.proofs.lemmas.Grind.{common_steps}
 use Rattle.std.proofs.lemmas.List.{take_more, drop_all, append-nil}
+use Rattle.std.proofs.Math.Bool.{or-true}
 use Rattle.std.proofs.lemmas.Slice.Eq.{bytes_eq-Decides}
 use Rattle.event_text.specs.TextEvent.{AreBytes}
 use Rattle.event_text.specs.TextReads.{digit_value_of, pair_onto, pairs_of, bytes_of}
@@ -47,11 +49,6 @@ isnt-eqb a b isnt = grind (arith, nat_tests)
 pub false-from : (b : Bool) → (b ≡ true → ⊥) → b ≡ false
 false-from true isnt = absurd (isnt refl)
 false-from false isnt = refl
-
--- A test or one that passes passes.
-or-true : (b : Bool) → (b || true) ≡ true
-or-true true = refl
-or-true false = refl
 
 -- What was read so far, in front of what is read behind it.
 abbrev pub onto : {A : Type 0} → List A → Option (List A) → Option (List A)

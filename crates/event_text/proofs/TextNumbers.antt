@@ -1,5 +1,6 @@
 -- The numbers that words write.
-use Rattle.std.proofs.Common.{◌≡◌, ◌∙◌, ℕ, ◌-◌, ◌^◌, ◌<◌, ◌≤◌, List, length, get_or, take, refl, ap, sym, subst, arith, inl, inr, eq-zero-or-pos, bytes_eq, decimal}
+use Rattle.std.proofs.Common.{◌≡◌, ◌∙◌, ℕ, ◌-◌, ◌^◌, ◌<◌, ◌≤◌, List, length, get_or, take, refl, ap, sym, subst, arith, inl, inr}
+use Rattle.std.proofs.Common.{eq-zero-or-pos, bytes_eq, decimal}
 use Rattle.std.specs.Prelude.{Bool, true, false, ◌&&◌, ltb, if◌then◌else◌, Option, Some, None}
 use Rattle.std.proofs.lemmas.Bool.{ltb-true, lt-ltb}
 use Rattle.std.proofs.lemmas.Fmt.{decimal_is_IsNumeral, decimal_nonempty, first_decimal, decimal-digits_value, decimal_digit}

@@ -1,17 +1,19 @@
 -- What the words of parts are read as: parts are read exactly when they are written.
 use Rattle.std.proofs.Common.{◌≡◌, ◌∙◌, ℕ, zero, suc, ◌^◌, ◌<◌, ◌≤◌, List, [], ◌∷◌, ◌++◌, length, refl, ap, sym, subst, arith, append_assoc}
-use Rattle.std.specs.Prelude.{Bool, true, false, ◌==◌, ◌&&◌, ◌↔◌, All, IfSome, IsSome, nat_le, nat_lt, Option, Some, None, option_and_then, option_map, bytes_eq, codes, decimal}
+use Rattle.std.specs.Prelude.{Bool, true, false, ◌==◌, ◌&&◌, ◌↔◌, All, IfSome, IsSome, nat_le, nat_lt, Option, Some, None, option_and_then}
+use Rattle.std.specs.Prelude.{option_map, bytes_eq, codes, decimal}
 use Rattle.std.proofs.lemmas.Bool.{leb-true, le-leb, eq-eqb, eqb-true, ltb-true, lt-ltb}
 use Rattle.std.proofs.lemmas.List.{append-nil, length-map, map-append}
 use Rattle.std.proofs.lemmas.List.Elements.{All-cons}
 use Rattle.std.proofs.lemmas.List.Sums.{sum_by-cons}
+use Rattle.std.proofs.lemmas.Option.{same_Some}
 use Rattle.std.proofs.lemmas.Slice.Eq.{bytes_eq-Decides}
 use Rattle.rent_buf.specs.Parts.{Parts, IsParts, parts_of_pairs, rooms_of}
 use Rattle.rent_buf.specs.Rent.{Rented}
 use Rattle.event_text.specs.TextEvent.{AreBytes, AreTypedParts, part_words, parts_words}
 use Rattle.event_text.specs.TextReads.{number_of, bytes_of, number_field, part_onto, parts_end, all_fit, counted, counted_of, parts_of}
 use Rattle.event_text.specs.TextWords.{bytes_word}
-use Rattle.event_text.proofs.TextFields.{and-true, and_then-Some, map-Some, if-Some, some_same, number_field-Some}
+use Rattle.event_text.proofs.TextFields.{and-true, and_then-Some, map-Some, if-Some, number_field-Some}
 use Rattle.event_text.proofs.TextHex.{onto, bytes_of-bytes_word, bytes_of-Some}
 use Rattle.event_text.proofs.TextNumbers.{None-from, number_of-decimal, number_of-Some}
 use Rattle.event_text.proofs.TextSpaces.{AreSolid, solid_decimal, solid_bytes}
@@ -112,7 +114,7 @@ counted-Some count parts found is =
     let tests = if-Some (count == length parts && all_fit parts && nat_lt (rooms_of parts) (2 ^ 64)) (Some parts) found is in
     let two = and-true (count == length parts && all_fit parts) (nat_lt (rooms_of parts) (2 ^ 64)) tests.0 in
     let one = and-true (count == length parts) (all_fit parts) two.0 in (
-      some_same parts found tests.1,
+      same_Some parts found tests.1,
       eqb-true count (length parts) one.0,
       record { fit = All-all_fit parts one.1; bounded = ltb-true (rooms_of parts) (2 ^ 64) two.1 },
     )
@@ -194,7 +196,7 @@ part_read first second words parts rest is =
 -- Words that are read as rooms and bytes are those of the parts.
 parts_end-Some : (words : List (List ℕ)) (parts : Parts) → parts_end words ≡ Some parts → SpellParts words parts
 unfolding parts_end
-parts_end-Some [] parts is = subst (λ (ps : Parts). SpellParts [] ps) (some_same [] parts is) (refl, λ k d few. absurd (omega arith))
+parts_end-Some [] parts is = subst (λ (ps : Parts). SpellParts [] ps) (same_Some [] parts is) (refl, λ k d few. absurd (omega arith))
 parts_end-Some (room ∷ []) parts is = absurd (cc)
 parts_end-Some (room ∷ bytes ∷ words) parts is = part_read room bytes words parts (λ more. parts_end-Some words more) is
 

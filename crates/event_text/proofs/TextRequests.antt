@@ -88,7 +88,8 @@ request_read (word ∷ more) request is =
                 (option_map (λ found. Send found.0 found.1) (with_handle buffer_of more)) _ request is) [
                   | inl it ↦ named word (codes "send") more request it.0 (send_read more request it.1)
                   | inr is ↦
-                      let it = if-Some (bytes_eq word (codes "writev")) (option_map (λ found. WriteVec found.0 found.1) (with_handle parts_of more))
+                      let it = if-Some (bytes_eq word (codes "writev"))
+                      (option_map (λ found. WriteVec found.0 found.1) (with_handle parts_of more))
                       request is in
                       named word (codes "writev") more request it.0 (writev_read more request it.1)
                 ]

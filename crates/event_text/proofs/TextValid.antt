@@ -1,5 +1,6 @@
 -- Lines and their words looked through without keeping what they write.
-use Rattle.std.proofs.Common.{◌≡◌, ◌∙◌, ℕ, zero, suc, ◌+◌, ◌*◌, ◌/◌, ◌^◌, ◌<◌, ◌≤◌, List, [], ◌∷◌, ◌++◌, length, drop, get_or, refl, ap, sym, arith, length-append}
+use Rattle.std.proofs.Common.{◌≡◌, ◌∙◌, ℕ, zero, suc, ◌+◌, ◌*◌, ◌/◌, ◌^◌, ◌<◌, ◌≤◌, List, [], ◌∷◌, ◌++◌, length, drop, get_or, refl, ap}
+use Rattle.std.proofs.Common.{sym, arith, length-append}
 use Rattle.std.specs.Prelude.{true, false, ◌==◌, ◌⊎◌, All, Option, Some, None, option_and_then, option_map}
 use Rattle.std.specs.Option.{is_some}
 use Rattle.std.proofs.lemmas.Bool.{ne_eqb}
@@ -8,6 +9,7 @@ use Rattle.std.proofs.lemmas.List.Sums.{sum_by-append, sum_by-cons}
 use Rattle.rent_buf.specs.Parts.{Parts, IsParts, rooms_of}
 use Rattle.rent_buf.specs.Rent.{Rented}
 use Rattle.ring_core.specs.declared.ledger.Event.{Event}
+use Rattle.ring_core.proofs.Numbers.{some-of, none-of}
 use Rattle.event_text.specs.TextLines.{lines, IsFirstWrong}
 use Rattle.event_text.specs.TextReads.{words, digit_value_of, pairs_of, number_of, bytes_of, part_onto, parts_end, counted}
 use Rattle.event_text.specs.TextEventReads.{event_of}
@@ -22,16 +24,6 @@ pub is_some-map : {A B : Type 0} (f : A → B) (o : Option A) → is_some (optio
 is_some-map f None = refl
 is_some-map f (Some x) = refl
 
--- What is there has a value.
-some-value : {A : Type 0} (o : Option A) → is_some o ≡ true → (x : A) × (o ≡ Some x)
-some-value None is = absurd (cc)
-some-value (Some x) is = (x, refl)
-
--- What isn't there is none.
-none-value : {A : Type 0} (o : Option A) → is_some o ≡ false → o ≡ None
-none-value None is = refl
-none-value (Some x) is = absurd (cc)
-
 -- So many lines in front of the rest stand for events.
 pub record HaveSeen (text rest : List ℕ) (n : ℕ) : Type 0 where
   pub events : List Event
@@ -42,7 +34,7 @@ pub record HaveSeen (text rest : List ℕ) (n : ℕ) : Type 0 where
 pub have_seen-more : (text rest line behind : List ℕ) (n : ℕ) → HaveSeen text rest n → lines rest ≡ line ∷ lines behind
     → is_some (event_of (words line)) ≡ true → HaveSeen text behind (n + 1)
 have_seen-more text rest line behind n seen first right =
-    let event = some-value (event_of (words line)) right in
+    let event = some-of (event_of (words line)) right in
     let count = seen.count in
     record {
       events = seen.events ++ event.0 ∷ [];
@@ -55,7 +47,7 @@ have_seen-more text rest line behind n seen first right =
 pub have_seen-wrong : (text rest line behind : List ℕ) (n : ℕ) → HaveSeen text rest n → lines rest ≡ line ∷ lines behind
     → is_some (event_of (words line)) ≡ false → IsFirstWrong (lines text) (n + 1)
 have_seen-wrong text rest line behind n seen first wrong =
-    have_read-wrong text rest line behind seen.events n seen.read first (event_of-wrong line (none-value (event_of (words line)) wrong))
+    have_read-wrong text rest line behind seen.events n seen.read first (event_of-wrong line (none-of (event_of (words line)) wrong))
     (sym seen.count)
 
 -- The digits so far are pairs of digits.

@@ -1,5 +1,6 @@
 -- What a write that failed leaves.
-use Rattle.std.proofs.Common.{◌≡◌, ◌∙◌, ℕ, ◌+◌, ◌-◌, ◌<◌, ◌≤◌, List, [], ◌∷◌, ◌++◌, length, get_or, take, drop, refl, ap, sym, arith, decimal, append_assoc}
+use Rattle.std.proofs.Common.{◌≡◌, ◌∙◌, ℕ, ◌+◌, ◌-◌, ◌<◌, ◌≤◌, List, [], ◌∷◌, ◌++◌, length, get_or, take, drop, refl, ap, sym, arith}
+use Rattle.std.proofs.Common.{decimal, append_assoc}
 use Rattle.std.proofs.lemmas.List.{take_more, take_all, append-nil}
 use Rattle.event_text.proofs.TextCuts.{take-rest}
 use Rattle.rent_buf.specs.Parts.{Parts, part_at}

@@ -1,6 +1,7 @@
 -- What the readers of a line's requests and events answer. Only contracts of private functions cite these: `event_of-stands` and
 -- `stands-event_of` (proofs/TextEvents.antt) prove that a line is read as an event exactly when it stands for it.
-use Rattle.std.specs.Prelude.{ℕ, ◌^◌, nat_lt, if◌then◌else◌, List, [], ◌∷◌, codes, bytes_eq, Option, Some, None, option_and_then, option_map}
+use Rattle.std.specs.Prelude.{ℕ, ◌^◌, nat_lt, if◌then◌else◌, List, [], ◌∷◌, codes, bytes_eq, Option, Some, None, option_and_then}
+use Rattle.std.specs.Prelude.{option_map}
 use Rattle.rent_buf.specs.Buffer.{Buffer}
 use Rattle.rent_buf.specs.Parts.{Parts}
 use Rattle.ring_core.specs.declared.ledger.Event.{Event}

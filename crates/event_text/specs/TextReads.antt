@@ -1,7 +1,8 @@
 -- What the readers of a line's words answer: numbers, bytes, buffers and parts. Public contracts cite only `number_of` and `bytes_of`,
 -- the others are of private functions: `event_of-stands` and `stands-event_of` (proofs/TextEvents.antt) prove that a line is read as an
 -- event exactly when it stands for it.
-use Rattle.std.specs.Prelude.{ℕ, Bool, true, ◌+◌, ◌-◌, ◌*◌, ◌^◌, ◌==◌, ◌&&◌, ◌||◌, nat_lt, nat_le, if◌then◌else◌, List, [], ◌∷◌, length, codes, bytes_eq, decimal, Option, Some, None, option_and_then, option_map}
+use Rattle.std.specs.Prelude.{ℕ, Bool, true, ◌+◌, ◌-◌, ◌*◌, ◌^◌, ◌==◌, ◌&&◌, ◌||◌, nat_lt, nat_le, if◌then◌else◌, List, [], ◌∷◌, length}
+use Rattle.std.specs.Prelude.{codes, bytes_eq, decimal, Option, Some, None, option_and_then, option_map}
 use Rattle.std.specs.Str.Parse.{digits_value}
 use Rattle.rent_buf.specs.Buffer.{Buffer}
 use Rattle.rent_buf.specs.Parts.{Parts, rooms_of}

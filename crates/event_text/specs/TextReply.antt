@@ -5,7 +5,8 @@ use Rattle.rent_buf.specs.declared.held.Held.TheVariants.{One, Parts}
 use Rattle.ring_core.specs.declared.ledger.Refusal.{Refusal}
 use Rattle.ring_core.specs.declared.ledger.Refusal.TheVariants.{NoOp, NoHandle, Full, NotFlying, BadOutcome, BadHandleEvent}
 use Rattle.ring_core.specs.declared.ledger.Reply.{Reply}
-use Rattle.ring_core.specs.declared.ledger.Reply.TheVariants.{Handle, Fed, Ended, Released, Output, Submitted, Pending, Handed, Dropped, Asked, Turned, ExecutedOp, ExecutedClose, Refused}
+use Rattle.ring_core.specs.declared.ledger.Reply.TheVariants.{Handle, Fed, Ended, Released, Output, Submitted, Pending, Handed, Dropped}
+use Rattle.ring_core.specs.declared.ledger.Reply.TheVariants.{Asked, Turned, ExecutedOp, ExecutedClose, Refused}
 use Rattle.ring_core.specs.declared.request.Outcome.{Outcome}
 use Rattle.ring_core.specs.declared.request.Outcome.TheVariants.{Count, Fail}
 use Rattle.event_text.specs.TextEvent.{buffer_words, parts_words}

@@ -3,7 +3,8 @@ ghost use Rattle.std.specs.Prelude.{◌≡◌, ◌++◌, ◌^◌, IfOk, OnOk, On
 ghost use Rattle.event_text.specs.TextWrites.{Starts};
 ghost use Rattle.event_text.specs.TextEvent.{event_text};
 ghost use Rattle.event_text.specs.TextReads.{words, words_behind, handle_kind_of};
-ghost use Rattle.event_text.specs.TextEventReads.{event_of, feed_of, submit_of, poll_of, exec_of, give_of, numbered_by, turn_of, told_of, told_below};
+ghost use Rattle.event_text.specs.TextEventReads.{event_of, feed_of, submit_of, poll_of, exec_of, give_of, numbered_by, turn_of, told_of};
+ghost use Rattle.event_text.specs.TextEventReads.{told_below};
 
 use crate::request::{put_request, read_request};
 use crate::word::hex::put_bytes;

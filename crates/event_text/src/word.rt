@@ -1,5 +1,6 @@
 //! Lines cut into words, and words of numbers and bytes; appending to a text.
-ghost use Rattle.std.specs.Prelude.{◌≡◌, ◌≢◌, ◌∷◌, ◌++◌, ◌<◌, ◌≤◌, ℕ, IfOk, OnOk, OnErr, MatchOption, Some, None, [], bytes_eq, decimal, length, option_map, slice_index};
+ghost use Rattle.std.specs.Prelude.{◌≡◌, ◌≢◌, ◌∷◌, ◌++◌, ◌<◌, ◌≤◌, ℕ, IfOk, OnOk, OnErr, MatchOption, Some, None, [], bytes_eq, decimal};
+ghost use Rattle.std.specs.Prelude.{length, option_map, slice_index};
 ghost use Rattle.event_text.specs.TextLines.{lines};
 ghost use Rattle.event_text.specs.TextReads.{words, words_behind, number_field, last_number_of, bytes_end};
 ghost use Rattle.event_text.specs.TextWords.{bytes_word};

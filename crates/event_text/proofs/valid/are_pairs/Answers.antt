@@ -1,5 +1,6 @@
 use Rattle.std.proofs.Common.{arith}
-use Rattle.event_text.proofs.TextValid.{parts_seen-none, parts_seen-alone, parts_seen-stop, parts_seen-over, parts_seen-more, parts_seen-all}
+use Rattle.event_text.proofs.TextValid.{parts_seen-none, parts_seen-alone, parts_seen-stop, parts_seen-over, parts_seen-more}
+use Rattle.event_text.proofs.TextValid.{parts_seen-all}
 use Rattle.event_text.proofs.valid.are_pairs.Goals as goal
 
 pub loop-room-init : goal.loop-room-init

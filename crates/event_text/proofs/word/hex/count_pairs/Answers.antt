@@ -1,7 +1,8 @@
 use Rattle.std.proofs.Common.{◌∙◌, arith, sym, inl, inr}
 use Rattle.event_text.proofs.TextValid.{pairs_seen-none, pairs_seen-more, pairs_seen-stop, pairs_seen-all}
 use Rattle.event_text.proofs.word.hex.count_pairs.Goals as goal
-use Rattle.event_text.proofs.word.hex.count_pairs.Goals.{then-high-eq-NO_DIGIT-via-then-high-eq-NO_DIGIT, then-high-eq-NO_DIGIT-via-else-high-eq-NO_DIGIT+then-low-eq-NO_DIGIT}
+use Rattle.event_text.proofs.word.hex.count_pairs.Goals.{then-high-eq-NO_DIGIT-via-then-high-eq-NO_DIGIT}
+use Rattle.event_text.proofs.word.hex.count_pairs.Goals.{then-high-eq-NO_DIGIT-via-else-high-eq-NO_DIGIT+then-low-eq-NO_DIGIT}
 
 pub returns-then-high-eq-NO_DIGIT : goal.returns-then-high-eq-NO_DIGIT
 returns-then-high-eq-NO_DIGIT c =

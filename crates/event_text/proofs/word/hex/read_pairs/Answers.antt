@@ -1,7 +1,8 @@
 use Rattle.std.proofs.Common.{◌∙◌, arith, sym, inl, inr}
 use Rattle.event_text.proofs.TextHex.{pairs_of-more, pairs_of-stop, pairs_of-end}
 use Rattle.event_text.proofs.word.hex.read_pairs.Goals as goal
-use Rattle.event_text.proofs.word.hex.read_pairs.Goals.{then-high-eq-NO_DIGIT-via-then-high-eq-NO_DIGIT, then-high-eq-NO_DIGIT-via-else-high-eq-NO_DIGIT+then-low-eq-NO_DIGIT}
+use Rattle.event_text.proofs.word.hex.read_pairs.Goals.{then-high-eq-NO_DIGIT-via-then-high-eq-NO_DIGIT}
+use Rattle.event_text.proofs.word.hex.read_pairs.Goals.{then-high-eq-NO_DIGIT-via-else-high-eq-NO_DIGIT+then-low-eq-NO_DIGIT}
 
 pub returns-then-high-eq-NO_DIGIT : goal.returns-then-high-eq-NO_DIGIT
 returns-then-high-eq-NO_DIGIT c =

@@ -4,9 +4,12 @@ use Rattle.std.proofs.lemmas.Bool.Decides.{nat_tests}
 use Rattle.std.proofs.lemmas.Int.Digits.{digits_value_more, digits_more}
 use Rattle.std.proofs.lemmas.List.{take_all}
 use Rattle.std.specs.Str.Parse.{AllDigits, digits_value}
-use Rattle.event_text.proofs.TextNumbers.{number_of-empty, number_of-zero_first, number_of-no_digit, number_of-large, number_of-digits, digit_value-digit}
+use Rattle.event_text.proofs.TextNumbers.{number_of-empty, number_of-zero_first, number_of-no_digit, number_of-large, number_of-digits}
+use Rattle.event_text.proofs.TextNumbers.{digit_value-digit}
 use Rattle.event_text.proofs.word.number.read_number.Goals as goal
-use Rattle.event_text.proofs.word.number.read_number.Goals.{then-byte-lt48-via-then-byte-lt48, then-byte-lt48-via-else-byte-lt48+then-byte-gt57, else-word-gt1-via-then-word-gt1+else-word-eq48, else-word-gt1-via-else-word-gt1}
+use Rattle.event_text.proofs.word.number.read_number.Goals.{then-byte-lt48-via-then-byte-lt48}
+use Rattle.event_text.proofs.word.number.read_number.Goals.{then-byte-lt48-via-else-byte-lt48+then-byte-gt57}
+use Rattle.event_text.proofs.word.number.read_number.Goals.{else-word-gt1-via-then-word-gt1+else-word-eq48, else-word-gt1-via-else-word-gt1}
 
 pub returns-then-is_empty : goal.returns-then-is_empty
 returns-then-is_empty c = sym (number_of-empty c.args.word.now (grind (arith, nat_tests)))
