@@ -15,7 +15,7 @@ use rent_io::{
 use std::alloc::Global;
 use std::marker::Brand;
 use std::sync::Wait;
-use stream_util::{BufReader, BufWriter, Copied, Copy, PrefixedReadIo};
+use stream_util::{BufReader, BufWriter, Copied, Copy, MOST_HELD, PrefixedReadIo};
 
 /// How a copy ends. (not in monoio)
 #[derive(Clone, Copy, Debug, PartialEq, Eq)]
@@ -201,7 +201,7 @@ fn pump<'a, 'b, R: Wait, S: ByteSource, K: ByteSink, P: Places>(
 
 // A copy that goes on with a rest. If memory runs out it tries again.
 fn resume<R: Wait>(rt: &R, rest: ByteList) -> Copy
-    requires { length rest ≤ 4096 }
+    requires { length rest ≤ MOST_HELD }
     ensures { result ≡ record { held = rest; count = 0 } }
 {
     let mut rest = rest;

@@ -6,17 +6,17 @@ use crate::*;
 use std::alloc::Global;
 use std::process::Abort;
 
-// A vector of the bytes of a text.
+/// A vector of the bytes of a text.
 pub fn vec_of(alloc: Global, text: &str) -> Result<Vec<u8>, OutOfMemory> {
     Ok(Vec::from_slice(alloc, text.as_bytes())?)
 }
 
-// A list of the bytes of a text.
+/// A list of the bytes of a text.
 pub fn list_of(alloc: Global, text: &str) -> Result<ByteList, OutOfMemory> {
     Ok(ByteList::from_vec(vec_of(alloc, text)?))
 }
 
-// Vectors of these texts as parts.
+/// Vectors of these texts as parts.
 pub fn parts_of(alloc: Global, texts: &[&str]) -> Result<VecBuf, OutOfMemory> {
     let mut lists = Vec::new(alloc);
     for text in texts {
@@ -54,7 +54,7 @@ fn empty_len<B: IoBuf + Drop>(buf: B) -> Option<usize> {
     Some(buf.slice_unchecked(0, 0).bytes_init())
 }
 
-// A buffer of any type holds this text, and its second and third byte are a range of it.
+/// A buffer of any type holds this text, and its second and third byte are a range of it.
 pub fn holds<B: IoBuf + Drop>(rt: &impl Abort, buf: B, text: &str) {
     let want = text.as_bytes();
     assert_eq!(rt;
@@ -72,12 +72,12 @@ pub fn holds<B: IoBuf + Drop>(rt: &impl Abort, buf: B, text: &str) {
     assert_eq!(rt; empty_len(slice.into_inner()), Some(0));
 }
 
-// How many bytes a buffer shows, and its room.
+/// How many bytes a buffer shows, and its room.
 pub fn sizes<B: IoBufMut>(buf: &B) -> (usize, usize) {
     (buf.bytes_init(), buf.bytes_total())
 }
 
-// Parts show these texts.
+/// Parts show these texts.
 pub fn shows<B: IoVecBuf>(rt: &impl Abort, parts: &B, texts: &[&str]) {
     assert_eq!(rt; parts.parts_len(), texts.len());
     for i in 0..texts.len() {
@@ -86,7 +86,7 @@ pub fn shows<B: IoVecBuf>(rt: &impl Abort, parts: &B, texts: &[&str]) {
     }
 }
 
-// Fills a range of a buffer as a buffer of its own, and gives the buffer back.
+/// Fills a range of a buffer as a buffer of its own, and gives the buffer back.
 pub fn fill_range<B: IoBufMut>(buf: B, begin: usize, end: usize, bytes: &[u8]) -> B
     requires range { IsRange (B.buffer buf) begin end }
     requires room { begin + length bytes.now ≤ end }
@@ -99,7 +99,7 @@ pub fn fill_range<B: IoBufMut>(buf: B, begin: usize, end: usize, bytes: &[u8]) -
     slice.into_inner()
 }
 
-// Sets the first byte that a buffer shows.
+/// Sets the first byte that a buffer shows.
 pub fn set_first<B: LendBytes>(buf: &mut B, byte: u8)
     requires { 0 < length (shown (B.buffer buf.old)) }
     ensures buffer { B.buffer buf.new

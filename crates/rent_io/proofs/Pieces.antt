@@ -6,6 +6,7 @@ use Rattle.rent_buf.specs.Buffer.{Buffer, room, put}
 use Rattle.rent_buf.specs.Parts.{Parts, parts_stored}
 use Rattle.rent_io.specs.Reader.{Taken, Scattered, first_room, WasFront}
 use Rattle.rent_io.specs.Source.{Gives}
+use Rattle.rent_io.specs.declared.source_stream.TheConstants.{PIECE}
 
 -- The first bytes of the piece were the first that were left.
 piece-front : (tells : Bool) (left rest piece : List ℕ) (size n : ℕ) → (IsTrue tells → Gives left rest piece size n)
@@ -14,13 +15,13 @@ piece-front tells left rest piece size n gives = λ t. sym (take-append-drop n l
     ∙ ap (λ l. take n piece ++ l) (sym (gives t).after)
 
 -- No byte came only where there was no room, or at the end.
-piece-end : (tells : Bool) (left rest piece : List ℕ) (space size n : ℕ) → size ≡ min space 4096
+piece-end : (tells : Bool) (left rest piece : List ℕ) (space size n : ℕ) → size ≡ min space PIECE
     → (IsTrue tells → Gives left rest piece size n) → IsTrue tells → n ≡ 0 → (space ≡ 0) ⊎ (left ≡ [])
 piece-end tells left rest piece space size n is gives t zero = elim ((gives t).at_end zero)
     [ inl none ↦ inl (omega arith) | inr end ↦ inr end ]
 
--- A read into a piece that is as large as the room, or of 4096 bytes, and then into the buffer.
-pub taken_piece : (tells : Bool) (left rest piece : List ℕ) (b back : Buffer) (size n : ℕ) → size ≡ min (room b) 4096
+-- A read into a piece that is as large as the room, or of `PIECE` bytes, and then into the buffer.
+pub taken_piece : (tells : Bool) (left rest piece : List ℕ) (b back : Buffer) (size n : ℕ) → size ≡ min (room b) PIECE
     → length piece ≡ size → n ≤ size
     → back ≡ put b (b.begin + 0) (take n piece) → (IsTrue tells → Gives left rest piece size n) → Taken tells left rest b back n
 taken_piece tells left rest piece b back size n is long within put_is gives = record {
@@ -33,7 +34,7 @@ taken_piece tells left rest piece b back size n is long within put_is gives = re
 }
 
 -- The same into parts.
-pub scattered_piece : (tells : Bool) (left rest piece : List ℕ) (parts back : Parts) (size n : ℕ) → size ≡ min (first_room parts) 4096
+pub scattered_piece : (tells : Bool) (left rest piece : List ℕ) (parts back : Parts) (size n : ℕ) → size ≡ min (first_room parts) PIECE
     → length piece ≡ size → n ≤ size
     → back ≡ parts_stored parts (take n piece) → (IsTrue tells → Gives left rest piece size n) → Scattered tells left rest parts back n
 scattered_piece tells left rest piece parts back size n is long within stored_is gives = record {

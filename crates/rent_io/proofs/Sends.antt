@@ -7,7 +7,7 @@ use Rattle.rent_buf.specs.Slice.{Cut}
 use Rattle.rent_io.specs.WriteAll.{Sending, SendsOn}
 
 -- From a place on, a range to the end is all that is behind that place.
-range-to_end : (xs : List ℕ) (from total : ℕ) → total ≡ length xs → slice_range xs from total ≡ drop from xs
+pub range-to_end : (xs : List ℕ) (from total : ℕ) → total ≡ length xs → slice_range xs from total ≡ drop from xs
 range-to_end xs from total is =
     let rest = length-drop from xs in
     take_all (total - from) (drop from xs) (omega (arith, rest, is))

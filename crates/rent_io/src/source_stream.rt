@@ -22,12 +22,13 @@ pub struct SourceStream<S: ByteSource> {
 
 impl<S: ByteSource> Model for SourceStream<S> {
     ghost use Rattle.std.specs.Prelude.{◌≡◌, length};
+    ghost use Rattle.rent_io.specs.declared.source_stream.TheConstants.{PIECE};
 
     ghost Value = { S };
 
     ghost view = { λ s. s.source };
 
-    ghost invariant = { λ s. length s.piece.items ≡ 4096 };
+    ghost invariant = { λ s. length s.piece.items ≡ PIECE };
 }
 
 impl<S: ByteSource> SourceStream<S> {

@@ -1,27 +1,21 @@
 -- What polls of a copy move.
-use Rattle.std.proofs.Common.{◌≡◌, ◌∙◌, ℕ, ◌+◌, ◌-◌, ◌^◌, ◌<◌, ◌≤◌, ◌≢◌, ◌⊎◌, inl, inr, refl, List, [], ◌++◌, Bool, length, take, drop}
+use Rattle.std.proofs.Common.{◌≡◌, ◌∙◌, ℕ, ◌+◌, ◌^◌, ◌<◌, ◌≤◌, ◌≢◌, ◌⊎◌, inl, inr, refl, List, [], ◌++◌, Bool, length, take, drop}
 use Rattle.std.proofs.Common.{sym, ap, subst, arith}
 use Rattle.std.proofs.Common.{append_assoc, append-nil, length-append}
 use Rattle.std.specs.Prelude.{IsTrue, Result, Ok, Err}
 use Rattle.std.specs.List.{slice_range}
-use Rattle.std.proofs.lemmas.List.{take_all, length-take, length-drop, take-append-drop, drop-drop}
+use Rattle.std.proofs.lemmas.List.{length-take, take-append-drop, drop-drop}
 use Rattle.rent_buf.specs.declared.fault.IoFault.{IoFault}
 use Rattle.rent_buf.specs.Rent.{Rented, buffer_of_rent}
 use Rattle.rent_buf.specs.Slice.{Cut}
 use Rattle.rent_io.specs.declared.poll.Step.TheVariants.{Ready, Pending}
-use Rattle.rent_io.specs.Counts.{Rose}
 use Rattle.rent_io.specs.Reader.{Reader, Taken}
 use Rattle.rent_io.specs.Writer.{Writer}
-use Rattle.rent_io.proofs.Sends.{SliceSent}
+use Rattle.rent_io.proofs.Runs.{rose_later}
+use Rattle.rent_io.proofs.Sends.{SliceSent, range-to_end}
 use Rattle.stream_util.specs.Copy.{Copying, Ends, OneCall, Copies, Waits, Moves, MovesSome, IsCopyEnd, IsSameJoined, count_more}
 use Rattle.stream_util.specs.Copy.{HasCopied, IsRunEnd, Runs, CopiesAll, HasAll}
 use Rattle.stream_util.specs.declared.copy.Copied.{Copied}
-
--- From a place on, a range to the end is all that is behind that place.
-range-to_end : (xs : List ℕ) (from total : ℕ) → total ≡ length xs → slice_range xs from total ≡ drop from xs
-range-to_end xs from total is =
-    let rest = length-drop from xs in
-    take_all (total - from) (drop from xs) (omega (arith, rest, is))
 
 -- What a range to the end shows, cut at a place: the first bytes, and those behind them.
 pub range_cut : (xs : List ℕ) (from total n : ℕ) → total ≡ length xs
@@ -126,10 +120,6 @@ ran_none reads writes ends copy bounded = record {
   writes_pause = omega arith;
 }
 
--- A count that rose later rose since before.
-rose-since : (before mid now : ℕ) → before ≤ mid → Rose mid now → Rose before now
-rose-since before mid now less rose = omega (arith, less, rose)
-
 -- A copy as it was, but that what it holds is called by another name.
 renamed : (copy : Copying) (rest : List ℕ) → rest ≡ copy.held → (record { held = rest; count = copy.count }) ≡ copy
 renamed copy rest same = ap (λ (l : List ℕ). record { held = l; count = copy.count }) same
@@ -161,8 +151,8 @@ ran_waits reads writes before mid now copy next later ran waits = (
   moves_then reads writes before mid now copy next later ran.moves
       (moves_none reads writes mid now next later (omega (arith, ran.moves.counted)) waits.0 waits.1.0 waits.1.1),
   elim waits.2 [
-    | inl rose ↦ inl (rose-since before.reader.counts.pauses mid.reader.counts.pauses now.reader.counts.pauses ran.reads_pause rose)
-    | inr rose ↦ inr (rose-since before.writer.counts.pauses mid.writer.counts.pauses now.writer.counts.pauses ran.writes_pause rose)
+    | inl rose ↦ inl (rose_later before.reader.counts.pauses mid.reader.counts.pauses now.reader.counts.pauses ran.reads_pause rose)
+    | inr rose ↦ inr (rose_later before.writer.counts.pauses mid.writer.counts.pauses now.writer.counts.pauses ran.writes_pause rose)
   ],
 )
 
@@ -172,9 +162,9 @@ run-end : (reads writes : Bool) (before mid now : Ends) (copy next : Copying) (r
     → IsCopyEnd reads mid now next outcome → IsRunEnd reads before now next.count rest outcome
 run-end reads writes before mid now copy next rest (Ok n) ran same left end = (end.0, same ∙ end.1, λ r. left r ∙ end.2 r)
 run-end reads writes before mid now copy next rest (Err fault) ran same left (inl rose) =
-    inl (rose-since before.reader.counts.faults mid.reader.counts.faults now.reader.counts.faults ran.reads_fail rose)
+    inl (rose_later before.reader.counts.faults mid.reader.counts.faults now.reader.counts.faults ran.reads_fail rose)
 run-end reads writes before mid now copy next rest (Err fault) ran same left (inr (inl rose)) =
-    inr (inl (rose-since before.writer.counts.faults mid.writer.counts.faults now.writer.counts.faults ran.writes_fail rose))
+    inr (inl (rose_later before.writer.counts.faults mid.writer.counts.faults now.writer.counts.faults ran.writes_fail rose))
 run-end reads writes before mid now copy next rest (Err fault) ran same left (inr (inr zero)) =
     inr (inr (zero.0, omega (arith, zero.1, ap length same)))
 

@@ -6,6 +6,7 @@ use Rattle.rent_buf.specs.Buffer.{Buffer, room, put}
 use Rattle.rent_buf.specs.Parts.{Parts, parts_stored}
 use Rattle.rent_io.specs.Reader.{Taken, Scattered, first_room}
 use Rattle.rent_io.specs.Source.{Gives}
+use Rattle.rent_io.specs.declared.source_stream.TheConstants.{PIECE}
 use Rattle.stream_util.specs.PrefixedReadIo.{prefix_left}
 use Rattle.rent_io.proofs.Pieces.{taken_piece, scattered_piece}
 
@@ -16,7 +17,7 @@ second-tells false b t = absurd (false≢true t)
 
 -- A read of the prefix by way of a piece of memory is one of the stream: what is left of the stream inside comes behind.
 pub taken_prefix : (first tells finished : Bool) (left rest behind piece : List ℕ) (b back : Buffer) (size n : ℕ)
-    → finished ≡ false → size ≡ min (room b) 4096
+    → finished ≡ false → size ≡ min (room b) PIECE
     → length piece ≡ size → n ≤ size → n ≢ 0 → back ≡ put b (b.begin + 0) (take n piece) → (IsTrue tells → Gives left rest piece size n)
     → Taken (first && tells) (prefix_left finished left ++ behind) (prefix_left finished rest ++ behind) b back n
 taken_prefix first tells finished left rest behind piece b back size n going is long within some put_is gives =
@@ -32,7 +33,7 @@ taken_prefix first tells finished left rest behind piece b back size n going is 
 
 -- The same into parts.
 pub scattered_prefix : (first tells finished : Bool) (left rest behind piece : List ℕ) (parts back : Parts) (size n : ℕ)
-    → finished ≡ false → size ≡ min (first_room parts) 4096 → length piece ≡ size → n ≤ size → n ≢ 0
+    → finished ≡ false → size ≡ min (first_room parts) PIECE → length piece ≡ size → n ≤ size → n ≢ 0
     → back ≡ parts_stored parts (take n piece)
     → (IsTrue tells → Gives left rest piece size n)
     → Scattered (first && tells) (prefix_left finished left ++ behind) (prefix_left finished rest ++ behind) parts back n

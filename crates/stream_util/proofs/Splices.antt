@@ -50,7 +50,8 @@ splice_fetched reads writes before now writer copy pipe later len n count is bou
 
 -- A splice out of some bytes: the copy delivered them.
 pub splice_delivered : (reads writes : Bool) (reader : Reader) (before now : Writer) (copy : Copying) (pipe later : List ℕ)
-    (len n count : ℕ) → record { held = pipe; count = count } ≡ copy → n ≢ 0 → SplicedOut writes before.delivered now.delivered pipe later len n
+    (len n count : ℕ) → record { held = pipe; count = count } ≡ copy → n ≢ 0
+    → SplicedOut writes before.delivered now.delivered pipe later len n
     → MovesSome reads writes (record { reader = reader; writer = before }) (record { reader = reader; writer = now }) copy
     (record { held = later; count = count_more count n })
 splice_delivered reads writes reader before now copy pipe later len n count is some spliced = record {

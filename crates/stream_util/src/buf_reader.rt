@@ -45,7 +45,7 @@ impl<R> BufReader<R> {
 
     /// A stream with an empty buffer of 8192 bytes (monoio: `new`). If memory runs out, the same stream comes back.
     pub fn new(alloc: Global, inner: R) -> Result<BufReader<R>, (OutOfMemory, R)>
-        ensures ok { IfOk result (λ r. r ≡ fresh_reader inner 8192) }
+        ensures ok { IfOk result (λ r. r ≡ fresh_reader inner DEFAULT_CAPACITY) }
         ensures err { IfErr result (λ refused. refused.1 ≡ inner) }
     {
         BufReader::with_capacity(alloc, DEFAULT_CAPACITY, inner)

@@ -69,7 +69,7 @@ impl<W> BufWriter<W> {
 
     /// A stream with an empty buffer of 8192 bytes (monoio: `new`). If memory runs out, the same stream comes back.
     pub fn new(alloc: Global, inner: W) -> Result<BufWriter<W>, (OutOfMemory, W)>
-        ensures ok { IfOk result (λ w. w ≡ fresh_writer inner 8192) }
+        ensures ok { IfOk result (λ w. w ≡ fresh_writer inner DEFAULT_CAPACITY) }
         ensures err { IfErr result (λ refused. refused.1 ≡ inner) }
     {
         BufWriter::with_capacity(alloc, DEFAULT_CAPACITY, inner)

@@ -25,12 +25,13 @@ pub struct Copy {
 impl Model for Copy {
     ghost use Rattle.std.specs.Prelude.{◌≡◌, ◌≤◌, ◌<◌, ◌^◌, length, drop};
     ghost use Rattle.stream_util.specs.Copy.{Copying};
+    ghost use Rattle.stream_util.specs.declared.copy.TheConstants.{MOST_HELD};
 
     ghost Value = { Copying };
 
     ghost view = { λ s. record { held = drop s.sent s.buf.bytes; count = s.count } };
 
-    ghost invariant = { λ s. (s.sent ≤ length s.buf.bytes) × (s.buf.total ≡ 4096) × (s.count < 2 ^ 64) };
+    ghost invariant = { λ s. (s.sent ≤ length s.buf.bytes) × (s.buf.total ≡ MOST_HELD) × (s.count < 2 ^ 64) };
 }
 
 /// How a copy ended (not in monoio).
@@ -58,7 +59,7 @@ impl Copy {
     /// A copy that takes up one that ended with this rest, and counts from 0 again (not in monoio). If memory runs out,
     /// the rest comes back.
     pub fn resume(rest: ByteList) -> Result<Copy, (OutOfMemory, ByteList)>
-        requires { length rest ≤ 4096 }
+        requires { length rest ≤ MOST_HELD }
         ensures ok { IfOk result (λ copy. copy ≡ record { held = rest; count = 0 }) }
         ensures err { IfErr result (λ refused. refused.1 ≡ rest) }
     {
@@ -75,7 +76,7 @@ impl Copy {
     /// What was read and not delivered: at most `MOST_HELD` bytes.
     pub fn held(&self) -> &[u8]
         ensures value { result.now ≡ self.now.held }
-        ensures within { length result.now ≤ 4096 }
+        ensures within { length result.now ≤ MOST_HELD }
     {
         self.buf.keeps_bounds();
         &self.buf.as_slice()[self.sent..]
@@ -106,7 +107,7 @@ impl Copy {
         ensures joined { IsSameJoined R.tells W.tells (record { reader = R.reader reader.old; writer = W.writer writer.old })
             (record { reader = R.reader reader.new; writer = W.writer writer.new }) self.held (held_in result) }
         ensures ends { EndsStay (W.writer writer.old) (W.writer writer.new) }
-        ensures within { length (held_in result) ≤ 4096 }
+        ensures within { length (held_in result) ≤ MOST_HELD }
     {
         let _ = self.count();
         let _ = self.held();
@@ -138,7 +139,7 @@ impl Copy {
         ensures ends { EndsStay (W.writer writer.old) (W.writer writer.new) }
         ensures joined { IsSameJoined R.tells W.tells (record { reader = R.reader reader.old; writer = W.writer writer.old })
             (record { reader = R.reader reader.new; writer = W.writer writer.new }) self.held (held_in result) }
-        ensures within { length (held_in result) ≤ 4096 }
+        ensures within { length (held_in result) ≤ MOST_HELD }
     {
         let Copy { buf, sent, count } = self;
         let len = buf.len();

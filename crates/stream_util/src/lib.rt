@@ -17,7 +17,7 @@ pub use duplex::Duplex;
 pub use prefixed_io::PrefixedReadIo;
 pub use splice::{MemPipe, SpliceDestination, SpliceSource};
 pub use split::{OwnedReadHalf, OwnedWriteHalf, Pairs, ReuniteError, Shutdown, Split, Splitable};
-pub use zero_copy::ZeroCopy;
+pub use zero_copy::{MOST_SPLICED, ZeroCopy};
 
 #[cfg(test)]
 mod tests;

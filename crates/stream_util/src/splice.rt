@@ -117,7 +117,7 @@ pub trait SpliceDestination {
         ensures counts { AfterCall (destination self.old).counts (destination self.new).counts };
 }
 
-// One read of a stream of at most so many bytes, and at most 4096, which join the end of a pipe.
+// One read of a stream of at most so many bytes, and at most `PIECE`, which join the end of a pipe.
 fn read_into<A: AsyncReadRent>(reader: &mut A, pipe: &mut MemPipe, len: u32, task: u64) -> PollCount
     ensures splices { SplicesIn A.tells (A.reader reader.old).left (A.reader reader.new).left pipe.old pipe.new len result }
     ensures cause { IsSpliceCaused (A.reader reader.old).counts (A.reader reader.new).counts result }

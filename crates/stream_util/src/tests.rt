@@ -1,6 +1,6 @@
 // Worked runs, and that each call succeeds where memory is at hand.
 use crate::{
-    BufReader, BufWriter, Copied, Copy, Duplex, OwnedReadHalf, OwnedWriteHalf, Pairs,
+    BufReader, BufWriter, Copied, Copy, Duplex, MOST_HELD, OwnedReadHalf, OwnedWriteHalf, Pairs,
     PrefixedReadIo, ReuniteError, Splitable, ZeroCopy,
 };
 use rent_buf::{ByteList, IoBuf, IoFault, NumList, Rent};
@@ -77,7 +77,7 @@ fn copies_end(rt: HostRuntime) -> Result<(), Fail> {
 
 // A copy that goes on with what another one held.
 fn resumed(rest: ByteList) -> Result<Copy, Fail> {
-    if rest.len() > 4096 {
+    if rest.len() > MOST_HELD {
         return Err(Fail::from("too long"));
     }
     made(Copy::resume(rest))

@@ -12,8 +12,8 @@ use rent_io::{PollCount, Step};
 use std::alloc::Global;
 use std::marker::Model;
 
-// The most bytes that one splice moves.
-const LEN: u32 = 4096;
+/// The most bytes that one splice of a `ZeroCopy` moves (monoio: `BUF_SIZE`).
+pub const MOST_SPLICED: u32 = 4096;
 
 /// A copy from a stream to a stream by splices through a pipe of its own (monoio: the future of `zero_copy`). A clause sees
 /// it as a `Copy`: the bytes that it read and did not deliver, and how many bytes it delivered.
@@ -27,12 +27,13 @@ pub struct ZeroCopy {
 impl Model for ZeroCopy {
     ghost use Rattle.std.specs.Prelude.{◌≤◌, ◌<◌, ◌^◌, length};
     ghost use Rattle.stream_util.specs.Copy.{Copying};
+    ghost use Rattle.stream_util.specs.declared.zero_copy.TheConstants.{MOST_SPLICED};
 
     ghost Value = { Copying };
 
     ghost view = { λ s. record { held = s.pipe; count = s.count } };
 
-    ghost invariant = { λ s. (length s.pipe ≤ 4096) × (s.count < 2 ^ 64) };
+    ghost invariant = { λ s. (length s.pipe ≤ MOST_SPLICED) × (s.count < 2 ^ 64) };
 }
 
 impl ZeroCopy {
@@ -46,10 +47,10 @@ impl ZeroCopy {
         }
     }
 
-    /// What was read and not delivered: at most 4096 bytes.
+    /// What was read and not delivered: at most `MOST_SPLICED` bytes.
     pub fn held(&self) -> &[u8]
         ensures value { result.now ≡ self.now.held }
-        ensures within { length result.now ≤ 4096 }
+        ensures within { length result.now ≤ MOST_SPLICED }
     {
         let _ = self.count;
         self.pipe.bytes()
@@ -75,7 +76,7 @@ impl ZeroCopy {
     {
         let ZeroCopy { mut pipe, count } = self;
         if pipe.bytes().is_empty() {
-            return match reader.poll_splice_to(&mut pipe, LEN, task) {
+            return match reader.poll_splice_to(&mut pipe, MOST_SPLICED, task) {
                 PollCount::Ready(Ok(n)) => {
                     if n == 0 {
                         return ended(Ok(count), pipe);
@@ -87,7 +88,7 @@ impl ZeroCopy {
                 PollCount::Again => Step::Again(ZeroCopy { pipe, count }),
             };
         }
-        match writer.poll_splice_from(&mut pipe, LEN, task) {
+        match writer.poll_splice_from(&mut pipe, MOST_SPLICED, task) {
             PollCount::Ready(Ok(n)) => {
                 if n == 0 {
                     return ended(Err(IoFault::WriteZero), pipe);

@@ -6,7 +6,7 @@ use crate::{
     Step,
 };
 use cancel_core::{CancelHandle, Groups};
-use rent_buf::{IoBuf, OutOfMemory, Ranges, Rent, VecBuf};
+use rent_buf::{OutOfMemory, Ranges, Rent, VecBuf};
 use std::alloc::Global;
 use std::fmt::Debug;
 use std::process::Abort;

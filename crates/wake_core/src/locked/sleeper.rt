@@ -14,7 +14,7 @@ use std::alloc::Global;
 use std::marker::Model;
 use std::snapshot::Snapshot;
 use std::sync::ledger::{Ledger, Share};
-use std::sync::{Condvar, CondvarTimeouts, MutexGuard, Wait};
+use std::sync::{Condvar, MutexGuard, Wait};
 use std::time::{Clock, Duration};
 
 // What a sleeper is to do next in its round, whatever stage it finds.

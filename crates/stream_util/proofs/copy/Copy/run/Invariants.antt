@@ -1,5 +1,6 @@
 use Rattle.std.proofs.Common.{◌≤◌, length}
 use Rattle.rent_io.specs.Writer.{EndsStay}
+use Rattle.stream_util.specs.declared.copy.TheConstants.{MOST_HELD}
 use Rattle.stream_util.proofs.Copies.{Ran}
 use Rattle.stream_util.proofs.copy.Copy.run.Given as goal
 
@@ -11,4 +12,4 @@ invariant-loop-turn g l =
     Ran g.R.AsyncReadRent.tells g.W.AsyncWriteRent.tells (record { reader = reader l.fn.reader; writer = writer l.fn.writer })
     (record { reader = reader l.reader; writer = writer l.writer }) l.fn.self l.copy
     × EndsStay (writer l.fn.writer) (writer l.writer)
-    × (length l.copy.held ≤ 4096)
+    × (length l.copy.held ≤ MOST_HELD)

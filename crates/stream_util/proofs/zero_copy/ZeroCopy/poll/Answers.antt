@@ -1,4 +1,5 @@
 use Rattle.std.proofs.Common.{inr}
+use Rattle.stream_util.specs.declared.zero_copy.TheConstants.{MOST_SPLICED}
 use Rattle.stream_util.proofs.Splices.{splice_fetched, splice_delivered}
 use Rattle.stream_util.proofs.zero_copy.ZeroCopy.poll.Goals as goal
 
@@ -10,8 +11,8 @@ returns-else-n-eq0-clause-answer g c =
     let splices = rw a.field-0-is at a.ensures.splices in
     inr
     (splice_fetched g.S.SpliceSource.tells g.D.SpliceDestination.tells (source c.args.reader.now) (source c.poll_splice_to.new.self)
-    (g.D.SpliceDestination.destination c.args.writer.now) c.args.self i.pipe c.poll_splice_to.new.pipe 4096 a.n i.count c.self.view_is
-    c.self.invariant.1 c.if-n-eq0.false splices)
+    (g.D.SpliceDestination.destination c.args.writer.now) c.args.self i.pipe c.poll_splice_to.new.pipe MOST_SPLICED a.n i.count
+    c.self.view_is c.self.invariant.1 c.if-n-eq0.false splices)
 
 pub returns-else-n-eq0-2-clause-answer : goal.returns-else-n-eq0-2-clause-answer
 returns-else-n-eq0-2-clause-answer g c =
@@ -21,5 +22,5 @@ returns-else-n-eq0-2-clause-answer g c =
     let splices = rw a.field-0-is at a.ensures.splices in
     rw c.saturating_add.ensures
     (inr (splice_delivered g.S.SpliceSource.tells g.D.SpliceDestination.tells (g.S.SpliceSource.source c.args.reader.now)
-    (destination c.args.writer.now) (destination c.poll_splice_from.new.self) c.args.self i.pipe c.poll_splice_from.new.pipe 4096 a.n
-    i.count c.self.view_is c.if-n-eq0-2.false splices))
+    (destination c.args.writer.now) (destination c.poll_splice_from.new.self) c.args.self i.pipe c.poll_splice_from.new.pipe MOST_SPLICED
+    a.n i.count c.self.view_is c.if-n-eq0-2.false splices))
