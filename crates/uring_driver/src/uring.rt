@@ -20,6 +20,7 @@ ghost use Rattle.uring_driver.specs.PollOp.{IsExactPoll, PollsHandles, closes_of
 use crate::holding::Handles;
 use crate::submissions::Submissions;
 use crate::uring::leave::let_go;
+use crate::uring::turn::Named;
 use driver_core::{Op, Operations, PollOp, SubmitError, SubmitFault, Submitted};
 use op_slots::AfterDrop;
 use op_slots::slab::MAX_LIVE;
@@ -42,6 +43,8 @@ pub struct IoUringDriver<R: Ring, B: IoBufMut> {
     ring: Submissions<R>,
     ops: Operations<B>,
     handles: Handles,
+    // The lists of the next turn: they name nobody, and their memory is used again.
+    spare: Named,
     alloc: Global,
 }
 
@@ -72,6 +75,7 @@ impl<R: Ring, B: IoBufMut + Drop> IoUringDriver<R, B> {
             ring: Submissions::new(alloc, ring),
             ops: Operations::new(alloc),
             handles: Handles::new(alloc),
+            spare: Named::new(alloc),
             alloc,
         })
     }
