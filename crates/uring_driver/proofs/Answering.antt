@@ -14,9 +14,9 @@ use Rattle.ring_core.proofs.Lawful.{Lawful, lawful-ledger}
 use Rattle.uring_driver.specs.declared.uring.IoUringDriver.{IoUringDriver}
 use Rattle.uring_driver.specs.Holding.{HandlesStand}
 use Rattle.uring_driver.specs.Stands.{Stands, Answers, owed}
+use Rattle.uring_driver.specs.Reaps.{FitsQueue}
 use Rattle.uring_driver.specs.Uring.{ring_in, due_in, room_in, whole_ring}
 use Rattle.uring_driver.proofs.Means.{Means, ring-of}
-use Rattle.uring_driver.proofs.Posting.{FitsQueue}
 use Rattle.uring_driver.proofs.Steps.{reached-more}
 
 -- The laws hold of a ledger that a driver stands for.

@@ -1,6 +1,6 @@
 -- What a drop and a cancel do to a driver that stands for a ledger.
 use Rattle.std.proofs.Common.{◌≡◌, ℕ, ◌+◌, ◌≤◌, ◌<◌, ◌^◌, Bool, true, false, List, map, IsTrue}
-use Rattle.std.specs.Prelude.{◌&&◌}
+use Rattle.std.proofs.Math.Bool.{and-false}
 use Rattle.std.proofs.Common.{length, Option, Some, None, refl, sym, ◌∙◌, ap, subst, arith}
 use Rattle.std.specs.FinMap.{get, insert, remove, len}
 use Rattle.rent_buf.specs.Buffer.{Buffer}
@@ -69,11 +69,6 @@ free-reaped InFlight t h e = (let z = sym (wait-left t) ∙ e in cc)
 free-reaped (InDone r) t h e = (let z = sym (wait-left t) ∙ e in cc)
 free-reaped (Reaped r) t h e = (r, refl)
 free-reaped Gone t h e = (let f : ⊥ = cc in absurd f)
-
--- A test and false is false.
-and-false : (b : Bool) → (b && false) ≡ false
-and-false true = refl
-and-false false = refl
 
 -- A drop leaves who holds what.
 drop-holds : (o : Operation) → HoldsSame o (with_drop o)

@@ -40,10 +40,10 @@ use Rattle.driver_core.proofs.Numbers.{Owner}
 use Rattle.driver_core.proofs.Tokens.{held-slot}
 use Rattle.uring_driver.specs.Op.{Holds, number_of}
 use Rattle.uring_driver.specs.PollOp.{PollsFor, PollsOp, IsPending, IsUnreaped, IsUnreapedOp, IsUnreapedPlace}
+use Rattle.uring_driver.specs.Reaps.{FitsQueue}
 use Rattle.uring_driver.specs.Stands.{Stands, Answers}
 use Rattle.uring_driver.proofs.Steps.{is_waiting, step-poll-waiting, step-poll-reaped}
 use Rattle.uring_driver.proofs.Means.{Means, means-of}
-use Rattle.uring_driver.proofs.Posting.{FitsQueue}
 use Rattle.uring_driver.proofs.Holders.{handles-same}
 use Rattle.uring_driver.proofs.Answering.{lawful-of, fits-of, answers-parts}
 use Rattle.uring_driver.proofs.Lefts.{parts-left, live-left}
