@@ -30,7 +30,7 @@ const ENTRIES: u32 = 1024;
 impl<B: IoBufMut + Drop> IoUringDriver<MemRing, B> {
     /// A driver over a ring in memory whose queue holds 1024 entries. (monoio: `new`)
     pub fn new(alloc: Global) -> Result<Self, OutOfMemory>
-        ensures stands { IfOk result (λ driver. Stands (λ r. r) B.buffer driver (empty 1024)) }
+        ensures stands { IfOk result (λ driver. Stands (λ r. r) B.buffer driver (empty ENTRIES)) }
         ensures tokens { IfOk result (λ driver. HoldsNone driver) }
         ensures due { IfOk result (λ driver. due_in driver ≡ []) }
     {

@@ -1,5 +1,6 @@
 use Rattle.std.proofs.Common.{IsTrue, ◌<◌, ◌^◌, ◌+◌, ◌≤◌, refl, sym, ap, subst, ◌∙◌, arith, length, length-append}
 use Rattle.std.specs.FinMap as map
+use Rattle.op_slots.specs.declared.slab.TheConstants.{MAX_LIVE}
 use Rattle.ring_core.specs.Ring.{pushed}
 use Rattle.ring_core.specs.Request.{named}
 use Rattle.ring_core.specs.declared.entry.Body.TheVariants.{Call}
@@ -85,7 +86,7 @@ returns-clause-answers g c =
     (let a = ok.spare in let b = c.join-2.ensures.room in let s = ap map.len c.in-Ok.ensures.slots in let h = c.len.ensures in
     omega (arith, a, b, s, h)) in
     stands-submits view g.B.IoBufMut.buffer d _ L c.args.request op.key (view made.ring).spare spare mid stands user
-    (subst (λ m. map.len m < 4294967232) c.in-Ok.ensures.slots ok.few) puts.free puts.below puts.slots
+    (subst (λ m. map.len m < MAX_LIVE) c.in-Ok.ensures.slots ok.few) puts.free puts.below puts.slots
     (c.in-Ok.ensures.told tells (fits-split (view d.ring.ring).queue d.ring.due (view d.ring.ring).capacity stands.fits))
     roomy
     (c.join-2.ensures.told tells ∙ ap (λ e. with_spare (pushed mid e) spare) c.call-entry.ensures
