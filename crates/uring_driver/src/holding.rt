@@ -91,7 +91,7 @@ impl Handles {
         if count < self.closing.spare() {
             return Ok(());
         }
-        // The room doubles at least, so that it is taken seldom.
+        // Room for half as many again as are held, so that it is taken seldom.
         match count.checked_add(count / 2 + 1) {
             Some(room) => self.closing.reserve(room),
             None => Err(OutOfMemory),
