@@ -1,5 +1,6 @@
 -- Holders and closes stand for those of a ledger, once an operation or a user left.
-use Rattle.std.proofs.Common.{◌≡◌, ◌≢◌, ◌∙◌, inl, inr, ℕ, zero, suc, ◌+◌, ◌-◌, ◌<◌, ◌≤◌, Bool, true, false, not, ◌==◌, List, [], ◌∷◌, length, map, Some, refl, sym, ap, subst, arith, IsTrue, if◌then◌else◌, ◌^◌}
+use Rattle.std.proofs.Common.{◌≡◌, ◌∙◌, inl, inr, ℕ, zero, suc, ◌+◌, ◌-◌, ◌<◌, ◌≤◌, Bool, true, false, not, ◌==◌}
+use Rattle.std.proofs.Common.{List, [], ◌∷◌, length, map, Some, refl, sym, ap, subst, arith, IsTrue, if◌then◌else◌, ◌^◌}
 use Rattle.std.specs.Prelude.{◌||◌, ◌&&◌, is_some, nat_lt, slice_get}
 use Rattle.std.proofs.Math.Bool.{or-false}
 use Rattle.std.proofs.lemmas.Bool.Decides.{nat_tests}
@@ -12,8 +13,10 @@ use Rattle.ring_core.specs.Ranks.{one_if}
 use Rattle.ring_core.specs.Request.{named, listed}
 use Rattle.ring_core.specs.Entry.{close_entry}
 use Rattle.ring_core.specs.Ring.{RingView}
-use Rattle.ring_core.specs.Ledger.{Ledger, Operation, Queued, Req, Cancel, Place, InQueue, InFlight, InDone, Reaped, Gone, is_live, is_owned}
-use Rattle.ring_core.specs.Queue.{at_place, canceled_at, with_cancel, take_one, take_each, take_all, push, push_each, with_gone, leave, became_unheld}
+use Rattle.ring_core.specs.Ledger.{Ledger, Operation, Queued, Req, Cancel, Place, InQueue, InFlight, InDone, Reaped, Gone}
+use Rattle.ring_core.specs.Ledger.{is_live, is_owned}
+use Rattle.ring_core.specs.Queue.{at_place, canceled_at, with_cancel, take_one, take_each, take_all, push, push_each, with_gone}
+use Rattle.ring_core.specs.Queue.{leave, became_unheld}
 use Rattle.ring_core.specs.Closes.{close_count, closes_queued, AreKnown}
 use Rattle.ring_core.proofs.Numbers.{same-or-not, equal-other}
 use Rattle.ring_core.proofs.Closing.{count-push_each}
@@ -81,11 +84,14 @@ pub closes-pushed : (a k : ℕ) (handles : List ℕ) →
     nat_lt 0 (a + closes_queued k (map Queued.Close handles)) ≡ (nat_lt 0 a || has_number k handles)
 closes-pushed a k [] = none-more a
 closes-pushed a k (h ∷ handles) =
-    ap (nat_lt 0) (let e : a + (one_if (k == h) + closes_queued k (map Queued.Close handles)) ≡ (a + one_if (k == h)) + closes_queued k (map Queued.Close handles) = omega arith in e)
+    ap (nat_lt 0) (regrouped a (one_if (k == h)) (closes_queued k (map Queued.Close handles)))
     ∙ closes-pushed (a + one_if (k == h)) k handles
     ∙ ap (λ b. b || has_number k handles) (one-more a (k == h))
     ∙ or-turn (nat_lt 0 a) (k == h) (has_number k handles)
   where
+    regrouped : (a b c : ℕ) → a + (b + c) ≡ (a + b) + c
+    regrouped a b c = omega arith
+
     one-more : (a : ℕ) (b : Bool) → nat_lt 0 (a + one_if b) ≡ (nat_lt 0 a || b)
     one-more a true = above a (nat_lt 0 a) refl where
       above : (a : ℕ) (b : Bool) → nat_lt 0 a ≡ b → nat_lt 0 (a + 1) ≡ (b || true)
@@ -186,8 +192,8 @@ parts-left view buffer tells steady slots old new holding L n o always means sta
     let us = unheld_by holding.table (named o.request) in
     let same = unheld-became holding.table L n o stand.holders there live (named-ascends o.request) known in
     let pushed = posts-closes view buffer tells steady slots always old new (with_gone L n) us means below room fits posts in
-    subst (λ hs. LeftParts view buffer slots old new holding (named o.request) (with_gone L n) (push_each (with_gone L n) (map Queued.Close hs))) same
-    (record {
+    subst (λ hs. LeftParts view buffer slots old new holding (named o.request) (with_gone L n)
+    (push_each (with_gone L n) (map Queued.Close hs))) same (record {
       means = pushed.means;
       handles = subst (λ hs. HandlesStand (ops_left holding (named o.request)) (push_each (with_gone L n) (map Queued.Close hs))) (sym same)
           (handles-left holding L n o stand there live (named-ascends o.request) known requests);

@@ -1,5 +1,6 @@
 //! What a turn of the driver does: it treats the completions that are ready, in order.
-ghost use Rattle.std.specs.Prelude.{◌≡◌, ◌≤◌, ◌<◌, ◌+◌, ◌++◌, ◌||◌, ◌∷◌, ℕ, [], nat_lt, Some, IsTrue, IfOk, IfErr, option_to_list, length, vec_len, vec_capacity};
+ghost use Rattle.std.specs.Prelude.{◌≡◌, ◌≤◌, ◌<◌, ◌+◌, ◌++◌, ◌||◌, ◌∷◌, ℕ, [], nat_lt, Some, IsTrue, IfOk, IfErr, option_to_list};
+ghost use Rattle.std.specs.Prelude.{length, vec_len, vec_capacity};
 ghost use Rattle.ring_core.specs.Entry.{target};
 ghost use Rattle.driver_core.specs.Slot.{KeepsNumbers};
 ghost use Rattle.driver_core.specs.Requests.{KeepsRequests};
@@ -126,7 +127,8 @@ fn reap_one<R: Ring, B: Drop>(
     requires room { HasRoom named.old 1 }
     requires sound { IsSound ring.old.room ops.old.slots.values handles.old.table }
     requires holding { AreHolding handles.old.table ops.old.slots.values ops.old.given }
-    ensures reaps { Reaps R.view R.tells R.steady (midway ring.old ops.old handles.old) (midway ring.new ops.new handles.new) named.old named.new 1 result }
+    ensures reaps { Reaps R.view R.tells R.steady
+        (midway ring.old ops.old handles.old) (midway ring.new ops.new handles.new) named.old named.new 1 result }
     ensures none_due { IsTrue R.steady → ring.old.due ≡ [] → ring.new.due ≡ [] }
     ensures room { (count : ℕ) → HasRoom named.old (count + 1) → HasRoom named.new count }
     ensures numbers { KeepsNumbers ops.old.slots.values ops.new.slots.values }
@@ -153,8 +155,10 @@ fn treat<R: Ring, B: Drop>(
     requires room { HasRoom named.old 1 }
     requires sound { IsSound ring.old.room ops.old.slots.values handles.old.table }
     requires holding { AreHolding handles.old.table ops.old.slots.values ops.old.given }
-    ensures treats { Treats (treat_one (target completion.now.word) ops.old.slots.values handles.old completion.now) ops.new.slots.values handles.new named.old named.new result }
-    ensures posts { PostsAll R.view R.tells R.steady ring.old ring.new (treat_one (target completion.now.word) ops.old.slots.values handles.old completion.now).queued }
+    ensures treats { Treats (treat_one (target completion.now.word) ops.old.slots.values handles.old completion.now)
+        ops.new.slots.values handles.new named.old named.new result }
+    ensures posts { PostsAll R.view R.tells R.steady ring.old ring.new
+        (treat_one (target completion.now.word) ops.old.slots.values handles.old completion.now).queued }
     ensures none_due { IsTrue R.steady → ring.old.due ≡ [] → ring.new.due ≡ [] }
     ensures room { (count : ℕ) → HasRoom named.old (count + 1) → HasRoom named.new count }
     ensures numbers { KeepsNumbers ops.old.slots.values ops.new.slots.values }
@@ -191,8 +195,10 @@ fn note(named: &mut Named, number: u64, task: Option<u64>)
     ensures reaped { named.new.reaped.items ≡ named.old.reaped.items ++ number ∷ [] }
     ensures closed { named.new.closed ≡ named.old.closed }
     ensures woken { named.new.woken.items ≡ named.old.woken.items ++ option_to_list task }
-    ensures reaped_room { (vec_len named.new.reaped ≤ vec_len named.old.reaped + 1) × (vec_capacity named.new.reaped ≡ vec_capacity named.old.reaped) }
-    ensures woken_room { (vec_len named.new.woken ≤ vec_len named.old.woken + 1) × (vec_capacity named.new.woken ≡ vec_capacity named.old.woken) }
+    ensures reaped_room { (vec_len named.new.reaped ≤ vec_len named.old.reaped + 1) ×
+        (vec_capacity named.new.reaped ≡ vec_capacity named.old.reaped) }
+    ensures woken_room { (vec_len named.new.woken ≤ vec_len named.old.woken + 1) ×
+        (vec_capacity named.new.woken ≡ vec_capacity named.old.woken) }
 {
     named.reaped.push_reserved(number);
     match task {
@@ -211,7 +217,8 @@ pub fn reap_all<R: Ring, B: Drop>(
     requires room { HasRoom named.old (length (R.view ring.old.ring).done) }
     requires sound { IsSound ring.old.room ops.old.slots.values handles.old.table }
     requires holding { AreHolding handles.old.table ops.old.slots.values ops.old.given }
-    ensures reaps { ReapsAll R.view R.tells R.steady (midway ring.old ops.old handles.old) (midway ring.new ops.new handles.new) named.old named.new result }
+    ensures reaps { ReapsAll R.view R.tells R.steady
+        (midway ring.old ops.old handles.old) (midway ring.new ops.new handles.new) named.old named.new result }
     ensures none_due { IsTrue R.steady → ring.old.due ≡ [] → ring.new.due ≡ [] }
     ensures numbers { KeepsNumbers ops.old.slots.values ops.new.slots.values }
     ensures requests { KeepsRequests ops.old ops.new }

@@ -9,6 +9,7 @@ use Rattle.driver_core.specs.Slot.{number_at}
 use Rattle.driver_core.specs.Operations.{new_slot}
 use Rattle.driver_core.proofs.Holds.{len-joined}
 use Rattle.uring_driver.specs.State.{State, AreHolding}
+use Rattle.uring_driver.specs.Reaps.{midway}
 use Rattle.uring_driver.specs.Submissions.{with_spare, pending_ring}
 use Rattle.uring_driver.specs.Uring.{holds_all}
 use Rattle.uring_driver.proofs.Entering.{fits-split}
@@ -20,7 +21,7 @@ use Rattle.uring_driver.proofs.uring.IoUringDriver.submit_with.Goals as goal
 pub invariant_of-self : goal.invariant_of-self
 invariant_of-self g c =
     let d : State g.row.R.Denot g.row.B.Denot =
-    record { ring = c.self.inside.ring; slots = c.self.inside.ops.slots; given = c.self.inside.ops.given; holding = c.self.inside.handles } in
+    midway c.self.inside.ring c.self.inside.ops c.self.inside.handles in
     let more = c.in-Err.ensures.more in (
       sound-keeps d.ring.room c.prepare.new.ring.room d.slots.values c.prepare.new.ops.slots.values d.holding.table d.holding.table
           c.self.invariant.0 (omega (arith, more)) (λ key. ap (λ m. number_at m key) c.in-Err.ensures.slots),
@@ -31,7 +32,7 @@ invariant_of-self g c =
 pub returns-in-Err-clause-err : goal.returns-in-Err-clause-err
 returns-in-Err-clause-err g c =
     let d : State g.row.R.Denot g.row.B.Denot =
-    record { ring = c.self.inside.ring; slots = c.self.inside.ops.slots; given = c.self.inside.ops.given; holding = c.self.inside.handles } in
+    midway c.self.inside.ring c.self.inside.ops c.self.inside.handles in
     let new : State g.row.R.Denot g.row.B.Denot =
     record d { ring = c.prepare.new.ring; slots = c.prepare.new.ops.slots; given = c.prepare.new.ops.given } in
     rw (← c.self.view_is) (
@@ -46,7 +47,7 @@ returns-in-Err-clause-err g c =
 pub invariant_of-self-2 : goal.invariant_of-self-2
 invariant_of-self-2 g c =
     let d : State g.row.R.Denot g.row.B.Denot =
-    record { ring = c.self.inside.ring; slots = c.self.inside.ops.slots; given = c.self.inside.ops.given; holding = c.self.inside.handles } in
+    midway c.self.inside.ring c.self.inside.ops c.self.inside.handles in
     let puts = put-over c.self.inside.ops c.prepare.new.ops c.submit-op.new.self c.args.request c.submit-op.result c.in-Ok.ensures.slots
     c.in-Ok.ensures.given c.submit-op.ensures.submits in
     let user = subst (λ x. IsTrue (holds_all x (named c.args.request))) (sym c.self.view_is) c.requires.held in
@@ -67,7 +68,7 @@ invariant_of-self-2 g c =
 pub returns-clause-answers : goal.returns-clause-answers
 returns-clause-answers g c =
     let d : State g.row.R.Denot g.row.B.Denot =
-    record { ring = c.self.inside.ring; slots = c.self.inside.ops.slots; given = c.self.inside.ops.given; holding = c.self.inside.handles } in
+    midway c.self.inside.ring c.self.inside.ops c.self.inside.handles in
     let puts = put-over c.self.inside.ops c.prepare.new.ops c.submit-op.new.self c.args.request c.submit-op.result c.in-Ok.ensures.slots
     c.in-Ok.ensures.given c.submit-op.ensures.submits in
     let user = subst (λ x. IsTrue (holds_all x (named c.args.request))) (sym c.self.view_is) c.requires.held in
