@@ -14,18 +14,20 @@ use Rattle.ring_core.proofs.Lawful.{Lawful, lawful-ledger}
 use Rattle.uring_driver.specs.declared.uring.IoUringDriver.{IoUringDriver}
 use Rattle.uring_driver.specs.Holding.{HandlesStand}
 use Rattle.uring_driver.specs.Stands.{Stands, Answers, owed}
+use Rattle.uring_driver.specs.Reaps.{FitsQueue}
 use Rattle.uring_driver.specs.Uring.{ring_in, due_in, room_in, whole_ring}
 use Rattle.uring_driver.proofs.Means.{Means, ring-of}
-use Rattle.uring_driver.proofs.Posting.{FitsQueue}
 use Rattle.uring_driver.proofs.Steps.{reached-more}
 
 -- The laws hold of a ledger that a driver stands for.
-pub lawful-of : {R B : Type 0} {view : R → RingView} {buffer : B → Buffer} {d : IoUringDriver R B} {L : Ledger} → Stands view buffer d L → Lawful L
+pub lawful-of : {R B : Type 0} {view : R → RingView} {buffer : B → Buffer} {d : IoUringDriver R B} {L : Ledger} →
+    Stands view buffer d L → Lawful L
 lawful-of {R} {B} {view} {buffer} {d} {L} stands =
     subst (λ M. Lawful M) (sym stands.reached) (lawful-ledger (view (ring_in d)).capacity stands.events)
 
 -- What is pending fits a driver's queue.
-pub fits-of : {R B : Type 0} (view : R → RingView) {buffer : B → Buffer} (d : IoUringDriver R B) {L : Ledger} → Stands view buffer d L → FitsQueue view d.ring
+pub fits-of : {R B : Type 0} (view : R → RingView) {buffer : B → Buffer} (d : IoUringDriver R B) {L : Ledger} →
+    Stands view buffer d L → FitsQueue view d.ring
 fits-of view d stands = (
     let l = length-append (view (ring_in d)).queue (due_in d) in
     let f = stands.fits in
@@ -39,8 +41,8 @@ owned-few d {L} stands =
     let b = stands.operations.in_slots.counted in
     omega (arith, a, b)
 
-module _ {R B : Type 0} (view : R → RingView) (buffer : B → Buffer) (d new : IoUringDriver R B) (L M : Ledger) (event : Event) (reply : Reply)
-    (old : Stands view buffer d L) (is : step L event ≡ (M, reply))
+module _ {R B : Type 0} (view : R → RingView) (buffer : B → Buffer) (d new : IoUringDriver R B) (L M : Ledger) (event : Event)
+    (reply : Reply) (old : Stands view buffer d L) (is : step L event ≡ (M, reply))
     (capacity : (view (ring_in new)).capacity ≡ (view (ring_in d)).capacity) where
   -- The parts of a driver stand for the machine's next ledger: so does the driver, and the reply is the machine's.
   pub answers-parts : Means buffer (whole_ring view new) new.slots.values M → new.given ≡ length M.ops → HandlesStand new.holding M →
@@ -62,9 +64,10 @@ module _ {R B : Type 0} (view : R → RingView) (buffer : B → Buffer) (d new :
       }
 
 -- The parts of another driver stand for the same ledger.
-pub stands-parts : {R B : Type 0} (view : R → RingView) (buffer : B → Buffer) (d new : IoUringDriver R B) (L : Ledger) → Stands view buffer d L →
-    (view (ring_in new)).capacity ≡ (view (ring_in d)).capacity → Means buffer (whole_ring view new) new.slots.values L →
-    new.given ≡ d.given → HandlesStand new.holding L → owed L new.holding ≤ room_in new → FitsQueue view new.ring → Stands view buffer new L
+pub stands-parts : {R B : Type 0} (view : R → RingView) (buffer : B → Buffer) (d new : IoUringDriver R B) (L : Ledger) →
+    Stands view buffer d L → (view (ring_in new)).capacity ≡ (view (ring_in d)).capacity →
+    Means buffer (whole_ring view new) new.slots.values L → new.given ≡ d.given → HandlesStand new.holding L →
+    owed L new.holding ≤ room_in new → FitsQueue view new.ring → Stands view buffer new L
 stands-parts view buffer d new L old capacity means given handles room fits = record {
   events = old.events;
   reached = old.reached ∙ ap (λ x. ledger x old.events) (sym capacity);

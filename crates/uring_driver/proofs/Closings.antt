@@ -1,5 +1,6 @@
 -- What holds of holders and closes always, through each change of a table.
-use Rattle.std.proofs.Common.{◌≡◌, ◌≢◌, ◌∙◌, inl, inr, ℕ, ◌+◌, ◌-◌, ◌<◌, ◌^◌, Bool, true, false, Option, Some, None, refl, sym, ap, subst, arith}
+use Rattle.std.proofs.Common.{◌≡◌, ◌≢◌, ◌∙◌, inl, inr, ℕ, ◌+◌, ◌-◌, ◌<◌, ◌^◌, Bool, true, false, Option, Some, None}
+use Rattle.std.proofs.Common.{refl, sym, ap, subst, arith}
 use Rattle.std.specs.Prelude.{is_some, unwrap_or, nat_lt, ◌||◌, OnOk, OnErr, Result, Ok, Err}
 use Rattle.std.proofs.lemmas.Bool.Decides.{nat_tests}
 use Rattle.std.specs.Ordering.{nat_cmp}
@@ -105,7 +106,8 @@ module _ (holding : Holding) (kept : IsKept holding) (h : ℕ) where
   remains : (q : ℕ) → is_some (get (remove holding.table.holders h) q) ≡ true → (q ≢ h) × (is_held holding q ≡ true)
   remains q at = elim (same-or-not q h) [
     | inl e ↦ absurd (
-        let a : ◌≡◌ {A = Bool} true false = sym at ∙ ap (λ x. is_some (get (remove holding.table.holders h) x)) e ∙ ap is_some (gone-same holding.table.holders h) in
+        let a : ◌≡◌ {A = Bool} true false = sym at ∙ ap (λ x. is_some (get (remove holding.table.holders h) x)) e
+        ∙ ap is_some (gone-same holding.table.holders h) in
         cc)
     | inr e ↦ (e, sym (ap is_some (gone-other holding.table.holders h q e)) ∙ at)
   ]
@@ -144,7 +146,8 @@ module _ (holding : Holding) (kept : IsKept holding) (h : ℕ) where
     somebody = held-without holding.table h kept.somebody;
     once = λ q held at. elim (same-or-not q h) [
       | inl e ↦ (
-          let a : ◌≡◌ {A = Option Holders} (Some held) (Some by_operation) = sym at ∙ ap (get (insert holding.closing.holders h by_operation)) e ∙ put-same holding.closing.holders h by_operation in
+          let a : ◌≡◌ {A = Option Holders} (Some held) (Some by_operation) =
+          sym at ∙ ap (get (insert holding.closing.holders h by_operation)) e ∙ put-same holding.closing.holders h by_operation in
           cc)
       | inr e ↦ kept.once q held (sym (put-other holding.closing.holders h by_operation q e) ∙ at)
     ];
@@ -162,7 +165,8 @@ module _ (holding : Holding) (kept : IsKept holding) (h : ℕ) where
     somebody = kept.somebody;
     once = λ q held at. elim (same-or-not q h) [
       | inl e ↦ (
-          let a : ◌≡◌ {A = Option Holders} (Some held) None = sym at ∙ ap (get (remove holding.closing.holders h)) e ∙ gone-same holding.closing.holders h in
+          let a : ◌≡◌ {A = Option Holders} (Some held) None = sym at ∙ ap (get (remove holding.closing.holders h)) e
+          ∙ gone-same holding.closing.holders h in
           let f : ⊥ = cc in absurd f)
       | inr e ↦ kept.once q held (sym (gone-other holding.closing.holders h q e) ∙ at)
     ];

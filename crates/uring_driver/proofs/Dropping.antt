@@ -1,6 +1,6 @@
 -- What a drop and a cancel do to a driver that stands for a ledger.
-use Rattle.std.proofs.Common.{◌≡◌, ℕ, ◌+◌, ◌≤◌, ◌<◌, ◌^◌, Bool, true, false, List, map, IsTrue}
-use Rattle.std.specs.Prelude.{◌&&◌}
+use Rattle.std.proofs.Common.{◌≡◌, ℕ, ◌+◌, ◌≤◌, ◌<◌, ◌^◌, Bool, true, List, map, IsTrue}
+use Rattle.std.proofs.Math.Bool.{and-false}
 use Rattle.std.proofs.Common.{length, Option, Some, None, refl, sym, ◌∙◌, ap, subst, arith}
 use Rattle.std.specs.FinMap.{get, insert, remove, len}
 use Rattle.rent_buf.specs.Buffer.{Buffer}
@@ -70,17 +70,12 @@ free-reaped (InDone r) t h e = (let z = sym (wait-left t) ∙ e in cc)
 free-reaped (Reaped r) t h e = (r, refl)
 free-reaped Gone t h e = (let f : ⊥ = cc in absurd f)
 
--- A test and false is false.
-and-false : (b : Bool) → (b && false) ≡ false
-and-false true = refl
-and-false false = refl
-
 -- A drop leaves who holds what.
 drop-holds : (o : Operation) → HoldsSame o (with_drop o)
 drop-holds o = record { request = refl; live = refl }
 
-module _ {R B : Type 0} (view : R → RingView) (buffer : B → Buffer) (tells steady : Bool) (always : IsTrue steady) (d new : IoUringDriver R B)
-    (L : Ledger) (key : ℕ) (s : Slot B) (old : Stands view buffer d L) (there : get d.slots.values key ≡ Some s)
+module _ {R B : Type 0} (view : R → RingView) (buffer : B → Buffer) (tells steady : Bool) (always : IsTrue steady)
+    (d new : IoUringDriver R B) (L : Ledger) (key : ℕ) (s : Slot B) (old : Stands view buffer d L) (there : get d.slots.values key ≡ Some s)
     (mine : is_owned_life s.life ≡ true) (given : new.given ≡ d.given) where
   -- The operation of the slot, which its user may still drop.
   my : Owned buffer L s
@@ -135,7 +130,8 @@ module _ {R B : Type 0} (view : R → RingView) (buffer : B → Buffer) (tells s
         c.capacity c.means
         (given ∙ old.operations.numbered ∙ sym (length-make_room M ∙ length-amended with_drop L.ops s.serial))
         (subst (λ x. HandlesStand x (push M (Cancel s.serial))) (sym holding)
-        (handles-push d.holding M (handles-same d.holding L old.handles M (holders-op L s.serial with_drop (λ p q. drop-holds p)) (λ h. refl))
+        (handles-push d.holding M
+        (handles-same d.holding L old.handles M (holders-op L s.serial with_drop (λ p q. drop-holds p)) (λ h. refl))
         (Cancel s.serial) (λ h. refl) requests))
         (let x = where-less is_owned with_drop L.ops s.serial o my.fit.there my.owned (and-false (is_live o)) in
         let y = ap length (owned-push M (Cancel s.serial) requests) in

@@ -22,8 +22,8 @@ use Rattle.driver_core.proofs.Lists.{some, get-map}
 use Rattle.uring_driver.proofs.Kept.{call-flown}
 
 -- What is in flight is the ledger's item.
-pub flying-at : {B : Type 0} (buffer : B → Buffer) (v : RingView) (slots : FinMap nat_cmp (Slot B)) (L : Ledger) (place : ℕ) (flight : Flight)
-    (item : Item) → Means buffer v slots L → slice_get v.flying place ≡ Some flight → item_of flight ≡ item →
+pub flying-at : {B : Type 0} (buffer : B → Buffer) (v : RingView) (slots : FinMap nat_cmp (Slot B)) (L : Ledger) (place : ℕ)
+    (flight : Flight) (item : Item) → Means buffer v slots L → slice_get v.flying place ≡ Some flight → item_of flight ≡ item →
     slice_get L.flying place ≡ Some item
 flying-at buffer v slots L place flight item old there is = ap (λ x. slice_get x place) old.in_lists.flying
     ∙ get-map item_of v.flying place flight there ∙ ap (λ x. Some x) is

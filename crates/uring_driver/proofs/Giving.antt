@@ -1,9 +1,8 @@
 -- What the adoption of a handle leaves, with a new handle of the ring or without one.
-use Rattle.std.proofs.Common.{◌≡◌, ◌≢◌, ◌∙◌, inl, inr, ℕ, ◌+◌, ◌≤◌, false, [], ◌∷◌, ◌++◌, length, None, Some, refl, sym, ap, subst, arith}
+use Rattle.std.proofs.Common.{◌≡◌, ◌≢◌, ◌∙◌, inl, inr, ℕ, ◌+◌, ◌≤◌, false, [], ◌∷◌, ◌++◌, length, Some, refl, sym, ap, subst, arith}
 use Rattle.std.specs.Prelude.{nat_lt, unwrap_or, is_some}
 use Rattle.std.specs.Ordering.{nat_cmp}
-use Rattle.std.specs.Cmp.{nat_cmp_total}
-use Rattle.std.specs.FinMap.{FinMap, get, remove, len, same_map, nat_cmp-IsAntisymmetric}
+use Rattle.std.specs.FinMap.{FinMap, get, remove, len}
 use Rattle.rent_buf.specs.Buffer.{Buffer}
 use Rattle.handle_core.specs.Table.{holders_at, without_handle, nobody, by_user}
 use Rattle.ring_core.specs.declared.ledger.Event.TheVariants.{Give}
@@ -18,7 +17,7 @@ use Rattle.ring_core.specs.Ledger.{Ledger, is_live, is_owned, user_holds}
 use Rattle.ring_core.specs.Step.{give_step, new_owner}
 use Rattle.ring_core.proofs.Amended.{joined-cases}
 use Rattle.ring_core.proofs.Appended.{get-append-end}
-use Rattle.ring_core.proofs.Numbers.{same-or-not}
+use Rattle.op_slots.proofs.Places.{map-absent}
 use Rattle.driver_core.specs.declared.slot.Slot.{Slot}
 use Rattle.driver_core.specs.Slots.{SlotsStand}
 use Rattle.driver_core.proofs.Counts.{where-within, owned-lives}
@@ -36,13 +35,6 @@ use Rattle.driver_core.proofs.Counted.{none-of}
 use Rattle.uring_driver.proofs.Handling.{holding-beside, holders-beside}
 use Rattle.uring_driver.proofs.Sound.{sound-keeps}
 use Rattle.uring_driver.proofs.Starting.{stands-reserved, stands-gives}
-
--- A removal of a key that isn't there changes nothing.
-remove-none : {X : Type 0} (m : FinMap nat_cmp X) (k : ℕ) → get m k ≡ None → remove m k ≡ m
-remove-none m k none = same_map nat_cmp_total nat_cmp-IsAntisymmetric (remove m k) m (λ q. elim (same-or-not q k) [
-  | inl e ↦ ap (get (remove m k)) e ∙ gone-same m k ∙ sym (ap (get m) e ∙ none)
-  | inr e ↦ gone-other m k q e
-])
 
 -- Memory of a cancel for each slot and of a close for each handle is memory for what is owed.
 pub owed-room : {B : Type 0} (buffer : B → Buffer) (slots : FinMap nat_cmp (Slot B)) (L : Ledger) (holding : Holding) (room : ℕ) →
@@ -86,7 +78,7 @@ module _ (old mid : Holding) (h : ℕ) (adopts : Adopts old h mid) where
       IsSameHolding old new
   same-forgotten new none is = record {
     table = ap (λ x. x.table.holders) is ∙ ap (λ m. remove m h) adopts.table ∙ remove-put old.table.holders h by_user
-        ∙ remove-none old.table.holders h (none-of (get old.table.holders h) none);
+        ∙ map-absent old.table.holders h (none-of (get old.table.holders h) none);
     closing = ap (λ x. x.closing.holders) is ∙ adopts.closing;
   }
 

@@ -38,6 +38,7 @@ use Rattle.uring_driver.specs.Released.{ReleasesIf, ReleasesFor}
 use Rattle.uring_driver.specs.Stands.{Stands}
 use Rattle.uring_driver.specs.State.{AreHolding, IsSound}
 use Rattle.uring_driver.specs.Submissions.{Posts, PendingMoves, pending_ring}
+use Rattle.uring_driver.specs.Reaps.{FitsQueue}
 use Rattle.uring_driver.specs.Uring.{room_in, whole_ring}
 use Rattle.uring_driver.proofs.Answering.{lawful-of, fits-of, answers-parts, stands-parts}
 use Rattle.uring_driver.proofs.Closings.{held-user}
@@ -45,7 +46,7 @@ use Rattle.driver_core.proofs.Counted.{some-of, none-of}
 use Rattle.uring_driver.proofs.Entering.{moves-join}
 use Rattle.uring_driver.proofs.Lefts.{closing-joined, closes-pushed, owned-push}
 use Rattle.uring_driver.proofs.Means.{Means, means-of}
-use Rattle.uring_driver.proofs.Posting.{posts-close, FitsQueue}
+use Rattle.uring_driver.proofs.Posting.{posts-close}
 use Rattle.uring_driver.proofs.Sound.{sound-keeps, sound-live}
 use Rattle.uring_driver.proofs.Starting.{means-world}
 use Rattle.uring_driver.proofs.Steps.{step-close}

@@ -1,6 +1,8 @@
 -- Holders and closes stand for those of a ledger, once an operation or a user left.
-use Rattle.std.proofs.Common.{◌≡◌, ◌≢◌, ◌∙◌, inl, inr, ℕ, zero, suc, ◌+◌, ◌-◌, ◌<◌, ◌≤◌, Bool, true, false, not, ◌==◌, List, [], ◌∷◌, length, map, Some, refl, sym, ap, subst, arith, IsTrue, if◌then◌else◌, ◌^◌}
+use Rattle.std.proofs.Common.{◌≡◌, ◌∙◌, inl, inr, ℕ, zero, suc, ◌+◌, ◌-◌, ◌<◌, ◌≤◌, Bool, true, false, not, ◌==◌}
+use Rattle.std.proofs.Common.{List, [], ◌∷◌, length, map, Some, refl, sym, ap, subst, arith, IsTrue, if◌then◌else◌, ◌^◌}
 use Rattle.std.specs.Prelude.{◌||◌, ◌&&◌, is_some, nat_lt, slice_get}
+use Rattle.std.proofs.Math.Bool.{or-false}
 use Rattle.std.proofs.lemmas.Bool.Decides.{nat_tests}
 use Rattle.std.specs.Ordering.{nat_cmp}
 use Rattle.std.specs.FinMap.{FinMap, get, insert}
@@ -11,10 +13,12 @@ use Rattle.ring_core.specs.Ranks.{one_if}
 use Rattle.ring_core.specs.Request.{named, listed}
 use Rattle.ring_core.specs.Entry.{close_entry}
 use Rattle.ring_core.specs.Ring.{RingView}
-use Rattle.ring_core.specs.Ledger.{Ledger, Operation, Queued, Req, Cancel, Place, InQueue, InFlight, InDone, Reaped, Gone, is_live, is_owned}
-use Rattle.ring_core.specs.Queue.{at_place, canceled_at, with_cancel, take_one, take_each, take_all, push, push_each, with_gone, leave, became_unheld}
+use Rattle.ring_core.specs.Ledger.{Ledger, Operation, Queued, Req, Cancel, Place, InQueue, InFlight, InDone, Reaped, Gone}
+use Rattle.ring_core.specs.Ledger.{is_live, is_owned}
+use Rattle.ring_core.specs.Queue.{at_place, canceled_at, with_cancel, take_one, take_each, take_all, push, push_each, with_gone}
+use Rattle.ring_core.specs.Queue.{leave, became_unheld}
 use Rattle.ring_core.specs.Closes.{close_count, closes_queued, AreKnown}
-use Rattle.ring_core.proofs.Numbers.{same-or-not}
+use Rattle.ring_core.proofs.Numbers.{same-or-not, equal-other}
 use Rattle.ring_core.proofs.Closing.{count-push_each}
 use Rattle.ring_core.proofs.Holders.{AreLive, holders-push_closes, live-take_one, live-push_close}
 use Rattle.ring_core.proofs.Lawful.{Lawful, listed-live, listed-unasked}
@@ -33,7 +37,9 @@ use Rattle.driver_core.proofs.Maps.{put-same, put-other}
 use Rattle.uring_driver.specs.Pending.{Pending}
 use Rattle.uring_driver.specs.Submissions.{pending_ring, PostsEach}
 use Rattle.uring_driver.proofs.Means.{Means}
-use Rattle.uring_driver.proofs.Posting.{FitsQueue, posts-closes}
+use Rattle.uring_driver.proofs.Posting.{posts-closes}
+use Rattle.uring_driver.proofs.TakingCancels.{equal-test}
+use Rattle.uring_driver.specs.Reaps.{FitsQueue}
 use Rattle.uring_driver.specs.Holding.{Holding, with_closes, ops_left, HandlesStand}
 
 -- One of three tests, in another order.
@@ -47,10 +53,10 @@ closing-one : (closing : Table) (h k spare : ℕ) →
 closing-one closing h k spare = elim (same-or-not k h) [
   | inl e ↦ (
       ap (λ x. is_some (get (insert closing.holders h by_operation) x)) e ∙ ap is_some (put-same closing.holders h by_operation)
-      ∙ sym (or-right (is_some (get closing.holders k)) (k == h) (same-is k h e)))
+      ∙ sym (or-right (is_some (get closing.holders k)) (k == h) (equal-test k h e)))
   | inr e ↦ (
       ap is_some (put-other closing.holders h by_operation k e)
-      ∙ sym (or-left (is_some (get closing.holders k)) (k == h) (other-is k h e)))
+      ∙ sym (or-left (is_some (get closing.holders k)) (k == h) (equal-other k h e)))
 ] where
   or-right : (a b : Bool) → b ≡ true → (a || b) ≡ true
   or-right true b h = refl
@@ -60,46 +66,38 @@ closing-one closing h k spare = elim (same-or-not k h) [
   or-left true b h = refl
   or-left false b h = h
 
-  same-is : (a b : ℕ) → a ≡ b → (a == b) ≡ true
-  same-is a b h = grind (arith, nat_tests)
-
-  other-is : (a b : ℕ) → a ≢ b → (a == b) ≡ false
-  other-is a b h = grind (arith, nat_tests)
-
 -- What is closing once closes joined: what was, and these.
 pub closing-joined : (closing : Table) (handles : List ℕ) (k : ℕ) →
     is_some (get (with_closes closing handles).holders k) ≡ (is_some (get closing.holders k) || has_number k handles)
-closing-joined closing [] k = or-none (is_some (get closing.holders k)) where
-  or-none : (b : Bool) → b ≡ (b || false)
-  or-none true = refl
-  or-none false = refl
+closing-joined closing [] k = sym (or-false (is_some (get closing.holders k)))
 closing-joined closing (h ∷ handles) k =
     closing-joined (record (with_holders closing h by_operation) { spare = closing.spare - 1 }) handles k
     ∙ ap (λ b. b || has_number k handles) (closing-one closing h k (closing.spare - 1))
     ∙ or-turn (is_some (get closing.holders k)) (k == h) (has_number k handles)
 
+-- A count to which none comes is above zero where it was.
+none-more : (a : ℕ) → nat_lt 0 (a + 0) ≡ (nat_lt 0 a || false)
+none-more a = (let same : nat_lt 0 (a + 0) ≡ nat_lt 0 a = grind (arith, nat_tests) in same) ∙ sym (or-false (nat_lt 0 a))
+
 -- A handle is closing where it was, or its close is among those that were pushed.
 pub closes-pushed : (a k : ℕ) (handles : List ℕ) →
     nat_lt 0 (a + closes_queued k (map Queued.Close handles)) ≡ (nat_lt 0 a || has_number k handles)
-closes-pushed a k [] = or-none (nat_lt 0 a) (nat_lt 0 (a + 0)) (grind (arith, nat_tests)) where
-  or-none : (b c : Bool) → c ≡ b → c ≡ (b || false)
-  or-none true c h = h
-  or-none false c h = h
+closes-pushed a k [] = none-more a
 closes-pushed a k (h ∷ handles) =
-    ap (nat_lt 0) (let e : a + (one_if (k == h) + closes_queued k (map Queued.Close handles)) ≡ (a + one_if (k == h)) + closes_queued k (map Queued.Close handles) = omega arith in e)
+    ap (nat_lt 0) (regrouped a (one_if (k == h)) (closes_queued k (map Queued.Close handles)))
     ∙ closes-pushed (a + one_if (k == h)) k handles
     ∙ ap (λ b. b || has_number k handles) (one-more a (k == h))
     ∙ or-turn (nat_lt 0 a) (k == h) (has_number k handles)
   where
+    regrouped : (a b c : ℕ) → a + (b + c) ≡ (a + b) + c
+    regrouped a b c = omega arith
+
     one-more : (a : ℕ) (b : Bool) → nat_lt 0 (a + one_if b) ≡ (nat_lt 0 a || b)
     one-more a true = above a (nat_lt 0 a) refl where
       above : (a : ℕ) (b : Bool) → nat_lt 0 a ≡ b → nat_lt 0 (a + 1) ≡ (b || true)
       above a true h = grind (arith, nat_tests)
       above a false h = grind (arith, nat_tests)
-    one-more a false = same (nat_lt 0 a) (nat_lt 0 (a + 0)) (grind (arith, nat_tests)) where
-      same : (b c : Bool) → c ≡ b → c ≡ (b || false)
-      same true c h = h
-      same false c h = h
+    one-more a false = none-more a
 
 -- Once an operation that names these handles left, holders and closes stand for the ledger that it left.
 pub handles-left : (holding : Holding) (L : Ledger) (n : ℕ) (o : Operation) → HandlesStand holding L → slice_get L.ops n ≡ Some o →
@@ -194,8 +192,8 @@ parts-left view buffer tells steady slots old new holding L n o always means sta
     let us = unheld_by holding.table (named o.request) in
     let same = unheld-became holding.table L n o stand.holders there live (named-ascends o.request) known in
     let pushed = posts-closes view buffer tells steady slots always old new (with_gone L n) us means below room fits posts in
-    subst (λ hs. LeftParts view buffer slots old new holding (named o.request) (with_gone L n) (push_each (with_gone L n) (map Queued.Close hs))) same
-    (record {
+    subst (λ hs. LeftParts view buffer slots old new holding (named o.request) (with_gone L n)
+    (push_each (with_gone L n) (map Queued.Close hs))) same (record {
       means = pushed.means;
       handles = subst (λ hs. HandlesStand (ops_left holding (named o.request)) (push_each (with_gone L n) (map Queued.Close hs))) (sym same)
           (handles-left holding L n o stand there live (named-ascends o.request) known requests);

@@ -1,5 +1,6 @@
 -- What a poll of a live slot does to a driver that stands for a ledger, and to its tokens.
-use Rattle.std.proofs.Common.{◌≡◌, ◌≤◌, ◌<◌, ◌^◌, ℕ, Bool, true, List, map, Option, Some, None, refl, sym, ◌∙◌, ap, subst, length, arith, IsTrue}
+use Rattle.std.proofs.Common.{◌≡◌, ◌≤◌, ◌<◌, ◌^◌, ℕ, Bool, true, List, map, Option, Some, None, refl, sym, ◌∙◌, ap}
+use Rattle.std.proofs.Common.{subst, length, arith, IsTrue}
 use Rattle.std.specs.Prelude.{◌↔◌, slice_get}
 use Rattle.std.specs.FinMap.{get, insert, remove, len}
 use Rattle.rent_buf.specs.Buffer.{Buffer}
@@ -40,10 +41,10 @@ use Rattle.driver_core.proofs.Numbers.{Owner}
 use Rattle.driver_core.proofs.Tokens.{held-slot}
 use Rattle.uring_driver.specs.Op.{Holds, number_of}
 use Rattle.uring_driver.specs.PollOp.{PollsFor, PollsOp, IsPending, IsUnreaped, IsUnreapedOp, IsUnreapedPlace}
+use Rattle.uring_driver.specs.Reaps.{FitsQueue}
 use Rattle.uring_driver.specs.Stands.{Stands, Answers}
 use Rattle.uring_driver.proofs.Steps.{is_waiting, step-poll-waiting, step-poll-reaped}
 use Rattle.uring_driver.proofs.Means.{Means, means-of}
-use Rattle.uring_driver.proofs.Posting.{FitsQueue}
 use Rattle.uring_driver.proofs.Holders.{handles-same}
 use Rattle.uring_driver.proofs.Answering.{lawful-of, fits-of, answers-parts}
 use Rattle.uring_driver.proofs.Lefts.{parts-left, live-left}
@@ -199,7 +200,8 @@ module _ {R B : Type 0} (view : R → RingView) (buffer : B → Buffer) (d new :
       (sym my.life ∙ life)) (subst (λ x. IsUnreapedOp x) my.fit.there unreaped)
 
 -- What a poll that takes did to a driver's parts: the handles that the operation named were let go, and their closes posted.
-pub record TakesParts {R B : Type 0} (view : R → RingView) (tells steady : Bool) (d new : IoUringDriver R B) (handles : List ℕ) : Type 0 where
+pub record TakesParts {R B : Type 0} (view : R → RingView) (tells steady : Bool) (d new : IoUringDriver R B) (handles : List ℕ)
+    : Type 0 where
   pub holding : new.holding ≡ ops_left d.holding handles
   pub room : length (unheld_by d.holding.table handles) ≤ room_in d
   pub below : (h : ℕ) → has_number h (unheld_by d.holding.table handles) ≡ true → h < 2 ^ 62
@@ -223,8 +225,8 @@ module _ {R B : Type 0} (view : R → RingView) (buffer : B → Buffer) (d new :
       (stands-waits view buffer d new L op.key task s old has.there has.owned given ring holding (waits-flies s.life is.0 has.owned) is.1)
 
   -- One that takes answers what the machine does.
-  takes : (tells steady : Bool) → IsTrue steady → (done : Done B) → PollsAt d.slots.values op.key task new.slots.values (Some done) →
-      TakesParts view tells steady d new (named done.request) →
+  takes : (tells steady : Bool) → IsTrue steady → (done : Done B) →
+      PollsAt d.slots.values op.key task new.slots.values (Some done) → TakesParts view tells steady d new (named done.request) →
       Answers view buffer L (Poll (number_of op) task) (Handed done.outcome (held_of (plain_request buffer done.request))) new
   takes tells steady always done polls parts =
       let s = has.slot in
@@ -249,8 +251,9 @@ module _ {R B : Type 0} (view : R → RingView) (buffer : B → Buffer) (d new :
       }
 
   -- It hands out the operation's own request.
-  pub poll-takes : (tells steady : Bool) → IsTrue steady → (done : Done B) → PollsAt d.slots.values op.key task new.slots.values (Some done) →
-      TakesParts view tells steady d new (named done.request) → PollsFor view buffer L op task new (Answer.Ready done)
+  pub poll-takes : (tells steady : Bool) → IsTrue steady → (done : Done B) →
+      PollsAt d.slots.values op.key task new.slots.values (Some done) → TakesParts view tells steady d new (named done.request) →
+      PollsFor view buffer L op task new (Answer.Ready done)
   poll-takes tells steady always done polls parts = (takes tells steady always done polls parts, owns done polls)
 
   -- A poll is pending exactly while the operation isn't reaped.

@@ -15,6 +15,7 @@ use Rattle.ring_core.proofs.Leaving.{has-first, has-later}
 use Rattle.driver_core.specs.declared.slot.Slot.{Slot}
 use Rattle.uring_driver.specs.Pending.{Pending}
 use Rattle.uring_driver.specs.Submissions.{with_spare, room_made, pending_ring, Posts, PostsEach}
+use Rattle.uring_driver.specs.Reaps.{FitsQueue}
 use Rattle.uring_driver.specs.Lists.{EntryFor, QueuedFor, Meets, is_call, queued_of}
 use Rattle.uring_driver.proofs.Means.{Means}
 use Rattle.uring_driver.proofs.Kept.{queued-kept}
@@ -34,10 +35,6 @@ means-pushed_entry buffer v w slots L e spare old not_call queued meets ring =
     (push L (queued_of e)) refl refl refl refl refl
     (means-joined buffer (room_made v) slots M e (means-room buffer v slots L old) not_call
     (queued-kept buffer slots slots L.ops M.ops e e.body (λ q _. absurd (let z : false ≡ true = sym not_call ∙ q in cc)) queued) meets))
-
--- What is pending fits the queue.
-abbrev pub FitsQueue : {R : Type 0} → (R → RingView) → Pending R → Type 0
-FitsQueue view p = length (view p.ring).queue + length p.due ≤ (view p.ring).capacity
 
 -- What posts leave of a ring and slots that mean a ledger: they mean the one after its pushes, so much less room is reserved, and what is
 -- pending still fits.

@@ -21,8 +21,8 @@ none-some : {X : Type 0} (x : X) (o : Option X) → o ≡ None → o ≡ Some x 
 none-some {X} x o n s = (let z : ◌≡◌ {A = Option X} None (Some x) = sym n ∙ s in cc)
 
 -- Slots with no new number, and no less room beside what the closes of held handles need.
-pub sound-shrinks : {B : Type 0} (room room' : ℕ) (slots slots' : FinMap nat_cmp (Slot B)) (table table' : Table) → IsSound room slots table →
-    room + len table'.holders ≤ room' + len table.holders →
+pub sound-shrinks : {B : Type 0} (room room' : ℕ) (slots slots' : FinMap nat_cmp (Slot B)) (table table' : Table) →
+    IsSound room slots table → room + len table'.holders ≤ room' + len table.holders →
     ((key number : ℕ) → number_at slots' key ≡ Some number → number_at slots key ≡ Some number) → IsSound room' slots' table'
 sound-shrinks room room' slots slots' table table' s more sub = record {
   owned = s.owned;
@@ -31,8 +31,9 @@ sound-shrinks room room' slots slots' table table' s more sub = record {
 }
 
 -- Slots that keep their numbers, and no less room beside that.
-pub sound-keeps : {B : Type 0} (room room' : ℕ) (slots slots' : FinMap nat_cmp (Slot B)) (table table' : Table) → IsSound room slots table →
-    room + len table'.holders ≤ room' + len table.holders → KeepsNumbers slots slots' → IsSound room' slots' table'
+pub sound-keeps : {B : Type 0} (room room' : ℕ) (slots slots' : FinMap nat_cmp (Slot B)) (table table' : Table) →
+    IsSound room slots table → room + len table'.holders ≤ room' + len table.holders → KeepsNumbers slots slots' →
+    IsSound room' slots' table'
 sound-keeps room room' slots slots' table table' s more keeps =
     sound-shrinks room room' slots slots' table table' s more (λ key number h. sym (keeps key) ∙ h)
 

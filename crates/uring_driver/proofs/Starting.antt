@@ -71,7 +71,8 @@ means-empty {B} buffer capacity = record {
 pub stands-empty : {R B : Type 0} (view : R → RingView) (buffer : B → Buffer) (d : IoUringDriver R B) (ring : R) →
     d.ring ≡ record { ring = ring; due = []; room = 0 } → d.slots.values ≡ finite.empty {X = Slot B} {R = nat_cmp} → d.given ≡ 0 →
     d.holding.table.holders ≡ finite.empty {X = Holders} {R = nat_cmp} →
-    d.holding.closing.holders ≡ finite.empty {X = Holders} {R = nat_cmp} → IsIdle (view ring) → (view ring).world ≡ [] → Stands view buffer d (empty (view ring).capacity)
+    d.holding.closing.holders ≡ finite.empty {X = Holders} {R = nat_cmp} → IsIdle (view ring) → (view ring).world ≡ [] →
+    Stands view buffer d (empty (view ring).capacity)
 stands-empty {R} {B} view buffer d ring is slots given none closed idle world =
     let means = subst (λ x. Means buffer (pending_ring view x) d.slots.values (empty (view ring).capacity)) (sym is)
     (subst (λ (m : finite.FinMap nat_cmp (Slot B)). Means buffer (with_due (view ring) []) m (empty (view ring).capacity)) (sym slots)

@@ -8,6 +8,7 @@ use Rattle.std.proofs.lemmas.Bool.Decides.{nat_tests}
 use Rattle.std.proofs.lemmas.Option.{slice_get_within}
 use Rattle.rent_buf.specs.Buffer.{Buffer}
 use Rattle.rent_buf.specs.Parts.{Parts}
+use Rattle.op_slots.specs.declared.slab.TheConstants.{MAX_LIVE}
 use Rattle.op_slots.specs.declared.lifecycle.Lifecycle.TheVariants.{Submitted as Fresh}
 use Rattle.ring_core.specs.Ring.{RingView, pushed}
 use Rattle.ring_core.specs.Request.{named, call_of, plain_request}
@@ -105,14 +106,14 @@ all-known count (Cancel n ∷ qs) h = (tt, all-known count qs (λ i m g. h (suc 
 all-known count (Queued.Close k ∷ qs) h = (tt, all-known count qs (λ i m g. h (suc i) m g))
 
 -- There is room for one more live operation.
-is-room : (n : ℕ) → n < 4294967232 → nat_le MOST_LIVE n ≡ false
+is-room : (n : ℕ) → n < MAX_LIVE → nat_le MOST_LIVE n ≡ false
 is-room n h = grind (arith, nat_tests)
 
 module _ {R B : Type 0} (view : R → RingView) (buffer : B → Buffer) where
   -- A submission that went well answers what the machine does.
   pub stands-submits : (d new : IoUringDriver R B) (L : Ledger) (request : Request B Parts) (key spare spare' : ℕ) (mid : RingView) →
-      Stands view buffer d L → IsTrue (holds_all d (named request)) → len d.slots.values < 4294967232 → get d.slots.values key ≡ None →
-      key < 4294967232 →
+      Stands view buffer d L → IsTrue (holds_all d (named request)) → len d.slots.values < MAX_LIVE → get d.slots.values key ≡ None →
+      key < MAX_LIVE →
       new.slots.values ≡ insert d.slots.values key (record { serial = d.given; request = request; life = Fresh }) →
       mid ≡ with_spare (room_made (whole_ring view d)) spare → length mid.queue < mid.capacity →
       whole_ring view new
@@ -128,7 +129,7 @@ module _ {R B : Type 0} (view : R → RingView) (buffer : B → Buffer) where
       let entry : Entry = record { word = key; serial = d.given; body = Calls (call_of r) } in
       let names : named r ≡ named request = named-mapped buffer (λ parts. parts) request in
       let user' = lacks-none d L (named r) old.handles.holders.users (ap (holds_all d) names ∙ user) in
-      let s = step-submit L r user' (is-room (length (live_ops L)) (subst (λ n. n < 4294967232) old.operations.in_slots.counted few)) in
+      let s = step-submit L r user' (is-room (length (live_ops L)) (subst (λ n. n < MAX_LIVE) old.operations.in_slots.counted few)) in
       let M = make_room L in
       let order : submit_step L r ≡ append (with_new_op M (new_operation r)) (Req d.given) =
       push-new_op (new_operation r) refl L (Req (length L.ops))

@@ -8,6 +8,7 @@ use Rattle.std.proofs.lemmas.List.{map-append}
 use Rattle.std.proofs.lemmas.Option.{slice_get_within}
 use Rattle.rent_buf.specs.Buffer.{Buffer}
 use Rattle.rent_buf.specs.Parts.{Parts}
+use Rattle.op_slots.specs.declared.slab.TheConstants.{MAX_LIVE}
 use Rattle.op_slots.specs.declared.lifecycle.Lifecycle.TheVariants.{Submitted as Fresh}
 use Rattle.ring_core.specs.Ring.{RingView, pushed}
 use Rattle.ring_core.specs.Request.{call_of, plain_request}
@@ -34,7 +35,7 @@ use Rattle.ring_core.proofs.Requests.{holding-own}
 
 module _ {B : Type 0} (buffer : B → Buffer) (w : RingView) (slots : FinMap nat_cmp (Slot B)) (M : Ledger) (given key : ℕ)
     (request : Request B Parts)
-    (old : Means buffer w slots M) (numbered : given ≡ length M.ops) (free : get slots key ≡ None) (below : key < 4294967232) where
+    (old : Means buffer w slots M) (numbered : given ≡ length M.ops) (free : get slots key ≡ None) (below : key < MAX_LIVE) where
   abbrev t : Slot B
   t = record { serial = given; request = request; life = Fresh }
 
@@ -130,7 +131,7 @@ module _ {B : Type 0} (buffer : B → Buffer) (w : RingView) (slots : FinMap nat
     ];
     counted = len-new slots key t free ∙ ap (λ n. n + 1) old.in_slots.counted ∙ sym (where-more is_live M.ops new refl);
     below = λ k u h. elim (which k u h) [
-      | inl q ↦ subst (λ x. x < 4294967232) (sym q.0) below
+      | inl q ↦ subst (λ x. x < MAX_LIVE) (sym q.0) below
       | inr q ↦ old.in_slots.below k u q
     ];
   }

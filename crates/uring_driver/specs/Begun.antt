@@ -18,7 +18,8 @@ use Rattle.uring_driver.specs.Turned.{TurnMeets}
 -- What the enter of a turn that goes on did: all that was pending was taken, or the ring was busy, which a steady one never is.
 abbrev pub EnteredFor : {R : Type 0} → (R → RingView) → Bool → Bool → Pending R → Pending R → Bool → Type 0
 EnteredFor view tells steady old new false = Enters view tells old new × ((view new.ring).queue ≡ []) × (new.due ≡ [])
-EnteredFor view tells steady old new true = Enters view tells old new × Rose (view old.ring).busies (view new.ring).busies × (IsTrue steady → ⊥)
+EnteredFor view tells steady old new true = Enters view tells old new × Rose (view old.ring).busies (view new.ring).busies ×
+    (IsTrue steady → ⊥)
 
 -- A turn was begun: the driver has entered its ring, and nothing is treated yet.
 pub record HasBegun {R B : Type 0} (view : R → RingView) (tells steady : Bool) (old new : IoUringDriver R B) (begun : Begun) : Type 0 where
@@ -31,14 +32,17 @@ pub record HasBegun {R B : Type 0} (view : R → RingView) (tells steady : Bool)
 
 -- Why a turn can't begin: the ring failed, which a steady one never does, or memory ran out and nothing changed.
 abbrev pub CannotBegin : {R B : Type 0} → (R → RingView) → Bool → Bool → IoUringDriver R B → IoUringDriver R B → Stop → Type 0
-CannotBegin view tells steady old new RingFault = Rose (view (ring_in old)).faults (view (ring_in new)).faults × SameSlots old new × Enters view tells old.ring new.ring × (IsTrue steady → ⊥)
+CannotBegin view tells steady old new RingFault = Rose (view (ring_in old)).faults (view (ring_in new)).faults × SameSlots old new ×
+    Enters view tells old.ring new.ring × (IsTrue steady → ⊥)
 CannotBegin view tells steady old new OutOfMemory = new ≡ old
 CannotBegin view tells steady old new Busy = ⊥
 CannotBegin view tells steady old new (BadCompletion word) = ⊥
 
 -- The end of a turn: with what was begun before it makes a whole turn.
-abbrev pub EndsTurn : {R B : Type 0} → (R → RingView) → (B → Buffer) → Bool → Bool → IoUringDriver R B → Begun → IoUringDriver R B → Turned → Type 0
-EndsTurn {R} {B} view buffer tells steady mid begun new turned = (old : IoUringDriver R B) → HasBegun view tells steady old mid begun → TurnMeets view buffer tells steady old new turned
+abbrev pub EndsTurn : {R B : Type 0} → (R → RingView) → (B → Buffer) → Bool → Bool → IoUringDriver R B → Begun →
+    IoUringDriver R B → Turned → Type 0
+EndsTurn {R} {B} view buffer tells steady mid begun new turned =
+    (old : IoUringDriver R B) → HasBegun view tells steady old mid begun → TurnMeets view buffer tells steady old new turned
 
 -- Why a turn stopped that treated what was ready: a bad completion, or else that the ring was busy.
 abbrev pub why_stopped : Option ℕ → Bool → Option Stop

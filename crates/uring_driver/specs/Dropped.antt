@@ -18,10 +18,14 @@ use Rattle.driver_core.specs.Slot.{with_life, is_flying}
 -- A slot that is in flight stays, ignored from then on, and its cancel joins what is pending. One that is completed goes, and the close of
 -- each handle that it named and that nobody holds any more joins what is pending.
 abbrev pub DropsSlotOf : {R B : Type 0} → (R → RingView) → Bool → IoUringDriver R B → IoUringDriver R B → Op → Slot B → Bool → Type 0
-DropsSlotOf view tells old new op slot true = (new.slots.values ≡ map.insert old.slots.values op.key (with_life slot Ignored)) × (new.holding ≡ old.holding)
+DropsSlotOf view tells old new op slot true =
+    (new.slots.values ≡ map.insert old.slots.values op.key (with_life slot Ignored)) × (new.holding ≡ old.holding)
     × (IsTrue tells → PendingMoves (pending view old) (pending view new) (cancel_for op ∷ []))
-DropsSlotOf view tells old new op slot false = (new.slots.values ≡ map.remove old.slots.values op.key) × (new.holding ≡ ops_left old.holding (named slot.request))
-    × (IsTrue tells → PendingMoves (pending view old) (pending view new) (list_map close_entry (unheld_by old.holding.table (named slot.request))))
+DropsSlotOf view tells old new op slot false =
+    let closed = unheld_by old.holding.table (named slot.request) in
+    (new.slots.values ≡ map.remove old.slots.values op.key) × (new.holding ≡ ops_left old.holding (named slot.request))
+    × (IsTrue tells → PendingMoves (pending view old) (pending view new) (list_map close_entry closed))
 
 abbrev pub DropsOp : {R B : Type 0} → (R → RingView) → Bool → IoUringDriver R B → IoUringDriver R B → Op → Type 0
-DropsOp {R} {B} view tells old new op = (slot : Slot B) → map.get old.slots.values op.key ≡ Some slot → DropsSlotOf view tells old new op slot (is_flying slot.life)
+DropsOp {R} {B} view tells old new op =
+    (slot : Slot B) → map.get old.slots.values op.key ≡ Some slot → DropsSlotOf view tells old new op slot (is_flying slot.life)

@@ -42,7 +42,8 @@ executed_as completion (Keyed key) = Op completion.serial
 executed_as completion (Reserved word) = Op completion.serial
 
 -- What is in flight at a place was executed by the ring over the driver's operations, and became the completion that is answered.
-pub record IsExecutedOver {B : Type 0} (buffer : B → Buffer) (old : IoUringDriver RingView B) (place : ℕ) (told : Told) (new : IoUringDriver RingView B) (answer : Executed) : Type 0 where
+pub record IsExecutedOver {B : Type 0} (buffer : B → Buffer) (old : IoUringDriver RingView B) (place : ℕ) (told : Told)
+    (new : IoUringDriver RingView B) (answer : Executed) : Type 0 where
   pub completion : Completion
   pub named : answer ≡ executed_as completion (target completion.word)
   pub executed : IsExecuted (offered buffer) (StoresAt buffer) (ring_in old) place told (ring_in new) (ops_in old) (ops_in new) completion
@@ -54,6 +55,7 @@ NotExecuted ring place told BadOutcome = IsForbidden ring place told
 NotExecuted ring place told OutOfMemory = MayRunOut (λ count. false) ring place told
 
 -- What an execution does over every driver.
-abbrev pub ExecutesOver : {B : Type 0} → (B → Buffer) → IoUringDriver RingView B → ℕ → Told → IoUringDriver RingView B → Result Executed ExecRefusal → Type 0
+abbrev pub ExecutesOver : {B : Type 0} → (B → Buffer) → IoUringDriver RingView B → ℕ → Told →
+    IoUringDriver RingView B → Result Executed ExecRefusal → Type 0
 ExecutesOver buffer old place told new (Ok answer) = IsExecutedOver buffer old place told new answer
 ExecutesOver buffer old place told new (Err why) = NotExecuted (ring_in old) place told why

@@ -16,7 +16,8 @@ pub record Holding : Type 0 where
 
 -- It is stored as the pair of its fields.
 abbrev pub holding_code : Coded Holding
-holding_code = code_by (Table × Table) (coded× table_code table_code) (λ h. (h.table, h.closing)) (λ p. record { table = p.0; closing = p.1 }) (λ _. refl)
+holding_code = code_by (Table × Table) (coded× table_code table_code)
+    (λ h. (h.table, h.closing)) (λ p. record { table = p.0; closing = p.1 }) (λ _. refl)
 
 -- Somebody holds a handle.
 abbrev pub is_held : Holding → ℕ → Bool
@@ -50,7 +51,10 @@ unheld_if false h = []
 
 -- A handle has these holders from now on. Where that is nobody, it leaves the table and is closing.
 abbrev pub settle : Holding → ℕ → Holders → Holding
-settle holding h held = record { table = settled holding.table h held; closing = with_closes holding.closing (unheld_if (is_nobody held) h) }
+settle holding h held = record {
+  table = settled holding.table h held;
+  closing = with_closes holding.closing (unheld_if (is_nobody held) h);
+}
 
 -- The user dropped one of its holds of a handle.
 abbrev pub user_left : Holding → ℕ → Holding

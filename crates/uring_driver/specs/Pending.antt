@@ -12,4 +12,5 @@ pub record Pending (R : Type 0) : Type 0 where
 
 -- It is stored as the tuple of its fields.
 abbrev pub pending_code : {R : Type 0} → Coded R → Coded (Pending R)
-pending_code code = code_by (_ × (List Entry × ℕ)) (coded× code (coded× (coded_list the_row.coded) coded_ℕ)) (λ p. (p.ring, (p.due, p.room))) (λ t. record { ring = t.0; due = t.1.0; room = t.1.1 }) (λ _. refl)
+pending_code code = code_by (_ × (List Entry × ℕ)) (coded× code (coded× (coded_list the_row.coded) coded_ℕ))
+    (λ p. (p.ring, (p.due, p.room))) (λ t. record { ring = t.0; due = t.1.0; room = t.1.1 }) (λ _. refl)

@@ -64,6 +64,7 @@ abbrev pub closes_of_poll : {R B : Type 0} → IoUringDriver R B → PollOp B �
 closes_of_poll old (Pending back) = []
 closes_of_poll old (Ready done) = map close_entry (unheld_by old.holding.table (named done.request))
 
--- A poll leaves the ring's lists as the machine's push does: the ring always takes its whole queue, or the poll is pending and queues nothing.
+-- A poll leaves the ring's lists as the machine's push does: the ring always takes its whole queue, or the poll is pending and
+-- queues nothing.
 abbrev pub IsExactPoll : {B : Type 0} → Bool → PollOp B → Type 0
 IsExactPoll steady result = IsTrue steady ⊎ IsPending result

@@ -20,7 +20,10 @@ pub record State (R B : Type 0) : Type 0 where
 
 -- It is stored as the tuple of its fields.
 abbrev pub state_code : {R B : Type 0} → Coded R → Coded (Slot B) → Coded (State R B)
-state_code code slot = code_by (Pending _ × (Slots (Slot _) × (ℕ × Holding))) (coded× (pending_code code) (coded× (slots_code slot) (coded× coded_ℕ holding_code))) (λ s. (s.ring, (s.slots, (s.given, s.holding)))) (λ t. record { ring = t.0; slots = t.1.0; given = t.1.1.0; holding = t.1.1.1 }) (λ _. refl)
+state_code code slot = code_by (Pending _ × (Slots (Slot _) × (ℕ × Holding)))
+    (coded× (pending_code code) (coded× (slots_code slot) (coded× coded_ℕ holding_code)))
+    (λ s. (s.ring, (s.slots, (s.given, s.holding))))
+    (λ t. record { ring = t.0; slots = t.1.0; given = t.1.1.0; holding = t.1.1.1 }) (λ _. refl)
 
 -- What holds of every driver's room: there is room for a cancel of each operation that its user may still drop, and for the close of each
 -- handle that is held. A map that has the keys of all such slots, and all handles of the table, are no more than there is room for.

@@ -1,4 +1,5 @@
--- The ring as the driver uses it: what is pending, and what entering it and joining it do. Cited by `Submissions`, and by the driver's calls.
+-- The ring as the driver uses it: what is pending, and what entering it and joining it do. Cited by `Submissions`, and by the
+-- driver's calls.
 use Rattle.std.specs.Prelude.{ℕ, ◌≡◌, ◌+◌, ◌<◌, ◌≤◌, ◌==◌, ◌⊎◌, if◌then◌else◌, Bool, IsTrue, List, [], ◌∷◌, ◌++◌, length, drop}
 use Rattle.ring_core.specs.Counts.{Rose}
 use Rattle.ring_core.specs.declared.entry.Entry.{Entry}
@@ -47,7 +48,8 @@ pub record TakesFront (old new : RingView) : Type 0 where
 -- was lost.
 pub record Enters {R : Type 0} (view : R → RingView) (tells : Bool) (old new : Pending R) : Type 0 where
   pub later : IsLater (view old.ring) (view new.ring)
-  pub few_done : length (view new.ring).done + (length (view new.ring).queue + length new.due) ≤ length (view old.ring).done + (length (view old.ring).queue + length old.due)
+  pub few_done : length (view new.ring).done + (length (view new.ring).queue + length new.due) ≤
+      length (view old.ring).done + (length (view old.ring).queue + length old.due)
   pub more_done : length (view old.ring).done ≤ length (view new.ring).done
   pub same_room : new.room ≡ old.room
   pub told : IsTrue tells → TakesFront (pending_ring view old) (pending_ring view new)
@@ -65,11 +67,14 @@ KeptOut steady old new Busy = Rose old.busies new.busies × (IsTrue steady → �
 pub record Posts {R : Type 0} (view : R → RingView) (tells steady : Bool) (old new : Pending R) (entry : Entry) : Type 0 where
   pub later : IsLater (view old.ring) (view new.ring)
   pub room : 0 < old.room → new.room + 1 ≡ old.room
-  pub few_done : length (view new.ring).done + (length (view new.ring).queue + length new.due) ≤ length (view old.ring).done + (length (view old.ring).queue + length old.due) + 1
+  pub few_done : length (view new.ring).done + (length (view new.ring).queue + length new.due) ≤
+      length (view old.ring).done + (length (view old.ring).queue + length old.due) + 1
   pub more_done : length (view old.ring).done ≤ length (view new.ring).done
-  pub told : 0 < old.room → IsTrue tells → (mid : RingView) × TakesFront (pending_ring view old) mid × (pending_ring view new ≡ with_spare (pushed mid entry) (view new.ring).spare)
+  pub told : 0 < old.room → IsTrue tells → (mid : RingView) × TakesFront (pending_ring view old) mid ×
+      (pending_ring view new ≡ with_spare (pushed mid entry) (view new.ring).spare)
   pub exact : 0 < old.room → IsTrue steady → length (view old.ring).queue + length old.due ≤ (view old.ring).capacity →
-      (pending_ring view new ≡ with_spare (pushed (room_made (pending_ring view old)) entry) (view new.ring).spare) × (length (view new.ring).queue + length new.due ≤ (view new.ring).capacity)
+      (pending_ring view new ≡ with_spare (pushed (room_made (pending_ring view old)) entry) (view new.ring).spare) ×
+      (length (view new.ring).queue + length new.due ≤ (view new.ring).capacity)
 
 -- What is pending changed only so: a prefix of it was entered, of `count` entries, and new entries joined its end.
 pub record PendingMoves (old new joined : List Entry) : Type 0 where

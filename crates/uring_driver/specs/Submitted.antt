@@ -43,8 +43,10 @@ abbrev pub GivesRequest : {R B : Type 0} → IoUringDriver R B → Submitted →
 GivesRequest new (Op op) request = HasRequest new op request
 
 -- The new entry joined what is pending, after a prefix of it was entered; a refused submission joined nothing.
-abbrev pub SubmitMoves : {R B : Type 0} → (R → RingView) → (B → Buffer) → Request B Parts → IoUringDriver R B → IoUringDriver R B → Result Submitted (SubmitError B) → Type 0
-SubmitMoves view buffer request old new (Ok (Op op)) = PendingMoves (pending view old) (pending view new) (call_for op (call_of (plain_request buffer request)) ∷ [])
+abbrev pub SubmitMoves : {R B : Type 0} → (R → RingView) → (B → Buffer) → Request B Parts →
+    IoUringDriver R B → IoUringDriver R B → Result Submitted (SubmitError B) → Type 0
+SubmitMoves view buffer request old new (Ok (Op op)) =
+    PendingMoves (pending view old) (pending view new) (call_for op (call_of (plain_request buffer request)) ∷ [])
 SubmitMoves view buffer request old new (Err refused) = PendingMoves (pending view old) (pending view new) []
 
 -- The submission was refused as Full.
@@ -64,15 +66,19 @@ pub record SameSlots {R B : Type 0} (old new : IoUringDriver R B) : Type 0 where
   pub holding : new.holding ≡ old.holding
 
 -- Why a submission was refused, and what it left of the ring. Full: the driver is the same. A fault of the ring: that count rose,
--- since the queue was full or an entry was due, and a prefix of what is pending may have been entered; a steady ring has none. OutOfMemory: the driver stands for what it stood for.
+-- since the queue was full or an entry was due, and a prefix of what is pending may have been entered; a steady ring has none.
+-- OutOfMemory: the driver stands for what it stood for.
 abbrev pub WhyRefused : {R B : Type 0} → (R → RingView) → (B → Buffer) → Bool → IoUringDriver R B → IoUringDriver R B → SubmitFault → Type 0
 WhyRefused view buffer steady old new Full = new ≡ old
-WhyRefused view buffer steady old new RingFault = Rose (view (ring_in old)).faults (view (ring_in new)).faults × (IsTrue steady → ⊥) × MustEnter view old.ring
-WhyRefused view buffer steady old new Busy = Rose (view (ring_in old)).busies (view (ring_in new)).busies × (IsTrue steady → ⊥) × MustEnter view old.ring
+WhyRefused view buffer steady old new RingFault =
+    Rose (view (ring_in old)).faults (view (ring_in new)).faults × (IsTrue steady → ⊥) × MustEnter view old.ring
+WhyRefused view buffer steady old new Busy =
+    Rose (view (ring_in old)).busies (view (ring_in new)).busies × (IsTrue steady → ⊥) × MustEnter view old.ring
 WhyRefused view buffer steady old new OutOfMemory = (L : Ledger) → Stands view buffer old L → Stands view buffer new L
 
 -- A refused submission hands its request back, and leaves slots and counts.
-pub record SubmitRefused {R B : Type 0} (view : R → RingView) (buffer : B → Buffer) (steady : Bool) (request : Request B Parts) (old new : IoUringDriver R B) (refused : SubmitError B) : Type 0 where
+pub record SubmitRefused {R B : Type 0} (view : R → RingView) (buffer : B → Buffer) (steady : Bool)
+    (request : Request B Parts) (old new : IoUringDriver R B) (refused : SubmitError B) : Type 0 where
   pub back : refused.request ≡ request
   pub same : SameSlots old new
   pub why : WhyRefused view buffer steady old new refused.why
@@ -98,8 +104,11 @@ pub record OnlyReserved {R : Type 0} (view : R → RingView) (old new : Pending 
   pub room : old.room ≤ new.room
 
 -- Why a submission can't be made. Nothing changed but reserved memory, and at a fault of the ring what it took.
-abbrev pub Unprepared : {R : Type 0} {B : Type 0} → (R → RingView) → Bool → Pending R → Pending R → Slots (Slot B) → Slots (Slot B) → SubmitFault → Type 0
+abbrev pub Unprepared : {R : Type 0} {B : Type 0} → (R → RingView) → Bool → Pending R → Pending R →
+    Slots (Slot B) → Slots (Slot B) → SubmitFault → Type 0
 Unprepared view steady old new slots slots' Full = (map.len slots.values ≡ MAX_LIVE) × (new ≡ old) × (slots' ≡ slots)
-Unprepared view steady old new slots slots' RingFault = (map.len slots.values < MAX_LIVE) × Rose (view old.ring).faults (view new.ring).faults × (IsTrue steady → ⊥) × MustEnter view old
-Unprepared view steady old new slots slots' Busy = (map.len slots.values < MAX_LIVE) × Rose (view old.ring).busies (view new.ring).busies × (IsTrue steady → ⊥) × MustEnter view old
+Unprepared view steady old new slots slots' RingFault =
+    (map.len slots.values < MAX_LIVE) × Rose (view old.ring).faults (view new.ring).faults × (IsTrue steady → ⊥) × MustEnter view old
+Unprepared view steady old new slots slots' Busy =
+    (map.len slots.values < MAX_LIVE) × Rose (view old.ring).busies (view new.ring).busies × (IsTrue steady → ⊥) × MustEnter view old
 Unprepared view steady old new slots slots' OutOfMemory = (map.len slots.values < MAX_LIVE) × OnlyReserved view old new

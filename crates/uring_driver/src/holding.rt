@@ -4,7 +4,7 @@ ghost use Rattle.std.specs.FinMap as map;
 ghost use Rattle.handle_core.specs.Table.{holders_at, with_holders, without_handle, by_user, with_user, without_user};
 ghost use Rattle.ring_core.specs.Request.{listed};
 ghost use Rattle.driver_core.specs.Holds.{is_nobody, left_holders, with_ops, CanJoin};
-ghost use Rattle.uring_driver.specs.Holding.{is_held, closes, knows, user_count, is_users, settle, user_left, close_reaped};
+ghost use Rattle.uring_driver.specs.Holding.{closes, knows, user_count, is_users, settle, user_left, close_reaped};
 
 use handle_core::{HandleTable, OutOfMemory, Released};
 use ring_core::Names;
@@ -35,7 +35,10 @@ impl Model for Handles {
 impl Handles {
     /// No handle. It takes no memory.
     pub fn new(alloc: Global) -> Handles
-        ensures { result ≡ record { table = record { holders = map.empty; spare = 0 }; closing = record { holders = map.empty; spare = 0 } } }
+        ensures { result ≡ record {
+          table = record { holders = map.empty; spare = 0 };
+          closing = record { holders = map.empty; spare = 0 };
+        } }
     {
         Handles {
             table: HandleTable::new(alloc),
@@ -91,7 +94,7 @@ impl Handles {
         if count < self.closing.spare() {
             return Ok(());
         }
-        // The room doubles at least, so that it is taken seldom.
+        // Room for half as many again as are held, so that it is taken seldom.
         match count.checked_add(count / 2 + 1) {
             Some(room) => self.closing.reserve(room),
             None => Err(OutOfMemory),

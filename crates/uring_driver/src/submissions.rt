@@ -1,5 +1,6 @@
 //! The ring as the driver uses it: with room that is reserved in it, and with the entries that it kept out behind it.
-ghost use Rattle.std.specs.Prelude.{◌≡◌, ◌≤◌, ◌<◌, ◌+◌, ◌^◌, ◌++◌, List, [], ◌∷◌, ℕ, length, nat_lt, true, false, Some, None, IsTrue, IsOk, IfSome, IfNone, IfOk, IfErr, OnOk, OnErr};
+ghost use Rattle.std.specs.Prelude.{◌≡◌, ◌≤◌, ◌<◌, ◌+◌, ◌^◌, ◌++◌, [], ◌∷◌, length, Some, None, IsTrue};
+ghost use Rattle.std.specs.Prelude.{IfSome, IfNone, IfOk, IfErr, OnOk, OnErr};
 ghost use Rattle.ring_core.specs.Ring.{IsLater, NextFor, entered, pushed};
 ghost use Rattle.ring_core.specs.World.{fresh, output_at, WorldFeeds, WorldEnds};
 ghost use Rattle.ring_core.specs.Lends.{with_world};
@@ -75,8 +76,10 @@ impl<R: Ring> Submissions<R> {
 
     /// How many completions are ready, and how many entries are queued or due; None where that is no `usize`.
     pub fn waiting(&self) -> Option<usize>
-        ensures some { IfSome result (λ n. n ≡ length (R.view self.now.ring).done + (length (R.view self.now.ring).queue + length self.now.due)) }
-        ensures none { IfNone result (2 ^ 64 ≤ length (R.view self.now.ring).done + (length (R.view self.now.ring).queue + length self.now.due)) }
+        ensures some { IfSome result (λ n. n ≡
+            length (R.view self.now.ring).done + (length (R.view self.now.ring).queue + length self.now.due)) }
+        ensures none { IfNone result (2 ^ 64 ≤
+            length (R.view self.now.ring).done + (length (R.view self.now.ring).queue + length self.now.due)) }
     {
         let pending = (self.ring.queued() as usize).checked_add(self.due.len())?;
         self.ring.standing().checked_add(pending)
@@ -152,7 +155,8 @@ impl<R: Ring> Submissions<R> {
     pub fn make_way(&mut self) -> Result<(), EnterError>
         ensures due { OnOk result (self.new.due ≡ []) }
         ensures room { OnOk result (length (R.view self.new.ring).queue < (R.view self.new.ring).capacity) }
-        ensures told { OnOk result (IsTrue R.tells → length (R.view self.old.ring).queue + length self.old.due ≤ (R.view self.old.ring).capacity →
+        ensures told { OnOk result (IsTrue R.tells →
+            length (R.view self.old.ring).queue + length self.old.due ≤ (R.view self.old.ring).capacity →
             pending_ring R.view self.new ≡ with_spare (room_made (pending_ring R.view self.old)) (R.view self.new.ring).spare) }
         ensures enters { Enters R.view R.tells self.old self.new }
         ensures must { OnErr result (MustEnter R.view self.old) }
@@ -165,11 +169,13 @@ impl<R: Ring> Submissions<R> {
     /// An entry joins the end of what is pending: the queue's end, where nothing is due and the queue has room, else it is due.
     pub fn join(&mut self, entry: Entry)
         requires { 0 < self.old.room }
-        ensures told { IsTrue R.tells → pending_ring R.view self.new ≡ with_spare (pushed (pending_ring R.view self.old) entry) (R.view self.new.ring).spare }
+        ensures told { IsTrue R.tells → pending_ring R.view self.new ≡
+            with_spare (pushed (pending_ring R.view self.old) entry) (R.view self.new.ring).spare }
         ensures due { self.old.due ≡ [] → length (R.view self.old.ring).queue < (R.view self.old.ring).capacity → self.new.due ≡ [] }
         ensures room { self.new.room + 1 ≡ self.old.room }
         ensures later { IsLater (R.view self.old.ring) (R.view self.new.ring) }
-        ensures more { length (R.view self.new.ring).queue + length self.new.due ≡ length (R.view self.old.ring).queue + length self.old.due + 1 }
+        ensures more { length (R.view self.new.ring).queue + length self.new.due ≡
+            length (R.view self.old.ring).queue + length self.old.due + 1 }
         ensures done { length (R.view self.new.ring).done ≡ length (R.view self.old.ring).done }
     {
         self.room -= 1;
@@ -264,7 +270,8 @@ impl Submissions<MemRing> {
         told: Told,
         payloads: &mut P,
     ) -> Result<Completion, ExecRefusal>
-        ensures executes { ExecutesFor P.offered P.stores P.takes_memory self.old.ring place told self.new.ring payloads.old payloads.new result }
+        ensures executes { ExecutesFor P.offered P.stores P.takes_memory self.old.ring place told
+            self.new.ring payloads.old payloads.new result }
         ensures due { self.new.due ≡ self.old.due }
         ensures room { self.new.room ≡ self.old.room }
     {

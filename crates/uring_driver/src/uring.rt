@@ -1,5 +1,5 @@
 //! The completion driver: its operations, from their submission to their last poll.
-ghost use Rattle.std.specs.Prelude.{◌≡◌, ◌≤◌, ◌<◌, ◌+◌, ◌^◌, ◌++◌, ◌↔◌, ℕ, [], ◌∷◌, IsTrue, IfSome, IfOk, IfErr, OnOk, OnErr, length};
+ghost use Rattle.std.specs.Prelude.{◌≡◌, ◌≤◌, ◌<◌, ◌+◌, ◌^◌, ◌↔◌, [], ◌∷◌, IsTrue, IfSome, IfOk, IfErr, OnOk, OnErr, length};
 ghost use Rattle.std.specs.FinMap as map;
 ghost use Rattle.ring_core.specs.Request.{named};
 ghost use Rattle.ring_core.specs.Ring.{IsLater};
@@ -20,6 +20,7 @@ ghost use Rattle.uring_driver.specs.PollOp.{IsExactPoll, PollsHandles, closes_of
 use crate::holding::Handles;
 use crate::submissions::Submissions;
 use crate::uring::leave::let_go;
+use crate::uring::turn::Named;
 use driver_core::{Op, Operations, PollOp, SubmitError, SubmitFault, Submitted};
 use op_slots::AfterDrop;
 use op_slots::slab::MAX_LIVE;
@@ -42,6 +43,8 @@ pub struct IoUringDriver<R: Ring, B: IoBufMut> {
     ring: Submissions<R>,
     ops: Operations<B>,
     handles: Handles,
+    // The lists of the next turn: they name nobody, and their memory is used again.
+    spare: Named,
     alloc: Global,
 }
 
@@ -55,7 +58,8 @@ impl<R: Ring, B: IoBufMut> Model for IoUringDriver<R, B> {
 
     ghost view = { λ d. record { ring = d.ring; slots = d.ops.slots; given = d.ops.given; holding = d.handles } };
 
-    ghost invariant = { λ d. IsSound d.ring.room d.ops.slots.values d.handles.table × AreHolding d.handles.table d.ops.slots.values d.ops.given };
+    ghost invariant = { λ d. IsSound d.ring.room d.ops.slots.values d.handles.table ×
+        AreHolding d.handles.table d.ops.slots.values d.ops.given };
 }
 
 impl<R: Ring, B: IoBufMut + Drop> IoUringDriver<R, B> {
@@ -72,6 +76,7 @@ impl<R: Ring, B: IoBufMut + Drop> IoUringDriver<R, B> {
             ring: Submissions::new(alloc, ring),
             ops: Operations::new(alloc),
             handles: Handles::new(alloc),
+            spare: Named::new(alloc),
             alloc,
         })
     }
@@ -119,7 +124,8 @@ impl<R: Ring, B: IoBufMut + Drop> IoUringDriver<R, B> {
         ensures request { IfOk result (λ submitted. GivesRequest self.new submitted request) }
         ensures requests { KeepsRequests self.old self.new }
         // The operation holds each handle that it names, until it is gone.
-        ensures handles { OnOk result (holding_in self.new ≡ record (holding_in self.old) { table = with_ops (holding_in self.old).table (named request) }) }
+        ensures handles { OnOk result (holding_in self.new ≡
+            record (holding_in self.old) { table = with_ops (holding_in self.old).table (named request) }) }
 
         // Nothing passes what is pending. Over a steady ring nothing becomes due.
         ensures pending { IsTrue R.tells → SubmitMoves R.view B.buffer request self.old self.new result }
@@ -148,7 +154,8 @@ impl<R: Ring, B: IoBufMut + Drop> IoUringDriver<R, B> {
     /// holds its handles no more: the close of one that nobody holds joins what is pending.
     pub fn poll_op(&mut self, op: Op, task: u64) -> PollOp<B>
         requires { Holds self.old op }
-        ensures answers { IsExactPoll R.steady result → (L : Ledger) → Stands R.view B.buffer self.old L → PollsFor R.view B.buffer L op task self.new result }
+        ensures answers { IsExactPoll R.steady result → (L : Ledger) → Stands R.view B.buffer self.old L →
+            PollsFor R.view B.buffer L op task self.new result }
         ensures pending { (L : Ledger) → Stands R.view B.buffer self.old L → (IsPending result ↔ IsUnreaped L (number_of op)) }
         // Pending exactly while the slot at the token's key isn't completed; what is ready is that slot's own.
         ensures polls { PollsOp self.old self.new op task result }
@@ -203,7 +210,8 @@ impl<R: Ring, B: IoBufMut + Drop> IoUringDriver<R, B> {
         ensures same { SameSlots self.old self.new }
         ensures tokens { KeepsTokens self.old self.new }
         ensures requests { KeepsRequests self.old self.new }
-        ensures pending { OnOk result (IsTrue R.tells → PendingMoves (pending R.view self.old) (pending R.view self.new) (cancel_for op.now ∷ [])) }
+        ensures pending { OnOk result (IsTrue R.tells →
+            PendingMoves (pending R.view self.old) (pending R.view self.new) (cancel_for op.now ∷ [])) }
         ensures none_due { IsTrue R.steady → due_in self.old ≡ [] → due_in self.new ≡ [] }
         ensures given { given_by self.new ≡ given_by self.old }
 
@@ -238,7 +246,8 @@ fn prepare<R: Ring, B: Drop>(
     ensures more { ring.old.room ≤ ring.new.room }
     ensures later { IsLater (R.view ring.old.ring) (R.view ring.new.ring) }
     ensures ok { OnOk result (IsPrepared (R.view ring.new.ring) ring.new.due ring.new.room ops.new.slots handles) }
-    ensures told { OnOk result (IsTrue R.tells → length (R.view ring.old.ring).queue + length ring.old.due ≤ (R.view ring.old.ring).capacity →
+    ensures told { OnOk result (IsTrue R.tells →
+        length (R.view ring.old.ring).queue + length ring.old.due ≤ (R.view ring.old.ring).capacity →
         pending_ring R.view ring.new ≡ with_spare (room_made (pending_ring R.view ring.old)) (R.view ring.new.ring).spare) }
     ensures takes { IsTrue R.tells → TakesFront (pending_ring R.view ring.old) (pending_ring R.view ring.new) }
     ensures err { IfErr result (Unprepared R.view R.steady ring.old ring.new ops.old.slots ops.new.slots) }

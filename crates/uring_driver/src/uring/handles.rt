@@ -1,11 +1,11 @@
 //! The calls of a driver on handles: who holds them, and when they are closed.
 ghost use Rattle.std.specs.Prelude.{◌≡◌, ◌<◌, ◌^◌, ◌-◌, ◌↔◌, true, false, [], map, IsTrue, IfOk, OnOk, OnErr};
-ghost use Rattle.handle_core.specs.Table.{holders_at, with_holders, by_user, with_user, without_user};
+ghost use Rattle.handle_core.specs.Table.{holders_at, with_holders, with_user, without_user};
 ghost use Rattle.ring_core.specs.Entry.{close_entry};
 ghost use Rattle.ring_core.specs.Ledger.{Ledger};
 ghost use Rattle.driver_core.specs.Holds.{is_nobody};
-ghost use Rattle.uring_driver.specs.Holding.{closes, knows, user_count, is_users, user_left, unheld_if, IsSameHolding};
-ghost use Rattle.uring_driver.specs.Uring.{due_in, pending, given_by, holding_in, holds_handle};
+ghost use Rattle.uring_driver.specs.Holding.{closes, knows, user_count, user_left, unheld_if, IsSameHolding};
+ghost use Rattle.uring_driver.specs.Uring.{due_in, pending, holding_in, holds_handle};
 ghost use Rattle.uring_driver.specs.Op.{KeepsTokens, KeepsRequests};
 ghost use Rattle.uring_driver.specs.Submissions.{PendingMoves};
 ghost use Rattle.uring_driver.specs.Stands.{Stands};
@@ -74,7 +74,9 @@ impl<R: Ring, B: IoBufMut + Drop> IoUringDriver<R, B> {
         requires held { IsTrue (holds_handle self.old fd) }
         requires counter { user_count (holding_in self.old) fd < 2 ^ 62 }
         ensures stands { (L : Ledger) → Stands R.view B.buffer self.old L → Stands R.view B.buffer self.new L }
-        ensures handles { holding_in self.new ≡ record (holding_in self.old) { table = with_holders (holding_in self.old).table fd (with_user (holders_at (holding_in self.old).table fd)) } }
+        ensures handles { holding_in self.new ≡ record (holding_in self.old) {
+          table = with_holders (holding_in self.old).table fd (with_user (holders_at (holding_in self.old).table fd));
+        } }
         ensures rest { SameOps self.old self.new × (self.new.ring ≡ self.old.ring) }
         ensures tokens { KeepsTokens self.old self.new }
         ensures requests { KeepsRequests self.old self.new }
@@ -129,7 +131,8 @@ impl<R: Ring, B: IoBufMut + Drop> IoUringDriver<R, B> {
 
     // Takes the memory of one handle more: of its close, in the ring and in the table of closes.
     pub(crate) fn reserve_handle(&mut self) -> Result<(), OutOfMemory>
-        ensures same { SameOps self.old self.new × IsSameRing R.view self.old self.new × IsSameHolding (holding_in self.old) (holding_in self.new) }
+        ensures same { SameOps self.old self.new × IsSameRing R.view self.old self.new ×
+            IsSameHolding (holding_in self.old) (holding_in self.new) }
         ensures table { (holding_in self.new).table ≡ (holding_in self.old).table }
         ensures ok { OnOk result (HasHandleRoom self.new) }
         ensures stands { (L : Ledger) → Stands R.view B.buffer self.old L → Stands R.view B.buffer self.new L }

@@ -19,7 +19,8 @@ pub fn let_go<R: Ring>(ring: &mut Submissions<R>, handles: &mut Handles, names: 
     requires room { length (unheld_by handles.old.table (listed names)) ≤ ring.old.room }
     ensures handles { handles.new ≡ ops_left handles.old (listed names) }
     ensures posts { PostsEach R.view R.tells R.steady ring.old ring.new (map close_entry (unheld_by handles.old.table (listed names))) }
-    ensures moves { IsTrue R.tells → PendingMoves (pending_ring R.view ring.old).queue (pending_ring R.view ring.new).queue (map close_entry (unheld_by handles.old.table (listed names))) }
+    ensures moves { IsTrue R.tells → PendingMoves (pending_ring R.view ring.old).queue (pending_ring R.view ring.new).queue
+        (map close_entry (unheld_by handles.old.table (listed names))) }
     ensures below { (h : ℕ) → has_number h (unheld_by handles.old.table (listed names)) ≡ true → h < 2 ^ 62 }
     ensures none_due { IsTrue R.steady → ring.old.due ≡ [] → ring.new.due ≡ [] }
 {

@@ -30,7 +30,7 @@ const ENTRIES: u32 = 1024;
 impl<B: IoBufMut + Drop> IoUringDriver<MemRing, B> {
     /// A driver over a ring in memory whose queue holds 1024 entries. (monoio: `new`)
     pub fn new(alloc: Global) -> Result<Self, OutOfMemory>
-        ensures stands { IfOk result (λ driver. Stands (λ r. r) B.buffer driver (empty 1024)) }
+        ensures stands { IfOk result (λ driver. Stands (λ r. r) B.buffer driver (empty ENTRIES)) }
         ensures tokens { IfOk result (λ driver. HoldsNone driver) }
         ensures due { IfOk result (λ driver. due_in driver ≡ []) }
     {
@@ -153,9 +153,9 @@ impl<B: IoBufMut + Drop> IoUringDriver<MemRing, B> {
         self.ring.look(h)
     }
 
-    /// Executes what is in flight at a place with a reported outcome: it becomes the last completion. A close moves nothing. The bytes that come go
-    /// from the handle's input into the operation's buffer, and those that are sent are copied from the buffer to the handle's
-    /// output; an error leaves the buffer as it was submitted. Only a send takes memory. (not in monoio)
+    /// Executes what is in flight at a place with a reported outcome: it becomes the last completion. A close moves nothing. The bytes
+    /// that come go from the handle's input into the operation's buffer, and those that are sent are copied from the buffer to the
+    /// handle's output; an error leaves the buffer as it was submitted. Only a send takes memory. (not in monoio)
     pub fn execute(&mut self, place: usize, told: Told) -> Result<Executed, ExecRefusal>
         ensures answers { (L : Ledger) → Stands (λ r. r) B.buffer self.old L → ExecutesFor B.buffer L place told self.new result }
         // Over every driver: what its ring does with its operations, and nothing else.

@@ -31,9 +31,10 @@ impl<R: Ring, B: IoBufMut + Drop> Driver for IoUringDriver<R, B> {
 
     ghost legacy = { false };
 
-    /// Memory is taken once, for as many numbers as are ready, queued and due; none is taken where there are none. After Busy
-    /// what was ready is treated. Where the slot of a dropped operation goes, the close of each handle that nobody holds any more joins
-    /// what is pending; a later turn names it. (monoio: `submit`)
+    /// Room is made once, for as many numbers as are ready, queued and due. A list that names nobody stays with the driver: so a list
+    /// takes memory only after a turn named somebody in it, or to grow. After Busy what was ready is treated. Where the slot of a
+    /// dropped operation goes, the close of each handle that nobody holds any more joins what is pending; a later turn names it.
+    /// (monoio: `submit`)
     fn submit(&mut self) -> Turned {
         match self.begin_turn() {
             Ok(begun) => self.end_turn(begun),

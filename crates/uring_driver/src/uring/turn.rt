@@ -1,5 +1,6 @@
 //! What a turn of the driver does: it treats the completions that are ready, in order.
-ghost use Rattle.std.specs.Prelude.{◌≡◌, ◌≤◌, ◌<◌, ◌+◌, ◌++◌, ◌||◌, ◌∷◌, ℕ, [], nat_lt, Some, IsTrue, IfOk, IfErr, option_to_list, length, vec_len, vec_capacity};
+ghost use Rattle.std.specs.Prelude.{◌≡◌, ◌≤◌, ◌<◌, ◌+◌, ◌++◌, ◌||◌, ◌∷◌, ℕ, [], nat_lt, Some, IsTrue, IfOk, IfErr, option_to_list};
+ghost use Rattle.std.specs.Prelude.{length, vec_len, vec_capacity};
 ghost use Rattle.ring_core.specs.Entry.{target};
 ghost use Rattle.driver_core.specs.Slot.{KeepsNumbers};
 ghost use Rattle.driver_core.specs.Requests.{KeepsRequests};
@@ -18,6 +19,7 @@ use driver_core::{Operations, Stop, Turned};
 use rent_buf::{IoBufMut, NumList, OutOfMemory};
 use ring_core::{Completion, EnterError, Ring, Target};
 use std::alloc::Global;
+use std::mem;
 
 /// Whom a turn named so far, in the order of the completions.
 #[derive(Drop)]
@@ -30,6 +32,21 @@ pub struct Named {
     pub woken: Vec<u64>,
 }
 
+impl Named {
+    /// Nobody. It takes no memory.
+    pub fn new(alloc: Global) -> Named
+        ensures reaped { result.reaped.items ≡ [] }
+        ensures closed { result.closed.items ≡ [] }
+        ensures woken { result.woken.items ≡ [] }
+    {
+        Named {
+            reaped: Vec::new(alloc),
+            closed: Vec::new(alloc),
+            woken: Vec::new(alloc),
+        }
+    }
+}
+
 /// A turn that was begun: it has named nobody, and has room for all that it may name.
 pub struct Begun {
     /// Nobody, with that room.
@@ -39,8 +56,8 @@ pub struct Begun {
 }
 
 impl<R: Ring, B: IoBufMut + Drop> IoUringDriver<R, B> {
-    // Begins a turn: takes memory once, for as many numbers as are ready, queued and due, and enters what is due and what is
-    // queued. None is taken where there are none. A ring that is busy doesn't end the turn.
+    // Begins a turn: makes room for as many numbers as are ready, queued and due, and enters what is due and what is queued. It takes
+    // the memory that earlier turns left, and only what is missing anew. A ring that is busy doesn't end the turn.
     pub(crate) fn begin_turn(&mut self) -> Result<Begun, Stop>
         ensures ok { IfOk result (HasBegun R.view R.tells R.steady self.old self.new) }
         ensures err { IfErr result (CannotBegin R.view R.tells R.steady self.old self.new) }
@@ -48,13 +65,17 @@ impl<R: Ring, B: IoBufMut + Drop> IoUringDriver<R, B> {
         let Some(count) = self.ring.waiting() else {
             return Err(Stop::OutOfMemory);
         };
-        let Ok(named) = nobody(self.alloc, count) else {
+        let spare = mem::replace(&mut self.spare, Named::new(self.alloc));
+        let Ok(named) = nobody(spare, count) else {
             return Err(Stop::OutOfMemory);
         };
         let busy = match self.ring.enter() {
             Ok(_) => false,
             Err(EnterError::Busy) => true,
-            Err(EnterError::Fault) => return Err(Stop::RingFault),
+            Err(EnterError::Fault) => {
+                self.spare = named;
+                return Err(Stop::RingFault);
+            }
         };
         Ok(Begun { named, busy })
     }
@@ -66,7 +87,7 @@ impl<R: Ring, B: IoBufMut + Drop> IoUringDriver<R, B> {
         begun.busy || self.ring.ready() > 0
     }
 
-    // Ends a turn: treats the completions that are ready, in order.
+    // Ends a turn: treats the completions that are ready, in order. The lists that name nobody stay with the driver.
     pub(crate) fn end_turn(&mut self, begun: Begun) -> Turned
         requires { HasRoom begun.named (length (R.view (ring_in self.old)).done) }
         ensures requests { KeepsRequests (ops_in self.old) (ops_in self.new) }
@@ -75,6 +96,7 @@ impl<R: Ring, B: IoBufMut + Drop> IoUringDriver<R, B> {
     {
         let Begun { mut named, busy } = begun;
         let bad = reap_all(&mut self.ring, &mut self.ops, &mut self.handles, &mut named);
+        let named = keep_empty(&mut self.spare, named);
         turned(named, stop_of(busy, bad))
     }
 
@@ -90,12 +112,7 @@ impl<R: Ring, B: IoBufMut + Drop> IoUringDriver<R, B> {
         ensures woken { result.woken ≡ [] }
         ensures stop { result.stop ≡ Some stop }
     {
-        let named = Named {
-            reaped: Vec::new(self.alloc),
-            closed: Vec::new(self.alloc),
-            woken: Vec::new(self.alloc),
-        };
-        turned(named, Some(stop))
+        turned(Named::new(self.alloc), Some(stop))
     }
 }
 
@@ -110,7 +127,8 @@ fn reap_one<R: Ring, B: Drop>(
     requires room { HasRoom named.old 1 }
     requires sound { IsSound ring.old.room ops.old.slots.values handles.old.table }
     requires holding { AreHolding handles.old.table ops.old.slots.values ops.old.given }
-    ensures reaps { Reaps R.view R.tells R.steady (midway ring.old ops.old handles.old) (midway ring.new ops.new handles.new) named.old named.new 1 result }
+    ensures reaps { Reaps R.view R.tells R.steady
+        (midway ring.old ops.old handles.old) (midway ring.new ops.new handles.new) named.old named.new 1 result }
     ensures none_due { IsTrue R.steady → ring.old.due ≡ [] → ring.new.due ≡ [] }
     ensures room { (count : ℕ) → HasRoom named.old (count + 1) → HasRoom named.new count }
     ensures numbers { KeepsNumbers ops.old.slots.values ops.new.slots.values }
@@ -137,8 +155,10 @@ fn treat<R: Ring, B: Drop>(
     requires room { HasRoom named.old 1 }
     requires sound { IsSound ring.old.room ops.old.slots.values handles.old.table }
     requires holding { AreHolding handles.old.table ops.old.slots.values ops.old.given }
-    ensures treats { Treats (treat_one (target completion.now.word) ops.old.slots.values handles.old completion.now) ops.new.slots.values handles.new named.old named.new result }
-    ensures posts { PostsAll R.view R.tells R.steady ring.old ring.new (treat_one (target completion.now.word) ops.old.slots.values handles.old completion.now).queued }
+    ensures treats { Treats (treat_one (target completion.now.word) ops.old.slots.values handles.old completion.now)
+        ops.new.slots.values handles.new named.old named.new result }
+    ensures posts { PostsAll R.view R.tells R.steady ring.old ring.new
+        (treat_one (target completion.now.word) ops.old.slots.values handles.old completion.now).queued }
     ensures none_due { IsTrue R.steady → ring.old.due ≡ [] → ring.new.due ≡ [] }
     ensures room { (count : ℕ) → HasRoom named.old (count + 1) → HasRoom named.new count }
     ensures numbers { KeepsNumbers ops.old.slots.values ops.new.slots.values }
@@ -175,8 +195,10 @@ fn note(named: &mut Named, number: u64, task: Option<u64>)
     ensures reaped { named.new.reaped.items ≡ named.old.reaped.items ++ number ∷ [] }
     ensures closed { named.new.closed ≡ named.old.closed }
     ensures woken { named.new.woken.items ≡ named.old.woken.items ++ option_to_list task }
-    ensures reaped_room { (vec_len named.new.reaped ≤ vec_len named.old.reaped + 1) × (vec_capacity named.new.reaped ≡ vec_capacity named.old.reaped) }
-    ensures woken_room { (vec_len named.new.woken ≤ vec_len named.old.woken + 1) × (vec_capacity named.new.woken ≡ vec_capacity named.old.woken) }
+    ensures reaped_room { (vec_len named.new.reaped ≤ vec_len named.old.reaped + 1) ×
+        (vec_capacity named.new.reaped ≡ vec_capacity named.old.reaped) }
+    ensures woken_room { (vec_len named.new.woken ≤ vec_len named.old.woken + 1) ×
+        (vec_capacity named.new.woken ≡ vec_capacity named.old.woken) }
 {
     named.reaped.push_reserved(number);
     match task {
@@ -195,7 +217,8 @@ pub fn reap_all<R: Ring, B: Drop>(
     requires room { HasRoom named.old (length (R.view ring.old.ring).done) }
     requires sound { IsSound ring.old.room ops.old.slots.values handles.old.table }
     requires holding { AreHolding handles.old.table ops.old.slots.values ops.old.given }
-    ensures reaps { ReapsAll R.view R.tells R.steady (midway ring.old ops.old handles.old) (midway ring.new ops.new handles.new) named.old named.new result }
+    ensures reaps { ReapsAll R.view R.tells R.steady
+        (midway ring.old ops.old handles.old) (midway ring.new ops.new handles.new) named.old named.new result }
     ensures none_due { IsTrue R.steady → ring.old.due ≡ [] → ring.new.due ≡ [] }
     ensures numbers { KeepsNumbers ops.old.slots.values ops.new.slots.values }
     ensures requests { KeepsRequests ops.old ops.new }
@@ -242,29 +265,62 @@ pub fn stop_of(busy: bool, bad: Option<u64>) -> Option<Stop>
     }
 }
 
-/// Nobody, with room for `count` numbers in each list. It takes no memory for none.
-pub fn nobody(alloc: Global, count: usize) -> Result<Named, OutOfMemory>
+/// Nobody, with room for `count` numbers in each list. It takes the memory of these lists, and only what is missing anew.
+pub fn nobody(spare: Named, count: usize) -> Result<Named, OutOfMemory>
     ensures reaped { IfOk result (λ named. named.reaped.items ≡ []) }
     ensures closed { IfOk result (λ named. named.closed.items ≡ []) }
     ensures woken { IfOk result (λ named. named.woken.items ≡ []) }
     ensures room { IfOk result (λ named. HasRoom named count) }
 {
-    let reaped = with_room(alloc, count)?;
-    let closed = with_room(alloc, count)?;
-    let woken = with_room(alloc, count)?;
-    Ok(Named {
+    let Named {
         reaped,
         closed,
         woken,
+    } = spare;
+    Ok(Named {
+        reaped: with_room(reaped, count)?,
+        closed: with_room(closed, count)?,
+        woken: with_room(woken, count)?,
     })
 }
 
-// An empty list with room for `count` numbers. It takes no memory for none.
-fn with_room(alloc: Global, count: usize) -> Result<Vec<u64>, OutOfMemory>
+// A list that is emptied, with room for `count` numbers.
+fn with_room(spare: Vec<u64>, count: usize) -> Result<Vec<u64>, OutOfMemory>
     ensures items { IfOk result (λ list. list.items ≡ []) }
     ensures room { IfOk result (λ list. vec_len list + count ≤ vec_capacity list) }
 {
-    let mut list = Vec::new(alloc);
+    let mut list = spare;
+    list.clear();
     list.reserve(count)?;
     Ok(list)
+}
+
+/// Keeps the lists that name nobody as spare ones, and returns the others. In place of one that is kept it returns one without memory.
+pub fn keep_empty(spare: &mut Named, named: Named) -> Named
+    ensures reaped { result.reaped.items ≡ named.reaped.items }
+    ensures closed { result.closed.items ≡ named.closed.items }
+    ensures woken { result.woken.items ≡ named.woken.items }
+{
+    let Named {
+        reaped,
+        closed,
+        woken,
+    } = named;
+    Named {
+        reaped: keep_if_empty(&mut spare.reaped, reaped),
+        closed: keep_if_empty(&mut spare.closed, closed),
+        woken: keep_if_empty(&mut spare.woken, woken),
+    }
+}
+
+// Keeps a list as the spare one if it is empty, and else returns it.
+fn keep_if_empty(spare: &mut Vec<u64>, list: Vec<u64>) -> Vec<u64>
+    ensures { result.items ≡ list.items }
+{
+    if !list.is_empty() {
+        return list;
+    }
+    let none = Vec::new(*list.allocator());
+    *spare = list;
+    none
 }

@@ -9,4 +9,5 @@ invariant_of-self c =
     let holding : Holding = record { table = c.self.inside.table; closing = c.self.inside.closing } in
     let users = subst (λ x. is_users x c.args.h ≡ true) (sym c.self.view_is) c.requires.held in
     subst (λ t. IsKept (record holding { table = t })) (sym c.hold.ensures)
-    (kept-written holding c.self.invariant c.args.h (with_user (holders_at holding.table c.args.h)) (held-user holding c.args.h users) (omega arith))
+    (kept-written holding c.self.invariant c.args.h (with_user (holders_at holding.table c.args.h))
+    (held-user holding c.args.h users) (omega arith))

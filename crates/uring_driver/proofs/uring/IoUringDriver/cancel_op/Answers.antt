@@ -1,6 +1,7 @@
 use Rattle.std.proofs.Common.{arith, refl, subst, sym}
 use Rattle.uring_driver.specs.Op.{Holds}
 use Rattle.uring_driver.specs.State.{State}
+use Rattle.uring_driver.specs.Reaps.{midway}
 use Rattle.uring_driver.specs.Submissions.{Posts}
 use Rattle.uring_driver.proofs.Entering.{on-err}
 use Rattle.uring_driver.proofs.Drops.{cancel-asks}
@@ -11,7 +12,7 @@ use Rattle.uring_driver.proofs.uring.IoUringDriver.cancel_op.Goals as goal
 pub returns-clause-answers : goal.returns-clause-answers
 returns-clause-answers g c =
     let d : State g.row.R.Denot g.row.B.Denot =
-    record { ring = c.self.inside.ring; slots = c.self.inside.ops.slots; given = c.self.inside.ops.given; holding = c.self.inside.handles } in
+    midway c.self.inside.ring c.self.inside.ops c.self.inside.handles in
     let holds : Holds d c.args.op.now = subst (λ x. Holds x c.args.op.now) (sym c.self.view_is) c.requires in
     let posts = subst (λ e. Posts g.R.Ring.view g.R.Ring.tells g.R.Ring.steady c.make_spare.new.self c.post.new.self e) c.cancel.ensures
     c.post.ensures.posts in
@@ -26,7 +27,7 @@ returns-clause-answers g c =
 pub returns-in_err-make_spare-clause-err : goal.returns-in_err-make_spare-clause-err
 returns-in_err-make_spare-clause-err g c =
     let d : State g.row.R.Denot g.row.B.Denot =
-    record { ring = c.self.inside.ring; slots = c.self.inside.ops.slots; given = c.self.inside.ops.given; holding = c.self.inside.handles } in
+    midway c.self.inside.ring c.self.inside.ops c.self.inside.handles in
     rw (← c.self.view_is) (on-err c.from_residual.result (λ L stands.
     stands-same g.R.Ring.view g.B.IoBufMut.buffer d (record d { ring = c.make_spare.new.self }) L _ c.make_spare.ensures.view
     c.make_spare.ensures.due c.make_spare.ensures.more refl refl (record { table = refl; closing = refl }) stands))

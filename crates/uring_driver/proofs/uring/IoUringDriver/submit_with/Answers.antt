@@ -1,5 +1,6 @@
 use Rattle.std.proofs.Common.{IsTrue, ◌<◌, ◌^◌, ◌+◌, ◌≤◌, refl, sym, ap, subst, ◌∙◌, arith, length, length-append}
 use Rattle.std.specs.FinMap as map
+use Rattle.op_slots.specs.declared.slab.TheConstants.{MAX_LIVE}
 use Rattle.ring_core.specs.Ring.{pushed}
 use Rattle.ring_core.specs.Request.{named}
 use Rattle.ring_core.specs.declared.entry.Body.TheVariants.{Call}
@@ -8,6 +9,7 @@ use Rattle.driver_core.specs.Slot.{number_at}
 use Rattle.driver_core.specs.Operations.{new_slot}
 use Rattle.driver_core.proofs.Holds.{len-joined}
 use Rattle.uring_driver.specs.State.{State, AreHolding}
+use Rattle.uring_driver.specs.Reaps.{midway}
 use Rattle.uring_driver.specs.Submissions.{with_spare, pending_ring}
 use Rattle.uring_driver.specs.Uring.{holds_all}
 use Rattle.uring_driver.proofs.Entering.{fits-split}
@@ -19,7 +21,7 @@ use Rattle.uring_driver.proofs.uring.IoUringDriver.submit_with.Goals as goal
 pub invariant_of-self : goal.invariant_of-self
 invariant_of-self g c =
     let d : State g.row.R.Denot g.row.B.Denot =
-    record { ring = c.self.inside.ring; slots = c.self.inside.ops.slots; given = c.self.inside.ops.given; holding = c.self.inside.handles } in
+    midway c.self.inside.ring c.self.inside.ops c.self.inside.handles in
     let more = c.in-Err.ensures.more in (
       sound-keeps d.ring.room c.prepare.new.ring.room d.slots.values c.prepare.new.ops.slots.values d.holding.table d.holding.table
           c.self.invariant.0 (omega (arith, more)) (λ key. ap (λ m. number_at m key) c.in-Err.ensures.slots),
@@ -30,7 +32,7 @@ invariant_of-self g c =
 pub returns-in-Err-clause-err : goal.returns-in-Err-clause-err
 returns-in-Err-clause-err g c =
     let d : State g.row.R.Denot g.row.B.Denot =
-    record { ring = c.self.inside.ring; slots = c.self.inside.ops.slots; given = c.self.inside.ops.given; holding = c.self.inside.handles } in
+    midway c.self.inside.ring c.self.inside.ops c.self.inside.handles in
     let new : State g.row.R.Denot g.row.B.Denot =
     record d { ring = c.prepare.new.ring; slots = c.prepare.new.ops.slots; given = c.prepare.new.ops.given } in
     rw (← c.self.view_is) (
@@ -45,7 +47,7 @@ returns-in-Err-clause-err g c =
 pub invariant_of-self-2 : goal.invariant_of-self-2
 invariant_of-self-2 g c =
     let d : State g.row.R.Denot g.row.B.Denot =
-    record { ring = c.self.inside.ring; slots = c.self.inside.ops.slots; given = c.self.inside.ops.given; holding = c.self.inside.handles } in
+    midway c.self.inside.ring c.self.inside.ops c.self.inside.handles in
     let puts = put-over c.self.inside.ops c.prepare.new.ops c.submit-op.new.self c.args.request c.submit-op.result c.in-Ok.ensures.slots
     c.in-Ok.ensures.given c.submit-op.ensures.submits in
     let user = subst (λ x. IsTrue (holds_all x (named c.args.request))) (sym c.self.view_is) c.requires.held in
@@ -66,7 +68,7 @@ invariant_of-self-2 g c =
 pub returns-clause-answers : goal.returns-clause-answers
 returns-clause-answers g c =
     let d : State g.row.R.Denot g.row.B.Denot =
-    record { ring = c.self.inside.ring; slots = c.self.inside.ops.slots; given = c.self.inside.ops.given; holding = c.self.inside.handles } in
+    midway c.self.inside.ring c.self.inside.ops c.self.inside.handles in
     let puts = put-over c.self.inside.ops c.prepare.new.ops c.submit-op.new.self c.args.request c.submit-op.result c.in-Ok.ensures.slots
     c.in-Ok.ensures.given c.submit-op.ensures.submits in
     let user = subst (λ x. IsTrue (holds_all x (named c.args.request))) (sym c.self.view_is) c.requires.held in
@@ -85,7 +87,7 @@ returns-clause-answers g c =
     (let a = ok.spare in let b = c.join-2.ensures.room in let s = ap map.len c.in-Ok.ensures.slots in let h = c.len.ensures in
     omega (arith, a, b, s, h)) in
     stands-submits view g.B.IoBufMut.buffer d _ L c.args.request op.key (view made.ring).spare spare mid stands user
-    (subst (λ m. map.len m < 4294967232) c.in-Ok.ensures.slots ok.few) puts.free puts.below puts.slots
+    (subst (λ m. map.len m < MAX_LIVE) c.in-Ok.ensures.slots ok.few) puts.free puts.below puts.slots
     (c.in-Ok.ensures.told tells (fits-split (view d.ring.ring).queue d.ring.due (view d.ring.ring).capacity stands.fits))
     roomy
     (c.join-2.ensures.told tells ∙ ap (λ e. with_spare (pushed mid e) spare) c.call-entry.ensures
