@@ -2,9 +2,9 @@
 ghost use Rattle.std.specs.Prelude.{IsTrue};
 ghost use Rattle.ring_core.specs.Ledger.{Ledger};
 
-use crate::{Driver, Executed, IoUringDriver, PollOp, Submitted};
+use crate::{Driver, Executed, IoUringDriver, MOST_GIVEN, PollOp, Submitted};
 use rent_buf::{IoBuf, Rent};
-use ring_core::{HandleKind, MemRing, Outcome, Request, Told};
+use ring_core::{HandleKind, MOST_HANDLES, MemRing, Outcome, Request, Told};
 use std::process::Abort;
 use std::test::Fail;
 
@@ -28,12 +28,12 @@ fn arrives(rt: &impl Abort, driver: &mut IoUringDriver<MemRing, Rent>, h: u64, b
 fn one_read_by_the_crates_alone(rt: HostRuntime) -> Result<(), Fail> {
     let mut driver: IoUringDriver<MemRing, Rent> = IoUringDriver::new_with_entries(rt.alloc(), 8)?;
     let next = driver.handles();
-    assert!(rt; next < 1 << 62 && !driver.known(next));
+    assert!(rt; next < MOST_HANDLES && !driver.known(next));
     let fd = driver.give(HandleKind::Stream)?;
 
     // From here to its last poll the buffer is the engine's.
     let buf = Rent::with_total(rt.alloc(), 16)?;
-    assert!(rt; driver.user_holds(fd.number()) && driver.given() < 1 << 62);
+    assert!(rt; driver.user_holds(fd.number()) && driver.given() < MOST_GIVEN);
     let op = match driver.submit_with(Request::Recv { fd, buf }) {
         Ok(Submitted::Op(op)) => op,
         Err(refused) => panic!(rt; "refused: {:?}", refused.why),

@@ -6,7 +6,8 @@ mod submissions;
 pub mod uring;
 
 pub use driver_core::{
-    Done, Driver, Executed, Op, Parked, PollOp, Stop, SubmitError, SubmitFault, Submitted, Turned,
+    Done, Driver, Executed, MOST_GIVEN, Op, Parked, PollOp, Stop, SubmitError, SubmitFault,
+    Submitted, Turned,
 };
 pub use uring::IoUringDriver;
 

@@ -3,12 +3,13 @@ ghost use Rattle.std.specs.Prelude.{◌≡◌, [], ◌∷◌};
 ghost use Rattle.ring_core.specs.Request.{named};
 
 use super::*;
-use handle_core::Released;
+use handle_core::{MAX_HOLDS, Released};
 use rent_buf::{
     Buf, BufSpec, ByteList, IoBuf, IoBufMut, IoVecBuf, Kind, OutOfMemory, PartsSpec, VecBuf,
 };
 use ring_core::{
-    ExecRefusal, HandleKind, Look, MemRing, Outcome, Request, Ring, SharedFd, Told, WorldError,
+    ExecRefusal, HandleKind, Look, MOST_HANDLES, MemRing, Outcome, Request, Ring, SharedFd, Told,
+    WorldError,
 };
 use std::alloc::Global;
 use std::process::Abort;
@@ -51,7 +52,7 @@ fn list(alloc: Global, bytes: &[u8]) -> Result<ByteList, OutOfMemory> {
 // A new stream.
 pub(crate) fn give(rt: &impl Abort, driver: &mut IoUringDriver<MemRing, Buf>) -> SharedFd {
     let next = driver.handles();
-    assert!(rt; next < 1 << 62 && !driver.known(next));
+    assert!(rt; next < MOST_HANDLES && !driver.known(next));
     driver
         .give(HandleKind::Stream)
         .expect(rt, "memory is at hand")
@@ -76,7 +77,7 @@ pub(crate) fn submit<R: Ring, B: IoBufMut + Drop>(
     request: Request<B, VecBuf>,
 ) -> Op {
     assert!(rt; driver.user_holds(handle_in(&request)));
-    assert!(rt; driver.given() < 1 << 62);
+    assert!(rt; driver.given() < MOST_GIVEN);
     match driver.submit_with(request) {
         Ok(Submitted::Op(op)) => op,
         Err(refused) => panic!(rt; "refused: {:?}", refused.why),
@@ -198,7 +199,7 @@ fn hold<R: Ring, B: IoBufMut + Drop>(
     fd: SharedFd,
 ) {
     assert!(rt; driver.user_holds(fd.number()));
-    assert!(rt; driver.user_count(fd.number()) < 1 << 62);
+    assert!(rt; driver.user_count(fd.number()) < MAX_HOLDS);
     driver.hold(fd);
 }
 

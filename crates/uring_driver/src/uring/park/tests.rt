@@ -13,7 +13,7 @@ use std::test::Fail;
 use std::thread;
 use std::thread::{Threads, join};
 use std::time::Duration;
-use wake_core::{OutOfMemory, Unpark, UnparkHandle, WakeCell, Waker};
+use wake_core::{OutOfMemory, PUSH_PARTS, Unpark, UnparkHandle, WakeCell, Waker};
 
 const fn waker(sender: u64, number: u64, task: u64) -> Waker {
     Waker {
@@ -76,7 +76,7 @@ where
     P: Ledger + Send + Sync,
     D: Ledger + Send + Sync,
     R: Threads + Wait + Clock + Sync + Abort,
-    requires pushes { (pushes.name ≡ P.name) × (pushes.parts ≡ P.parts) × (pushes.parts ≡ 65537) }
+    requires pushes { (pushes.name ≡ P.name) × (pushes.parts ≡ P.parts) × (pushes.parts ≡ PUSH_PARTS) }
     requires drains { (drains.name ≡ D.name) × (drains.parts ≡ D.parts) × (drains.parts ≡ 1) }
 {
     let (cell, mut sleeper) = WakeCell::<P, D>::new(alloc, pushes, drains)?;
@@ -107,7 +107,7 @@ fn send_park_settle<P: Ledger, D: Ledger, R: Wait + Clock + Abort>(
     pushes: Blank,
     drains: Blank,
 ) -> Result<(), Fail>
-    requires pushes { (pushes.name ≡ P.name) × (pushes.parts ≡ P.parts) × (pushes.parts ≡ 65537) }
+    requires pushes { (pushes.name ≡ P.name) × (pushes.parts ≡ P.parts) × (pushes.parts ≡ PUSH_PARTS) }
     requires drains { (drains.name ≡ D.name) × (drains.parts ≡ D.parts) × (drains.parts ≡ 1) }
 {
     let (_cell, mut sleeper) = WakeCell::<P, D>::new(alloc, pushes, drains)?;
@@ -136,7 +136,7 @@ fn park_over_a_completion<P: Ledger, D: Ledger, R: Wait + Clock + Abort>(
     pushes: Blank,
     drains: Blank,
 ) -> Result<(), Fail>
-    requires pushes { (pushes.name ≡ P.name) × (pushes.parts ≡ P.parts) × (pushes.parts ≡ 65537) }
+    requires pushes { (pushes.name ≡ P.name) × (pushes.parts ≡ P.parts) × (pushes.parts ≡ PUSH_PARTS) }
     requires drains { (drains.name ≡ D.name) × (drains.parts ≡ D.parts) × (drains.parts ≡ 1) }
 {
     let (_cell, mut sleeper) = WakeCell::<P, D>::new(alloc, pushes, drains)?;
@@ -158,12 +158,22 @@ fn park_over_a_completion<P: Ledger, D: Ledger, R: Wait + Clock + Abort>(
 
 #[test]
 fn an_unpark_ends_a_park_of_a_driver(rt: HostRuntime) -> Result<(), Fail> {
-    unpark_parks::<Brand, Brand, HostRuntime>(&rt, rt.alloc(), Blank::new(65537), Blank::new(1))
+    unpark_parks::<Brand, Brand, HostRuntime>(
+        &rt,
+        rt.alloc(),
+        Blank::new(PUSH_PARTS),
+        Blank::new(1),
+    )
 }
 
 #[test]
 fn what_was_sent_is_drained_by_a_park_or_left(rt: HostRuntime) -> Result<(), Fail> {
-    send_park_settle::<Brand, Brand, HostRuntime>(&rt, rt.alloc(), Blank::new(65537), Blank::new(1))
+    send_park_settle::<Brand, Brand, HostRuntime>(
+        &rt,
+        rt.alloc(),
+        Blank::new(PUSH_PARTS),
+        Blank::new(1),
+    )
 }
 
 #[test]
@@ -171,7 +181,7 @@ fn a_park_does_not_wait_over_a_completion(rt: HostRuntime) -> Result<(), Fail> {
     park_over_a_completion::<Brand, Brand, HostRuntime>(
         &rt,
         rt.alloc(),
-        Blank::new(65537),
+        Blank::new(PUSH_PARTS),
         Blank::new(1),
     )
 }
