@@ -1,14 +1,17 @@
 -- What tables of holders are, handle by handle, once operations joined or left.
-use Rattle.std.proofs.Common.{◌≡◌, ◌≢◌, ◌∙◌, inl, inr, ℕ, suc, ◌+◌, ◌<◌, ◌^◌, Bool, true, false, not, List, [], ◌∷◌, length, Option, Some, None, refl, sym, ap, subst, arith}
+use Rattle.std.proofs.Common.{◌≡◌, ◌≢◌, ◌∙◌, inl, inr, ℕ, suc, ◌+◌, ◌<◌, Bool, true, false, not, List, [], ◌∷◌, length, Option, Some, None}
+use Rattle.std.proofs.Common.{refl, sym, ap, subst, arith}
 use Rattle.std.specs.Prelude.{is_some, IsSome, unwrap_or}
 use Rattle.std.proofs.lemmas.Bool.Decides.{nat_tests}
 use Rattle.std.specs.FinMap.{get, len}
+use Rattle.handle_core.specs.declared.table.TheConstants.{MAX_HOLDS}
 use Rattle.handle_core.specs.declared.table.Holders.{Holders}
 use Rattle.handle_core.specs.Table.{Table, IsHeld, holders_at, with_holders, with_operation, without_operation, nobody}
 use Rattle.ring_core.specs.Lists.{has_number}
 use Rattle.ring_core.proofs.Numbers.{same-or-not}
 use Rattle.ring_core.proofs.Leaving.{Ascends, ascends-not, has-first, has-other}
-use Rattle.driver_core.specs.Holds.{is_nobody, settled, settle_if, left_holders, with_ops, without_ops, front_if, unheld_by, CanJoin, CanLeave}
+use Rattle.driver_core.specs.Holds.{is_nobody, settled, settle_if, left_holders, with_ops, without_ops, front_if, unheld_by, CanJoin}
+use Rattle.driver_core.specs.Holds.{CanLeave}
 use Rattle.driver_core.proofs.Maps.{put-same, put-other, gone-same, gone-other, len-put, len-gone, len-some}
 
 -- Holders of a handle that were written are its holders.
@@ -27,7 +30,8 @@ nobody-is held none = (
     ap (λ x. record held { user = x }) a ∙ ap (λ x. record { user = 0; operations = x }) b)
 
 -- Holders on which a handle settled, by whether somebody is among them.
-settled-by : (table : Table) (h : ℕ) (held : Holders) (b : Bool) → (b ≡ true → held ≡ nobody) → holders_at (settle_if b table h held) h ≡ held
+settled-by : (table : Table) (h : ℕ) (held : Holders) (b : Bool) → (b ≡ true → held ≡ nobody) →
+    holders_at (settle_if b table h held) h ≡ held
 settled-by table h held true none = ap (λ o. unwrap_or o nobody) (gone-same table.holders h) ∙ sym (none refl)
 settled-by table h held false none = with-same table h held
 
@@ -36,7 +40,8 @@ pub settled-same : (table : Table) (h : ℕ) (held : Holders) → holders_at (se
 settled-same table h held = settled-by table h held (is_nobody held) (nobody-is held)
 
 -- Settling one handle leaves the holders of each other one, whether it leaves the table or not.
-settled-beside : (table : Table) (h : ℕ) (held : Holders) (b : Bool) (k : ℕ) → k ≢ h → holders_at (settle_if b table h held) k ≡ holders_at table k
+settled-beside : (table : Table) (h : ℕ) (held : Holders) (b : Bool) (k : ℕ) → k ≢ h →
+    holders_at (settle_if b table h held) k ≡ holders_at table k
 settled-beside table h held true k e = ap (λ o. unwrap_or o nobody) (gone-other table.holders h k e)
 settled-beside table h held false k e = with-other table h held k e
 
@@ -102,7 +107,8 @@ joined-one table j (h ∷ handles) rise k there =
           ∙ ap (holders_at (with_holders table h (with_operation (holders_at table h)))) e
           ∙ with-same table h (with_operation (holders_at table h)) ∙ ap (λ x. with_operation (holders_at table x)) (sym e))
       | inr e ↦ (
-          joined-one (with_holders table h (with_operation (holders_at table h))) (suc h) handles rise.1 k (sym (has-other k h handles e) ∙ there)
+          joined-one (with_holders table h (with_operation (holders_at table h))) (suc h) handles rise.1 k
+          (sym (has-other k h handles e) ∙ there)
           ∙ ap with_operation (with-other table h (with_operation (holders_at table h)) k e))
     ]
 
@@ -130,7 +136,8 @@ can-leave table j (h ∷ handles) rise held = (
   held h (has-first h handles),
   can-leave (settled table h (left_holders table h)) (suc h) handles rise.1 (λ k there.
       let e : k ≢ h = (λ same.
-      let a : ◌≡◌ {A = Bool} true false = sym there ∙ ap (λ x. has_number x handles) same ∙ ascends-not h (suc h) handles (omega arith) rise.1 in
+      let a : ◌≡◌ {A = Bool} true false =
+      sym there ∙ ap (λ x. has_number x handles) same ∙ ascends-not h (suc h) handles (omega arith) rise.1 in
       let f : ⊥ = cc in f) in
       subst (λ x. 0 < x.operations) (sym (settled-other table h (left_holders table h) k e)) (held k (has-other k h handles e ∙ there))),
 )
@@ -138,12 +145,13 @@ can-leave table j (h ∷ handles) rise held = (
 -- A number of a list of numbers that are above another isn't that one.
 pub above-other : (h : ℕ) (handles : List ℕ) → Ascends (suc h) handles → (k : ℕ) → has_number k handles ≡ true → k ≢ h
 above-other h handles rise k there same =
-    let a : ◌≡◌ {A = Bool} true false = sym there ∙ ap (λ x. has_number x handles) same ∙ ascends-not h (suc h) handles (omega arith) rise in
+    let a : ◌≡◌ {A = Bool} true false =
+    sym there ∙ ap (λ x. has_number x handles) same ∙ ascends-not h (suc h) handles (omega arith) rise in
     let f : ⊥ = cc in f
 
 -- An operation may join handles that rise, are held, and are held by fewer operations than the bound.
 pub can-join : (table : Table) (j : ℕ) (handles : List ℕ) → Ascends j handles → ((k : ℕ) → has_number k handles ≡ true → IsHeld table k) →
-    ((k : ℕ) → has_number k handles ≡ true → (holders_at table k).operations < 2 ^ 62) → CanJoin table handles
+    ((k : ℕ) → has_number k handles ≡ true → (holders_at table k).operations < MAX_HOLDS) → CanJoin table handles
 can-join table j [] rise held few = tt
 can-join table j (h ∷ handles) rise held few = (
   held h (has-first h handles),
@@ -155,7 +163,7 @@ can-join table j (h ∷ handles) rise held few = (
       (held k (has-other k h handles e ∙ there)))
       (λ k there.
       let e = above-other h handles rise.1 k there in
-      subst (λ x. x.operations < 2 ^ 62) (sym (with-other table h (with_operation (holders_at table h)) k e))
+      subst (λ x. x.operations < MAX_HOLDS) (sym (with-other table h (with_operation (holders_at table h)) k e))
       (few k (has-other k h handles e ∙ there))),
 )
 
@@ -177,8 +185,8 @@ len-joined table (h ∷ handles) may =
     some-holders (Some x) h = (x, refl)
 
 -- So many handles are in the table once one settled on holders: one fewer where that is nobody.
-len-settled : (table : Table) (h : ℕ) (held x : Holders) (b : Bool) (handles : List ℕ) → get table.holders h ≡ Some x → 0 < len table.holders →
-    len (settle_if b table h held).holders + length (front_if b h handles) ≡ len table.holders + length handles
+len-settled : (table : Table) (h : ℕ) (held x : Holders) (b : Bool) (handles : List ℕ) → get table.holders h ≡ Some x →
+    0 < len table.holders → len (settle_if b table h held).holders + length (front_if b h handles) ≡ len table.holders + length handles
 len-settled table h held x true handles there some = (let a = len-gone table.holders h x there in omega (arith, a, some))
 len-settled table h held x false handles there some = (let a = len-put table.holders h held x there in omega (arith, a))
 

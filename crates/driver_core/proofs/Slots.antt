@@ -4,6 +4,7 @@ use Rattle.std.specs.Prelude.{slice_get}
 use Rattle.std.specs.Ordering.{nat_cmp}
 use Rattle.std.specs.FinMap.{FinMap, get, insert, remove}
 use Rattle.rent_buf.specs.Buffer.{Buffer}
+use Rattle.op_slots.specs.declared.slab.TheConstants.{MAX_LIVE}
 use Rattle.ring_core.specs.Lists.{amended}
 use Rattle.ring_core.specs.Ledger.{Operation, is_live}
 use Rattle.ring_core.proofs.Amended.{get-amended-same, get-amended-other}
@@ -90,7 +91,7 @@ module _ {B : Type 0} (buffer : B → Buffer) (slots : FinMap nat_cmp (Slot B)) 
     ];
     counted = len-put slots key t s there ∙ stand.counted ∙ sym (where-same is_live f ops s.serial o which lives);
     below = λ k u h. elim (same-or-not k key) [
-      | inl e ↦ subst (λ x. x < 4294967232) (sym e) (stand.below key s there)
+      | inl e ↦ subst (λ x. x < MAX_LIVE) (sym e) (stand.below key s there)
       | inr e ↦ stand.below k u (sym (put-other slots key t k e) ∙ h)
     ];
   }

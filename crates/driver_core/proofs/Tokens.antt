@@ -3,6 +3,7 @@ use Rattle.std.proofs.Common.{◌≡◌, ◌≢◌, ◌⊎◌, inl, inr, ℕ, �
 use Rattle.std.specs.Prelude.{◌↔◌, IsSome, IfSome}
 use Rattle.std.specs.Ordering.{nat_cmp}
 use Rattle.std.specs.FinMap.{FinMap, get, insert, remove, empty, get-empty}
+use Rattle.op_slots.specs.declared.slab.TheConstants.{MAX_LIVE}
 use Rattle.op_slots.specs.declared.lifecycle.AfterDrop.{AfterDrop}
 use Rattle.op_slots.specs.declared.lifecycle.AfterDrop.TheVariants.{Left, Free}
 use Rattle.op_slots.specs.declared.lifecycle.Lifecycle.{Lifecycle}
@@ -143,11 +144,11 @@ module _ {B : Type 0} (old new : FinMap nat_cmp (Slot B)) (given key : ℕ) (t :
     | inr e ↦ inr (sym (at-other o.key e) ∙ h)
   ]
 
-  pub numbered-more : AreNumbered old given → key < 4294967232 → AreNumbered new (given + 1)
+  pub numbered-more : AreNumbered old given → key < MAX_LIVE → AreNumbered new (given + 1)
   numbered-more s below k n h = elim (same-or-not k key) [
     | inl e ↦ (
         let z : n ≡ given = some n given (number_at new k) h (at-key k e) in
-        record { key_below = subst (λ x. x < 4294967232) (sym e) below; number_below = omega (arith, z) })
+        record { key_below = subst (λ x. x < MAX_LIVE) (sym e) below; number_below = omega (arith, z) })
     | inr e ↦ (
         let o = s k n (sym (at-other k e) ∙ h) in
         record { key_below = o.key_below; number_below = (let b = o.number_below in omega (arith, b)) })

@@ -1,7 +1,8 @@
 -- Which handles operations hold, by their slots and in a table of holders. Cited by each driver.
-use Rattle.std.specs.Prelude.{ℕ, ◌≡◌, ◌<◌, ◌^◌, ◌==◌, ◌&&◌, nat_lt, Bool, true, false, is_some, List, [], ◌∷◌, length, Option, Some, None}
+use Rattle.std.specs.Prelude.{ℕ, ◌≡◌, ◌<◌, ◌==◌, ◌&&◌, nat_lt, Bool, true, false, is_some, List, [], ◌∷◌, length, Option, Some, None}
 use Rattle.std.specs.Ordering.{nat_cmp}
 use Rattle.std.specs.FinMap as map
+use Rattle.handle_core.specs.declared.table.TheConstants.{MAX_HOLDS}
 use Rattle.handle_core.specs.declared.table.Holders.{Holders}
 use Rattle.handle_core.specs.Table.{Table, IsHeld, holders_at, with_holders, without_handle, with_operation, without_operation}
 use Rattle.op_slots.specs.declared.lifecycle.Lifecycle.{Lifecycle}
@@ -76,10 +77,10 @@ unheld_by table [] = []
 unheld_by table (h ∷ handles) =
     front_if (is_nobody (left_holders table h)) h (unheld_by (settled table h (left_holders table h)) handles)
 
--- An operation may hold each of these handles once more: each is in the table, and its count is below its bound.
+-- An operation may hold each of these handles once more: each is in the table, and operations have fewer than `MAX_HOLDS` holds of it.
 abbrev pub CanJoin : Table → List ℕ → Type 0
 CanJoin table [] = Unit {0}
-CanJoin table (h ∷ handles) = IsHeld table h × ((holders_at table h).operations < 2 ^ 62)
+CanJoin table (h ∷ handles) = IsHeld table h × ((holders_at table h).operations < MAX_HOLDS)
     × CanJoin (with_holders table h (with_operation (holders_at table h))) handles
 
 -- An operation that holds each of these handles may leave.

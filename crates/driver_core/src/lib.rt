@@ -8,5 +8,5 @@ mod slot;
 
 pub use driver::{Driver, Parked};
 pub use op::{Done, Executed, Op, PollOp, Stop, SubmitError, SubmitFault, Submitted, Turned};
-pub use operations::Operations;
+pub use operations::{MOST_GIVEN, Operations};
 pub use slot::Slot;

@@ -60,7 +60,7 @@ pub enum Submitted {
 /// Why nothing was submitted. (monoio answers an `io::Error`)
 #[derive(Clone, Copy, Debug, PartialEq, Eq, Error)]
 pub enum SubmitFault {
-    /// 4294967232 operations are in flight or wait for their poll.
+    /// `MAX_LIVE` operations are in flight or wait for their poll.
     #[error("Full")]
     Full,
     /// The queue was full, or an entry was due, and the ring failed to take it: its count of faults rose.

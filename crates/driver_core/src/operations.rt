@@ -1,8 +1,8 @@
 //! The operations of a driver: each in a slot, with its number and its token.
-ghost use Rattle.std.specs.Prelude.{◌≡◌, ◌≤◌, ◌<◌, ◌^◌, ◌↔◌, ℕ, Some, IsTrue, OnOk, OnErr, IfNone, false, option_copied};
+ghost use Rattle.std.specs.Prelude.{◌≡◌, ◌≤◌, ◌<◌, ◌↔◌, Some, IsTrue, OnOk, OnErr, IfNone, false, option_copied};
 ghost use Rattle.std.specs.FinMap as map;
 ghost use Rattle.driver_core.specs.Slot.{flies_in, CompletesSlot, KeepsNumbers};
-ghost use Rattle.driver_core.specs.Op.{Holds, HoldsNone, KeepsTokens, DropsToken, AddsToken, PollsTokens};
+ghost use Rattle.driver_core.specs.Op.{Holds, HoldsNone, DropsToken, AddsToken, PollsTokens};
 ghost use Rattle.driver_core.specs.Operations.{Submits, PollsOp, DropsOp, offered, Stores};
 ghost use Rattle.driver_core.specs.Requests.{request_at, ReturnsRequest, KeepsRequests};
 ghost use Rattle.driver_core.specs.Holds.{named_in, dropped_in};
@@ -16,9 +16,16 @@ use crate::slot::{
 use op_slots::slab::MAX_LIVE;
 use op_slots::{AfterDrop, Lifecycle, Slab};
 use rent_buf::{ByteList, IoBufMut, OutOfMemory, VecBuf};
+use ring_core::ledger::MOST_LIVE;
 use ring_core::{Completion, Names, Payloads, Request};
 use std::alloc::Global;
 use std::marker::Model;
+
+/// The most operations that a driver submits in all. (not in monoio)
+pub const MOST_GIVEN: u64 = 1 << 62;
+
+// A slab has as many slots as the machine has live operations, at most.
+const _: () = prove!(MAX_LIVE == MOST_LIVE);
 
 /// The operations that a driver has in slots, each from its submission to its last poll, or to the reap of one that was dropped.
 /// (not in monoio, whose slab is inside its driver)
@@ -114,7 +121,7 @@ impl<B: Drop> Operations<B> {
     pub fn submit(&mut self, request: Request<B, VecBuf>) -> Op
         requires room { 0 < self.old.slots.room }
         requires few { map.len self.old.slots.values < MAX_LIVE }
-        requires counter { self.old.given < 2 ^ 62 }
+        requires counter { self.old.given < MOST_GIVEN }
         ensures submits { Submits self.old self.new request result }
         ensures token { AddsToken self.old self.new result }
         ensures request { request_at self.new result ≡ Some request }

@@ -1,7 +1,7 @@
 -- Data words, and what they name.
-use Rattle.std.proofs.Common.{◌≡◌, ℕ, ◌^◌, ◌<◌, refl, arith}
+use Rattle.std.proofs.Common.{◌≡◌, ℕ, ◌<◌, refl, arith}
 use Rattle.std.proofs.lemmas.Bool.Decides.{nat_tests}
-use Rattle.ring_core.specs.declared.entry.TheConstants.{FIRST_CLOSE, CANCEL_WORD}
+use Rattle.ring_core.specs.declared.entry.TheConstants.{FIRST_CLOSE, MOST_HANDLES, CANCEL_WORD}
 use Rattle.ring_core.specs.declared.entry.Target.TheVariants.{Slot, Handle, Reserved}
 use Rattle.ring_core.specs.Entry.{target, close_word}
 
@@ -14,5 +14,5 @@ pub target-cancel : target CANCEL_WORD ≡ Reserved CANCEL_WORD
 target-cancel = refl
 
 -- The word of a handle's close names that handle.
-pub target-close : (h : ℕ) → h < 2 ^ 62 → target (close_word h) ≡ Handle h
+pub target-close : (h : ℕ) → h < MOST_HANDLES → target (close_word h) ≡ Handle h
 target-close h below = grind (arith, nat_tests)

@@ -1,5 +1,5 @@
 //! The entries of a ring, and its completions.
-ghost use Rattle.std.specs.Prelude.{◌≡◌, ◌<◌, ◌^◌};
+ghost use Rattle.std.specs.Prelude.{◌≡◌, ◌<◌};
 ghost use Rattle.ring_core.specs.Entry.{target, call_entry, cancel_entry, close_entry};
 ghost use Rattle.ring_core.specs.MemRing.{body_sends};
 
@@ -13,6 +13,9 @@ pub const FIRST_RESERVED: u64 = u64::MAX - 3;
 
 /// The data word of a cancel: a reserved one. (not in monoio)
 pub const CANCEL_WORD: u64 = u64::MAX;
+
+/// The number of each handle is below it. (not in monoio)
+pub const MOST_HANDLES: u64 = 1 << 62;
 
 /// What a data word names. (not in monoio)
 #[derive(Clone, Copy, Debug, PartialEq, Eq)]
@@ -101,10 +104,10 @@ impl Entry {
         }
     }
 
-    /// The entry of the close of a handle below `2^62`: its word names the handle, so no cancel reaches it. (not in monoio, where a
-    /// close takes a slot)
+    /// The entry of the close of a handle below `MOST_HANDLES`: its word names the handle, so no cancel reaches it. (not in monoio,
+    /// where a close takes a slot)
     pub fn close(h: u64) -> Entry
-        requires { h < 2 ^ 62 }
+        requires { h < MOST_HANDLES }
         ensures { result ≡ close_entry h }
     {
         Entry {

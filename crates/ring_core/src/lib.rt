@@ -13,7 +13,7 @@ pub mod ring;
 pub mod world;
 
 pub use entry::{
-    Body, CANCEL_WORD, Completion, Entry, FIRST_CLOSE, FIRST_RESERVED, Flight, Target,
+    Body, CANCEL_WORD, Completion, Entry, FIRST_CLOSE, FIRST_RESERVED, Flight, MOST_HANDLES, Target,
 };
 pub use handle_core::SharedFd;
 pub use input::Input;
