@@ -1,11 +1,12 @@
 -- What treating the completion of an operation does to the parts of a driver that stand for a ledger, in the middle of a turn.
-use Rattle.std.proofs.Common.{◌≡◌, ℕ, ◌<◌, ◌^◌, Bool, true, false, List, [], ◌∷◌, ◌++◌, length, flat_map, Option, Some, None}
+use Rattle.std.proofs.Common.{◌≡◌, ℕ, ◌<◌, Bool, true, false, List, [], ◌∷◌, ◌++◌, length, flat_map, Option, Some, None}
 use Rattle.std.proofs.Common.{refl, sym, ◌∙◌, ap, subst, arith, append-nil}
 use Rattle.std.proofs.Math.Bool.{and-false}
 use Rattle.std.specs.Prelude.{slice_get, option_to_list, not, ◌&&◌, map}
 use Rattle.std.specs.Ordering.{nat_cmp}
 use Rattle.std.specs.FinMap.{FinMap, get}
 use Rattle.rent_buf.specs.Buffer.{Buffer}
+use Rattle.ring_core.specs.declared.entry.TheConstants.{MOST_HANDLES}
 use Rattle.ring_core.specs.declared.entry.Completion.{Completion}
 use Rattle.ring_core.specs.declared.entry.Target.{Target}
 use Rattle.ring_core.specs.declared.entry.Target.TheVariants.{Slot as Keyed, Handle, Reserved}
@@ -45,7 +46,7 @@ use Rattle.uring_driver.proofs.Amid.{Amid, TreatsItems, less-known, reserved, cl
 
 -- The closes of handles are pushed, in the ring and in the ledger.
 means-posted : {B : Type 0} (buffer : B → Buffer) (v : RingView) (slots : FinMap nat_cmp (Slot B)) (L : Ledger) (handles : List ℕ) →
-    Means buffer v slots L → ((h : ℕ) → has_number h handles ≡ true → h < 2 ^ 62) →
+    Means buffer v slots L → ((h : ℕ) → has_number h handles ≡ true → h < MOST_HANDLES) →
     Means buffer (posted v (closes_of handles)) slots (push_each L (map Queued.Close handles))
 means-posted buffer v slots L [] means below = means
 means-posted buffer v slots L (h ∷ handles) means below =
@@ -64,7 +65,7 @@ kept-reaped Gone = refl
 
 module _ {B : Type 0} (buffer : B → Buffer) (v : RingView) (slots : FinMap nat_cmp (Slot B)) (holding : Holding) (L : Ledger)
     (c : Completion) (rest : List Completion) (old : Amid buffer v slots holding L) (first : v.done ≡ c ∷ rest)
-    (below : (h : ℕ) → has_number h (treat_one (target c.word) slots holding c).queued ≡ true → h < 2 ^ 62) where
+    (below : (h : ℕ) → has_number h (treat_one (target c.word) slots holding c).queued ≡ true → h < MOST_HANDLES) where
   -- The ledger without what the first completion means.
   abbrev less : Ledger
   less = record L { done = flat_map done_items_of rest }
@@ -151,7 +152,7 @@ module _ {B : Type 0} (buffer : B → Buffer) (v : RingView) (slots : FinMap nat
       means = subst (λ hs. Means buffer (posted (with_done v rest) (closes_of hs)) (slots_after slots c (get slots c.word))
           (leave less c.serial)) (sym unheld-is)
           (means-posted buffer (with_done v rest) (slots_after slots c (get slots c.word)) gone (became_unheld less gone) (gone-means left)
-          (subst (λ hs. (h : ℕ) → has_number h hs ≡ true → h < 2 ^ 62) (queued-is left) below));
+          (subst (λ hs. (h : ℕ) → has_number h hs ≡ true → h < MOST_HANDLES) (queued-is left) below));
       handles = handles-left holding less c.serial o less-handles at-number lives (named-ascends o.request) known-less (asks-live left);
       known = known-stays (stays-leave less c.serial) known-less;
       once = once-leave less c.serial (asks-live left) less-once;

@@ -1,5 +1,5 @@
 -- What holds of holders and closes always, through each change of a table.
-use Rattle.std.proofs.Common.{◌≡◌, ◌≢◌, ◌∙◌, inl, inr, ℕ, ◌+◌, ◌-◌, ◌<◌, ◌^◌, Bool, true, false, Option, Some, None}
+use Rattle.std.proofs.Common.{◌≡◌, ◌≢◌, ◌∙◌, inl, inr, ℕ, ◌+◌, ◌-◌, ◌<◌, Bool, true, false, Option, Some, None}
 use Rattle.std.proofs.Common.{refl, sym, ap, subst, arith}
 use Rattle.std.specs.Prelude.{is_some, unwrap_or, nat_lt, ◌||◌, OnOk, OnErr, Result, Ok, Err}
 use Rattle.std.proofs.lemmas.Bool.Decides.{nat_tests}
@@ -8,6 +8,7 @@ use Rattle.std.specs.FinMap.{get, insert, remove, len, empty, get-empty, len-emp
 use Rattle.handle_core.specs.declared.table.Holders.{Holders}
 use Rattle.handle_core.specs.Table.{Table, holders_at, with_holders, without_handle, nobody, by_user, by_operation}
 use Rattle.handle_core.proofs.Kept.{held-with, held-without}
+use Rattle.ring_core.specs.declared.entry.TheConstants.{MOST_HANDLES}
 use Rattle.ring_core.proofs.Numbers.{same-or-not}
 use Rattle.driver_core.proofs.Counted.{some-of, none-of}
 use Rattle.driver_core.proofs.Maps.{put-same, put-other, gone-same, gone-other, len-put, len-new, len-gone, len-some, above}
@@ -66,7 +67,7 @@ module _ (holding : Holding) (kept : IsKept holding) (h : ℕ) where
   written held = record holding { table = with_holders holding.table h held }
 
   -- A handle that wasn't known is held from now on.
-  pub kept-added : (held : Holders) → is_held holding h ≡ false → closes holding h ≡ false → h < 2 ^ 62 →
+  pub kept-added : (held : Holders) → is_held holding h ≡ false → closes holding h ≡ false → h < MOST_HANDLES →
       len holding.table.holders < holding.closing.spare → 0 < held.user + held.operations → IsKept (written held)
   kept-added held fresh apart below room some = record {
     room = (let a = len-new holding.table.holders h held (none-of (get holding.table.holders h) fresh) in omega (arith, a, room));
@@ -75,7 +76,7 @@ module _ (holding : Holding) (kept : IsKept holding) (h : ℕ) where
       | inr e ↦ kept.apart q (sym (ap is_some (put-other holding.table.holders h held q e)) ∙ at)
     ];
     below = λ q at. elim (same-or-not q h) [
-      | inl e ↦ subst (λ x. x < 2 ^ 62) (sym e) below
+      | inl e ↦ subst (λ x. x < MOST_HANDLES) (sym e) below
       | inr e ↦ kept.below q (sym (ap is_some (put-other holding.table.holders h held q e)) ∙ at)
     ];
     somebody = held-with holding.table h held kept.somebody some;

@@ -1,11 +1,12 @@
 -- What a drop and a cancel do to a driver that stands for a ledger.
-use Rattle.std.proofs.Common.{◌≡◌, ℕ, ◌+◌, ◌≤◌, ◌<◌, ◌^◌, Bool, true, List, map, IsTrue}
+use Rattle.std.proofs.Common.{◌≡◌, ℕ, ◌+◌, ◌≤◌, ◌<◌, Bool, true, List, map, IsTrue}
 use Rattle.std.proofs.Math.Bool.{and-false}
 use Rattle.std.proofs.Common.{length, Option, Some, None, refl, sym, ◌∙◌, ap, subst, arith}
 use Rattle.std.specs.FinMap.{get, insert, remove, len}
 use Rattle.rent_buf.specs.Buffer.{Buffer}
 use Rattle.op_slots.specs.declared.lifecycle.AfterDrop.TheVariants.{Left, Free}
 use Rattle.op_slots.specs.Lifecycle.{dropped, after_drop}
+use Rattle.ring_core.specs.declared.entry.TheConstants.{MOST_HANDLES}
 use Rattle.ring_core.specs.Ring.{RingView}
 use Rattle.ring_core.specs.Lists.{amended, numbers_where, has_number}
 use Rattle.ring_core.specs.Request.{named, plain_request}
@@ -167,7 +168,7 @@ module _ {R B : Type 0} (view : R → RingView) (buffer : B → Buffer) (tells s
       (handles-same d.holding L old.handles M (holders-op L s.serial with_drop (λ p q. drop-holds p)) (λ h. refl))
       (get-amended-same with_drop L.ops s.serial o my.fit.there) my.fit.live
       (known-op L s.serial with_drop (λ p. refl) lawful.known) asked
-      (subst (λ hs. (h : ℕ) → has_number h (us hs) ≡ true → h < 2 ^ 62) (sym names) parts.below)
+      (subst (λ hs. (h : ℕ) → has_number h (us hs) ≡ true → h < MOST_HANDLES) (sym names) parts.below)
       (subst (λ hs. length (us hs) ≤ room_in d) (sym names) parts.room) (fits-of view d old)
       (subst (λ hs. PostsEach view tells steady d.ring new.ring (map close_entry (us hs))) (sym names) parts.posts) in
       answers-parts view buffer d new L (leave M s.serial) (Drop s.serial) Dropped old

@@ -1,9 +1,10 @@
 -- What the execution of a handle's close does to a ring and slots that mean a ledger: nothing moves.
-use Rattle.std.proofs.Common.{◌≡◌, ◌<◌, ◌^◌, ℕ, true, false, List, Some, refl, sym, ◌∙◌, ap, subst}
+use Rattle.std.proofs.Common.{◌≡◌, ◌<◌, ℕ, true, false, List, Some, refl, sym, ◌∙◌, ap, subst}
 use Rattle.std.specs.Prelude.{slice_get}
 use Rattle.std.specs.Ordering.{nat_cmp}
 use Rattle.std.specs.FinMap.{FinMap}
 use Rattle.rent_buf.specs.Buffer.{Buffer}
+use Rattle.ring_core.specs.declared.entry.TheConstants.{MOST_HANDLES}
 use Rattle.ring_core.specs.Ring.{RingView}
 use Rattle.ring_core.specs.Entry.{target, close_entry}
 use Rattle.ring_core.specs.declared.entry.Target.TheVariants.{Handle}
@@ -33,7 +34,7 @@ close-world world (Fail e) = refl
 -- A close in flight at a place, in a ring and slots that mean a ledger.
 module _ {B : Type 0} (buffer : B → Buffer) (v : RingView) (slots : FinMap nat_cmp (Slot B)) (L : Ledger) (place : ℕ) (flight : Flight)
     (k : ℕ) (old : Means buffer v slots L) (there : slice_get v.flying place ≡ Some flight) (closes : flight.entry.body ≡ Closes k) where
-  here : (flight.entry ≡ close_entry k) × (k < 2 ^ 62) × (flight.marked ≡ false)
+  here : (flight.entry ≡ close_entry k) × (k < MOST_HANDLES) × (flight.marked ≡ false)
   here = subst (λ b. FlightFor buffer slots L.ops flight b) closes (old.in_lists.in_flight place flight there)
 
   -- Its word names the handle.

@@ -1,5 +1,5 @@
 -- What the calls on a driver's handles leave of what holds of every driver, and of the ledger that it stands for.
-use Rattle.std.proofs.Common.{◌≡◌, ◌≢◌, ◌∙◌, inl, inr, ℕ, ◌+◌, ◌-◌, ◌<◌, ◌≤◌, ◌^◌, Bool, true, false, ◌==◌, [], ◌∷◌, length, map}
+use Rattle.std.proofs.Common.{◌≡◌, ◌≢◌, ◌∙◌, inl, inr, ℕ, ◌+◌, ◌-◌, ◌<◌, ◌≤◌, Bool, true, false, ◌==◌, [], ◌∷◌, length, map}
 use Rattle.std.proofs.Common.{Some, refl, sym, ap, subst, arith, IsTrue}
 use Rattle.std.specs.Prelude.{◌||◌, nat_lt, unwrap_or}
 use Rattle.std.proofs.lemmas.Bool.Decides.{nat_tests}
@@ -10,6 +10,7 @@ use Rattle.handle_core.specs.declared.table.Holders.{Holders}
 use Rattle.handle_core.specs.declared.table.Released.{Released as Freed}
 use Rattle.handle_core.specs.declared.table.Released.TheVariants.{Held, Last}
 use Rattle.handle_core.specs.Table.{Table, holders_at, with_holders, nobody, by_user, with_user as held_more, without_user}
+use Rattle.ring_core.specs.declared.entry.TheConstants.{MOST_HANDLES}
 use Rattle.ring_core.specs.declared.ledger.Event.TheVariants.{Close}
 use Rattle.ring_core.specs.declared.ledger.Reply.TheVariants.{Released}
 use Rattle.ring_core.specs.Lists.{has_number}
@@ -262,8 +263,9 @@ module _ {R B : Type 0} (view : R → RingView) (buffer : B → Buffer) (d new :
           (let c = count in omega (arith, c))
 
   -- Nobody holds it any more, and its close was posted.
-  pub releases-last : (tells steady : Bool) → IsTrue steady → is_nobody (without_user (holders_at d.holding.table h)) ≡ true → h < 2 ^ 62 →
-      0 < room_in d → Posts view tells steady d.ring new.ring (close_entry h) → ReleasesFor view buffer L h (user_count d.holding h) new
+  pub releases-last : (tells steady : Bool) → IsTrue steady → is_nobody (without_user (holders_at d.holding.table h)) ≡ true →
+      h < MOST_HANDLES → 0 < room_in d → Posts view tells steady d.ring new.ring (close_entry h) →
+      ReleasesFor view buffer L h (user_count d.holding h) new
   releases-last tells steady always none below some posts =
       let U : Ledger = with_user L h false in
       let one = last-hold (holders_at d.holding.table h) user none in

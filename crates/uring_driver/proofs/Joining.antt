@@ -1,5 +1,5 @@
 -- What holds of every driver's handles once an operation was submitted.
-use Rattle.std.proofs.Common.{◌≡◌, ◌<◌, ◌^◌, ◌+◌, inl, inr, ℕ, true, List, [], ◌∷◌, None, refl, sym, ◌∙◌, ap, subst, arith}
+use Rattle.std.proofs.Common.{◌≡◌, ◌<◌, ◌+◌, inl, inr, ℕ, true, List, [], ◌∷◌, None, refl, sym, ◌∙◌, ap, subst, arith}
 use Rattle.std.specs.Prelude.{IsSome}
 use Rattle.std.specs.Ordering.{nat_cmp}
 use Rattle.std.specs.FinMap.{FinMap, get, insert}
@@ -10,6 +10,7 @@ use Rattle.ring_core.specs.Request.{named}
 use Rattle.ring_core.specs.declared.request.Request.{Request}
 use Rattle.ring_core.proofs.Leaving.{named-ascends, has-other}
 use Rattle.ring_core.proofs.Numbers.{and-left, and-right, same-or-not}
+use Rattle.driver_core.specs.declared.operations.TheConstants.{MOST_GIVEN}
 use Rattle.driver_core.specs.Holds.{with_ops, CanJoin}
 use Rattle.driver_core.specs.declared.slot.Slot.{Slot}
 use Rattle.driver_core.proofs.Counted.{some-of, test-cases, counted-joined}
@@ -33,7 +34,7 @@ holds-each d (h ∷ handles) all k there = elim (same-or-not k h) [
 
 -- An operation may hold the handles that its user holds, where few operations were submitted.
 pub may-join : {R B : Type 0} (d : IoUringDriver R B) (request : Request B Parts) → holds_all d (named request) ≡ true →
-    AreHolding d.holding.table d.slots.values d.given → d.given < 2 ^ 62 → CanJoin d.holding.table (named request)
+    AreHolding d.holding.table d.slots.values d.given → d.given < MOST_GIVEN → CanJoin d.holding.table (named request)
 may-join d request all are few = can-join d.holding.table 0 (named request) (named-ascends request)
     (λ k there.
     let e = some-of (get d.holding.table.holders k) (held-user d.holding k (holds-each d (named request) all k there)) in

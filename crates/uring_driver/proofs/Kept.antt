@@ -1,5 +1,5 @@
 -- Lists that mean the same after a change of slots and of operations that keeps what each entry needs.
-use Rattle.std.proofs.Common.{◌≡◌, ◌≤◌, ◌<◌, ◌^◌, ℕ, Bool, true, false, List, [], ◌∷◌, ◌++◌, Some, refl, sym, ◌∙◌, ap, subst, append-nil}
+use Rattle.std.proofs.Common.{◌≡◌, ◌≤◌, ◌<◌, ℕ, Bool, true, false, List, [], ◌∷◌, ◌++◌, Some, refl, sym, ◌∙◌, ap, subst, append-nil}
 use Rattle.std.proofs.Common.{arith, flat_map}
 use Rattle.std.proofs.lemmas.List.Concat.{flat_map-append}
 use Rattle.std.specs.Prelude.{slice_get}
@@ -20,7 +20,7 @@ use Rattle.ring_core.specs.Ledger.{Ledger, Op, Operation, Place, InQueue, InFlig
 use Rattle.driver_core.specs.declared.slot.Slot.{Slot}
 use Rattle.uring_driver.specs.Lists.{EntryFor, CompletionFor, IsAt, IsFlown, QueuedFor, FlightFor, DoneFor, ListsStand, is_call, names_slot}
 use Rattle.uring_driver.specs.Lists.{item_in, done_items_in, done_items_of}
-use Rattle.ring_core.specs.declared.entry.TheConstants.{CANCEL_WORD, FIRST_CLOSE}
+use Rattle.ring_core.specs.declared.entry.TheConstants.{CANCEL_WORD, FIRST_CLOSE, MOST_HANDLES}
 
 -- What a call in the queue is.
 pub call-queued : {B : Type 0} (buffer : B → Buffer) (slots : FinMap nat_cmp (Slot B)) (ops : List Operation) (e : Entry) (b : Body) →
@@ -36,7 +36,7 @@ cancel-queued buffer slots ops e b q key h = subst (λ x. QueuedFor buffer slots
 
 -- What a close in the queue is.
 pub close-queued : {B : Type 0} (buffer : B → Buffer) (slots : FinMap nat_cmp (Slot B)) (ops : List Operation) (e : Entry) (b : Body) →
-    QueuedFor buffer slots ops e b → (h : ℕ) → b ≡ Closes h → (e ≡ close_entry h) × (h < 2 ^ 62)
+    QueuedFor buffer slots ops e b → (h : ℕ) → b ≡ Closes h → (e ≡ close_entry h) × (h < MOST_HANDLES)
 close-queued buffer slots ops e b q h is = subst (λ x. QueuedFor buffer slots ops e x) is q
 
 -- What an entry in the queue means is kept by all that keeps it of a call.

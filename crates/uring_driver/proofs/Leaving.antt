@@ -1,5 +1,5 @@
 -- What holds of every driver once an operation's slot changes or is freed.
-use Rattle.std.proofs.Common.{◌≡◌, ◌<◌, ◌^◌, ◌≤◌, ◌+◌, inl, inr, ℕ, Bool, true, List, map, length, Some, sym, ◌∙◌, ap, subst, arith, None}
+use Rattle.std.proofs.Common.{◌≡◌, ◌<◌, ◌≤◌, ◌+◌, inl, inr, ℕ, Bool, true, List, map, length, Some, sym, ◌∙◌, ap, subst, arith, None}
 use Rattle.std.proofs.lemmas.List.{length-map}
 use Rattle.std.specs.Ordering.{nat_cmp}
 use Rattle.std.specs.FinMap.{FinMap, get, insert, remove, len}
@@ -17,6 +17,7 @@ use Rattle.driver_core.specs.Slot.{with_life, number_at, serial_of, PollsAt, Dro
 use Rattle.op_slots.specs.Lifecycle.{polled}
 use Rattle.op_slots.specs.declared.lifecycle.AfterDrop.TheVariants.{Left}
 use Rattle.op_slots.specs.declared.lifecycle.Lifecycle.TheVariants.{Ignored}
+use Rattle.ring_core.specs.declared.entry.TheConstants.{MOST_HANDLES}
 use Rattle.driver_core.specs.declared.op.Op.{Op}
 use Rattle.driver_core.specs.declared.slot.Slot.{Slot}
 use Rattle.driver_core.proofs.Counted.{test-cases, counted-kept, counted-leave, counted-left}
@@ -123,7 +124,7 @@ module _ {R B : Type 0} (d : IoUringDriver R B) (op : Op) (holds : Holds d op) (
 
     -- What its leaving did to the driver's parts.
     pub op-parts : (new : IoUringDriver R B) → new.ring ≡ ring → new.holding ≡ ops_left d.holding handles →
-        ((h : ℕ) → has_number h (unheld_by d.holding.table handles) ≡ true → h < 2 ^ 62) → TakesParts view tells steady d new handles
+        ((h : ℕ) → has_number h (unheld_by d.holding.table handles) ≡ true → h < MOST_HANDLES) → TakesParts view tells steady d new handles
     op-parts new same holding below = record {
       holding = holding;
       room = op-room;

@@ -1,6 +1,6 @@
 -- Holders and closes stand for those of a ledger, once an operation or a user left.
 use Rattle.std.proofs.Common.{◌≡◌, ◌∙◌, inl, inr, ℕ, zero, suc, ◌+◌, ◌-◌, ◌<◌, ◌≤◌, Bool, true, false, not, ◌==◌}
-use Rattle.std.proofs.Common.{List, [], ◌∷◌, length, map, Some, refl, sym, ap, subst, arith, IsTrue, if◌then◌else◌, ◌^◌}
+use Rattle.std.proofs.Common.{List, [], ◌∷◌, length, map, Some, refl, sym, ap, subst, arith, IsTrue, if◌then◌else◌}
 use Rattle.std.specs.Prelude.{◌||◌, ◌&&◌, is_some, nat_lt, slice_get}
 use Rattle.std.proofs.Math.Bool.{or-false}
 use Rattle.std.proofs.lemmas.Bool.Decides.{nat_tests}
@@ -8,6 +8,7 @@ use Rattle.std.specs.Ordering.{nat_cmp}
 use Rattle.std.specs.FinMap.{FinMap, get, insert}
 use Rattle.handle_core.specs.Table.{Table, with_holders, by_operation}
 use Rattle.rent_buf.specs.Buffer.{Buffer}
+use Rattle.ring_core.specs.declared.entry.TheConstants.{MOST_HANDLES}
 use Rattle.ring_core.specs.Lists.{has_number, numbers_where}
 use Rattle.ring_core.specs.Ranks.{one_if}
 use Rattle.ring_core.specs.Request.{named, listed}
@@ -184,7 +185,7 @@ pub parts-left : {R B : Type 0} (view : R → RingView) (buffer : B → Buffer) 
     (old new : Pending R) (holding : Holding) (L : Ledger) (n : ℕ) (o : Operation) → IsTrue steady →
     Means buffer (pending_ring view old) slots (with_gone L n) → HandlesStand holding L → slice_get L.ops n ≡ Some o → is_live o ≡ true →
     AreKnown L → AreLive (with_gone L n).ops L.queue →
-    ((h : ℕ) → has_number h (unheld_by holding.table (named o.request)) ≡ true → h < 2 ^ 62) →
+    ((h : ℕ) → has_number h (unheld_by holding.table (named o.request)) ≡ true → h < MOST_HANDLES) →
     length (unheld_by holding.table (named o.request)) ≤ old.room → FitsQueue view old →
     PostsEach view tells steady old new (map close_entry (unheld_by holding.table (named o.request))) →
     LeftParts view buffer slots old new holding (named o.request) (with_gone L n) (leave L n)

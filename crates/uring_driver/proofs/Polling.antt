@@ -1,5 +1,5 @@
 -- What a poll of a live slot does to a driver that stands for a ledger, and to its tokens.
-use Rattle.std.proofs.Common.{◌≡◌, ◌≤◌, ◌<◌, ◌^◌, ℕ, Bool, true, List, map, Option, Some, None, refl, sym, ◌∙◌, ap}
+use Rattle.std.proofs.Common.{◌≡◌, ◌≤◌, ◌<◌, ℕ, Bool, true, List, map, Option, Some, None, refl, sym, ◌∙◌, ap}
 use Rattle.std.proofs.Common.{subst, length, arith, IsTrue}
 use Rattle.std.specs.Prelude.{◌↔◌, slice_get}
 use Rattle.std.specs.FinMap.{get, insert, remove, len}
@@ -8,6 +8,7 @@ use Rattle.op_slots.specs.declared.lifecycle.Lifecycle.{Lifecycle}
 use Rattle.op_slots.specs.declared.lifecycle.Lifecycle.TheVariants.{Submitted, Waiting, Ignored, Completed}
 use Rattle.op_slots.specs.declared.lifecycle.AfterPoll.TheVariants.{Pending as Waits}
 use Rattle.op_slots.specs.Lifecycle.{after_poll, polled}
+use Rattle.ring_core.specs.declared.entry.TheConstants.{MOST_HANDLES}
 use Rattle.ring_core.specs.Ring.{RingView}
 use Rattle.ring_core.specs.Lists.{amended, has_number}
 use Rattle.ring_core.specs.Entry.{close_entry}
@@ -160,7 +161,7 @@ module _ {R B : Type 0} (view : R → RingView) (buffer : B → Buffer) (d new :
   pub stands-takes : (tells steady : Bool) → IsTrue steady → (r : Outcome) → s.life ≡ Completed r →
       new.slots.values ≡ remove d.slots.values key → new.holding ≡ ops_left d.holding (named s.request) →
       length (unheld_by d.holding.table (named s.request)) ≤ room_in d →
-      ((h : ℕ) → has_number h (unheld_by d.holding.table (named s.request)) ≡ true → h < 2 ^ 62) →
+      ((h : ℕ) → has_number h (unheld_by d.holding.table (named s.request)) ≡ true → h < MOST_HANDLES) →
       CanLeave d.holding.table (named s.request) →
       PostsEach view tells steady d.ring new.ring (map close_entry (unheld_by d.holding.table (named s.request))) →
       Answers view buffer L (Poll s.serial task) (Handed r (held_of (plain_request buffer s.request))) new
@@ -175,7 +176,7 @@ module _ {R B : Type 0} (view : R → RingView) (buffer : B → Buffer) (d new :
       (means-freed buffer (pending_ring view d.ring) d.slots.values L key s (at_place Gone) o r (means-of old) there my.fit.there w refl) in
       let left = parts-left view buffer tells steady new.slots.values d.ring new.ring d.holding L s.serial o always freed old.handles
       my.fit.there my.fit.live lawful.known (live-left L s.serial o lawful my.fit.there (ap in_queue w))
-      (subst (λ hs. (h : ℕ) → has_number h (us hs) ≡ true → h < 2 ^ 62) (sym names) below)
+      (subst (λ hs. (h : ℕ) → has_number h (us hs) ≡ true → h < MOST_HANDLES) (sym names) below)
       (subst (λ hs. length (us hs) ≤ room_in d) (sym names) room) (fits-of view d old)
       (subst (λ hs. PostsEach view tells steady d.ring new.ring (map close_entry (us hs))) (sym names) posts) in
       answers-parts view buffer d new L M (Poll s.serial task) (Handed r (held_of (plain_request buffer s.request))) old
@@ -204,7 +205,7 @@ pub record TakesParts {R B : Type 0} (view : R → RingView) (tells steady : Boo
     : Type 0 where
   pub holding : new.holding ≡ ops_left d.holding handles
   pub room : length (unheld_by d.holding.table handles) ≤ room_in d
-  pub below : (h : ℕ) → has_number h (unheld_by d.holding.table handles) ≡ true → h < 2 ^ 62
+  pub below : (h : ℕ) → has_number h (unheld_by d.holding.table handles) ≡ true → h < MOST_HANDLES
   pub may : CanLeave d.holding.table handles
   pub posts : PostsEach view tells steady d.ring new.ring (map close_entry (unheld_by d.holding.table handles))
 

@@ -1,9 +1,10 @@
 -- What posting a cancel or a close to a ring that always takes all does to a ring and slots that mean a ledger: it is the ledger's push.
-use Rattle.std.proofs.Common.{◌≡◌, ◌<◌, ◌≤◌, ◌+◌, ◌^◌, ℕ, Bool, true, false, List, [], ◌∷◌, ◌++◌, map, length, Some, IsTrue, refl, sym, ◌∙◌}
+use Rattle.std.proofs.Common.{◌≡◌, ◌<◌, ◌≤◌, ◌+◌, ℕ, Bool, true, false, List, [], ◌∷◌, ◌++◌, map, length, Some, IsTrue, refl, sym, ◌∙◌}
 use Rattle.std.proofs.Common.{subst, arith}
 use Rattle.std.specs.Ordering.{nat_cmp}
 use Rattle.std.specs.FinMap.{FinMap, get}
 use Rattle.rent_buf.specs.Buffer.{Buffer}
+use Rattle.ring_core.specs.declared.entry.TheConstants.{MOST_HANDLES}
 use Rattle.ring_core.specs.Ring.{RingView, pushed}
 use Rattle.ring_core.specs.Entry.{cancel_entry, close_entry}
 use Rattle.ring_core.specs.declared.entry.Body.TheVariants.{Cancel as Cancels}
@@ -72,7 +73,7 @@ module _ {R B : Type 0} (view : R → RingView) (buffer : B → Buffer) (tells s
       (cancel-meets buffer (pending_ring view old) slots L key s number means there serial) some fits posts
 
   -- The close of a handle is posted.
-  pub posts-close : (old new : Pending R) (L : Ledger) (h : ℕ) → Means buffer (pending_ring view old) slots L → h < 2 ^ 62 →
+  pub posts-close : (old new : Pending R) (L : Ledger) (h : ℕ) → Means buffer (pending_ring view old) slots L → h < MOST_HANDLES →
       0 < old.room → FitsQueue view old → Posts view tells steady old new (close_entry h) →
       ArePushed view buffer slots old new 1 (push L (Queued.Close h))
   posts-close old new L h means below some fits posts =
@@ -80,7 +81,7 @@ module _ {R B : Type 0} (view : R → RingView) (buffer : B → Buffer) (tells s
 
   -- The closes of handles are posted, one after another.
   pub posts-closes : (old new : Pending R) (L : Ledger) (handles : List ℕ) → Means buffer (pending_ring view old) slots L →
-      ((h : ℕ) → has_number h handles ≡ true → h < 2 ^ 62) → length handles ≤ old.room → FitsQueue view old →
+      ((h : ℕ) → has_number h handles ≡ true → h < MOST_HANDLES) → length handles ≤ old.room → FitsQueue view old →
       PostsEach view tells steady old new (map close_entry handles) →
       ArePushed view buffer slots old new (length handles) (push_each L (map Queued.Close handles))
   posts-closes old new L [] means below room fits same =

@@ -1,10 +1,11 @@
 -- What taking the close of a handle off the queue does to a ring and slots that mean a ledger.
-use Rattle.std.proofs.Common.{◌≡◌, ◌<◌, ◌^◌, inl, inr, ℕ, suc, true, false, List, [], ◌∷◌, ◌++◌, map, Some, refl, sym, ◌∙◌, ap, subst}
+use Rattle.std.proofs.Common.{◌≡◌, ◌<◌, inl, inr, ℕ, suc, true, false, List, [], ◌∷◌, ◌++◌, map, Some, refl, sym, ◌∙◌, ap, subst}
 use Rattle.std.specs.Prelude.{slice_get}
 use Rattle.std.specs.Ordering.{nat_cmp}
 use Rattle.std.specs.FinMap.{FinMap}
 use Rattle.std.proofs.lemmas.List.{map-append}
 use Rattle.rent_buf.specs.Buffer.{Buffer}
+use Rattle.ring_core.specs.declared.entry.TheConstants.{MOST_HANDLES}
 use Rattle.ring_core.specs.Ring.{RingView}
 use Rattle.ring_core.specs.Entry.{close_entry}
 use Rattle.ring_core.specs.declared.entry.Body.TheVariants.{Close as Closes}
@@ -25,7 +26,7 @@ module _ {B : Type 0} (buffer : B → Buffer) (v : RingView) (slots : FinMap nat
   later : (i : ℕ) (x : Entry) → slice_get rest i ≡ Some x → slice_get v.queue (suc i) ≡ Some x
   later = behind-head v e rest first
 
-  here : (e ≡ close_entry k) × (k < 2 ^ 62)
+  here : (e ≡ close_entry k) × (k < MOST_HANDLES)
   here = close-queued buffer slots L.ops e e.body (old.in_lists.in_queue 0 e (at-head v e rest first)) k body
 
   abbrev f' : Flight

@@ -1,9 +1,10 @@
 -- What completions that are treated one after another come to.
-use Rattle.std.proofs.Common.{◌≡◌, inl, inr, ℕ, ◌+◌, ◌<◌, ◌^◌, true, List, [], ◌∷◌, ◌++◌, length, Bool, Option, Some, None, refl, sym}
+use Rattle.std.proofs.Common.{◌≡◌, inl, inr, ℕ, ◌+◌, ◌<◌, true, List, [], ◌∷◌, ◌++◌, length, Bool, Option, Some, None, refl, sym}
 use Rattle.std.proofs.Common.{◌∙◌, ap, subst}
 use Rattle.std.proofs.Common.{append_assoc, append-nil, length-append}
 use Rattle.std.specs.Ordering.{nat_cmp}
 use Rattle.std.specs.FinMap.{FinMap}
+use Rattle.ring_core.specs.declared.entry.TheConstants.{MOST_HANDLES}
 use Rattle.ring_core.specs.declared.entry.Completion.{Completion}
 use Rattle.ring_core.specs.Entry.{target}
 use Rattle.ring_core.specs.Lists.{has_number}
@@ -93,26 +94,26 @@ treats-append slots holding (c ∷ xs) ys none =
     (treats-append first.slots first.holding xs ys) none
 
 -- What is in two lists joined is in the first or in the second.
-pub below-both : (xs ys : List ℕ) (h : ℕ) → ((k : ℕ) → has_number k xs ≡ true → k < 2 ^ 62) →
-    ((k : ℕ) → has_number k ys ≡ true → k < 2 ^ 62) → has_number h (xs ++ ys) ≡ true → h < 2 ^ 62
+pub below-both : (xs ys : List ℕ) (h : ℕ) → ((k : ℕ) → has_number k xs ≡ true → k < MOST_HANDLES) →
+    ((k : ℕ) → has_number k ys ≡ true → k < MOST_HANDLES) → has_number h (xs ++ ys) ≡ true → h < MOST_HANDLES
 below-both [] ys h first second among = second h among
 below-both (x ∷ xs) ys h first second among = elim (same-or-not h x) [
-  | inl e ↦ subst (λ k. k < 2 ^ 62) (sym e) (first x (has-first x xs))
+  | inl e ↦ subst (λ k. k < MOST_HANDLES) (sym e) (first x (has-first x xs))
   | inr e ↦ below-both xs ys h (λ k is. first k (has-later k x xs is)) second (sym (has-other h x (xs ++ ys) e) ∙ among)
 ]
 
 -- What is in the first of two lists is in both joined.
-pub below-first : (xs ys : List ℕ) → ((k : ℕ) → has_number k (xs ++ ys) ≡ true → k < 2 ^ 62) → (k : ℕ) → has_number k xs ≡ true →
-    k < 2 ^ 62
+pub below-first : (xs ys : List ℕ) → ((k : ℕ) → has_number k (xs ++ ys) ≡ true → k < MOST_HANDLES) → (k : ℕ) → has_number k xs ≡ true →
+    k < MOST_HANDLES
 below-first [] ys below k among = (let f : ⊥ = cc in absurd f)
 below-first (x ∷ xs) ys below k among = elim (same-or-not k x) [
-  | inl e ↦ subst (λ n. n < 2 ^ 62) (sym e) (below x (has-first x (xs ++ ys)))
+  | inl e ↦ subst (λ n. n < MOST_HANDLES) (sym e) (below x (has-first x (xs ++ ys)))
   | inr e ↦ below-first xs ys (λ n is. below n (has-later n x (xs ++ ys) is)) k (sym (has-other k x xs e) ∙ among)
 ]
 
 -- So is what is in the second.
-pub below-second : (xs ys : List ℕ) → ((k : ℕ) → has_number k (xs ++ ys) ≡ true → k < 2 ^ 62) → (k : ℕ) → has_number k ys ≡ true →
-    k < 2 ^ 62
+pub below-second : (xs ys : List ℕ) → ((k : ℕ) → has_number k (xs ++ ys) ≡ true → k < MOST_HANDLES) → (k : ℕ) → has_number k ys ≡ true →
+    k < MOST_HANDLES
 below-second [] ys below k among = below k among
 below-second (x ∷ xs) ys below k among = below-second xs ys (λ n is. below n (has-later n x (xs ++ ys) is)) k among
 
@@ -129,7 +130,7 @@ module _ {R B : Type 0} (view : R → RingView) (tells steady : Bool) where
       record {
         taken = c ∷ [];
         counted = refl;
-        below = subst (λ hs. (h : ℕ) → has_number h hs ≡ true → h < 2 ^ 62) (ap (λ all. all.queued) is) posts.below;
+        below = subst (λ hs. (h : ℕ) → has_number h hs ≡ true → h < MOST_HANDLES) (ap (λ all. all.queued) is) posts.below;
         ring = subst (λ hs. ReapsRing view tells steady old.ring new.ring (c ∷ []) hs) (ap (λ all. all.queued) is)
             (ring-on view tells steady old.ring mid.ring new.ring (c ∷ []) [] [] one.queued
             (ring-taken view tells steady old.ring mid.ring c off due room)
@@ -176,7 +177,7 @@ module _ {R B : Type 0} (view : R → RingView) (tells steady : Bool) where
       record {
         taken = f.taken ++ g.taken;
         counted = length-append f.taken g.taken ∙ ap (λ n. n + length g.taken) f.counted ∙ ap (λ n. i + n) g.counted;
-        below = subst (λ hs. (h : ℕ) → has_number h hs ≡ true → h < 2 ^ 62) (sym (ap (λ all. all.queued) is))
+        below = subst (λ hs. (h : ℕ) → has_number h hs ≡ true → h < MOST_HANDLES) (sym (ap (λ all. all.queued) is))
             (λ h among. below-both first.queued more.queued h f.below g.below among);
         ring = subst (λ hs. ReapsRing view tells steady a.ring c.ring (f.taken ++ g.taken) hs) (sym (ap (λ all. all.queued) is))
             (ring-on view tells steady a.ring b.ring c.ring f.taken g.taken first.queued more.queued f.ring g.ring);

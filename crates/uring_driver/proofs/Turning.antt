@@ -1,10 +1,11 @@
 -- What the turn of a driver that stands for a ledger answers.
-use Rattle.std.proofs.Common.{◌≡◌, ◌≤◌, ◌<◌, ◌^◌, ℕ, Bool, true, false, List, [], ◌++◌, length, Option, Some, None, refl, sym, ◌∙◌}
+use Rattle.std.proofs.Common.{◌≡◌, ◌≤◌, ◌<◌, ℕ, Bool, true, false, List, [], ◌++◌, length, Option, Some, None, refl, sym, ◌∙◌}
 use Rattle.std.proofs.Common.{ap, subst}
 use Rattle.std.proofs.Common.{arith, append-nil, length-append}
 use Rattle.std.specs.Prelude.{IsTrue, take, drop}
 use Rattle.std.proofs.lemmas.List.{append_cancel_left, length-drop, length-map}
 use Rattle.rent_buf.specs.Buffer.{Buffer}
+use Rattle.ring_core.specs.declared.entry.TheConstants.{MOST_HANDLES}
 use Rattle.ring_core.specs.declared.ledger.Event.TheVariants.{Turn}
 use Rattle.ring_core.specs.declared.ledger.Reply.TheVariants.{Turned as TurnReply}
 use Rattle.ring_core.specs.declared.entry.Completion.{Completion}
@@ -117,7 +118,7 @@ module _ {R B : Type 0} (view : R → RingView) (buffer : B → Buffer) (tells s
         let e = treats-ended mid.slots.values mid.holding taken c.rest word (ends.reaps.treats.bad ∙ is) in
         let t = treats-all buffer (taken ++ c.rest) [] (whole_ring view mid) mid.slots.values mid.holding K amid
         (c.front ∙ sym (append-nil (taken ++ c.rest))) refl
-        (subst (λ hs. (h : ℕ) → has_number h hs ≡ true → h < 2 ^ 62) (sym (ap (λ x. x.queued) e)) ends.reaps.below) in
+        (subst (λ hs. (h : ℕ) → has_number h hs ≡ true → h < MOST_HANDLES) (sym (ap (λ x. x.queued) e)) ends.reaps.below) in
         let z : Some word ≡ None = sym (ap (λ x. x.bad) e ∙ ends.reaps.treats.bad ∙ is) ∙ t.no_bad in
         let f : ⊥ = cc in
         f

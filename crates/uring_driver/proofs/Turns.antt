@@ -1,5 +1,5 @@
 -- Completions treated one after another, against a ledger in the middle of a turn.
-use Rattle.std.proofs.Common.{◌≡◌, ℕ, ◌+◌, ◌<◌, ◌^◌, true, List, [], ◌∷◌, ◌++◌, length, flat_map, Option, Some, None, refl, sym, ◌∙◌, ap}
+use Rattle.std.proofs.Common.{◌≡◌, ℕ, ◌+◌, ◌<◌, true, List, [], ◌∷◌, ◌++◌, length, flat_map, Option, Some, None, refl, sym, ◌∙◌, ap}
 use Rattle.std.proofs.Common.{subst}
 use Rattle.std.proofs.Common.{arith, append_assoc, length-append}
 use Rattle.std.specs.Prelude.{slice_get, option_map}
@@ -8,6 +8,7 @@ use Rattle.std.proofs.lemmas.List.Concat.{flat_map-append}
 use Rattle.std.specs.Ordering.{nat_cmp}
 use Rattle.std.specs.FinMap.{FinMap}
 use Rattle.rent_buf.specs.Buffer.{Buffer}
+use Rattle.ring_core.specs.declared.entry.TheConstants.{MOST_HANDLES}
 use Rattle.ring_core.specs.declared.entry.Completion.{Completion}
 use Rattle.ring_core.specs.Entry.{target, close_entry}
 use Rattle.ring_core.specs.Lists.{has_number}
@@ -176,14 +177,15 @@ module _ {B : Type 0} (buffer : B → Buffer) (v : RingView) (slots : FinMap nat
 
 -- The closes of the first completion are among those of all.
 below-begin : {B : Type 0} (first then : Treated B) (cs : List Completion) (b : Option ℕ) →
-    ((h : ℕ) → has_number h (goes_on b first cs then).queued ≡ true → h < 2 ^ 62) → (h : ℕ) → has_number h first.queued ≡ true → h < 2 ^ 62
+    ((h : ℕ) → has_number h (goes_on b first cs then).queued ≡ true → h < MOST_HANDLES) → (h : ℕ) →
+    has_number h first.queued ≡ true → h < MOST_HANDLES
 below-begin first then cs None below = below-first first.queued then.queued below
 below-begin first then cs (Some word) below = below
 
 -- Completions that mean those of a ledger are treated as the machine reaps them, where nothing behind them means anything.
 pub treats-all : {B : Type 0} (buffer : B → Buffer) (cs rest : List Completion) (v : RingView) (slots : FinMap nat_cmp (Slot B))
     (holding : Holding) (L : Ledger) → Amid buffer v slots holding L → v.done ≡ cs ++ rest → flat_map done_items_of rest ≡ [] →
-    ((h : ℕ) → has_number h (treat_each slots holding cs).queued ≡ true → h < 2 ^ 62) →
+    ((h : ℕ) → has_number h (treat_each slots holding cs).queued ≡ true → h < MOST_HANDLES) →
     TreatsAll buffer (with_done v rest) holding L (treat_each slots holding cs)
 treats-all buffer [] rest v slots holding L old ready none below =
     let e : L.done ≡ [] = old.means.in_lists.done ∙ ap (flat_map done_items_of) ready ∙ none in
@@ -203,7 +205,7 @@ treats-all buffer (c ∷ cs) rest v slots holding L old ready none below =
     let more = treat_each one.slots one.holding cs in
     let t = treats-first buffer v slots holding L c (cs ++ rest) old ready (below-begin one more cs one.bad below) in
     let here = λ (h : ℕ). below-second one.queued more.queued
-    (subst (λ b. (k : ℕ) → has_number k (goes_on b one cs more).queued ≡ true → k < 2 ^ 62) t.no_bad below) h in
+    (subst (λ b. (k : ℕ) → has_number k (goes_on b one cs more).queued ≡ true → k < MOST_HANDLES) t.no_bad below) h in
     treats-more buffer v slots holding L c cs rest ready none begins t
     (treats-all buffer cs (rest ++ added buffer v slots holding L c cs rest ready none begins)
     (next buffer v slots holding L c cs rest ready none begins) one.slots one.holding

@@ -1,10 +1,11 @@
 -- Who holds each handle of a driver, and which closes aren't reaped. Cited by `Handles`, and by the driver's calls.
-use Rattle.std.specs.Prelude.{ℕ, ◌≡◌, ◌-◌, ◌<◌, ◌≤◌, ◌^◌, nat_lt, ◌||◌, Bool, true, false, is_some, List, [], ◌∷◌, Some, refl}
+use Rattle.std.specs.Prelude.{ℕ, ◌≡◌, ◌-◌, ◌<◌, ◌≤◌, nat_lt, ◌||◌, Bool, true, false, is_some, List, [], ◌∷◌, Some, refl}
 use Rattle.std.specs.FinMap as map
 use Rattle.std.specs.Coded.{Coded, code_by, coded×}
 use Rattle.handle_core.specs.declared.table.Holders.{Holders}
 use Rattle.handle_core.specs.Table.{Table, table_code, AreHeld, holders_at, with_holders, without_handle, by_operation}
 use Rattle.handle_core.specs.Table.{without_user}
+use Rattle.ring_core.specs.declared.entry.TheConstants.{MOST_HANDLES}
 use Rattle.ring_core.specs.Ledger.{Ledger}
 use Rattle.ring_core.specs.Closes.{is_closing}
 use Rattle.driver_core.specs.Holds.{is_nobody, settled, without_ops, unheld_by, HoldersStand}
@@ -85,7 +86,7 @@ pub record IsSameHolding (old new : Holding) : Type 0 where
 pub record IsKept (holding : Holding) : Type 0 where
   pub room : map.len holding.table.holders ≤ holding.closing.spare
   pub apart : (h : ℕ) → is_held holding h ≡ true → closes holding h ≡ false
-  pub below : (h : ℕ) → is_held holding h ≡ true → h < 2 ^ 62
+  pub below : (h : ℕ) → is_held holding h ≡ true → h < MOST_HANDLES
   pub somebody : AreHeld holding.table
   pub once : (h : ℕ) (held : Holders) → map.get holding.closing.holders h ≡ Some held → held ≡ by_operation
 

@@ -1,6 +1,6 @@
 -- What the lists of a ring mean in the ledger. Its entries are read by serials there; the ring itself compares words alone.
 -- Cited by `Stands`.
-use Rattle.std.specs.Prelude.{ℕ, ◌≡◌, ◌<◌, ◌^◌, Bool, true, false, List, [], ◌∷◌, map, flat_map, Some, slice_get, ⊤}
+use Rattle.std.specs.Prelude.{ℕ, ◌≡◌, ◌<◌, Bool, true, false, List, [], ◌∷◌, map, flat_map, Some, slice_get, ⊤}
 use Rattle.std.specs.Ordering.{nat_cmp}
 use Rattle.std.specs.FinMap as finite
 use Rattle.rent_buf.specs.Buffer.{Buffer}
@@ -9,7 +9,7 @@ use Rattle.ring_core.specs.declared.entry.Body.TheVariants.{Call as Calls, Cance
 use Rattle.ring_core.specs.declared.entry.Entry.{Entry}
 use Rattle.ring_core.specs.declared.entry.Flight.{Flight}
 use Rattle.ring_core.specs.declared.entry.Completion.{Completion}
-use Rattle.ring_core.specs.declared.entry.TheConstants.{CANCEL_WORD, FIRST_CLOSE}
+use Rattle.ring_core.specs.declared.entry.TheConstants.{CANCEL_WORD, FIRST_CLOSE, MOST_HANDLES}
 use Rattle.ring_core.specs.declared.entry.Target.{Target}
 use Rattle.ring_core.specs.declared.entry.Target.TheVariants.{Slot as Keyed, Handle, Reserved}
 use Rattle.ring_core.specs.Entry.{target, close_entry}
@@ -96,13 +96,13 @@ pub record CompletionFor {B : Type 0} (slots : finite.FinMap nat_cmp (Slot B)) (
 abbrev pub QueuedFor : {B : Type 0} → (B → Buffer) → finite.FinMap nat_cmp (Slot B) → List Operation → Entry → Body → Type 0
 QueuedFor buffer slots ops entry (Calls call) = EntryFor buffer slots entry × IsAt ops entry.serial InQueue
 QueuedFor buffer slots ops entry (Cancels key) = (entry.word ≡ CANCEL_WORD) × (key < FIRST_CLOSE)
-QueuedFor buffer slots ops entry (Closes h) = (entry ≡ close_entry h) × (h < 2 ^ 62)
+QueuedFor buffer slots ops entry (Closes h) = (entry ≡ close_entry h) × (h < MOST_HANDLES)
 
 -- What is in flight, by its body: a call is that of an operation that is in flight, a close is never marked, and a cancel never flies.
 abbrev pub FlightFor : {B : Type 0} → (B → Buffer) → finite.FinMap nat_cmp (Slot B) → List Operation → Flight → Body → Type 0
 FlightFor buffer slots ops flight (Calls call) = EntryFor buffer slots flight.entry × IsFlown ops flight
 FlightFor buffer slots ops flight (Cancels key) = ⊥
-FlightFor buffer slots ops flight (Closes h) = (flight.entry ≡ close_entry h) × (h < 2 ^ 62) × (flight.marked ≡ false)
+FlightFor buffer slots ops flight (Closes h) = (flight.entry ≡ close_entry h) × (h < MOST_HANDLES) × (flight.marked ≡ false)
 
 -- What is done, by what its word names: a slot is that of an operation that is done with this outcome, and another word says nothing.
 abbrev pub DoneFor : {B : Type 0} → finite.FinMap nat_cmp (Slot B) → List Operation → Completion → Target → Type 0

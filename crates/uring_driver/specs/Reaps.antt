@@ -1,7 +1,8 @@
 -- What the reaps of a turn do to a driver, over any ring. Cited by `reap_one` and `reap_all`, and by what every turn does.
-use Rattle.std.specs.Prelude.{ℕ, ◌≡◌, ◌+◌, ◌<◌, ◌≤◌, ◌^◌, ◌⊎◌, Bool, true, IsTrue, List, [], ◌∷◌, ◌++◌, length, map, Option, Some, None}
+use Rattle.std.specs.Prelude.{ℕ, ◌≡◌, ◌+◌, ◌<◌, ◌≤◌, ◌⊎◌, Bool, true, IsTrue, List, [], ◌∷◌, ◌++◌, length, map, Option, Some, None}
 use Rattle.std.specs.Ordering.{nat_cmp}
 use Rattle.std.specs.FinMap.{FinMap}
+use Rattle.ring_core.specs.declared.entry.TheConstants.{MOST_HANDLES}
 use Rattle.ring_core.specs.declared.entry.Entry.{Entry}
 use Rattle.ring_core.specs.declared.entry.Completion.{Completion}
 use Rattle.ring_core.specs.Entry.{close_entry}
@@ -85,7 +86,7 @@ pub record Treats {B : Type 0} (all : Treated B) (new_slots : FinMap nat_cmp (Sl
 
 -- The closes of handles, each below the bound of handles, joined what is pending, one after another, in room that was reserved.
 pub record PostsAll {R : Type 0} (view : R → RingView) (tells steady : Bool) (old new : Pending R) (handles : List ℕ) : Type 0 where
-  pub below : (h : ℕ) → has_number h handles ≡ true → h < 2 ^ 62
+  pub below : (h : ℕ) → has_number h handles ≡ true → h < MOST_HANDLES
   pub few : length handles ≤ old.room
   pub posts : PostsEach view tells steady old new (closes_of handles)
 
@@ -98,7 +99,7 @@ pub record Reaps {R B : Type 0} (view : R → RingView) (tells steady : Bool) (o
     (bad : Option ℕ) : Type 0 where
   pub taken : List Completion
   pub counted : length taken ≡ count
-  pub below : (h : ℕ) → has_number h (treat_each old.slots.values old.holding taken).queued ≡ true → h < 2 ^ 62
+  pub below : (h : ℕ) → has_number h (treat_each old.slots.values old.holding taken).queued ≡ true → h < MOST_HANDLES
   pub ring : ReapsRing view tells steady old.ring new.ring taken (treat_each old.slots.values old.holding taken).queued
   pub treats : Treats (treat_each old.slots.values old.holding taken) new.slots.values new.holding before after bad
 

@@ -1,13 +1,13 @@
 //! Who holds each handle of a driver, and which closes aren't reaped.
-ghost use Rattle.std.specs.Prelude.{◌≡◌, ◌<◌, ◌^◌, ◌↔◌, true, false, Some, OnOk, OnErr};
+ghost use Rattle.std.specs.Prelude.{◌≡◌, ◌<◌, ◌↔◌, true, false, Some, OnOk, OnErr};
 ghost use Rattle.std.specs.FinMap as map;
 ghost use Rattle.handle_core.specs.Table.{holders_at, with_holders, without_handle, by_user, with_user, without_user};
 ghost use Rattle.ring_core.specs.Request.{listed};
 ghost use Rattle.driver_core.specs.Holds.{is_nobody, left_holders, with_ops, CanJoin};
 ghost use Rattle.uring_driver.specs.Holding.{closes, knows, user_count, is_users, settle, user_left, close_reaped};
 
-use handle_core::{HandleTable, OutOfMemory, Released};
-use ring_core::Names;
+use handle_core::{HandleTable, MAX_HOLDS, OutOfMemory, Released};
+use ring_core::{MOST_HANDLES, Names};
 use std::alloc::Global;
 use std::marker::Model;
 
@@ -101,10 +101,11 @@ impl Handles {
         }
     }
 
-    /// The user holds a handle that wasn't known, below `2^62`, with memory reserved for its close. If memory runs out, nothing changes.
+    /// The user holds a handle that wasn't known, below `MOST_HANDLES`, with memory reserved for its close. If memory runs out, nothing
+    /// changes.
     pub fn add(&mut self, h: u64) -> Result<(), OutOfMemory>
         requires fresh { knows self.old h ≡ false }
-        requires below { h < 2 ^ 62 }
+        requires below { h < MOST_HANDLES }
         requires room { map.len self.old.table.holders < self.old.closing.spare }
         ensures ok { OnOk result (self.new ≡ record self.old { table = with_holders self.old.table h by_user }) }
         ensures err { OnErr result (self.new ≡ self.old) }
@@ -123,7 +124,7 @@ impl Handles {
     /// The user, who holds a handle, holds it once more.
     pub fn hold(&mut self, h: u64)
         requires held { is_users self.old h ≡ true }
-        requires counter { user_count self.old h < 2 ^ 62 }
+        requires counter { user_count self.old h < MAX_HOLDS }
         ensures { self.new ≡ record self.old { table = with_holders self.old.table h (with_user (holders_at self.old.table h)) } }
     {
         self.table.hold(h);
@@ -143,7 +144,7 @@ impl Handles {
     /// The user drops one of its holds of a handle. At the last hold of all the handle is closing from now on. It takes no memory.
     pub fn release(&mut self, h: u64) -> Released
         requires { is_users self.old h ≡ true }
-        ensures below { h < 2 ^ 62 }
+        ensures below { h < MOST_HANDLES }
         ensures last { (result ≡ Released.Last) ↔ (is_nobody (without_user (holders_at self.old.table h)) ≡ true) }
         ensures left { self.new ≡ user_left self.old h }
     {
@@ -159,7 +160,7 @@ impl Handles {
     /// An operation that named a handle is gone. At the last hold of all the handle is closing from now on. It takes no memory.
     pub fn release_op(&mut self, h: u64) -> Released
         requires { 0 < (holders_at self.old.table h).operations }
-        ensures below { h < 2 ^ 62 }
+        ensures below { h < MOST_HANDLES }
         ensures last { (result ≡ Released.Last) ↔ (is_nobody (left_holders self.old.table h) ≡ true) }
         ensures left { self.new ≡ settle self.old h (left_holders self.old.table h) }
     {

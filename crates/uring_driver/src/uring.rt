@@ -1,5 +1,5 @@
 //! The completion driver: its operations, from their submission to their last poll.
-ghost use Rattle.std.specs.Prelude.{◌≡◌, ◌≤◌, ◌<◌, ◌+◌, ◌^◌, ◌↔◌, [], ◌∷◌, IsTrue, IfSome, IfOk, IfErr, OnOk, OnErr, length};
+ghost use Rattle.std.specs.Prelude.{◌≡◌, ◌≤◌, ◌<◌, ◌+◌, ◌↔◌, [], ◌∷◌, IsTrue, IfSome, IfOk, IfErr, OnOk, OnErr, length};
 ghost use Rattle.std.specs.FinMap as map;
 ghost use Rattle.ring_core.specs.Request.{named};
 ghost use Rattle.ring_core.specs.Ring.{IsLater};
@@ -21,7 +21,7 @@ use crate::holding::Handles;
 use crate::submissions::Submissions;
 use crate::uring::leave::let_go;
 use crate::uring::turn::Named;
-use driver_core::{Op, Operations, PollOp, SubmitError, SubmitFault, Submitted};
+use driver_core::{MOST_GIVEN, Op, Operations, PollOp, SubmitError, SubmitFault, Submitted};
 use op_slots::AfterDrop;
 use op_slots::slab::MAX_LIVE;
 use rent_buf::{IoBufMut, OutOfMemory, VecBuf};
@@ -112,10 +112,10 @@ impl<R: Ring, B: IoBufMut + Drop> IoUringDriver<R, B> {
 
     /// Submits a request of handles that the user holds, and returns the new operation's token. What is due goes in first, and a
     /// queue at capacity is entered. The memory that it needs, and that of one cancel, is taken before anything changes. Fewer
-    /// than `2^62` were submitted before. (monoio: `submit_with_data`)
+    /// than `MOST_GIVEN` were submitted before. (monoio: `submit_with_data`)
     pub fn submit_with(&mut self, request: Request<B, VecBuf>) -> Result<Submitted, SubmitError<B>>
         requires held { IsTrue (holds_all self.old (named request)) }
-        requires counter { given_by self.old < 2 ^ 62 }
+        requires counter { given_by self.old < MOST_GIVEN }
         // The answer is the machine's, over each ring that tells its lists.
         ensures answers { IfOk result (λ submitted. IsTrue R.tells → (L : Ledger) → Stands R.view B.buffer self.old L →
             SubmitsFor R.view B.buffer L request self.new submitted) }

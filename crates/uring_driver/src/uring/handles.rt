@@ -1,5 +1,5 @@
 //! The calls of a driver on handles: who holds them, and when they are closed.
-ghost use Rattle.std.specs.Prelude.{◌≡◌, ◌<◌, ◌^◌, ◌-◌, ◌↔◌, true, false, [], map, IsTrue, IfOk, OnOk, OnErr};
+ghost use Rattle.std.specs.Prelude.{◌≡◌, ◌<◌, ◌-◌, ◌↔◌, true, false, [], map, IsTrue, IfOk, OnOk, OnErr};
 ghost use Rattle.handle_core.specs.Table.{holders_at, with_holders, with_user, without_user};
 ghost use Rattle.ring_core.specs.Entry.{close_entry};
 ghost use Rattle.ring_core.specs.Ledger.{Ledger};
@@ -13,16 +13,16 @@ ghost use Rattle.uring_driver.specs.Submitted.{SameOps, IsSameRing};
 ghost use Rattle.uring_driver.specs.Released.{Adopts, ReleasesFor, HasHandleRoom, HasCloseRoom};
 
 use crate::uring::{IoUringDriver, owed};
-use handle_core::{Released, SharedFd};
+use handle_core::{MAX_HOLDS, Released, SharedFd};
 use rent_buf::{IoBufMut, OutOfMemory};
-use ring_core::{Entry, Ring};
+use ring_core::{Entry, MOST_HANDLES, Ring};
 
 impl<R: Ring, B: IoBufMut + Drop> IoUringDriver<R, B> {
-    /// The user holds a handle of this number, below `2^62`, which wasn't known. The memory of its close is reserved, so that no later call
-    /// that closes it needs any. `OutOfMemory` comes if memory runs out, and then nothing but reserved memory has changed.
+    /// The user holds a handle of this number, below `MOST_HANDLES`, which wasn't known. The memory of its close is reserved, so that no
+    /// later call that closes it needs any. `OutOfMemory` comes if memory runs out, and then nothing but reserved memory has changed.
     /// (monoio: `SharedFd::new_without_register`)
     pub fn adopt(&mut self, h: u64) -> Result<SharedFd, OutOfMemory>
-        requires below { h < 2 ^ 62 }
+        requires below { h < MOST_HANDLES }
         requires fresh { knows (holding_in self.old) h ≡ false }
         ensures fd { IfOk result (λ fd. fd ≡ h) }
         ensures handles { OnOk result (Adopts (holding_in self.old) h (holding_in self.new)) }
@@ -69,10 +69,10 @@ impl<R: Ring, B: IoBufMut + Drop> IoUringDriver<R, B> {
         self.handles.user_count(h)
     }
 
-    /// The user holds a handle once more that it holds fewer than `2^62` times. It takes no memory. (monoio: `SharedFd::clone`)
+    /// The user holds a handle once more that it holds fewer than `MAX_HOLDS` times. It takes no memory. (monoio: `SharedFd::clone`)
     pub fn hold(&mut self, fd: SharedFd)
         requires held { IsTrue (holds_handle self.old fd) }
-        requires counter { user_count (holding_in self.old) fd < 2 ^ 62 }
+        requires counter { user_count (holding_in self.old) fd < MAX_HOLDS }
         ensures stands { (L : Ledger) → Stands R.view B.buffer self.old L → Stands R.view B.buffer self.new L }
         ensures handles { holding_in self.new ≡ record (holding_in self.old) {
           table = with_holders (holding_in self.old).table fd (with_user (holders_at (holding_in self.old).table fd));

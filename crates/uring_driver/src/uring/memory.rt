@@ -1,5 +1,5 @@
 //! The calls of a driver over the ring in memory: its handles, and what executes its operations.
-ghost use Rattle.std.specs.Prelude.{◌≡◌, ◌≤◌, ◌<◌, ◌^◌, ◌++◌, ◌&&◌, nat_lt, false, [], ◌∷◌, IsTrue, IfOk, IfErr, OnOk, OnErr, length};
+ghost use Rattle.std.specs.Prelude.{◌≡◌, ◌≤◌, ◌<◌, ◌++◌, ◌&&◌, nat_lt, false, [], ◌∷◌, IsTrue, IfOk, IfErr, OnOk, OnErr, length};
 ghost use Rattle.ring_core.specs.World.{fresh, output_at, WorldFeeds, WorldEnds};
 ghost use Rattle.ring_core.specs.Surroundings.{around};
 ghost use Rattle.ring_core.specs.Ledger.{Ledger, empty};
@@ -20,7 +20,8 @@ use crate::uring::IoUringDriver;
 use driver_core::Executed;
 use rent_buf::{IoBufMut, OutOfMemory};
 use ring_core::{
-    Completion, ExecRefusal, HandleKind, Look, MemRing, SharedFd, Target, Told, WorldError,
+    Completion, ExecRefusal, HandleKind, Look, MOST_HANDLES, MemRing, SharedFd, Target, Told,
+    WorldError,
 };
 use std::alloc::Global;
 
@@ -64,11 +65,11 @@ impl<B: IoBufMut + Drop> IoUringDriver<MemRing, B> {
         self.user_holds(h) && h < self.handles()
     }
 
-    /// A new handle of the ring, which the user holds: its number is how many the ring had, fewer than `2^62`, and wasn't known. The memory
-    /// of its close is reserved, so that no later call that closes it needs any. `OutOfMemory` comes if memory runs out, and then nothing
-    /// but reserved memory has changed. (not in monoio)
+    /// A new handle of the ring, which the user holds: its number is how many the ring had, fewer than `MOST_HANDLES`, and wasn't known.
+    /// The memory of its close is reserved, so that no later call that closes it needs any. `OutOfMemory` comes if memory runs out, and
+    /// then nothing but reserved memory has changed. (not in monoio)
     pub fn give(&mut self, kind: HandleKind) -> Result<SharedFd, OutOfMemory>
-        requires counter { length (ring_in self.old).world < 2 ^ 62 }
+        requires counter { length (ring_in self.old).world < MOST_HANDLES }
         requires fresh { knows (holding_in self.old) (length (ring_in self.old).world) ≡ false }
         ensures answers { IfOk result (λ fd. (L : Ledger) → Stands (λ r. r) B.buffer self.old L →
             Answers (λ r. r) B.buffer L (Give kind) (Handle fd) self.new) }

@@ -65,15 +65,14 @@ impl<R: Ring, B: IoBufMut + Drop> IoUringDriver<R, B> {
         let Some(count) = self.ring.waiting() else {
             return Err(Stop::OutOfMemory);
         };
-        let spare = mem::replace(&mut self.spare, Named::new(self.alloc));
-        let Ok(named) = nobody(spare, count) else {
+        let Ok(named) = nobody(&mut self.spare, self.alloc, count) else {
             return Err(Stop::OutOfMemory);
         };
         let busy = match self.ring.enter() {
             Ok(_) => false,
             Err(EnterError::Busy) => true,
             Err(EnterError::Fault) => {
-                self.spare = named;
+                let _ = keep_empty(&mut self.spare, named);
                 return Err(Stop::RingFault);
             }
         };
@@ -265,18 +264,22 @@ pub fn stop_of(busy: bool, bad: Option<u64>) -> Option<Stop>
     }
 }
 
-/// Nobody, with room for `count` numbers in each list. It takes the memory of these lists, and only what is missing anew.
-pub fn nobody(spare: Named, count: usize) -> Result<Named, OutOfMemory>
+/// Nobody, with room for `count` numbers in each list. It takes the memory of the spare lists, and only what is missing anew. For none it
+/// leaves them.
+pub fn nobody(spare: &mut Named, alloc: Global, count: usize) -> Result<Named, OutOfMemory>
     ensures reaped { IfOk result (λ named. named.reaped.items ≡ []) }
     ensures closed { IfOk result (λ named. named.closed.items ≡ []) }
     ensures woken { IfOk result (λ named. named.woken.items ≡ []) }
     ensures room { IfOk result (λ named. HasRoom named count) }
 {
+    if count == 0 {
+        return Ok(Named::new(alloc));
+    }
     let Named {
         reaped,
         closed,
         woken,
-    } = spare;
+    } = mem::replace(spare, Named::new(alloc));
     Ok(Named {
         reaped: with_room(reaped, count)?,
         closed: with_room(closed, count)?,
@@ -295,7 +298,8 @@ fn with_room(spare: Vec<u64>, count: usize) -> Result<Vec<u64>, OutOfMemory>
     Ok(list)
 }
 
-/// Keeps the lists that name nobody as spare ones, and returns the others. In place of one that is kept it returns one without memory.
+/// Keeps the lists that name nobody as spare ones, and returns the others. In place of one that is kept it returns one without memory,
+/// and one without memory isn't kept.
 pub fn keep_empty(spare: &mut Named, named: Named) -> Named
     ensures reaped { result.reaped.items ≡ named.reaped.items }
     ensures closed { result.closed.items ≡ named.closed.items }
@@ -313,11 +317,11 @@ pub fn keep_empty(spare: &mut Named, named: Named) -> Named
     }
 }
 
-// Keeps a list as the spare one if it is empty, and else returns it.
+// Keeps a list as the spare one if it is empty and has memory, and else returns it.
 fn keep_if_empty(spare: &mut Vec<u64>, list: Vec<u64>) -> Vec<u64>
     ensures { result.items ≡ list.items }
 {
-    if !list.is_empty() {
+    if !list.is_empty() || list.capacity() == 0 {
         return list;
     }
     let none = Vec::new(*list.allocator());

@@ -1,6 +1,7 @@
-use Rattle.std.proofs.Common.{◌≡◌, ◌<◌, ◌^◌, true, refl, sym, ◌∙◌, ap, subst, arith}
+use Rattle.std.proofs.Common.{◌≡◌, ◌<◌, true, refl, sym, ◌∙◌, ap, subst, arith}
 use Rattle.std.specs.FinMap.{len}
 use Rattle.handle_core.specs.Table.{holders_at, without_user}
+use Rattle.ring_core.specs.declared.entry.TheConstants.{MOST_HANDLES}
 use Rattle.ring_core.specs.Entry.{close_entry}
 use Rattle.driver_core.specs.Holds.{is_nobody}
 use Rattle.uring_driver.specs.Holding.{user_left}
@@ -43,7 +44,7 @@ returns-in-Last-clause-answers g c =
     rw (← c.self.view_is) (λ steady L stands. releases-last g.R.Ring.view g.B.IoBufMut.buffer d
     (record d { ring = c.post.new.self; holding = c.release.new.self }) L c.args.fd stands held refl refl
     (c.release.ensures.left ∙ ap (user_left d.holding) c.number-h.ensures) g.R.Ring.tells g.R.Ring.steady steady none
-    (subst (λ k. k < 2 ^ 62) c.number-h.ensures c.release.ensures.below)
+    (subst (λ k. k < MOST_HANDLES) c.number-h.ensures c.release.ensures.below)
     (room-held d.ring.room d.slots.values d.holding c.args.fd c.self.invariant.0 held) posts)
 
 pub returns-in-Held-clause-answers : goal.returns-in-Held-clause-answers

@@ -1,9 +1,10 @@
-use Rattle.std.proofs.Common.{IsTrue, ◌<◌, ◌^◌, ◌+◌, ◌≤◌, refl, sym, ap, subst, ◌∙◌, arith, length, length-append}
+use Rattle.std.proofs.Common.{IsTrue, ◌<◌, ◌+◌, ◌≤◌, refl, sym, ap, subst, ◌∙◌, arith, length, length-append}
 use Rattle.std.specs.FinMap as map
 use Rattle.op_slots.specs.declared.slab.TheConstants.{MAX_LIVE}
 use Rattle.ring_core.specs.Ring.{pushed}
 use Rattle.ring_core.specs.Request.{named}
 use Rattle.ring_core.specs.declared.entry.Body.TheVariants.{Call}
+use Rattle.driver_core.specs.declared.operations.TheConstants.{MOST_GIVEN}
 use Rattle.driver_core.specs.Holds.{with_ops}
 use Rattle.driver_core.specs.Slot.{number_at}
 use Rattle.driver_core.specs.Operations.{new_slot}
@@ -51,7 +52,8 @@ invariant_of-self-2 g c =
     let puts = put-over c.self.inside.ops c.prepare.new.ops c.submit-op.new.self c.args.request c.submit-op.result c.in-Ok.ensures.slots
     c.in-Ok.ensures.given c.submit-op.ensures.submits in
     let user = subst (λ x. IsTrue (holds_all x (named c.args.request))) (sym c.self.view_is) c.requires.held in
-    let can = may-join d c.args.request user c.self.invariant.1 (subst (λ x. x.given < 2 ^ 62) (sym c.self.view_is) c.requires.counter) in
+    let can = may-join d c.args.request user c.self.invariant.1
+    (subst (λ x. x.given < MOST_GIVEN) (sym c.self.view_is) c.requires.counter) in
     let room = c.join-2.ensures.room in
     let spare = c.in-Ok.ensures.ok.spare in
     let count = ap map.len c.in-Ok.ensures.slots in
@@ -72,7 +74,8 @@ returns-clause-answers g c =
     let puts = put-over c.self.inside.ops c.prepare.new.ops c.submit-op.new.self c.args.request c.submit-op.result c.in-Ok.ensures.slots
     c.in-Ok.ensures.given c.submit-op.ensures.submits in
     let user = subst (λ x. IsTrue (holds_all x (named c.args.request))) (sym c.self.view_is) c.requires.held in
-    let can = may-join d c.args.request user c.self.invariant.1 (subst (λ x. x.given < 2 ^ 62) (sym c.self.view_is) c.requires.counter) in
+    let can = may-join d c.args.request user c.self.invariant.1
+    (subst (λ x. x.given < MOST_GIVEN) (sym c.self.view_is) c.requires.counter) in
     rw (← c.self.view_is) (
     λ tells L stands.
     let view = g.R.Ring.view in
