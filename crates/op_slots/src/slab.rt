@@ -1,13 +1,13 @@
 //! A finite map that chooses the keys of its values, which lie on pages of doubling size.
-ghost use Rattle.std.specs.Prelude.{◌≡◌, ◌+◌, ◌<◌, ◌≤◌, ◌%◌, ◌↔◌, max, vec_len, IfOk, OnOk, OnErr, IfErr, IsErrOf, OnSome, IfSome, IfNone};
+ghost use Rattle.std.specs.Prelude.{◌≡◌, ◌+◌, ◌-◌, ◌<◌, ◌≤◌, ◌%◌, ◌↔◌, max, vec_len, IfOk, OnOk, OnErr, IfErr, IsErrOf, OnSome, IfSome, IfNone};
 ghost use Rattle.std.specs.Prelude.{IsSome, IsTrue, None, Some, option_copied};
 ghost use Rattle.std.specs.Borrow.{sem};
 ghost use Rattle.std.specs.FinMap as map;
-ghost use Rattle.op_slots.specs.Pages.{page_of as page_by_rule};
+ghost use Rattle.op_slots.specs.Pages.{page_of as page_by_rule, first_key as first_by_rule};
 ghost use Rattle.op_slots.specs.Slots.{IsLive, AreKeysBelow, AreOnPages, MakesPage, GivesBackPage};
 ghost use Rattle.op_slots.specs.InsertError.{IsRefused};
 ghost use Rattle.op_slots.specs.Page.{at};
-ghost use Rattle.op_slots.specs.Places.{HasMemoryAt, HasAt, TakesFrom, PutsOn, DropsLast};
+ghost use Rattle.op_slots.specs.Places.{AreSized, HasMemoryAt, HasAt, TakesFrom, PutsOn, DropsLast};
 ghost use Rattle.op_slots.specs.Slab.{LendsValue};
 ghost use Rattle.op_slots.specs.Ref.{slab_lent, slots_lent, key_lent, RestsIfNotLive};
 
@@ -20,7 +20,7 @@ use page::Page;
 use pages::{near_page_in, page_in};
 pub use pages::{NUM_PAGES, PAGE_INITIAL_SIZE, page_of};
 pub use ref_mut::Ref;
-use search::{NoPlace, make_place};
+use search::{NoPlace, has_memory_at, make_place, search as find_place};
 use std::alloc::Global;
 use std::marker::Model;
 use thiserror::Error;
@@ -168,12 +168,35 @@ impl<T: Drop> Slab<T> {
         ensures made { MakesPage self.old self.new }
         ensures removals { self.new.removals ≡ self.old.removals }
     {
-        match make_place(&mut self.pages, &mut self.first) {
+        if !has_memory_at(&self.pages, self.first) {
+            return self.insert_elsewhere(val);
+        }
+        let key = put_on(&mut self.pages, self.first, val);
+        self.live += 1;
+        Ok(key)
+    }
+
+    // The same, on any page.
+    #[cold]
+    #[inline(never)]
+    fn insert_elsewhere(&mut self, val: T) -> Result<usize, InsertError<T>>
+        ensures fresh { IfOk result (λ key. map.get self.old.values key ≡ None) }
+        ensures below { IfOk result (λ key. key < MAX_LIVE) }
+        ensures ok { IfOk result (λ key. self.new.values ≡ map.insert self.old.values key val) }
+
+        ensures full { IsErrOf result (InsertError.Full val) ↔ (map.len self.old.values ≡ MAX_LIVE) }
+        ensures refused { IfErr result (IsRefused self.old val) }
+        ensures err { OnErr result (self.new ≡ self.old) }
+
+        ensures pages { IfOk result (λ key. self.new.pages ≡ max self.old.pages (page_by_rule key + 1)) }
+        ensures made { MakesPage self.old self.new }
+        ensures removals { self.new.removals ≡ self.old.removals }
+    {
+        match find_place(&mut self.pages, &mut self.first) {
             Ok(()) => {
-                let begin = self.pages[self.first].first_key();
-                let place = put_on(&mut self.pages, self.first, val);
+                let key = put_on(&mut self.pages, self.first, val);
                 self.live += 1;
-                Ok(begin + place)
+                Ok(key)
             }
             Err(NoPlace::Full) => Err(InsertError::Full(val)),
             Err(NoPlace::OutOfMemory) => Err(InsertError::OutOfMemory(val)),
@@ -248,12 +271,18 @@ impl<T: Drop> Slab<T> {
     }
 }
 
-// Puts a value on a page that has an empty place with memory, and answers the place.
+// Puts a value on a page that has an empty place with memory, and answers the key of the place.
 fn put_on<T: Drop>(pages: &mut Vec<Page<T>>, page: usize, val: T) -> usize
-    requires { HasMemoryAt pages.old.items page }
-    ensures { PutsOn pages.old.items page result val pages.new.items }
+    requires memory { HasMemoryAt pages.old.items page }
+    requires sized { AreSized 0 pages.old.items }
+    requires few { vec_len pages.old ≤ NUM_PAGES }
+    ensures start { first_by_rule page ≤ result }
+    ensures put { PutsOn pages.old.items page (result - first_by_rule page) val pages.new.items }
 {
-    pages[page].put(val)
+    let on = &mut pages[page];
+    let begin = on.first_key();
+    let place = on.put(val);
+    begin + place
 }
 
 // Takes the value out of a place of a page, and answers None if there is none.
