@@ -20,7 +20,7 @@ use page::Page;
 use pages::{near_page_in, page_in};
 pub use pages::{NUM_PAGES, PAGE_INITIAL_SIZE, page_of};
 pub use ref_mut::Ref;
-use search::{NoPlace, has_memory_at, make_place, search as find_place};
+use search::{NoPlace, has_memory_at, make_place, search};
 use std::alloc::Global;
 use std::marker::Model;
 use thiserror::Error;
@@ -53,8 +53,8 @@ pub enum InsertError<T> {
 #[derive(Debug, Drop)]
 pub struct Slab<T> {
     pages: Vec<Page<T>>,
-    // How many keys are live.
-    live: usize,
+    // How many keys are live, and with them how many values were taken out since the pages were looked at.
+    entered: usize,
     // The page that the last value was put on, or 0 if the pages were looked at since.
     first: usize,
     // How many values were taken out since then.
@@ -64,6 +64,7 @@ pub struct Slab<T> {
 impl<T> Model for Slab<T> {
     ghost use Rattle.op_slots.specs.Slots.{Slots, slots_code};
     ghost use Rattle.op_slots.specs.Places.{AreKept, slots_of};
+    ghost use Rattle.std.specs.Prelude.{◌≤◌, ◌-◌};
 
     ghost Value = { Slots T };
 
@@ -71,7 +72,7 @@ impl<T> Model for Slab<T> {
 
     ghost view = { λ s. slots_of s.pages.items s.removals };
 
-    ghost invariant = { λ s. AreKept s.pages.items s.live s.first s.removals };
+    ghost invariant = { λ s. (s.removals ≤ s.entered) × AreKept s.pages.items (s.entered - s.removals) s.first s.removals };
 }
 
 impl<T: Drop> Slab<T> {
@@ -81,7 +82,7 @@ impl<T: Drop> Slab<T> {
     {
         Slab {
             pages: Vec::new(alloc),
-            live: 0,
+            entered: 0,
             first: 0,
             removals: 0,
         }
@@ -94,7 +95,7 @@ impl<T: Drop> Slab<T> {
         ensures keys { AreKeysBelow self.now }
         ensures pages { AreOnPages self.now }
     {
-        self.live
+        self.entered - self.removals
     }
 
     /// How many pages there are: page 0 and those behind it (not in monoio). A new slab has none.
@@ -168,34 +169,15 @@ impl<T: Drop> Slab<T> {
         ensures made { MakesPage self.old self.new }
         ensures removals { self.new.removals ≡ self.old.removals }
     {
-        if !has_memory_at(&self.pages, self.first) {
-            return self.insert_elsewhere(val);
+        if has_memory_at(&self.pages, self.first) {
+            let key = put_on(&mut self.pages, self.first, val);
+            self.entered += 1;
+            return Ok(key);
         }
-        let key = put_on(&mut self.pages, self.first, val);
-        self.live += 1;
-        Ok(key)
-    }
-
-    // The same, on any page.
-    #[cold]
-    #[inline(never)]
-    fn insert_elsewhere(&mut self, val: T) -> Result<usize, InsertError<T>>
-        ensures fresh { IfOk result (λ key. map.get self.old.values key ≡ None) }
-        ensures below { IfOk result (λ key. key < MAX_LIVE) }
-        ensures ok { IfOk result (λ key. self.new.values ≡ map.insert self.old.values key val) }
-
-        ensures full { IsErrOf result (InsertError.Full val) ↔ (map.len self.old.values ≡ MAX_LIVE) }
-        ensures refused { IfErr result (IsRefused self.old val) }
-        ensures err { OnErr result (self.new ≡ self.old) }
-
-        ensures pages { IfOk result (λ key. self.new.pages ≡ max self.old.pages (page_by_rule key + 1)) }
-        ensures made { MakesPage self.old self.new }
-        ensures removals { self.new.removals ≡ self.old.removals }
-    {
-        match find_place(&mut self.pages, &mut self.first) {
+        match search(&mut self.pages, &mut self.first) {
             Ok(()) => {
-                let key = put_on(&mut self.pages, self.first, val);
-                self.live += 1;
+                let key = put_found(&mut self.pages, self.first, val);
+                self.entered += 1;
                 Ok(key)
             }
             Err(NoPlace::Full) => Err(InsertError::Full(val)),
@@ -257,11 +239,11 @@ impl<T: Drop> Slab<T> {
         match take_from(&mut self.pages, page, key - first) {
             None => None,
             Some(value) => {
-                self.live -= 1;
                 self.removals += 1;
                 if self.removals < COMPACT_INTERVAL {
                     return Some(value);
                 }
+                self.entered -= COMPACT_INTERVAL;
                 self.removals = 0;
                 self.first = 0;
                 give_back(&mut self.pages);
@@ -283,6 +265,19 @@ fn put_on<T: Drop>(pages: &mut Vec<Page<T>>, page: usize, val: T) -> usize
     let begin = on.first_key();
     let place = on.put(val);
     begin + place
+}
+
+// The same, out of line, so that an `insert` that finds a place at once saves no register.
+#[cold]
+#[inline(never)]
+fn put_found<T: Drop>(pages: &mut Vec<Page<T>>, page: usize, val: T) -> usize
+    requires memory { HasMemoryAt pages.old.items page }
+    requires sized { AreSized 0 pages.old.items }
+    requires few { vec_len pages.old ≤ NUM_PAGES }
+    ensures start { first_by_rule page ≤ result }
+    ensures put { PutsOn pages.old.items page (result - first_by_rule page) val pages.new.items }
+{
+    put_on(pages, page, val)
 }
 
 // Takes the value out of a place of a page, and answers None if there is none.

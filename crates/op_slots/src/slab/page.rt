@@ -160,16 +160,17 @@ impl<T: Drop> Page<T> {
         ensures memory { self.new.memory ≡ self.old.memory }
     {
         let place = self.next;
-        self.used += 1;
-        if place == self.entries.len() {
-            self.entries.push_reserved(Entry::Occupied(value));
-            self.next = place + 1;
+        if place < self.entries.len() {
+            match mem::replace(&mut self.entries[place], Entry::Occupied(value)) {
+                Entry::Vacant(next) => self.next = next,
+                Entry::Occupied(_) => unreachable!(),
+            }
+            self.used += 1;
             return place;
         }
-        match mem::replace(&mut self.entries[place], Entry::Occupied(value)) {
-            Entry::Vacant(next) => self.next = next,
-            Entry::Occupied(_) => unreachable!(),
-        }
+        self.entries.push_reserved(Entry::Occupied(value));
+        self.next = place + 1;
+        self.used += 1;
         place
     }
 
