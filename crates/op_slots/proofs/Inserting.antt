@@ -17,13 +17,12 @@ use Rattle.op_slots.proofs.Pages.{next_first, first-mono, first-bound, page_of-a
 use Rattle.op_slots.proofs.Places.{map_of, get-places, map-put, map-more, taken-put, taken-append, taken-le, taken-below, held_everywhere}
 use Rattle.op_slots.proofs.AllPlaces.{sized-at, sized-set, sized-push, at-places, set-places, places-push, same-length, same-all}
 use Rattle.op_slots.proofs.AllPlaces.{same-sized, full-places, room-at, open-below}
-use Rattle.op_slots.proofs.Kept.{length-all, bound-all, large-at, begin-at}
+use Rattle.op_slots.proofs.Kept.{AreShaped, length-all, bound-all, large-at, begin-at}
 
 module _ {T : Type 0} where
   -- nothing was put on the pages that a search left: at most there is one more, with empty places
   pub record Found (old mid : List (Places T)) (live removals i : ℕ) : Type 0 where
-    pub sized : AreSized 0 mid
-    pub few : length mid ≤ NUM_PAGES
+    pub shape : AreShaped mid
     counted : live ≡ taken (all_places mid)
     values : map_of (all_places mid) ≡ map_of (all_places old)
     within : i < length mid
@@ -58,8 +57,7 @@ module _ {T : Type 0} where
             let size = same-length old mid same in
             let all = same-all old mid same in
             record {
-              sized = same-sized 0 old mid same h.sized;
-              few = omega (arith, size, h.few);
+              shape = record { sized = same-sized 0 old mid same h.sized; few = omega (arith, size, h.few) };
               counted = h.counted ∙ ap taken (sym all);
               values = ap map_of all;
               within = within;
@@ -79,8 +77,7 @@ module _ {T : Type 0} where
             let e : 0 + length old ≡ length old = omega arith in
             let new_size : length new.0.places ≡ places_on (0 + length old) = rw (e, new.2) (length-replicate {A = Option T} count None) in
             record {
-              sized = subst (AreSized 0) (sym new.1) (sized-push 0 old new.0 h.sized new_size);
-              few = omega (arith, size, added.2);
+              shape = record { sized = subst (AreSized 0) (sym new.1) (sized-push 0 old new.0 h.sized new_size); few = omega (arith, size, added.2) };
               counted = h.counted ∙ sym (ap taken all ∙ omega (arith, taken-append (all_places old) new.0.places, none));
               values = ap map_of all ∙ map-more (all_places old) new.0.places none;
               within = within;
@@ -107,30 +104,30 @@ module _ {T : Type 0} where
       let f = found old mid live first removals i h finds in
       let e : 0 + i ≡ i = omega arith in
       let k = first_key i + q in
-      let place = at-places 0 i k q mid put.page f.sized put.there put.within (rw e (omega arith)) in
+      let place = at-places 0 i k q mid put.page f.shape.sized put.there put.within (rw e (omega arith)) in
       let empty : at (all_places mid) k ≡ None = place ∙ put.empty in
-      let size = sized-at 0 i mid put.page f.sized put.there in
+      let size = sized-at 0 i mid put.page f.shape.sized put.there in
       let size_is = rw e at size in
-      let ends = first-bound (suc i) (omega (arith, f.within, f.few)) in
+      let ends = first-bound (suc i) (omega (arith, f.within, f.shape.few)) in
       let next = next_first i in
-      let all_size = length-all mid f.sized in
+      let all_size = length-all mid f.shape.sized in
       let last = first-mono (suc i) (length mid) (omega (arith, f.within)) in
       let inside : k < length (all_places mid) = omega (arith, size_is, put.within) in
       let all : all_places new ≡ set (all_places mid) k (Some v) =
-      ap all_places put.changed ∙ set-places 0 i k q mid put.page (Some v) f.sized put.there put.within (rw e (omega arith)) in
+      ap all_places put.changed ∙ set-places 0 i k q mid put.page (Some v) f.shape.sized put.there put.within (rw e (omega arith)) in
       let count = ap length put.changed ∙ length-set mid i _ in
-      let bound = bound-all mid f.sized f.few in
-      let is : page_of k ≡ i = page_of-at k i (omega (arith, f.within, f.few)) (omega arith) (omega (arith, size_is, put.within)) in
+      let bound = bound-all mid f.shape.sized f.shape.few in
+      let is : page_of k ≡ i = page_of-at k i (omega (arith, f.within, f.shape.few)) (omega arith) (omega (arith, size_is, put.within)) in
       record {
         kept = record {
           sized = subst (AreSized 0) (sym put.changed)
-              (sized-set 0 i mid put.page _ f.sized put.there (length-set put.page.places q (Some v)));
-          few = omega (arith, count, f.few);
+              (sized-set 0 i mid put.page _ f.shape.sized put.there (length-set put.page.places q (Some v)));
+          few = omega (arith, count, f.shape.few);
           counted = omega (arith, f.counted, ap taken all, taken-put (all_places mid) k v inside empty);
           search = omega (arith, count, f.within);
           interval = h.interval;
         };
-        few = omega (arith, f.within, f.few);
+        few = omega (arith, f.within, f.shape.few);
         below = omega arith;
         space = omega (arith, f.counted, taken-below (all_places mid) k inside empty);
         fresh = ap (λ m. get m k) (sym f.values) ∙ get-places (all_places mid) k ∙ empty;
@@ -151,7 +148,7 @@ module _ {T : Type 0} where
   reserved old mid live first removals i h finds =
       let f = found old mid live first removals i h finds in
       record {
-        kept = record { sized = f.sized; few = f.few; counted = f.counted; search = omega (arith, f.within); interval = h.interval };
+        kept = record { sized = f.shape.sized; few = f.shape.few; counted = f.counted; search = omega (arith, f.within); interval = h.interval };
         values = f.values;
         room = room-at mid i finds.0;
         made = f.made;
@@ -184,12 +181,12 @@ module _ {T : Type 0} where
       omega (arith, h.counted, taken-le (all_places pages), length-all pages h.sized, less)
 
   -- a page that has an empty place with memory, as it is read at its number
-  pub record Open (pages : List (Places T)) (i : ℕ) (page : Places T) : Type 0 where
-    pub there : slice_get pages i ≡ Some page
-    pub room : 0 < spare page
-    pub large : PAGE_INITIAL_SIZE ≤ length page.places
-    pub begins : length page.places - PAGE_INITIAL_SIZE ≡ first_key i
-    pub ends : first_key i + length page.places ≤ MAX_LIVE
+  pub record Open (pages : List (Places T)) (i : ℕ) (on : Places T) : Type 0 where
+    pub there : slice_get pages i ≡ Some on
+    pub room : 0 < spare on
+    pub large : PAGE_INITIAL_SIZE ≤ length on.places
+    pub begins : length on.places - PAGE_INITIAL_SIZE ≡ first_key i
+    pub ends : first_key i + length on.places ≤ MAX_LIVE
 
   -- what is read at the number of a page with an empty place and memory is such a page
   pub opened : (pages : List (Places T)) (i : ℕ) (page : Places T) → AreSized 0 pages → length pages ≤ NUM_PAGES → HasMemoryAt pages i

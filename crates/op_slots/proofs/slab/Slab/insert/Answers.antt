@@ -63,10 +63,10 @@ overflow_add-self-in-Ok g c =
     omega (arith, put.space)
 
 pub put_found-key-requires-clause-sized : goal.put_found-key-requires-clause-sized
-put_found-key-requires-clause-sized g c = (found _ _ _ _ _ _ c.self.invariant.1 c.in-Ok.ensures.ok).sized
+put_found-key-requires-clause-sized g c = (found _ _ _ _ _ _ c.self.invariant.1 c.in-Ok.ensures.ok).shape.sized
 
 pub put_found-key-requires-clause-few : goal.put_found-key-requires-clause-few
-put_found-key-requires-clause-few g c = omega (arith, (found _ _ _ _ _ _ c.self.invariant.1 c.in-Ok.ensures.ok).few)
+put_found-key-requires-clause-few g c = omega (arith, (found _ _ _ _ _ _ c.self.invariant.1 c.in-Ok.ensures.ok).shape.few)
 
 pub invariant_of-self-in-Ok : goal.invariant_of-self-in-Ok
 invariant_of-self-in-Ok g c =

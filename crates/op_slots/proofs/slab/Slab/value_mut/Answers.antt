@@ -78,6 +78,6 @@ returns g c =
       record {
         writes_back = tt;
         value = sym (sym c.value_mut.ensures.value ∙ here ∙ ap (λ s. get s.values c.args.key) c.self.view_is);
-        below = place.below;
+        below = within.0;
       },
     )
