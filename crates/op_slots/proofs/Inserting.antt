@@ -233,10 +233,3 @@ module _ {T : Type 0} where
   inserted_at old mid new live first removals i key v h finds start put =
       let which : first_key i + (key - first_key i) ≡ key = omega arith in
       subst (λ k. Inserted old new live removals i k v) which (inserted old mid new live first removals i (key - first_key i) v h finds put)
-
-  -- the same, of a page that had an empty place with memory before
-  pub inserted_here : (old new : List (Places T)) (live first removals key : ℕ) (v : T) → AreKept old live first removals
-      → HasMemoryAt old first → first_key first ≤ key → PutsOn old first (key - first_key first) v new
-      → Inserted old new live removals first key v
-  inserted_here old new live first removals key v h has start put =
-      inserted_at old old new live first removals first key v h (has, inl refl) start put

@@ -20,7 +20,7 @@ use page::Page;
 use pages::{near_page_in, page_in};
 pub use pages::{NUM_PAGES, PAGE_INITIAL_SIZE, page_of};
 pub use ref_mut::Ref;
-use search::{NoPlace, has_memory_at, make_place, search};
+use search::{NoPlace, make_place};
 use std::alloc::Global;
 use std::marker::Model;
 use thiserror::Error;
@@ -169,14 +169,9 @@ impl<T: Drop> Slab<T> {
         ensures made { MakesPage self.old self.new }
         ensures removals { self.new.removals ≡ self.old.removals }
     {
-        if has_memory_at(&self.pages, self.first) {
-            let key = put_on(&mut self.pages, self.first, val);
-            self.entered += 1;
-            return Ok(key);
-        }
-        match search(&mut self.pages, &mut self.first) {
+        match make_place(&mut self.pages, &mut self.first) {
             Ok(()) => {
-                let key = put_found(&mut self.pages, self.first, val);
+                let key = put_on(&mut self.pages, self.first, val);
                 self.entered += 1;
                 Ok(key)
             }
@@ -265,19 +260,6 @@ fn put_on<T: Drop>(pages: &mut Vec<Page<T>>, page: usize, val: T) -> usize
     let begin = on.first_key();
     let place = on.put(val);
     begin + place
-}
-
-// The same, out of line, so that an `insert` that finds a place at once saves no register.
-#[cold]
-#[inline(never)]
-fn put_found<T: Drop>(pages: &mut Vec<Page<T>>, page: usize, val: T) -> usize
-    requires memory { HasMemoryAt pages.old.items page }
-    requires sized { AreSized 0 pages.old.items }
-    requires few { vec_len pages.old ≤ NUM_PAGES }
-    ensures start { first_by_rule page ≤ result }
-    ensures put { PutsOn pages.old.items page (result - first_by_rule page) val pages.new.items }
-{
-    put_on(pages, page, val)
 }
 
 // Takes the value out of a place of a page, and answers None if there is none.

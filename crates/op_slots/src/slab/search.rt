@@ -29,8 +29,8 @@ fn open_page<T: Drop>(pages: &[Page<T>], from: usize) -> Option<usize>
     None
 }
 
-/// Whether this page is there and has an empty place with memory.
-pub fn has_memory_at<T: Drop>(pages: &Vec<Page<T>>, page: usize) -> bool
+// Whether this page is there and has an empty place with memory.
+fn has_memory_at<T: Drop>(pages: &Vec<Page<T>>, page: usize) -> bool
     ensures { IsTrue result ↔ HasMemoryAt pages.now.items page }
 {
     page < pages.len() && pages[page].has_memory()
@@ -131,7 +131,7 @@ fn widen<T: Drop>(pages: &mut Vec<Page<T>>, first: usize) -> Result<usize, NoPla
 // The same; if memory runs out, any page that has an empty place with memory. `first` names the page then.
 #[cold]
 #[inline(never)]
-pub fn search<T: Drop>(pages: &mut Vec<Page<T>>, first: &mut usize) -> Result<(), NoPlace>
+fn search<T: Drop>(pages: &mut Vec<Page<T>>, first: &mut usize) -> Result<(), NoPlace>
     requires few { vec_len pages.old ≤ NUM_PAGES }
     requires search { first.old ≤ vec_len pages.old - 1 }
     ensures ok { OnOk result (FindsPlace pages.old.items pages.new.items first.new) }

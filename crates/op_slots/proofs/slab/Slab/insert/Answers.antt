@@ -1,105 +1,52 @@
 use Rattle.std.proofs.Common.{◌≡◌, ◌+◌, ◌-◌, refl, sym, ◌∙◌, ap, arith}
 use Rattle.std.specs.FinMap.{len}
 use Rattle.op_slots.proofs.Kept.{kept-len}
-use Rattle.op_slots.proofs.Inserting.{found, inserted_here, inserted_at, full-live, not-full-live}
+use Rattle.op_slots.proofs.Inserting.{found, inserted_at, full-live, not-full-live}
 use Rattle.op_slots.proofs.slab.Slab.insert.Goals as goal
-
-pub put_on-key-requires-clause-sized : goal.put_on-key-requires-clause-sized
-put_on-key-requires-clause-sized g c = c.self.invariant.1.sized
 
 pub overflow_add-self : goal.overflow_add-self
 overflow_add-self g c =
-    let put = inserted_here _ _ _ _ _ _ c.args.val c.self.invariant.1 (c.has_memory_at.ensures.0 c.if-has_memory_at.true)
-    c.put_on-key.ensures.start c.put_on-key.ensures.put in
+    let put = inserted_at _ _ _ _ _ _ _ _ c.args.val c.self.invariant.1 c.in-Ok.ensures.ok c.put_on-key.ensures.start c.put_on-key.ensures.put in
     omega (arith, put.space)
+
+pub put_on-key-requires-clause-sized : goal.put_on-key-requires-clause-sized
+put_on-key-requires-clause-sized g c = (found _ _ _ _ _ _ c.self.invariant.1 c.in-Ok.ensures.ok).shape.sized
+
+pub put_on-key-requires-clause-few : goal.put_on-key-requires-clause-few
+put_on-key-requires-clause-few g c = omega (arith, (found _ _ _ _ _ _ c.self.invariant.1 c.in-Ok.ensures.ok).shape.few)
 
 pub invariant_of-self : goal.invariant_of-self
 invariant_of-self g c =
     let less = c.self.invariant.0 in
     let count : c.self.inside.entered + 1 - c.self.inside.removals ≡ c.self.inside.entered - c.self.inside.removals + 1 = omega arith in (
       omega arith,
-      rw count (inserted_here _ _ _ _ _ _ c.args.val c.self.invariant.1 (c.has_memory_at.ensures.0 c.if-has_memory_at.true)
-          c.put_on-key.ensures.start c.put_on-key.ensures.put).kept,
-    )
-
-pub returns-then-has_memory_at-clause-fresh : goal.returns-then-has_memory_at-clause-fresh
-returns-then-has_memory_at-clause-fresh g c =
-    rw (← c.self.view_is) (inserted_here _ _ _ _ _ _ c.args.val c.self.invariant.1 (c.has_memory_at.ensures.0 c.if-has_memory_at.true)
-    c.put_on-key.ensures.start c.put_on-key.ensures.put).fresh
-
-pub returns-then-has_memory_at-clause-below : goal.returns-then-has_memory_at-clause-below
-returns-then-has_memory_at-clause-below g c =
-    (inserted_here _ _ _ _ _ _ c.args.val c.self.invariant.1 (c.has_memory_at.ensures.0 c.if-has_memory_at.true)
-    c.put_on-key.ensures.start c.put_on-key.ensures.put).below
-
-pub returns-then-has_memory_at-clause-ok : goal.returns-then-has_memory_at-clause-ok
-returns-then-has_memory_at-clause-ok g c =
-    rw (← c.self.view_is) (inserted_here _ _ _ _ _ _ c.args.val c.self.invariant.1 (c.has_memory_at.ensures.0 c.if-has_memory_at.true)
-    c.put_on-key.ensures.start c.put_on-key.ensures.put).values
-
-pub returns-then-has_memory_at-clause-pages : goal.returns-then-has_memory_at-clause-pages
-returns-then-has_memory_at-clause-pages g c =
-    rw (← c.self.view_is) (inserted_here _ _ _ _ _ _ c.args.val c.self.invariant.1 (c.has_memory_at.ensures.0 c.if-has_memory_at.true)
-    c.put_on-key.ensures.start c.put_on-key.ensures.put).pages
-
-pub returns-then-has_memory_at-clause-made : goal.returns-then-has_memory_at-clause-made
-returns-then-has_memory_at-clause-made g c =
-    rw (← c.self.view_is) (inserted_here _ _ _ _ _ _ c.args.val c.self.invariant.1 (c.has_memory_at.ensures.0 c.if-has_memory_at.true)
-    c.put_on-key.ensures.start c.put_on-key.ensures.put).made
-
-pub returns-then-has_memory_at-clause-full : goal.returns-then-has_memory_at-clause-full
-returns-then-has_memory_at-clause-full g c = (
-  λ e. cc,
-  λ full.
-      let put = inserted_here _ _ _ _ _ _ c.args.val c.self.invariant.1 (c.has_memory_at.ensures.0 c.if-has_memory_at.true)
-      c.put_on-key.ensures.start c.put_on-key.ensures.put in
-      let live = kept-len _ _ _ _ c.self.invariant.1 ∙ ap (λ s. len s.values) c.self.view_is in
-      absurd (omega (arith, put.space, live, full)),
-)
-
-pub overflow_add-self-in-Ok : goal.overflow_add-self-in-Ok
-overflow_add-self-in-Ok g c =
-    let put = inserted_at _ _ _ _ _ _ _ _ c.args.val c.self.invariant.1 c.in-Ok.ensures.ok c.put_found-key.ensures.start c.put_found-key.ensures.put in
-    omega (arith, put.space)
-
-pub put_found-key-requires-clause-sized : goal.put_found-key-requires-clause-sized
-put_found-key-requires-clause-sized g c = (found _ _ _ _ _ _ c.self.invariant.1 c.in-Ok.ensures.ok).shape.sized
-
-pub put_found-key-requires-clause-few : goal.put_found-key-requires-clause-few
-put_found-key-requires-clause-few g c = omega (arith, (found _ _ _ _ _ _ c.self.invariant.1 c.in-Ok.ensures.ok).shape.few)
-
-pub invariant_of-self-in-Ok : goal.invariant_of-self-in-Ok
-invariant_of-self-in-Ok g c =
-    let less = c.self.invariant.0 in
-    let count : c.self.inside.entered + 1 - c.self.inside.removals ≡ c.self.inside.entered - c.self.inside.removals + 1 = omega arith in (
-      omega arith,
-      rw count (inserted_at _ _ _ _ _ _ _ _ c.args.val c.self.invariant.1 c.in-Ok.ensures.ok c.put_found-key.ensures.start
-          c.put_found-key.ensures.put).kept,
+      rw count (inserted_at _ _ _ _ _ _ _ _ c.args.val c.self.invariant.1 c.in-Ok.ensures.ok c.put_on-key.ensures.start
+          c.put_on-key.ensures.put).kept,
     )
 
 pub returns-in-Ok-clause-fresh : goal.returns-in-Ok-clause-fresh
 returns-in-Ok-clause-fresh g c =
     rw (← c.self.view_is)
-    (inserted_at _ _ _ _ _ _ _ _ c.args.val c.self.invariant.1 c.in-Ok.ensures.ok c.put_found-key.ensures.start
-    c.put_found-key.ensures.put).fresh
+    (inserted_at _ _ _ _ _ _ _ _ c.args.val c.self.invariant.1 c.in-Ok.ensures.ok c.put_on-key.ensures.start
+    c.put_on-key.ensures.put).fresh
 
 pub returns-in-Ok-clause-below : goal.returns-in-Ok-clause-below
 returns-in-Ok-clause-below g c =
-    (inserted_at _ _ _ _ _ _ _ _ c.args.val c.self.invariant.1 c.in-Ok.ensures.ok c.put_found-key.ensures.start
-    c.put_found-key.ensures.put).below
+    (inserted_at _ _ _ _ _ _ _ _ c.args.val c.self.invariant.1 c.in-Ok.ensures.ok c.put_on-key.ensures.start
+    c.put_on-key.ensures.put).below
 
 pub returns-in-Ok-clause-ok : goal.returns-in-Ok-clause-ok
 returns-in-Ok-clause-ok g c =
     rw (← c.self.view_is)
-    (inserted_at _ _ _ _ _ _ _ _ c.args.val c.self.invariant.1 c.in-Ok.ensures.ok c.put_found-key.ensures.start
-    c.put_found-key.ensures.put).values
+    (inserted_at _ _ _ _ _ _ _ _ c.args.val c.self.invariant.1 c.in-Ok.ensures.ok c.put_on-key.ensures.start
+    c.put_on-key.ensures.put).values
 
 pub returns-in-Ok-clause-full : goal.returns-in-Ok-clause-full
 returns-in-Ok-clause-full g c = (
   λ e. cc,
   λ full.
-      let put = inserted_at _ _ _ _ _ _ _ _ c.args.val c.self.invariant.1 c.in-Ok.ensures.ok c.put_found-key.ensures.start
-      c.put_found-key.ensures.put in
+      let put = inserted_at _ _ _ _ _ _ _ _ c.args.val c.self.invariant.1 c.in-Ok.ensures.ok c.put_on-key.ensures.start
+      c.put_on-key.ensures.put in
       let live = kept-len _ _ _ _ c.self.invariant.1 ∙ ap (λ s. len s.values) c.self.view_is in
       absurd (omega (arith, put.space, live, full)),
 )
@@ -107,14 +54,14 @@ returns-in-Ok-clause-full g c = (
 pub returns-in-Ok-clause-pages : goal.returns-in-Ok-clause-pages
 returns-in-Ok-clause-pages g c =
     rw (← c.self.view_is)
-    (inserted_at _ _ _ _ _ _ _ _ c.args.val c.self.invariant.1 c.in-Ok.ensures.ok c.put_found-key.ensures.start
-    c.put_found-key.ensures.put).pages
+    (inserted_at _ _ _ _ _ _ _ _ c.args.val c.self.invariant.1 c.in-Ok.ensures.ok c.put_on-key.ensures.start
+    c.put_on-key.ensures.put).pages
 
 pub returns-in-Ok-clause-made : goal.returns-in-Ok-clause-made
 returns-in-Ok-clause-made g c =
     rw (← c.self.view_is)
-    (inserted_at _ _ _ _ _ _ _ _ c.args.val c.self.invariant.1 c.in-Ok.ensures.ok c.put_found-key.ensures.start
-    c.put_found-key.ensures.put).made
+    (inserted_at _ _ _ _ _ _ _ _ c.args.val c.self.invariant.1 c.in-Ok.ensures.ok c.put_on-key.ensures.start
+    c.put_on-key.ensures.put).made
 
 pub returns-in-Err-Full-clause-full : goal.returns-in-Err-Full-clause-full
 returns-in-Err-Full-clause-full g c =
