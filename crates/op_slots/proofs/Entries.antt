@@ -167,6 +167,14 @@ module _ {T : Type 0} where
         | inr found ↦ omega (arith, past, slice_get_within es next _ found.1)
       ]
 
+  -- it is the first place behind them then
+  pub next_at_end : (es : List (Entry T)) (size used next : ℕ) → IsSound es size used next → length es ≤ next → next ≡ length es
+  next_at_end es size used next sound past =
+      elim (next_cases es size used next sound) [
+        | inl full ↦ full.0
+        | inr found ↦ absurd (omega (arith, past, slice_get_within es next _ found.1))
+      ]
+
   -- and else it is an empty entry
   pub empty_before_end : (es : List (Entry T)) (size used next : ℕ) → IsSound es size used next → next ≢ length es
       → (after : ℕ) × (slice_get es next ≡ Some (Vacant after))

@@ -1,29 +1,28 @@
 -- What a slab keeps true, and what its slots are, as a place is found and a value put in.
 use Rattle.std.proofs.Common.{◌≡◌, ◌⊎◌, ℕ, suc, ◌+◌, ◌-◌, ◌≤◌, ◌<◌, max, List, [], ◌++◌, length, Option, None, Some, is_some, cond, set}
-use Rattle.std.proofs.Common.{get_or, slice_get, inl, inr, sym, ◌∙◌, ap, subst, arith, length-set, false, true≢false}
+use Rattle.std.proofs.Common.{get_or, slice_get, inl, refl, inr, sym, ◌∙◌, ap, subst, arith, length-set, false, true≢false}
 use Rattle.std.specs.Prelude.{IsSome, OnOk, Result, Ok, Err}
 use Rattle.std.specs.Result.{is_err}
 use Rattle.std.specs.FinMap.{get, insert}
 use Rattle.std.proofs.lemmas.List.{length_push, length-replicate}
 use Rattle.std.proofs.lemmas.List.Folds.{sum_by-replicate}
-use Rattle.std.proofs.lemmas.Option.{slice_get_within, slice_get-get_or}
+use Rattle.std.proofs.lemmas.Option.{slice_get_within, slice_get-get_or, slice_get_read}
 use Rattle.op_slots.specs.declared.slab.TheConstants.{MAX_LIVE}
 use Rattle.op_slots.specs.declared.slab.pages.TheConstants.{NUM_PAGES, PAGE_INITIAL_SIZE}
-use Rattle.op_slots.specs.Page.{Places, at, taken}
+use Rattle.op_slots.specs.Page.{Places, at, taken, spare}
 use Rattle.op_slots.specs.Pages.{page_of, places_on, first_key}
 use Rattle.op_slots.specs.Slots.{IsPageFull, MakesPage}
-use Rattle.op_slots.specs.Places.{all_places, room_in, AreSized, AreKept, slots_of, IsOpenAt, AreFullFrom, IsLastFull, FindsPlace, PutsOn}
+use Rattle.op_slots.specs.Places.{all_places, room_in, AreSized, AreKept, slots_of, HasMemoryAt, IsOpenAt, AreFullFrom, IsLastFull, FindsPlace, PutsOn}
 use Rattle.op_slots.proofs.Pages.{next_first, first-mono, first-bound, page_of-at}
 use Rattle.op_slots.proofs.Places.{map_of, get-places, map-put, map-more, taken-put, taken-append, taken-le, taken-below, held_everywhere}
 use Rattle.op_slots.proofs.AllPlaces.{sized-at, sized-set, sized-push, at-places, set-places, places-push, same-length, same-all}
 use Rattle.op_slots.proofs.AllPlaces.{same-sized, full-places, room-at, open-below}
-use Rattle.op_slots.proofs.Kept.{length-all, bound-all, large-at, begin-at}
+use Rattle.op_slots.proofs.Kept.{AreShaped, length-all, bound-all, large-at, begin-at}
 
 module _ {T : Type 0} where
   -- nothing was put on the pages that a search left: at most there is one more, with empty places
-  record Found (old mid : List (Places T)) (live removals i : ℕ) : Type 0 where
-    sized : AreSized 0 mid
-    few : length mid ≤ NUM_PAGES
+  pub record Found (old mid : List (Places T)) (live removals i : ℕ) : Type 0 where
+    pub shape : AreShaped mid
     counted : live ≡ taken (all_places mid)
     values : map_of (all_places mid) ≡ map_of (all_places old)
     within : i < length mid
@@ -49,7 +48,7 @@ module _ {T : Type 0} where
       (held_everywhere last.places (key - first_key i) (full last there) (omega (arith, size_is)))
 
   -- what a search leaves
-  found : (old mid : List (Places T)) (live first removals i : ℕ) → AreKept old live first removals → FindsPlace old mid i
+  pub found : (old mid : List (Places T)) (live first removals i : ℕ) → AreKept old live first removals → FindsPlace old mid i
       → Found old mid live removals i
   found old mid live first removals i h finds =
       let within = slice_get_within mid i _ finds.0.1 in
@@ -58,8 +57,7 @@ module _ {T : Type 0} where
             let size = same-length old mid same in
             let all = same-all old mid same in
             record {
-              sized = same-sized 0 old mid same h.sized;
-              few = omega (arith, size, h.few);
+              shape = record { sized = same-sized 0 old mid same h.sized; few = omega (arith, size, h.few) };
               counted = h.counted ∙ ap taken (sym all);
               values = ap map_of all;
               within = within;
@@ -79,8 +77,7 @@ module _ {T : Type 0} where
             let e : 0 + length old ≡ length old = omega arith in
             let new_size : length new.0.places ≡ places_on (0 + length old) = rw (e, new.2) (length-replicate {A = Option T} count None) in
             record {
-              sized = subst (AreSized 0) (sym new.1) (sized-push 0 old new.0 h.sized new_size);
-              few = omega (arith, size, added.2);
+              shape = record { sized = subst (AreSized 0) (sym new.1) (sized-push 0 old new.0 h.sized new_size); few = omega (arith, size, added.2) };
               counted = h.counted ∙ sym (ap taken all ∙ omega (arith, taken-append (all_places old) new.0.places, none));
               values = ap map_of all ∙ map-more (all_places old) new.0.places none;
               within = within;
@@ -107,30 +104,30 @@ module _ {T : Type 0} where
       let f = found old mid live first removals i h finds in
       let e : 0 + i ≡ i = omega arith in
       let k = first_key i + q in
-      let place = at-places 0 i k q mid put.page f.sized put.there put.within (rw e (omega arith)) in
+      let place = at-places 0 i k q mid put.page f.shape.sized put.there put.within (rw e (omega arith)) in
       let empty : at (all_places mid) k ≡ None = place ∙ put.empty in
-      let size = sized-at 0 i mid put.page f.sized put.there in
+      let size = sized-at 0 i mid put.page f.shape.sized put.there in
       let size_is = rw e at size in
-      let ends = first-bound (suc i) (omega (arith, f.within, f.few)) in
+      let ends = first-bound (suc i) (omega (arith, f.within, f.shape.few)) in
       let next = next_first i in
-      let all_size = length-all mid f.sized in
+      let all_size = length-all mid f.shape.sized in
       let last = first-mono (suc i) (length mid) (omega (arith, f.within)) in
       let inside : k < length (all_places mid) = omega (arith, size_is, put.within) in
       let all : all_places new ≡ set (all_places mid) k (Some v) =
-      ap all_places put.changed ∙ set-places 0 i k q mid put.page (Some v) f.sized put.there put.within (rw e (omega arith)) in
+      ap all_places put.changed ∙ set-places 0 i k q mid put.page (Some v) f.shape.sized put.there put.within (rw e (omega arith)) in
       let count = ap length put.changed ∙ length-set mid i _ in
-      let bound = bound-all mid f.sized f.few in
-      let is : page_of k ≡ i = page_of-at k i (omega (arith, f.within, f.few)) (omega arith) (omega (arith, size_is, put.within)) in
+      let bound = bound-all mid f.shape.sized f.shape.few in
+      let is : page_of k ≡ i = page_of-at k i (omega (arith, f.within, f.shape.few)) (omega arith) (omega (arith, size_is, put.within)) in
       record {
         kept = record {
           sized = subst (AreSized 0) (sym put.changed)
-              (sized-set 0 i mid put.page _ f.sized put.there (length-set put.page.places q (Some v)));
-          few = omega (arith, count, f.few);
+              (sized-set 0 i mid put.page _ f.shape.sized put.there (length-set put.page.places q (Some v)));
+          few = omega (arith, count, f.shape.few);
           counted = omega (arith, f.counted, ap taken all, taken-put (all_places mid) k v inside empty);
           search = omega (arith, count, f.within);
           interval = h.interval;
         };
-        few = omega (arith, f.within, f.few);
+        few = omega (arith, f.within, f.shape.few);
         below = omega arith;
         space = omega (arith, f.counted, taken-below (all_places mid) k inside empty);
         fresh = ap (λ m. get m k) (sym f.values) ∙ get-places (all_places mid) k ∙ empty;
@@ -151,7 +148,7 @@ module _ {T : Type 0} where
   reserved old mid live first removals i h finds =
       let f = found old mid live first removals i h finds in
       record {
-        kept = record { sized = f.sized; few = f.few; counted = f.counted; search = omega (arith, f.within); interval = h.interval };
+        kept = record { sized = f.shape.sized; few = f.shape.few; counted = f.counted; search = omega (arith, f.within); interval = h.interval };
         values = f.values;
         room = room-at mid i finds.0;
         made = f.made;
@@ -183,18 +180,56 @@ module _ {T : Type 0} where
       let less = first-mono (length pages) (NUM_PAGES - 1) (omega arith) in
       omega (arith, h.counted, taken-le (all_places pages), length-all pages h.sized, less)
 
-  -- the page that a search found has as many places as page 0 at least
-  pub found-large : (old mid : List (Places T)) (live first removals i : ℕ) (page : Places T) → page ≡ get_or mid i page
-      → AreKept old live first removals → FindsPlace old mid i → PAGE_INITIAL_SIZE ≤ length page.places
-  found-large old mid live first removals i page read h finds =
-      let f = found old mid live first removals i h finds in
-      large-at mid i page f.sized f.within read
+  -- a page that has an empty place with memory, as it is read at its number
+  pub record Open (pages : List (Places T)) (i : ℕ) (on : Places T) : Type 0 where
+    pub there : slice_get pages i ≡ Some on
+    pub room : 0 < spare on
+    pub large : PAGE_INITIAL_SIZE ≤ length on.places
+    pub begins : length on.places - PAGE_INITIAL_SIZE ≡ first_key i
+    pub ends : first_key i + length on.places ≤ MAX_LIVE
 
-  -- what is so once a value was put on, where the first key of the page is known by how many places the page has
-  pub inserted_at : (old mid new : List (Places T)) (live first removals i begin q : ℕ) (v : T) (page : Places T)
-      → page ≡ get_or mid i page → begin ≡ length page.places - PAGE_INITIAL_SIZE → AreKept old live first removals → FindsPlace old mid i
-      → PutsOn mid i q v new → Inserted old new live removals i (begin + q) v
-  inserted_at old mid new live first removals i begin q v page read is h finds put =
-      let f = found old mid live first removals i h finds in
-      subst (λ b. Inserted old new live removals i (b + q) v) (sym (begin-at mid i begin page f.sized f.within read is))
-      (inserted old mid new live first removals i q v h finds put)
+  -- what is read at the number of a page with an empty place and memory is such a page
+  pub opened : (pages : List (Places T)) (i : ℕ) (page : Places T) → AreSized 0 pages → length pages ≤ NUM_PAGES → HasMemoryAt pages i
+      → page ≡ get_or pages i page → Open pages i page
+  opened pages i page sized few has read =
+      let within = slice_get_within pages i has.0 has.1 in
+      let there : slice_get pages i ≡ Some page = slice_get_read pages (length pages) i page refl within read in
+      let other = has.1 in
+      let same : has.0 ≡ page = cc in
+      let e : 0 + i ≡ i = omega arith in
+      let size = sized-at 0 i pages page sized there in
+      let size_is = rw e at size in
+      record {
+        there = there;
+        room = subst (λ p. 0 < spare p) same has.2;
+        large = large-at pages i page sized within read;
+        begins = begin-at pages i (length page.places - PAGE_INITIAL_SIZE) page sized within read refl;
+        ends = omega (arith, size_is, next_first i, first-bound (suc i) (omega (arith, within, few)));
+      }
+
+  -- a page is its places and its memory
+  page_is : (page : Places T) (places : List (Option T)) (memory : ℕ) → page.places ≡ places → page.memory ≡ memory
+      → page ≡ record { places = places; memory = memory }
+  page_is page places memory same more = rw (← same, ← more) refl
+
+  -- what is put into an empty place of such a page is put at the place's key
+  pub put_at_key : (pages : List (Places T)) (i begin q : ℕ) (v : T) (page new : Places T) → Open pages i page
+      → begin ≡ length page.places - PAGE_INITIAL_SIZE → q < length page.places → at page.places q ≡ None
+      → new.places ≡ set page.places q (Some v) → new.memory ≡ page.memory
+      → PutsOn pages i (begin + q - first_key i) v (set pages i new)
+  put_at_key pages i begin q v page new o is within empty places memory =
+      let which : begin + q - first_key i ≡ q = omega (arith, is, o.begins) in
+      rw which (record {
+        page = page;
+        there = o.there;
+        within = within;
+        empty = empty;
+        changed = ap (set pages i) (page_is new (set page.places q (Some v)) page.memory places memory);
+      })
+
+  -- what is so once a value was put on a page, by its key
+  pub inserted_at : (old mid new : List (Places T)) (live first removals i key : ℕ) (v : T) → AreKept old live first removals
+      → FindsPlace old mid i → first_key i ≤ key → PutsOn mid i (key - first_key i) v new → Inserted old new live removals i key v
+  inserted_at old mid new live first removals i key v h finds start put =
+      let which : first_key i + (key - first_key i) ≡ key = omega arith in
+      subst (λ k. Inserted old new live removals i k v) which (inserted old mid new live first removals i (key - first_key i) v h finds put)

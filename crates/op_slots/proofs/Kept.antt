@@ -29,6 +29,11 @@ module _ {T : Type 0} where
   pub bound-all : (pages : List (Places T)) → AreSized 0 pages → length pages ≤ NUM_PAGES → length (all_places pages) ≤ MAX_LIVE
   bound-all pages sized few = omega (arith, length-all pages sized, first-bound (length pages) few)
 
+  -- each page has its size, and there are not too many
+  pub record AreShaped (pages : List (Places T)) : Type 0 where
+    pub sized : AreSized 0 pages
+    pub few : length pages ≤ NUM_PAGES
+
   -- the live keys are counted
   pub kept-len : (pages : List (Places T)) (live first removals : ℕ) → AreKept pages live first removals
       → live ≡ len (slots_of pages removals).values
@@ -171,7 +176,6 @@ module _ {T : Type 0} where
     pub there : slice_get pages i ≡ Some page
     pub held : IsSome (at page.places (key - begin))
     pub key_is : first_key i + (key - begin) ≡ key
-    pub below : key < MAX_LIVE
 
   -- a live key has its place
   pub live_place : (pages : List (Places T)) (live first removals key i begin : ℕ) (page : Places T) → AreKept pages live first removals
@@ -185,5 +189,4 @@ module _ {T : Type 0} where
         there = slice_get_read pages (length pages) i page refl inside read;
         held = subst IsSome (sym (peek-at pages live first removals key i begin page h fits is begins inside read)) is_live;
         key_is = omega (arith, start, begins);
-        below = within.0;
       }

@@ -6,8 +6,7 @@ use Rattle.std.specs.FinMap.{get, remove}
 use Rattle.std.proofs.lemmas.List.{length_push}
 use Rattle.std.proofs.lemmas.Bool.{cases_lt}
 use Rattle.std.proofs.lemmas.Option.{slice_get_within, slice_get-get_or}
-use Rattle.op_slots.specs.declared.slab.TheConstants.{COMPACT_INTERVAL, MAX_LIVE}
-use Rattle.op_slots.specs.declared.slab.pages.TheConstants.{NUM_PAGES}
+use Rattle.op_slots.specs.declared.slab.TheConstants.{COMPACT_INTERVAL}
 use Rattle.op_slots.specs.Page.{Places, at, taken}
 use Rattle.op_slots.specs.Pages.{page_of, first_key}
 use Rattle.op_slots.specs.Slots.{IsPageEmpty, GivesBackPage}
@@ -15,19 +14,17 @@ use Rattle.op_slots.specs.Places.{all_places, AreSized, AreKept, slots_of, Takes
 use Rattle.op_slots.proofs.Pages.{page_of-first, page_of-at}
 use Rattle.op_slots.proofs.Places.{map_of, get-places, map-empty, map-more, at-live, taken-take, taken-append, held_somewhere}
 use Rattle.op_slots.proofs.AllPlaces.{sized-at, sized-set, sized-front, at-places, set-places, places-push}
-use Rattle.op_slots.proofs.Kept.{bound-all, live-within}
+use Rattle.op_slots.proofs.Kept.{AreShaped, live-within}
 
 module _ {T : Type 0} where
   -- what is so once a value was taken out
-  pub record Removed (old mid : List (Places T)) (live removals key : ℕ) (v : T) : Type 0 where
-    pub sized : AreSized 0 mid
-    pub few : length mid ≤ NUM_PAGES
-    pub counted : live - 1 ≡ taken (all_places mid)
+  pub record Removed (old rest : List (Places T)) (live removals key : ℕ) (v : T) : Type 0 where
+    pub shape : AreShaped rest
+    pub counted : live - 1 ≡ taken (all_places rest)
     pub some : 1 ≤ live
     pub value : get (slots_of old removals).values key ≡ Some v
-    pub values : map_of (all_places mid) ≡ remove (map_of (all_places old)) key
-    pub below : key < MAX_LIVE
-    pub count : length mid ≡ length old
+    pub values : map_of (all_places rest) ≡ remove (map_of (all_places old)) key
+    pub count : length rest ≡ length old
 
   pub removed : (old mid : List (Places T)) (live first removals key i begin : ℕ) (v : T) → AreKept old live first removals → key < 2 ^ 64
       → i ≡ page_of key → begin ≡ first_key i → TakesFrom old i (key - begin) v mid → Removed old mid live removals key v
@@ -44,14 +41,15 @@ module _ {T : Type 0} where
       let count = ap length take.changed ∙ length-set old i _ in
       let less = taken-take (all_places old) key v inside held in
       record {
-        sized = subst (AreSized 0) (sym take.changed)
-            (sized-set 0 i old take.page _ h.sized take.there (length-set take.page.places q None));
-        few = omega (arith, count, h.few);
+        shape = record {
+          sized = subst (AreSized 0) (sym take.changed)
+              (sized-set 0 i old take.page _ h.sized take.there (length-set take.page.places q None));
+          few = omega (arith, count, h.few);
+        };
         counted = omega (arith, h.counted, ap taken all, less);
         some = omega (arith, h.counted, less);
         value = get-places (all_places old) key ∙ held;
         values = ap map_of all ∙ map-empty (all_places old) key inside;
-        below = omega (arith, inside, bound-all old h.sized h.few);
         count = count;
       }
 
@@ -59,7 +57,7 @@ module _ {T : Type 0} where
   pub removed-kept : (old mid : List (Places T)) (live first removals key : ℕ) (v : T) → AreKept old live first removals
       → Removed old mid live removals key v → removals + 1 < COMPACT_INTERVAL → AreKept mid (live - 1) first (removals + 1)
   removed-kept old mid live first removals key v h r less =
-      record { sized = r.sized; few = r.few; counted = r.counted; search = omega (arith, h.search, r.count); interval = less }
+      record { sized = r.shape.sized; few = r.shape.few; counted = r.counted; search = omega (arith, h.search, r.count); interval = less }
 
   -- what is so once the last page was looked at
   pub record Looked (old new : List (Places T)) (live removals key : ℕ) : Type 0 where
@@ -97,8 +95,8 @@ module _ {T : Type 0} where
       let all : all_places mid ≡ all_places new ++ page.places = ap all_places split ∙ places-push new page in
       let more = dropped.0.0 in
       let kept : AreKept new (live - 1) 0 0 = record {
-        sized = sized-front 0 new page (subst (AreSized 0) split r.sized);
-        few = omega (arith, size, r.few);
+        sized = sized-front 0 new page (subst (AreSized 0) split r.shape.sized);
+        few = omega (arith, size, r.shape.few);
         counted = r.counted ∙ ap taken all ∙ omega (arith, taken-append (all_places new) page.places, none);
         search = omega arith;
         interval = omega arith;
@@ -113,8 +111,8 @@ module _ {T : Type 0} where
       }
   looked old mid new live first removals key v h r last (inr same) =
       let kept : AreKept new (live - 1) 0 0 = rw same.0 (record {
-        sized = r.sized;
-        few = r.few;
+        sized = r.shape.sized;
+        few = r.shape.few;
         counted = r.counted;
         search =
             omega arith;
@@ -131,8 +129,8 @@ module _ {T : Type 0} where
       last_empty : GivesBackPage (slots_of old removals) (slots_of new 0) → IsLastEmpty mid
       last_empty gives =
           let kept : AreKept mid (live - 1) 0 0 = record {
-            sized = r.sized;
-            few = r.few;
+            sized = r.shape.sized;
+            few = r.shape.few;
             counted = r.counted;
             search =
                 omega arith;
@@ -155,4 +153,4 @@ module _ {T : Type 0} where
               → AreKept mid (live - 1) 0 0 → taken page.places ≡ 0
           by_count page there none kept =
               elim (cases_lt 0 (taken page.places))
-              [ inl some ↦ absurd (some-key mid (live - 1) 0 0 (length mid - 1) page kept there some none) | inr zero_is ↦ omega arith ]
+              [ inl some ↦ absurd (some-key mid (live - 1) 0 0 (length mid - 1) page kept there some none) | inr none_is ↦ omega arith ]

@@ -1,5 +1,5 @@
 -- How a page keeps its empty places in a list. Cited by the body of `Page`, and by no clause of a slab.
-use Rattle.std.specs.Prelude.{◌≡◌, ℕ, zero, suc, ◌+◌, ◌≤◌, List, map, length, Option, Some, None, slice_get}
+use Rattle.std.specs.Prelude.{◌≡◌, ℕ, zero, suc, ◌+◌, ◌%◌, ◌^◌, ◌≤◌, List, map, length, Option, Some, None, slice_get}
 use Rattle.op_slots.specs.Page.{taken}
 use Rattle.op_slots.specs.declared.slab.page.Entry.{Entry}
 use Rattle.op_slots.specs.declared.slab.page.Entry.TheVariants.{Vacant, Occupied}
@@ -22,3 +22,9 @@ module _ {T : Type 0} where
     pub total : used + free ≡ length entries
     pub linked : IsFreeList entries free next
     pub fits : length entries ≤ size
+
+  -- the same, where the values that were put in and those that were taken out are counted, each modulo 2 ^ 64
+  pub record IsCounted (entries : List (Entry T)) (size filled emptied next : ℕ) : Type 0 where
+    pub used : ℕ
+    pub sound : IsSound entries size used next
+    pub balance : filled ≡ (emptied + used) % 2 ^ 64

@@ -1,13 +1,13 @@
 //! A finite map that chooses the keys of its values, which lie on pages of doubling size.
-ghost use Rattle.std.specs.Prelude.{◌≡◌, ◌+◌, ◌<◌, ◌≤◌, ◌%◌, ◌↔◌, max, vec_len, IfOk, OnOk, OnErr, IfErr, IsErrOf, OnSome, IfSome, IfNone};
+ghost use Rattle.std.specs.Prelude.{◌≡◌, ◌+◌, ◌-◌, ◌<◌, ◌≤◌, ◌%◌, ◌↔◌, max, vec_len, IfOk, OnOk, OnErr, IfErr, IsErrOf, OnSome, IfSome, IfNone};
 ghost use Rattle.std.specs.Prelude.{IsSome, IsTrue, None, Some, option_copied};
 ghost use Rattle.std.specs.Borrow.{sem};
 ghost use Rattle.std.specs.FinMap as map;
-ghost use Rattle.op_slots.specs.Pages.{page_of as page_by_rule};
+ghost use Rattle.op_slots.specs.Pages.{page_of as page_by_rule, first_key as first_by_rule};
 ghost use Rattle.op_slots.specs.Slots.{IsLive, AreKeysBelow, AreOnPages, MakesPage, GivesBackPage};
 ghost use Rattle.op_slots.specs.InsertError.{IsRefused};
 ghost use Rattle.op_slots.specs.Page.{at};
-ghost use Rattle.op_slots.specs.Places.{HasMemoryAt, HasAt, TakesFrom, PutsOn, DropsLast};
+ghost use Rattle.op_slots.specs.Places.{AreSized, HasMemoryAt, HasAt, TakesFrom, PutsOn, DropsLast};
 ghost use Rattle.op_slots.specs.Slab.{LendsValue};
 ghost use Rattle.op_slots.specs.Ref.{slab_lent, slots_lent, key_lent, RestsIfNotLive};
 
@@ -53,8 +53,8 @@ pub enum InsertError<T> {
 #[derive(Debug, Drop)]
 pub struct Slab<T> {
     pages: Vec<Page<T>>,
-    // How many keys are live.
-    live: usize,
+    // How many keys are live, and with them how many values were taken out since the pages were looked at.
+    entered: usize,
     // The page that the last value was put on, or 0 if the pages were looked at since.
     first: usize,
     // How many values were taken out since then.
@@ -64,6 +64,7 @@ pub struct Slab<T> {
 impl<T> Model for Slab<T> {
     ghost use Rattle.op_slots.specs.Slots.{Slots, slots_code};
     ghost use Rattle.op_slots.specs.Places.{AreKept, slots_of};
+    ghost use Rattle.std.specs.Prelude.{◌≤◌, ◌-◌};
 
     ghost Value = { Slots T };
 
@@ -71,7 +72,7 @@ impl<T> Model for Slab<T> {
 
     ghost view = { λ s. slots_of s.pages.items s.removals };
 
-    ghost invariant = { λ s. AreKept s.pages.items s.live s.first s.removals };
+    ghost invariant = { λ s. (s.removals ≤ s.entered) × AreKept s.pages.items (s.entered - s.removals) s.first s.removals };
 }
 
 impl<T: Drop> Slab<T> {
@@ -81,7 +82,7 @@ impl<T: Drop> Slab<T> {
     {
         Slab {
             pages: Vec::new(alloc),
-            live: 0,
+            entered: 0,
             first: 0,
             removals: 0,
         }
@@ -94,7 +95,7 @@ impl<T: Drop> Slab<T> {
         ensures keys { AreKeysBelow self.now }
         ensures pages { AreOnPages self.now }
     {
-        self.live
+        self.entered - self.removals
     }
 
     /// How many pages there are: page 0 and those behind it (not in monoio). A new slab has none.
@@ -170,10 +171,9 @@ impl<T: Drop> Slab<T> {
     {
         match make_place(&mut self.pages, &mut self.first) {
             Ok(()) => {
-                let begin = self.pages[self.first].first_key();
-                let place = put_on(&mut self.pages, self.first, val);
-                self.live += 1;
-                Ok(begin + place)
+                let key = put_on(&mut self.pages, self.first, val);
+                self.entered += 1;
+                Ok(key)
             }
             Err(NoPlace::Full) => Err(InsertError::Full(val)),
             Err(NoPlace::OutOfMemory) => Err(InsertError::OutOfMemory(val)),
@@ -234,11 +234,11 @@ impl<T: Drop> Slab<T> {
         match take_from(&mut self.pages, page, key - first) {
             None => None,
             Some(value) => {
-                self.live -= 1;
                 self.removals += 1;
                 if self.removals < COMPACT_INTERVAL {
                     return Some(value);
                 }
+                self.entered -= COMPACT_INTERVAL;
                 self.removals = 0;
                 self.first = 0;
                 give_back(&mut self.pages);
@@ -248,12 +248,18 @@ impl<T: Drop> Slab<T> {
     }
 }
 
-// Puts a value on a page that has an empty place with memory, and answers the place.
+// Puts a value on a page that has an empty place with memory, and answers the key of the place.
 fn put_on<T: Drop>(pages: &mut Vec<Page<T>>, page: usize, val: T) -> usize
-    requires { HasMemoryAt pages.old.items page }
-    ensures { PutsOn pages.old.items page result val pages.new.items }
+    requires memory { HasMemoryAt pages.old.items page }
+    requires sized { AreSized 0 pages.old.items }
+    requires few { vec_len pages.old ≤ NUM_PAGES }
+    ensures start { first_by_rule page ≤ result }
+    ensures put { PutsOn pages.old.items page (result - first_by_rule page) val pages.new.items }
 {
-    pages[page].put(val)
+    let on = &mut pages[page];
+    let begin = on.first_key();
+    let place = on.put(val);
+    begin + place
 }
 
 // Takes the value out of a place of a page, and answers None if there is none.

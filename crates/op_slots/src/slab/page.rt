@@ -44,8 +44,10 @@ pub struct Page<T> {
     entries: Vec<Entry<T>>,
     // How many places there are.
     size: usize,
-    // How many of them hold a value.
-    used: usize,
+    // How many values were put in, modulo 2 ^ 64.
+    filled: usize,
+    // How many values were taken out, modulo 2 ^ 64.
+    emptied: usize,
     // The place that was emptied last, or the first that has never been filled.
     next: usize,
 }
@@ -58,14 +60,14 @@ impl<T> Model for Page<T> {
 
     ghost coded = { places_code T.code };
 
-    ghost use Rattle.op_slots.specs.Entry.{value_of, IsSound};
+    ghost use Rattle.op_slots.specs.Entry.{value_of, IsCounted};
 
     ghost view = { λ p. record {
       places = padded p.size (map value_of p.entries.items);
       memory = vec_capacity p.entries;
     } };
 
-    ghost invariant = { λ p. IsSound p.entries.items p.size p.used p.next };
+    ghost invariant = { λ p. IsCounted p.entries.items p.size p.filled p.emptied p.next };
 }
 
 impl<T: Drop> Page<T> {
@@ -77,7 +79,8 @@ impl<T: Drop> Page<T> {
         Page {
             entries: Vec::new(alloc),
             size,
-            used: 0,
+            filled: 0,
+            emptied: 0,
             next: 0,
         }
     }
@@ -98,19 +101,27 @@ impl<T: Drop> Page<T> {
         self.next < count || (count < self.entries.capacity() && count < self.size)
     }
 
+    // How many places hold a value.
+    fn used(&self) -> usize
+        ensures used { result ≡ taken self.now.places }
+        ensures within { taken self.now.places ≤ length self.now.places }
+    {
+        self.filled.wrapping_sub(self.emptied)
+    }
+
     /// Whether no place is empty.
     pub fn is_full(&self) -> bool
         ensures full { IsTrue result ↔ (taken self.now.places ≡ length self.now.places) }
         ensures within { taken self.now.places ≤ length self.now.places }
     {
-        self.used == self.size
+        self.used() == self.size
     }
 
     /// Whether all places are empty.
     pub fn is_empty(&self) -> bool
         ensures { IsTrue result ↔ (taken self.now.places ≡ 0) }
     {
-        self.used == 0
+        self.used() == 0
     }
 
     /// The value of a place, and None if there is none.
@@ -140,7 +151,7 @@ impl<T: Drop> Page<T> {
         ensures err { OnErr result (self.new ≡ self.old) }
     {
         let count = self.entries.len();
-        if self.used < count {
+        if self.used() < count {
             return Ok(());
         }
         let more = count.max(FIRST_MEMORY).min(self.size - count);
@@ -160,16 +171,17 @@ impl<T: Drop> Page<T> {
         ensures memory { self.new.memory ≡ self.old.memory }
     {
         let place = self.next;
-        self.used += 1;
-        if place == self.entries.len() {
-            self.entries.push_reserved(Entry::Occupied(value));
-            self.next = place + 1;
+        if place < self.entries.len() {
+            match mem::replace(&mut self.entries[place], Entry::Occupied(value)) {
+                Entry::Vacant(next) => self.next = next,
+                Entry::Occupied(_) => unreachable!(),
+            }
+            self.filled = self.filled.wrapping_add(1);
             return place;
         }
-        match mem::replace(&mut self.entries[place], Entry::Occupied(value)) {
-            Entry::Vacant(next) => self.next = next,
-            Entry::Occupied(_) => unreachable!(),
-        }
+        self.entries.push_reserved(Entry::Occupied(value));
+        self.next = place + 1;
+        self.filled = self.filled.wrapping_add(1);
         place
     }
 
@@ -183,7 +195,7 @@ impl<T: Drop> Page<T> {
         let vacant = Entry::Vacant(self.next);
         match mem::replace(&mut self.entries[place], vacant) {
             Entry::Occupied(value) => {
-                self.used -= 1;
+                self.emptied = self.emptied.wrapping_add(1);
                 self.next = place;
                 value
             }

@@ -1,5 +1,5 @@
 //! The search for an empty place, over the pages of a slab.
-ghost use Rattle.std.specs.Prelude.{◌≡◌, ◌≤◌, ◌<◌, ◌-◌, IfOk, IfErr, OnOk, OnErr, IfSome, IfNone, vec_len};
+ghost use Rattle.std.specs.Prelude.{◌≡◌, ◌≤◌, ◌<◌, ◌-◌, ◌↔◌, IsTrue, IfOk, IfErr, OnOk, OnErr, IfSome, IfNone, vec_len};
 ghost use Rattle.op_slots.specs.Places.{HasMemoryAt, IsOpenAt, AreFullFrom, HaveSamePlaces, AddsPage, FindsPlace, room_in};
 ghost use Rattle.op_slots.specs.NoPlace.{WhyNoPlace};
 
@@ -27,6 +27,13 @@ fn open_page<T: Drop>(pages: &[Page<T>], from: usize) -> Option<usize>
         }
     }
     None
+}
+
+// Whether this page is there and has an empty place with memory.
+fn has_memory_at<T: Drop>(pages: &Vec<Page<T>>, page: usize) -> bool
+    ensures { IsTrue result ↔ HasMemoryAt pages.now.items page }
+{
+    page < pages.len() && pages[page].has_memory()
 }
 
 // The first page that has an empty place with memory.
@@ -161,7 +168,7 @@ pub fn make_place<T: Drop>(pages: &mut Vec<Page<T>>, first: &mut usize) -> Resul
     ensures same { OnErr result (first.new ≡ first.old) }
     ensures room { OnErr result (room_in pages.old.items ≡ 0) }
 {
-    if *first < pages.len() && pages[*first].has_memory() {
+    if has_memory_at(pages, *first) {
         return Ok(());
     }
     search(pages, first)

@@ -1,4 +1,4 @@
-use Rattle.std.proofs.Common.{ap, ◌∙◌, arith, sym}
+use Rattle.std.proofs.Common.{◌-◌, ap, ◌∙◌, arith, sym}
 use Rattle.std.proofs.lemmas.Option.{slice_get_within}
 use Rattle.op_slots.specs.Entry.{value_of}
 use Rattle.op_slots.proofs.Entries.{occupied_at, sound-empty, used_where_found, written, at-entry, read_occupied, not_vacant}
@@ -10,15 +10,16 @@ index_mut-requires g c =
     let within = slice_get_within c.self.inside.entries.items c.args.place _ found.1 in
     omega (arith, within)
 
-pub overflow_sub-self : goal.overflow_sub-self
-overflow_sub-self g c =
-    let found = occupied_at c.self.inside.entries.items c.self.inside.size c.args.place (rw (← c.self.view_is) at c.requires) in
-    used_where_found _ _ _ _ _ _ c.self.invariant found.1
-
 pub invariant_of-self : goal.invariant_of-self
 invariant_of-self g c =
     let found = occupied_at c.self.inside.entries.items c.self.inside.size c.args.place (rw (← c.self.view_is) at c.requires) in
-    rw c.replace.ensures.after (sound-empty _ _ _ _ _ _ c.self.invariant found.1)
+    let some = used_where_found _ _ _ _ _ _ c.self.invariant.sound found.1 in
+    let balance = c.self.invariant.balance in
+    rw c.replace.ensures.after (record {
+      used = c.self.invariant.used - 1;
+      sound = sound-empty _ _ _ _ _ _ c.self.invariant.sound found.1;
+      balance = omega arith;
+    })
 
 pub unreachable-requires : goal.unreachable-requires
 unreachable-requires g c =

@@ -21,7 +21,11 @@ value_mut-requires g c =
 pub invariant_of-self-lent : goal.invariant_of-self-lent
 invariant_of-self-lent g c w =
     let found = occupied_at c.self.inside.entries.items c.self.inside.size c.args.place (rw (← c.self.view_is) at c.requires) in
-    sound-keep _ _ _ _ c.args.place found.0 w c.self.invariant found.1
+    record {
+      used = c.self.invariant.used;
+      sound = sound-keep _ _ _ _ c.args.place found.0 w c.self.invariant.sound found.1;
+      balance = c.self.invariant.balance;
+    }
 
 pub returns : goal.returns
 returns g c =
