@@ -46,10 +46,6 @@ all_read [] k n behind = refl
 all_read (part ∷ parts) zero n behind = absurd (omega arith)
 all_read (part ∷ parts) (suc k) n behind = ap (λ l. part.bytes ++ l) (all_read parts k n (omega arith))
 
--- So it doesn't matter how many bytes of the next are filled.
-pub end_read : (parts : Parts) (k n : ℕ) → length parts ≤ k → read_of parts k 0 ≡ read_of parts k n
-end_read parts k n behind = all_read parts k 0 behind ∙ sym (all_read parts k n behind)
-
 -- And all are full.
 pub all_full : (parts : Parts) (k : ℕ) → length parts ≤ k → AreFullBefore parts k → All (λ part. length part.bytes ≡ part.total) parts
 all_full [] k behind full = All-nil (λ part. length part.bytes ≡ part.total)

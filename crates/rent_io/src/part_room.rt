@@ -81,7 +81,7 @@ impl<T: IoVecBufMut> IoBufMut for PartRoom<T> {
         self.buf.room(self.part)
     }
 
-    #[tactic(auto, using(crate::proofs::SingleParts::length_bytes, crate::proofs::SingleParts::bytes_at, crate::proofs::SingleParts::at_put, crate::proofs::SingleParts::others_set, crate::proofs::SingleParts::bounds_at))]
+    #[tactic(auto, using(crate::proofs::SingleParts::at_put, crate::proofs::SingleParts::others_set))]
     fn store(&mut self, at: usize, bytes: &[u8]) {
         self.buf.keeps_bounds();
         self.buf.store_part(self.part, at, bytes);

@@ -150,7 +150,7 @@ impl<T: IoVecBufMut> ReadVectoredExact<T> {
 }
 
 // From a place of a part on, the first place with room, or one behind all parts.
-#[tactic(auto, using(crate::proofs::SingleParts::length_bytes, crate::proofs::Scatters::passed_read, crate::proofs::Scatters::passed_full, crate::proofs::Scatters::end_read))]
+#[tactic(auto, using(crate::proofs::SingleParts::length_bytes, crate::proofs::Scatters::passed_read, crate::proofs::Scatters::passed_full))]
 fn next_room<T: IoVecBufMut>(buf: &T, part: usize, filled: usize) -> (usize, usize)
     requires bound { part ≤ length (T.held buf.now) }
     requires full { AreFullBefore (T.held buf.now) part }
