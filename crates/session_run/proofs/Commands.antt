@@ -1,6 +1,7 @@
 -- What the words of the command line ask for.
 use Rattle.std.proofs.Common.{◌≡◌, ◌≤◌, ◌<◌, ℕ, List, [], ◌∷◌, length, get_or, Option, None, Some, sym, ◌∙◌, ap, refl, arith}
 use Rattle.std.specs.Prelude.{◌^◌, codes, decimal, option_map}
+use Rattle.session_run.specs.declared.command.TheConstants.{MOST_CAPACITY, MOST_ENTRIES}
 use Rattle.session_run.specs.declared.command.Command.{Command}
 use Rattle.session_run.specs.declared.command.Command.TheVariants.{Run, Generate, Wake, Copy}
 use Rattle.session_run.specs.Command.{IsRun, IsWake, IsGenerate, IsCopy, IsCopyOf, IsCapacity, IsNoCommand, ReadsUpTo, ReadsCommand}
@@ -11,7 +12,7 @@ use Rattle.event_text.proofs.TextHex.{bytes_of-Some, bytes_of-bytes_word}
 use Rattle.event_text.proofs.TextNumbers.{number_of-decimal, number_of-Some}
 
 -- A number within the bounds is a capacity.
-pub capacity-within : (word : List ℕ) (n : ℕ) → number_of word ≡ Some n → 1 ≤ n → n ≤ 4294967295 → IsCapacity word n
+pub capacity-within : (word : List ℕ) (n : ℕ) → number_of word ≡ Some n → 1 ≤ n → n ≤ MOST_ENTRIES → IsCapacity word n
 capacity-within word n reads low high = record { positive = low; fits = high; word_is = (number_of-Some word n reads).0 }
 
 -- A capacity's word is read as its number.
@@ -19,7 +20,7 @@ pub number_of-capacity : (word : List ℕ) (capacity : ℕ) → IsCapacity word 
 number_of-capacity word capacity is = ap number_of is.word_is ∙ number_of-decimal capacity (let fits = is.fits in omega arith)
 
 -- A word that is read as a number out of bounds is no capacity.
-pub capacity-outside : (word : List ℕ) (n : ℕ) → number_of word ≡ Some n → (1 ≤ n → n ≤ 4294967295 → ⊥) → (capacity : ℕ) →
+pub capacity-outside : (word : List ℕ) (n : ℕ) → number_of word ≡ Some n → (1 ≤ n → n ≤ MOST_ENTRIES → ⊥) → (capacity : ℕ) →
     IsCapacity word capacity → ⊥
 capacity-outside word n reads outside capacity is =
     let same : Some n ≡ Some capacity = sym reads ∙ number_of-capacity word capacity is in
@@ -88,7 +89,7 @@ copy-or-none first second none = record {
 }
 
 -- Words of `copy` whose capacity is 0 are no command's.
-pub copy-zero : (first second : List ℕ) (n : ℕ) → ReadsUpTo 16777216 first (Some n) → n ≡ 0 →
+pub copy-zero : (first second : List ℕ) (n : ℕ) → ReadsUpTo MOST_CAPACITY first (Some n) → n ≡ 0 →
     ReadsCommand (codes "copy" ∷ first ∷ second ∷ []) None
 copy-zero first second n reads zero = copy-or-none first second (λ capacity prefix is.
     let same : decimal n ≡ decimal capacity = sym reads.1 ∙ (copy-words (codes "copy") first second capacity prefix is).1 in
@@ -110,7 +111,7 @@ uncounted None none = refl
 uncounted (Some bytes) none = (let never : ◌≡◌ {A = Option ℕ} None (Some (length bytes)) = none in cc)
 
 -- The other words of `copy` are those of a capacity and of a prefix.
-pub copy-read : (first second : List ℕ) (n count : ℕ) (read : Option (List ℕ)) → ReadsUpTo 16777216 first (Some n) → (n ≡ 0 → ⊥) →
+pub copy-read : (first second : List ℕ) (n count : ℕ) (read : Option (List ℕ)) → ReadsUpTo MOST_CAPACITY first (Some n) → (n ≡ 0 → ⊥) →
     bytes_of second ≡ read → Some count ≡ option_map length read → IsCopyOf (codes "copy" ∷ first ∷ second ∷ []) n second
 copy-read first second n count None reads some writes counted =
     absurd (let never : ◌≡◌ {A = Option ℕ} (Some count) None = counted in cc)

@@ -12,7 +12,7 @@ use Rattle.session_run.specs.declared.session.Session.{Session}
 use Rattle.session_run.specs.declared.top.Status.{Status}
 use Rattle.session_run.specs.declared.top.Status.TheVariants.{Done, BadWords, BadLine, TooLong, ReadFault, WriteFault, OutOfMemory}
 use Rattle.session_run.specs.declared.input.NoEvents.{NoEvents}
-use Rattle.session_run.specs.declared.input.TheConstants.{PIECE}
+use Rattle.session_run.specs.declared.input.TheConstants.{MOST_INPUT, PIECE}
 use Rattle.session_run.specs.declared.output.Unwritten.{Unwritten}
 use Rattle.session_run.specs.declared.top.Kept.{Kept}
 use Rattle.session_run.specs.declared.top.Kept.TheVariants.{Run}
@@ -21,7 +21,7 @@ use Rattle.session_run.specs.declared.command.Command.TheVariants.{Run as RunOf,
 use Rattle.session_run.specs.Session.{SessionStands}
 use Rattle.session_run.specs.Generated.{generated_events}
 use Rattle.event_text.specs.TextReads.{bytes_of}
-use Rattle.session_run.specs.Top.{most_input, RunDone, LineRefused, NoLineWrong, TookTooMany, IsBadLine, WrotePrefix, WroteSome, SumsFor, TookFew, WakesFor, bad_line_text, reply_lines}
+use Rattle.session_run.specs.Top.{RunDone, LineRefused, NoLineWrong, TookTooMany, IsBadLine, WrotePrefix, WroteSome, SumsFor, TookFew, WakesFor, bad_line_text, reply_lines}
 
 -- No count of faults rose, as far as the source and the sink tell it.
 pub record NoFaults (tells_source tells_sink : Bool) (source : Reading) (sink : Writing) : Type 0 where
@@ -37,7 +37,7 @@ pub record RanShort (tells_source tells_sink : Bool) (source : Reading) (sink : 
 
 -- All that was left was read.
 pub record IsAll (left rest text : List ℕ) : Type 0 where
-  pub within : length text ≤ most_input
+  pub within : length text ≤ MOST_INPUT
   pub all : text ≡ left
   pub to_its_end : rest ≡ []
 
@@ -63,9 +63,9 @@ WhyNoEvents tells left rest faults later why = WhyUnread tells left rest faults 
 -- Why one read behind so many bytes stopped: too many came, a fault, or no memory.
 abbrev pub WhyStopped : Bool → ℕ → List ℕ → List ℕ → ℕ → ℕ → NoEvents → Type 0
 WhyStopped tells before left rest faults later (NoEvents.BadLine n) = ⊥
-WhyStopped tells before left rest faults later NoEvents.TooLong = IsTrue tells → (n : ℕ) × (most_input < before + n) × Took left rest n
+WhyStopped tells before left rest faults later NoEvents.TooLong = IsTrue tells → (n : ℕ) × (MOST_INPUT < before + n) × Took left rest n
 WhyStopped tells before left rest faults later NoEvents.Fault = Rose faults later
-WhyStopped tells before left rest faults later NoEvents.OutOfMemory = IsTrue tells → (n : ℕ) × (before + n ≤ most_input) × (PIECE < before + n) × Took left rest n × (later ≡ faults)
+WhyStopped tells before left rest faults later NoEvents.OutOfMemory = IsTrue tells → (n : ℕ) × (before + n ≤ MOST_INPUT) × (PIECE < before + n) × Took left rest n × (later ≡ faults)
 
 -- All bytes were written, with no fault counted where the sink tells its bytes.
 pub record Wrote (tells : Bool) (bytes taken now : List ℕ) (faults later : ℕ) : Type 0 where
@@ -140,17 +140,17 @@ RunEnds tells_source tells_sink capacity source sink kept OutOfMemory = RanShort
 -- What `copy` has done, by the status: what a copy has done that ends so.
 abbrev pub CopiesFor : Bool → Bool → List ℕ → Reading → Writing → Status → Type 0
 CopiesFor tells_source tells_sink prefix source sink Done =
-    CopyEnds tells_source tells_sink most_input prefix source sink Ending.Done
+    CopyEnds tells_source tells_sink MOST_INPUT prefix source sink Ending.Done
 CopiesFor tells_source tells_sink prefix source sink BadWords = ⊥
 CopiesFor tells_source tells_sink prefix source sink BadLine = ⊥
 CopiesFor tells_source tells_sink prefix source sink TooLong =
-    CopyEnds tells_source tells_sink most_input prefix source sink Ending.TooLong
+    CopyEnds tells_source tells_sink MOST_INPUT prefix source sink Ending.TooLong
 CopiesFor tells_source tells_sink prefix source sink ReadFault =
-    CopyEnds tells_source tells_sink most_input prefix source sink Ending.ReadFault
+    CopyEnds tells_source tells_sink MOST_INPUT prefix source sink Ending.ReadFault
 CopiesFor tells_source tells_sink prefix source sink WriteFault =
-    CopyEnds tells_source tells_sink most_input prefix source sink Ending.WriteFault
+    CopyEnds tells_source tells_sink MOST_INPUT prefix source sink Ending.WriteFault
 CopiesFor tells_source tells_sink prefix source sink OutOfMemory =
-    CopyEnds tells_source tells_sink most_input prefix source sink Ending.OutOfMemory
+    CopyEnds tells_source tells_sink MOST_INPUT prefix source sink Ending.OutOfMemory
 
 -- What a command that reads nothing has done to a sink, by the status.
 abbrev pub SinkEnds : Bool → Writing → Status → Type 0

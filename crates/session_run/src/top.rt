@@ -27,7 +27,7 @@ use std::rt::Clock;
 use std::sync::Wait;
 use std::sync::ledger::Blank;
 use std::thread::Threads;
-use wake_core::OpenGate;
+use wake_core::{OpenGate, PUSH_PARTS};
 
 /// How the program ends. (not in monoio)
 #[derive(Clone, Copy, Debug, PartialEq, Eq)]
@@ -267,7 +267,7 @@ fn run_wake<R: Threads + Wait + Clock + Sync, K: ByteSink>(
     ensures wakes { WakesFor K.tells (senders * count) (K.taken sink.old) (K.taken sink.new) result }
     ensures ends { SinkEnds K.tells (writing K.taken K.faults K.is_flushed sink.old sink.new) result }
 {
-    let (pushes, drains) = (Blank::new(65537), Blank::new(1));
+    let (pushes, drains) = (Blank::new(PUSH_PARTS), Blank::new(1));
     let gate = OpenGate;
     let Ok(settled) = wake_all::<Brand, Brand, OpenGate, R>(
         rt, alloc, pushes, drains, senders, count, &gate,
