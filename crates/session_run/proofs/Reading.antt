@@ -8,7 +8,7 @@ use Rattle.event_text.specs.TextLines.{lines, AreEvents, IsFirstWrong}
 use Rattle.session_run.specs.Top.{TookFew, WasRead, IsBadLine, half_read, all_right}
 use Rattle.session_run.specs.Ends.{IsAll, ReadShort, Took, WhyStopped, WhyUnread}
 use Rattle.event_text.proofs.TextCuts.{drop-whole}
-use Rattle.session_run.proofs.Writing.{rose-later}
+use Rattle.rent_io.proofs.Runs.{rose_later}
 
 -- What was taken away, then what is left, is the list.
 take-then-drop : (n : ℕ) (xs : List ℕ) → take n xs ++ drop n xs ≡ xs
@@ -39,7 +39,7 @@ unread-later tells text left rest all before f g h NoEvents.TooLong is order cal
     let stopped = why told in
     let took = taken-behind text left rest all before stopped.0 is stopped.2 (joined told) in
     record { count = before + stopped.0; many = stopped.1; there = took.0; taken = took.1 }
-unread-later tells text left rest all before f g h NoEvents.Fault is order calm joined why = rose-later f g h order why
+unread-later tells text left rest all before f g h NoEvents.Fault is order calm joined why = rose_later f g h order why
 unread-later tells text left rest all before f g h NoEvents.OutOfMemory is order calm joined why = λ told.
     let stopped = why told in
     let took = taken-behind text left rest all before stopped.0 is stopped.3 (joined told) in

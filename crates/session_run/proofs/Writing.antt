@@ -2,8 +2,8 @@
 use Rattle.std.proofs.Common.{◌≡◌, ◌<◌, ◌≤◌, ℕ, zero, suc, ◌+◌, Bool, IsTrue, List, [], ◌∷◌, ◌++◌, length, take, get_or, refl, sym, ◌∙◌, ap, subst, add-one, append_assoc, arith}
 use Rattle.std.specs.Prelude.{Result, Ok, Err}
 use Rattle.ring_core.specs.declared.ledger.Reply.{Reply}
-use Rattle.ring_core.specs.Counts.{Rose}
 use Rattle.rent_io.specs.declared.source.Failed.{Failed}
+use Rattle.rent_io.proofs.Runs.{rose_later}
 use Rattle.session_run.specs.declared.output.Unwritten.{Unwritten}
 use Rattle.event_text.specs.TextReply.{reply_text}
 use Rattle.event_text.specs.TextWrites.{Starts}
@@ -63,16 +63,12 @@ prefix-on part more text rest taken now later starts before next = record {
   written = next.written ∙ ap (λ xs. xs ++ next.prefix) before.now_is ∙ append_assoc taken before.prefix next.prefix;
 }
 
--- A count that rose later rose.
-pub rose-later : (first before now : ℕ) → first ≤ before → Rose before now → Rose first now
-rose-later first before now order rose = omega arith
-
 -- Why the next reply wasn't written is why not all are.
 pub unwritten-next : (tells : Bool) (part more text rest taken now later : List ℕ) (f g h : ℕ) (why : Unwritten) →
     Starts (part ++ more) text → (IsTrue tells → Sent part rest taken now) →
     f ≤ g → (IsTrue tells → g ≡ f) → WhyUnwritten tells (rest ++ more) now later g h why → WhyUnwritten tells text taken later f h why
 unwritten-next tells part more text rest taken now later f g h Unwritten.Fault starts before order calm why =
-    (rose-later f g h order why.0, λ told. prefix-on part more text rest taken now later starts (before told) (why.1 told))
+    (rose_later f g h order why.0, λ told. prefix-on part more text rest taken now later starts (before told) (why.1 told))
 unwritten-next tells part more text rest taken now later f g h Unwritten.OutOfMemory starts before order calm why = λ told.
     record { prefix = prefix-on part more text rest taken now later starts (before told) (why told).prefix; calm = (why told).calm ∙ calm told }
 
@@ -106,7 +102,7 @@ writes-then tells first more taken now later f g h (Ok done) before next = recor
   calm = λ told. next.calm told ∙ before.calm told;
 }
 writes-then tells first more taken now later f g h (Err failed) before next =
-    (rose-later f g h before.order next.0, λ told. prefix-behind first more taken now later (before.all told) (next.1 told))
+    (rose_later f g h before.order next.0, λ told. prefix-behind first more taken now later (before.all told) (next.1 told))
 
 -- A text that wasn't written whole, and more that wasn't begun.
 pub writes-cut : (tells : Bool) (first more taken now : List ℕ) (f g : ℕ) (failed : Failed) →

@@ -2,13 +2,14 @@ use Rattle.std.proofs.Common.{◌∙◌, ◌++◌, ap, length, take, sym, subst,
 use Rattle.std.proofs.lemmas.Iterator.Adapters.{YieldsList-from_vec}
 use Rattle.std.proofs.lemmas.Iterator.Consumers.{YieldsList-turn, YieldsList-end}
 use Rattle.std.proofs.lemmas.List.{length_push}
+use Rattle.rent_io.proofs.Runs.{rose_later}
 use Rattle.ring_core.specs.Ledger.{empty}
 use Rattle.ring_core.specs.Run.{after, replies}
 use Rattle.session_run.specs.Session.{SessionStands}
 use Rattle.session_run.specs.Ends.{Sent}
 use Rattle.session_run.specs.Top.{WrotePrefix, reply_lines}
 use Rattle.session_run.proofs.Replying.{all-replied, answered-next, take-all}
-use Rattle.session_run.proofs.Writing.{prefix-sent, reply-unwritten, reply-written, rose-later, sent-all, sent-some, starts-lines}
+use Rattle.session_run.proofs.Writing.{prefix-sent, reply-unwritten, reply-written, sent-all, sent-some, starts-lines}
 use Rattle.session_run.proofs.output.write_replies.Goals as goal
 
 pub returns-in_default-apply-clause-why : goal.returns-in_default-apply-clause-why
@@ -73,7 +74,7 @@ returns-in-Err-write_last-clause-why g c =
     let k = length c.loop-event.yielded in
     let now = g.K.ByteSink.taken c.loop-event.sink in
     let end = YieldsList-end road c.loop-event.yielded c.loop-event.event-iterator c.loop-event.yielded_by c.next.result c.next.new.self c.in-None.is c.next.ensures.steps in (
-      rose-later _ (g.K.ByteSink.faults c.loop-event.sink) _ c.loop-event.invariant.faults c.in-Err-write_last.ensures.writes.0,
+      rose_later _ (g.K.ByteSink.faults c.loop-event.sink) _ c.loop-event.invariant.faults c.in-Err-write_last.ensures.writes.0,
       λ told.
           let whole = subst (λ xs. Sent (reply_lines xs) c.loop-event.out.items (g.K.ByteSink.taken c.args.sink.now) now) (take-all rs k (all-replied (empty c.args.capacity) c.args.events.items k end.1)) (c.loop-event.invariant.sent told) in
           sent-some (reply_lines rs) c.loop-event.out.items _ now _ whole (subst (λ xs. WrotePrefix xs now (g.K.ByteSink.taken c.write_last.new.sink)) c.as_slice.ensures.value (c.in-Err-write_last.ensures.writes.1 told)),
