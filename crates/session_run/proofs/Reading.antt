@@ -1,5 +1,6 @@
 -- What was read of an input.
-use Rattle.std.proofs.Common.{◌≡◌, ◌≤◌, ℕ, zero, suc, ◌+◌, Bool, IsTrue, List, [], ◌∷◌, ◌++◌, length, take, drop, refl, sym, ◌∙◌, ap, subst, length-append, arith}
+use Rattle.std.proofs.Common.{◌≡◌, ◌≤◌, ℕ, zero, suc, ◌+◌, Bool, IsTrue, List, [], ◌∷◌, ◌++◌, length, take, drop, refl, sym, ◌∙◌, ap, subst}
+use Rattle.std.proofs.Common.{length-append, arith}
 use Rattle.std.specs.List.{AllZip}
 use Rattle.ring_core.specs.declared.ledger.Event.{Event}
 use Rattle.session_run.specs.declared.input.NoEvents.{NoEvents}
@@ -26,7 +27,8 @@ drop-behind (x ∷ xs) ys n (suc k) is = drop-behind xs ys n k (omega arith)
 taken-behind : (text left rest all : List ℕ) (before n : ℕ) → before ≡ length text → Took left rest n → text ++ left ≡ all →
     (before + n ≤ length all) × (rest ≡ drop (before + n) all)
 taken-behind text left rest all before n is took joined = (
-  (let whole : length text + length left ≡ length all = sym (length-append text left) ∙ ap length joined in let there = took.there in omega arith),
+  (let whole : length text + length left ≡ length all = sym (length-append text left) ∙ ap length joined in
+      let there = took.there in omega arith),
   took.taken ∙ sym (drop-behind text left n (before + n) (omega arith)) ∙ ap (drop (before + n)) joined,
 )
 

@@ -21,7 +21,8 @@ use Rattle.session_run.specs.declared.command.Command.TheVariants.{Run as RunOf,
 use Rattle.session_run.specs.Session.{SessionStands}
 use Rattle.session_run.specs.Generated.{generated_events}
 use Rattle.event_text.specs.TextReads.{bytes_of}
-use Rattle.session_run.specs.Top.{RunDone, LineRefused, NoLineWrong, TookTooMany, IsBadLine, WrotePrefix, WroteSome, SumsFor, TookFew, WakesFor, bad_line_text, reply_lines}
+use Rattle.session_run.specs.Top.{RunDone, LineRefused, NoLineWrong, TookTooMany, IsBadLine, WrotePrefix, WroteSome, SumsFor}
+use Rattle.session_run.specs.Top.{TookFew, WakesFor, bad_line_text, reply_lines}
 
 -- No count of faults rose, as far as the source and the sink tell it.
 pub record NoFaults (tells_source tells_sink : Bool) (source : Reading) (sink : Writing) : Type 0 where
@@ -65,7 +66,8 @@ abbrev pub WhyStopped : Bool → ℕ → List ℕ → List ℕ → ℕ → ℕ �
 WhyStopped tells before left rest faults later (NoEvents.BadLine n) = ⊥
 WhyStopped tells before left rest faults later NoEvents.TooLong = IsTrue tells → (n : ℕ) × (MOST_INPUT < before + n) × Took left rest n
 WhyStopped tells before left rest faults later NoEvents.Fault = Rose faults later
-WhyStopped tells before left rest faults later NoEvents.OutOfMemory = IsTrue tells → (n : ℕ) × (before + n ≤ MOST_INPUT) × (PIECE < before + n) × Took left rest n × (later ≡ faults)
+WhyStopped tells before left rest faults later NoEvents.OutOfMemory =
+    IsTrue tells → (n : ℕ) × (before + n ≤ MOST_INPUT) × (PIECE < before + n) × Took left rest n × (later ≡ faults)
 
 -- All bytes were written, with no fault counted where the sink tells its bytes.
 pub record Wrote (tells : Bool) (bytes taken now : List ℕ) (faults later : ℕ) : Type 0 where
@@ -123,19 +125,27 @@ pub record RunsDone (tells : Bool) (capacity : ℕ) (events : List Event) (sink 
 -- What running events has done, by the status.
 abbrev pub RunsEvents : Bool → ℕ → List Event → Writing → Option Kept → Status → Type 0
 RunsEvents tells capacity events sink kept Done = RunsDone tells capacity events sink kept
-RunsEvents tells capacity events sink kept WriteFault = Rose sink.faults sink.later × (IsTrue tells → WrotePrefix (reply_lines (replies (empty capacity) events)) sink.taken sink.now)
-RunsEvents tells capacity events sink kept OutOfMemory = IsTrue tells → WroteShort (reply_lines (replies (empty capacity) events)) sink.taken sink.now sink.faults sink.later
+RunsEvents tells capacity events sink kept WriteFault =
+    Rose sink.faults sink.later × (IsTrue tells → WrotePrefix (reply_lines (replies (empty capacity) events)) sink.taken sink.now)
+RunsEvents tells capacity events sink kept OutOfMemory =
+    IsTrue tells → WroteShort (reply_lines (replies (empty capacity) events)) sink.taken sink.now sink.faults sink.later
 RunsEvents tells capacity events sink kept _ = ⊥
 
 -- What `run CAP` has done, by the status.
 abbrev pub RunEnds : Bool → Bool → ℕ → Reading → Writing → Option Kept → Status → Type 0
-RunEnds tells_source tells_sink capacity source sink kept Done = RunDone tells_source tells_sink capacity source.left source.rest sink.taken sink.now kept × IsTrue sink.flushed
+RunEnds tells_source tells_sink capacity source sink kept Done =
+    RunDone tells_source tells_sink capacity source.left source.rest sink.taken sink.now kept × IsTrue sink.flushed
 RunEnds tells_source tells_sink capacity source sink kept BadWords = ⊥
-RunEnds tells_source tells_sink capacity source sink kept BadLine = LineRefused tells_source tells_sink source.left source.rest sink.taken sink.now
-RunEnds tells_source tells_sink capacity source sink kept TooLong = (IsTrue tells_source → TookTooMany source.left source.rest) × (IsTrue tells_sink → sink.now ≡ sink.taken)
-RunEnds tells_source tells_sink capacity source sink kept ReadFault = Rose source.faults source.later × (IsTrue tells_sink → sink.now ≡ sink.taken)
-RunEnds tells_source tells_sink capacity source sink kept WriteFault = Rose sink.faults sink.later × WroteSome tells_source tells_sink capacity source.left source.rest sink.taken sink.now
-RunEnds tells_source tells_sink capacity source sink kept OutOfMemory = RanShort tells_source tells_sink source sink × ((IsTrue tells_sink → sink.now ≡ sink.taken) ⊎ WroteSome tells_source tells_sink capacity source.left source.rest sink.taken sink.now)
+RunEnds tells_source tells_sink capacity source sink kept BadLine =
+    LineRefused tells_source tells_sink source.left source.rest sink.taken sink.now
+RunEnds tells_source tells_sink capacity source sink kept TooLong =
+    (IsTrue tells_source → TookTooMany source.left source.rest) × (IsTrue tells_sink → sink.now ≡ sink.taken)
+RunEnds tells_source tells_sink capacity source sink kept ReadFault =
+    Rose source.faults source.later × (IsTrue tells_sink → sink.now ≡ sink.taken)
+RunEnds tells_source tells_sink capacity source sink kept WriteFault =
+    Rose sink.faults sink.later × WroteSome tells_source tells_sink capacity source.left source.rest sink.taken sink.now
+RunEnds tells_source tells_sink capacity source sink kept OutOfMemory = RanShort tells_source tells_sink source sink
+    × ((IsTrue tells_sink → sink.now ≡ sink.taken) ⊎ WroteSome tells_source tells_sink capacity source.left source.rest sink.taken sink.now)
 
 -- What `copy` has done, by the status: what a copy has done that ends so.
 abbrev pub CopiesFor : Bool → Bool → List ℕ → Reading → Writing → Status → Type 0
@@ -161,9 +171,12 @@ SinkEnds tells sink _ = ⊥
 
 -- What a command has done, by the status.
 abbrev pub CommandEnds : Bool → Bool → Command → Reading → Writing → Option Kept → Status → Type 0
-CommandEnds tells_source tells_sink (RunOf capacity) source sink kept status = RunEnds tells_source tells_sink capacity source sink kept status
-CommandEnds tells_source tells_sink (Generate seed rounds) source sink kept status = SumsFor tells_sink (generated_events seed rounds) sink.taken sink.now kept status
-CommandEnds tells_source tells_sink (Wake senders count) source sink kept status = WakesFor tells_sink (senders * count) sink.taken sink.now status
+CommandEnds tells_source tells_sink (RunOf capacity) source sink kept status =
+    RunEnds tells_source tells_sink capacity source sink kept status
+CommandEnds tells_source tells_sink (Generate seed rounds) source sink kept status =
+    SumsFor tells_sink (generated_events seed rounds) sink.taken sink.now kept status
+CommandEnds tells_source tells_sink (Wake senders count) source sink kept status =
+    WakesFor tells_sink (senders * count) sink.taken sink.now status
 CommandEnds tells_source tells_sink (Copy capacity word) source sink kept status =
     (prefix : List ℕ) → bytes_of word.now ≡ Some prefix → CopiesFor tells_source tells_sink prefix source sink status
 

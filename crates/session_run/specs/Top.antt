@@ -66,7 +66,8 @@ generated_text events refused ready =
 -- What is written of these events, run over a queue of `ENTRIES` entries.
 abbrev pub summary_text : List Event → List ℕ
 summary_text events =
-    generated_text (length events) (count_by is_refused (replies (empty ENTRIES) events)) (count_by is_ready (replies (empty ENTRIES) events))
+    generated_text (length events) (count_by is_refused (replies (empty ENTRIES) events))
+    (count_by is_ready (replies (empty ENTRIES) events))
 
 -- The input, of at most so many bytes, was read to its end, and its lines stand for these events, one each.
 pub record WasRead (left rest : List ℕ) (events : List Event) : Type 0 where

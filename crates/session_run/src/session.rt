@@ -6,7 +6,8 @@ ghost use Rattle.ring_core.specs.Ledger.{Ledger, empty};
 ghost use Rattle.ring_core.specs.Refusal.{cause};
 ghost use Rattle.ring_core.specs.Run.{ledger, replies};
 ghost use Rattle.run_laws.specs.Closes.{ClosedOnce, ClosedWhenReleased, ClosedWhenOver, UnheldCloses};
-ghost use Rattle.run_laws.specs.Headline.{OneReplyEach, RefusedExactly, PendingUntilReaped, HandsBackOwn, FirstPollHands, HandedOnce, DroppedOnce, ReapNames, CanceledWhereAsked};
+ghost use Rattle.run_laws.specs.Headline.{OneReplyEach, RefusedExactly, PendingUntilReaped, HandsBackOwn, FirstPollHands, HandedOnce};
+ghost use Rattle.run_laws.specs.Headline.{DroppedOnce, ReapNames, CanceledWhereAsked};
 ghost use Rattle.ring_core.specs.declared.ledger.Event.TheVariants.{Give, Feed, End, Submit, Poll, Drop, Cancel, Turn, Exec};
 ghost use Rattle.uring_driver.specs.Uring.{holds_all, given_by};
 ghost use Rattle.session_run.specs.Session.{AreParts, PartsStand, SessionStands, SessionAnswers, StepsFor, TakesNoMemory, driver_in};
@@ -312,7 +313,8 @@ impl Session {
         requires held { IsTrue (holds_all self.old.driver (named request)) }
         requires counter { given_by self.old.driver < MOST_GIVEN }
         requires room { vec_len self.old.tokens.ops < vec_capacity self.old.tokens.ops }
-        ensures ok { IfOk result (λ reply. (L : Ledger) → SessionStands self.old L → SessionAnswers L (Submit (plain_request built request)) reply self.new) }
+        ensures ok { IfOk result (λ reply. (L : Ledger) → SessionStands self.old L →
+            SessionAnswers L (Submit (plain_request built request)) reply self.new) }
         ensures err { OnErr result ((L : Ledger) → SessionStands self.old L → SessionStands self.new L) }
     {
         match self.driver.submit_with(request) {

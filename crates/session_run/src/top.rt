@@ -100,7 +100,8 @@ pub fn top<R: Threads + Wait + Clock + Sync, S: ByteSource, K: ByteSink>(
 
     // What each command has read, written and kept, by the status.
     ensures runs { (capacity : ℕ) → IsRun (map string_bytes words.now) capacity →
-        RunEnds S.tells K.tells capacity (reading S.left S.faults source.old source.new) (writing K.taken K.faults K.is_flushed sink.old sink.new) kept.new result }
+        RunEnds S.tells K.tells capacity (reading S.left S.faults source.old source.new)
+        (writing K.taken K.faults K.is_flushed sink.old sink.new) kept.new result }
     ensures sums { (seed rounds : ℕ) → IsGenerate (map string_bytes words.now) seed rounds →
         SumsFor K.tells (generated_events seed rounds) (K.taken sink.old) (K.taken sink.new) kept.new result }
     ensures wakes { (senders count : ℕ) → IsWake (map string_bytes words.now) senders count →
