@@ -1,6 +1,7 @@
 -- What the words of the command line ask for.
 use Rattle.std.proofs.Common.{◌≡◌, ◌≤◌, ◌<◌, ℕ, List, [], ◌∷◌, length, get_or, Option, None, Some, sym, ◌∙◌, ap, refl, arith}
 use Rattle.std.specs.Prelude.{◌^◌, codes, decimal, option_map}
+use Rattle.session_run.specs.declared.command.TheConstants.{MOST_CAPACITY, MOST_ENTRIES}
 use Rattle.session_run.specs.declared.command.Command.{Command}
 use Rattle.session_run.specs.declared.command.Command.TheVariants.{Run, Generate, Wake, Copy}
 use Rattle.session_run.specs.Command.{IsRun, IsWake, IsGenerate, IsCopy, IsCopyOf, IsCapacity, IsNoCommand, ReadsUpTo, ReadsCommand}
@@ -11,7 +12,7 @@ use Rattle.event_text.proofs.TextHex.{bytes_of-Some, bytes_of-bytes_word}
 use Rattle.event_text.proofs.TextNumbers.{number_of-decimal, number_of-Some}
 
 -- A number within the bounds is a capacity.
-pub capacity-within : (word : List ℕ) (n : ℕ) → number_of word ≡ Some n → 1 ≤ n → n ≤ 4294967295 → IsCapacity word n
+pub capacity-within : (word : List ℕ) (n : ℕ) → number_of word ≡ Some n → 1 ≤ n → n ≤ MOST_ENTRIES → IsCapacity word n
 capacity-within word n reads low high = record { positive = low; fits = high; word_is = (number_of-Some word n reads).0 }
 
 -- A capacity's word is read as its number.
@@ -19,7 +20,7 @@ pub number_of-capacity : (word : List ℕ) (capacity : ℕ) → IsCapacity word 
 number_of-capacity word capacity is = ap number_of is.word_is ∙ number_of-decimal capacity (let fits = is.fits in omega arith)
 
 -- A word that is read as a number out of bounds is no capacity.
-pub capacity-outside : (word : List ℕ) (n : ℕ) → number_of word ≡ Some n → (1 ≤ n → n ≤ 4294967295 → ⊥) → (capacity : ℕ) →
+pub capacity-outside : (word : List ℕ) (n : ℕ) → number_of word ≡ Some n → (1 ≤ n → n ≤ MOST_ENTRIES → ⊥) → (capacity : ℕ) →
     IsCapacity word capacity → ⊥
 capacity-outside word n reads outside capacity is =
     let same : Some n ≡ Some capacity = sym reads ∙ number_of-capacity word capacity is in
@@ -30,7 +31,8 @@ capacity-outside word n reads outside capacity is =
 
 -- A word that is read as no number is no capacity.
 pub capacity-unread : (word : List ℕ) → number_of word ≡ None → (capacity : ℕ) → IsCapacity word capacity → ⊥
-capacity-unread word reads capacity is = (let never : ◌≡◌ {A = Option ℕ} None (Some capacity) = sym reads ∙ number_of-capacity word capacity is in cc)
+capacity-unread word reads capacity is =
+    (let never : ◌≡◌ {A = Option ℕ} None (Some capacity) = sym reads ∙ number_of-capacity word capacity is in cc)
 
 -- A number within the bound is one up to it.
 pub upto-within : (most : ℕ) (word : List ℕ) (n : ℕ) → number_of word ≡ Some n → n ≤ most → ReadsUpTo most word (Some n)
@@ -56,15 +58,18 @@ same-number a b small_a small_b texts =
 
 -- Three words are no `run`.
 three-no-run : (name first second : List ℕ) (capacity : ℕ) → IsRun (name ∷ first ∷ second ∷ []) capacity → ⊥
-three-no-run name first second capacity run = (let all : name ∷ first ∷ second ∷ [] ≡ codes "run" ∷ decimal capacity ∷ [] = run.words_are in cc)
+three-no-run name first second capacity run =
+    (let all : name ∷ first ∷ second ∷ [] ≡ codes "run" ∷ decimal capacity ∷ [] = run.words_are in cc)
 
 -- Three words are `wake` only where the first is.
 wake-name : (name first second : List ℕ) (senders count : ℕ) → IsWake (name ∷ first ∷ second ∷ []) senders count → name ≡ codes "wake"
-wake-name name first second senders count is = (let all : name ∷ first ∷ second ∷ [] ≡ codes "wake" ∷ decimal senders ∷ decimal count ∷ [] = is.words_are in cc)
+wake-name name first second senders count is =
+    (let all : name ∷ first ∷ second ∷ [] ≡ codes "wake" ∷ decimal senders ∷ decimal count ∷ [] = is.words_are in cc)
 
 -- Three words are `gen` only where the first is.
 generate-name : (name first second : List ℕ) (seed rounds : ℕ) → IsGenerate (name ∷ first ∷ second ∷ []) seed rounds → name ≡ codes "gen"
-generate-name name first second seed rounds is = (let all : name ∷ first ∷ second ∷ [] ≡ codes "gen" ∷ decimal seed ∷ decimal rounds ∷ [] = is.words_are in cc)
+generate-name name first second seed rounds is =
+    (let all : name ∷ first ∷ second ∷ [] ≡ codes "gen" ∷ decimal seed ∷ decimal rounds ∷ [] = is.words_are in cc)
 
 -- Three words are `copy` only where the first is, the second is the capacity, and the third is the word of the prefix.
 copy-words : (name first second : List ℕ) (capacity : ℕ) (prefix : List ℕ) → IsCopy (name ∷ first ∷ second ∷ []) capacity prefix →
@@ -88,7 +93,7 @@ copy-or-none first second none = record {
 }
 
 -- Words of `copy` whose capacity is 0 are no command's.
-pub copy-zero : (first second : List ℕ) (n : ℕ) → ReadsUpTo 16777216 first (Some n) → n ≡ 0 →
+pub copy-zero : (first second : List ℕ) (n : ℕ) → ReadsUpTo MOST_CAPACITY first (Some n) → n ≡ 0 →
     ReadsCommand (codes "copy" ∷ first ∷ second ∷ []) None
 copy-zero first second n reads zero = copy-or-none first second (λ capacity prefix is.
     let same : decimal n ≡ decimal capacity = sym reads.1 ∙ (copy-words (codes "copy") first second capacity prefix is).1 in
@@ -110,7 +115,7 @@ uncounted None none = refl
 uncounted (Some bytes) none = (let never : ◌≡◌ {A = Option ℕ} None (Some (length bytes)) = none in cc)
 
 -- The other words of `copy` are those of a capacity and of a prefix.
-pub copy-read : (first second : List ℕ) (n count : ℕ) (read : Option (List ℕ)) → ReadsUpTo 16777216 first (Some n) → (n ≡ 0 → ⊥) →
+pub copy-read : (first second : List ℕ) (n count : ℕ) (read : Option (List ℕ)) → ReadsUpTo MOST_CAPACITY first (Some n) → (n ≡ 0 → ⊥) →
     bytes_of second ≡ read → Some count ≡ option_map length read → IsCopyOf (codes "copy" ∷ first ∷ second ∷ []) n second
 copy-read first second n count None reads some writes counted =
     absurd (let never : ◌≡◌ {A = Option ℕ} (Some count) None = counted in cc)
@@ -144,7 +149,8 @@ same-capacity words a b first second =
 -- Words have one number of senders, and one of wakers.
 pub same-counts : (words : List (List ℕ)) (a b m n : ℕ) → IsWake words a m → IsWake words b n → (a ≡ b) × (m ≡ n)
 same-counts words a b m n first second =
-    let all : codes "wake" ∷ decimal a ∷ decimal m ∷ [] ≡ codes "wake" ∷ decimal b ∷ decimal n ∷ [] = sym first.words_are ∙ second.words_are in (
+    let all : codes "wake" ∷ decimal a ∷ decimal m ∷ [] ≡ codes "wake" ∷ decimal b ∷ decimal n ∷ [] =
+    sym first.words_are ∙ second.words_are in (
       same-number a b (let few = first.few in omega arith) (let few = second.few in omega arith) (cc),
       same-number m n (let small = first.small in omega arith) (let small = second.small in omega arith) (cc),
     )
@@ -152,24 +158,30 @@ same-counts words a b m n first second =
 -- Words have one seed, and one number of rounds.
 pub same-rounds : (words : List (List ℕ)) (a b m n : ℕ) → IsGenerate words a m → IsGenerate words b n → (a ≡ b) × (m ≡ n)
 same-rounds words a b m n first second =
-    let all : codes "gen" ∷ decimal a ∷ decimal m ∷ [] ≡ codes "gen" ∷ decimal b ∷ decimal n ∷ [] = sym first.words_are ∙ second.words_are in (
+    let all : codes "gen" ∷ decimal a ∷ decimal m ∷ [] ≡ codes "gen" ∷ decimal b ∷ decimal n ∷ [] =
+    sym first.words_are ∙ second.words_are in (
       same-number a b (let within = first.within in omega arith) (let within = second.within in omega arith) (cc),
       same-number m n (let small = first.small in omega arith) (let small = second.small in omega arith) (cc),
     )
 
 -- Words don't ask for two commands.
 pub not-both : (words : List (List ℕ)) (capacity senders count : ℕ) → IsRun words capacity → IsWake words senders count → ⊥
-not-both words capacity senders count run wake = (let all : codes "run" ∷ decimal capacity ∷ [] ≡ codes "wake" ∷ decimal senders ∷ decimal count ∷ [] = sym run.words_are ∙ wake.words_are in cc)
+not-both words capacity senders count run wake =
+    (let all : codes "run" ∷ decimal capacity ∷ [] ≡ codes "wake" ∷ decimal senders ∷ decimal count ∷ [] =
+    sym run.words_are ∙ wake.words_are in cc)
 
 -- Words don't ask for both `run` and `gen`.
 pub not-run-generate : (words : List (List ℕ)) (capacity seed rounds : ℕ) → IsRun words capacity → IsGenerate words seed rounds → ⊥
-not-run-generate words capacity seed rounds run gen = (let all : codes "run" ∷ decimal capacity ∷ [] ≡ codes "gen" ∷ decimal seed ∷ decimal rounds ∷ [] = sym run.words_are ∙ gen.words_are in cc)
+not-run-generate words capacity seed rounds run gen =
+    (let all : codes "run" ∷ decimal capacity ∷ [] ≡ codes "gen" ∷ decimal seed ∷ decimal rounds ∷ [] =
+    sym run.words_are ∙ gen.words_are in cc)
 
 -- Words don't ask for both `wake` and `gen`.
 pub not-wake-generate : (words : List (List ℕ)) (senders count seed rounds : ℕ) → IsWake words senders count →
     IsGenerate words seed rounds → ⊥
 not-wake-generate words senders count seed rounds wake gen =
-    (let all : codes "wake" ∷ decimal senders ∷ decimal count ∷ [] ≡ codes "gen" ∷ decimal seed ∷ decimal rounds ∷ [] = sym wake.words_are ∙ gen.words_are in cc)
+    (let all : codes "wake" ∷ decimal senders ∷ decimal count ∷ [] ≡ codes "gen" ∷ decimal seed ∷ decimal rounds ∷ [] =
+    sym wake.words_are ∙ gen.words_are in cc)
 
 -- Words don't ask for both `run` and `copy`.
 pub not-run-copy : (words : List (List ℕ)) (capacity other : ℕ) (prefix : List ℕ) → IsRun words capacity → IsCopy words other prefix → ⊥

@@ -22,9 +22,12 @@ use Rattle.session_run.proofs.Reading.{few-read}
 -- What running the events of an input has done is what the command has done.
 pub ends-run : (ts tk : Bool) (capacity : ℕ) (source : Reading) (sink : Writing) (kept : Option Kept) (events : List Event)
     (status : Status) →
-    (IsTrue ts → WasRead source.left source.rest events) → (IsTrue ts → source.later ≡ source.faults) → RunsEvents tk capacity events sink kept status → RunEnds ts tk capacity source sink kept status
-ends-run ts tk capacity source sink kept events Done read calm runs =
-    (record { events = events; read = read; written = runs.written; session = runs.session; kept_is = runs.kept_is; stands = runs.stands }, runs.flushed)
+    (IsTrue ts → WasRead source.left source.rest events) → (IsTrue ts → source.later ≡ source.faults) →
+    RunsEvents tk capacity events sink kept status → RunEnds ts tk capacity source sink kept status
+ends-run ts tk capacity source sink kept events Done read calm runs = (
+  record { events = events; read = read; written = runs.written; session = runs.session; kept_is = runs.kept_is; stands = runs.stands },
+  runs.flushed,
+)
 ends-run ts tk capacity source sink kept events BadWords read calm runs = runs
 ends-run ts tk capacity source sink kept events BadLine read calm runs = absurd runs
 ends-run ts tk capacity source sink kept events TooLong read calm runs = absurd runs
@@ -42,7 +45,8 @@ ends-run ts tk capacity source sink kept events OutOfMemory read calm runs = (
 
 -- So is what writing the number of a wrong line has done.
 ends-line : (ts tk : Bool) (capacity : ℕ) (source : Reading) (sink : Writing) (kept : Option Kept) (line : ℕ) (status : Status) →
-    (IsTrue ts → IsBadLine source.left source.rest line) → WritesLine tk line sink.taken sink.now sink.faults sink.later status → RunEnds ts tk capacity source sink kept status
+    (IsTrue ts → IsBadLine source.left source.rest line) → WritesLine tk line sink.taken sink.now sink.faults sink.later status →
+    RunEnds ts tk capacity source sink kept status
 ends-line ts tk capacity source sink kept line Done bad writes = absurd writes
 ends-line ts tk capacity source sink kept line BadWords bad writes = writes
 ends-line ts tk capacity source sink kept line BadLine bad writes = record { n = line; bad = bad; written = writes }
@@ -55,8 +59,10 @@ ends-line ts tk capacity source sink kept line OutOfMemory bad writes = absurd w
 -- So is what refusing it has done.
 pub ends-refused : (ts tk : Bool) (capacity : ℕ) (source : Reading) (sink : Writing) (kept : Option Kept) (why : NoEvents)
     (status : Status) →
-    WhyNoEvents ts source.left source.rest source.faults source.later why → RefusesFor tk sink.taken sink.now sink.faults sink.later status why → RunEnds ts tk capacity source sink kept status
-ends-refused ts tk capacity source sink kept (NoEvents.BadLine n) status why refuses = ends-line ts tk capacity source sink kept n status why refuses
+    WhyNoEvents ts source.left source.rest source.faults source.later why →
+    RefusesFor tk sink.taken sink.now sink.faults sink.later status why → RunEnds ts tk capacity source sink kept status
+ends-refused ts tk capacity source sink kept (NoEvents.BadLine n) status why refuses =
+    ends-line ts tk capacity source sink kept n status why refuses
 ends-refused ts tk capacity source sink kept NoEvents.TooLong status why refuses =
     subst (λ s. RunEnds ts tk capacity source sink kept s) (sym refuses.0) (why, refuses.1.nothing)
 ends-refused ts tk capacity source sink kept NoEvents.Fault status why refuses =
@@ -74,7 +80,8 @@ ends-refused ts tk capacity source sink kept NoEvents.OutOfMemory status why ref
 -- What a command has done where its words are those of `run`.
 pub run-ends : (ts tk : Bool) (words : List (List ℕ)) (command : Command) (capacity : ℕ) (source : Reading) (sink : Writing)
     (kept : Option Kept) (status : Status) →
-    ReadsCommand words (Some command) → IsRun words capacity → CommandEnds ts tk command source sink kept status → RunEnds ts tk capacity source sink kept status
+    ReadsCommand words (Some command) → IsRun words capacity → CommandEnds ts tk command source sink kept status →
+    RunEnds ts tk capacity source sink kept status
 run-ends ts tk words (Run c) capacity source sink kept status reads run ends =
     subst (λ k. RunEnds ts tk k source sink kept status) (same-capacity words c capacity reads run) ends
 run-ends ts tk words (Generate s r) capacity source sink kept status reads run ends = absurd (not-run-generate words capacity s r run reads)
@@ -85,25 +92,30 @@ run-ends ts tk words (Copy c word) capacity source sink kept status reads run en
 -- The same of `gen`.
 pub sum-ends : (ts tk : Bool) (words : List (List ℕ)) (command : Command) (seed rounds : ℕ) (source : Reading) (sink : Writing)
     (kept : Option Kept) (status : Status) →
-    ReadsCommand words (Some command) → IsGenerate words seed rounds → CommandEnds ts tk command source sink kept status → SumsFor tk (generated_events seed rounds) sink.taken sink.now kept status
+    ReadsCommand words (Some command) → IsGenerate words seed rounds → CommandEnds ts tk command source sink kept status →
+    SumsFor tk (generated_events seed rounds) sink.taken sink.now kept status
 sum-ends ts tk words (Run c) seed rounds source sink kept status reads gen ends = absurd (not-run-generate words c seed rounds reads gen)
 sum-ends ts tk words (Generate s r) seed rounds source sink kept status reads gen ends =
     let same = same-rounds words s seed r rounds reads gen in
     subst (λ k. SumsFor tk (generated_events k rounds) sink.taken sink.now kept status) same.0
     (subst (λ k. SumsFor tk (generated_events s k) sink.taken sink.now kept status) same.1 ends)
-sum-ends ts tk words (Wake s c) seed rounds source sink kept status reads gen ends = absurd (not-wake-generate words s c seed rounds reads gen)
+sum-ends ts tk words (Wake s c) seed rounds source sink kept status reads gen ends =
+    absurd (not-wake-generate words s c seed rounds reads gen)
 sum-ends ts tk words (Copy c word) seed rounds source sink kept status reads gen ends =
     absurd (not-generate-copy words seed rounds c reads.prefix gen reads.is_copy)
 
 -- The same of `wake`.
 pub wake-ends : (ts tk : Bool) (words : List (List ℕ)) (command : Command) (senders count : ℕ) (source : Reading) (sink : Writing)
     (kept : Option Kept) (status : Status) →
-    ReadsCommand words (Some command) → IsWake words senders count → CommandEnds ts tk command source sink kept status → WakesFor tk (senders * count) sink.taken sink.now status
+    ReadsCommand words (Some command) → IsWake words senders count → CommandEnds ts tk command source sink kept status →
+    WakesFor tk (senders * count) sink.taken sink.now status
 wake-ends ts tk words (Run c) senders count source sink kept status reads wake ends = absurd (not-both words c senders count reads wake)
-wake-ends ts tk words (Generate s r) senders count source sink kept status reads wake ends = absurd (not-wake-generate words senders count s r wake reads)
+wake-ends ts tk words (Generate s r) senders count source sink kept status reads wake ends =
+    absurd (not-wake-generate words senders count s r wake reads)
 wake-ends ts tk words (Wake s c) senders count source sink kept status reads wake ends =
     let same = same-counts words s senders c count reads wake in
-    subst (λ k. WakesFor tk (k * count) sink.taken sink.now status) same.0 (subst (λ k. WakesFor tk (s * k) sink.taken sink.now status) same.1 ends)
+    subst (λ k. WakesFor tk (k * count) sink.taken sink.now status) same.0
+    (subst (λ k. WakesFor tk (s * k) sink.taken sink.now status) same.1 ends)
 wake-ends ts tk words (Copy c word) senders count source sink kept status reads wake ends =
     absurd (not-wake-copy words senders count c reads.prefix wake reads.is_copy)
 

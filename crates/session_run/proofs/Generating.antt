@@ -10,7 +10,8 @@ use Rattle.session_run.specs.Generated.{drawn, generated_events, next_state, rou
 pub rounds-begun : (seed rounds left : ℕ) (events : List Event) → events ≡ Give Stream ∷ [] → left ≡ rounds →
     events ++ rounds_from seed 0 left ≡ generated_events seed rounds
 unfolding generated_events
-rounds-begun seed rounds left events begun is = ap (λ xs. xs ++ rounds_from seed 0 left) begun ∙ ap (λ k. Give Stream ∷ rounds_from seed 0 k) is
+rounds-begun seed rounds left events begun is =
+    ap (λ xs. xs ++ rounds_from seed 0 left) begun ∙ ap (λ k. Give Stream ∷ rounds_from seed 0 k) is
 
 -- The events so far and one round more, then the rounds that are left.
 pub round-added : (before now all : List Event) (x y z i choice count more less : ℕ) → more ≡ suc less → y ≡ next_state x →
@@ -25,7 +26,8 @@ round-added before now all x y z i choice count more less is first second chosen
     ∙ append_assoc before (round_events i choice count) (rounds_from z (i + 1) less)
     ∙ ap (λ k. before ++ (round_events i k count ++ rounds_from z (i + 1) less)) choice_is
     ∙ ap (λ k. before ++ (round_events i (drawn (next_state x) % 4) k ++ rounds_from z (i + 1) less)) count_is
-    ∙ ap (λ k. before ++ (round_events i (drawn (next_state x) % 4) (drawn (next_state (next_state x)) % 8 + 1) ++ rounds_from k (i + 1) less)) state
+    ∙ ap (λ k. before ++ (round_events i (drawn (next_state x) % 4) (drawn (next_state (next_state x)) % 8 + 1)
+    ++ rounds_from k (i + 1) less)) state
     ∙ ap (λ k. before ++ rounds_from x i k) (sym is)
     ∙ so_far
 

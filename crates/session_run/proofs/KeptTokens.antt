@@ -1,5 +1,6 @@
 -- Which tokens a session keeps after each call of its driver.
-use Rattle.std.proofs.Common.{◌≡◌, ◌≢◌, ◌≤◌, ℕ, zero, suc, List, [], ◌∷◌, ◌++◌, length, Option, None, Some, ◌⊎◌, inl, inr, refl, sym, ◌∙◌, ap, subst, arith}
+use Rattle.std.proofs.Common.{◌≡◌, ◌≢◌, ◌≤◌, ℕ, zero, suc, List, [], ◌∷◌, ◌++◌, length, Option, None, Some, ◌⊎◌, inl, inr, refl, sym, ◌∙◌}
+use Rattle.std.proofs.Common.{ap, subst, arith}
 use Rattle.rent_buf.specs.declared.plain.Buf.{Buf}
 use Rattle.ring_core.specs.Ring.{RingView}
 use Rattle.ring_core.specs.Lists.{amended}
@@ -74,7 +75,8 @@ pub are_held-taken : (tokens : List (Option Op)) (old new : IoUringDriver RingVi
     → AreHeld tokens old → DropsToken old new op → AreHeld (amended tokens n (λ token. None)) new
 are_held-taken tokens old new n op there held taken m other = elim (same-or-not m n) [
   | inl same ↦ (
-    λ found. absurd (let none : ◌≡◌ {A = Option Op} None (Some other) = sym (ap (λ k. token_at (amended tokens n (λ token. None)) k) same ∙ token_at-emptied tokens n) ∙ found in cc),
+    λ found. absurd (let none : ◌≡◌ {A = Option Op} None (Some other) =
+        sym (ap (λ k. token_at (amended tokens n (λ token. None)) k) same ∙ token_at-emptied tokens n) ∙ found in cc),
     λ h. let was = (taken other).0 h.0 in
         let found : token_at tokens m ≡ Some other = (held m other).1 (was.0, h.1) in
         absurd (was.1 (let both : Some other ≡ Some op = sym found ∙ ap (token_at tokens) same ∙ there in cc)),

@@ -51,10 +51,12 @@ pub parts_executed : (old new : IoUringDriver RingView Buf) (kept : Tokens) (pla
     → OnErr result (new ≡ old) → holding_in new ≡ holding_in old → due_in new ≡ due_in old → KeepsTokens old new
     → given_by new ≡ given_by old → AreParts new kept
 parts_executed old new kept place told (Ok (ExecutedNumber n)) parts answers err holding due tokens given =
-    parts-moved old new kept parts.ledger (step parts.ledger (Exec place told)).0 parts.stand (answers parts.ledger parts.stand.driver).stands
+    parts-moved old new kept parts.ledger (step parts.ledger (Exec place told)).0 parts.stand
+    (answers parts.ledger parts.stand.driver).stands
     (λ none. due ∙ none) (single-same old new holding) tokens given
 parts_executed old new kept place told (Ok (ExecutedHandle h)) parts answers err holding due tokens given =
-    parts-moved old new kept parts.ledger (step parts.ledger (Exec place told)).0 parts.stand (answers parts.ledger parts.stand.driver).stands
+    parts-moved old new kept parts.ledger (step parts.ledger (Exec place told)).0 parts.stand
+    (answers parts.ledger parts.stand.driver).stands
     (λ none. due ∙ none) (single-same old new holding) tokens given
 parts_executed old new kept place told (Err why) parts answers err holding due tokens given = subst (λ d. AreParts d kept) (sym err) parts
 

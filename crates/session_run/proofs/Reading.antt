@@ -1,5 +1,6 @@
 -- What was read of an input.
-use Rattle.std.proofs.Common.{◌≡◌, ◌≤◌, ℕ, zero, suc, ◌+◌, Bool, IsTrue, List, [], ◌∷◌, ◌++◌, length, take, drop, refl, sym, ◌∙◌, ap, subst, length-append, arith}
+use Rattle.std.proofs.Common.{◌≡◌, ◌≤◌, ℕ, zero, suc, ◌+◌, Bool, IsTrue, List, [], ◌∷◌, ◌++◌, length, take, drop, refl, sym, ◌∙◌, ap, subst}
+use Rattle.std.proofs.Common.{length-append, arith}
 use Rattle.std.specs.List.{AllZip}
 use Rattle.ring_core.specs.declared.ledger.Event.{Event}
 use Rattle.session_run.specs.declared.input.NoEvents.{NoEvents}
@@ -8,7 +9,7 @@ use Rattle.event_text.specs.TextLines.{lines, AreEvents, IsFirstWrong}
 use Rattle.session_run.specs.Top.{TookFew, WasRead, IsBadLine, half_read, all_right}
 use Rattle.session_run.specs.Ends.{IsAll, ReadShort, Took, WhyStopped, WhyUnread}
 use Rattle.event_text.proofs.TextCuts.{drop-whole}
-use Rattle.session_run.proofs.Writing.{rose-later}
+use Rattle.rent_io.proofs.Runs.{rose_later}
 
 -- What was taken away, then what is left, is the list.
 take-then-drop : (n : ℕ) (xs : List ℕ) → take n xs ++ drop n xs ≡ xs
@@ -26,7 +27,8 @@ drop-behind (x ∷ xs) ys n (suc k) is = drop-behind xs ys n k (omega arith)
 taken-behind : (text left rest all : List ℕ) (before n : ℕ) → before ≡ length text → Took left rest n → text ++ left ≡ all →
     (before + n ≤ length all) × (rest ≡ drop (before + n) all)
 taken-behind text left rest all before n is took joined = (
-  (let whole : length text + length left ≡ length all = sym (length-append text left) ∙ ap length joined in let there = took.there in omega arith),
+  (let whole : length text + length left ≡ length all = sym (length-append text left) ∙ ap length joined in
+      let there = took.there in omega arith),
   took.taken ∙ sym (drop-behind text left n (before + n) (omega arith)) ∙ ap (drop (before + n)) joined,
 )
 
@@ -39,7 +41,7 @@ unread-later tells text left rest all before f g h NoEvents.TooLong is order cal
     let stopped = why told in
     let took = taken-behind text left rest all before stopped.0 is stopped.2 (joined told) in
     record { count = before + stopped.0; many = stopped.1; there = took.0; taken = took.1 }
-unread-later tells text left rest all before f g h NoEvents.Fault is order calm joined why = rose-later f g h order why
+unread-later tells text left rest all before f g h NoEvents.Fault is order calm joined why = rose_later f g h order why
 unread-later tells text left rest all before f g h NoEvents.OutOfMemory is order calm joined why = λ told.
     let stopped = why told in
     let took = taken-behind text left rest all before stopped.0 is stopped.3 (joined told) in

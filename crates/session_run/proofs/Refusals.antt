@@ -3,13 +3,14 @@ use Rattle.std.proofs.Common.{◌≡◌, ◌<◌, ◌≤◌, ℕ, Bool, true, fa
 use Rattle.std.proofs.Common.{[], ◌∷◌, length, Option, None, Some, refl, sym, ◌∙◌, ap, arith}
 use Rattle.std.specs.Prelude.{slice_get, nat_le}
 use Rattle.std.proofs.lemmas.Bool.Decides.{nat_tests}
+use Rattle.rent_buf.specs.Buf.{built}
 use Rattle.rent_buf.specs.Buffer.{Buffer}
 use Rattle.rent_buf.specs.Parts.{Parts}
 use Rattle.rent_buf.specs.declared.plain.Buf.{Buf}
 use Rattle.ring_core.specs.Lists.{passes}
 use Rattle.ring_core.specs.Ring.{RingView}
 use Rattle.ring_core.specs.Ledger.{Ledger, Operation, Place, InQueue, InFlight, InDone, Reaped}
-use Rattle.ring_core.specs.Ledger.{Gone, is_kept, is_live, is_owned, live_ops, user_holds}
+use Rattle.ring_core.specs.Ledger.{Gone, is_live, is_owned, live_ops, user_holds}
 use Rattle.ring_core.specs.Request.{named}
 use Rattle.ring_core.specs.declared.ledger.TheConstants.{MOST_LIVE}
 use Rattle.ring_core.specs.Refusal.{cause, refused_if, lacks_handle}
@@ -24,8 +25,9 @@ use Rattle.driver_core.specs.declared.slot.Slot.{Slot}
 use Rattle.driver_core.specs.Slot.{is_owned_life, number_if, serial_of}
 use Rattle.driver_core.specs.Slots.{waiting, life_of, life_at}
 use Rattle.ring_core.specs.declared.request.Request.{Request}
+use Rattle.driver_core.proofs.Owned.{owned-slot}
+use Rattle.driver_core.proofs.Tokens.{held-slot}
 use Rattle.session_run.specs.declared.session.Session.{Session}
-use Rattle.std.specs.FinMap.{get}
 use Rattle.session_run.specs.Token.{token_at, by_number}
 use Rattle.session_run.specs.Session.{SessionStands}
 use Rattle.event_text.proofs.TextFields.{and-true}
@@ -160,33 +162,14 @@ no_token-lacks session L n stands none (Some operation) is = false-from (is_owne
     let there : token_at (by_number session.tokens) n ≡ Some op.0 = (stands.tokens n op.0).1 (op.1, op.2) in
     (let both : ◌≡◌ {A = Option Op} None (Some op.0) = sym none ∙ there in cc))
 
--- A number that is given out is that of its user's operation.
-number_if-Some : (b : Bool) (m n : ℕ) → number_if b m ≡ Some n → (b ≡ true) × (m ≡ n)
-number_if-Some true m n is = (refl, cc)
-number_if-Some false m n is = absurd (cc)
-
--- The slot that has a number.
-slot-numbered : (found : Option (Slot Buf)) (n : ℕ) → serial_of found ≡ Some n →
-    (slot : Slot Buf) × (found ≡ Some slot) × (is_owned_life slot.life ≡ true) × (slot.serial ≡ n)
-slot-numbered None n is = absurd (cc)
-slot-numbered (Some slot) n is = let parts = number_if-Some (is_owned_life slot.life) slot.serial n is in (slot, refl, parts.0, parts.1)
-
--- An operation whose slot isn't ignored wasn't dropped.
-undropped : (was_dropped : Bool) (place : Place) (task : Option ℕ) → is_owned_life (life_of was_dropped place task) ≡ true →
-    was_dropped ≡ false
-undropped true place task is = absurd (let never : ◌≡◌ {A = Bool} false true = is in cc)
-undropped false place task is = refl
-
 -- An operation whose token the driver holds is its user's.
 pub token-owns : (session : Session) (L : Ledger) (n : ℕ) (op : Op) → SessionStands session L → Holds session.driver op → number_of op ≡ n →
     passes is_owned (slice_get L.ops n) ≡ true
 token-owns session L n op stands holds is =
-    let found = slot-numbered (get session.driver.slots.values op.key) (number_of op) holds in
-    let for = stands.driver.operations.in_slots.holds op.key found.0 found.1 in
-    let operation = for.operation in
-    let kept = undropped operation.dropped operation.place operation.task (sym (ap is_owned_life for.life) ∙ found.2) in
-    ap (λ k. passes is_owned (slice_get L.ops k)) (sym (found.3 ∙ is)) ∙ ap (passes is_owned) for.there
-    ∙ ap (λ b. is_kept operation.place && not b) kept ∙ ap (λ b. b && true) for.live
+    let found = held-slot session.driver.slots.values op holds in
+    let stood = stands.driver.operations.in_slots.holds op.key found.slot found.there in
+    let its = owned-slot built L found.slot stood found.owned in
+    ap (λ k. passes is_owned (slice_get L.ops k)) (sym (found.serial ∙ is)) ∙ ap (passes is_owned) its.fit.there ∙ its.owned
 
 -- A cancel of what is its user's isn't refused.
 pub unrefused-cancel : (L : Ledger) (n : ℕ) → passes is_owned (slice_get L.ops n) ≡ true → cause L (Cancel n) ≡ None

@@ -1,5 +1,6 @@
 -- The user of a session holds each handle once at most, after each call of its driver.
-use Rattle.std.proofs.Common.{◌≡◌, ◌≤◌, ◌<◌, inl, inr, ℕ, Bool, true, false, List, [], ◌∷◌, Option, None, Some, refl, sym, ◌∙◌, ap, subst, arith}
+use Rattle.std.proofs.Common.{◌≡◌, ◌≤◌, ◌<◌, inl, inr, ℕ, Bool, true, false, List, [], ◌∷◌, Option, None, Some, refl, sym, ◌∙◌, ap, subst}
+use Rattle.std.proofs.Common.{arith}
 use Rattle.std.specs.Prelude.{◌&&◌, ◌==◌, nat_lt, length, unwrap_or}
 use Rattle.std.proofs.lemmas.Bool.Decides.{nat_tests}
 use Rattle.std.specs.Ordering.{nat_cmp}
@@ -48,8 +49,10 @@ pub single-users : (old new : IoUringDriver RingView Buf) → ((h : ℕ) → use
 single-users old new same single h = subst (λ k. k ≤ 1) (sym (same h)) (single h)
 
 -- One whose holders were kept but for reserved memory.
-pub single-reserved : (old new : IoUringDriver RingView Buf) → IsSameHolding (holding_in old) (holding_in new) → AreSingle old → AreSingle new
-single-reserved old new same = single-users old new (λ h. ap (λ m. (holders_at (record (holding_in old).table { holders = m }) h).user) same.table)
+pub single-reserved : (old new : IoUringDriver RingView Buf) → IsSameHolding (holding_in old) (holding_in new) →
+    AreSingle old → AreSingle new
+single-reserved old new same =
+    single-users old new (λ h. ap (λ m. (holders_at (record (holding_in old).table { holders = m }) h).user) same.table)
 
 -- One of which an operation holds what it names.
 pub single-joined : (old new : IoUringDriver RingView Buf) (handles : List ℕ) →
@@ -69,7 +72,8 @@ single-released old new h is single k =
     let held : Holders = without_user (holders_at table h) in
     elim (same-or-not k h) [
       | inl e ↦ (
-          let a = ap (λ x. user_count x k) is ∙ ap (λ x. (holders_at (settled table h held) x).user) e ∙ ap (λ x. x.user) (settled-same table h held) in
+          let a = ap (λ x. user_count x k) is ∙ ap (λ x. (holders_at (settled table h held) x).user) e
+          ∙ ap (λ x. x.user) (settled-same table h held) in
           let b = single h in
           omega (arith, a, b))
       | inr e ↦ (
@@ -79,7 +83,8 @@ single-released old new h is single k =
     ]
 
 -- One that adopted a handle.
-pub single-adopted : (old new : IoUringDriver RingView Buf) (h : ℕ) → Adopts (holding_in old) h (holding_in new) → AreSingle old → AreSingle new
+pub single-adopted : (old new : IoUringDriver RingView Buf) (h : ℕ) → Adopts (holding_in old) h (holding_in new) →
+    AreSingle old → AreSingle new
 single-adopted old new h adopts single k =
     let holders = (holding_in old).table.holders in
     let is = ap (λ m. (unwrap_or (get m k) nobody).user) adopts.table in

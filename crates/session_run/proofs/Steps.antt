@@ -1,5 +1,6 @@
 -- What each step of a session's driver makes of the session.
-use Rattle.std.proofs.Common.{◌≡◌, ℕ, ◌+◌, Bool, true, false, List, [], ◌∷◌, ◌++◌, length, None, Some, length-append, refl, sym, ◌∙◌, ap, subst}
+use Rattle.std.proofs.Common.{◌≡◌, ℕ, ◌+◌, Bool, true, false, List, [], ◌∷◌, ◌++◌, length, None, Some, length-append, refl, sym, ◌∙◌, ap}
+use Rattle.std.proofs.Common.{subst}
 use Rattle.std.specs.Prelude.{Result, Ok, Err, IfOk, OnErr}
 use Rattle.rent_buf.specs.Buffer.{Buffer}
 use Rattle.rent_buf.specs.Parts.{Parts}
@@ -60,7 +61,8 @@ stands-kept old new L M stands tokens driver due single kept given = record {
   none_due = due stands.none_due;
   single = single stands.single;
   numbered = ap (λ items. length items) tokens ∙ stands.numbered ∙ sym given;
-  tokens = subst (λ items. AreHeld items new.driver) (sym tokens) (are_held-kept (by_number old.tokens) old.driver new.driver stands.tokens kept);
+  tokens = subst (λ items. AreHeld items new.driver) (sym tokens)
+      (are_held-kept (by_number old.tokens) old.driver new.driver stands.tokens kept);
 }
 
 -- A driver's answer, where it keeps all tokens, is the session's.
@@ -81,7 +83,8 @@ stands-same old new L stands driver tokens = record {
   none_due = ap (λ d. due_in d) driver ∙ stands.none_due;
   single = subst (λ d. AreSingle d) (sym driver) stands.single;
   numbered = ap (λ items. length items) tokens ∙ stands.numbered ∙ ap (λ d. given_by d) (sym driver);
-  tokens = subst (λ d. AreHeld (by_number new.tokens) d) (sym driver) (subst (λ items. AreHeld items old.driver) (sym tokens) stands.tokens);
+  tokens = subst (λ d. AreHeld (by_number new.tokens) d) (sym driver)
+      (subst (λ items. AreHeld items old.driver) (sym tokens) stands.tokens);
 }
 
 -- A refused event changes nothing.
@@ -90,7 +93,10 @@ pub answers-refused : (old new : Session) (L : Ledger) (event : Event) (refusal 
     SessionAnswers L event (Refused refusal) new
 answers-refused old new L event refusal stands named driver tokens =
     let same = step-refused L event refusal named in
-    record { reply_is = ap (λ next. next.1) same; stands = subst (λ next. SessionStands new next.0) (sym same) (stands-same old new L stands driver tokens) }
+    record {
+      reply_is = ap (λ next. next.1) same;
+      stands = subst (λ next. SessionStands new next.0) (sym same) (stands-same old new L stands driver tokens);
+    }
 
 -- A turn that stopped over the ring in memory changed nothing.
 pub stopped-same : (L : Ledger) (old new : IoUringDriver RingView Buf) (turned : Turned) (queued : List ℕ) (stop : Stop) →
@@ -120,7 +126,8 @@ pub stands-unsubmitted : (old new : Session) (L : Ledger) (request : Request Buf
     by_number new.tokens ≡ by_number old.tokens → (due_in old.driver ≡ [] → due_in new.driver ≡ []) →
     SubmitRefused (λ r. r) built true request old.driver new.driver refused → SessionStands new L
 stands-unsubmitted old new L request refused stands tokens due why =
-    stands-kept old new L L stands tokens (stands-refused old.driver new.driver L refused.why why.why stands.driver) due (single-same old.driver new.driver why.same.holding) (kept-same_slots old.driver new.driver why.same) why.same.given
+    stands-kept old new L L stands tokens (stands-refused old.driver new.driver L refused.why why.why stands.driver) due
+    (single-same old.driver new.driver why.same.holding) (kept-same_slots old.driver new.driver why.same) why.same.given
 
 -- What a look shows is the session's answer, which stays as it is.
 pub answers-looked : (session : Session) (L : Ledger) (h : ℕ) (shown : Shown) (bytes : List ℕ) → SessionStands session L →
@@ -142,7 +149,8 @@ answers-taken old new L n op event reply stands there tokens taken due single gi
     none_due = due stands.none_due;
     single = single stands.single;
     numbered = ap (λ items. length items) tokens ∙ length-amended (λ token. None) (by_number old.tokens) n ∙ stands.numbered ∙ sym given;
-    tokens = subst (λ items. AreHeld items new.driver) (sym tokens) (are_held-taken (by_number old.tokens) old.driver new.driver n op there stands.tokens taken);
+    tokens = subst (λ items. AreHeld items new.driver) (sym tokens)
+        (are_held-taken (by_number old.tokens) old.driver new.driver n op there stands.tokens taken);
   };
 }
 
@@ -161,8 +169,10 @@ answers-added old new L op event reply stands tokens adds due single answers = r
     driver = answers.stands;
     none_due = due stands.none_due;
     single = single stands.single;
-    numbered = ap (λ items. length items) tokens ∙ length-added (by_number old.tokens) (Some op) ∙ ap (λ k. k + 1) stands.numbered ∙ sym adds.next;
-    tokens = subst (λ items. AreHeld items new.driver) (sym tokens) (are_held-added (by_number old.tokens) old.driver new.driver op stands.numbered stands.tokens adds);
+    numbered = ap (λ items. length items) tokens ∙ length-added (by_number old.tokens) (Some op)
+        ∙ ap (λ k. k + 1) stands.numbered ∙ sym adds.next;
+    tokens = subst (λ items. AreHeld items new.driver) (sym tokens)
+        (are_held-added (by_number old.tokens) old.driver new.driver op stands.numbered stands.tokens adds);
   };
 }
 
@@ -173,7 +183,8 @@ pub answers-submitted : (old new : Session) (L : Ledger) (request : Request Buf 
     (AreSingle old.driver → AreSingle new.driver) → SubmitsFor (λ r. r) built L request new.driver submitted →
     SessionAnswers L (Submit (plain_request built request)) (Given (number_of op)) new
 answers-submitted old new L request submitted op is stands tokens adds due single answers =
-    answers-added old new L op _ _ stands tokens (subst (λ s. AddsToken old.driver new.driver s) is adds) due single (subst (λ s. SubmitsFor (λ r. r) built L request new.driver s) is answers)
+    answers-added old new L op _ _ stands tokens (subst (λ s. AddsToken old.driver new.driver s) is adds) due single
+    (subst (λ s. SubmitsFor (λ r. r) built L request new.driver s) is answers)
 
 -- What was executed is the session's answer.
 pub answers-executed : (old new : Session) (L : Ledger) (place : ℕ) (told : Told) (executed : Executed) → SessionStands old L →
@@ -189,12 +200,16 @@ answers-executed old new L place told (ExecutedHandle h) stands tokens answers d
 -- So is an execution that was refused.
 pub steps-unexecuted : (old new : Session) (L : Ledger) (place : ℕ) (told : Told) (why : ExecRefusal) (result : Result Reply NoMemory) →
     SessionStands old L → by_number new.tokens ≡ by_number old.tokens →
-    ExecutesFor built L place told new.driver (Err why) → new.driver ≡ old.driver → AnswersRefusal why result → StepsFor L (Exec place told) new result
+    ExecutesFor built L place told new.driver (Err why) → new.driver ≡ old.driver → AnswersRefusal why result →
+    StepsFor L (Exec place told) new result
 steps-unexecuted old new L place told ExecRefusal.NotFlying result stands tokens cause_is driver answer =
-    subst (λ r. StepsFor L (Exec place told) new r) (sym answer) (answers-refused old new L (Exec place told) NotFlying stands cause_is driver tokens)
+    subst (λ r. StepsFor L (Exec place told) new r) (sym answer)
+    (answers-refused old new L (Exec place told) NotFlying stands cause_is driver tokens)
 steps-unexecuted old new L place told ExecRefusal.BadOutcome result stands tokens cause_is driver answer =
-    subst (λ r. StepsFor L (Exec place told) new r) (sym answer) (answers-refused old new L (Exec place told) BadOutcome stands cause_is driver tokens)
-steps-unexecuted old new L place told ExecRefusal.OutOfMemory (Ok reply) stands tokens cause_is driver answer = absurd (let never : ◌≡◌ {A = Bool} false true = answer in cc)
+    subst (λ r. StepsFor L (Exec place told) new r) (sym answer)
+    (answers-refused old new L (Exec place told) BadOutcome stands cause_is driver tokens)
+steps-unexecuted old new L place told ExecRefusal.OutOfMemory (Ok reply) stands tokens cause_is driver answer =
+    absurd (let never : ◌≡◌ {A = Bool} false true = answer in cc)
 steps-unexecuted old new L place told ExecRefusal.OutOfMemory (Err refused) stands tokens cause_is driver answer =
     record { stands = stands-same old new L stands driver tokens; unrefused = cause_is }
 
@@ -204,5 +219,6 @@ pub steps-built : (old new : Session) (L : Ledger) (own : Request Buf Parts) (re
     IfOk result (λ reply. (L : Ledger) → SessionStands old L → SessionAnswers L (Submit (plain_request built own)) reply new) →
     OnErr result ((L : Ledger) → SessionStands old L → SessionStands new L) →
     plain_request built own ≡ request → SessionStands old L → cause L (Submit request) ≡ None → StepsFor L (Submit request) new result
-steps-built old new L own request (Ok reply) ok err plain stands unrefused = subst (λ r. SessionAnswers L (Submit r) reply new) plain (ok L stands)
+steps-built old new L own request (Ok reply) ok err plain stands unrefused =
+    subst (λ r. SessionAnswers L (Submit r) reply new) plain (ok L stands)
 steps-built old new L own request (Err error) ok err plain stands unrefused = record { stands = err L stands; unrefused = unrefused }

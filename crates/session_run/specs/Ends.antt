@@ -12,7 +12,7 @@ use Rattle.session_run.specs.declared.session.Session.{Session}
 use Rattle.session_run.specs.declared.top.Status.{Status}
 use Rattle.session_run.specs.declared.top.Status.TheVariants.{Done, BadWords, BadLine, TooLong, ReadFault, WriteFault, OutOfMemory}
 use Rattle.session_run.specs.declared.input.NoEvents.{NoEvents}
-use Rattle.session_run.specs.declared.input.TheConstants.{PIECE}
+use Rattle.session_run.specs.declared.input.TheConstants.{MOST_INPUT, PIECE}
 use Rattle.session_run.specs.declared.output.Unwritten.{Unwritten}
 use Rattle.session_run.specs.declared.top.Kept.{Kept}
 use Rattle.session_run.specs.declared.top.Kept.TheVariants.{Run}
@@ -21,7 +21,8 @@ use Rattle.session_run.specs.declared.command.Command.TheVariants.{Run as RunOf,
 use Rattle.session_run.specs.Session.{SessionStands}
 use Rattle.session_run.specs.Generated.{generated_events}
 use Rattle.event_text.specs.TextReads.{bytes_of}
-use Rattle.session_run.specs.Top.{most_input, RunDone, LineRefused, NoLineWrong, TookTooMany, IsBadLine, WrotePrefix, WroteSome, SumsFor, TookFew, WakesFor, bad_line_text, reply_lines}
+use Rattle.session_run.specs.Top.{RunDone, LineRefused, NoLineWrong, TookTooMany, IsBadLine, WrotePrefix, WroteSome, SumsFor}
+use Rattle.session_run.specs.Top.{TookFew, WakesFor, bad_line_text, reply_lines}
 
 -- No count of faults rose, as far as the source and the sink tell it.
 pub record NoFaults (tells_source tells_sink : Bool) (source : Reading) (sink : Writing) : Type 0 where
@@ -37,7 +38,7 @@ pub record RanShort (tells_source tells_sink : Bool) (source : Reading) (sink : 
 
 -- All that was left was read.
 pub record IsAll (left rest text : List ℕ) : Type 0 where
-  pub within : length text ≤ most_input
+  pub within : length text ≤ MOST_INPUT
   pub all : text ≡ left
   pub to_its_end : rest ≡ []
 
@@ -63,9 +64,10 @@ WhyNoEvents tells left rest faults later why = WhyUnread tells left rest faults 
 -- Why one read behind so many bytes stopped: too many came, a fault, or no memory.
 abbrev pub WhyStopped : Bool → ℕ → List ℕ → List ℕ → ℕ → ℕ → NoEvents → Type 0
 WhyStopped tells before left rest faults later (NoEvents.BadLine n) = ⊥
-WhyStopped tells before left rest faults later NoEvents.TooLong = IsTrue tells → (n : ℕ) × (most_input < before + n) × Took left rest n
+WhyStopped tells before left rest faults later NoEvents.TooLong = IsTrue tells → (n : ℕ) × (MOST_INPUT < before + n) × Took left rest n
 WhyStopped tells before left rest faults later NoEvents.Fault = Rose faults later
-WhyStopped tells before left rest faults later NoEvents.OutOfMemory = IsTrue tells → (n : ℕ) × (before + n ≤ most_input) × (PIECE < before + n) × Took left rest n × (later ≡ faults)
+WhyStopped tells before left rest faults later NoEvents.OutOfMemory =
+    IsTrue tells → (n : ℕ) × (before + n ≤ MOST_INPUT) × (PIECE < before + n) × Took left rest n × (later ≡ faults)
 
 -- All bytes were written, with no fault counted where the sink tells its bytes.
 pub record Wrote (tells : Bool) (bytes taken now : List ℕ) (faults later : ℕ) : Type 0 where
@@ -123,34 +125,42 @@ pub record RunsDone (tells : Bool) (capacity : ℕ) (events : List Event) (sink 
 -- What running events has done, by the status.
 abbrev pub RunsEvents : Bool → ℕ → List Event → Writing → Option Kept → Status → Type 0
 RunsEvents tells capacity events sink kept Done = RunsDone tells capacity events sink kept
-RunsEvents tells capacity events sink kept WriteFault = Rose sink.faults sink.later × (IsTrue tells → WrotePrefix (reply_lines (replies (empty capacity) events)) sink.taken sink.now)
-RunsEvents tells capacity events sink kept OutOfMemory = IsTrue tells → WroteShort (reply_lines (replies (empty capacity) events)) sink.taken sink.now sink.faults sink.later
+RunsEvents tells capacity events sink kept WriteFault =
+    Rose sink.faults sink.later × (IsTrue tells → WrotePrefix (reply_lines (replies (empty capacity) events)) sink.taken sink.now)
+RunsEvents tells capacity events sink kept OutOfMemory =
+    IsTrue tells → WroteShort (reply_lines (replies (empty capacity) events)) sink.taken sink.now sink.faults sink.later
 RunsEvents tells capacity events sink kept _ = ⊥
 
 -- What `run CAP` has done, by the status.
 abbrev pub RunEnds : Bool → Bool → ℕ → Reading → Writing → Option Kept → Status → Type 0
-RunEnds tells_source tells_sink capacity source sink kept Done = RunDone tells_source tells_sink capacity source.left source.rest sink.taken sink.now kept × IsTrue sink.flushed
+RunEnds tells_source tells_sink capacity source sink kept Done =
+    RunDone tells_source tells_sink capacity source.left source.rest sink.taken sink.now kept × IsTrue sink.flushed
 RunEnds tells_source tells_sink capacity source sink kept BadWords = ⊥
-RunEnds tells_source tells_sink capacity source sink kept BadLine = LineRefused tells_source tells_sink source.left source.rest sink.taken sink.now
-RunEnds tells_source tells_sink capacity source sink kept TooLong = (IsTrue tells_source → TookTooMany source.left source.rest) × (IsTrue tells_sink → sink.now ≡ sink.taken)
-RunEnds tells_source tells_sink capacity source sink kept ReadFault = Rose source.faults source.later × (IsTrue tells_sink → sink.now ≡ sink.taken)
-RunEnds tells_source tells_sink capacity source sink kept WriteFault = Rose sink.faults sink.later × WroteSome tells_source tells_sink capacity source.left source.rest sink.taken sink.now
-RunEnds tells_source tells_sink capacity source sink kept OutOfMemory = RanShort tells_source tells_sink source sink × ((IsTrue tells_sink → sink.now ≡ sink.taken) ⊎ WroteSome tells_source tells_sink capacity source.left source.rest sink.taken sink.now)
+RunEnds tells_source tells_sink capacity source sink kept BadLine =
+    LineRefused tells_source tells_sink source.left source.rest sink.taken sink.now
+RunEnds tells_source tells_sink capacity source sink kept TooLong =
+    (IsTrue tells_source → TookTooMany source.left source.rest) × (IsTrue tells_sink → sink.now ≡ sink.taken)
+RunEnds tells_source tells_sink capacity source sink kept ReadFault =
+    Rose source.faults source.later × (IsTrue tells_sink → sink.now ≡ sink.taken)
+RunEnds tells_source tells_sink capacity source sink kept WriteFault =
+    Rose sink.faults sink.later × WroteSome tells_source tells_sink capacity source.left source.rest sink.taken sink.now
+RunEnds tells_source tells_sink capacity source sink kept OutOfMemory = RanShort tells_source tells_sink source sink
+    × ((IsTrue tells_sink → sink.now ≡ sink.taken) ⊎ WroteSome tells_source tells_sink capacity source.left source.rest sink.taken sink.now)
 
 -- What `copy` has done, by the status: what a copy has done that ends so.
 abbrev pub CopiesFor : Bool → Bool → List ℕ → Reading → Writing → Status → Type 0
 CopiesFor tells_source tells_sink prefix source sink Done =
-    CopyEnds tells_source tells_sink most_input prefix source sink Ending.Done
+    CopyEnds tells_source tells_sink MOST_INPUT prefix source sink Ending.Done
 CopiesFor tells_source tells_sink prefix source sink BadWords = ⊥
 CopiesFor tells_source tells_sink prefix source sink BadLine = ⊥
 CopiesFor tells_source tells_sink prefix source sink TooLong =
-    CopyEnds tells_source tells_sink most_input prefix source sink Ending.TooLong
+    CopyEnds tells_source tells_sink MOST_INPUT prefix source sink Ending.TooLong
 CopiesFor tells_source tells_sink prefix source sink ReadFault =
-    CopyEnds tells_source tells_sink most_input prefix source sink Ending.ReadFault
+    CopyEnds tells_source tells_sink MOST_INPUT prefix source sink Ending.ReadFault
 CopiesFor tells_source tells_sink prefix source sink WriteFault =
-    CopyEnds tells_source tells_sink most_input prefix source sink Ending.WriteFault
+    CopyEnds tells_source tells_sink MOST_INPUT prefix source sink Ending.WriteFault
 CopiesFor tells_source tells_sink prefix source sink OutOfMemory =
-    CopyEnds tells_source tells_sink most_input prefix source sink Ending.OutOfMemory
+    CopyEnds tells_source tells_sink MOST_INPUT prefix source sink Ending.OutOfMemory
 
 -- What a command that reads nothing has done to a sink, by the status.
 abbrev pub SinkEnds : Bool → Writing → Status → Type 0
@@ -161,9 +171,12 @@ SinkEnds tells sink _ = ⊥
 
 -- What a command has done, by the status.
 abbrev pub CommandEnds : Bool → Bool → Command → Reading → Writing → Option Kept → Status → Type 0
-CommandEnds tells_source tells_sink (RunOf capacity) source sink kept status = RunEnds tells_source tells_sink capacity source sink kept status
-CommandEnds tells_source tells_sink (Generate seed rounds) source sink kept status = SumsFor tells_sink (generated_events seed rounds) sink.taken sink.now kept status
-CommandEnds tells_source tells_sink (Wake senders count) source sink kept status = WakesFor tells_sink (senders * count) sink.taken sink.now status
+CommandEnds tells_source tells_sink (RunOf capacity) source sink kept status =
+    RunEnds tells_source tells_sink capacity source sink kept status
+CommandEnds tells_source tells_sink (Generate seed rounds) source sink kept status =
+    SumsFor tells_sink (generated_events seed rounds) sink.taken sink.now kept status
+CommandEnds tells_source tells_sink (Wake senders count) source sink kept status =
+    WakesFor tells_sink (senders * count) sink.taken sink.now status
 CommandEnds tells_source tells_sink (Copy capacity word) source sink kept status =
     (prefix : List ℕ) → bytes_of word.now ≡ Some prefix → CopiesFor tells_source tells_sink prefix source sink status
 

@@ -42,7 +42,8 @@ round_events i choice count =
 abbrev pub rounds_from : ℕ → ℕ → ℕ → List Event
 rounds_from x i zero = []
 rounds_from x i (suc rounds) =
-    round_events i (drawn (next_state x) % 4) (drawn (next_state (next_state x)) % 8 + 1) ++ rounds_from (next_state (next_state x)) (i + 1) rounds
+    round_events i (drawn (next_state x) % 4) (drawn (next_state (next_state x)) % 8 + 1)
+    ++ rounds_from (next_state (next_state x)) (i + 1) rounds
 
 -- The events that a seed generates, of so many rounds: a handle, then the rounds.
 unfoldable pub generated_events : ℕ → ℕ → List Event

@@ -31,10 +31,6 @@ exit_number ReadFault = 4
 exit_number WriteFault = 5
 exit_number OutOfMemory = 6
 
--- The most bytes of input.
-abbrev pub most_input : ℕ
-most_input = MOST_INPUT
-
 -- A text and its newline.
 abbrev pub ended : List ℕ → List ℕ
 ended text = text ++ 10 ∷ []
@@ -70,11 +66,12 @@ generated_text events refused ready =
 -- What is written of these events, run over a queue of `ENTRIES` entries.
 abbrev pub summary_text : List Event → List ℕ
 summary_text events =
-    generated_text (length events) (count_by is_refused (replies (empty ENTRIES) events)) (count_by is_ready (replies (empty ENTRIES) events))
+    generated_text (length events) (count_by is_refused (replies (empty ENTRIES) events))
+    (count_by is_ready (replies (empty ENTRIES) events))
 
 -- The input, of at most so many bytes, was read to its end, and its lines stand for these events, one each.
 pub record WasRead (left rest : List ℕ) (events : List Event) : Type 0 where
-  pub within : length left ≤ most_input
+  pub within : length left ≤ MOST_INPUT
   pub to_its_end : rest ≡ []
   pub stand : AllZip StandsFor (lines left) events
 
@@ -91,7 +88,7 @@ pub record RunDone (tells_source tells_sink : Bool) (capacity : ℕ) (left rest 
 
 -- The input, of at most so many bytes, was read to its end, and this is the number of its first line that stands for no event.
 pub record IsBadLine (left rest : List ℕ) (n : ℕ) : Type 0 where
-  pub within : length left ≤ most_input
+  pub within : length left ≤ MOST_INPUT
   pub to_its_end : rest ≡ []
   pub first : IsFirstWrong (lines left) n
 
@@ -103,12 +100,12 @@ pub record LineRefused (tells_source tells_sink : Bool) (left rest taken now : L
 
 -- More bytes were taken than the input may have.
 abbrev pub TookTooMany : List ℕ → List ℕ → Type 0
-TookTooMany left rest = TookMore most_input left rest
+TookTooMany left rest = TookMore MOST_INPUT left rest
 
 -- No more bytes were taken than the input may have.
 pub record TookFew (left rest : List ℕ) : Type 0 where
   pub count : ℕ
-  pub few : count ≤ most_input
+  pub few : count ≤ MOST_INPUT
   pub taken : rest ≡ drop count left
 
 -- Memory ran out, and no line that could be looked at is wrong: nothing was taken; or more bytes than memory was taken for before

@@ -12,7 +12,7 @@ use std::alloc::{AllocError, Global};
 pub const MOST_INPUT: usize = 16777216;
 
 // The most reads that find bytes in an input that isn't too long, and one more.
-const READS: usize = 16777217;
+const READS: usize = MOST_INPUT + 1;
 
 /// How many bytes one read asks for, and for how many memory is taken before the first.
 pub const PIECE: usize = 65536;

@@ -1,12 +1,13 @@
 //! A session: a driver over the ring in memory, and the tokens of its operations.
-ghost use Rattle.std.specs.Prelude.{◌≡◌, ◌<◌, ◌^◌, length, IfOk, IfNone, OnErr, None, Some, IsTrue, IsOk, vec_len, vec_capacity};
+ghost use Rattle.std.specs.Prelude.{◌≡◌, ◌<◌, length, IfOk, IfNone, OnErr, None, Some, IsTrue, IsOk, vec_len, vec_capacity};
 ghost use Rattle.rent_buf.specs.Buf.{built};
 ghost use Rattle.ring_core.specs.Request.{named, held_of, plain_request};
 ghost use Rattle.ring_core.specs.Ledger.{Ledger, empty};
 ghost use Rattle.ring_core.specs.Refusal.{cause};
 ghost use Rattle.ring_core.specs.Run.{ledger, replies};
 ghost use Rattle.run_laws.specs.Closes.{ClosedOnce, ClosedWhenReleased, ClosedWhenOver, UnheldCloses};
-ghost use Rattle.run_laws.specs.Headline.{OneReplyEach, RefusedExactly, PendingUntilReaped, HandsBackOwn, FirstPollHands, HandedOnce, DroppedOnce, ReapNames, CanceledWhereAsked};
+ghost use Rattle.run_laws.specs.Headline.{OneReplyEach, RefusedExactly, PendingUntilReaped, HandsBackOwn, FirstPollHands, HandedOnce};
+ghost use Rattle.run_laws.specs.Headline.{DroppedOnce, ReapNames, CanceledWhereAsked};
 ghost use Rattle.ring_core.specs.declared.ledger.Event.TheVariants.{Give, Feed, End, Submit, Poll, Drop, Cancel, Turn, Exec};
 ghost use Rattle.uring_driver.specs.Uring.{holds_all, given_by};
 ghost use Rattle.session_run.specs.Session.{AreParts, PartsStand, SessionStands, SessionAnswers, StepsFor, TakesNoMemory, driver_in};
@@ -142,7 +143,7 @@ impl Session {
         events: &[Event],
     ) -> Result<(Vec<Reply>, Session), RunError>
         requires capacity { 0 < capacity }
-        requires count { length events.now < 2 ^ 62 }
+        requires count { length events.now < MOST_GIVEN }
         // The replies are the machine's, and the session stands for the ledger that it ends with.
         ensures replies { IfOk result (λ run. run.0.items ≡ replies (empty capacity) events.now) }
         ensures stands { IfOk result (λ run. SessionStands run.1 (ledger capacity events.now)) }
@@ -310,9 +311,10 @@ impl Session {
     // A request of handles that the user holds is submitted, and its token kept.
     fn submit_built(&mut self, request: Request<Buf, VecBuf>) -> Result<Reply, OutOfMemory>
         requires held { IsTrue (holds_all self.old.driver (named request)) }
-        requires counter { given_by self.old.driver < 2 ^ 62 }
+        requires counter { given_by self.old.driver < MOST_GIVEN }
         requires room { vec_len self.old.tokens.ops < vec_capacity self.old.tokens.ops }
-        ensures ok { IfOk result (λ reply. (L : Ledger) → SessionStands self.old L → SessionAnswers L (Submit (plain_request built request)) reply self.new) }
+        ensures ok { IfOk result (λ reply. (L : Ledger) → SessionStands self.old L →
+            SessionAnswers L (Submit (plain_request built request)) reply self.new) }
         ensures err { OnErr result ((L : Ledger) → SessionStands self.old L → SessionStands self.new L) }
     {
         match self.driver.submit_with(request) {

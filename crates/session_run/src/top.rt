@@ -27,7 +27,7 @@ use std::rt::Clock;
 use std::sync::Wait;
 use std::sync::ledger::Blank;
 use std::thread::Threads;
-use wake_core::OpenGate;
+use wake_core::{OpenGate, PUSH_PARTS};
 
 /// How the program ends. (not in monoio)
 #[derive(Clone, Copy, Debug, PartialEq, Eq)]
@@ -100,7 +100,8 @@ pub fn top<R: Threads + Wait + Clock + Sync, S: ByteSource, K: ByteSink>(
 
     // What each command has read, written and kept, by the status.
     ensures runs { (capacity : ℕ) → IsRun (map string_bytes words.now) capacity →
-        RunEnds S.tells K.tells capacity (reading S.left S.faults source.old source.new) (writing K.taken K.faults K.is_flushed sink.old sink.new) kept.new result }
+        RunEnds S.tells K.tells capacity (reading S.left S.faults source.old source.new)
+        (writing K.taken K.faults K.is_flushed sink.old sink.new) kept.new result }
     ensures sums { (seed rounds : ℕ) → IsGenerate (map string_bytes words.now) seed rounds →
         SumsFor K.tells (generated_events seed rounds) (K.taken sink.old) (K.taken sink.new) kept.new result }
     ensures wakes { (senders count : ℕ) → IsWake (map string_bytes words.now) senders count →
@@ -267,7 +268,7 @@ fn run_wake<R: Threads + Wait + Clock + Sync, K: ByteSink>(
     ensures wakes { WakesFor K.tells (senders * count) (K.taken sink.old) (K.taken sink.new) result }
     ensures ends { SinkEnds K.tells (writing K.taken K.faults K.is_flushed sink.old sink.new) result }
 {
-    let (pushes, drains) = (Blank::new(65537), Blank::new(1));
+    let (pushes, drains) = (Blank::new(PUSH_PARTS), Blank::new(1));
     let gate = OpenGate;
     let Ok(settled) = wake_all::<Brand, Brand, OpenGate, R>(
         rt, alloc, pushes, drains, senders, count, &gate,

@@ -12,7 +12,7 @@ use std::thread;
 use std::thread::{JoinHandle, Scope, Threads};
 use std::time::Clock;
 use uring_driver::{Driver, IoUringDriver};
-use wake_core::{Gate, MAX_PUSHED, RemoteSender, Settled, Sleeper, WakeCell, Woken};
+use wake_core::{Gate, MAX_PUSHED, PUSH_PARTS, RemoteSender, Settled, Sleeper, WakeCell, Woken};
 
 // How often the driver parks at most.
 const PARKS: u32 = 1000;
@@ -39,7 +39,7 @@ where
     D: Ledger + Send + Sync,
     G: Gate,
     R: Threads + Wait + Clock + Sync,
-    requires pushes { (pushes.name ≡ P.name) × (pushes.parts ≡ P.parts) × (pushes.parts ≡ 65537) }
+    requires pushes { (pushes.name ≡ P.name) × (pushes.parts ≡ P.parts) × (pushes.parts ≡ PUSH_PARTS) }
     requires drains { (drains.name ≡ D.name) × (drains.parts ≡ D.parts) × (drains.parts ≡ 1) }
     requires few { senders ≤ MOST_SENDERS }
     ensures { IfOk result (λ settled. settled.drained ≡ senders * count) }

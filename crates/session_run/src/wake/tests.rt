@@ -46,7 +46,7 @@ fn senders_run_beside_each_other(rt: HostRuntime) -> Result<(), Fail> {
     let settled = wake_all::<Brand, Brand, Both, HostRuntime>(
         &rt,
         rt.alloc(),
-        Blank::new(65537),
+        Blank::new(PUSH_PARTS),
         Blank::new(1),
         2,
         3,

@@ -10,9 +10,11 @@ returns-in-Ok-read_events-clause-read g c = λ told.
 pub returns-in-Err-BadLine-clause-why : goal.returns-in-Err-BadLine-clause-why
 returns-in-Err-BadLine-clause-why g c = λ told.
     was-wrong _ _ _ c.as_slice.result.now c.in-Err-BadLine.line (c.in-Ok.ensures.read told) c.as_slice.ensures.value
-    (subst (λ why. IfBadLine (IsFirstWrong (lines c.as_slice.result.now)) why) c.in-Err-BadLine.field-0-is c.in-Err-BadLine.ensures.bad_line)
+    (subst (λ why. IfBadLine (IsFirstWrong (lines c.as_slice.result.now)) why) c.in-Err-BadLine.field-0-is
+    c.in-Err-BadLine.ensures.bad_line)
 
 pub returns-clause-why : goal.returns-clause-why
 returns-clause-why g c = λ told.
     right-short _ _ _ c.as_slice.result.now _ _ (c.in-Ok.ensures.read told) c.as_slice.ensures.value
-    (subst (λ why. IfShort (AreEvents (lines c.as_slice.result.now)) why) c.in-Err-OutOfMemory.field-0-is c.in-Err-OutOfMemory.ensures.memory) (c.in-Ok.ensures.calm told)
+    (subst (λ why. IfShort (AreEvents (lines c.as_slice.result.now)) why) c.in-Err-OutOfMemory.field-0-is
+    c.in-Err-OutOfMemory.ensures.memory) (c.in-Ok.ensures.calm told)

@@ -11,7 +11,8 @@ abbrev pub invariant-loop-event : goal.invariant-loop-event
 invariant-loop-event g l = record {
   stands : SessionStands l.session (after (empty l.capacity) (take (length l.yielded) l.fn.events.items));
   sent : IsTrue g.K.ByteSink.tells
-      → Sent (reply_lines (take (length l.yielded) (replies (empty l.capacity) l.fn.events.items))) l.out.items (g.K.ByteSink.taken l.initial.sink)
+      → Sent (reply_lines (take (length l.yielded) (replies (empty l.capacity) l.fn.events.items))) l.out.items
+      (g.K.ByteSink.taken l.initial.sink)
       (g.K.ByteSink.taken l.sink);
   faults : g.K.ByteSink.faults l.initial.sink ≤ g.K.ByteSink.faults l.sink;
   calm : IsTrue g.K.ByteSink.tells → g.K.ByteSink.faults l.sink ≡ g.K.ByteSink.faults l.initial.sink;

@@ -8,11 +8,13 @@ returns-in-Some-clause-runs g c = λ capacity run.
 
 pub returns-in-Some-clause-sums : goal.returns-in-Some-clause-sums
 returns-in-Some-clause-sums g c = λ seed rounds gen.
-    sum-ends g.S.ByteSource.tells g.K.ByteSink.tells _ c.in-Some.command seed rounds _ _ _ _ c.in-Some.ensures gen c.run_command.ensures.ends
+    sum-ends g.S.ByteSource.tells g.K.ByteSink.tells _ c.in-Some.command seed rounds _ _ _ _ c.in-Some.ensures gen
+    c.run_command.ensures.ends
 
 pub returns-in-Some-clause-wakes : goal.returns-in-Some-clause-wakes
 returns-in-Some-clause-wakes g c = λ senders count wake.
-    wake-ends g.S.ByteSource.tells g.K.ByteSink.tells _ c.in-Some.command senders count _ _ _ _ c.in-Some.ensures wake c.run_command.ensures.ends
+    wake-ends g.S.ByteSource.tells g.K.ByteSink.tells _ c.in-Some.command senders count _ _ _ _ c.in-Some.ensures wake
+    c.run_command.ensures.ends
 
 pub returns-in-Some-clause-unread_sums : goal.returns-in-Some-clause-unread_sums
 returns-in-Some-clause-unread_sums g c = λ seed rounds gen.

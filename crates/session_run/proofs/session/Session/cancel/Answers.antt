@@ -9,20 +9,25 @@ use Rattle.session_run.proofs.Steps.{answers-kept, answers-refused, stands-kept}
 use Rattle.session_run.proofs.session.Session.cancel.Goals as goal
 
 pub returns-in-None : goal.returns-in-None
-returns-in-None c = λ L stands. answers-refused c.args.self.now _ L _ _ stands (cause-cancel L c.args.n (no_token-lacks c.args.self.now L c.args.n stands c.in-None.ensures _ refl)) refl refl
+returns-in-None c = λ L stands. answers-refused c.args.self.now _ L _ _ stands
+    (cause-cancel L c.args.n (no_token-lacks c.args.self.now L c.args.n stands c.in-None.ensures _ refl)) refl refl
 
 pub cancel_op-requires : goal.cancel_op-requires
 cancel_op-requires c = c.holds.ensures.0 c.if-not-holds.false
 
 pub returns-in-Ok : goal.returns-in-Ok
 returns-in-Ok c = λ L stands. answers-kept c.args.self.now _ L _ _ stands refl
-    (subst (λ n. Answers (λ r. r) built L (Cancel n) Asked c.cancel_op.new.self) ((stands.tokens c.args.n c.in-Some.op.now).0 c.in-Some.ensures).1 (c.in-Ok.ensures.answers refl L stands.driver))
+    (subst (λ n. Answers (λ r. r) built L (Cancel n) Asked c.cancel_op.new.self)
+    ((stands.tokens c.args.n c.in-Some.op.now).0 c.in-Some.ensures).1 (c.in-Ok.ensures.answers refl L stands.driver))
     (c.cancel_op.ensures.none_due refl)
-    (single-same c.args.self.now.driver c.cancel_op.new.self c.cancel_op.ensures.same.holding) c.cancel_op.ensures.tokens c.cancel_op.ensures.given
+    (single-same c.args.self.now.driver c.cancel_op.new.self c.cancel_op.ensures.same.holding) c.cancel_op.ensures.tokens
+    c.cancel_op.ensures.given
 
 pub returns-in-Err : goal.returns-in-Err
 returns-in-Err c = λ L stands. record {
-  unrefused = (let held = (stands.tokens c.args.n c.in-Some.op.now).0 c.in-Some.ensures in unrefused-cancel L c.args.n (token-owns c.args.self.now L c.args.n c.in-Some.op.now stands held.0 held.1));
+  unrefused = (let held = (stands.tokens c.args.n c.in-Some.op.now).0 c.in-Some.ensures in
+      unrefused-cancel L c.args.n (token-owns c.args.self.now L c.args.n c.in-Some.op.now stands held.0 held.1));
   stands = stands-kept c.args.self.now _ L L stands refl (c.in-Err.ensures.err L stands.driver) (c.cancel_op.ensures.none_due refl)
-      (single-same c.args.self.now.driver c.cancel_op.new.self c.cancel_op.ensures.same.holding) c.cancel_op.ensures.tokens c.cancel_op.ensures.given;
+      (single-same c.args.self.now.driver c.cancel_op.new.self c.cancel_op.ensures.same.holding) c.cancel_op.ensures.tokens
+      c.cancel_op.ensures.given;
 }

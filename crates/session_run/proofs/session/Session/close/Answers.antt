@@ -10,14 +10,16 @@ use Rattle.session_run.proofs.session.Session.close.Goals as goal
 
 pub returns-then-not-user_holds : goal.returns-then-not-user_holds
 returns-then-not-user_holds c = λ L stands. answers-refused c.args.self.now _ L _ _ stands
-    (cause-close L c.args.h (sym (stands.driver.handles.holders.users c.args.h) ∙ sym c.user_holds.ensures ∙ c.if-not-user_holds.true)) refl refl
+    (cause-close L c.args.h (sym (stands.driver.handles.holders.users c.args.h) ∙ sym c.user_holds.ensures
+    ∙ c.if-not-user_holds.true)) refl refl
 
 pub returns : goal.returns
 returns c = λ L stands.
     let old = c.args.self.now.driver in
     let new = c.close.new.self in
     let answers : ReleasesFor (λ r. r) built L c.args.h (user_count (holding_in old) c.args.h) new =
-    subst (λ h. ReleasesFor (λ r. r) built L h (user_count (holding_in old) h) new) c.new.ensures (c.close.ensures.answers refl L stands.driver) in
+    subst (λ h. ReleasesFor (λ r. r) built L h (user_count (holding_in old) h) new) c.new.ensures
+    (c.close.ensures.answers refl L stands.driver) in
     answers-kept c.args.self.now _ L _ _ stands refl
     (subst (λ b. ReleasesIf (λ r. r) built L c.args.h b new)
     (once-held old c.args.h stands.single (sym c.user_holds.ensures ∙ c.if-not-user_holds.false)) answers)

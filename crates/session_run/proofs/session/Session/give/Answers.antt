@@ -4,7 +4,8 @@ use Rattle.session_run.proofs.Steps.{answers-kept, stands-kept}
 use Rattle.session_run.proofs.session.Session.give.Goals as goal
 
 pub returns-in-Ok : goal.returns-in-Ok
-returns-in-Ok c = λ L stands. answers-kept c.args.self.now _ L _ _ stands refl (rw c.number.ensures (c.in-Ok.ensures.answers L stands.driver))
+returns-in-Ok c = λ L stands.
+    answers-kept c.args.self.now _ L _ _ stands refl (rw c.number.ensures (c.in-Ok.ensures.answers L stands.driver))
     (λ none. c.give.ensures.due ∙ none) (single-adopted c.args.self.now.driver c.give.new.self _ c.in-Ok.ensures.handles)
     c.give.ensures.tokens c.give.ensures.given
 

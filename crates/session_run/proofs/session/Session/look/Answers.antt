@@ -6,7 +6,8 @@ use Rattle.session_run.proofs.session.Session.look.Goals as goal
 
 pub returns-then-not-has_handle : goal.returns-then-not-has_handle
 returns-then-not-has_handle c = λ L stands. answers-refused c.args.self.now _ L _ _ stands
-    (cause-look L c.args.h (sym (has-held c.args.self.now.driver L c.args.h stands.driver) ∙ sym c.has_handle.ensures ∙ c.if-not-has_handle.true)) refl refl
+    (cause-look L c.args.h (sym (has-held c.args.self.now.driver L c.args.h stands.driver) ∙ sym c.has_handle.ensures
+    ∙ c.if-not-has_handle.true)) refl refl
 
 pub returns-in-Ok : goal.returns-in-Ok
 returns-in-Ok c = λ L stands. answers-looked c.args.self.now L c.args.h c.in-Ok.look _ stands c.shown_by.ensures
@@ -15,5 +16,6 @@ returns-in-Ok c = λ L stands. answers-looked c.args.self.now L c.args.h c.in-Ok
 pub returns-in-Err : goal.returns-in-Err
 returns-in-Err c = λ L stands. record {
   stands = stands;
-  unrefused = unrefused-look L c.args.h (sym (has-held c.args.self.now.driver L c.args.h stands.driver) ∙ sym c.has_handle.ensures ∙ c.if-not-has_handle.false);
+  unrefused = unrefused-look L c.args.h
+      (sym (has-held c.args.self.now.driver L c.args.h stands.driver) ∙ sym c.has_handle.ensures ∙ c.if-not-has_handle.false);
 }

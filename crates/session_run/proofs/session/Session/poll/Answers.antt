@@ -16,7 +16,8 @@ pub returns-in-None : goal.returns-in-None
 returns-in-None c = λ L stands.
     let items = by_number c.args.self.now.tokens in
     let none : token_at items c.args.n ≡ None = sym c.in-None.ensures.value in
-    answers-refused c.args.self.now _ L _ _ stands (cause-poll L c.args.n c.args.task (no_token-lacks c.args.self.now L c.args.n stands none _ refl)) refl (c.in-None.ensures.rest ∙ emptied-none items c.args.n none)
+    answers-refused c.args.self.now _ L _ _ stands (cause-poll L c.args.n c.args.task
+    (no_token-lacks c.args.self.now L c.args.n stands none _ refl)) refl (c.in-None.ensures.rest ∙ emptied-none items c.args.n none)
 
 pub poll_op-requires : goal.poll_op-requires
 poll_op-requires c = c.holds.ensures.0 c.if-not-holds.false
@@ -28,13 +29,20 @@ returns-in-Pending c = λ L stands.
     let emptied = ap (λ x. token_at x c.args.n) c.in-Some.ensures.rest ∙ token_at-emptied items c.args.n in
     let back = ap (λ o. amended (by_number c.take.new.self) c.args.n (λ token. Some o)) c.in-Pending.ensures.tokens.0 in
     answers-kept c.args.self.now _ L _ _ stands
-    (c.put.ensures emptied ∙ back ∙ ap (λ x. amended x c.args.n (λ token. Some c.in-Some.op)) c.in-Some.ensures.rest ∙ put-taken items c.args.n c.in-Some.op there)
-    (subst (λ n. Answers (λ r. r) built L (Poll n c.args.task) Pending c.poll_op.new.self) ((stands.tokens c.args.n c.in-Some.op).0 there).1 (c.in-Pending.ensures.answers (inl refl) L stands.driver))
-    (c.poll_op.ensures.none_due refl) (single-same c.args.self.now.driver c.poll_op.new.self c.in-Pending.ensures.handles) c.in-Pending.ensures.tokens.1 c.poll_op.ensures.given
+    (c.put.ensures emptied ∙ back ∙ ap (λ x. amended x c.args.n (λ token. Some c.in-Some.op)) c.in-Some.ensures.rest
+    ∙ put-taken items c.args.n c.in-Some.op there)
+    (subst (λ n. Answers (λ r. r) built L (Poll n c.args.task) Pending c.poll_op.new.self) ((stands.tokens c.args.n c.in-Some.op).0 there).1
+    (c.in-Pending.ensures.answers (inl refl) L stands.driver))
+    (c.poll_op.ensures.none_due refl) (single-same c.args.self.now.driver c.poll_op.new.self c.in-Pending.ensures.handles)
+    c.in-Pending.ensures.tokens.1 c.poll_op.ensures.given
 
 pub returns-in-Ready : goal.returns-in-Ready
 returns-in-Ready c = λ L stands.
     let there = sym c.in-Some.ensures.value in
-    rw c.plain_held.ensures (answers-taken c.args.self.now _ L c.args.n c.in-Some.op _ _ stands there c.in-Some.ensures.rest c.in-Ready.ensures.tokens
-    (c.poll_op.ensures.none_due refl) (single-left c.args.self.now.driver c.poll_op.new.self _ c.in-Ready.ensures.handles) c.poll_op.ensures.given
-    (subst (λ n. Answers (λ r. r) built L (Poll n c.args.task) (Handed c.in-Ready.done.outcome (held_of (plain_request built c.in-Ready.done.request))) c.poll_op.new.self) ((stands.tokens c.args.n c.in-Some.op).0 there).1 (c.in-Ready.ensures.answers (inl refl) L stands.driver).0))
+    rw c.plain_held.ensures
+    (answers-taken c.args.self.now _ L c.args.n c.in-Some.op _ _ stands there c.in-Some.ensures.rest c.in-Ready.ensures.tokens
+    (c.poll_op.ensures.none_due refl)
+    (single-left c.args.self.now.driver c.poll_op.new.self _ c.in-Ready.ensures.handles) c.poll_op.ensures.given
+    (subst (λ n. Answers (λ r. r) built L (Poll n c.args.task)
+    (Handed c.in-Ready.done.outcome (held_of (plain_request built c.in-Ready.done.request))) c.poll_op.new.self)
+    ((stands.tokens c.args.n c.in-Some.op).0 there).1 (c.in-Ready.ensures.answers (inl refl) L stands.driver).0))

@@ -8,8 +8,10 @@ returns-then-not-holds_named-clause-named c = λ L stands.
 
 pub returns-then-num_operations-ge-MAX_LIVE-clause-named : goal.returns-then-num_operations-ge-MAX_LIVE-clause-named
 returns-then-num_operations-ge-MAX_LIVE-clause-named c = λ L stands.
-    cause-submit_full c.args.self.now L c.args.request.now c.num_operations.result stands (sym c.holds_named.ensures ∙ c.if-not-holds_named.false) c.num_operations.ensures c.if-num_operations-ge-MAX_LIVE.true
+    cause-submit_full c.args.self.now L c.args.request.now c.num_operations.result stands
+    (sym c.holds_named.ensures ∙ c.if-not-holds_named.false) c.num_operations.ensures c.if-num_operations-ge-MAX_LIVE.true
 
 pub returns-clause-named : goal.returns-clause-named
 returns-clause-named c = λ L stands.
-    unrefused-submit c.args.self.now L c.args.request.now c.num_operations.result stands (sym c.holds_named.ensures ∙ c.if-not-holds_named.false) c.num_operations.ensures c.if-num_operations-ge-MAX_LIVE.false
+    unrefused-submit c.args.self.now L c.args.request.now c.num_operations.result stands
+    (sym c.holds_named.ensures ∙ c.if-not-holds_named.false) c.num_operations.ensures c.if-num_operations-ge-MAX_LIVE.false

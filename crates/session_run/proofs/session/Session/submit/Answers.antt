@@ -10,14 +10,21 @@ pub returns-then-given-ge-MOST_GIVEN : goal.returns-then-given-ge-MOST_GIVEN
 returns-then-given-ge-MOST_GIVEN c = λ L stands. record { stands = stands; unrefused = c.refusal_of.ensures.named L stands ∙ c.in-None.is }
 
 pub returns-then-is_err : goal.returns-then-is_err
-returns-then-is_err c = λ L stands. record { stands = stands-same c.args.self.now _ L stands refl c.reserve_one.ensures.items; unrefused = c.refusal_of.ensures.named L stands ∙ c.in-None.is }
+returns-then-is_err c = λ L stands. record {
+  stands = stands-same c.args.self.now _ L stands refl c.reserve_one.ensures.items;
+  unrefused = c.refusal_of.ensures.named L stands ∙ c.in-None.is;
+}
 
 pub submit_built-requires-clause-held : goal.submit_built-requires-clause-held
 submit_built-requires-clause-held c = ap (holds_all c.args.self.now.driver) c.in-Ok.ensures.names ∙ c.in-None.ensures.held
 
 pub returns-in-Ok : goal.returns-in-Ok
-returns-in-Ok c = λ L stands. steps-built _ c.submit_built.new.self L _ _ c.submit_built.result c.submit_built.ensures.ok c.submit_built.ensures.err c.in-Ok.ensures.plain
+returns-in-Ok c = λ L stands. steps-built _ c.submit_built.new.self L _ _ c.submit_built.result c.submit_built.ensures.ok
+    c.submit_built.ensures.err c.in-Ok.ensures.plain
     (stands-same c.args.self.now _ L stands refl c.reserve_one.ensures.items) (c.refusal_of.ensures.named L stands ∙ c.in-None.is)
 
 pub returns-in-Err : goal.returns-in-Err
-returns-in-Err c = λ L stands. record { stands = stands-same c.args.self.now _ L stands refl c.reserve_one.ensures.items; unrefused = c.refusal_of.ensures.named L stands ∙ c.in-None.is }
+returns-in-Err c = λ L stands. record {
+  stands = stands-same c.args.self.now _ L stands refl c.reserve_one.ensures.items;
+  unrefused = c.refusal_of.ensures.named L stands ∙ c.in-None.is;
+}

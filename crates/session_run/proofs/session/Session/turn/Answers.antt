@@ -11,7 +11,8 @@ returns-in-None c = λ L stands.
     let new = c.submit-turned.new.self in
     let turned = c.submit-turned.result in
     let meets = c.submit-turned.ensures.turns in
-    let turns = subst (λ stop. TurnsFor (λ r. r) built true L old new turned meets.queued stop) c.in-None.is (meets.turns refl L stands.driver) in
+    let turns = subst (λ stop. TurnsFor (λ r. r) built true L old new turned meets.queued stop) c.in-None.is
+    (meets.turns refl L stands.driver) in
     let treats = subst (λ stop. TreatsFor (λ r. r) true old new turned meets.queued stop) c.in-None.is meets.treats in
     answers-kept c.args.self.now _ L _ _ stands refl (turns.1 (inl refl)) (meets.none_due refl)
     (single-turned old new turned meets.queued _ treats) meets.tokens meets.given
@@ -22,5 +23,9 @@ returns-in-Some c = λ L stands.
     let new = c.submit-turned.new.self in
     let turned = c.submit-turned.result in
     let meets = c.submit-turned.ensures.turns in
-    let turns = subst (λ stop. TurnsFor (λ r. r) built true L old new turned meets.queued stop) c.in-Some.is (meets.turns refl L stands.driver) in
-    record { unrefused = refl; stands = stands-same c.args.self.now _ L stands (stopped-same L old new turned meets.queued c.in-Some.field-0 turns) refl }
+    let turns = subst (λ stop. TurnsFor (λ r. r) built true L old new turned meets.queued stop) c.in-Some.is
+    (meets.turns refl L stands.driver) in
+    record {
+      unrefused = refl;
+      stands = stands-same c.args.self.now _ L stands (stopped-same L old new turned meets.queued c.in-Some.field-0 turns) refl;
+    }

@@ -1,4 +1,3 @@
-use Rattle.std.proofs.Common.{refl}
 use Rattle.session_run.proofs.Parts.{parts_turned}
 use Rattle.session_run.proofs.session.tests.reap.Goals as goal
 
