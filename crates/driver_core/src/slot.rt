@@ -101,7 +101,8 @@ fn poll_slot<B: Drop>(slots: &mut Slab<Slot<B>>, key: usize, task: u64) -> After
 fn take_done<B: Drop>(slots: &mut Slab<Slot<B>>, key: usize) -> Done<B>
     requires live { IsSome (map.get slots.old.values key) }
     requires completed { IfSome (map.get slots.old.values key) (λ s. IsCompleted s.life) }
-    ensures done { IfSome (map.get slots.old.values key) (λ s. (s.request ≡ result.request) × (s.life ≡ Lifecycle.Completed result.outcome)) }
+    ensures done { IfSome (map.get slots.old.values key) (λ s. (s.request ≡ result.request) ×
+        (s.life ≡ Lifecycle.Completed result.outcome)) }
     ensures slots { slots.new.values ≡ map.remove slots.old.values key }
 {
     match slots.remove(key) {

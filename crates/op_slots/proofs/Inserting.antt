@@ -12,7 +12,8 @@ use Rattle.op_slots.specs.declared.slab.pages.TheConstants.{NUM_PAGES, PAGE_INIT
 use Rattle.op_slots.specs.Page.{Places, at, taken, spare}
 use Rattle.op_slots.specs.Pages.{page_of, places_on, first_key}
 use Rattle.op_slots.specs.Slots.{IsPageFull, MakesPage}
-use Rattle.op_slots.specs.Places.{all_places, room_in, AreSized, AreKept, slots_of, HasMemoryAt, IsOpenAt, AreFullFrom, IsLastFull, FindsPlace, PutsOn}
+use Rattle.op_slots.specs.Places.{all_places, room_in, AreSized, AreKept, slots_of, HasMemoryAt, IsOpenAt, AreFullFrom, IsLastFull}
+use Rattle.op_slots.specs.Places.{FindsPlace, PutsOn}
 use Rattle.op_slots.proofs.Pages.{next_first, first-mono, first-bound, page_of-at}
 use Rattle.op_slots.proofs.Places.{map_of, get-places, map-put, map-more, taken-put, taken-append, taken-le, taken-below, held_everywhere}
 use Rattle.op_slots.proofs.AllPlaces.{sized-at, sized-set, sized-push, at-places, set-places, places-push, same-length, same-all}
@@ -77,7 +78,10 @@ module _ {T : Type 0} where
             let e : 0 + length old ≡ length old = omega arith in
             let new_size : length new.0.places ≡ places_on (0 + length old) = rw (e, new.2) (length-replicate {A = Option T} count None) in
             record {
-              shape = record { sized = subst (AreSized 0) (sym new.1) (sized-push 0 old new.0 h.sized new_size); few = omega (arith, size, added.2) };
+              shape = record {
+                sized = subst (AreSized 0) (sym new.1) (sized-push 0 old new.0 h.sized new_size);
+                few = omega (arith, size, added.2);
+              };
               counted = h.counted ∙ sym (ap taken all ∙ omega (arith, taken-append (all_places old) new.0.places, none));
               values = ap map_of all ∙ map-more (all_places old) new.0.places none;
               within = within;
@@ -148,7 +152,13 @@ module _ {T : Type 0} where
   reserved old mid live first removals i h finds =
       let f = found old mid live first removals i h finds in
       record {
-        kept = record { sized = f.shape.sized; few = f.shape.few; counted = f.counted; search = omega (arith, f.within); interval = h.interval };
+        kept = record {
+          sized = f.shape.sized;
+          few = f.shape.few;
+          counted = f.counted;
+          search = omega (arith, f.within);
+          interval = h.interval;
+        };
         values = f.values;
         room = room-at mid i finds.0;
         made = f.made;

@@ -1,6 +1,6 @@
 //! A finite map that chooses the keys of its values, which lie on pages of doubling size.
-ghost use Rattle.std.specs.Prelude.{◌≡◌, ◌+◌, ◌-◌, ◌<◌, ◌≤◌, ◌%◌, ◌↔◌, max, vec_len, IfOk, OnOk, OnErr, IfErr, IsErrOf, OnSome, IfSome, IfNone};
-ghost use Rattle.std.specs.Prelude.{IsSome, IsTrue, None, Some, option_copied};
+ghost use Rattle.std.specs.Prelude.{◌≡◌, ◌+◌, ◌-◌, ◌<◌, ◌≤◌, ◌%◌, ◌↔◌, max, vec_len, IfOk, OnOk, OnErr, IfErr, IsErrOf};
+ghost use Rattle.std.specs.Prelude.{IsSome, IsTrue, None, Some, option_copied, OnSome, IfSome, IfNone};
 ghost use Rattle.std.specs.Borrow.{sem};
 ghost use Rattle.std.specs.FinMap as map;
 ghost use Rattle.op_slots.specs.Pages.{page_of as page_by_rule, first_key as first_by_rule};

@@ -51,7 +51,9 @@ impl Model for Flights {
 
     ghost view = { λ f. record { flights = kept f.ranks.flags f.items.items; room = f.room } };
 
-    ghost invariant = { λ f. AreLinked f.links.items f.ranks.flags (words_of f.items.items) × AreStored (vec_len f.items) f.live f.room (vec_capacity f.items) f.ranks × ForSome f.looked (λ spot. IsSpot f.ranks.flags spot.place spot.slot) };
+    ghost invariant = { λ f. AreLinked f.links.items f.ranks.flags (words_of f.items.items) ×
+        AreStored (vec_len f.items) f.live f.room (vec_capacity f.items) f.ranks ×
+        ForSome f.looked (λ spot. IsSpot f.ranks.flags spot.place spot.slot) };
 }
 
 impl Flights {

@@ -52,9 +52,19 @@ impl Model for MemRing {
 
     ghost Value = { RingView };
 
-    ghost view = { λ r. record { capacity = r.entries; queue = r.queue.items; flying = r.flying.flights; done = r.done.items; world = r.world; spare = r.spare; faults = 0; busies = 0 } };
+    ghost view = { λ r. record {
+      capacity = r.entries;
+      queue = r.queue.items;
+      flying = r.flying.flights;
+      done = r.done.items;
+      world = r.world;
+      spare = r.spare;
+      faults = 0;
+      busies = 0;
+    } };
 
-    ghost invariant = { λ r. RingHasRoom r.entries (deque_len r.queue) (length r.flying.flights) (deque_len r.done) r.spare (deque_capacity r.queue) r.flying.room (deque_capacity r.done) };
+    ghost invariant = { λ r. RingHasRoom r.entries (deque_len r.queue) (length r.flying.flights) (deque_len r.done) r.spare
+        (deque_capacity r.queue) r.flying.room (deque_capacity r.done) };
 }
 
 impl MemRing {
@@ -289,9 +299,11 @@ fn take_all(queue: &mut VecDeque<Entry>, flying: &mut Flights, done: &mut VecDeq
     ensures queue { queue.new.items ≡ [] }
     ensures flying { flying.new.flights ≡ flying_after flying.old.flights queue.old.items }
     ensures done { done.new.items ≡ done_after done.old.items queue.old.items }
-    ensures lengths { (deque_len queue.new ≡ 0) × (length flying.new.flights + deque_len done.new ≡ deque_len queue.old + length flying.old.flights + deque_len done.old) }
+    ensures lengths { (deque_len queue.new ≡ 0) ×
+        (length flying.new.flights + deque_len done.new ≡ deque_len queue.old + length flying.old.flights + deque_len done.old) }
     ensures longer { (length flying.old.flights ≤ length flying.new.flights) × (deque_len done.old ≤ deque_len done.new) }
-    ensures capacities { (deque_capacity queue.new ≡ deque_capacity queue.old) × (flying.new.room ≡ flying.old.room) × (deque_capacity done.new ≡ deque_capacity done.old) }
+    ensures capacities { (deque_capacity queue.new ≡ deque_capacity queue.old) × (flying.new.room ≡ flying.old.room) ×
+        (deque_capacity done.new ≡ deque_capacity done.old) }
 {
     while let Some(entry) = queue.pop_front() {
         take_entry(entry, flying, done);

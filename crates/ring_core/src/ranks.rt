@@ -28,7 +28,8 @@ impl Model for Ranks {
 
     ghost view = { λ r. record { flags = r.flags.items; room = r.room } };
 
-    ghost invariant = { λ r. AreCounted r.flags.items r.blocks.items r.groups.items × HasSlots (vec_len r.flags) r.room (vec_capacity r.flags) (vec_len r.blocks) (vec_len r.groups) };
+    ghost invariant = { λ r. AreCounted r.flags.items r.blocks.items r.groups.items ×
+        HasSlots (vec_len r.flags) r.room (vec_capacity r.flags) (vec_len r.blocks) (vec_len r.groups) };
 }
 
 // Where a rank ends among counts: at which of them, and how many of that one are before it.

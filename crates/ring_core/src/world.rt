@@ -155,7 +155,8 @@ impl World {
         told: Told,
         payloads: &mut P,
     ) -> Result<Outcome, RunError>
-        ensures { RunsFor P.stores P.takes_memory flight.now told (P.offered payloads.old flight.now.entry.word) self.old self.new payloads.old payloads.new result }
+        ensures { RunsFor P.stores P.takes_memory flight.now told (P.offered payloads.old flight.now.entry.word)
+            self.old self.new payloads.old payloads.new result }
     {
         let call = match flight.entry.body {
             Body::Call(call) => call,
@@ -185,7 +186,8 @@ impl World {
         word: u64,
         payloads: &mut P,
     ) -> Result<(), RunError>
-        ensures { MovesFor P.stores P.takes_memory call k word (P.offered payloads.old word) self.old self.new payloads.old payloads.new result }
+        ensures { MovesFor P.stores P.takes_memory call k word (P.offered payloads.old word)
+            self.old self.new payloads.old payloads.new result }
     {
         match call {
             Call::In { h, ask } => {
@@ -297,7 +299,8 @@ fn read_at<P: Payloads>(
     payloads: &mut P,
 ) -> Result<(), RunError>
     requires { h < length handles.old.items }
-    ensures { MovesFor P.stores P.takes_memory (Call.In h ask) k word (P.offered payloads.old word) handles.old.items handles.new.items payloads.old payloads.new result }
+    ensures { MovesFor P.stores P.takes_memory (Call.In h ask) k word (P.offered payloads.old word)
+        handles.old.items handles.new.items payloads.old payloads.new result }
 {
     let handle = &mut handles[h];
     if !may_take(handle, ask, k) {
@@ -323,7 +326,8 @@ fn send_at<P: Payloads>(
     payloads: &mut P,
 ) -> Result<(), RunError>
     requires { h < length handles.old.items }
-    ensures { MovesFor P.stores P.takes_memory (Call.Out h ask) k word (P.offered payloads.old word) handles.old.items handles.new.items payloads.old payloads.new result }
+    ensures { MovesFor P.stores P.takes_memory (Call.Out h ask) k word (P.offered payloads.old word)
+        handles.old.items handles.new.items payloads.old payloads.new result }
 {
     let handle = &mut handles[h];
     if !may_be_sent(handle, ask, k) {

@@ -1,8 +1,7 @@
 -- Which events a session refuses, by the causes that the machine names.
 use Rattle.std.proofs.Common.{◌≡◌, ◌<◌, ◌≤◌, ℕ, Bool, true, false, not, ◌||◌, ◌&&◌, List}
-use Rattle.std.proofs.Common.{[], ◌∷◌, length, Option, None, Some, refl, sym, ◌∙◌, ap, arith}
+use Rattle.std.proofs.Common.{[], ◌∷◌, length, Option, None, Some, refl, sym, ◌∙◌, ap}
 use Rattle.std.specs.Prelude.{slice_get, nat_le}
-use Rattle.std.proofs.lemmas.Bool.Decides.{nat_tests}
 use Rattle.rent_buf.specs.Buf.{built}
 use Rattle.rent_buf.specs.Buffer.{Buffer}
 use Rattle.rent_buf.specs.Parts.{Parts}
@@ -27,6 +26,7 @@ use Rattle.driver_core.specs.Slots.{waiting, life_of, life_at}
 use Rattle.ring_core.specs.declared.request.Request.{Request}
 use Rattle.driver_core.proofs.Owned.{owned-slot}
 use Rattle.driver_core.proofs.Tokens.{held-slot}
+use Rattle.uring_driver.proofs.Steps.{below-test, past-test}
 use Rattle.session_run.specs.declared.session.Session.{Session}
 use Rattle.session_run.specs.Token.{token_at, by_number}
 use Rattle.session_run.specs.Session.{SessionStands}
@@ -49,14 +49,6 @@ cause-look L h absent = ap (λ held. refused_if (not held || false) NoHandle Non
 -- So is a close of one.
 pub cause-close : (L : Ledger) (h : ℕ) → user_holds L h ≡ false → cause L (Close h) ≡ Some NoHandle
 cause-close L h absent = ap (λ held. refused_if (not held || false) NoHandle None) absent
-
--- The test of an order.
-pub nat_le-true : (a b : ℕ) → a ≤ b → nat_le a b ≡ true
-nat_le-true a b order = grind (arith, nat_tests)
-
--- The test of an order that doesn't hold.
-pub nat_le-false : (a b : ℕ) → b < a → nat_le a b ≡ false
-nat_le-false a b order = grind (arith, nat_tests)
 
 -- A look at a handle that the user holds isn't refused.
 pub unrefused-look : (L : Ledger) (h : ℕ) → user_holds L h ≡ true → cause L (Look h) ≡ None
@@ -91,7 +83,7 @@ cause-submit_full session L request live stands held count full =
     ap (λ lacks. refused_if lacks NoHandle (refused_if (nat_le MOST_LIVE (length (live_ops L))) Full None))
     (lacks_handle-holds_all session.driver L stands.driver.handles.holders.users (named request) ∙ ap not held)
     ∙ ap (λ b. refused_if b Full None) (ap (λ k. nat_le MOST_LIVE k) (sym stands.driver.operations.in_slots.counted ∙ sym count)
-    ∙ nat_le-true MOST_LIVE live full)
+    ∙ past-test MOST_LIVE live full)
 
 -- A submission of handles that the user holds isn't refused where fewer operations are live.
 pub unrefused-submit : (session : Session) (L : Ledger) (request : Request Buffer Parts) (live : ℕ) → SessionStands session L →
@@ -100,7 +92,7 @@ unrefused-submit session L request live stands held count fewer =
     ap (λ lacks. refused_if lacks NoHandle (refused_if (nat_le MOST_LIVE (length (live_ops L))) Full None))
     (lacks_handle-holds_all session.driver L stands.driver.handles.holders.users (named request) ∙ ap not held)
     ∙ ap (λ b. refused_if b Full None) (ap (λ k. nat_le MOST_LIVE k) (sym stands.driver.operations.in_slots.counted ∙ sym count)
-    ∙ nat_le-false MOST_LIVE live fewer)
+    ∙ below-test MOST_LIVE live fewer)
 
 -- A poll of what isn't its user's is refused.
 pub cause-poll : (L : Ledger) (n task : ℕ) → passes is_owned (slice_get L.ops n) ≡ false → cause L (Poll n task) ≡ Some NoOp

@@ -7,6 +7,7 @@ use Rattle.ring_core.specs.declared.ledger.Reply.{Reply}
 use Rattle.ring_core.specs.Ledger.{Ledger}
 use Rattle.ring_core.specs.Step.{step}
 use Rattle.ring_core.specs.Run.{after, replies}
+use Rattle.ring_core.proofs.Keeping.{drop-suc}
 use Rattle.run_laws.proofs.Replies.{after-next}
 
 -- The element at a place that is there.
@@ -14,12 +15,6 @@ pub get-there : {A : Type 0} (xs : List A) (n : ℕ) (x : A) → n < length xs �
 get-there [] n x in_range is = absurd (omega arith)
 get-there (y ∷ xs) zero x in_range is = ap Some (sym is)
 get-there (y ∷ xs) (suc n) x in_range is = get-there xs n x (omega arith) is
-
--- What is left begins with that element.
-pub drop-there : {A : Type 0} (xs : List A) (n : ℕ) (x : A) → slice_get xs n ≡ Some x → drop n xs ≡ x ∷ drop (suc n) xs
-drop-there [] n x there = cc
-drop-there (y ∷ xs) zero x there = let same : y ≡ x = cc in ap (λ z. z ∷ xs) same
-drop-there (y ∷ xs) (suc n) x there = drop-there xs n x there
 
 -- The ledger after one event more.
 pub after-one_more : (L : Ledger) (events : List Event) (k n : ℕ) (event : Event) → n ≡ suc k → slice_get events k ≡ Some event →
@@ -36,7 +31,7 @@ replies-one_more L events k n event before now all reply next there is joined so
     ∙ ap (λ M. before ++ reply ∷ replies M (drop n events)) (after-one_more L events k n event next there)
     ∙ ap (λ m. before ++ reply ∷ replies (step (after L (take k events)) event).0 (drop m events)) next
     ∙ ap (λ r. before ++ r ∷ replies (step (after L (take k events)) event).0 (drop (suc k) events)) (sym is)
-    ∙ ap (λ rest. before ++ replies (after L (take k events)) rest) (sym (drop-there events k event there))
+    ∙ ap (λ rest. before ++ replies (after L (take k events)) rest) (sym (drop-suc events k event there))
     ∙ so_far
 
 -- Past the end nothing is left.

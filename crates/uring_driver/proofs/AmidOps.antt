@@ -14,10 +14,10 @@ use Rattle.ring_core.specs.Entry.{target, close_entry}
 use Rattle.ring_core.specs.Lists.{has_number, numbers_where}
 use Rattle.ring_core.specs.Request.{named as handles_of}
 use Rattle.ring_core.specs.Ring.{RingView, pushed, with_done}
-use Rattle.ring_core.specs.Ledger.{Ledger, Operation, Queued, Op, Place, InQueue, InFlight, InDone, Reaped, Gone, is_live, is_kept}
+use Rattle.ring_core.specs.Ledger.{Ledger, Operation, Queued, Op, Gone, is_live, is_kept}
 use Rattle.ring_core.specs.Ledger.{is_owned}
 use Rattle.ring_core.specs.Queue.{at_place, with_op, push, push_each, became_unheld, with_gone, leave}
-use Rattle.ring_core.specs.Turn.{reaped_place, with_reap, reap_if, reap_op, reap_one, reap_each, task_if, task_woken, tasks_woken}
+use Rattle.ring_core.specs.Turn.{with_reap, reap_if, reap_op, reap_one, reap_each, task_if, task_woken, tasks_woken}
 use Rattle.ring_core.specs.Closes.{close_count, AreKnown, ClosesOnce}
 use Rattle.ring_core.proofs.Where.{where-kept}
 use Rattle.ring_core.proofs.Staying.{stays-leave}
@@ -25,7 +25,7 @@ use Rattle.ring_core.proofs.Holders.{SameHolders, AreLive, holders-op, holding-g
 use Rattle.ring_core.proofs.Leaving.{named-ascends, has-first, has-later}
 use Rattle.ring_core.proofs.Closing.{count-first, known-stays, known-op}
 use Rattle.ring_core.proofs.Once.{once-first, once-op, once-leave}
-use Rattle.ring_core.proofs.Turning.{reap-holds}
+use Rattle.ring_core.proofs.Turning.{reap-holds, reaped-kept}
 use Rattle.driver_core.specs.declared.slot.Slot.{Slot}
 use Rattle.driver_core.specs.Holds.{dropped_in, unheld_by, CanLeave}
 use Rattle.driver_core.specs.Slot.{named_by, slots_after}
@@ -54,14 +54,6 @@ means-posted buffer v slots L (h ∷ handles) means below =
     (means-pushed_entry buffer v (pushed (room_made v) (close_entry h)) slots L (close_entry h) (pushed (room_made v) (close_entry h)).spare
     means refl (refl, below h (has-first h handles)) (λ key same. cc) refl)
     (λ k is. below k (has-later k h handles is))
-
--- Reaping leaves whether an operation is its user's.
-kept-reaped : (p : Place) → is_kept (reaped_place p) ≡ is_kept p
-kept-reaped InQueue = refl
-kept-reaped InFlight = refl
-kept-reaped (InDone outcome) = refl
-kept-reaped (Reaped outcome) = refl
-kept-reaped Gone = refl
 
 module _ {B : Type 0} (buffer : B → Buffer) (v : RingView) (slots : FinMap nat_cmp (Slot B)) (holding : Holding) (L : Ledger)
     (c : Completion) (rest : List Completion) (old : Amid buffer v slots holding L) (first : v.done ≡ c ∷ rest)
@@ -124,7 +116,7 @@ module _ {B : Type 0} (buffer : B → Buffer) (v : RingView) (slots : FinMap nat
     }
 
     owned-reaped : numbers_where is_owned 0 reaped.ops ≡ numbers_where is_owned 0 L.ops
-    owned-reaped = where-kept is_owned with_reap L.ops c.serial 0 (λ p there. ap (λ b. b && not p.dropped) (kept-reaped p.place))
+    owned-reaped = where-kept is_owned with_reap L.ops c.serial 0 (λ p there. ap (λ b. b && not p.dropped) (reaped-kept p.place))
 
     -- One that was dropped is gone, and leaves the handles that it names.
     abbrev gone : Ledger

@@ -21,6 +21,7 @@ use Rattle.ring_core.specs.Queue.{leave, became_unheld}
 use Rattle.ring_core.specs.Closes.{close_count, closes_queued, AreKnown}
 use Rattle.ring_core.proofs.Numbers.{same-or-not, equal-other}
 use Rattle.ring_core.proofs.Closing.{count-push_each}
+use Rattle.ring_core.proofs.Keeping.{or-false as or-left}
 use Rattle.ring_core.proofs.Holders.{AreLive, holders-push_closes, live-take_one, live-push_close}
 use Rattle.ring_core.proofs.Lawful.{Lawful, listed-live, listed-unasked}
 use Rattle.ring_core.proofs.Taking.{in_queue}
@@ -62,10 +63,6 @@ closing-one closing h k spare = elim (same-or-not k h) [
   or-right : (a b : Bool) → b ≡ true → (a || b) ≡ true
   or-right true b h = refl
   or-right false b h = h
-
-  or-left : (a b : Bool) → b ≡ false → (a || b) ≡ a
-  or-left true b h = refl
-  or-left false b h = h
 
 -- What is closing once closes joined: what was, and these.
 pub closing-joined : (closing : Table) (handles : List ℕ) (k : ℕ) →

@@ -168,11 +168,11 @@ unfolding step
 step-close L h user = ap (λ b. answered (refused_if (not b || false) NoHandle None) L (Close h)) user
 
 -- The test doesn't find a number at most another that is below it.
-below-test : (n k : ℕ) → k < n → nat_le n k ≡ false
+pub below-test : (n k : ℕ) → k < n → nat_le n k ≡ false
 below-test n k h = grind (arith, nat_tests)
 
 -- The test finds a number that is at most another at most it.
-past-test : (n k : ℕ) → n ≤ k → nat_le n k ≡ true
+pub past-test : (n k : ℕ) → n ≤ k → nat_le n k ≡ true
 past-test n k h = grind (arith, nat_tests)
 
 -- An execution is refused by what is in flight, and by the outcome of what is at the place.

@@ -36,9 +36,11 @@ const ROWS: [(&str, &str, &str, Status, &str); 23] = [
     ("no feed after the end", "4", "give stream;feed 0 61;end 0;feed 0 62;end 1;look 1;look 0", Status::Done,
      "handle 0;fed;ended;refused BadHandleEvent;refused NoHandle;refused NoHandle;output -;"),
     ("short sends", "1024",
-     "give stream;submit send 0 v 8192 0 5 68656c6c6f;turn;exec 0 ok 3;turn;poll 0 1;submit send 0 v 8192 3 5 68656c6c6f;turn;exec 0 ok 2;turn;poll 1 1;look 0",
+     "give stream;submit send 0 v 8192 0 5 68656c6c6f;turn;exec 0 ok 3;turn;poll 0 1;submit send 0 v 8192 3 5 68656c6c6f;turn;\
+      exec 0 ok 2;turn;poll 1 1;look 0",
      Status::Done,
-     "handle 0;op 0;turned - - -;executed op 0;turned 0 - -;ready ok 3 v 8192 0 5 68656c6c6f;op 1;turned - - -;executed op 1;turned 1 - -;ready ok 2 v 8192 3 5 68656c6c6f;output 68656c6c6f;"),
+     "handle 0;op 0;turned - - -;executed op 0;turned 0 - -;ready ok 3 v 8192 0 5 68656c6c6f;op 1;turned - - -;executed op 1;\
+      turned 1 - -;ready ok 2 v 8192 3 5 68656c6c6f;output 68656c6c6f;"),
     ("a short send of parts", "4",
      "give stream;submit writev 0 p 3 2 6162 0 - 4 636465;turn;exec 0 ok 6;exec 0 ok 4;turn;poll 0 1;look 0", Status::Done,
      "handle 0;op 0;turned - - -;refused BadOutcome;executed op 0;turned 0 - -;ready ok 4 p 3 2 6162 0 - 4 636465;output 61626364;"),
@@ -48,9 +50,11 @@ const ROWS: [(&str, &str, &str, Status, &str); 23] = [
      "give stream;submit recv 0 v 2 0 2 -;turn;feed 0 61;exec 0 ok 2;exec 0 ok 0;exec 0 ok 1", Status::Done,
      "handle 0;op 0;turned - - -;fed;refused BadOutcome;refused BadOutcome;executed op 0;"),
     ("a late cancel, and the slot used again", "8",
-     "give stream;feed 0 61;submit recv 0 v 1 0 1 -;turn;exec 0 ok 1;turn;cancel 0;poll 0 1;submit recv 0 v 1 0 1 -;turn;exec 0 err 125;feed 0 62;exec 0 ok 1;turn;poll 1 2",
+     "give stream;feed 0 61;submit recv 0 v 1 0 1 -;turn;exec 0 ok 1;turn;cancel 0;poll 0 1;submit recv 0 v 1 0 1 -;turn;\
+      exec 0 err 125;feed 0 62;exec 0 ok 1;turn;poll 1 2",
      Status::Done,
-     "handle 0;fed;op 0;turned - - -;executed op 0;turned 0 - -;asked;ready ok 1 v 1 0 1 61;op 1;turned - - -;refused BadOutcome;fed;executed op 1;turned 1 - -;ready ok 1 v 1 0 1 62;"),
+     "handle 0;fed;op 0;turned - - -;executed op 0;turned 0 - -;asked;ready ok 1 v 1 0 1 61;op 1;turned - - -;refused BadOutcome;\
+      fed;executed op 1;turned 1 - -;ready ok 1 v 1 0 1 62;"),
     ("a drop over a full queue", "1",
      "give stream;submit recv 0 v 1 0 1 -;submit recv 0 v 1 0 1 -;drop 1;turn;exec 1 err 125;turn", Status::Done,
      "handle 0;op 0;op 1;dropped;turned - - -;executed op 1;turned 1 - -;"),
@@ -62,7 +66,8 @@ const ROWS: [(&str, &str, &str, Status, &str); 23] = [
      "refused NoOp;refused NoOp;handle 0;op 0;dropped;refused NoOp;refused NoOp;refused NoOp;"),
     ("a close under a read", "4",
      "give stream;submit recv 0 v 1 0 1 -;turn;close 0;exec 0 err 104;turn;poll 0 5;look 0;turn;exec 0 ok 0;turn;close 0", Status::Done,
-     "handle 0;op 0;turned - - -;released;executed op 0;turned 0 - -;ready err 104 v 1 0 1 -;refused NoHandle;turned - - -;executed close 0;turned - 0 -;refused NoHandle;"),
+     "handle 0;op 0;turned - - -;released;executed op 0;turned 0 - -;ready err 104 v 1 0 1 -;refused NoHandle;turned - - -;\
+      executed close 0;turned - 0 -;refused NoHandle;"),
     ("an empty line", "4", "give stream;;", Status::BadLine, "line 2;"),
 ];
 

@@ -6,7 +6,8 @@ use Rattle.op_slots.proofs.slab.Slab.insert.Goals as goal
 
 pub overflow_add-self : goal.overflow_add-self
 overflow_add-self g c =
-    let put = inserted_at _ _ _ _ _ _ _ _ c.args.val c.self.invariant.1 c.in-Ok.ensures.ok c.put_on-key.ensures.start c.put_on-key.ensures.put in
+    let put = inserted_at _ _ _ _ _ _ _ _ c.args.val c.self.invariant.1 c.in-Ok.ensures.ok
+    c.put_on-key.ensures.start c.put_on-key.ensures.put in
     omega (arith, put.space)
 
 pub put_on-key-requires-clause-sized : goal.put_on-key-requires-clause-sized

@@ -1,6 +1,7 @@
 use Rattle.std.proofs.Common.{◌+◌, Some, sym, ap, ◌∙◌, arith}
 use Rattle.op_slots.specs.Page.{spare}
-use Rattle.op_slots.proofs.Entries.{full_past_end, next_at_end, next_within, read_at_next, next_not_occupied, sound-push, sound-fill, written, pushed}
+use Rattle.op_slots.proofs.Entries.{full_past_end, next_at_end, next_within, read_at_next, next_not_occupied, sound-push, sound-fill}
+use Rattle.op_slots.proofs.Entries.{written, pushed}
 use Rattle.op_slots.proofs.Entries.{at-entry, at-past_entries, spare_is, place_within}
 use Rattle.op_slots.proofs.slab.page.Page.put.Goals as goal
 
