@@ -128,7 +128,8 @@ impl Flights {
             return Err(OutOfMemory);
         }
         let ranks = Ranks::with_room(self.alloc, slots)?;
-        let links = vec![in self.alloc; 0; room.saturating_mul(4)]?;
+        // A slab of so many slots has fewer than twice as many places, and 64: so the key of each slot has its link.
+        let links = vec![in self.alloc; 0; room.saturating_mul(2).saturating_add(64)]?;
         self.items.reserve(slots - self.items.len())?;
         pack(&mut self.items, &self.ranks);
         self.looked = None;

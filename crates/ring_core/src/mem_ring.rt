@@ -222,7 +222,9 @@ impl Ring for MemRing {
         let Some(room) = total_room(queued, flying, done, self.spare, n) else {
             return Err(OutOfMemory);
         };
-        self.queue.reserve(room - queued)?;
+        // The queue never holds more than its capacity.
+        self.queue
+            .reserve(room.min(self.entries as usize) - queued)?;
         self.flying.reserve(room)?;
         self.done.reserve(room - done)?;
         self.spare += n;
