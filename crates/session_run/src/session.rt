@@ -17,15 +17,12 @@ use crate::tokens::Tokens;
 use op_slots::slab::MAX_LIVE;
 use rent_buf::{Buf, BufSpec, ByteList, Held, HeldBuf, OutOfMemory, PartsSpec, VecBuf};
 use ring_core::{
-    Event, ExecRefusal, HandleKind, Look, MemRing, Refusal, Reply, Request, SharedFd, Told,
-    WorldError,
+    Event, ExecRefusal, HandleKind, Look, MOST_HANDLES, MemRing, Refusal, Reply, Request, SharedFd,
+    Told, WorldError,
 };
 use std::alloc::{AllocError, Global};
 use thiserror::Error;
-use uring_driver::{Driver, Executed, IoUringDriver, Op, PollOp, Submitted};
-
-// No counter of a session passes this number: memory would run out long before.
-const MOST_GIVEN: u64 = 1 << 62;
+use uring_driver::{Driver, Executed, IoUringDriver, MOST_GIVEN, Op, PollOp, Submitted};
 
 /// Why a run gave no replies. (not in monoio)
 #[derive(Clone, Copy, Debug, PartialEq, Eq, Error)]
@@ -135,7 +132,7 @@ impl Session {
         }
     }
 
-    /// Runs fewer than 2^62 events from an empty session on, over a queue of at least one entry: the replies, one for each event,
+    /// Runs fewer than `MOST_GIVEN` events from an empty session on, over a queue of at least one entry: the replies, one for each event,
     /// and the session after the last. The memory of the replies is taken first. (not in monoio)
     pub fn run(
         alloc: Global,
@@ -188,7 +185,8 @@ impl Session {
         ensures { (L : Ledger) → SessionStands self.old L → StepsFor L (Give kind) self.new result }
     {
         let next = self.driver.handles();
-        if next >= MOST_GIVEN || self.driver.known(next) {
+        // Memory would run out long before there are so many handles, or in `submit` so many operations.
+        if next >= MOST_HANDLES || self.driver.known(next) {
             return Err(OutOfMemory);
         }
         match self.driver.give(kind) {
