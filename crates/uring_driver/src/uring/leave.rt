@@ -12,8 +12,8 @@ use crate::submissions::Submissions;
 use handle_core::Released;
 use ring_core::{Entry, MOST_HANDLES, Names, Ring};
 
-// An operation that named these handles is gone: it holds each no more, and the close of one that nobody holds joins what is pending. It
-// takes no memory.
+/// An operation that named these handles is gone: it holds each no more, and the close of one that nobody holds joins what is pending. It
+/// takes no memory.
 pub fn let_go<R: Ring>(ring: &mut Submissions<R>, handles: &mut Handles, names: Names)
     requires held { CanLeave handles.old.table (listed names) }
     requires room { length (unheld_by handles.old.table (listed names)) ≤ ring.old.room }
