@@ -1,313 +1,243 @@
--- The list of free places stays right as entries are filled and emptied.
-use Rattle.std.proofs.Common.{◌≡◌, ◌≢◌, ◌⊎◌, ℕ, zero, suc, ◌+◌, ◌-◌, ◌<◌, ◌≤◌, List, [], ◌∷◌, ◌++◌, map, length, replicate, get_or, set}
-use Rattle.std.proofs.Common.{Option, Some, None, is_some, cond, slice_get, min, refl, sym, ap, subst, ◌∙◌, inl, inr, arith, length-set}
-use Rattle.std.proofs.Common.{append_assoc, true≢false}
+-- Empty entries are counted, and the lists of them stay right, as entries are filled, emptied, added and dropped.
+use Rattle.std.proofs.Common.{◌≡◌, ◌≢◌, ℕ, zero, suc, ◌+◌, ◌-◌, ◌<◌, ◌≤◌, List, [], ◌∷◌, ◌++◌, length, get_or, set, take}
+use Rattle.std.proofs.Common.{Some, None, slice_get, refl, sym, ap, subst, ◌∙◌, arith, length-set}
 use Rattle.std.specs.Prelude.{IsSome}
-use Rattle.std.proofs.lemmas.List.{map-set, map_push, length-append, length-map, length_push, length-replicate, get_or-map, get_or-set_same}
-use Rattle.std.proofs.lemmas.List.{get_or-set_other, get_or_past, set-append_left, set-append_right}
-use Rattle.std.proofs.lemmas.List.Sums.{sum_by-append, sum_by-set, sum_by_push}
-use Rattle.std.proofs.lemmas.List.Folds.{sum_by-replicate}
-use Rattle.std.proofs.lemmas.Option.{slice_get_within, slice_get-get_or, slice_get_read, get_or_from_slice_get}
-use Rattle.op_slots.specs.declared.slab.page.Entry.{Entry}
-use Rattle.op_slots.specs.declared.slab.page.Entry.TheVariants.{Vacant, Occupied}
-use Rattle.op_slots.specs.Page.{Places, at, taken, padded, spare}
-use Rattle.op_slots.specs.Entry.{value_of, IsFreeList, IsSound}
-use Rattle.op_slots.specs.LendsPlace.{with_place}
+use Rattle.std.proofs.lemmas.List.{get_or-set_same, get_or-set_other}
+use Rattle.std.proofs.lemmas.Option.{slice_get_within, slice_get-get_or, get_or_from_slice_get}
+use Rattle.op_slots.specs.declared.slab.entry.FreeList.{FreeList}
+use Rattle.op_slots.specs.declared.slab.entry.Entry.{Entry}
+use Rattle.op_slots.specs.declared.slab.entry.Entry.TheVariants.{Vacant, Occupied}
+use Rattle.op_slots.specs.Layout.{at, taken, places_of}
+use Rattle.op_slots.specs.Entry.{value_of, empty_before, IsFreeList}
+use Rattle.op_slots.proofs.Places.{taken-none, taken-some}
 
--- what a place holds, read with nothing as the default
-pub at-get_or : {T : Type 0} (xs : List (Option T)) (q : ℕ) → at xs q ≡ get_or xs q None
-at-get_or [] q = refl
-at-get_or (x ∷ xs) zero = refl
-at-get_or (x ∷ xs) (suc q) = at-get_or xs q
-
--- empty places behind hold nothing
-at-replicate : {T : Type 0} (n q : ℕ) → at {T = T} (replicate n None) q ≡ None
-at-replicate zero q = refl
-at-replicate (suc n) zero = refl
-at-replicate {T} (suc n) (suc q) = at-replicate {T = T} n q
-
--- empty places behind change nothing that is held
-pub at-behind : {T : Type 0} (xs : List (Option T)) (n q : ℕ) → at (xs ++ replicate n None) q ≡ at xs q
-at-behind {T} [] n q = at-replicate {T = T} n q
-at-behind (x ∷ xs) n zero = refl
-at-behind (x ∷ xs) n (suc q) = at-behind xs n q
-
--- a page has its size
-pub length-padded : {T : Type 0} (xs : List (Option T)) (n : ℕ) → length xs ≤ n → length (padded n xs) ≡ n
-length-padded {T} xs n fits = omega (
-  arith,
-  length-append xs (replicate (n - length xs) None),
-  length-replicate {A =
-      Option T} (n - length xs) None,
-)
-
--- empty places behind aren't counted
-pub taken-padded : {T : Type 0} (xs : List (Option T)) (n : ℕ) → taken (padded n xs) ≡ taken xs
-taken-padded {T} xs n =
-    let behind : List (Option T) = replicate (n - length xs) None in
-    omega (
-      arith,
-      sum_by-append (λ (o : Option T). cond (is_some o) 1 0) xs behind,
-      sum_by-replicate (λ (o : Option T). cond (is_some o) 1 0) (n - length xs) None,
-    )
-
--- a write at a place that was filled before
-pub set-padded : {T : Type 0} (xs : List (Option T)) (n q : ℕ) (x : Option T) → q < length xs
-    → padded n (set xs q x) ≡ set (padded n xs) q x
-set-padded xs n q x within =
-    ap (λ m. set xs q x ++ replicate (n - m) None) (length-set xs q x)
-    ∙ sym (set-append_left xs (replicate (n - length xs) None) q x within)
-
--- a value in the first place that was never filled
-pub push-padded : {T : Type 0} (xs : List (Option T)) (n : ℕ) (x : Option T) → length xs < n
-    → padded n (xs ++ x ∷ []) ≡ set (padded n xs) (length xs) x
-push-padded {T} xs n x below =
-    let m = n - suc (length xs) in
-    let rest : n - length xs ≡ suc m = omega arith in
-    let less : n - length (xs ++ x ∷ []) ≡ m = omega (arith, length_push xs x) in
-    let none : length xs - length xs ≡ 0 = omega arith in
-    rw (rest, less, append_assoc) (sym (set-append_right xs (None ∷ replicate m None) (length xs) (length xs) x refl (omega arith)
-    ∙ ap (λ i. xs ++ set (None ∷ replicate m None) i x) none))
+-- a write at another place leaves an entry
+pub get-other : {A : Type 0} (xs : List A) (k q : ℕ) (x y : A) → k ≢ q → slice_get xs k ≡ Some x → slice_get (set xs q y) k ≡ Some x
+get-other xs k q x y other found =
+    slice_get-get_or (set xs q y) k x (omega (arith, length-set xs q y, slice_get_within xs k x found))
+    ∙ ap Some (get_or-set_other xs q k y x other ∙ get_or_from_slice_get xs k x x found)
 
 module _ {T : Type 0} where
-  -- a place starts one list of free places at most
-  one_list : (es : List (Entry T)) (m n q : ℕ) → IsFreeList es m q → IsFreeList es n q → m ≡ n
-  one_list es zero zero q a b = refl
-  one_list es zero (suc n) q a b = absurd (omega (arith, slice_get_within es q _ b.1))
-  one_list es (suc m) zero q a b = absurd (omega (arith, slice_get_within es q _ a.1))
-  one_list es (suc m) (suc n) q a b =
-      let first = a.1 in
-      let second = b.1 in
-      let same : b.0 ≡ a.0 = cc in
-      ap suc (one_list es m n a.0 a.2 (subst (IsFreeList es n) same b.2))
+  -- a write behind the first so many entries leaves their empty ones
+  pub before-behind : (n k : ℕ) (es : List (Entry T)) (e : Entry T) → n ≤ k → empty_before n (set es k e) ≡ empty_before n es
+  before-behind zero k es e le = refl
+  before-behind (suc n) k [] e le = refl
+  before-behind (suc n) zero (x ∷ es) e le = absurd (omega arith)
+  before-behind (suc n) (suc k) (Vacant list ∷ es) e le = ap suc (before-behind n k es e (omega arith))
+  before-behind (suc n) (suc k) (Occupied v ∷ es) e le = before-behind n k es e (omega arith)
+
+  -- an empty entry that is filled is one less
+  pub before-fill : (n k : ℕ) (es : List (Entry T)) (list : FreeList) (v : T) → k < n → slice_get es k ≡ Some (Vacant list)
+      → empty_before n (set es k (Occupied v)) + 1 ≡ empty_before n es
+  before-fill zero k es list v less found = absurd (omega arith)
+  before-fill (suc n) k [] list v less found = cc
+  before-fill (suc n) zero (Vacant _ ∷ es) list v less found = omega arith
+  before-fill (suc n) zero (Occupied w ∷ es) list v less found = cc
+  before-fill (suc n) (suc k) (Vacant _ ∷ es) list v less found = omega (arith, before-fill n k es list v (omega arith) found)
+  before-fill (suc n) (suc k) (Occupied w ∷ es) list v less found = before-fill n k es list v (omega arith) found
+
+  -- an entry that is emptied is one more
+  pub before-empty : (n k : ℕ) (es : List (Entry T)) (list : FreeList) (v : T) → k < n → slice_get es k ≡ Some (Occupied v)
+      → empty_before n (set es k (Vacant list)) ≡ empty_before n es + 1
+  before-empty zero k es list v less found = absurd (omega arith)
+  before-empty (suc n) k [] list v less found = cc
+  before-empty (suc n) zero (Vacant _ ∷ es) list v less found = cc
+  before-empty (suc n) zero (Occupied w ∷ es) list v less found = omega arith
+  before-empty (suc n) (suc k) (Vacant _ ∷ es) list v less found = omega (arith, before-empty n k es list v (omega arith) found)
+  before-empty (suc n) (suc k) (Occupied w ∷ es) list v less found = before-empty n k es list v (omega arith) found
+
+  -- another value in an entry that has one empties none
+  pub before-keep : (n k : ℕ) (es : List (Entry T)) (v w : T) → slice_get es k ≡ Some (Occupied v)
+      → empty_before n (set es k (Occupied w)) ≡ empty_before n es
+  before-keep zero k es v w found = refl
+  before-keep (suc n) k [] v w found = refl
+  before-keep (suc n) zero (Vacant _ ∷ es) v w found = cc
+  before-keep (suc n) zero (Occupied _ ∷ es) v w found = refl
+  before-keep (suc n) (suc k) (Vacant _ ∷ es) v w found = ap suc (before-keep n k es v w found)
+  before-keep (suc n) (suc k) (Occupied _ ∷ es) v w found = before-keep n k es v w found
+
+  -- a value behind all entries empties none
+  pub before-push : (n : ℕ) (es : List (Entry T)) (v : T) → empty_before n (es ++ Occupied v ∷ []) ≡ empty_before n es
+  before-push zero es v = refl
+  before-push (suc zero) [] v = refl
+  before-push (suc (suc n)) [] v = refl
+  before-push (suc n) (Vacant _ ∷ es) v = ap suc (before-push n es v)
+  before-push (suc n) (Occupied _ ∷ es) v = before-push n es v
+
+  -- of the first so many entries those before their end are empty as they were
+  pub before-take : (n m : ℕ) (es : List (Entry T)) → n ≤ m → empty_before n (take m es) ≡ empty_before n es
+  before-take zero m es le = refl
+  before-take (suc n) zero es le = absurd (omega arith)
+  before-take (suc n) (suc m) [] le = refl
+  before-take (suc n) (suc m) (Vacant _ ∷ es) le = ap suc (before-take n m es (omega arith))
+  before-take (suc n) (suc m) (Occupied _ ∷ es) le = before-take n m es (omega arith)
+
+  -- behind the entries none is empty
+  pub before-past : (n m : ℕ) (es : List (Entry T)) → length es ≤ n → n ≤ m → empty_before m es ≡ empty_before n es
+  before-past zero zero [] end le = refl
+  before-past zero (suc m) [] end le = refl
+  before-past zero m (x ∷ es) end le = absurd (omega arith)
+  before-past (suc n) zero es end le = absurd (omega arith)
+  before-past (suc n) (suc m) [] end le = refl
+  before-past (suc n) (suc m) (Vacant _ ∷ es) end le = ap suc (before-past n m es (omega arith) (omega arith))
+  before-past (suc n) (suc m) (Occupied _ ∷ es) end le = before-past n m es (omega arith) (omega arith)
+
+  -- each entry is empty or has a value
+  pub before-all : (n : ℕ) (es : List (Entry T)) → length es ≤ n → taken (places_of es) + empty_before n es ≡ length es
+  before-all zero [] end = refl
+  before-all zero (x ∷ es) end = absurd (omega arith)
+  before-all (suc n) [] end = refl
+  before-all (suc n) (Vacant _ ∷ es) end = omega (arith, taken-none (places_of es), before-all n es (omega arith))
+  before-all (suc n) (Occupied v ∷ es) end = omega (arith, taken-some v (places_of es), before-all n es (omega arith))
+
+  -- among more entries no fewer are empty
+  pub before-mono : (a b : ℕ) (es : List (Entry T)) → a ≤ b → empty_before a es ≤ empty_before b es
+  before-mono zero b es le = omega arith
+  before-mono (suc a) zero es le = absurd (omega arith)
+  before-mono (suc a) (suc b) [] le = omega arith
+  before-mono (suc a) (suc b) (Vacant _ ∷ es) le = omega (arith, before-mono a b es (omega arith))
+  before-mono (suc a) (suc b) (Occupied _ ∷ es) le = before-mono a b es (omega arith)
+
+  -- nor more than entries that there are more
+  pub before-steps : (a b : ℕ) (es : List (Entry T)) → a ≤ b → empty_before b es ≤ empty_before a es + (b - a)
+  before-steps zero zero es le = omega arith
+  before-steps zero (suc b) [] le = omega arith
+  before-steps zero (suc b) (Vacant _ ∷ es) le = omega (arith, before-steps zero b es (omega arith))
+  before-steps zero (suc b) (Occupied _ ∷ es) le = omega (arith, before-steps zero b es (omega arith))
+  before-steps (suc a) zero es le = absurd (omega arith)
+  before-steps (suc a) (suc b) [] le = omega arith
+  before-steps (suc a) (suc b) (Vacant _ ∷ es) le = omega (arith, before-steps a b es (omega arith))
+  before-steps (suc a) (suc b) (Occupied _ ∷ es) le = omega (arith, before-steps a b es (omega arith))
+
+  -- where none of some entries is empty, each has a value
+  pub held-between : (a b k : ℕ) (es : List (Entry T)) → empty_before b es ≡ empty_before a es → a ≤ k → k < b → k < length es
+      → IsSome (at (places_of es) k)
+  held-between a zero k es none from to within = absurd (omega arith)
+  held-between a (suc b) k [] none from to within = absurd (omega arith)
+  held-between zero (suc b) zero (Vacant _ ∷ es) none from to within = absurd (omega arith)
+  held-between zero (suc b) (suc k) (Vacant _ ∷ es) none from to within = absurd (omega arith)
+  held-between zero (suc b) zero (Occupied v ∷ es) none from to within = refl
+  held-between zero (suc b) (suc k) (Occupied v ∷ es) none from to within =
+      held-between zero b k es none (omega arith) (omega arith) (omega arith)
+  held-between (suc a) (suc b) zero (x ∷ es) none from to within = absurd (omega arith)
+  held-between (suc a) (suc b) (suc k) (Vacant _ ∷ es) none from to within =
+      held-between a b k es (omega arith) (omega arith) (omega arith) (omega arith)
+  held-between (suc a) (suc b) (suc k) (Occupied v ∷ es) none from to within =
+      held-between a b k es none (omega arith) (omega arith) (omega arith)
+
+  -- where all of some entries are empty, none has a value
+  pub empty-between : (a b k : ℕ) (es : List (Entry T)) → empty_before a es + (b - a) ≤ empty_before b es → a ≤ k → k < b
+      → at (places_of es) k ≡ None
+  empty-between a zero k es all from to = absurd (omega arith)
+  empty-between a (suc b) k [] all from to = refl
+  empty-between zero (suc b) zero (Vacant _ ∷ es) all from to = refl
+  empty-between zero (suc b) (suc k) (Vacant _ ∷ es) all from to = empty-between zero b k es (omega arith) (omega arith) (omega arith)
+  empty-between zero (suc b) k (Occupied v ∷ es) all from to = absurd (omega (arith, before-steps zero b es (omega arith)))
+  empty-between (suc a) (suc b) zero (x ∷ es) all from to = absurd (omega arith)
+  empty-between (suc a) (suc b) (suc k) (Vacant _ ∷ es) all from to = empty-between a b k es (omega arith) (omega arith) (omega arith)
+  empty-between (suc a) (suc b) (suc k) (Occupied v ∷ es) all from to = empty-between a b k es (omega arith) (omega arith) (omega arith)
+
+  -- where no entry from one on has a value, all of those are empty
+  pub empties-between : (a : ℕ) (es : List (Entry T)) → ((k : ℕ) → a ≤ k → IsSome (at (places_of es) k) → ⊥) → a ≤ length es
+      → empty_before (length es) es ≡ empty_before a es + (length es - a)
+  empties-between zero [] none le = refl
+  empties-between zero (Vacant _ ∷ es) none le =
+      omega (arith, empties-between zero es (λ k from held. none (suc k) (omega arith) held) (omega arith))
+  empties-between zero (Occupied v ∷ es) none le = absurd (none 0 (omega arith) refl)
+  empties-between (suc a) [] none le = absurd (omega arith)
+  empties-between (suc a) (Vacant _ ∷ es) none le =
+      omega (arith, empties-between a es (λ k from held. none (suc k) (omega arith) held) (omega arith))
+  empties-between (suc a) (Occupied v ∷ es) none le =
+      omega (arith, empties-between a es (λ k from held. none (suc k) (omega arith) held) (omega arith))
+
+  -- what is at a place is the value of its entry
+  pub at-entry : (es : List (Entry T)) (k : ℕ) (e : Entry T) → slice_get es k ≡ Some e → at (places_of es) k ≡ value_of e
+  at-entry [] k e found = cc
+  at-entry (x ∷ es) zero e found = cc
+  at-entry (x ∷ es) (suc k) e found = at-entry es k e found
+
+  -- where a value is, its entry has it
+  pub entry-at : (es : List (Entry T)) (k : ℕ) → IsSome (at (places_of es) k) → (v : T) × (slice_get es k ≡ Some (Occupied v))
+  entry-at [] k held = cc
+  entry-at (Vacant _ ∷ es) zero held = cc
+  entry-at (Occupied v ∷ es) zero held = (v, refl)
+  entry-at (x ∷ es) (suc k) held = entry-at es k held
+
+  -- what is read at an entry
+  pub read-entry : (es : List (Entry T)) (k : ℕ) (e read : Entry T) → slice_get es k ≡ Some e → read ≡ get_or es k read → read ≡ e
+  read-entry es k e read found is = is ∙ get_or_from_slice_get es k e read found
+
+  -- an entry with a value isn't empty
+  pub not_vacant : (v : T) (list : FreeList) → Vacant list ≡ Occupied v → ⊥
+  not_vacant v list e = cc
+
+  -- so many are on a list as it says
+  list-count : (es : List (Entry T)) (begin end n : ℕ) (list : FreeList) → IsFreeList es begin end n list → list.count ≡ n
+  list-count es begin end zero list h = h
+  list-count es begin end (suc n) list h = h.0
 
   -- a write at a place that isn't on the list keeps the list
-  list-set : (es : List (Entry T)) (q : ℕ) (e : Entry T) (n from : ℕ) → ((m : ℕ) → m < n → IsFreeList es (suc m) q → ⊥)
-      → IsFreeList es n from → IsFreeList (set es q e) n from
-  list-set es q e zero from off h = h ∙ sym (length-set es q e)
-  list-set es q e (suc n) from off h =
-      let other : from ≢ q = λ same. off n (omega arith) (subst (IsFreeList es (suc n)) same h) in
-      let within = slice_get_within es from _ h.1 in
-      let kept : slice_get (set es q e) from ≡ Some (Vacant h.0) =
-      slice_get-get_or (set es q e) from e (omega (arith, length-set es q e))
-      ∙ ap Some (get_or-set_other es q from e e other ∙ get_or_from_slice_get es from _ e h.1) in
-      (h.0, kept, list-set es q e n h.0 (λ m below. off m (omega arith)) h.2)
+  pub list-set : (es : List (Entry T)) (begin end q : ℕ) (e : Entry T) (n : ℕ) (list : FreeList)
+      → (begin ≤ q → q < end → (r : FreeList) → r.count < n → slice_get es q ≡ Some (Vacant r) → ⊥)
+      → IsFreeList es begin end n list → IsFreeList (set es q e) begin end n list
+  list-set es begin end q e zero list off h = h
+  list-set es begin end q e (suc n) list off h =
+      let rest = h.3.0 in
+      let found = h.3.1 in
+      let counted = list-count es begin end n rest h.3.2 in
+      let other : list.place ≢ q =
+      λ same. off (omega (arith, same, h.1)) (omega (arith, same, h.2)) rest (omega arith)
+      (subst (λ k. slice_get es k ≡ Some (Vacant rest)) same found) in (
+        h.0,
+        h.1,
+        h.2,
+        (
+          rest,
+          get-other es list.place q (Vacant rest) e other found,
+          list-set es begin end q e n rest (λ from to r less there. off from to r (omega arith) there) h.3.2,
+        ),
+      )
 
-  -- a place with a value is on no list
-  off_list : (es : List (Entry T)) (q : ℕ) (v : T) → slice_get es q ≡ Some (Occupied v) → (m : ℕ) → IsFreeList es (suc m) q → ⊥
-  off_list es q v found m h = let listed = h.1 in cc
+  -- a list of entries that are kept is kept
+  pub list-kept : (es new : List (Entry T)) (begin end n : ℕ) (list : FreeList)
+      → ((k : ℕ) (e : Entry T) → k < end → slice_get es k ≡ Some e → slice_get new k ≡ Some e)
+      → IsFreeList es begin end n list → IsFreeList new begin end n list
+  list-kept es new begin end zero list same h = h
+  list-kept es new begin end (suc n) list same h =
+      (h.0, h.1, h.2, (h.3.0, same list.place _ h.2 h.3.1, list-kept es new begin end n h.3.0 same h.3.2))
 
-  -- how many places hold a value after a write
-  taken-set : (es : List (Entry T)) (q : ℕ) (old new : Entry T) → slice_get es q ≡ Some old
-      → taken (map value_of (set es q new)) + cond (is_some (value_of old)) 1 0 ≡ taken (map value_of es) + cond (is_some (value_of new))
-      1 0
-  taken-set es q old new found =
-      let within = slice_get_within es q old found in
-      let read : get_or (map value_of es) q None ≡ value_of old =
-      get_or-map value_of es q old None within ∙ ap value_of (get_or_from_slice_get es q old old found) in
-      let counted = sum_by-set (λ o. cond (is_some o) 1 0) (map value_of es) q (value_of new) None (omega (
-        arith,
-        length-map es value_of,
-      )) in
-      rw (map-set value_of es q new, ← read) counted
+  -- the first of a list is an empty entry with the list of the others
+  pub list-first : (es : List (Entry T)) (begin end n : ℕ) (list : FreeList) → IsFreeList es begin end n list → 0 < list.count
+      → (begin ≤ list.place) × (list.place < end) × ((rest : FreeList) × (slice_get es list.place ≡ Some (Vacant rest)))
+  list-first es begin end zero list h some = absurd (omega arith)
+  list-first es begin end (suc n) list h some = (h.1, h.2, (h.3.0, h.3.1))
 
-  -- an entry's place holds its value
-  pub at-entry : (es : List (Entry T)) (n q : ℕ) (e : Entry T) → slice_get es q ≡ Some e → at (padded n (map value_of es)) q ≡ value_of e
-  at-entry es n q e found =
-      at-behind (map value_of es) (n - length (map value_of es)) q
-      ∙ at-get_or (map value_of es) q
-      ∙ get_or-map value_of es q e None (slice_get_within es q e found)
-      ∙ ap value_of (get_or_from_slice_get es q e e found)
+  -- the others, once it is filled
+  pub list-rest : (es : List (Entry T)) (begin end n : ℕ) (list rest : FreeList) (v : T) → IsFreeList es begin end n list → 0 < list.count
+      → slice_get es list.place ≡ Some (Vacant rest)
+      → (rest.count + 1 ≡ list.count) × IsFreeList (set es list.place (Occupied v)) begin end rest.count rest
+  list-rest es begin end zero list rest v h some found = absurd (omega arith)
+  list-rest es begin end (suc n) list rest v h some found =
+      let there = h.3.1 in
+      let same : h.3.0 ≡ rest = cc in
+      let is : IsFreeList es begin end n rest = subst (IsFreeList es begin end n) same h.3.2 in
+      let counted = list-count es begin end n rest is in
+      let off : begin ≤ list.place → list.place < end → (r : FreeList) → r.count < n → slice_get es list.place ≡ Some (Vacant r) → ⊥ =
+      λ from to r less at_place. (let this : r ≡ rest = cc in omega (arith, ap (λ (l : FreeList). l.count) this)) in (
+        omega arith,
+        subst (λ m. IsFreeList (set es list.place (Occupied v)) begin end m rest) (sym counted)
+            (list-set es begin end list.place (Occupied v) n rest off is),
+      )
 
-  -- behind the entries nothing is held
-  pub at-past_entries : (es : List (Entry T)) (n q : ℕ) → length es ≤ q → at (padded n (map value_of es)) q ≡ None
-  at-past_entries es n q past =
-      at-behind (map value_of es) (n - length (map value_of es)) q
-      ∙ at-get_or (map value_of es) q
-      ∙ get_or_past (map value_of es) q None (omega (arith, length-map es value_of))
-
-  -- a place that holds a value is an occupied entry
-  pub occupied_at : (es : List (Entry T)) (n q : ℕ) → IsSome (at (padded n (map value_of es)) q)
-      → (v : T) × (slice_get es q ≡ Some (Occupied v))
-  occupied_at es n q held =
-      let some : IsSome (get_or (map value_of es) q None) = subst IsSome (at-behind (map value_of es) (n - length (map value_of es)) q
-      ∙ at-get_or (map value_of es) q) held in
-      let inside : q < length (map value_of es) = grind (arith, get_or_past) in
-      let within : q < length es = omega (arith, length-map es value_of) in
-      by_entry (get_or es q (Vacant 0)) (slice_get-get_or es q (Vacant 0) within)
-      (subst IsSome (get_or-map value_of es q (Vacant 0) None within) some)
-    where
-      by_entry : (e : Entry T) → slice_get es q ≡ Some e → IsSome (value_of e) → (v : T) × (slice_get es q ≡ Some (Occupied v))
-      by_entry (Vacant _) found some = absurd (true≢false (sym some))
-      by_entry (Occupied v) found some = (v, found)
-
-  -- the next place is behind the entries, of which none is empty then; or it is an empty entry
-  pub next_cases : (es : List (Entry T)) (size used next : ℕ) → IsSound es size used next
-      → ((next ≡ length es) × (used ≡ length es)) ⊎ ((after : ℕ) × (slice_get es next ≡ Some (Vacant after)))
-  next_cases es size used next sound = by_count sound.free sound.total sound.linked
-    where
-      by_count : (n : ℕ) → used + n ≡ length es → IsFreeList es n next
-          → ((next ≡ length es) × (used ≡ length es)) ⊎ ((after : ℕ) × (slice_get es next ≡ Some (Vacant after)))
-      by_count zero total linked = inl (linked, omega arith)
-      by_count (suc n) total linked = inr (linked.0, linked.1)
-
-  -- where the next place is behind the entries, none is empty
-  pub full_at_end : (es : List (Entry T)) (size used next : ℕ) → IsSound es size used next → next ≡ length es → used ≡ length es
-  full_at_end es size used next sound at_end =
-      elim (next_cases es size used next sound) [
-        | inl full ↦ full.1
-        | inr found ↦ omega (arith, slice_get_within es next _ found.1)
-      ]
-
-  -- so where it isn't one of the entries
-  pub full_past_end : (es : List (Entry T)) (size used next : ℕ) → IsSound es size used next → length es ≤ next → used ≡ length es
-  full_past_end es size used next sound past =
-      elim (next_cases es size used next sound) [
-        | inl full ↦ full.1
-        | inr found ↦ omega (arith, past, slice_get_within es next _ found.1)
-      ]
-
-  -- it is the first place behind them then
-  pub next_at_end : (es : List (Entry T)) (size used next : ℕ) → IsSound es size used next → length es ≤ next → next ≡ length es
-  next_at_end es size used next sound past =
-      elim (next_cases es size used next sound) [
-        | inl full ↦ full.0
-        | inr found ↦ absurd (omega (arith, past, slice_get_within es next _ found.1))
-      ]
-
-  -- and else it is an empty entry
-  pub empty_before_end : (es : List (Entry T)) (size used next : ℕ) → IsSound es size used next → next ≢ length es
-      → (after : ℕ) × (slice_get es next ≡ Some (Vacant after))
-  empty_before_end es size used next sound before =
-      elim (next_cases es size used next sound) [ inl full ↦ absurd (before full.0) | inr found ↦ found ]
-
-  pub next_within : (es : List (Entry T)) (size used next : ℕ) → IsSound es size used next → next ≢ length es → next < length es
-  next_within es size used next sound before = slice_get_within es next _ (empty_before_end es size used next sound before).1
-
-  -- what a read of the next place gives is the entry there
-  pub read_at_next : (es : List (Entry T)) (size used next : ℕ) (e : Entry T) → IsSound es size used next → next ≢ length es
-      → e ≡ get_or es next e → slice_get es next ≡ Some e
-  read_at_next es size used next e sound before read = slice_get_read es (length es) next e refl
-      (next_within es size used next sound before) read
-
-  -- the next place holds no value
-  pub next_not_occupied : (es : List (Entry T)) (size used next : ℕ) (v : T) → IsSound es size used next
-      → slice_get es next ≡ Some (Occupied v) → ⊥
-  next_not_occupied es size used next v sound found =
-      let empty = (empty_before_end es size used next sound (λ e. omega (arith, slice_get_within es next _ found))).1 in
-      cc
-
-  -- a value goes behind the entries, none of which is empty
-  pub sound-push : (es : List (Entry T)) (size used next : ℕ) (v : T) → IsSound es size used next → next ≡ length es → length es < size
-      → IsSound (es ++ Occupied v ∷ []) size (used + 1) (next + 1)
-  sound-push es size used next v sound at_end below =
-      let full = full_at_end es size used next sound at_end in
-      let longer = length_push es (Occupied v) in
-      record {
-        counted = rw (map_push value_of es (Occupied v), sum_by_push (λ o. cond (is_some o) 1 0) (map value_of es) (Some v))
-            (ap (λ n. n + 1) sound.counted);
-        free = 0;
-        total = omega arith;
-        linked = omega arith;
-        fits = omega arith;
-      }
-
-  -- a value goes into the first free place: the rest of the list is shorter, so that it doesn't come back to this place
-  pub sound-fill : (es : List (Entry T)) (size used next after : ℕ) (v : T) → IsSound es size used next
-      → slice_get es next ≡ Some (Vacant after) → IsSound (set es next (Occupied v)) size (used + 1) after
-  sound-fill es size used next after v sound found = by_count sound.free sound.total sound.linked
-    where
-      by_count : (n : ℕ) → used + n ≡ length es → IsFreeList es n next → IsSound (set es next (Occupied v)) size (used + 1) after
-      by_count zero total linked = absurd (omega (arith, slice_get_within es next _ found))
-      by_count (suc n) total linked =
-          let listed = linked.1 in
-          let same : linked.0 ≡ after = cc in
-          let off : (m : ℕ) → m < n → IsFreeList es (suc m) next → ⊥ =
-          λ m below h. omega (arith, one_list es (suc m) (suc n) next h linked) in
-          record {
-            counted = omega (arith, sound.counted, taken-set es next (Vacant after) (Occupied v) found);
-            free = n;
-            total = omega (arith, length-set es next (Occupied v));
-            linked = list-set es next (Occupied v) n after off (subst (IsFreeList es n) same linked.2);
-            fits = omega (arith, sound.fits, length-set es next (Occupied v));
-          }
-
-  -- a value is taken out, and its place is the first free one
-  pub sound-empty : (es : List (Entry T)) (size used next q : ℕ) (v : T) → IsSound es size used next → slice_get es q ≡ Some (Occupied v)
-      → IsSound (set es q (Vacant next)) size (used - 1) q
-  sound-empty es size used next q v sound found =
-      let within = slice_get_within es q _ found in
-      let count = taken-set es q (Occupied v) (Vacant next) found in
-      let written : slice_get (set es q (Vacant next)) q ≡ Some (Vacant next) =
-      slice_get-get_or _ q (Vacant next) (omega (arith, length-set es q (Vacant next)))
-      ∙ ap Some (get_or-set_same es q (Vacant next) (Vacant next) within) in
-      record {
-        counted = omega arith;
-        free = suc sound.free;
-        total = omega (arith, length-set es q (Vacant next));
-        linked = (next, written, list-set es q (Vacant next) sound.free next (λ m _. off_list es q v found m) sound.linked);
-        fits = omega (arith, sound.fits, length-set es q (Vacant next));
-      }
-
-  -- where a value is taken out, there is one
-  pub used_where_found : (es : List (Entry T)) (size used next q : ℕ) (v : T) → IsSound es size used next
-      → slice_get es q ≡ Some (Occupied v) → 1 ≤ used
-  used_where_found es size used next q v sound found = let count =
-      taken-set es q (Occupied v) (Vacant next) found in omega (arith, sound.counted)
-
-  -- a value is replaced
-  pub sound-keep : (es : List (Entry T)) (size used next q : ℕ) (v w : T) → IsSound es size used next → slice_get es q ≡ Some (Occupied v)
-      → IsSound (set es q (Occupied w)) size used next
-  sound-keep es size used next q v w sound found =
-      record {
-        counted = omega (arith, sound.counted, taken-set es q (Occupied v) (Occupied w) found);
-        free = sound.free;
-        total = omega (arith, sound.total, length-set es q (Occupied w));
-        linked = list-set es q (Occupied w) sound.free next (λ m _. off_list es q v found m) sound.linked;
-        fits = omega (arith, sound.fits, length-set es q (Occupied w));
-      }
-
-  -- a written entry is a written place
-  pub written : (es : List (Entry T)) (n q : ℕ) (e : Entry T) → q < length es
-      → padded n (map value_of (set es q e)) ≡ set (padded n (map value_of es)) q (value_of e)
-  written es n q e within = ap (padded n) (map-set value_of es q e)
-      ∙ set-padded (map value_of es) n q (value_of e) (omega (arith, length-map es value_of))
-
-  -- so is one more entry
-  pub pushed : (es : List (Entry T)) (n : ℕ) (e : Entry T) → length es < n
-      → padded n (map value_of (es ++ e ∷ [])) ≡ set (padded n (map value_of es)) (length es) (value_of e)
-  pushed es n e below =
-      ap (padded n) (map_push value_of es e)
-      ∙ push-padded (map value_of es) n (value_of e) (omega (arith, length-map es value_of))
-      ∙ ap (λ q. set (padded n (map value_of es)) q (value_of e)) (length-map es value_of)
-
-  -- the empty places that have memory, by what the page keeps
-  pub spare_is : (es : List (Entry T)) (size used next memory : ℕ) → IsSound es size used next
-      → spare (record { places = padded size (map value_of es); memory = memory }) ≡ min memory size - used
-  spare_is es size used next memory sound =
-      let size_is = length-padded (map value_of es) size (omega (arith, sound.fits, length-map es value_of)) in
-      let used_is = taken-padded (map value_of es) size ∙ sym sound.counted in
-      rw (size_is, used_is) refl
-
-  -- a place below the size is one of the page's
-  pub place_within : (es : List (Entry T)) (size q : ℕ) → q < size → length es ≤ size → q < length (padded size (map value_of es))
-  place_within es size q below fits = omega (arith, length-padded (map value_of es) size (omega (arith, length-map es value_of)))
-
-  -- what is read at an occupied entry
-  pub read_occupied : (es : List (Entry T)) (q : ℕ) (v : T) (e : Entry T) → slice_get es q ≡ Some (Occupied v) → e ≡ get_or es q e
-      → e ≡ Occupied v
-  read_occupied es q v e found read = read ∙ get_or_from_slice_get es q _ e found
-
-  -- it isn't empty
-  pub not_vacant : (v : T) (next : ℕ) → Vacant next ≡ Occupied v → ⊥
-  not_vacant v next e = cc
-
-  -- another value in an entry is another value in the page
-  pub page-written : (es : List (Entry T)) (n m q : ℕ) (w : T) → q < length es
-      → ◌≡◌ {A = Places T} (record {
-        places = padded n (map value_of (set es q (Occupied w)));
-        memory =
-            m;
-      }) (with_place (record { places = padded n (map value_of es); memory = m }) q w)
-  page-written es n m q w within = ap (λ (xs : List (Option T)). let p : Places T =
-      record { places = xs; memory = m } in p) (written es n q (Occupied w) within)
+  -- the list with an entry that is emptied before the others
+  pub list-more : (es : List (Entry T)) (begin end n key : ℕ) (list : FreeList) (v : T) → IsFreeList es begin end n list → list.count ≡ n
+      → slice_get es key ≡ Some (Occupied v) → begin ≤ key → key < end
+      → IsFreeList (set es key (Vacant list)) begin end (suc n) (record { place = key; count = list.count + 1 })
+  list-more es begin end n key list v h is found from to =
+      let within = slice_get_within es key _ found in
+      let written : slice_get (set es key (Vacant list)) key ≡ Some (Vacant list) =
+      slice_get-get_or _ key (Vacant list) (omega (arith, length-set es key (Vacant list)))
+      ∙ ap Some (get_or-set_same es key (Vacant list) (Vacant list) within) in
+      let off : begin ≤ key → key < end → (r : FreeList) → r.count < n → slice_get es key ≡ Some (Vacant r) → ⊥ =
+      λ lo hi r less there. cc in
+      (omega arith, from, to, (list, written, list-set es begin end key (Vacant list) n list off h))

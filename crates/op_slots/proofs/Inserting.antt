@@ -1,245 +1,251 @@
 -- What a slab keeps true, and what its slots are, as a place is found and a value put in.
-use Rattle.std.proofs.Common.{◌≡◌, ◌⊎◌, ℕ, suc, ◌+◌, ◌-◌, ◌≤◌, ◌<◌, max, List, [], ◌++◌, length, Option, None, Some, is_some, cond, set}
-use Rattle.std.proofs.Common.{get_or, slice_get, inl, refl, inr, sym, ◌∙◌, ap, subst, arith, length-set, false, true≢false}
+use Rattle.std.proofs.Common.{◌≡◌, ◌⊎◌, ℕ, suc, ◌+◌, ◌-◌, ◌≤◌, ◌<◌, max, List, [], ◌∷◌, ◌++◌, length, None, Some, set, get_or, slice_get}
+use Rattle.std.proofs.Common.{inl, inr, sym, ◌∙◌, ap, subst, arith, false, true≢false, length-set, zero}
 use Rattle.std.specs.Prelude.{IsSome, OnOk, Result, Ok, Err}
 use Rattle.std.specs.Result.{is_err}
-use Rattle.std.specs.FinMap.{get, insert}
-use Rattle.std.proofs.lemmas.List.{length_push, length-replicate}
-use Rattle.std.proofs.lemmas.List.Folds.{sum_by-replicate}
-use Rattle.std.proofs.lemmas.Option.{slice_get_within, slice_get-get_or, slice_get_read}
+use Rattle.std.specs.FinMap.{get, insert, len}
+use Rattle.std.proofs.lemmas.List.{map-set, map_push}
+use Rattle.std.proofs.lemmas.Nat.{pow_pos}
+use Rattle.std.proofs.lemmas.Option.{slice_get_within, slice_get-get_or}
 use Rattle.op_slots.specs.declared.slab.TheConstants.{MAX_LIVE}
-use Rattle.op_slots.specs.declared.slab.pages.TheConstants.{NUM_PAGES, PAGE_INITIAL_SIZE}
-use Rattle.op_slots.specs.Page.{Places, at, taken, spare}
+use Rattle.op_slots.specs.declared.slab.pages.TheConstants.{NUM_PAGES}
+use Rattle.op_slots.specs.declared.slab.entry.FreeList.{FreeList}
+use Rattle.op_slots.specs.declared.slab.entry.Entry.{Entry}
+use Rattle.op_slots.specs.declared.slab.entry.Entry.TheVariants.{Occupied}
 use Rattle.op_slots.specs.Pages.{page_of, places_on, first_key}
 use Rattle.op_slots.specs.Slots.{IsPageFull, MakesPage}
-use Rattle.op_slots.specs.Places.{all_places, room_in, AreSized, AreKept, slots_of, HasMemoryAt, IsOpenAt, AreFullFrom, IsLastFull}
-use Rattle.op_slots.specs.Places.{FindsPlace, PutsOn}
-use Rattle.op_slots.proofs.Pages.{next_first, first-mono, first-bound, page_of-at}
-use Rattle.op_slots.proofs.Places.{map_of, get-places, map-put, map-more, taken-put, taken-append, taken-le, taken-below, held_everywhere}
-use Rattle.op_slots.proofs.AllPlaces.{sized-at, sized-set, sized-push, at-places, set-places, places-push, same-length, same-all}
-use Rattle.op_slots.proofs.AllPlaces.{same-sized, full-places, room-at, open-below}
-use Rattle.op_slots.proofs.Kept.{AreShaped, length-all, bound-all, large-at, begin-at}
+use Rattle.op_slots.specs.Entry.{value_of}
+use Rattle.op_slots.specs.Layout.{at, taken, places_of, AreLaid, AreKept, slots_of, HasEmpty, HaveNoEmpty, AreAllHeld, FindsPlace}
+use Rattle.op_slots.specs.Layout.{CanPut, Puts}
+use Rattle.op_slots.proofs.Pages.{first-mono, first-bound, next_first, page_of-at}
+use Rattle.op_slots.proofs.Places.{map_of, get-places, len-places, map-put, map-push, taken-put, taken-push, taken-le, at-past}
+use Rattle.op_slots.proofs.Entries.{at-entry, held-between, list-first}
+use Rattle.op_slots.proofs.Laid.{set-there, page-before, laid-fill, laid-push, laid-more, none-past, not-held}
+use Rattle.op_slots.proofs.Kept.{length-places}
 
 module _ {T : Type 0} where
-  -- nothing was put on the pages that a search left: at most there is one more, with empty places
-  pub record Found (old mid : List (Places T)) (live removals i : ℕ) : Type 0 where
-    pub shape : AreShaped mid
-    counted : live ≡ taken (all_places mid)
-    values : map_of (all_places mid) ≡ map_of (all_places old)
-    within : i < length mid
-    longer : length old ≤ length mid
-    pages : length mid ≡ max (length old) (i + 1)
-    made : MakesPage (slots_of old removals) (slots_of mid removals)
+  -- what is read of a page's list
+  pub list-at : (es : List (Entry T)) (lists : List FreeList) (pages p : ℕ) → AreLaid es lists pages → p < NUM_PAGES
+      → (list : FreeList) × (slice_get lists p ≡ Some list)
+  list-at es lists pages p h less =
+      let nothing : FreeList = record { place = 0; count = 0 } in
+      (get_or lists p nothing, slice_get-get_or lists p nothing (omega (arith, h.count)))
 
   -- the keys of a last page without an empty place are live
-  last-full : (pages : List (Places T)) (live first removals : ℕ) → AreKept pages live first removals → IsLastFull pages
-      → 0 < length pages → IsPageFull (slots_of pages removals) (length pages - 1)
-  last-full pages live first removals h full some = λ key begin end.
-      let i = length pages - 1 in
-      let bound = first-bound (suc i) (omega (arith, h.few)) in
-      let next = next_first i in
-      let is : page_of key ≡ i = page_of-at key i (omega (arith, h.few)) begin end in
-      let last : Places T = get_or pages i (record { places = []; memory = 0 }) in
-      let there : slice_get pages i ≡ Some last = slice_get-get_or pages i (record { places = []; memory = 0 }) (omega arith) in
-      let size = sized-at 0 i pages last h.sized there in
-      let e : 0 + i ≡ i = omega arith in
-      let size_is = rw e at size in
-      let at_key = at-places 0 i key (key - first_key i) pages last h.sized there (omega (arith, size_is)) (rw e (omega arith)) in
-      subst IsSome (sym (get-places (all_places pages) key ∙ at_key))
-      (held_everywhere last.places (key - first_key i) (full last there) (omega (arith, size_is)))
+  last-full : (es : List (Entry T)) (lists : List FreeList) (pages removals : ℕ) → AreLaid es lists pages → length es ≡ first_key pages
+      → HaveNoEmpty lists (pages - 1) pages → 0 < pages → IsPageFull (slots_of es pages removals) (pages - 1)
+  last-full es lists pages removals h used none some = λ key begin end.
+      let p = pages - 1 in
+      let next : suc p ≡ pages = omega arith in
+      let list = list-at es lists pages p h (omega (arith, h.few)) in
+      let is = h.complete p list.0 list.1 in
+      let zero = none p list.0 (omega arith) (omega arith) list.1 in
+      let e : first_key (suc p) ≡ first_key pages = ap first_key next in
+      let bound : key < first_key (suc p) = omega (arith, next_first p, end) in
+      subst IsSome (sym (get-places (places_of es) key))
+      (held-between (first_key p) (first_key (suc p)) key es (omega (arith, is.complete, zero)) begin bound (omega (arith, used, e, bound)))
 
   -- what a search leaves
-  pub found : (old mid : List (Places T)) (live first removals i : ℕ) → AreKept old live first removals → FindsPlace old mid i
-      → Found old mid live removals i
-  found old mid live first removals i h finds =
-      let within = slice_get_within mid i _ finds.0.1 in
-      elim finds.1 [
-        | inl same ↦
-            let size = same-length old mid same in
-            let all = same-all old mid same in
-            record {
-              shape = record { sized = same-sized 0 old mid same h.sized; few = omega (arith, size, h.few) };
-              counted = h.counted ∙ ap taken (sym all);
-              values = ap map_of all;
-              within = within;
-              longer = omega arith;
-              pages = omega arith;
-              made = inl size;
-            }
-        | inr added ↦
-            let new = added.0 in
-            let size : length mid ≡ length old + 1 = ap length new.1 ∙ length_push old new.0 in
-            let all : all_places mid ≡ all_places old ++ new.0.places = ap all_places new.1 ∙ places-push old new.0 in
-            let count = places_on (length old) in
-            let none : taken new.0.places ≡ 0 = rw new.2 (omega (
-              arith,
-              sum_by-replicate (λ (o : Option T). cond (is_some o) 1 0) count None,
-            )) in
-            let e : 0 + length old ≡ length old = omega arith in
-            let new_size : length new.0.places ≡ places_on (0 + length old) = rw (e, new.2) (length-replicate {A = Option T} count None) in
-            record {
-              shape = record {
-                sized = subst (AreSized 0) (sym new.1) (sized-push 0 old new.0 h.sized new_size);
-                few = omega (arith, size, added.2);
-              };
-              counted = h.counted ∙ sym (ap taken all ∙ omega (arith, taken-append (all_places old) new.0.places, none));
-              values = ap map_of all ∙ map-more (all_places old) new.0.places none;
-              within = within;
-              longer = omega arith;
-              pages = omega (arith, added.1);
-              made = inr (size, last-full old live first removals h added.3);
-            }
-      ]
+  pub record Found (es : List (Entry T)) (lists : List FreeList) (old new removals page : ℕ) : Type 0 where
+    pub laid : AreLaid es lists new
+    pub search : page ≤ new - 1
+    pub made : MakesPage (slots_of es old removals) (slots_of es new removals)
+    pub place : HasEmpty lists page ⊎ (length es < first_key new)
 
-  -- what is so once a value was put on a page that a search found
-  pub record Inserted (old new : List (Places T)) (live removals i key : ℕ) (v : T) : Type 0 where
-    pub kept : AreKept new (live + 1) i removals
-    pub few : i < NUM_PAGES
+  pub found : (es : List (Entry T)) (lists : List FreeList) (old new removals page : ℕ) → AreLaid es lists old
+      → FindsPlace es lists old new page → Found es lists old new removals page
+  found es lists old new removals page h (inl same) =
+      let is = same.0 in
+      record {
+        laid = subst (AreLaid es lists) (sym is) h;
+        search = omega (arith, same.1, is);
+        made = inl is;
+        place = elim same.2 [ inl some ↦ inl some | inr room ↦ inr (subst (λ n. length es < first_key n) (sym is) room) ];
+      }
+  found es lists old new removals page h (inr added) =
+      let is = added.one in
+      let more = laid-more es lists old h added.few added.used in
+      record {
+        laid = subst (AreLaid es lists) (sym is) more;
+        search = omega (arith, is, added.last);
+        made = inr (is, last-full es lists old removals h added.used added.full);
+        place = inr (subst (λ n. length es < first_key n) (sym is) (longer old added.used));
+      }
+    where
+      longer : (n : ℕ) → length es ≡ first_key n → length es < first_key (n + 1)
+      longer n used =
+          let e : n + 1 ≡ suc n = omega arith in
+          let less : first_key n < first_key (suc n) = omega (arith, next_first n, first-mono 0 n (omega arith), some n) in
+          rw e (omega (arith, used, less))
+        where
+          some : (n : ℕ) → 0 < places_on n
+          some n = omega (arith, pow_pos n)
+
+  -- a value can be put on the page that was found
+  pub can-put : (es : List (Entry T)) (lists : List FreeList) (old new removals page memory : ℕ) (list : FreeList) → AreLaid es lists old
+      → FindsPlace es lists old new page → first_key new ≤ memory → slice_get lists page ≡ Some list → CanPut es memory list
+  can-put es lists old new removals page memory list h finds fits at_page =
+      let f = found es lists old new removals page h finds in (
+        λ zero. elim f.place [
+          | inl some ↦ (let other = some.1 in let same : some.0 ≡ list = cc in
+              absurd (omega (arith, some.2, zero, ap (λ (l : FreeList). l.count) same)))
+          | inr room ↦ omega (arith, room, fits)
+        ],
+        λ some. (list-first es (first_key page) (first_key (suc page)) list.count list (f.laid.complete page list at_page).linked some).2,
+      )
+
+  -- what is so once a value was put in
+  pub record Inserted (old new : List (Entry T)) (lists : List FreeList) (before after entered removals page key : ℕ) (v : T) :
+      Type 0 where
+    pub kept : AreKept new lists after (entered + 1) page removals
     pub below : key < MAX_LIVE
-    pub space : live < MAX_LIVE
-    pub fresh : get (slots_of old removals).values key ≡ None
-    pub values : (slots_of new removals).values ≡ insert (slots_of old removals).values key v
-    pub pages : length new ≡ max (length old) (page_of key + 1)
-    pub made : MakesPage (slots_of old removals) (slots_of new removals)
+    pub space : taken (places_of old) < MAX_LIVE
+    pub fresh : get (slots_of old before removals).values key ≡ None
+    pub values : (slots_of new after removals).values ≡ insert (slots_of old before removals).values key v
+    pub pages : after ≡ max before (page_of key + 1)
+    pub made : MakesPage (slots_of old before removals) (slots_of new after removals)
 
-  pub inserted : (old mid new : List (Places T)) (live first removals i q : ℕ) (v : T) → AreKept old live first removals
-      → FindsPlace old mid i → PutsOn mid i q v new → Inserted old new live removals i (first_key i + q) v
-  inserted old mid new live first removals i q v h finds put =
-      let f = found old mid live first removals i h finds in
-      let e : 0 + i ≡ i = omega arith in
-      let k = first_key i + q in
-      let place = at-places 0 i k q mid put.page f.shape.sized put.there put.within (rw e (omega arith)) in
-      let empty : at (all_places mid) k ≡ None = place ∙ put.empty in
-      let size = sized-at 0 i mid put.page f.shape.sized put.there in
-      let size_is = rw e at size in
-      let ends = first-bound (suc i) (omega (arith, f.within, f.shape.few)) in
-      let next = next_first i in
-      let all_size = length-all mid f.shape.sized in
-      let last = first-mono (suc i) (length mid) (omega (arith, f.within)) in
-      let inside : k < length (all_places mid) = omega (arith, size_is, put.within) in
-      let all : all_places new ≡ set (all_places mid) k (Some v) =
-      ap all_places put.changed ∙ set-places 0 i k q mid put.page (Some v) f.shape.sized put.there put.within (rw e (omega arith)) in
-      let count = ap length put.changed ∙ length-set mid i _ in
-      let bound = bound-all mid f.shape.sized f.shape.few in
-      let is : page_of k ≡ i = page_of-at k i (omega (arith, f.within, f.shape.few)) (omega arith) (omega (arith, size_is, put.within)) in
+  pub inserted : (es new : List (Entry T)) (lists : List FreeList) (before after entered first removals page key : ℕ)
+      (list rest : FreeList) (v : T) → AreKept es lists before entered first removals → FindsPlace es lists before after page
+      → slice_get lists page ≡ Some list → Puts es list key v new rest
+      → Inserted es new (set lists page rest) before after entered removals page key v
+  inserted es new lists before after entered first removals page key list rest v h finds at_page (inl pushed) =
+      let f = found es lists before after removals page h.laid finds in
+      let zero = pushed.0 in
+      let key_is = pushed.2 in
+      let room : length es < first_key after = elim f.place [
+        | inl some ↦ (let other = some.1 in let same : some.0 ≡ list = cc in
+            absurd (omega (arith, some.2, zero, ap (λ (l : FreeList). l.count) same)))
+        | inr room ↦ room
+      ] in
+      let same_list : set lists page rest ≡ lists = ap (set lists page) pushed.1 ∙ set-there lists page list at_page in
+      let bound = first-bound after f.laid.few in
+      let one = has_page after room in
+      let last : page_of key ≡ after - 1 = page_of-at key (after - 1) (omega (arith, f.laid.few, one))
+      (omega (arith, key_is, f.laid.used)) (omega (arith, key_is, room, next_first (after - 1), next_is after one)) in
+      let longer = no-less finds in
+      let places : places_of new ≡ places_of es ++ Some v ∷ [] = ap places_of pushed.3 ∙ map_push value_of es (Occupied v) in
       record {
         kept = record {
-          sized = subst (AreSized 0) (sym put.changed)
-              (sized-set 0 i mid put.page _ f.shape.sized put.there (length-set put.page.places q (Some v)));
-          few = omega (arith, count, f.shape.few);
-          counted = omega (arith, f.counted, ap taken all, taken-put (all_places mid) k v inside empty);
-          search = omega (arith, count, f.within);
+          laid = subst (λ (l : List FreeList). AreLaid new l after) (sym same_list)
+              (subst (λ xs. AreLaid xs lists after) (sym pushed.3) (laid-push es lists after v f.laid room));
+          counted = omega (arith, h.counted, ap taken places, taken-push (places_of es) v);
+          search = f.search;
           interval = h.interval;
         };
-        few = omega (arith, f.within, f.shape.few);
-        below = omega arith;
-        space = omega (arith, f.counted, taken-below (all_places mid) k inside empty);
-        fresh = ap (λ m. get m k) (sym f.values) ∙ get-places (all_places mid) k ∙ empty;
-        values = ap map_of all ∙ map-put (all_places mid) k v inside ∙ ap (λ m. insert m k v) f.values;
-        pages = rw is (omega (arith, count, f.pages));
-        made = subst (λ n. MakesPage (slots_of old removals) (record (slots_of new removals) { pages = n })) (sym count) f.made;
+        below = omega (arith, key_is, room, bound);
+        space = omega (arith, taken-le (places_of es), length-places es, room, bound);
+        fresh = get-places (places_of es) key ∙ at-past (places_of es) key (omega (arith, length-places es, key_is));
+        values = ap map_of places ∙ map-push (places_of es) v ∙ ap (λ k. insert (map_of (places_of es)) k v)
+            (length-places es ∙ sym key_is);
+        pages = omega (arith, last, one, longer);
+        made = f.made;
       }
+    where
+      has_page : (n : ℕ) → length es < first_key n → 0 < n
+      has_page zero room = absurd (omega arith)
+      has_page (suc n) room = omega arith
+
+      next_is : (n : ℕ) → 0 < n → first_key (suc (n - 1)) ≡ first_key n
+      next_is n some = let e : suc (n - 1) ≡ n = omega arith in ap first_key e
+
+      no-less : FindsPlace es lists before after page → before ≤ after
+      no-less (inl same) = omega (arith, same.0)
+      no-less (inr added) = omega (arith, added.one)
+  inserted es new lists before after entered first removals page key list rest v h finds at_page (inr filled) =
+      let some = filled.0 in
+      let there = filled.1 in
+      let key_is = filled.2 in
+      let f = found es lists before after removals page h.laid finds in
+      let within : key < length es = omega (arith, key_is, slice_get_within es list.place _ there) in
+      let empty : at (places_of es) key ≡ None = ap (at (places_of es)) key_is ∙ at-entry es list.place _ there in
+      let inside : key < length (places_of es) = omega (arith, within, length-places es) in
+      let new_is : new ≡ set es list.place (Occupied v) = filled.3 ∙ ap (λ k. set es k (Occupied v)) key_is in
+      let places : places_of new ≡ set (places_of es) key (Some v) = ap places_of filled.3 ∙ map-set value_of es key (Occupied v) in
+      let same = same_pages finds in
+      let on = page-before key before h.laid.few (omega (arith, within, h.laid.within)) in
+      record {
+        kept = record {
+          laid = subst (λ xs. AreLaid xs (set lists page rest) after) (sym new_is)
+              (laid-fill es lists after page list rest v f.laid at_page some there);
+          counted = omega (arith, h.counted, ap taken places, taken-put (places_of es) key v inside empty);
+          search = f.search;
+          interval = h.interval;
+        };
+        below = on.0;
+        space = omega (
+          arith,
+          taken-put (places_of es) key v inside empty,
+          taken-le (set (places_of es) key (Some v)),
+          length-set (places_of es) key (Some v),
+          length-places es,
+          h.laid.within,
+          first-bound before h.laid.few,
+        );
+        fresh = get-places (places_of es) key ∙ empty;
+        values = ap map_of places ∙ map-put (places_of es) key v inside;
+        pages = omega (arith, same, on.1);
+        made = f.made;
+      }
+    where
+      same_pages : FindsPlace es lists before after page → after ≡ before
+      same_pages (inl same) = same.0
+      same_pages (inr added) =
+          absurd (omega (
+            arith,
+            filled.0,
+            none-past es lists before page list h.laid (omega (arith, added.last)) at_page,
+          ))
+
+  -- the same, by what the search and the page's list are read as
+  pub inserted_at : (es mid new : List (Entry T)) (lists : List FreeList) (before after entered first removals page key : ℕ)
+      (nothing rest : FreeList) (v : T) → AreKept es lists before entered first removals → FindsPlace es lists before after page
+      → mid ≡ es → Puts mid (get_or lists page nothing) key v new rest
+      → Inserted es new (set lists page rest) before after entered removals page key v
+  inserted_at es mid new lists before after entered first removals page key nothing rest v h finds same put =
+      let f = found es lists before after removals page h.laid finds in
+      let there = slice_get-get_or lists page nothing (omega (arith, f.search, f.laid.few, h.laid.count)) in
+      inserted es new lists before after entered first removals page key (get_or lists page nothing) rest v h finds there
+      (subst (λ xs. Puts xs (get_or lists page nothing) key v new rest) same put)
+
+  -- a value can be put there
+  pub can-put_at : (es mid : List (Entry T)) (lists : List FreeList) (old new removals page memory : ℕ) (nothing : FreeList)
+      → AreLaid es lists old → FindsPlace es lists old new page → mid ≡ es → first_key new ≤ memory
+      → CanPut mid memory (get_or lists page nothing)
+  can-put_at es mid lists old new removals page memory nothing h finds same fits =
+      let f = found es lists old new removals page h finds in
+      let there = slice_get-get_or lists page nothing (omega (arith, f.search, f.laid.few, h.count)) in
+      rw same (can-put es lists old new removals page memory (get_or lists page nothing) h finds fits there)
+
+  -- how many keys are live where each place holds a value
+  pub held-live : (es : List (Entry T)) (pages removals : ℕ) → AreAllHeld es pages
+      → len (slots_of es pages removals).values ≡ first_key pages
+  held-live es pages removals held = len-places (places_of es) ∙ held
 
   -- what is so once a search has found a place
-  pub record Reserved (old mid : List (Places T)) (live removals i : ℕ) : Type 0 where
-    pub kept : AreKept mid live i removals
-    pub values : (slots_of mid removals).values ≡ (slots_of old removals).values
-    pub room : 0 < room_in mid
-    pub made : MakesPage (slots_of old removals) (slots_of mid removals)
+  pub record Reserved (es : List (Entry T)) (lists : List FreeList) (before after entered removals page : ℕ) : Type 0 where
+    pub kept : AreKept es lists after entered page removals
+    pub room : 0 < first_key after - taken (places_of es)
+    pub made : MakesPage (slots_of es before removals) (slots_of es after removals)
 
-  reserved : (old mid : List (Places T)) (live first removals i : ℕ) → AreKept old live first removals → FindsPlace old mid i
-      → Reserved old mid live removals i
-  reserved old mid live first removals i h finds =
-      let f = found old mid live first removals i h finds in
+  pub reserved : (es : List (Entry T)) (lists : List FreeList) (before after entered first removals page : ℕ)
+      → AreKept es lists before entered first removals → FindsPlace es lists before after page
+      → Reserved es lists before after entered removals page
+  reserved es lists before after entered first removals page h finds =
+      let f = found es lists before after removals page h.laid finds in
       record {
-        kept = record {
-          sized = f.shape.sized;
-          few = f.shape.few;
-          counted = f.counted;
-          search = omega (arith, f.within);
-          interval = h.interval;
-        };
-        values = f.values;
-        room = room-at mid i finds.0;
+        kept = record { laid = f.laid; counted = h.counted; search = f.search; interval = h.interval };
+        room = elim f.place [
+          | inl some ↦ omega (arith, not-held es lists after page f.laid some, f.laid.within)
+          | inr room ↦ omega (arith, taken-le (places_of es), length-places es, room)
+        ];
         made = f.made;
       }
 
   -- the same, of a search that wasn't refused
-  pub reserved_ok : {E : Type 0} (r : Result Unit E) (old mid : List (Places T)) (live first removals i : ℕ)
-      → AreKept old live first removals → is_err r ≡ false → OnOk r (FindsPlace old mid i) → Reserved old mid live removals i
-  reserved_ok (Ok _) old mid live first removals i h accepted finds = reserved old mid live first removals i h finds
-  reserved_ok (Err _) old mid live first removals i h accepted finds = absurd (true≢false accepted)
-
-  -- where all pages are there and full, all keys are live
-  pub full-live : (pages : List (Places T)) (live first removals : ℕ) → AreKept pages live first removals → AreFullFrom pages 0
-      → length pages ≡ NUM_PAGES → live ≡ MAX_LIVE
-  full-live pages live first removals h full all =
-      let size = length-all pages h.sized ∙ ap first_key all in
-      omega (arith, h.counted, full-places pages full, size)
-
-  -- where a place is empty, or a page can be made, they aren't
-  pub not-full-live : (pages : List (Places T)) (live first removals : ℕ) → AreKept pages live first removals
-      → ((i : ℕ) × IsOpenAt pages i) ⊎ (length pages < NUM_PAGES) → live < MAX_LIVE
-  not-full-live pages live first removals h (inl is_open) = omega (
-    arith,
-    h.counted,
-    open-below pages is_open.0 is_open.1,
-    bound-all pages h.sized h.few,
-  )
-  not-full-live pages live first removals h (inr fewer) =
-      let less = first-mono (length pages) (NUM_PAGES - 1) (omega arith) in
-      omega (arith, h.counted, taken-le (all_places pages), length-all pages h.sized, less)
-
-  -- a page that has an empty place with memory, as it is read at its number
-  pub record Open (pages : List (Places T)) (i : ℕ) (on : Places T) : Type 0 where
-    pub there : slice_get pages i ≡ Some on
-    pub room : 0 < spare on
-    pub large : PAGE_INITIAL_SIZE ≤ length on.places
-    pub begins : length on.places - PAGE_INITIAL_SIZE ≡ first_key i
-    pub ends : first_key i + length on.places ≤ MAX_LIVE
-
-  -- what is read at the number of a page with an empty place and memory is such a page
-  pub opened : (pages : List (Places T)) (i : ℕ) (page : Places T) → AreSized 0 pages → length pages ≤ NUM_PAGES → HasMemoryAt pages i
-      → page ≡ get_or pages i page → Open pages i page
-  opened pages i page sized few has read =
-      let within = slice_get_within pages i has.0 has.1 in
-      let there : slice_get pages i ≡ Some page = slice_get_read pages (length pages) i page refl within read in
-      let other = has.1 in
-      let same : has.0 ≡ page = cc in
-      let e : 0 + i ≡ i = omega arith in
-      let size = sized-at 0 i pages page sized there in
-      let size_is = rw e at size in
-      record {
-        there = there;
-        room = subst (λ p. 0 < spare p) same has.2;
-        large = large-at pages i page sized within read;
-        begins = begin-at pages i (length page.places - PAGE_INITIAL_SIZE) page sized within read refl;
-        ends = omega (arith, size_is, next_first i, first-bound (suc i) (omega (arith, within, few)));
-      }
-
-  -- a page is its places and its memory
-  page_is : (page : Places T) (places : List (Option T)) (memory : ℕ) → page.places ≡ places → page.memory ≡ memory
-      → page ≡ record { places = places; memory = memory }
-  page_is page places memory same more = rw (← same, ← more) refl
-
-  -- what is put into an empty place of such a page is put at the place's key
-  pub put_at_key : (pages : List (Places T)) (i begin q : ℕ) (v : T) (page new : Places T) → Open pages i page
-      → begin ≡ length page.places - PAGE_INITIAL_SIZE → q < length page.places → at page.places q ≡ None
-      → new.places ≡ set page.places q (Some v) → new.memory ≡ page.memory
-      → PutsOn pages i (begin + q - first_key i) v (set pages i new)
-  put_at_key pages i begin q v page new o is within empty places memory =
-      let which : begin + q - first_key i ≡ q = omega (arith, is, o.begins) in
-      rw which (record {
-        page = page;
-        there = o.there;
-        within = within;
-        empty = empty;
-        changed = ap (set pages i) (page_is new (set page.places q (Some v)) page.memory places memory);
-      })
-
-  -- what is so once a value was put on a page, by its key
-  pub inserted_at : (old mid new : List (Places T)) (live first removals i key : ℕ) (v : T) → AreKept old live first removals
-      → FindsPlace old mid i → first_key i ≤ key → PutsOn mid i (key - first_key i) v new → Inserted old new live removals i key v
-  inserted_at old mid new live first removals i key v h finds start put =
-      let which : first_key i + (key - first_key i) ≡ key = omega arith in
-      subst (λ k. Inserted old new live removals i k v) which (inserted old mid new live first removals i (key - first_key i) v h finds put)
+  pub reserved_ok : {E : Type 0} (r : Result Unit E) (es : List (Entry T)) (lists : List FreeList)
+      (before after entered first removals page : ℕ) → AreKept es lists before entered first removals → is_err r ≡ false
+      → OnOk r (FindsPlace es lists before after page) → Reserved es lists before after entered removals page
+  reserved_ok (Ok _) es lists before after entered first removals page h accepted finds =
+      reserved es lists before after entered first removals page h finds
+  reserved_ok (Err _) es lists before after entered first removals page h accepted finds = absurd (true≢false accepted)

@@ -1,8 +1,7 @@
 pub mod Pages
-pub mod Entries
 pub mod Places
-pub mod AllPlaces
-pub mod Searching
+pub mod Entries
+pub mod Laid
 pub mod Kept
 pub mod Inserting
 pub mod Removing

@@ -109,14 +109,6 @@ page_of-digit key r below above next =
           | inr ge ↦ (let more : 2 ^ 26 ≤ 2 ^ i = pow-le-pow_right (omega arith) ge in absurd (omega (arith, more, pow)))
         ]
 
--- the highest binary digit of a number that is no key names none of the pages
-pub past-digit : (key r : ℕ) → MAX_LIVE ≤ key → key + PAGE_INITIAL_SIZE < 2 * 2 ^ r → 32 ≤ r
-past-digit key r past next =
-    elim (cases_lt r 32) [
-      | inl lt ↦ (let pow : 2 ^ suc r ≤ 2 ^ 32 = pow-le-pow_right (omega arith) lt in absurd (omega (arith, pow, doubled r)))
-      | inr ge ↦ ge
-    ]
-
 -- a number that is no key is answered with the last page
 pub page_of-past : (key : ℕ) → MAX_LIVE ≤ key → page_of key ≡ NUM_PAGES - 1
 unfolding page_of

@@ -1,6 +1,6 @@
 -- What the map of a list of places answers.
 use Rattle.std.proofs.Common.{◌≡◌, ◌≢◌, ℕ, zero, suc, ◌+◌, ◌≤◌, ◌<◌, List, [], ◌∷◌, ◌++◌, length, Option, None, Some, Bool, true, false}
-use Rattle.std.proofs.Common.{cond, refl, sym, ◌∙◌, ap, subst, arith, add-one, set, is_some}
+use Rattle.std.proofs.Common.{cond, refl, sym, ◌∙◌, ap, arith, add-one, set, is_some, get_or, take}
 use Rattle.std.proofs.lemmas.Bool.Decides.{nat_tests}
 use Rattle.std.specs.Ordering.{nat_cmp, eq_by_cmp}
 use Rattle.std.specs.Cmp.{nat_cmp_total}
@@ -8,9 +8,7 @@ use Rattle.std.specs.FinMap.{FinMap, find, get, insert, remove, len, from_entrie
 use Rattle.std.specs.FinMap.{nat_cmp-IsAntisymmetric, len-insert, len-empty}
 use Rattle.std.specs.Prelude.{IsSome}
 use Rattle.std.proofs.lemmas.List.Sums.{sum_by-cons, sum_by-append, sum_by-set, count_by-le-length}
-use Rattle.op_slots.proofs.Entries.{at-get_or}
-use Rattle.op_slots.specs.Page.{at, taken}
-use Rattle.op_slots.specs.Places.{listed}
+use Rattle.op_slots.specs.Layout.{at, taken, listed}
 
 -- the map of the places
 abbrev pub map_of : {T : Type 0} → List (Option T) → FinMap nat_cmp T
@@ -56,6 +54,12 @@ pub get-places : {T : Type 0} (xs : List (Option T)) (q : ℕ) → get (from_ent
 get-places xs q = get-from_entries nat_cmp_total (listed 0 xs) q ∙ (let e : q ≡ 0 + q =
     omega arith in ap (λ n. find nat_cmp n (listed 0 xs)) e ∙ find-listed xs 0 q)
 
+-- what a place holds, read with nothing as the default
+pub at-get_or : {T : Type 0} (xs : List (Option T)) (q : ℕ) → at xs q ≡ get_or xs q None
+at-get_or [] q = refl
+at-get_or (x ∷ xs) zero = refl
+at-get_or (x ∷ xs) (suc q) = at-get_or xs q
+
 -- what a place holds after one was written
 pub at-set : {T : Type 0} (xs : List (Option T)) (k : ℕ) (x : Option T) (q : ℕ) → k < length xs
     → at (set xs k x) q ≡ cond (eq_by_cmp nat_cmp q k) x (at xs q)
@@ -64,6 +68,14 @@ at-set (y ∷ xs) zero x zero within = refl
 at-set (y ∷ xs) zero x (suc q) within = rw (differ (suc q) 0 (omega arith))
 at-set (y ∷ xs) (suc k) x zero within = rw (differ 0 (suc k) (omega arith))
 at-set (y ∷ xs) (suc k) x (suc q) within = at-set xs k x q (omega arith) ∙ ap (λ b. cond b x (at xs q)) (shifted q k)
+
+-- what a place holds where a value was put behind all
+at-push : {T : Type 0} (xs : List (Option T)) (v : T) (q : ℕ)
+    → at (xs ++ Some v ∷ []) q ≡ cond (eq_by_cmp nat_cmp q (length xs)) (Some v) (at xs q)
+at-push [] v zero = refl
+at-push [] v (suc q) = rw (differ (suc q) 0 (omega arith))
+at-push (y ∷ xs) v zero = rw (differ 0 (suc (length xs)) (omega arith))
+at-push (y ∷ xs) v (suc q) = at-push xs v q ∙ ap (λ b. cond b (Some v) (at xs q)) (shifted q (length xs))
 
 -- past the end no place holds anything
 pub at-past : {T : Type 0} (xs : List (Option T)) (q : ℕ) → length xs ≤ q → at xs q ≡ None
@@ -106,11 +118,11 @@ len-listed (Some x ∷ xs) i =
     ∙ add-one (len m) ∙ ap suc (len-listed xs (i + 1))
 
 -- an empty place isn't counted
-taken-none : {T : Type 0} (xs : List (Option T)) → taken (None ∷ xs) ≡ taken xs
+pub taken-none : {T : Type 0} (xs : List (Option T)) → taken (None ∷ xs) ≡ taken xs
 taken-none {T} xs = omega (arith, sum_by-cons (λ (o : Option T). cond (is_some o) 1 0) None xs)
 
 -- a value is counted once
-taken-some : {T : Type 0} (x : T) (xs : List (Option T)) → taken (Some x ∷ xs) ≡ taken xs + 1
+pub taken-some : {T : Type 0} (x : T) (xs : List (Option T)) → taken (Some x ∷ xs) ≡ taken xs + 1
 taken-some {T} x xs = omega (arith, sum_by-cons (λ (o : Option T). cond (is_some o) 1 0) (Some x) xs)
 
 -- as many values are listed as places hold one
@@ -151,62 +163,33 @@ taken-keep xs k w within held = let counted = taken-set xs k (Some w) within in 
 pub taken-le : {T : Type 0} (xs : List (Option T)) → taken xs ≤ length xs
 taken-le xs = count_by-le-length is_some xs
 
--- where a place is empty, fewer values are held than there are places
-pub taken-below : {T : Type 0} (xs : List (Option T)) (k : ℕ) → k < length xs → at xs k ≡ None → taken xs < length xs
-taken-below [] k within e = absurd (omega arith)
-taken-below (None ∷ xs) k within e = omega (arith, taken-le xs, taken-none xs)
-taken-below (Some x ∷ xs) zero within e = cc
-taken-below (Some x ∷ xs) (suc k) within e = omega (arith, taken-below xs k (omega arith) e, taken-some x xs)
-
 -- a place that holds a value is one of the list's
 pub at-live : {T : Type 0} (xs : List (Option T)) (k : ℕ) → IsSome (at xs k) → k < length xs
 at-live [] k live = cc
 at-live (x ∷ xs) zero live = omega arith
 at-live (x ∷ xs) (suc k) live = omega (arith, at-live xs k live)
 
--- a live key of the map is a place of the list
-pub live-within : {T : Type 0} (xs : List (Option T)) (m : FinMap nat_cmp T) (k : ℕ) → map_of xs ≡ m → IsSome (get m k) → k < length xs
-live-within xs m k e live = at-live xs k (subst (λ o. IsSome o) (ap (λ n. get n k) (sym e) ∙ get-places xs k) live)
+-- a value behind all places is an insertion
+pub map-push : {T : Type 0} (xs : List (Option T)) (v : T) → map_of (xs ++ Some v ∷ []) ≡ insert (map_of xs) (length xs) v
+map-push xs v = same_map nat_cmp_total nat_cmp-IsAntisymmetric _ _ (λ q. get-places _ q ∙ at-push xs v q
+    ∙ sym (get-insert nat_cmp_total _ (length xs) v q ∙ ap (λ o. cond (eq_by_cmp nat_cmp q (length xs)) (Some v) o) (get-places xs q)))
 
--- in places that hold no value there is none
-pub at-empty : {T : Type 0} (xs : List (Option T)) (q : ℕ) → taken xs ≡ 0 → at xs q ≡ None
-at-empty [] q e = refl
-at-empty (None ∷ xs) zero e = refl
-at-empty (None ∷ xs) (suc q) e = at-empty xs q (omega (arith, taken-none xs))
-at-empty (Some x ∷ xs) q e = absurd (omega (arith, taken-some x xs))
+-- and is one more
+pub taken-push : {T : Type 0} (xs : List (Option T)) (v : T) → taken (xs ++ Some v ∷ []) ≡ taken xs + 1
+taken-push xs v = omega (arith, taken-append xs (Some v ∷ []), taken-some v [])
 
--- in places that hold a value there is one
-pub held_somewhere : {T : Type 0} (xs : List (Option T)) → 0 < taken xs → (q : ℕ) × IsSome (at xs q)
-held_somewhere [] some = absurd (omega arith)
-held_somewhere (None ∷ xs) some = let found = held_somewhere xs (omega (arith, taken-none xs)) in (suc found.0, found.1)
-held_somewhere (Some x ∷ xs) some = (0, refl)
-
--- where all places hold a value, each does
-pub held_everywhere : {T : Type 0} (xs : List (Option T)) (q : ℕ) → taken xs ≡ length xs → q < length xs → IsSome (at xs q)
-held_everywhere [] q all within = absurd (omega arith)
-held_everywhere (None ∷ xs) q all within = absurd (omega (arith, taken-le xs, taken-none xs))
-held_everywhere (Some x ∷ xs) zero all within = refl
-held_everywhere (Some x ∷ xs) (suc q) all within = held_everywhere xs q (omega (arith, taken-some x xs)) (omega arith)
-
--- a place of the first of two lists
-pub at-left : {T : Type 0} (xs ys : List (Option T)) (q : ℕ) → q < length xs → at (xs ++ ys) q ≡ at xs q
-at-left [] ys q within = absurd (omega arith)
-at-left (x ∷ xs) ys zero within = refl
-at-left (x ∷ xs) ys (suc q) within = at-left xs ys q (omega arith)
-
--- a place of the second of two lists
-pub at-right : {T : Type 0} (xs ys : List (Option T)) (n q : ℕ) → n ≡ length xs + q → at (xs ++ ys) n ≡ at ys q
-at-right [] ys n q e = let same_place : n ≡ q = omega arith in ap (at ys) same_place
-at-right (x ∷ xs) ys zero q e = absurd (omega arith)
-at-right (x ∷ xs) ys (suc n) q e = at-right xs ys n q (omega arith)
-
--- places without a value behind others change no answer
-at-more : {T : Type 0} (xs ys : List (Option T)) (q : ℕ) → taken ys ≡ 0 → at (xs ++ ys) q ≡ at xs q
-at-more [] ys q none = at-empty ys q none
-at-more (x ∷ xs) ys zero none = refl
-at-more (x ∷ xs) ys (suc q) none = at-more xs ys q none
+-- what a place holds where all places from one on, which hold nothing, were dropped
+at-cut : {T : Type 0} (n : ℕ) (xs : List (Option T)) (q : ℕ) → ((k : ℕ) → n ≤ k → at xs k ≡ None) → at (take n xs) q ≡ at xs q
+at-cut zero xs q none = sym (none q (omega arith))
+at-cut (suc n) [] q none = refl
+at-cut (suc n) (x ∷ xs) zero none = refl
+at-cut (suc n) (x ∷ xs) (suc q) none = at-cut n xs q (λ k from. none (suc k) (omega arith))
 
 -- so the map is the same
-pub map-more : {T : Type 0} (xs ys : List (Option T)) → taken ys ≡ 0 → map_of (xs ++ ys) ≡ map_of xs
-map-more xs ys none = same_map nat_cmp_total nat_cmp-IsAntisymmetric _ _ (λ q. get-places (xs ++ ys) q ∙ at-more xs ys q none
+pub map-cut : {T : Type 0} (n : ℕ) (xs : List (Option T)) → ((k : ℕ) → n ≤ k → at xs k ≡ None) → map_of (take n xs) ≡ map_of xs
+map-cut n xs none = same_map nat_cmp_total nat_cmp-IsAntisymmetric _ _ (λ q. get-places (take n xs) q ∙ at-cut n xs q none
     ∙ sym (get-places xs q))
+
+-- and as many values are held
+pub taken-cut : {T : Type 0} (n : ℕ) (xs : List (Option T)) → ((k : ℕ) → n ≤ k → at xs k ≡ None) → taken (take n xs) ≡ taken xs
+taken-cut n xs none = sym (len-places (take n xs)) ∙ ap len (map-cut n xs none) ∙ len-places xs

@@ -1,156 +1,227 @@
 -- What a slab keeps true, and what its slots are, as a value is taken out and the last page looked at.
-use Rattle.std.proofs.Common.{◌≡◌, ℕ, ◌+◌, ◌-◌, ◌^◌, ◌≤◌, ◌<◌, List, [], ◌++◌, length, None, Some, set, get_or, slice_get, inl, inr, refl}
-use Rattle.std.proofs.Common.{sym, ◌∙◌, ap, subst, arith, length-set}
-use Rattle.std.specs.Prelude.{IsSome}
+use Rattle.std.proofs.Common.{◌≡◌, ℕ, suc, ◌+◌, ◌-◌, ◌≤◌, ◌<◌, List, length, None, Some, set, get_or, take, slice_get, inl, inr, refl}
+use Rattle.std.proofs.Common.{sym, ◌∙◌, ap, subst, arith, Option, is_some, true, false, true≢false}
+use Rattle.std.specs.Prelude.{IsSome, option_copied}
+use Rattle.std.specs.Borrow.{Bor}
+use Rattle.op_slots.specs.declared.slab.pages.TheConstants.{NUM_PAGES}
 use Rattle.std.specs.FinMap.{get, remove}
-use Rattle.std.proofs.lemmas.List.{length_push}
+use Rattle.std.proofs.lemmas.List.{map-set, take-map}
 use Rattle.std.proofs.lemmas.Bool.{cases_lt}
 use Rattle.std.proofs.lemmas.Option.{slice_get_within, slice_get-get_or}
-use Rattle.op_slots.specs.declared.slab.TheConstants.{COMPACT_INTERVAL}
-use Rattle.op_slots.specs.Page.{Places, at, taken}
+use Rattle.op_slots.specs.declared.slab.TheConstants.{MAX_LIVE, COMPACT_INTERVAL}
+use Rattle.op_slots.specs.declared.slab.entry.FreeList.{FreeList}
+use Rattle.op_slots.specs.declared.slab.entry.Entry.{Entry}
 use Rattle.op_slots.specs.Pages.{page_of, first_key}
 use Rattle.op_slots.specs.Slots.{IsPageEmpty, GivesBackPage}
-use Rattle.op_slots.specs.Places.{all_places, AreSized, AreKept, slots_of, TakesFrom, IsLastEmpty, DropsLast}
-use Rattle.op_slots.proofs.Pages.{page_of-first, page_of-at}
-use Rattle.op_slots.proofs.Places.{map_of, get-places, map-empty, map-more, at-live, taken-take, taken-append, held_somewhere}
-use Rattle.op_slots.proofs.AllPlaces.{sized-at, sized-set, sized-front, at-places, set-places, places-push}
-use Rattle.op_slots.proofs.Kept.{AreShaped, live-within}
+use Rattle.op_slots.specs.Entry.{value_of}
+use Rattle.op_slots.specs.Layout.{at, taken, places_of, AreLaid, AreKept, slots_of, Takes, IsLastEmpty, LooksAtLast}
+use Rattle.op_slots.proofs.Pages.{first-bound, first-mono, page_of-at, next_first}
+use Rattle.op_slots.proofs.Places.{map_of, get-places, map-empty, map-cut, at-live, at-past, taken-take, taken-cut}
+use Rattle.op_slots.proofs.Entries.{at-entry, entry-at, before-all, before-mono, before-past, before-steps, empty-between, empties-between}
+use Rattle.op_slots.proofs.Laid.{OnPage, on-page, page-before, laid-empty, laid-less}
+use Rattle.op_slots.proofs.Kept.{length-places, live-on}
+use Rattle.op_slots.proofs.Inserting.{list-at}
 
 module _ {T : Type 0} where
+  -- a key that was found is live
+  pub found-live : (r : Option (Bor T)) (o : Option T) → option_copied r ≡ o → is_some r ≡ true → IsSome o
+  found-live None o e some = absurd (true≢false (sym some))
+  found-live (Some x) o e some = subst IsSome e refl
+
+  -- one that wasn't has no value
+  pub found-none : (r : Option (Bor T)) (o : Option T) → option_copied r ≡ o → is_some r ≡ false → o ≡ None
+  found-none None o e none = sym e
+  found-none (Some x) o e none = absurd (true≢false none)
+
+  -- a live key's place holds its value
+  pub live-held : (es : List (Entry T)) (pages removals key : ℕ) → IsSome (get (slots_of es pages removals).values key)
+      → IsSome (at (places_of es) key)
+  live-held es pages removals key live = subst IsSome (get-places (places_of es) key) live
+
+  -- where a value is held, fewer places than all are empty
+  pub count-below : (es : List (Entry T)) (lists : List FreeList) (pages key page : ℕ) (nothing : FreeList) → AreLaid es lists pages
+      → page ≡ page_of key → IsSome (at (places_of es) key) → (page < NUM_PAGES) × ((get_or lists page nothing).count < MAX_LIVE)
+  count-below es lists pages key page nothing h is held =
+      let entry = entry-at es key held in
+      let inside = at-live (places_of es) key held in
+      let on = page-before key pages h.few (omega (arith, inside, length-places es, h.within)) in
+      let less : page < pages = omega (arith, is, on.1) in
+      let there : slice_get lists page ≡ Some (get_or lists page nothing) =
+      slice_get-get_or lists page nothing (omega (arith, less, h.few, h.count)) in
+      let its = h.complete page (get_or lists page nothing) there in
+      let one = taken-take (places_of es) key entry.0 inside (at-entry es key _ entry.1) in
+      let later : first_key (suc page) ≤ first_key pages = first-mono (suc page) pages (omega arith) in (
+        omega (arith, less, h.few),
+        omega (
+          arith,
+          its.complete,
+          before-mono (first_key (suc page)) (first_key pages) es later,
+          before-all (first_key pages) es h.within,
+          one,
+          h.within,
+          first-bound pages h.few,
+        ),
+      )
+
   -- what is so once a value was taken out
-  pub record Removed (old rest : List (Places T)) (live removals key : ℕ) (v : T) : Type 0 where
-    pub shape : AreShaped rest
-    pub counted : live - 1 ≡ taken (all_places rest)
-    pub some : 1 ≤ live
-    pub value : get (slots_of old removals).values key ≡ Some v
-    pub values : map_of (all_places rest) ≡ remove (map_of (all_places old)) key
-    pub count : length rest ≡ length old
+  pub record Removed (old rest : List (Entry T)) (lists : List FreeList) (pages removals key : ℕ) (v : T) : Type 0 where
+    pub laid : AreLaid rest lists pages
+    pub counted : taken (places_of rest) + 1 ≡ taken (places_of old)
+    pub value : get (slots_of old pages removals).values key ≡ Some v
+    pub values : map_of (places_of rest) ≡ remove (map_of (places_of old)) key
+    pub search : page_of key ≤ pages - 1
 
-  pub removed : (old mid : List (Places T)) (live first removals key i begin : ℕ) (v : T) → AreKept old live first removals → key < 2 ^ 64
-      → i ≡ page_of key → begin ≡ first_key i → TakesFrom old i (key - begin) v mid → Removed old mid live removals key v
-  removed old mid live first removals key i begin v h fits is begins take =
-      let q = key - begin in
-      let start : first_key i ≤ key = subst (λ n. first_key n ≤ key) (sym is) (page_of-first key fits) in
-      let within = at-live take.page.places q (subst IsSome (sym take.held) refl) in
-      let e : 0 + i ≡ i = omega arith in
-      let place = at-places 0 i key q old take.page h.sized take.there within (rw e (omega (arith, begins))) in
-      let held : at (all_places old) key ≡ Some v = place ∙ take.held in
-      let inside = at-live (all_places old) key (subst IsSome (sym held) refl) in
-      let all : all_places mid ≡ set (all_places old) key None =
-      ap all_places take.changed ∙ set-places 0 i key q old take.page None h.sized take.there within (rw e (omega (arith, begins))) in
-      let count = ap length take.changed ∙ length-set old i _ in
-      let less = taken-take (all_places old) key v inside held in
+  pub removed : (es rest : List (Entry T)) (lists : List FreeList) (pages removals key page : ℕ) (nothing more : FreeList) (v : T)
+      → AreLaid es lists pages → page ≡ page_of key → Takes es (get_or lists page nothing) key v rest more
+      → Removed es rest (set lists page more) pages removals key v
+  removed es rest lists pages removals key page nothing more v h is take =
+      let within = slice_get_within es key _ take.held in
+      let on = page-before key pages h.few (omega (arith, within, h.within)) in
+      let there : slice_get lists page ≡ Some (get_or lists page nothing) =
+      slice_get-get_or lists page nothing (omega (arith, is, on.1, h.few, h.count)) in
+      let held : at (places_of es) key ≡ Some v = at-entry es key _ take.held in
+      let inside : key < length (places_of es) = omega (arith, within, length-places es) in
+      let places : places_of rest ≡ set (places_of es) key None = ap places_of take.emptied ∙ map-set value_of es key _ in
+      let lies : OnPage key page = subst (OnPage key) (sym is) (on-page key on.0) in
       record {
-        shape = record {
-          sized = subst (AreSized 0) (sym take.changed)
-              (sized-set 0 i old take.page _ h.sized take.there (length-set take.page.places q None));
-          few = omega (arith, count, h.few);
-        };
-        counted = omega (arith, h.counted, ap taken all, less);
-        some = omega (arith, h.counted, less);
-        value = get-places (all_places old) key ∙ held;
-        values = ap map_of all ∙ map-empty (all_places old) key inside;
-        count = count;
-      }
-
-  -- where the last page isn't looked at, the slab keeps what it kept
-  pub removed-kept : (old mid : List (Places T)) (live first removals key : ℕ) (v : T) → AreKept old live first removals
-      → Removed old mid live removals key v → removals + 1 < COMPACT_INTERVAL → AreKept mid (live - 1) first (removals + 1)
-  removed-kept old mid live first removals key v h r less =
-      record { sized = r.shape.sized; few = r.shape.few; counted = r.counted; search = omega (arith, h.search, r.count); interval = less }
-
-  -- what is so once the last page was looked at
-  pub record Looked (old new : List (Places T)) (live removals key : ℕ) : Type 0 where
-    pub kept : AreKept new (live - 1) 0 0
-    pub values : map_of (all_places new) ≡ remove (map_of (all_places old)) key
-    pub given : GivesBackPage (slots_of old removals) (slots_of new 0) → length new + 1 ≡ length old
-    pub stays : ¬ GivesBackPage (slots_of old removals) (slots_of new 0) → length new ≡ length old
-
-  -- where a page holds a value, a key of it is live
-  some-key : (pages : List (Places T)) (live first removals i : ℕ) (page : Places T) → AreKept pages live first removals
-      → slice_get pages i ≡ Some page → 0 < taken page.places → IsPageEmpty (slots_of pages removals) i → ⊥
-  some-key pages live first removals i page h there some none =
-      let found = held_somewhere page.places some in
-      let q = found.0 in
-      let within = at-live page.places q found.1 in
-      let e : 0 + i ≡ i = omega arith in
-      let size = sized-at 0 i pages page h.sized there in
-      let size_is = rw e at size in
-      let k = first_key i + q in
-      let place = at-places 0 i k q pages page h.sized there within (rw e (omega arith)) in
-      let is : page_of k ≡ i = page_of-at k i (omega (arith, slice_get_within pages i page there, h.few)) (omega arith) (omega (
-        arith,
-        size_is,
-        within,
-      )) in
-      none k (subst IsSome (sym (get-places (all_places pages) k ∙ place)) found.1) is
-
-  pub looked : (old mid new : List (Places T)) (live first removals key : ℕ) (v : T) → AreKept old live first removals
-      → Removed old mid live removals key v → removals + 1 ≡ COMPACT_INTERVAL → DropsLast mid new → Looked old new live removals key
-  looked old mid new live first removals key v h r last (inl dropped) =
-      let page = dropped.1.0 in
-      let split = dropped.1.1 in
-      let none = dropped.1.2 in
-      let size : length mid ≡ length new + 1 = ap length split ∙ length_push new page in
-      let all : all_places mid ≡ all_places new ++ page.places = ap all_places split ∙ places-push new page in
-      let more = dropped.0.0 in
-      let kept : AreKept new (live - 1) 0 0 = record {
-        sized = sized-front 0 new page (subst (AreSized 0) split r.shape.sized);
-        few = omega (arith, size, r.shape.few);
-        counted = r.counted ∙ ap taken all ∙ omega (arith, taken-append (all_places new) page.places, none);
-        search = omega arith;
-        interval = omega arith;
-      } in
-      let empty : IsPageEmpty (slots_of new 0) (length old - 1) =
-      λ k is_live is. (let w = live-within new (live - 1) 0 0 k kept is_live in omega (arith, w.1, size, r.count, is)) in
-      record {
-        kept = kept;
-        values = sym (ap map_of all ∙ map-more (all_places new) page.places none) ∙ r.values;
-        given = λ gives. omega (arith, size, r.count);
-        stays = λ not. absurd (not (last, omega (arith, more, r.count), empty));
-      }
-  looked old mid new live first removals key v h r last (inr same) =
-      let kept : AreKept new (live - 1) 0 0 = rw same.0 (record {
-        sized = r.shape.sized;
-        few = r.shape.few;
-        counted = r.counted;
-        search =
-            omega arith;
-        interval = omega arith;
-      }) in
-      let size : length new ≡ length old = ap length same.0 ∙ r.count in
-      record {
-        kept = kept;
-        values = ap (λ ps. map_of (all_places ps)) same.0 ∙ r.values;
-        given = λ gives. absurd (same.1 (last_empty gives));
-        stays = λ not. size;
+        laid = subst (λ (p : List (Entry T) × FreeList). AreLaid p.0 (set lists page p.1) pages)
+            (sym (pair take.emptied take.leads)) (laid-empty es lists pages page key (get_or lists page nothing) v h there lies take.held);
+        counted = omega (arith, ap taken places, taken-take (places_of es) key v inside held);
+        value = get-places (places_of es) key ∙ held;
+        values = ap map_of places ∙ map-empty (places_of es) key inside;
+        search = omega (arith, on.1);
       }
     where
-      last_empty : GivesBackPage (slots_of old removals) (slots_of new 0) → IsLastEmpty mid
-      last_empty gives =
-          let kept : AreKept mid (live - 1) 0 0 = record {
-            sized = r.shape.sized;
-            few = r.shape.few;
-            counted = r.counted;
-            search =
-                omega arith;
-            interval = omega arith;
-          } in
-          let i = length mid - 1 in
-          let nothing : Places T = record { places = []; memory = 0 } in
-          let page = get_or mid i nothing in
-          let more : 1 < length mid = omega (arith, gives.1, r.count) in
-          let there : slice_get mid i ≡ Some page = slice_get-get_or mid i nothing (omega arith) in
-          let which : length old - 1 ≡ i = omega (arith, r.count) in
-          let none : IsPageEmpty (slots_of mid 0) i = subst (λ (p : List (Places T) × ℕ). IsPageEmpty (slots_of p.0 0) p.1)
-          (pair same.0 which) gives.2 in
-          (more, (page, there, by_count page there none kept))
-        where
-          pair : {a b : List (Places T)} {m n : ℕ} → a ≡ b → m ≡ n → ◌≡◌ {A = List (Places T) × ℕ} (a, m) (b, n)
-          pair p q = cc
+      pair : {a b : List (Entry T)} {m n : FreeList} → a ≡ b → m ≡ n → ◌≡◌ {A = List (Entry T) × FreeList} (a, m) (b, n)
+      pair p q = cc
 
-          by_count : (page : Places T) → slice_get mid (length mid - 1) ≡ Some page → IsPageEmpty (slots_of mid 0) (length mid - 1)
-              → AreKept mid (live - 1) 0 0 → taken page.places ≡ 0
-          by_count page there none kept =
-              elim (cases_lt 0 (taken page.places))
-              [ inl some ↦ absurd (some-key mid (live - 1) 0 0 (length mid - 1) page kept there some none) | inr none_is ↦ omega arith ]
+  -- where the last page isn't looked at, the slab keeps what it kept
+  pub removed-kept : (old rest : List (Entry T)) (before lists : List FreeList) (pages entered first removals key page : ℕ) (v : T)
+      → AreKept old before pages entered first removals → Removed old rest lists pages removals key v → page ≡ page_of key
+      → removals + 1 < COMPACT_INTERVAL → AreKept rest lists pages entered page (removals + 1)
+  removed-kept old rest before lists pages entered first removals key page v h r is less =
+      record { laid = r.laid; counted = omega (arith, h.counted, r.counted); search = omega (arith, r.search, is); interval = less }
+
+  -- what is so once the last page was looked at
+  pub record Looked (old new : List (Entry T)) (lists : List FreeList) (before after entered removals key : ℕ) : Type 0 where
+    pub kept : AreKept new lists after (entered - COMPACT_INTERVAL) 0 0
+    pub values : map_of (places_of new) ≡ remove (map_of (places_of old)) key
+    pub given : GivesBackPage (slots_of old before removals) (slots_of new after 0) → after + 1 ≡ before
+    pub stays : ¬ GivesBackPage (slots_of old before removals) (slots_of new after 0) → after ≡ before
+
+  -- where no key of the last page is live, the page is empty
+  last-empty : (es : List (Entry T)) (lists : List FreeList) (pages removals p : ℕ) → AreLaid es lists pages → p + 1 ≡ pages → 1 < pages
+      → IsPageEmpty (slots_of es pages removals) p → IsLastEmpty es lists pages
+  last-empty es lists pages removals p h one many none =
+      let list = list-at es lists pages p h (omega (arith, one, h.few)) in
+      let is = h.complete p list.0 list.1 in
+      let last : pages - 1 ≡ p = omega arith in
+      let next : suc p ≡ pages = omega arith in
+      let used : first_key p ≤ length es = subst (λ n. first_key n ≤ length es) last h.used in
+      let ends : length es ≤ first_key (suc p) = subst (λ n. length es ≤ first_key n) (sym next) h.within in
+      let dead : (k : ℕ) → first_key p ≤ k → IsSome (at (places_of es) k) → ⊥ = λ k from held.
+      none k (subst IsSome (sym (get-places (places_of es) k)) held) (on-last k from (at-live (places_of es) k held)) in
+      let empties = empties-between (first_key p) es dead used in
+      let past = before-past (length es) (first_key (suc p)) es (omega arith) ends in
+      let count : first_key p + list.0.count ≡ length es = omega (arith, is.complete, empties, past, used) in (
+        many,
+        (
+          list.0,
+          subst (λ n. slice_get lists n ≡ Some list.0) (sym last) list.1,
+          subst (λ n. first_key n + list.0.count ≡ length es) (sym last) count,
+        ),
+      )
+    where
+      on-last : (k : ℕ) → first_key p ≤ k → k < length (places_of es) → page_of k ≡ p
+      on-last k from within =
+          let next : first_key (suc p) ≡ first_key pages = (let e : suc p ≡ pages = omega arith in ap first_key e) in
+          page_of-at k p (omega (arith, one, h.few)) from (omega (arith, within, length-places es, h.within, next, next_first p))
+
+  -- an empty last page has no live key
+  dead-last : (es : List (Entry T)) (lists : List FreeList) (pages p k : ℕ) → AreLaid es lists pages → p + 1 ≡ pages
+      → IsLastEmpty es lists pages → first_key p ≤ k → at (places_of es) k ≡ None
+  dead-last es lists pages p k h one empty from =
+      let last : pages - 1 ≡ p = omega arith in
+      let next : suc p ≡ pages = omega arith in
+      let list = empty.1.0 in
+      let there : slice_get lists p ≡ Some list = subst (λ n. slice_get lists n ≡ Some list) last empty.1.1 in
+      let count : first_key p + list.count ≡ length es = subst (λ n. first_key n + list.count ≡ length es) last empty.1.2 in
+      let is = h.complete p list there in
+      let ends : length es ≤ first_key (suc p) = subst (λ n. length es ≤ first_key n) (sym next) h.within in
+      let past = before-past (length es) (first_key (suc p)) es (omega arith) ends in
+      elim (cases_lt k (length es)) [
+        | inl less ↦ empty-between (first_key p) (length es) k es (omega (arith, is.complete, past, count)) from less
+        | inr ge ↦ at-past (places_of es) k (omega (arith, length-places es, ge))
+      ]
+
+  pub looked : (old mid new : List (Entry T)) (lists rest first_lists : List FreeList) (before after entered first removals key : ℕ) (v : T)
+      → AreKept old first_lists before entered first removals → Removed old mid lists before removals key v
+      → removals + 1 ≡ COMPACT_INTERVAL → LooksAtLast mid new lists rest before after
+      → Looked old new rest before after entered removals key
+  looked old mid new lists rest first_lists before after entered first removals key v h r last (inl dropped) =
+      let one = dropped.left in
+      let dead : (k : ℕ) → first_key after ≤ k → at (places_of mid) k ≡ None =
+      λ k from. dead-last mid lists before after k r.laid one dropped.empty from in
+      let places : places_of new ≡ take (first_key after) (places_of mid) = ap places_of dropped.cut
+      ∙ sym (take-map value_of (first_key after) mid) in
+      let values = ap map_of places ∙ map-cut (first_key after) (places_of mid) dead in
+      let laid : AreLaid new rest after = subst (λ xs. AreLaid xs rest after) (sym dropped.cut)
+      (subst (λ (l : List FreeList). AreLaid (take (first_key after) mid) l after) (sym dropped.cleared)
+      (laid-less mid lists before after dropped.list r.laid one dropped.none)) in
+      let empty : IsPageEmpty (slots_of new after 0) (before - 1) =
+      λ k is_live is. (let w = live-on new rest after 0 k laid is_live in omega (arith, w.1, one, is)) in
+      record {
+        kept = record {
+          laid = laid;
+          counted = omega (arith, h.counted, r.counted, last, ap taken places, taken-cut (first_key after) (places_of mid) dead);
+          search = omega arith;
+          interval = omega arith;
+        };
+        values = values ∙ r.values;
+        given = λ gives. one;
+        stays = λ not. absurd (not (last, omega (arith, dropped.empty.0), empty));
+      }
+  looked old mid new lists rest first_lists before after entered first removals key v h r last (inr same) =
+      let places : places_of new ≡ places_of mid = ap places_of same.0 in
+      let laid : AreLaid new rest after = subst (λ xs. AreLaid xs rest after) (sym same.0)
+      (subst (λ (l : List FreeList). AreLaid mid l after) (sym same.1) (subst (AreLaid mid lists) (sym same.2) r.laid)) in
+      record {
+        kept = record {
+          laid = laid;
+          counted = omega (arith, h.counted, r.counted, last, ap taken places);
+          search = omega arith;
+          interval = omega arith;
+        };
+        values = ap map_of places ∙ r.values;
+        given = λ gives. absurd (same.3 (last-empty mid lists before 0 (before - 1) r.laid (omega (arith, gives.1)) gives.1
+            (dead-page gives.2)));
+        stays = λ not. same.2;
+      }
+    where
+      dead-page : IsPageEmpty (slots_of new after 0) (before - 1) → IsPageEmpty (slots_of mid before 0) (before - 1)
+      dead-page none = λ k live. none k (subst (λ xs. IsSome (get (map_of xs) k)) (sym (ap places_of same.0)) live)
+
+  -- the last page was dropped, as its list is read
+  pub dropped : (es new : List (Entry T)) (lists : List FreeList) (pages begin : ℕ) (nothing none : FreeList) → AreLaid es lists pages
+      → 1 < pages → begin ≡ first_key (pages - 1) → length es - begin ≤ (get_or lists (pages - 1) nothing).count → new ≡ take begin es
+      → none.count ≡ 0 → LooksAtLast es new lists (set lists (pages - 1) none) pages (pages - 1)
+  dropped es new lists pages begin nothing none h many is all cut zero_is =
+      let p = pages - 1 in
+      let one : p + 1 ≡ pages = omega arith in
+      let next : suc p ≡ pages = omega arith in
+      let list = get_or lists p nothing in
+      let there : slice_get lists p ≡ Some list = slice_get-get_or lists p nothing (omega (arith, h.few, h.count)) in
+      let its = h.complete p list there in
+      let ends : length es ≤ first_key (suc p) = subst (λ n. length es ≤ first_key n) (sym next) h.within in
+      let past = before-past (length es) (first_key (suc p)) es (omega arith) ends in
+      let most = before-steps (first_key p) (length es) es h.used in
+      let used = h.used in
+      let empty : IsLastEmpty es lists pages = (many, (list, there, omega (arith, its.complete, past, most, all, is, used))) in
+      inl (record {
+        empty = empty;
+        left = one;
+        cut = cut ∙ ap (λ n. take n es) is;
+        list = none;
+        none = zero_is;
+        cleared = refl;
+      })

@@ -1,30 +1,30 @@
--- How a page keeps its empty places in a list. Cited by the body of `Page`, and by no clause of a slab.
-use Rattle.std.specs.Prelude.{◌≡◌, ℕ, zero, suc, ◌+◌, ◌%◌, ◌^◌, ◌≤◌, List, map, length, Option, Some, None, slice_get}
-use Rattle.op_slots.specs.Page.{taken}
-use Rattle.op_slots.specs.declared.slab.page.Entry.{Entry}
-use Rattle.op_slots.specs.declared.slab.page.Entry.TheVariants.{Vacant, Occupied}
+-- How a slab keeps the empty places of a page in a list. Cited by the body of `Slab`, and by no public clause.
+use Rattle.std.specs.Prelude.{◌≡◌, ℕ, zero, suc, ◌+◌, ◌≤◌, ◌<◌, List, [], ◌∷◌, Option, Some, None, slice_get}
+use Rattle.op_slots.specs.Pages.{first_key}
+use Rattle.op_slots.specs.declared.slab.entry.FreeList.{FreeList}
+use Rattle.op_slots.specs.declared.slab.entry.Entry.{Entry}
+use Rattle.op_slots.specs.declared.slab.entry.Entry.TheVariants.{Vacant, Occupied}
 
 module _ {T : Type 0} where
   -- the value of an entry, if it has one
   abbrev pub value_of : Entry T → Option T
-  value_of (Vacant next) = None
+  value_of (Vacant list) = None
   value_of (Occupied value) = Some value
 
-  -- from this place on, so many empty entries each name the next one, and the last names the end of the entries
-  abbrev pub IsFreeList : List (Entry T) → ℕ → ℕ → Type 0
-  IsFreeList entries zero place = place ≡ length entries
-  IsFreeList entries (suc count) place = (next : ℕ) × (slice_get entries place ≡ Some (Vacant next)) × IsFreeList entries count next
+  -- how many of the first so many entries are empty
+  abbrev pub empty_before : ℕ → List (Entry T) → ℕ
+  empty_before zero entries = 0
+  empty_before (suc n) [] = 0
+  empty_before (suc n) (Vacant list ∷ entries) = suc (empty_before n entries)
+  empty_before (suc n) (Occupied value ∷ entries) = empty_before n entries
 
-  -- the values are counted, the list of free places has every empty entry, and there are no more entries than places
-  pub record IsSound (entries : List (Entry T)) (size used next : ℕ) : Type 0 where
-    pub counted : used ≡ taken (map value_of entries)
-    pub free : ℕ
-    pub total : used + free ≡ length entries
-    pub linked : IsFreeList entries free next
-    pub fits : length entries ≤ size
+  -- a list of so many empty entries, each at a key from `begin` on and before `end`, and each with the list of the others
+  abbrev pub IsFreeList : List (Entry T) → ℕ → ℕ → ℕ → FreeList → Type 0
+  IsFreeList entries begin end zero list = list.count ≡ 0
+  IsFreeList entries begin end (suc n) list = (list.count ≡ suc n) × (begin ≤ list.place) × (list.place < end) ×
+      ((rest : FreeList) × (slice_get entries list.place ≡ Some (Vacant rest)) × IsFreeList entries begin end n rest)
 
-  -- the same, where the values that were put in and those that were taken out are counted, each modulo 2 ^ 64
-  pub record IsCounted (entries : List (Entry T)) (size filled emptied next : ℕ) : Type 0 where
-    pub used : ℕ
-    pub sound : IsSound entries size used next
-    pub balance : filled ≡ (emptied + used) % 2 ^ 64
+  -- the list of a page has each empty entry of the page
+  pub record IsListOf (entries : List (Entry T)) (page : ℕ) (list : FreeList) : Type 0 where
+    pub linked : IsFreeList entries (first_key page) (first_key (suc page)) list.count list
+    pub complete : empty_before (first_key page) entries + list.count ≡ empty_before (first_key (suc page)) entries

@@ -1,9 +1,7 @@
 pub mod Pages
 pub mod Slots
-pub mod Page
 pub mod Entry
-pub mod LendsPlace
-pub mod Places
+pub mod Layout
 pub mod NoPlace
 pub mod InsertError
 pub mod Slab

@@ -1,7 +1,6 @@
 -- The pages of a slab, by number: how many places each has, and which keys lie on it. Cited by `page_of`, `Slab` and `Ref`.
-use Rattle.std.specs.Prelude.{ℕ, ◌≡◌, ◌<◌, ◌≤◌, ◌⊎◌, ◌+◌, ◌-◌, ◌*◌, ◌/◌, ◌^◌, min}
+use Rattle.std.specs.Prelude.{ℕ, ◌+◌, ◌-◌, ◌*◌, ◌/◌, ◌^◌, min}
 use Rattle.std.specs.Int.{w64, leading_zeros}
-use Rattle.op_slots.specs.declared.slab.TheConstants.{MAX_LIVE}
 use Rattle.op_slots.specs.declared.slab.pages.TheConstants.{NUM_PAGES, PAGE_INITIAL_SIZE}
 
 -- how many binary digits a number below 2 ^ 64 has, where 0 has none
@@ -19,11 +18,3 @@ places_on page = PAGE_INITIAL_SIZE * 2 ^ page
 -- the first key of a page, which is how many places the pages before it have
 abbrev pub first_key : ℕ → ℕ
 first_key page = PAGE_INITIAL_SIZE * 2 ^ page - PAGE_INITIAL_SIZE
-
--- the page of a key, which is one of the first so many
-abbrev pub IsPageIn : ℕ → ℕ → ℕ → Type 0
-IsPageIn count key page = (page ≡ page_of key) × (page < count) × (key < MAX_LIVE)
-
--- no key is this number, or its page is none of the first so many
-abbrev pub IsOnNoPage : ℕ → ℕ → Type 0
-IsOnNoPage count key = (MAX_LIVE ≤ key) ⊎ (count ≤ page_of key)

@@ -1,28 +1,28 @@
 //! A finite map that chooses the keys of its values, which lie on pages of doubling size.
-ghost use Rattle.std.specs.Prelude.{◌≡◌, ◌+◌, ◌-◌, ◌<◌, ◌≤◌, ◌%◌, ◌↔◌, max, vec_len, IfOk, OnOk, OnErr, IfErr, IsErrOf};
+ghost use Rattle.std.specs.Prelude.{◌≡◌, ◌+◌, ◌-◌, ◌<◌, ◌≤◌, ◌%◌, ◌↔◌, max, vec_capacity, length, IfOk, OnOk, OnErr, IfErr, IsErrOf};
 ghost use Rattle.std.specs.Prelude.{IsSome, IsTrue, None, Some, option_copied, OnSome, IfSome, IfNone};
 ghost use Rattle.std.specs.Borrow.{sem};
 ghost use Rattle.std.specs.FinMap as map;
 ghost use Rattle.op_slots.specs.Pages.{page_of as page_by_rule, first_key as first_by_rule};
 ghost use Rattle.op_slots.specs.Slots.{IsLive, AreKeysBelow, AreOnPages, MakesPage, GivesBackPage};
 ghost use Rattle.op_slots.specs.InsertError.{IsRefused};
-ghost use Rattle.op_slots.specs.Page.{at};
-ghost use Rattle.op_slots.specs.Places.{AreSized, HasMemoryAt, HasAt, TakesFrom, PutsOn, DropsLast};
+ghost use Rattle.op_slots.specs.Layout.{at, places_of, AreLaid, CanPut, Puts, Takes, LooksAtLast};
 ghost use Rattle.op_slots.specs.Slab.{LendsValue};
 ghost use Rattle.op_slots.specs.Ref.{slab_lent, slots_lent, key_lent, RestsIfNotLive};
 
-mod page;
+mod entry;
 mod pages;
 mod ref_mut;
 mod search;
 
-use page::Page;
-use pages::{near_page_in, page_in};
+use entry::{Entry, FreeList};
 pub use pages::{NUM_PAGES, PAGE_INITIAL_SIZE, page_of};
+use pages::{end_of, page_at};
 pub use ref_mut::Ref;
 use search::{NoPlace, make_place};
 use std::alloc::Global;
 use std::marker::Model;
+use std::mem;
 use thiserror::Error;
 
 /// How many keys can be live, and the first number that is never a key (not in monoio, whose 26 pages have so many places too).
@@ -49,13 +49,18 @@ pub enum InsertError<T> {
 /// for more values, the number of pages, and how many values were taken out since the last page was looked at.
 ///
 /// A key lies on the page that `page_of` says. Page i has `64 << i` places, and its first key is `(64 << i) - 64`. Of a page the
-/// place that was emptied last is used first, else the first that was never used. A page gets memory as its places are used.
+/// place that was emptied last is used first, else the first that was never used.
 #[derive(Debug, Drop)]
 pub struct Slab<T> {
-    pages: Vec<Page<T>>,
-    // How many keys are live, and with them how many values were taken out since the pages were looked at.
+    // The places that were used, by key. There is memory for all places of the pages.
+    entries: Vec<Entry<T>>,
+    // For each page the places of it that are empty again.
+    lists: [FreeList; NUM_PAGES],
+    // How many pages there are.
+    pages: usize,
+    // How many keys are live, and with them how many values were taken out since the last page was looked at.
     entered: usize,
-    // The page that the last value was put on, or 0 if the pages were looked at since.
+    // The page that a value was put on or taken out of last, or 0 if the last page was looked at since.
     first: usize,
     // How many values were taken out since then.
     removals: usize,
@@ -63,16 +68,18 @@ pub struct Slab<T> {
 
 impl<T> Model for Slab<T> {
     ghost use Rattle.op_slots.specs.Slots.{Slots, slots_code};
-    ghost use Rattle.op_slots.specs.Places.{AreKept, slots_of};
-    ghost use Rattle.std.specs.Prelude.{◌≤◌, ◌-◌};
+    ghost use Rattle.op_slots.specs.Layout.{AreKept, slots_of};
+    ghost use Rattle.op_slots.specs.Pages.{first_key};
+    ghost use Rattle.std.specs.Prelude.{◌≤◌, vec_capacity};
 
     ghost Value = { Slots T };
 
     ghost coded = { slots_code T.code };
 
-    ghost view = { λ s. slots_of s.pages.items s.removals };
+    ghost view = { λ s. slots_of s.entries.items s.pages s.removals };
 
-    ghost invariant = { λ s. (s.removals ≤ s.entered) × AreKept s.pages.items (s.entered - s.removals) s.first s.removals };
+    ghost invariant = { λ s. (first_key s.pages ≤ vec_capacity s.entries) ×
+        AreKept s.entries.items s.lists s.pages s.entered s.first s.removals };
 }
 
 impl<T: Drop> Slab<T> {
@@ -81,7 +88,9 @@ impl<T: Drop> Slab<T> {
         ensures { result.values ≡ map.empty }
     {
         Slab {
-            pages: Vec::new(alloc),
+            entries: Vec::new(alloc),
+            lists: [FreeList { place: 0, count: 0 }; NUM_PAGES],
+            pages: 0,
             entered: 0,
             first: 0,
             removals: 0,
@@ -102,7 +111,7 @@ impl<T: Drop> Slab<T> {
     pub fn page_count(&self) -> usize
         ensures { result ≡ self.now.pages }
     {
-        self.pages.len()
+        self.pages
     }
 
     /// Whether no key is live (not in monoio).
@@ -124,12 +133,9 @@ impl<T: Drop> Slab<T> {
         ensures value { option_copied result ≡ map.get self.now.values key }
         ensures below { OnSome result (key < MAX_LIVE) }
     {
-        match page_in(self.pages.len(), key) {
-            Some(at) => {
-                let page = &self.pages[at];
-                page.get(key - page.first_key())
-            }
-            None => None,
+        match self.entries.get(key) {
+            Some(Entry::Occupied(value)) => Some(value),
+            _ => None,
         }
     }
 
@@ -148,9 +154,7 @@ impl<T: Drop> Slab<T> {
         ensures value { map.get self.old.values key ≡ Some result.now }
         ensures below { key < MAX_LIVE }
     {
-        let page = page_of(key);
-        let first = self.pages[page].first_key();
-        self.pages[page].value_mut(key - first)
+        self.entries[key].value_mut()
     }
 
     /// Puts a value at a key that wasn't live, and answers the key (monoio: `Slab::insert`).
@@ -169,9 +173,14 @@ impl<T: Drop> Slab<T> {
         ensures made { MakesPage self.old self.new }
         ensures removals { self.new.removals ≡ self.old.removals }
     {
-        match make_place(&mut self.pages, &mut self.first) {
+        match make_place(
+            &mut self.entries,
+            &self.lists,
+            &mut self.pages,
+            &mut self.first,
+        ) {
             Ok(()) => {
-                let key = put_on(&mut self.pages, self.first, val);
+                let key = put(&mut self.entries, &mut self.lists[self.first], val);
                 self.entered += 1;
                 Ok(key)
             }
@@ -191,7 +200,14 @@ impl<T: Drop> Slab<T> {
         ensures made { MakesPage self.old self.new }
         ensures removals { self.new.removals ≡ self.old.removals }
     {
-        if make_place(&mut self.pages, &mut self.first).is_err() {
+        if make_place(
+            &mut self.entries,
+            &self.lists,
+            &mut self.pages,
+            &mut self.first,
+        )
+        .is_err()
+        {
             return Err(OutOfMemory);
         }
         Ok(())
@@ -226,68 +242,97 @@ impl<T: Drop> Slab<T> {
         ensures given { OnSome result (GivesBackPage self.old self.new → self.new.pages + 1 ≡ self.old.pages) }
         ensures kept { OnSome result (¬ GivesBackPage self.old self.new → self.new.pages ≡ self.old.pages) }
     {
-        let page = match near_page_in(self.pages.len(), key) {
-            Some(page) => page,
-            None => return None,
-        };
-        let first = self.pages[page].first_key();
-        match take_from(&mut self.pages, page, key - first) {
-            None => None,
-            Some(value) => {
-                self.removals += 1;
-                if self.removals < COMPACT_INTERVAL {
-                    return Some(value);
-                }
-                self.entered -= COMPACT_INTERVAL;
-                self.removals = 0;
-                self.first = 0;
-                give_back(&mut self.pages);
-                Some(value)
-            }
+        if self.peek(key).is_none() {
+            return None;
         }
+        move_to(&mut self.first, key);
+        let value = take_out(&mut self.entries, &mut self.lists[self.first], key);
+        self.removals += 1;
+        if self.removals < COMPACT_INTERVAL {
+            return Some(value);
+        }
+        self.entered -= COMPACT_INTERVAL;
+        self.removals = 0;
+        self.first = 0;
+        give_back(&mut self.entries, &mut self.lists, &mut self.pages);
+        Some(value)
     }
 }
 
-// Puts a value on a page that has an empty place with memory, and answers the key of the place.
-fn put_on<T: Drop>(pages: &mut Vec<Page<T>>, page: usize, val: T) -> usize
-    requires memory { HasMemoryAt pages.old.items page }
-    requires sized { AreSized 0 pages.old.items }
-    requires few { vec_len pages.old ≤ NUM_PAGES }
-    ensures start { first_by_rule page ≤ result }
-    ensures put { PutsOn pages.old.items page (result - first_by_rule page) val pages.new.items }
+// Puts a value into the place that the list names, else into the first one that was never used, and answers its key.
+fn put<T: Drop>(entries: &mut Vec<Entry<T>>, list: &mut FreeList, val: T) -> usize
+    requires { CanPut entries.old.items (vec_capacity entries.old) list.old }
+    ensures put { Puts entries.old.items list.old result val entries.new.items list.new }
+    ensures memory { vec_capacity entries.new ≡ vec_capacity entries.old }
 {
-    let on = &mut pages[page];
-    let begin = on.first_key();
-    let place = on.put(val);
-    begin + place
-}
-
-// Takes the value out of a place of a page, and answers None if there is none.
-fn take_from<T: Drop>(pages: &mut Vec<Page<T>>, page: usize, place: usize) -> Option<T>
-    requires { page < vec_len pages.old }
-    ensures some { IfSome result (λ value. TakesFrom pages.old.items page place value pages.new.items) }
-    ensures none { IfNone result (HasAt pages.old.items page place None) }
-    ensures same { IfNone result (pages.new.items ≡ pages.old.items) }
-{
-    if pages[page].get(place).is_none() {
-        return None;
+    if list.count == 0 {
+        let key = entries.len();
+        entries.push_reserved(Entry::Occupied(val));
+        return key;
     }
-    Some(pages[page].take(place))
+    let key = list.place as usize;
+    match mem::replace(&mut entries[key], Entry::Occupied(val)) {
+        Entry::Vacant(rest) => *list = rest,
+        Entry::Occupied(_) => unreachable!(),
+    }
+    key
 }
 
-// Gives the last page back, if all its places are empty and it isn't page 0.
+// Makes the page of a key the first one. Where it is already, nothing is written, and what follows goes by the number that was there,
+// which is read before the key's page is found: so it waits for neither.
+fn move_to(first: &mut usize, key: usize)
+    requires { key < MAX_LIVE }
+    ensures { first.new ≡ page_by_rule key }
+{
+    let before = *first;
+    let page = page_at(key);
+    if page != before {
+        *first = page;
+    }
+}
+
+// Takes the value at a key out, and puts its place before the others of the list of its page.
+fn take_out<T: Drop>(entries: &mut Vec<Entry<T>>, list: &mut FreeList, key: usize) -> T
+    requires held { IsSome (at (places_of entries.old.items) key) }
+    requires few { length entries.old.items ≤ MAX_LIVE }
+    requires count { list.old.count < MAX_LIVE }
+    ensures takes { Takes entries.old.items list.old key result entries.new.items list.new }
+    ensures memory { vec_capacity entries.new ≡ vec_capacity entries.old }
+{
+    match mem::replace(&mut entries[key], Entry::Vacant(*list)) {
+        Entry::Occupied(value) => {
+            list.place = key as u32;
+            list.count += 1;
+            value
+        }
+        Entry::Vacant(_) => unreachable!(),
+    }
+}
+
+// Gives the last page back, if all its places are empty and it isn't page 0. Its memory is kept until another page goes.
 #[cold]
-fn give_back<T: Drop>(pages: &mut Vec<Page<T>>)
-    ensures { DropsLast pages.old.items pages.new.items }
+fn give_back<T: Drop>(
+    entries: &mut Vec<Entry<T>>,
+    lists: &mut [FreeList; NUM_PAGES],
+    pages: &mut usize,
+)
+    requires laid { AreLaid entries.old.items lists.old pages.old }
+    requires memory { first_by_rule pages.old ≤ vec_capacity entries.old }
+    ensures looks { LooksAtLast entries.old.items entries.new.items lists.old lists.new pages.old pages.new }
+    ensures memory { first_by_rule pages.new ≤ vec_capacity entries.new }
 {
-    let count = pages.len();
+    let count = *pages;
     if count <= 1 {
         return;
     }
-    if !pages[count - 1].is_empty() {
+    let begin = end_of(count - 1);
+    if (lists[count - 1].count as usize) < entries.len() - begin {
         return;
     }
-    let _ = pages.pop();
+    entries.truncate(begin);
+    entries.shrink_to(end_of(count));
+    lists[count - 1] = FreeList { place: 0, count: 0 };
+    *pages = count - 1;
 }
 
 #[cfg(test)]

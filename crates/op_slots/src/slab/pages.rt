@@ -1,7 +1,6 @@
 //! Which keys lie on which page.
-ghost use Rattle.std.specs.Prelude.{◌≡◌, ◌+◌, ◌<◌, ◌≤◌, IfSome, IfNone};
-ghost use Rattle.op_slots.specs.Pages.{page_of as page_by_rule, places_on as places_by_rule, first_key as first_by_rule, IsPageIn};
-ghost use Rattle.op_slots.specs.Pages.{IsOnNoPage};
+ghost use Rattle.std.specs.Prelude.{◌≡◌, ◌+◌, ◌<◌, ◌≤◌};
+ghost use Rattle.op_slots.specs.Pages.{page_of as page_by_rule, places_on as places_by_rule, first_key as first_by_rule};
 
 use super::MAX_LIVE;
 
@@ -21,42 +20,25 @@ pub fn page_of(key: usize) -> usize
     ensures first { first_by_rule result ≤ key }
     ensures last { key < MAX_LIVE → key < first_by_rule result + places_by_rule result }
 {
-    match near_page_in(NUM_PAGES, key) {
-        Some(page) => page,
-        None => NUM_PAGES - 1,
+    if key < MAX_LIVE {
+        page_at(key)
+    } else {
+        NUM_PAGES - 1
     }
 }
 
-// The page of a key, if it is one of the first so many. Its number is how far the highest binary digit of `key + 64` is above that
-// of 64, so that one branch alone is taken.
-pub(crate) fn page_in(count: usize, key: usize) -> Option<usize>
-    requires { count ≤ NUM_PAGES }
-    ensures some { IfSome result (IsPageIn count key) }
-    ensures none { IfNone result (IsOnNoPage count key) }
+// The page of a key that a value can have: how far the highest binary digit of `key + 64` is above that of 64.
+pub(crate) fn page_at(key: usize) -> usize
+    requires { key < MAX_LIVE }
+    ensures { result ≡ page_by_rule key }
 {
-    if key > usize::MAX - PAGE_INITIAL_SIZE {
-        return None;
-    }
-    let page = ((key + PAGE_INITIAL_SIZE).ilog2() - 6) as usize;
-    if page < count { Some(page) } else { None }
+    ((key + PAGE_INITIAL_SIZE).ilog2() - 6) as usize
 }
 
-// The same. The answer for page 0 waits for no other instruction.
-pub(crate) fn near_page_in(count: usize, key: usize) -> Option<usize>
-    requires { count ≤ NUM_PAGES }
-    ensures some { IfSome result (IsPageIn count key) }
-    ensures none { IfNone result (IsOnNoPage count key) }
+// How many places so many pages have, which is the first key behind them.
+pub(crate) fn end_of(pages: usize) -> usize
+    requires { pages ≤ NUM_PAGES }
+    ensures { result ≡ first_by_rule pages }
 {
-    if key < PAGE_INITIAL_SIZE {
-        return if 0 < count { Some(0) } else { None };
-    }
-    page_in(count, key)
-}
-
-// How many places a page has.
-pub(crate) fn places_on(page: usize) -> usize
-    requires { page < NUM_PAGES }
-    ensures { result ≡ places_by_rule page }
-{
-    PAGE_INITIAL_SIZE << page
+    (PAGE_INITIAL_SIZE << pages) - PAGE_INITIAL_SIZE
 }

@@ -116,7 +116,7 @@ fn the_place_that_was_emptied_last_is_used_first(rt: HostRuntime) -> Result<(), 
     Ok(())
 }
 
-// A search goes on at page 1 while places of page 0 are empty, and begins at page 0 again after so many removals.
+// The page of the last removal is used first, and the search begins at page 0 again after so many removals.
 #[test]
 fn a_search_begins_at_page_0_again(rt: HostRuntime) -> Result<(), Fail> {
     let mut slab: Slab<u64> = Slab::new(rt.alloc());
@@ -124,13 +124,14 @@ fn a_search_begins_at_page_0_again(rt: HostRuntime) -> Result<(), Fail> {
         assert!(rt; slab.insert(value)? < 65);
     }
     assert_eq!(rt; slab.remove(0), Some(0));
-    for _ in 2..COMPACT_INTERVAL {
+    assert_eq!(rt; slab.remove(64), Some(64));
+    for _ in 3..COMPACT_INTERVAL {
         let key = slab.insert(1)?;
-        assert_eq!(rt; key, 65);
+        assert_eq!(rt; key, 64);
         assert!(rt; slab.remove(key).is_some());
     }
-    assert_eq!(rt; slab.insert(2)?, 65);
-    assert_eq!(rt; slab.remove(64), Some(64));
+    assert_eq!(rt; slab.insert(2)?, 64);
+    assert_eq!(rt; slab.remove(64), Some(2));
     assert_eq!(rt; slab.insert(3)?, 0);
     Ok(())
 }

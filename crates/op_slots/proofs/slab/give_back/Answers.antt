@@ -1,9 +1,8 @@
-use Rattle.std.proofs.Common.{arith}
-use Rattle.op_slots.proofs.Searching.{dropped_last}
+use Rattle.std.proofs.Common.{refl, ◌∙◌, arith}
+use Rattle.op_slots.proofs.Removing.{dropped}
 use Rattle.op_slots.proofs.slab.give_back.Goals as goal
 
-pub returns : goal.returns
-returns g c =
-    dropped_last c.args.pages.now.items c.pop.new.self.items _ _ c.index.result.now c.pop.result (omega arith) (omega arith)
-    (omega arith) c.index.ensures (c.is_empty.ensures.0 c.if-not-is_empty.false)
-    (c.pop.ensures.value c.index.result.now (omega arith)) c.pop.ensures.items
+pub returns-clause-looks : goal.returns-clause-looks
+returns-clause-looks g c =
+    dropped c.args.entries.now.items _ c.args.lists.now c.args.pages.now c.end_of-begin.result (record { place = 0; count = 0 }) _
+    c.requires.laid (omega arith) c.end_of-begin.ensures (omega arith) (c.shrink_to.ensures.items ∙ c.truncate.ensures.items) refl

@@ -1,169 +1,107 @@
-use Rattle.std.proofs.Common.{◌≡◌, ◌+◌, ◌-◌, ◌<◌, length, sym, arith}
-use Rattle.op_slots.specs.declared.slab.TheConstants.{COMPACT_INTERVAL}
-use Rattle.op_slots.proofs.Pages.{page_of-first}
+use Rattle.std.proofs.Common.{◌≡◌, ◌+◌, not, sym, ◌∙◌, ap, arith}
 use Rattle.op_slots.proofs.Places.{map-absent}
-use Rattle.op_slots.proofs.Kept.{large-at, begin-at, peek-off, peek-none}
-use Rattle.op_slots.proofs.Removing.{removed, removed-kept, looked}
+use Rattle.op_slots.proofs.Kept.{bound-all}
+use Rattle.op_slots.proofs.Removing.{found-live, found-none, live-held, count-below, removed, removed-kept, looked}
 use Rattle.op_slots.proofs.slab.Slab.remove.Goals as goal
 
-pub returns-in-None-clause-value : goal.returns-in-None-clause-value
-returns-in-None-clause-value g c =
-    let absent = peek-off c.self.inside.pages.items _ _ c.self.inside.removals c.args.key c.len.result c.self.invariant.1 (omega (
-      arith,
-      c.ranges.key,
-    )) (omega arith) c.in-None.ensures.none in
-    rw (← c.self.view_is) (sym absent)
+pub returns-then-is_none-clause-new : goal.returns-then-is_none-clause-new
+returns-then-is_none-clause-new g c =
+    sym (map-absent _ _ (found-none _ _ c.peek.ensures.value (c.is_none.ensures ∙ ap not c.if-is_none.true)))
 
-pub returns-in-None-clause-new : goal.returns-in-None-clause-new
-returns-in-None-clause-new g c =
-    let absent = peek-off c.self.inside.pages.items _ _ c.self.inside.removals c.args.key c.len.result c.self.invariant.1 (omega (
-      arith,
-      c.ranges.key,
-    )) (omega arith) c.in-None.ensures.none in
-    rw (← c.self.view_is) (sym (map-absent _ _ absent))
+pub offset_bounds-self-inside-self-inside : goal.offset_bounds-self-inside-self-inside
+offset_bounds-self-inside-self-inside g c =
+    let live = found-live _ _ c.peek.ensures.value (c.is_none.ensures ∙ ap not c.if-is_none.false) in
+    let held = live-held c.self.inside.entries.items c.self.inside.pages c.self.inside.removals c.args.key
+    (rw (← c.self.view_is) at live) in
+    let few = count-below _ _ _ _ c.move_to.new.first (record { place = 0; count = 0 }) c.self.invariant.1.laid
+    c.move_to.ensures held in
+    omega (arith, few.0)
 
-pub first_key-first-requires : goal.first_key-first-requires
-first_key-first-requires g c =
-    let within : c.in-Some.page < length c.self.inside.pages.items = omega (arith, c.in-Some.ensures.some.1) in
-    large-at _ _ c.index.result.now c.self.invariant.1.sized within c.index.ensures
+pub bounds-self-inside-self-inside : goal.bounds-self-inside-self-inside
+bounds-self-inside-self-inside g c =
+    let live = found-live _ _ c.peek.ensures.value (c.is_none.ensures ∙ ap not c.if-is_none.false) in
+    let held = live-held c.self.inside.entries.items c.self.inside.pages c.self.inside.removals c.args.key
+    (rw (← c.self.view_is) at live) in
+    (count-below _ _ _ _ c.move_to.new.first (record { place = 0; count = 0 }) c.self.invariant.1.laid
+    c.move_to.ensures held).0
 
-pub overflow_sub-key : goal.overflow_sub-key
-overflow_sub-key g c =
-    let within : c.in-Some.page < length c.self.inside.pages.items = omega (arith, c.in-Some.ensures.some.1) in
-    let begin = begin-at _ _ _ c.index.result.now c.self.invariant.1.sized within c.index.ensures c.first_key-first.ensures in
-    rw (begin, c.in-Some.ensures.some.0) (page_of-first c.args.key (omega (arith, c.ranges.key)))
+pub take_out-value-requires-clause-held : goal.take_out-value-requires-clause-held
+take_out-value-requires-clause-held g c =
+    let live = found-live _ _ c.peek.ensures.value (c.is_none.ensures ∙ ap not c.if-is_none.false) in
+    live-held c.self.inside.entries.items c.self.inside.pages c.self.inside.removals c.args.key (rw (← c.self.view_is) at live)
 
-pub overflow_sub-self : goal.overflow_sub-self
-overflow_sub-self g c =
-    let within : c.in-Some.page < length c.self.inside.pages.items = omega (arith, c.in-Some.ensures.some.1) in
-    let begin = begin-at _ _ _ c.index.result.now c.self.invariant.1.sized within c.index.ensures c.first_key-first.ensures in
-    let r = removed _ _ _ _ _ c.args.key c.in-Some.page _ c.in-Some-take_from.value c.self.invariant.1 (omega (
-      arith,
-      c.ranges.key,
-    )) c.in-Some.ensures.some.0 begin c.in-Some-take_from.ensures.some in
-    omega (arith, r.some)
+pub take_out-value-requires-clause-few : goal.take_out-value-requires-clause-few
+take_out-value-requires-clause-few g c = bound-all _ _ _ c.self.invariant.1.laid
 
-pub invariant_of-self-then-self-lt-COMPACT_INTERVAL : goal.invariant_of-self-then-self-lt-COMPACT_INTERVAL
-invariant_of-self-then-self-lt-COMPACT_INTERVAL g c =
-    let within : c.in-Some.page < length c.self.inside.pages.items = omega (arith, c.in-Some.ensures.some.1) in
-    let begin = begin-at _ _ _ c.index.result.now c.self.invariant.1.sized within c.index.ensures c.first_key-first.ensures in
-    let r = removed _ _ _ _ _ c.args.key c.in-Some.page _ c.in-Some-take_from.value c.self.invariant.1 (omega (
-      arith,
-      c.ranges.key,
-    )) c.in-Some.ensures.some.0 begin c.in-Some-take_from.ensures.some in
-    let some = r.some in
-    let count : c.self.inside.entered - (c.self.inside.removals + 1) ≡ c.self.inside.entered - c.self.inside.removals - 1 = omega arith in
-    (omega arith, rw count (removed-kept _ _ _ _ _ _ _ c.self.invariant.1 r (omega arith)))
+pub take_out-value-requires-clause-count : goal.take_out-value-requires-clause-count
+take_out-value-requires-clause-count g c =
+    let live = found-live _ _ c.peek.ensures.value (c.is_none.ensures ∙ ap not c.if-is_none.false) in
+    let held = live-held c.self.inside.entries.items c.self.inside.pages c.self.inside.removals c.args.key
+    (rw (← c.self.view_is) at live) in
+    (count-below _ _ _ _ c.move_to.new.first (record { place = 0; count = 0 }) c.self.invariant.1.laid
+    c.move_to.ensures held).1
+
+pub invariant_of-self : goal.invariant_of-self
+invariant_of-self g c =
+    let r = removed _ _ _ _ c.self.inside.removals _ _ _ _ _ c.self.invariant.1.laid c.move_to.ensures
+    c.take_out-value.ensures.takes in (
+      rw c.take_out-value.ensures.memory c.self.invariant.0,
+      removed-kept _ _ _ _ _ _ _ _ _ _ _ c.self.invariant.1 r c.move_to.ensures (omega arith),
+    )
 
 pub returns-then-self-lt-COMPACT_INTERVAL-clause-value : goal.returns-then-self-lt-COMPACT_INTERVAL-clause-value
 returns-then-self-lt-COMPACT_INTERVAL-clause-value g c =
-    let within : c.in-Some.page < length c.self.inside.pages.items = omega (arith, c.in-Some.ensures.some.1) in
-    let begin = begin-at _ _ _ c.index.result.now c.self.invariant.1.sized within c.index.ensures c.first_key-first.ensures in
-    let r = removed _ _ _ _ _ c.args.key c.in-Some.page _ c.in-Some-take_from.value c.self.invariant.1 (omega (
-      arith,
-      c.ranges.key,
-    )) c.in-Some.ensures.some.0 begin c.in-Some-take_from.ensures.some in
+    let r = removed _ _ _ _ c.self.inside.removals _ _ _ _ _ c.self.invariant.1.laid c.move_to.ensures
+    c.take_out-value.ensures.takes in
     rw (← c.self.view_is) (sym r.value)
 
 pub returns-then-self-lt-COMPACT_INTERVAL-clause-new : goal.returns-then-self-lt-COMPACT_INTERVAL-clause-new
 returns-then-self-lt-COMPACT_INTERVAL-clause-new g c =
-    let within : c.in-Some.page < length c.self.inside.pages.items = omega (arith, c.in-Some.ensures.some.1) in
-    let begin = begin-at _ _ _ c.index.result.now c.self.invariant.1.sized within c.index.ensures c.first_key-first.ensures in
-    let r = removed _ _ _ _ _ c.args.key c.in-Some.page _ c.in-Some-take_from.value c.self.invariant.1 (omega (
-      arith,
-      c.ranges.key,
-    )) c.in-Some.ensures.some.0 begin c.in-Some-take_from.ensures.some in
+    let r = removed _ _ _ _ c.self.inside.removals _ _ _ _ _ c.self.invariant.1.laid c.move_to.ensures
+    c.take_out-value.ensures.takes in
     rw (← c.self.view_is) r.values
 
-pub returns-then-self-lt-COMPACT_INTERVAL-clause-below : goal.returns-then-self-lt-COMPACT_INTERVAL-clause-below
-returns-then-self-lt-COMPACT_INTERVAL-clause-below g c =
-    c.in-Some.ensures.some.2
+pub overflow_sub-self : goal.overflow_sub-self
+overflow_sub-self g c =
+    let r = removed _ _ _ _ c.self.inside.removals _ _ _ _ _ c.self.invariant.1.laid c.move_to.ensures
+    c.take_out-value.ensures.takes in
+    omega (arith, r.counted, c.self.invariant.1.counted)
 
-pub invariant_of-self-in-Some-take_from : goal.invariant_of-self-in-Some-take_from
-invariant_of-self-in-Some-take_from g c =
-    let within : c.in-Some.page < length c.self.inside.pages.items = omega (arith, c.in-Some.ensures.some.1) in
-    let begin = begin-at _ _ _ c.index.result.now c.self.invariant.1.sized within c.index.ensures c.first_key-first.ensures in
-    let r = removed _ _ _ _ _ c.args.key c.in-Some.page _ c.in-Some-take_from.value c.self.invariant.1 (omega (
-      arith,
-      c.ranges.key,
-    )) c.in-Some.ensures.some.0 begin c.in-Some-take_from.ensures.some in
-    let l = looked _ _ _ _ _ _ c.args.key c.in-Some-take_from.value c.self.invariant.1 r (omega (
-      arith,
-      c.self.invariant.1.interval,
-    )) c.give_back.ensures in
-    let interval = c.self.invariant.1.interval in
-    let some = r.some in
-    let count : c.self.inside.entered - COMPACT_INTERVAL - 0 ≡ c.self.inside.entered - c.self.inside.removals - 1 = omega arith in
-    (omega arith, rw count l.kept)
+pub give_back-requires-clause-laid : goal.give_back-requires-clause-laid
+give_back-requires-clause-laid g c =
+    (removed _ _ _ _ c.self.inside.removals _ _ _ _ _ c.self.invariant.1.laid c.move_to.ensures
+    c.take_out-value.ensures.takes).laid
 
-pub returns-in-None-take_from-clause-value : goal.returns-in-None-take_from-clause-value
-returns-in-None-take_from-clause-value g c =
-    let within : c.in-Some.page < length c.self.inside.pages.items = omega (arith, c.in-Some.ensures.some.1) in
-    let begin = begin-at _ _ _ c.index.result.now c.self.invariant.1.sized within c.index.ensures c.first_key-first.ensures in
-    let absent = peek-none c.self.inside.pages.items _ _ c.self.inside.removals c.args.key c.in-Some.page _ c.self.invariant.1
-    (omega (arith, c.ranges.key)) c.in-Some.ensures.some.0 begin c.in-None-take_from.ensures.none in
-    rw (← c.self.view_is) (sym absent)
+pub invariant_of-self-2 : goal.invariant_of-self-2
+invariant_of-self-2 g c =
+    let r = removed _ _ _ _ c.self.inside.removals _ _ _ _ _ c.self.invariant.1.laid c.move_to.ensures
+    c.take_out-value.ensures.takes in
+    let last : c.self.inside.removals + 1 ≡ 2048 = omega (arith, c.self.invariant.1.interval) in
+    (c.give_back.ensures.memory, (looked _ _ _ _ _ _ _ _ _ _ _ _ _ c.self.invariant.1 r last c.give_back.ensures.looks).kept)
 
-pub returns-in-None-take_from-clause-new : goal.returns-in-None-take_from-clause-new
-returns-in-None-take_from-clause-new g c =
-    let within : c.in-Some.page < length c.self.inside.pages.items = omega (arith, c.in-Some.ensures.some.1) in
-    let begin = begin-at _ _ _ c.index.result.now c.self.invariant.1.sized within c.index.ensures c.first_key-first.ensures in
-    let absent = peek-none c.self.inside.pages.items _ _ c.self.inside.removals c.args.key c.in-Some.page _ c.self.invariant.1
-    (omega (arith, c.ranges.key)) c.in-Some.ensures.some.0 begin c.in-None-take_from.ensures.none in
-    rw (← c.self.view_is, c.in-None-take_from.ensures.same) (sym (map-absent _ _ absent))
-
-pub returns-else-self-lt-COMPACT_INTERVAL-clause-value : goal.returns-else-self-lt-COMPACT_INTERVAL-clause-value
-returns-else-self-lt-COMPACT_INTERVAL-clause-value g c =
-    let within : c.in-Some.page < length c.self.inside.pages.items = omega (arith, c.in-Some.ensures.some.1) in
-    let begin = begin-at _ _ _ c.index.result.now c.self.invariant.1.sized within c.index.ensures c.first_key-first.ensures in
-    let r = removed _ _ _ _ _ c.args.key c.in-Some.page _ c.in-Some-take_from.value c.self.invariant.1 (omega (
-      arith,
-      c.ranges.key,
-    )) c.in-Some.ensures.some.0 begin c.in-Some-take_from.ensures.some in
+pub returns-clause-value : goal.returns-clause-value
+returns-clause-value g c =
+    let r = removed _ _ _ _ c.self.inside.removals _ _ _ _ _ c.self.invariant.1.laid c.move_to.ensures
+    c.take_out-value.ensures.takes in
     rw (← c.self.view_is) (sym r.value)
 
-pub returns-else-self-lt-COMPACT_INTERVAL-clause-new : goal.returns-else-self-lt-COMPACT_INTERVAL-clause-new
-returns-else-self-lt-COMPACT_INTERVAL-clause-new g c =
-    let within : c.in-Some.page < length c.self.inside.pages.items = omega (arith, c.in-Some.ensures.some.1) in
-    let begin = begin-at _ _ _ c.index.result.now c.self.invariant.1.sized within c.index.ensures c.first_key-first.ensures in
-    let r = removed _ _ _ _ _ c.args.key c.in-Some.page _ c.in-Some-take_from.value c.self.invariant.1 (omega (
-      arith,
-      c.ranges.key,
-    )) c.in-Some.ensures.some.0 begin c.in-Some-take_from.ensures.some in
-    let l = looked _ _ _ _ _ _ c.args.key c.in-Some-take_from.value c.self.invariant.1 r (omega (
-      arith,
-      c.self.invariant.1.interval,
-    )) c.give_back.ensures in
-    rw (← c.self.view_is) l.values
+pub returns-clause-new : goal.returns-clause-new
+returns-clause-new g c =
+    let r = removed _ _ _ _ c.self.inside.removals _ _ _ _ _ c.self.invariant.1.laid c.move_to.ensures
+    c.take_out-value.ensures.takes in
+    let last : c.self.inside.removals + 1 ≡ 2048 = omega (arith, c.self.invariant.1.interval) in
+    rw (← c.self.view_is) (looked _ _ _ _ _ _ _ _ _ _ _ _ _ c.self.invariant.1 r last c.give_back.ensures.looks).values
 
-pub returns-else-self-lt-COMPACT_INTERVAL-clause-below : goal.returns-else-self-lt-COMPACT_INTERVAL-clause-below
-returns-else-self-lt-COMPACT_INTERVAL-clause-below g c =
-    c.in-Some.ensures.some.2
+pub returns-clause-given : goal.returns-clause-given
+returns-clause-given g c =
+    let r = removed _ _ _ _ c.self.inside.removals _ _ _ _ _ c.self.invariant.1.laid c.move_to.ensures
+    c.take_out-value.ensures.takes in
+    let last : c.self.inside.removals + 1 ≡ 2048 = omega (arith, c.self.invariant.1.interval) in
+    rw (← c.self.view_is) (looked _ _ _ _ _ _ _ _ _ _ _ _ _ c.self.invariant.1 r last c.give_back.ensures.looks).given
 
-pub returns-else-self-lt-COMPACT_INTERVAL-clause-given : goal.returns-else-self-lt-COMPACT_INTERVAL-clause-given
-returns-else-self-lt-COMPACT_INTERVAL-clause-given g c =
-    let within : c.in-Some.page < length c.self.inside.pages.items = omega (arith, c.in-Some.ensures.some.1) in
-    let begin = begin-at _ _ _ c.index.result.now c.self.invariant.1.sized within c.index.ensures c.first_key-first.ensures in
-    let r = removed _ _ _ _ _ c.args.key c.in-Some.page _ c.in-Some-take_from.value c.self.invariant.1 (omega (
-      arith,
-      c.ranges.key,
-    )) c.in-Some.ensures.some.0 begin c.in-Some-take_from.ensures.some in
-    let l = looked _ _ _ _ _ _ c.args.key c.in-Some-take_from.value c.self.invariant.1 r (omega (
-      arith,
-      c.self.invariant.1.interval,
-    )) c.give_back.ensures in
-    rw (← c.self.view_is) l.given
-
-pub returns-else-self-lt-COMPACT_INTERVAL-clause-kept : goal.returns-else-self-lt-COMPACT_INTERVAL-clause-kept
-returns-else-self-lt-COMPACT_INTERVAL-clause-kept g c =
-    let within : c.in-Some.page < length c.self.inside.pages.items = omega (arith, c.in-Some.ensures.some.1) in
-    let begin = begin-at _ _ _ c.index.result.now c.self.invariant.1.sized within c.index.ensures c.first_key-first.ensures in
-    let r = removed _ _ _ _ _ c.args.key c.in-Some.page _ c.in-Some-take_from.value c.self.invariant.1 (omega (
-      arith,
-      c.ranges.key,
-    )) c.in-Some.ensures.some.0 begin c.in-Some-take_from.ensures.some in
-    let l = looked _ _ _ _ _ _ c.args.key c.in-Some-take_from.value c.self.invariant.1 r (omega (
-      arith,
-      c.self.invariant.1.interval,
-    )) c.give_back.ensures in
-    rw (← c.self.view_is) l.stays
+pub returns-clause-kept : goal.returns-clause-kept
+returns-clause-kept g c =
+    let r = removed _ _ _ _ c.self.inside.removals _ _ _ _ _ c.self.invariant.1.laid c.move_to.ensures
+    c.take_out-value.ensures.takes in
+    let last : c.self.inside.removals + 1 ≡ 2048 = omega (arith, c.self.invariant.1.interval) in
+    rw (← c.self.view_is) (looked _ _ _ _ _ _ _ _ _ _ _ _ _ c.self.invariant.1 r last c.give_back.ensures.looks).stays
