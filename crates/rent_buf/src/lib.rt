@@ -24,7 +24,7 @@ pub use held::{Held, HeldBuf};
 pub use io_buf::{IoBuf, IoBufMut, LendBytes, StaticBytes, StaticStr};
 pub use io_vec_buf::{IoVecBuf, IoVecBufMut, LendParts, PartsError, VecBuf};
 pub use kind::Kind;
-pub use lists::{ByteList, NumList};
+pub use lists::{ByteList, MessageList, NumList};
 pub use plain::{Buf, BufSpec};
 pub use plain_parts::PartsSpec;
 pub use ranges::Ranges;

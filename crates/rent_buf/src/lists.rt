@@ -1,4 +1,4 @@
-//! Lists of bytes and of numbers, which a contract sees as lists.
+//! Lists of bytes, of numbers and of messages, which a contract sees as lists.
 ghost use Rattle.std.specs.Prelude.{◌≡◌, ◌≤◌, [], ◌∷◌, ◌++◌, ◌↔◌, nat_eq, length, take, IsTrue, IfOk, OnOk, OnErr};
 ghost use Rattle.std.specs.Cmp.Lexicographic.{pointwise, nat_list_eq_equiv};
 ghost use Rattle.std.specs.Cmp.{partial_equiv_from_equiv};
@@ -229,6 +229,89 @@ impl PartialEq for NumList {
 
 impl Eq for NumList {
     ghost laws = { nat_list_eq_equiv };
+}
+
+/// A list of messages (not in monoio): of each the address, where it has one, and its bytes. It owns a
+/// vector, which keeps its allocator.
+#[derive(Debug, Drop)]
+pub struct MessageList {
+    items: Vec<(Option<u64>, ByteList)>,
+}
+
+impl Model for MessageList {
+    ghost use Rattle.std.specs.Prelude.{List, ℕ, Option};
+
+    ghost Value = { List (Option ℕ × List ℕ) };
+
+    ghost view = { λ l. l.items.items };
+}
+
+impl MessageList {
+    /// No messages (not in monoio). It takes no memory before the first message.
+    pub fn new(alloc: Global) -> Self
+        ensures { result ≡ [] }
+    {
+        MessageList {
+            items: Vec::new(alloc),
+        }
+    }
+
+    /// The messages of a vector, in its memory (not in monoio).
+    pub fn from_vec(v: Vec<(Option<u64>, ByteList)>) -> Self
+        ensures { result ≡ v.items }
+    {
+        MessageList { items: v }
+    }
+
+    /// The vector of the messages, in the list's memory (not in monoio).
+    pub fn into_vec(self) -> Vec<(Option<u64>, ByteList)>
+        ensures { result.items ≡ self }
+    {
+        let MessageList { items } = self;
+        items
+    }
+
+    /// The messages (not in monoio).
+    pub fn as_slice(&self) -> &[(Option<u64>, ByteList)]
+        ensures { result.now ≡ self.now }
+    {
+        self.items.as_slice()
+    }
+
+    /// How many messages there are (not in monoio).
+    pub fn len(&self) -> usize
+        ensures { result ≡ length self.now }
+    {
+        self.items.len()
+    }
+
+    /// Whether there is no message (not in monoio).
+    pub fn is_empty(&self) -> bool
+        ensures { IsTrue result ↔ (self.now ≡ []) }
+    {
+        self.items.is_empty()
+    }
+
+    /// Adds a message at the end (not in monoio): its address, where it has one, and its bytes. If
+    /// memory runs out, the list stays, and the message is dropped.
+    pub fn push(&mut self, message: (Option<u64>, ByteList)) -> Result<(), OutOfMemory>
+        ensures ok { OnOk result (self.new ≡ self.old ++ message ∷ []) }
+        ensures err { OnErr result (self.new ≡ self.old) }
+    {
+        self.items.push(message)?;
+        Ok(())
+    }
+
+    /// A list of the same messages in memory of its own (not in monoio), or `OutOfMemory`.
+    pub fn try_clone(&self) -> Result<Self, OutOfMemory>
+        ensures { IfOk result (λ copy. copy ≡ self.now) }
+    {
+        let mut items = Vec::with_capacity(*self.items.allocator(), self.items.len())?;
+        for (addr, bytes) in &self.items {
+            items.push((*addr, bytes.try_clone()?))?;
+        }
+        Ok(MessageList { items })
+    }
 }
 
 #[cfg(test)]

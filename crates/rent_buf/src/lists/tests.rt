@@ -1,4 +1,4 @@
-//! Lists of bytes and of numbers.
+//! Lists of bytes, of numbers and of messages.
 use crate::*;
 use std::alloc::Global;
 
@@ -32,5 +32,19 @@ fn grows_and_copies_numbers(rt: HostRuntime) -> Result<(), OutOfMemory> {
     numbers.push(8)?;
     assert!(rt; copy != numbers);
     assert_eq!(rt; NumList::from_vec(copy.into_vec()).len(), 1);
+    Ok(())
+}
+
+#[test]
+fn grows_and_copies_messages(rt: HostRuntime) -> Result<(), OutOfMemory> {
+    let mut messages = MessageList::new(rt.alloc());
+    assert!(rt; messages.is_empty());
+    messages.push((Some(5), bytes_of(rt.alloc())?))?;
+    let copy = messages.try_clone()?;
+    messages.push((None, ByteList::new(rt.alloc())))?;
+    assert_eq!(rt; (messages.len(), copy.len()), (2, 1));
+    for (addr, bytes) in &MessageList::from_vec(copy.into_vec()).into_vec() {
+        assert_eq!(rt; (*addr, bytes.as_slice()), (Some(5), b"abc".as_slice()));
+    }
     Ok(())
 }
