@@ -1,5 +1,5 @@
 -- A handle table as contracts see it: who holds each handle, and the reserved room. Cited by `HandleTable`.
-use Rattle.std.specs.Prelude.{ℕ, ◌≡◌, ◌+◌, ◌-◌, ◌<◌, ◌≤◌, List, IsSome, Some, unwrap_or, refl}
+use Rattle.std.specs.Prelude.{ℕ, ◌≡◌, ◌+◌, ◌-◌, ◌<◌, ◌≤◌, max, List, IsSome, Some, unwrap_or, refl}
 use Rattle.std.specs.Ordering.{nat_cmp}
 use Rattle.std.specs.FinMap as map
 use Rattle.std.specs.HashMap.{HashMap, spare}
@@ -60,6 +60,10 @@ with_operation held = record held { operations = held.operations + 1 }
 -- The operations have one hold less.
 abbrev pub without_operation : Holders → Holders
 without_operation held = record held { operations = held.operations - 1 }
+
+-- An operation's hold became the user's, who holds the handle once at least.
+abbrev pub handed : Holders → Holders
+handed held = record { user = max held.user 1; operations = held.operations - 1 }
 
 -- The handle is in the table.
 abbrev pub IsHeld : Table → ℕ → Type 0

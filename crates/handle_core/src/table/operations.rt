@@ -1,8 +1,8 @@
 // What operations hold: the handles that they name, and those that they made.
-ghost use Rattle.std.specs.Prelude.{◌≡◌, ◌-◌, ◌<◌, ◌↔◌, None, OnOk, OnErr};
+ghost use Rattle.std.specs.Prelude.{◌≡◌, ◌-◌, ◌<◌, ◌↔◌, max, None, OnOk, OnErr};
 ghost use Rattle.std.specs.FinMap as map;
 ghost use Rattle.handle_core.specs.Table.{IsHeld, holders_at, with_holders, without_handle};
-ghost use Rattle.handle_core.specs.Table.{nobody, by_operation, with_user, with_operation, without_operation};
+ghost use Rattle.handle_core.specs.Table.{nobody, by_operation, with_operation, without_operation, handed};
 
 use super::{HandleTable, Holders, MAX_HOLDS, OutOfMemory, Released};
 
@@ -69,19 +69,25 @@ impl HandleTable {
         Released::Last
     }
 
-    /// An operation's hold, of which there is at least one, becomes the user's, who has fewer than `MAX_HOLDS`: the operation made the
-    /// handle, and its result is returned. It takes no memory. (not in monoio)
+    /// An operation's hold, of which there is at least one, becomes the user's: the operation made the handle, and its result is returned.
+    /// A user that held the handle before holds it as often as it did. It takes no memory. (not in monoio)
     pub fn hand_over(&mut self, h: u64)
-        requires held { 0 < (holders_at self.old h).operations }
-        requires counter { (holders_at self.old h).user < MAX_HOLDS }
-        ensures { self.new ≡ with_holders self.old h (with_user (without_operation (holders_at self.old h))) }
+        requires { 0 < (holders_at self.old h).operations }
+        ensures { self.new ≡ with_holders self.old h (handed (holders_at self.old h)) }
     {
         let Some(held) = self.handles.get_mut(&h) else {
             unreachable!();
         };
         *held = Holders {
-            user: held.user + 1,
+            user: once_at_least(held.user),
             operations: held.operations - 1,
         };
     }
+}
+
+// This many, and at least one.
+fn once_at_least(count: u64) -> u64
+    ensures { result ≡ max count 1 }
+{
+    if count > 0 { count } else { 1 }
 }
