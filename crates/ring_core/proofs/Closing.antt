@@ -1,12 +1,12 @@
 -- What each change of a ledger makes of its closes, by how many there are of a handle; and that its handles stay known.
 use Rattle.std.proofs.Common.{◌≡◌, inl, inr, ℕ, ◌+◌, ◌<◌, Bool, true, false, List, [], ◌∷◌, length}
-use Rattle.std.proofs.Common.{Some, slice_get, refl, sym, ◌∙◌, ap, arith}
+use Rattle.std.proofs.Common.{None, Some, slice_get, refl, sym, ◌∙◌, ap, arith}
 use Rattle.std.specs.Prelude.{if◌then◌else◌, ◌==◌}
 use Rattle.std.proofs.lemmas.List.{length-append}
 use Rattle.ring_core.specs.declared.world.HandleState.{HandleState}
 use Rattle.ring_core.specs.Lists.{amended, has_number}
 use Rattle.ring_core.specs.Request.{named}
-use Rattle.ring_core.specs.Ledger.{Ledger, Operation, Queued, Req, Cancel, Item, Op}
+use Rattle.ring_core.specs.Ledger.{Ledger, Operation, with_made, holds, Queued, Req, Cancel, Item, Op}
 use Rattle.ring_core.specs.Queue.{with_op, take_one, take_each, take_all, make_room, push, push_each}
 use Rattle.ring_core.specs.Turn.{complete_at}
 use Rattle.ring_core.specs.Step.{new_owner, give_step, with_handle, as_user, with_user, with_new_op}
@@ -85,21 +85,24 @@ pub known-stays : {L M : Ledger} → Stays L M → AreKnown L → AreKnown M
 known-stays {L} {M} s k = record {
   known = λ n h p there names. (
       let o = stays-at s n p there in
-      let below = k.known n h o.0 o.1 (ap (λ z. has_number h (named z.request)) (sym o.2) ∙ names) in
+      let below = k.known n h o.0 o.1 (ap (λ z. has_number h (with_made z.made (named z.request))) (sym o.2) ∙ names) in
       let e = ap length s.owners in
       omega (arith, below, e));
+  above = λ n h m p there names made. (
+      let o = stays-at s n p there in
+      k.above n h m o.0 o.1 (ap (λ z. has_number h (named z.request)) (sym o.2) ∙ names) (ap (λ z. z.made) (sym o.2) ∙ made));
   together = ap length s.owners ∙ k.together ∙ sym (ap length s.world);
 }
 
 -- A change of lists alone.
 pub known-lists : (L : Ledger) (queue : List Queued) (flying done : List Item) → AreKnown L →
     AreKnown (record L { queue = queue; flying = flying; done = done })
-known-lists L queue flying done k = record { known = k.known; together = k.together }
+known-lists L queue flying done k = record { known = k.known; above = k.above; together = k.together }
 
 -- Other handles, as many.
 pub known-world : (L : Ledger) (world : List HandleState) → length world ≡ length L.world → AreKnown L →
     AreKnown (record L { world = world })
-known-world L world count k = record { known = k.known; together = k.together ∙ sym count }
+known-world L world count k = record { known = k.known; above = k.above; together = k.together ∙ sym count }
 
 -- One handle changed.
 pub known-with_handle : (L : Ledger) (h : ℕ) (change : HandleState → HandleState) → AreKnown L → AreKnown (with_handle L h change)
@@ -113,6 +116,7 @@ known-give L handle k =
     let t = k.together in
     record {
       known = λ n h p there names. (let b = k.known n h p there names in omega (arith, b, o));
+      above = k.above;
       together = omega (arith, o, w, t);
     }
 
@@ -123,29 +127,47 @@ known-with_user L h is_user k =
     let t = k.together in
     record {
       known = λ n j p there names. (let b = k.known n j p there names in omega (arith, b, e));
+      above = k.above;
       together = omega (arith, e, t);
     }
 
 -- A new operation that names known handles.
 pub known-new_op : (L : Ledger) (o : Operation) →
-    ((h : ℕ) → has_number h (named o.request) ≡ true → h < length L.owners) → AreKnown L → AreKnown (with_new_op L o)
-known-new_op L o names k = record {
+    ((h : ℕ) → has_number h (named o.request) ≡ true → h < length L.owners) → o.made ≡ None → AreKnown L → AreKnown (with_new_op L o)
+known-new_op L o names none k = record {
   known = λ n h p there is. elim (joined-cases L.ops o n) [
-    | inl e ↦ names h (let q : o ≡ p = (let w = sym e.2 ∙ there in cc) in ap (λ z. has_number h (named z.request)) q ∙ is)
+    | inl e ↦ names h (
+        let q : o ≡ p = (let w = sym e.2 ∙ there in cc) in
+        ap (λ m. has_number h (with_made m (named o.request))) (sym none) ∙ ap (λ z. has_number h (holds z)) q ∙ is)
     | inr e ↦ k.known n h p (sym e.1 ∙ there) is
+  ];
+  above = λ n h m p there names_it made. elim (joined-cases L.ops o n) [
+    | inl e ↦ (
+        let q : o ≡ p = (let w = sym e.2 ∙ there in cc) in
+        let f : None ≡ Some m = sym none ∙ ap (λ z. z.made) q ∙ made in let g : ⊥ = cc in absurd g)
+    | inr e ↦ k.above n h m p (sym e.1 ∙ there) names_it made
   ];
   together = k.together;
 }
 
--- An operation changed that keeps its request.
-pub known-op : (L : Ledger) (n : ℕ) (change : Operation → Operation) → ((o : Operation) → (change o).request ≡ o.request) →
-    AreKnown L → AreKnown (with_op L n change)
+-- An operation changed that keeps its request and what it made.
+pub known-op : (L : Ledger) (n : ℕ) (change : Operation → Operation) →
+    ((o : Operation) → ((change o).request ≡ o.request) × ((change o).made ≡ o.made)) → AreKnown L → AreKnown (with_op L n change)
 known-op L n change keeps k = record {
   known = λ m h p there is. elim (changed-cases change L.ops n m) [
     | inl e ↦ (
         let b = there-before change (slice_get L.ops n) p (sym e.1 ∙ there) in
-        k.known n h b.0 b.1 (ap (λ r. has_number h (named r)) (sym (ap (λ z. z.request) b.2 ∙ keeps b.0)) ∙ is))
+        k.known n h b.0 b.1
+        (ap (λ r. has_number h (with_made b.0.made (named r))) (sym (ap (λ z. z.request) b.2 ∙ (keeps b.0).0))
+        ∙ ap (λ m. has_number h (with_made m (named p.request))) (sym (ap (λ z. z.made) b.2 ∙ (keeps b.0).1)) ∙ is))
     | inr e ↦ k.known m h p (sym e.1 ∙ there) is
+  ];
+  above = λ m h j p there is made. elim (changed-cases change L.ops n m) [
+    | inl e ↦ (
+        let b = there-before change (slice_get L.ops n) p (sym e.1 ∙ there) in
+        k.above n h j b.0 b.1 (ap (λ r. has_number h (named r)) (sym (ap (λ z. z.request) b.2 ∙ (keeps b.0).0)) ∙ is)
+        (sym (ap (λ z. z.made) b.2 ∙ (keeps b.0).1) ∙ made))
+    | inr e ↦ k.above m h j p (sym e.1 ∙ there) is made
   ];
   together = k.together;
 }

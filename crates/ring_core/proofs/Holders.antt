@@ -5,7 +5,7 @@ use Rattle.std.specs.Prelude.{if◌then◌else◌, ◌==◌}
 use Rattle.ring_core.specs.Lists.{amended, is_empty, has_number}
 use Rattle.ring_core.specs.Request.{named}
 use Rattle.ring_core.specs.Ledger.{Ledger, Operation, Place, InQueue, InFlight, InDone, Reaped, Gone, Queued, Req, Cancel, is_live}
-use Rattle.ring_core.specs.Ledger.{user_holds, User, ByOp, is_holding, holding_ops, holders}
+use Rattle.ring_core.specs.Ledger.{user_holds, User, ByOp, with_made, holds, is_holding, holding_ops, holders}
 use Rattle.ring_core.specs.Queue.{with_op, at_place, canceled_at, with_cancel, take_one, take_each, take_all, make_room, push}
 use Rattle.ring_core.specs.Queue.{push_each, is_unheld, with_gone}
 use Rattle.ring_core.specs.Step.{with_new_op}
@@ -14,9 +14,10 @@ use Rattle.ring_core.proofs.Amended.{changed-cases, joined-cases, there-before}
 use Rattle.ring_core.proofs.Taken.{queue-take_each}
 use Rattle.ring_core.proofs.Where.{empty-is, empty-length, where-kept, where-left, where-joined, where-none, none-where}
 
--- Two operations hold the same: they have one request, and both are gone, or neither is.
+-- Two operations hold the same: they have one request, they made the same handle, or none, and both are gone, or neither is.
 pub record HoldsSame (o p : Operation) : Type 0 where
   pub request : p.request ≡ o.request
+  pub made : p.made ≡ o.made
   pub live : is_live p ≡ is_live o
 
 -- Each handle has the same holders in two ledgers.
@@ -100,7 +101,9 @@ held-by_user L h holds = unheld-both L h ∙ ap (λ b. not b && is_empty (holdin
 -- What holds the same holds a handle exactly where the other does.
 pub holding-same : (h : ℕ) {o p : Operation} → HoldsSame o p → is_holding h p ≡ is_holding h o
 holding-same h {o} {p} s =
-    ap (λ b. b && has_number h (named p.request)) s.live ∙ ap (λ r. is_live o && has_number h (named r)) s.request
+    ap (λ b. b && has_number h (holds p)) s.live
+    ∙ ap (λ m. is_live o && has_number h (with_made m (named p.request))) s.made
+    ∙ ap (λ r. is_live o && has_number h (with_made o.made (named r))) s.request
 
 -- A change of an operation after which it holds the same.
 pub holders-op : (L : Ledger) (n : ℕ) (change : Operation → Operation) →
@@ -120,6 +123,14 @@ live-none ops entries none = record {
   live = λ place n o is there. (let q : slice_get [] place ≡ Some (Req n) = sym (ap (λ es. slice_get es place) none) ∙ is in
       let f : ⊥ = cc in absurd f);
 }
+
+-- A cancel asks for no operation.
+pub live-cancel : (ops : List Operation) (n : ℕ) → AreLive ops (Cancel n ∷ [])
+live-cancel ops n = record { live = λ place m o is there. one place m is }
+  where
+    one : (place m : ℕ) → slice_get (Cancel n ∷ []) place ≡ Some (Req m) → {b : Bool} → b ≡ true
+    one zero m is = (let f : ⊥ = cc in absurd f)
+    one (suc place) m is = (let f : ⊥ = cc in absurd f)
 
 -- Nor does a close.
 pub live-close : (ops : List Operation) (h : ℕ) → AreLive ops (Queued.Close h ∷ [])
@@ -161,17 +172,17 @@ live-append ops entries entry h one = record {
 
 -- A cancel that is taken leaves what an operation holds.
 canceled-holds : (p : Place) (o : Operation) → HoldsSame o (canceled_at p o)
-canceled-holds InQueue o = record { request = refl; live = refl }
-canceled-holds InFlight o = record { request = refl; live = refl }
-canceled-holds (InDone outcome) o = record { request = refl; live = refl }
-canceled-holds (Reaped outcome) o = record { request = refl; live = refl }
-canceled-holds Gone o = record { request = refl; live = refl }
+canceled-holds InQueue o = record { request = refl; made = refl; live = refl }
+canceled-holds InFlight o = record { request = refl; made = refl; live = refl }
+canceled-holds (InDone outcome) o = record { request = refl; made = refl; live = refl }
+canceled-holds (Reaped outcome) o = record { request = refl; made = refl; live = refl }
+canceled-holds Gone o = record { request = refl; made = refl; live = refl }
 
 -- One entry taken.
 pub holders-take_one : (L : Ledger) (entry : Queued) → AreLive L.ops (entry ∷ []) → SameHolders L (take_one L entry)
 holders-take_one L (Req n) h = record {
   users = λ k. refl;
-  ops = (holders-op L n (at_place InFlight) (λ o there. record { request = refl; live = sym (h.live 0 n o refl there) })).ops;
+  ops = (holders-op L n (at_place InFlight) (λ o there. record { request = refl; made = refl; live = sym (h.live 0 n o refl there) })).ops;
 }
 holders-take_one L (Cancel n) h = holders-op L n with_cancel (λ o there. canceled-holds o.place o)
 holders-take_one L (Queued.Close k) h = record { users = λ k. refl; ops = λ k. refl }
@@ -222,6 +233,11 @@ live-make_room L h = live-room (length L.queue == L.capacity) L h
 pub live-push_close : (L : Ledger) (k : ℕ) → AreLive L.ops L.queue → AreLive (push L (Queued.Close k)).ops (push L (Queued.Close k)).queue
 live-push_close L k h =
     let M : Ledger = make_room L in live-append M.ops M.queue (Queued.Close k) (live-make_room L h) (live-close M.ops k)
+
+-- The queue after a cancel was pushed.
+pub live-push_cancel : (L : Ledger) (n : ℕ) → AreLive L.ops L.queue → AreLive (push L (Cancel n)).ops (push L (Cancel n)).queue
+live-push_cancel L n h =
+    let M : Ledger = make_room L in live-append M.ops M.queue (Cancel n) (live-make_room L h) (live-cancel M.ops n)
 
 -- Closes pushed.
 pub holders-push_closes : (L : Ledger) (handles : List ℕ) → AreLive L.ops L.queue → SameHolders L (push_each L (map Queued.Close handles))

@@ -1,5 +1,5 @@
 -- What holds of every ledger that events led to: its lists hold what its places say, its handles are known, and each close is there once.
-use Rattle.std.proofs.Common.{◌≡◌, inl, inr, ℕ, zero, suc, ◌≤◌, Bool, true, false, List, [], ◌∷◌, length, Option, Some, None}
+use Rattle.std.proofs.Common.{◌≡◌, inl, inr, ℕ, zero, suc, ◌≤◌, ◌&&◌, Bool, true, false, List, [], ◌∷◌, length, map, Option, Some, None}
 use Rattle.std.proofs.Common.{slice_get, refl, sym, ◌∙◌, ap, subst, arith}
 use Rattle.rent_buf.specs.Buffer.{Buffer}
 use Rattle.rent_buf.specs.Parts.{Parts}
@@ -8,18 +8,21 @@ use Rattle.ring_core.specs.declared.request.Told.{Told}
 use Rattle.ring_core.specs.declared.request.Outcome.{Outcome}
 use Rattle.ring_core.specs.declared.world.HandleState.{HandleState}
 use Rattle.ring_core.specs.declared.ledger.Event.{Event}
-use Rattle.ring_core.specs.declared.ledger.Event.TheVariants.{Give, Feed, End, Look, Close, Submit, Poll, Drop, Cancel, Turn, Exec}
+use Rattle.ring_core.specs.declared.ledger.Event.TheVariants.{Give, Feed, FeedMessage, End, Look, Close, Submit, Poll, Drop, Cancel, Turn}
+use Rattle.ring_core.specs.declared.ledger.Event.TheVariants.{Exec}
+use Rattle.ring_core.specs.declared.ledger.Event.TheVariants.{NewCanceller, NewHandle, CancelAll}
 use Rattle.ring_core.specs.declared.ledger.Refusal.{Refusal}
 use Rattle.ring_core.specs.Lists.{amended, has_number}
-use Rattle.ring_core.specs.World.{fresh, with_input, with_end}
+use Rattle.ring_core.specs.World.{fresh, with_input, with_message, with_end}
 use Rattle.ring_core.specs.Request.{named}
 use Rattle.ring_core.specs.Effect.{Effect}
 use Rattle.ring_core.specs.Ledger.{Ledger, Operation, Place, InQueue, InFlight, InDone, Reaped, Gone, Queued, Req, Item, Op, empty}
-use Rattle.ring_core.specs.Ledger.{new_operation, is_kept, is_live, user_holds}
-use Rattle.ring_core.specs.Queue.{with_op, take_all, make_room, append, push, is_unheld, leave}
+use Rattle.ring_core.specs.Ledger.{new_operation, with_made, holds, is_kept, is_live, user_holds, is_under_marked, group_under, members}
+use Rattle.ring_core.specs.Queue.{with_op, take_all, make_room, append, push, push_each, is_unheld, leave}
 use Rattle.ring_core.specs.Turn.{turn_step, exec_op, exec_step, complete_at, effect_of, with_result}
 use Rattle.ring_core.specs.Step.{step, row, give_step, with_handle, with_user, close_if, close_step, with_new_op, submit_step}
-use Rattle.ring_core.specs.Step.{with_task, poll_at, poll_step, with_drop, drop_at, drop_step}
+use Rattle.ring_core.specs.Step.{submit_if, new_canceller_step, group_of, new_handle_step, with_mark, renew_group, cancel_all_step}
+use Rattle.ring_core.specs.Step.{with_task, handed_over, poll_at, poll_step, with_drop, drop_at, drop_step}
 use Rattle.ring_core.specs.Refusal.{cause}
 use Rattle.ring_core.specs.Run.{after, ledger}
 use Rattle.ring_core.specs.Closes.{AreKnown, ClosesOnce}
@@ -27,9 +30,11 @@ use Rattle.ring_core.proofs.Amended.{get-amended-same}
 use Rattle.ring_core.proofs.Taken.{queue-take_each}
 use Rattle.ring_core.proofs.Occurring.{same-cases, queued, closes_queued-append}
 use Rattle.ring_core.proofs.Staying.{Stays, stays-take_all, stays-make_room, stays-push, stays-leave, stays-reap_each}
-use Rattle.ring_core.proofs.Holders.{AreLive, live-none, held-by_user}
+use Rattle.ring_core.proofs.Holders.{AreLive, live-none, held-by_user, held-by_op}
+use Rattle.ring_core.proofs.Leaving.{has-last}
 use Rattle.ring_core.proofs.Closing.{known-stays, known-lists, known-give, known-with_handle, known-with_user, known-new_op, known-op}
-use Rattle.ring_core.proofs.Once.{once-same, once-fewer, once-push, once-leave, once-op, once-new_op, once-world, once-give, once-close}
+use Rattle.ring_core.proofs.Once.{once-same, once-fewer, once-push, once-leave, once-op, once-new_op, once-world, once-give, once-user}
+use Rattle.ring_core.proofs.Once.{once-close}
 use Rattle.ring_core.proofs.Once.{once-complete_at, once-take_all, once-make_room}
 use Rattle.ring_core.proofs.Turning.{known-exec_op, once-exec_op, apart-none, live-gone, reapable-each}
 use Rattle.ring_core.proofs.Taking.{in_queue, in_flight, in_done, queue_mark, Listed, listed-take_all}
@@ -45,7 +50,7 @@ pub record Lawful (L : Ledger) : Type 0 where
   pub closes : ClosesOnce L
 
 -- A request in a queue counts there.
-queued-there : (n : ℕ) (entries : List Queued) (place : ℕ) → slice_get entries place ≡ Some (Req n) → 1 ≤ queued n entries
+pub queued-there : (n : ℕ) (entries : List Queued) (place : ℕ) → slice_get entries place ≡ Some (Req n) → 1 ≤ queued n entries
 queued-there n [] place there = (let f : ⊥ = cc in absurd f)
 queued-there n (entry ∷ entries) zero there =
     let e : entry ≡ Req n = cc in
@@ -86,7 +91,11 @@ listed-unasked L n o h there none i asks =
 lawful-empty : (capacity : ℕ) → Lawful (empty capacity)
 lawful-empty capacity = record {
   lists = record { waiting = λ n. refl; flown = λ n. refl; standing = λ n. refl };
-  known = record { known = λ n h o there names. (let f : ⊥ = cc in absurd f); together = refl };
+  known = record {
+    known = λ n h o there names. (let f : ⊥ = cc in absurd f);
+    above = λ n h m o there names made. (let f : ⊥ = cc in absurd f);
+    together = refl;
+  };
   closes = record {
     once = λ h. omega arith;
     unheld = λ h some. absurd (omega (arith, some));
@@ -139,19 +148,19 @@ once-ask M n c =
     (record { users = λ h. refl; ops = λ h. refl }) (omega arith) c
 
 -- A new operation on handles that its user holds.
-lawful-submit : (L : Ledger) (request : Request Buffer Parts) →
-    ((h : ℕ) → has_number h (named request) ≡ true → user_holds L h ≡ true) → Lawful L → Lawful (submit_step L request)
-lawful-submit L request holds l =
+lawful-submit : (L : Ledger) (request : Request Buffer Parts) (group : Option ℕ) →
+    ((h : ℕ) → has_number h (named request) ≡ true → user_holds L h ≡ true) → Lawful L → Lawful (submit_step L request group)
+lawful-submit L request group holds l =
     let M : Ledger = make_room L in
-    let o : Operation = new_operation request in
+    let o : Operation = new_operation request group in
     let stays : Stays L M = stays-make_room L in
     let holds_there : (h : ℕ) → has_number h (named request) ≡ true → user_holds M h ≡ true = λ h names.
     ap (λ owners. user_holds (record L { owners = owners }) h) stays.owners ∙ holds h names in
     let known : AreKnown M = known-stays stays l.known in
-    let new : AreKnown (with_new_op M o) = known-new_op M o (λ h names. held-there M h (holds_there h names)) known in
-    subst Lawful (sym (submit-joined L request l.lists)) (record {
+    let new : AreKnown (with_new_op M o) = known-new_op M o (λ h names. held-there M h (holds_there h names)) refl known in
+    subst Lawful (sym (submit-joined L request group l.lists)) (record {
       lists = listed-joined M o refl (listed-make_room L l.lists);
-      known = record { known = new.known; together = new.together };
+      known = record { known = new.known; above = new.above; together = new.together };
       closes =
           once-ask (with_new_op M o) (length M.ops)
           (once-new_op M o (λ h names. held-by_user M h (holds_there h names))
@@ -166,6 +175,34 @@ lawful-cancel L n l = record {
   closes = once-push L (Queued.Cancel n) (λ h. refl) (listed-live L l.lists) l.closes;
 }
 
+-- A submission, under a marked group or not.
+lawful-submit_if : (b : Bool) (L : Ledger) (request : Request Buffer Parts) (group : Option ℕ) →
+    ((h : ℕ) → has_number h (named request) ≡ true → user_holds L h ≡ true) → Lawful L → Lawful (submit_if b L request group).0
+lawful-submit_if true L request group holds l = l
+lawful-submit_if false L request group holds l = lawful-submit L request group holds l
+
+-- Cancels that are pushed.
+lawful-cancels : (L : Ledger) (numbers : List ℕ) → Lawful L → Lawful (push_each L (map Queued.Cancel numbers))
+lawful-cancels L [] l = l
+lawful-cancels L (n ∷ numbers) l = lawful-cancels (push L (Queued.Cancel n)) numbers (lawful-cancel L n l)
+
+-- Other groups.
+lawful-groups : (L : Ledger) (cancellers cancel_handles : List ℕ) (groups : List Bool) → Lawful L →
+    Lawful (record L { cancellers = cancellers; cancel_handles = cancel_handles; groups = groups })
+lawful-groups L cancellers cancel_handles groups l = record {
+  lists = record { waiting = l.lists.waiting; flown = l.lists.flown; standing = l.lists.standing };
+  known = record { known = l.known.known; above = l.known.above; together = l.known.together };
+  closes = record { once = l.closes.once; unheld = l.closes.unheld; there = l.closes.there };
+}
+
+-- A group that is canceled.
+lawful-cancel_all : (L : Ledger) (c g : ℕ) → Lawful L → Lawful (cancel_all_step L c g)
+lawful-cancel_all L c g l =
+    let M : Ledger = with_mark L g in
+    let N : Ledger = push_each M (map Queued.Cancel (members L g)) in
+    lawful-groups N (renew_group N c).cancellers N.cancel_handles (renew_group N c).groups
+    (lawful-cancels M (members L g) (lawful-groups L L.cancellers L.cancel_handles M.groups l))
+
 -- A reaped operation that leaves.
 lawful-leave : (L : Ledger) (n : ℕ) (o : Operation) (outcome : Outcome) → slice_get L.ops n ≡ Some o → o.place ≡ Reaped outcome → Lawful L →
     Lawful (leave L n)
@@ -179,23 +216,45 @@ lawful-leave L n o outcome there reaped l = record {
 
 -- A change of one operation that no list tells, after which it holds what it held.
 lawful-op : (L : Ledger) (n : ℕ) (change : Operation → Operation) (o : Operation) → slice_get L.ops n ≡ Some o →
-    ((p : Operation) → (change p).place ≡ p.place) → ((p : Operation) → (change p).request ≡ p.request) → Lawful L →
-    Lawful (with_op L n change)
+    ((p : Operation) → (change p).place ≡ p.place) →
+    ((p : Operation) → ((change p).request ≡ p.request) × ((change p).made ≡ p.made)) → Lawful L → Lawful (with_op L n change)
 lawful-op L n change o there stays asks l = record {
   lists = listed-changed L n change o l.lists there
       (record { queue = ap in_queue (stays o); flight = ap in_flight (stays o); done = ap in_done (stays o) });
   known = known-op L n change asks l.known;
-  closes = once-op L n change (λ p at. record { request = asks p; live = ap is_kept (stays p) }) l.closes;
+  closes = once-op L n change (λ p at. record { request = (asks p).0; made = (asks p).1; live = ap is_kept (stays p) }) l.closes;
+}
+
+-- A handle that is handed over leaves the operations.
+pub handed-there : (L : Ledger) (made : Option ℕ) (n : ℕ) (o : Operation) → slice_get L.ops n ≡ Some o →
+    slice_get (handed_over L made).ops n ≡ Some o
+handed-there L None n o there = there
+handed-there L (Some h) n o there = there
+
+-- A handle that an operation made becomes its user's: it has no close, since the operation holds it.
+lawful-handed : (L : Ledger) (n : ℕ) (o : Operation) → slice_get L.ops n ≡ Some o → is_live o ≡ true → (made : Option ℕ) → o.made ≡ made →
+    Lawful L → Lawful (handed_over L made)
+lawful-handed L n o there live None is l = l
+lawful-handed L n o there live (Some h) is l = record {
+  lists = record { waiting = l.lists.waiting; flown = l.lists.flown; standing = l.lists.standing };
+  known = known-with_user L h true l.known;
+  closes = once-user L h
+      (held-by_op L h n o there
+      (ap (λ b. b && has_number h (holds o)) live ∙ ap (λ m. has_number h (with_made m (named o.request))) is
+      ∙ has-last h (named o.request)))
+      l.closes;
 }
 
 -- A poll, by the place of its operation.
 lawful-poll : (L : Ledger) (n task : ℕ) (o : Operation) → slice_get L.ops n ≡ Some o → (p : Place) → o.place ≡ p → Lawful L →
     Lawful (poll_at L n task o p).0
-lawful-poll L n task o there InQueue at l = lawful-op L n (with_task task) o there (λ q. refl) (λ q. refl) l
-lawful-poll L n task o there InFlight at l = lawful-op L n (with_task task) o there (λ q. refl) (λ q. refl) l
-lawful-poll L n task o there (InDone outcome) at l = lawful-op L n (with_task task) o there (λ q. refl) (λ q. refl) l
-lawful-poll L n task o there (Reaped outcome) at l = lawful-leave L n o outcome there at l
-lawful-poll L n task o there Gone at l = lawful-op L n (with_task task) o there (λ q. refl) (λ q. refl) l
+lawful-poll L n task o there InQueue at l = lawful-op L n (with_task task) o there (λ q. refl) (λ q. (refl, refl)) l
+lawful-poll L n task o there InFlight at l = lawful-op L n (with_task task) o there (λ q. refl) (λ q. (refl, refl)) l
+lawful-poll L n task o there (InDone outcome) at l = lawful-op L n (with_task task) o there (λ q. refl) (λ q. (refl, refl)) l
+lawful-poll L n task o there (Reaped outcome) at l =
+    lawful-leave (handed_over L o.made) n o outcome (handed-there L o.made n o there) at
+    (lawful-handed L n o there (ap is_kept at) o.made refl l)
+lawful-poll L n task o there Gone at l = lawful-op L n (with_task task) o there (λ q. refl) (λ q. (refl, refl)) l
 
 -- A drop, by the place of its operation.
 lawful-drop : (L : Ledger) (n : ℕ) (o : Operation) → slice_get L.ops n ≡ Some o → (p : Place) → o.place ≡ p → Lawful L →
@@ -217,7 +276,7 @@ lawful-turn L l =
     let known : AreKnown T = known-stays (stays-take_all L) l.known in
     record {
       lists = listed-reap_all T lists;
-      known = known-stays (stays-reap_each E T.done) (record { known = known.known; together = known.together });
+      known = known-stays (stays-reap_each E T.done) (record { known = known.known; above = known.above; together = known.together });
       closes = (reapable-each E T.done (record {
         closes = once-fewer T E (λ h. omega arith) (λ h one is. is) (omega arith) closes;
         live = live-none T.ops T.queue none;
@@ -233,14 +292,14 @@ lawful-exec L place told (Op m) there l =
     let C : Ledger = complete_at L place (Op m) in
     let result : Effect = effect_of L f.0.request told in
     let lists : Listed (exec_op C m told (Some f.0)) = listed-executed L place m f.0 (with_result told result) result.outcome l.lists there
-    f.1 f.2 refl result.world in
+    f.1 f.2 refl result.world (exec_op C m told (Some f.0)).owners in
     let known : AreKnown C = known-lists L L.queue C.flying C.done l.known in
     subst (λ x. Lawful (exec_op C m told x)) (sym f.1) (record {
       lists = lists;
       known = known-exec_op C m told (Some f.0) known;
       closes =
           once-exec_op C m told (Some f.0)
-          (λ o at. (let q : f.0 ≡ o = (let w = sym f.1 ∙ at in cc) in ap is_live (sym q) ∙ ap is_kept f.2))
+          (λ o at. (let q : f.0 ≡ o = (let w = sym f.1 ∙ at in cc) in ap is_live (sym q) ∙ ap is_kept f.2)) known
           (once-complete_at L place (Op m) there l.closes);
     })
 lawful-exec L place told (Item.Close k) there l =
@@ -255,10 +314,12 @@ lawful-exec L place told (Item.Close k) there l =
 lawful-row : (L : Ledger) (e : Event) → cause L e ≡ None → Lawful L → Lawful (row L e).0
 lawful-row L (Give kind) u l = lawful-give L (fresh kind) l
 lawful-row L (Feed h bytes) u l = lawful-handle L h (with_input bytes) l
+lawful-row L (FeedMessage h addr bytes) u l = lawful-handle L h (with_message addr bytes) l
 lawful-row L (End h) u l = lawful-handle L h with_end l
 lawful-row L (Look h) u l = l
 lawful-row L (Close h) u l = lawful-close L h (closed-held L h u) l
-lawful-row L (Submit request) u l = lawful-submit L request (submitted-held L request u) l
+lawful-row L (Submit request under) u l =
+    lawful-submit_if (is_under_marked L under) L request (group_under L under) (submitted-held L request under u) l
 lawful-row L (Poll n task) u l =
     let f : OwnedAt L n = found L n u in
     subst (λ x. Lawful (poll_step L n task x).0) (sym f.there)
@@ -268,8 +329,12 @@ lawful-row L (Drop n) u l =
     subst (λ x. Lawful (drop_step L n x).0) (sym f.there)
     (lawful-drop (with_op L n with_drop) n (with_drop f.operation)
     (get-amended-same with_drop L.ops n f.operation f.there) f.operation.place refl
-    (lawful-op L n with_drop f.operation f.there (λ q. refl) (λ q. refl) l))
+    (lawful-op L n with_drop f.operation f.there (λ q. refl) (λ q. (refl, refl)) l))
 lawful-row L (Cancel n) u l = lawful-cancel L n l
+lawful-row L NewCanceller u l =
+    let N : Ledger = new_canceller_step L in lawful-groups L N.cancellers L.cancel_handles N.groups l
+lawful-row L (NewHandle c) u l = lawful-groups L L.cancellers (new_handle_step L c).cancel_handles L.groups l
+lawful-row L (CancelAll c) u l = lawful-cancel_all L c (group_of L c) l
 lawful-row L Turn u l = lawful-turn L l
 lawful-row L (Exec place told) u l =
     let i = executed-there L place told u in

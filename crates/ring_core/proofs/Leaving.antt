@@ -1,14 +1,16 @@
 -- Which handles' holders became none, as the test says it, and as the request of the operation that left does.
-use Rattle.std.proofs.Common.{◌≡◌, ◌≢◌, inl, inr, ℕ, zero, suc, ◌+◌, ◌≤◌, ◌<◌, Bool, true, false, cond, not, ◌&&◌, ◌||◌}
-use Rattle.std.proofs.Common.{List, [], ◌∷◌, ◌++◌, length, Some, slice_get, refl, sym, ◌∙◌, ap, subst, arith}
-use Rattle.std.specs.Prelude.{filter, ◌==◌}
+use Rattle.std.proofs.Common.{◌≡◌, ◌≢◌, ◌⊎◌, inl, inr, ℕ, zero, suc, ◌+◌, ◌≤◌, ◌<◌, Bool, true, false, cond, not, ◌&&◌, ◌||◌}
+use Rattle.std.proofs.Common.{Option, None, List, [], ◌∷◌, ◌++◌, length, Some, slice_get, refl, sym, ◌∙◌, ap, subst, arith}
+use Rattle.std.specs.Prelude.{filter, ◌==◌, nat_lt, if◌then◌else◌}
 use Rattle.std.proofs.Math.Bool.{and-false}
-use Rattle.std.proofs.lemmas.Bool.Decides.{eqb_tells}
+use Rattle.std.proofs.lemmas.Bool.Decides.{eqb_tells, nat_tests}
 use Rattle.ring_core.specs.declared.request.Request.{Request}
-use Rattle.ring_core.specs.declared.request.Request.TheVariants.{Recv, ReadVec, Send, WriteVec}
+use Rattle.ring_core.specs.declared.request.Request.TheVariants.{Recv, ReadVec, Send, WriteVec, RecvMsg, SendMsg, Read, Write}
+use Rattle.ring_core.specs.declared.request.Request.TheVariants.{SpliceTo, SpliceFrom, Accept, Open, Connect, Fsync, PollAdd, MkDir, Rename}
+use Rattle.ring_core.specs.declared.request.Request.TheVariants.{Unlink}
 use Rattle.ring_core.specs.Lists.{has_number, numbers_below}
-use Rattle.ring_core.specs.Request.{named}
-use Rattle.ring_core.specs.Ledger.{Ledger, Operation, is_live, is_holding}
+use Rattle.ring_core.specs.Request.{named, both}
+use Rattle.ring_core.specs.Ledger.{Ledger, Operation, with_made, holds, is_live, is_holding}
 use Rattle.ring_core.specs.Queue.{is_unheld, became_unheld, with_gone}
 use Rattle.ring_core.specs.Closes.{AreKnown}
 use Rattle.ring_core.proofs.Numbers.{same-or-not, equal-other, and-left, and-right, not-passes}
@@ -19,12 +21,38 @@ abbrev pub Ascends : ℕ → List ℕ → Type 0
 Ascends k [] = Unit {0}
 Ascends k (x ∷ xs) = (k ≤ x) × Ascends (suc x) xs
 
+-- Two handles rise.
+both-ascends : (a b : ℕ) → Ascends 0 (both a b)
+both-ascends a b = lower (nat_lt a b) refl
+  where
+    upper : (test : Bool) → nat_lt b a ≡ test → Ascends 0 (if test then b ∷ a ∷ [] else a ∷ [])
+    upper true is = (omega arith, (let l : suc b ≤ a = grind (arith, nat_tests) in l, tt))
+    upper false is = (omega arith, tt)
+
+    lower : (test : Bool) → nat_lt a b ≡ test → Ascends 0 (if test then a ∷ b ∷ [] else if nat_lt b a then b ∷ a ∷ [] else a ∷ [])
+    lower true is = (omega arith, (let l : suc a ≤ b = grind (arith, nat_tests) in l, tt))
+    lower false is = upper (nat_lt b a) refl
+
 -- The handles in a request rise.
 pub named-ascends : {B V : Type 0} (r : Request B V) → Ascends 0 (named r)
 named-ascends (Recv fd buf) = (omega arith, tt)
 named-ascends (ReadVec fd parts) = (omega arith, tt)
 named-ascends (Send fd buf) = (omega arith, tt)
 named-ascends (WriteVec fd parts) = (omega arith, tt)
+named-ascends (RecvMsg fd buf) = (omega arith, tt)
+named-ascends (SendMsg fd addr buf) = (omega arith, tt)
+named-ascends (Read fd pos buf) = (omega arith, tt)
+named-ascends (Write fd pos buf) = (omega arith, tt)
+named-ascends (SpliceTo fd pipe len) = both-ascends fd pipe
+named-ascends (SpliceFrom pipe fd len) = both-ascends pipe fd
+named-ascends (Accept fd) = (omega arith, tt)
+named-ascends (Open path flags mode) = tt
+named-ascends (Connect fd addr) = (omega arith, tt)
+named-ascends (Fsync fd data_only) = (omega arith, tt)
+named-ascends (PollAdd fd read) = (omega arith, tt)
+named-ascends (MkDir path mode) = tt
+named-ascends (Rename from to) = tt
+named-ascends (Unlink path remove_dir) = tt
 
 -- A number is equal to itself, by the test.
 equal-self : (n : ℕ) → (n == n) ≡ true
@@ -41,6 +69,20 @@ has-later h x xs is = elim (same-or-not h x) [
   | inr e ↦ ap (λ b. b || has_number h xs) (equal-other h x e) ∙ is
 ]
 
+-- Numbers that rise, and one above all of them.
+ascends-above : (k m : ℕ) (xs : List ℕ) → Ascends k xs → k ≤ m → ((h : ℕ) → has_number h xs ≡ true → h < m) → Ascends k (xs ++ m ∷ [])
+ascends-above k m [] rises le above = (le, tt)
+ascends-above k m (x ∷ xs) rises le above =
+    (rises.0, ascends-above (suc x) m xs rises.1 (above x (has-first x xs)) (λ h is. above h (has-later h x xs is)))
+
+-- The handles that an operation holds rise.
+pub holds-ascends : (L : Ledger) (n : ℕ) (o : Operation) → slice_get L.ops n ≡ Some o → AreKnown L → Ascends 0 (holds o)
+holds-ascends L n o there known = by o.made refl
+  where
+    by : (made : Option ℕ) → o.made ≡ made → Ascends 0 (with_made made (named o.request))
+    by None e = named-ascends o.request
+    by (Some m) e = ascends-above 0 m (named o.request) (named-ascends o.request) (omega arith) (λ h is. known.above n h m o there is e)
+
 -- A number other than the first is in a list exactly where it is in the rest.
 pub has-other : (h x : ℕ) (xs : List ℕ) → h ≢ x → has_number h (x ∷ xs) ≡ has_number h xs
 has-other h x xs other = ap (λ b. b || has_number h xs) (equal-other h x other)
@@ -50,6 +92,44 @@ pub ascends-lower : (j k : ℕ) (xs : List ℕ) → j ≤ k → Ascends k xs →
 ascends-lower j k [] le h = tt
 ascends-lower j k (x ∷ xs) le h = ((let a = h.0 in omega arith), h.1)
 
+-- What is in a list is in it with one more number.
+pub has-before : (h m : ℕ) (xs : List ℕ) → has_number h xs ≡ true → has_number h (xs ++ m ∷ []) ≡ true
+has-before h m [] is = (let f : ⊥ = cc in absurd f)
+has-before h m (x ∷ xs) is = elim (same-or-not h x) [
+  | inl e ↦ subst (λ y. has_number h (y ∷ (xs ++ m ∷ [])) ≡ true) e (has-first h (xs ++ m ∷ []))
+  | inr e ↦ has-later h x (xs ++ m ∷ []) (has-before h m xs (sym (has-other h x xs e) ∙ is))
+]
+
+-- The last of some numbers is among them.
+pub has-last : (m : ℕ) (xs : List ℕ) → has_number m (xs ++ m ∷ []) ≡ true
+has-last m [] = has-first m []
+has-last m (x ∷ xs) = has-later m x (xs ++ m ∷ []) (has-last m xs)
+
+-- What is in a list with one more number is in the list, or is that number.
+pub has-appended : (h m : ℕ) (xs : List ℕ) → has_number h (xs ++ m ∷ []) ≡ true → (has_number h xs ≡ true) ⊎ (h ≡ m)
+has-appended h m [] is = elim (same-or-not h m) [
+  | inl e ↦ inr e
+  | inr e ↦ (let q : false ≡ true = sym (ap (λ b. b || false) (equal-other h m e)) ∙ is in let f : ⊥ = cc in absurd f)
+]
+has-appended h m (x ∷ xs) is = elim (same-or-not h x) [
+  | inl e ↦ inl (subst (λ y. has_number h (y ∷ xs) ≡ true) e (has-first h xs))
+  | inr e ↦ elim (has-appended h m xs (sym (has-other h x (xs ++ m ∷ []) e) ∙ is)) [
+    | inl b ↦ inl (has-later h x xs b)
+    | inr b ↦ inr b
+  ]
+]
+
+-- What a request names its operation holds.
+pub holds-named : (h : ℕ) (made : Option ℕ) (names : List ℕ) → has_number h names ≡ true → has_number h (with_made made names) ≡ true
+holds-named h None names is = is
+holds-named h (Some m) names is = has-before h m names is
+
+-- What an operation holds its request names, or it made it.
+pub holds-either : (h : ℕ) (made : Option ℕ) (names : List ℕ) → has_number h (with_made made names) ≡ true →
+    (has_number h names ≡ true) ⊎ (made ≡ Some h)
+holds-either h None names is = inl is
+holds-either h (Some m) names is = elim (has-appended h m names is) [ inl b ↦ inl b | inr b ↦ inr (ap Some (sym b)) ]
+
 -- A number below those that rise isn't among them.
 pub ascends-not : (h k : ℕ) (xs : List ℕ) → h < k → Ascends k xs → has_number h xs ≡ false
 ascends-not h k [] lt a = refl
@@ -58,7 +138,7 @@ ascends-not h k (x ∷ xs) lt a =
     has-other h x xs (λ e. omega (arith, e, l)) ∙ ascends-not h (suc x) xs (omega arith) a.1
 
 -- Those that pass a test rise too.
-filter-ascends : (p : ℕ → Bool) (k : ℕ) (xs : List ℕ) → Ascends k xs → Ascends k (filter p xs)
+pub filter-ascends : (p : ℕ → Bool) (k : ℕ) (xs : List ℕ) → Ascends k xs → Ascends k (filter p xs)
 filter-ascends p k [] h = tt
 filter-ascends p k (x ∷ xs) h = elim (p x) as (λ b. Ascends k (cond b (x ∷ filter p xs) (filter p xs))) [
   | true ↦ (h.0, filter-ascends p (suc x) xs h.1)
@@ -66,7 +146,7 @@ filter-ascends p k (x ∷ xs) h = elim (p x) as (λ b. Ascends k (cond b (x ∷ 
 ]
 
 -- What passes a test and is in a list is among those that pass it.
-filter-has : (p : ℕ → Bool) (h : ℕ) (xs : List ℕ) → has_number h (filter p xs) ≡ (has_number h xs && p h)
+pub filter-has : (p : ℕ → Bool) (h : ℕ) (xs : List ℕ) → has_number h (filter p xs) ≡ (has_number h xs && p h)
 filter-has p h [] = refl
 filter-has p h (x ∷ xs) = elim (same-or-not h x) [
   | inl e ↦ here e (filter-has p h xs) (p x) refl ∙ sym (ap (λ b. b && p h) (subst (λ y. has_number h (y ∷ xs) ≡ true) e (has-first h xs)))
@@ -216,31 +296,31 @@ not-both true = refl
 not-both false = refl
 
 module _ (L : Ledger) (n : ℕ) (o : Operation) (there : slice_get L.ops n ≡ Some o) (live : is_live o ≡ true) where
-  -- Whether a handle's holders became none once an operation is gone: it named the handle, and nobody holds it.
+  -- Whether a handle's holders became none once an operation is gone: it held the handle, and nobody holds it.
   became-test : (h : ℕ) → (not (is_unheld L h) && is_unheld (with_gone L n) h)
-      ≡ (has_number h (named o.request) && is_unheld (with_gone L n) h)
-  became-test h = by (has_number h (named o.request)) refl
+      ≡ (has_number h (holds o) && is_unheld (with_gone L n) h)
+  became-test h = by (has_number h (holds o)) refl
     where
-      holds : (b : Bool) → has_number h (named o.request) ≡ b → is_holding h o ≡ b
-      holds b is = ap (λ c. c && has_number h (named o.request)) live ∙ is
+      holding : (b : Bool) → has_number h (holds o) ≡ b → is_holding h o ≡ b
+      holding b is = ap (λ c. c && has_number h (holds o)) live ∙ is
 
-      by : (b : Bool) → has_number h (named o.request) ≡ b →
+      by : (b : Bool) → has_number h (holds o) ≡ b →
           (not (is_unheld L h) && is_unheld (with_gone L n) h) ≡ (b && is_unheld (with_gone L n) h)
-      by true is = ap (λ c. not c && is_unheld (with_gone L n) h) (held-by_op L h n o there (holds true is))
+      by true is = ap (λ c. not c && is_unheld (with_gone L n) h) (held-by_op L h n o there (holding true is))
       by false is =
           let same : is_unheld (with_gone L n) h ≡ is_unheld L h = unheld-at L (with_gone L n) h refl
           (holding-gone-other L n h (λ p at.
-          (let q : o ≡ p = (let w = sym there ∙ at in cc) in sym (ap (is_holding h) q) ∙ holds false is))) in
+          (let q : o ≡ p = (let w = sym there ∙ at in cc) in sym (ap (is_holding h) q) ∙ holding false is))) in
           ap (λ c. not (is_unheld L h) && c) same ∙ not-both (is_unheld L h)
 
-  -- Once an operation is gone, the handles whose holders became none are those that it named and that nobody holds.
-  pub became-named : AreKnown L → Ascends 0 (named o.request) →
-      became_unheld L (with_gone L n) ≡ filter (is_unheld (with_gone L n)) (named o.request)
-  became-named known rises =
+  -- Once an operation is gone, the handles whose holders became none are those that it held and that nobody holds.
+  pub became-held : AreKnown L → Ascends 0 (holds o) →
+      became_unheld L (with_gone L n) ≡ filter (is_unheld (with_gone L n)) (holds o)
+  became-held known rises =
       let count : ℕ = length L.owners in
       ap (filter (λ h. not (is_unheld L h) && is_unheld (with_gone L n) h)) (below-from count)
       ∙ filter-from (λ h. not (is_unheld L h) && is_unheld (with_gone L n) h)
-      (λ h. has_number h (named o.request) && is_unheld (with_gone L n) h) 0 count (λ h le lt. became-test h)
-      ∙ filter-both (λ h. has_number h (named o.request)) (is_unheld (with_gone L n)) (numbers_from 0 count)
+      (λ h. has_number h (holds o) && is_unheld (with_gone L n) h) 0 count (λ h le lt. became-test h)
+      ∙ filter-both (λ h. has_number h (holds o)) (is_unheld (with_gone L n)) (numbers_from 0 count)
       ∙ ap (filter (is_unheld (with_gone L n)))
-      (filter-named (named o.request) 0 count rises (λ h is. (let k = known.known n h o there is in omega arith)))
+      (filter-named (holds o) 0 count rises (λ h is. (let k = known.known n h o there is in omega arith)))

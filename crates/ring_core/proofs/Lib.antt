@@ -5,9 +5,11 @@ pub mod Requests
 pub mod Targets
 pub mod Taken
 pub mod Moving
+pub mod Written
 pub mod Counting
 pub mod Keeping
 pub mod Executed
+pub mod Few
 pub mod Marked
 pub mod Joined
 pub mod Where
@@ -26,3 +28,13 @@ pub mod Reaping
 pub mod Stepping
 pub mod Lawful
 pub mod Unheld
+pub mod Making
+pub mod Alone
+pub mod Makes
+pub mod Grouping
+pub mod Grouped
+pub mod Members
+pub mod Owning
+pub mod Attempting
+pub mod Greatest
+pub mod Called

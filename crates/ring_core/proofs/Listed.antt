@@ -8,7 +8,7 @@ use Rattle.ring_core.specs.declared.request.Request.{Request}
 use Rattle.ring_core.specs.declared.request.Outcome.{Outcome}
 use Rattle.ring_core.specs.declared.world.HandleState.{HandleState}
 use Rattle.ring_core.specs.Lists.{amended}
-use Rattle.ring_core.specs.Ledger.{Ledger, Operation, Place, InQueue, InFlight, InDone, Reaped, Gone, Queued, Req, Cancel, Item, Op}
+use Rattle.ring_core.specs.Ledger.{Ledger, Operation, Owner, Place, InQueue, InFlight, InDone, Reaped, Gone, Queued, Req, Cancel, Item, Op}
 use Rattle.ring_core.specs.Ledger.{new_operation}
 use Rattle.ring_core.specs.Queue.{with_op, at_place, with_cancel, take_one, take_each, take_all, make_room, append, push, push_each}
 use Rattle.ring_core.specs.Turn.{complete_at}
@@ -34,7 +34,7 @@ known ops m entries fits = elim (same-cases m m) [
 ]
 
 -- Taking before a new operation is appended, or after it, is the same: no cancel is recorded of what isn't in flight.
-take-new_op : (L : Ledger) (o : Operation) (entries : List Queued) → with_cancel o ≡ o →
+pub take-new_op : (L : Ledger) (o : Operation) (entries : List Queued) → with_cancel o ≡ o →
     ((n : ℕ) → queued n entries ≡ queue_mark (slice_get L.ops n)) →
     take_each (with_new_op L o) entries ≡ with_new_op (take_each L entries) o
 take-new_op L o [] still h = refl
@@ -58,11 +58,11 @@ room-new_op true L o still h = take-new_op (record L { queue = [] }) o L.queue s
 room-new_op false L o still h = refl
 
 -- Submitting makes room, then joins the operation and its request.
-pub submit-joined : (L : Ledger) (request : Request Buffer Parts) → Listed L →
-    submit_step L request ≡ joined (make_room L) (new_operation request)
-submit-joined L request h =
-    ap (λ M. append M (Req (length L.ops))) (room-new_op (length L.queue == L.capacity) L (new_operation request) refl h)
-    ∙ ap (λ n. append (with_new_op (make_room L) (new_operation request)) (Req n)) (sym (length-make_room L))
+pub submit-joined : (L : Ledger) (request : Request Buffer Parts) (group : Option ℕ) → Listed L →
+    submit_step L request group ≡ joined (make_room L) (new_operation request group)
+submit-joined L request group h =
+    ap (λ M. append M (Req (length L.ops))) (room-new_op (length L.queue == L.capacity) L (new_operation request group) refl h)
+    ∙ ap (λ n. append (with_new_op (make_room L) (new_operation request group)) (Req n)) (sym (length-make_room L))
 
 -- An operation stayed as it was, or was taken.
 abbrev pub MayTake : Option Operation → Option Operation → Type 0
@@ -261,9 +261,15 @@ module _ (L : Ledger) (place m : ℕ) (o : Operation) (result : Operation → Op
       ]
 
   -- The lists hold what the places say after an execution.
-  pub listed-executed : (world : List HandleState) →
-      Listed (record L { flying = remove L.flying place; done = L.done ++ Op m ∷ []; ops = amended L.ops m result; world = world })
-  listed-executed world = record {
+  pub listed-executed : (world : List HandleState) (owners : List Owner) →
+      Listed (record L {
+        flying = remove L.flying place;
+        done = L.done ++ Op m ∷ [];
+        ops = amended L.ops m result;
+        world = world;
+        owners = owners;
+      })
+  listed-executed world owners = record {
     waiting = λ k. (executed-at k).0;
     flown = λ k. (executed-at k).1;
     standing = λ k. (executed-at k).2;

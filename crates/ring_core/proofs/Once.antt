@@ -10,7 +10,7 @@ use Rattle.ring_core.specs.Queue.{with_gone, leave}
 use Rattle.ring_core.specs.Turn.{complete_at}
 use Rattle.ring_core.specs.Step.{new_owner, give_step, as_user, with_user, close_if, close_step, with_new_op}
 use Rattle.ring_core.specs.Closes.{closes_queued, close_count, ClosesOnce}
-use Rattle.ring_core.proofs.Numbers.{below-or-not}
+use Rattle.ring_core.proofs.Numbers.{below-or-not, same-or-not}
 use Rattle.ring_core.proofs.Amended.{length-amended}
 use Rattle.ring_core.proofs.Appended.{get-append-within}
 use Rattle.ring_core.proofs.Occurring.{same, same-cases}
@@ -18,7 +18,7 @@ use Rattle.ring_core.proofs.Staying.{stays-take_all, stays-make_room, stays-push
 use Rattle.ring_core.proofs.Holders.{SameHolders, unheld-same, unheld-at, AreLive, live-push_close, holders-take_all, holders-make_room}
 use Rattle.ring_core.proofs.Holders.{holders-push}
 use Rattle.ring_core.proofs.Holders.{holders-op, held-by_user, HoldsSame}
-use Rattle.ring_core.proofs.Users.{unheld-gone, unheld-stays, unheld-left}
+use Rattle.ring_core.proofs.Users.{unheld-gone, unheld-stays, unheld-left, user-with_user-other}
 use Rattle.ring_core.proofs.Leaving.{Ascends, ascends-not, has-first, has-later, became-ascends, became-is}
 use Rattle.ring_core.proofs.Closing.{count-take_all, count-make_room, count-push, count-complete_at, count-first}
 
@@ -155,6 +155,17 @@ pub once-left : (L : Ledger) (h : ℕ) → ClosesOnce L → ClosesOnce (with_use
 once-left L h c =
     let e = length-amended (as_user false) L.owners h in
     once-fewer L (with_user L h false) (λ k. omega arith) (λ k one is. unheld-left L h k is) (omega (arith, e)) c
+
+-- A user that comes to hold a handle that somebody holds.
+pub once-user : (L : Ledger) (h : ℕ) → is_unheld L h ≡ false → ClosesOnce L → ClosesOnce (with_user L h true)
+once-user L h held c =
+    let e = length-amended (as_user true) L.owners h in
+    once-fewer L (with_user L h true) (λ k. omega arith)
+    (λ k one is. elim (same-or-not k h) [
+      | inl same ↦ (let f : true ≡ false = sym is ∙ ap (is_unheld L) same ∙ held in let g : ⊥ = cc in absurd g)
+      | inr other ↦ unheld-at L (with_user L h true) k (user-with_user-other L h k true other) refl ∙ is
+    ])
+    (omega (arith, e)) c
 
 -- A close that is pushed where nobody holds a handle.
 once-close_if : (b : Bool) (L : Ledger) (h : ℕ) → (b ≡ true → MayClose L h) → AreLive L.ops L.queue → ClosesOnce L →

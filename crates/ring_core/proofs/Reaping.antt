@@ -80,7 +80,7 @@ pub record Closed (L M : Ledger) : Type 0 where
   pub queue : AreCloses M.queue
 
 -- Closes that are taken change no operation.
-ops-take_closes : (L : Ledger) (entries : List Queued) → AreCloses entries → (take_each L entries).ops ≡ L.ops
+pub ops-take_closes : (L : Ledger) (entries : List Queued) → AreCloses entries → (take_each L entries).ops ≡ L.ops
 ops-take_closes L [] h = refl
 ops-take_closes L (Req n ∷ entries) h = absurd h
 ops-take_closes L (Cancel n ∷ entries) h = absurd h

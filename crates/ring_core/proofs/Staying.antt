@@ -13,28 +13,42 @@ use Rattle.ring_core.specs.Queue.{became_unheld, with_gone, leave}
 use Rattle.ring_core.specs.Turn.{with_reap, reap_if, reap_op, reap_one, reap_each}
 use Rattle.ring_core.proofs.Amended.{map-amended, get-map, there-before}
 
--- What stays of an operation: its request, what it holds, its task, and whether it was dropped.
+-- What stays of an operation: its request, what it holds, its group, its task, whether it was dropped, and what it made.
 pub record Stay : Type 0 where
   pub request : Request Buffer Parts
   pub buffer : HeldBuf
+  pub group : Option ℕ
   pub task : Option ℕ
   pub dropped : Bool
+  pub made : Option ℕ
 
 -- What stays of an operation.
 abbrev pub stay_of : Operation → Stay
-stay_of o = record { request = o.request; buffer = o.buffer; task = o.task; dropped = o.dropped }
+stay_of o = record { request = o.request; buffer = o.buffer; group = o.group; task = o.task; dropped = o.dropped; made = o.made }
 
--- From a ledger to another one the capacity, what is done, the handles, their owners, and what stays of each operation stayed.
+-- The groups of a ledger: the present one of each canceller, that of each cancel handle, and which are marked.
+pub record Groups : Type 0 where
+  pub cancellers : List ℕ
+  pub cancel_handles : List ℕ
+  pub groups : List Bool
+
+-- The groups of a ledger.
+abbrev pub groups_of : Ledger → Groups
+groups_of L = record { cancellers = L.cancellers; cancel_handles = L.cancel_handles; groups = L.groups }
+
+-- From a ledger to another one the capacity, what is done, the handles, their owners, the groups, and what stays of each operation
+-- stayed.
 pub record Stays (L M : Ledger) : Type 0 where
   pub capacity : M.capacity ≡ L.capacity
   pub done : M.done ≡ L.done
   pub world : M.world ≡ L.world
   pub owners : M.owners ≡ L.owners
+  pub groups : groups_of M ≡ groups_of L
   pub ops : map stay_of M.ops ≡ map stay_of L.ops
 
 -- A ledger stays as it is.
 pub stays-same : (L : Ledger) → Stays L L
-stays-same L = record { capacity = refl; done = refl; world = refl; owners = refl; ops = refl }
+stays-same L = record { capacity = refl; done = refl; world = refl; owners = refl; groups = refl; ops = refl }
 
 -- What stays twice stays.
 pub stays-then : {L M K : Ledger} → Stays L M → Stays M K → Stays L K
@@ -43,6 +57,7 @@ stays-then a b = record {
   done = b.done ∙ a.done;
   world = b.world ∙ a.world;
   owners = b.owners ∙ a.owners;
+  groups = b.groups ∙ a.groups;
   ops = b.ops ∙ a.ops;
 }
 
@@ -61,7 +76,7 @@ stays-at {L} {M} s n p there =
 pub stays-op : (L : Ledger) (n : ℕ) (change : Operation → Operation) → ((o : Operation) → stay_of (change o) ≡ stay_of o) →
     Stays L (with_op L n change)
 stays-op L n change keeps =
-    record { capacity = refl; done = refl; world = refl; owners = refl; ops = map-amended stay_of change L.ops n keeps }
+    record { capacity = refl; done = refl; world = refl; owners = refl; groups = refl; ops = map-amended stay_of change L.ops n keeps }
 
 -- A cancel that is taken.
 stay-canceled : (p : Place) (o : Operation) → stay_of (canceled_at p o) ≡ stay_of o
@@ -74,9 +89,10 @@ stay-canceled Gone o = refl
 -- One entry taken.
 pub stays-take_one : (L : Ledger) (entry : Queued) → Stays L (take_one L entry)
 stays-take_one L (Req n) =
-    record { capacity = refl; done = refl; world = refl; owners = refl; ops = map-amended stay_of (at_place InFlight) L.ops n (λ o. refl) }
+    let kept = stays-op L n (at_place InFlight) (λ o. refl) in
+    record { capacity = refl; done = refl; world = refl; owners = refl; groups = refl; ops = kept.ops }
 stays-take_one L (Cancel n) = stays-op L n with_cancel (λ o. stay-canceled o.place o)
-stays-take_one L (Queued.Close h) = record { capacity = refl; done = refl; world = refl; owners = refl; ops = refl }
+stays-take_one L (Queued.Close h) = record { capacity = refl; done = refl; world = refl; owners = refl; groups = refl; ops = refl }
 
 -- Entries taken.
 pub stays-take_each : (L : Ledger) (entries : List Queued) → Stays L (take_each L entries)
@@ -87,7 +103,7 @@ stays-take_each L (entry ∷ entries) = stays-then (stays-take_one L entry) (sta
 pub stays-take_all : (L : Ledger) → Stays L (take_all L)
 stays-take_all L =
     let s = stays-take_each (record L { queue = [] }) L.queue in
-    record { capacity = s.capacity; done = s.done; world = s.world; owners = s.owners; ops = s.ops }
+    record { capacity = s.capacity; done = s.done; world = s.world; owners = s.owners; groups = s.groups; ops = s.ops }
 
 -- Room that is made or not.
 stays-room : (b : Bool) (L : Ledger) → Stays L (if b then take_all L else L)
@@ -102,7 +118,7 @@ stays-make_room L = stays-room (length L.queue == L.capacity) L
 pub stays-push : (L : Ledger) (entry : Queued) → Stays L (push L entry)
 stays-push L entry =
     let s = stays-make_room L in
-    record { capacity = s.capacity; done = s.done; world = s.world; owners = s.owners; ops = s.ops }
+    record { capacity = s.capacity; done = s.done; world = s.world; owners = s.owners; groups = s.groups; ops = s.ops }
 
 -- Entries pushed.
 pub stays-push_each : (L : Ledger) (entries : List Queued) → Stays L (push_each L entries)

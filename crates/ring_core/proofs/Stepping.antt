@@ -3,20 +3,21 @@ use Rattle.std.proofs.Common.{◌≡◌, inl, inr, ℕ, Bool, true, false, not, 
 use Rattle.std.proofs.Common.{refl, sym}
 use Rattle.std.proofs.Common.{◌∙◌, ap, ◌<◌}
 use Rattle.std.specs.Prelude.{nat_le}
+use Rattle.std.proofs.lemmas.Bool.Decides.{leb_tells}
 use Rattle.std.proofs.lemmas.Option.{slice_get_within}
 use Rattle.rent_buf.specs.Buffer.{Buffer}
 use Rattle.rent_buf.specs.Parts.{Parts}
 use Rattle.ring_core.specs.declared.request.Request.{Request}
 use Rattle.ring_core.specs.declared.request.Told.{Told}
 use Rattle.ring_core.specs.declared.ledger.Event.{Event}
-use Rattle.ring_core.specs.declared.ledger.Event.TheVariants.{Close, Submit, Exec}
+use Rattle.ring_core.specs.declared.ledger.Event.TheVariants.{Close, Submit, NewHandle, CancelAll, Exec}
 use Rattle.ring_core.specs.declared.ledger.Refusal.{Refusal}
-use Rattle.ring_core.specs.declared.ledger.Refusal.TheVariants.{NoOp, NoHandle, Full, NotFlying, BadOutcome}
+use Rattle.ring_core.specs.declared.ledger.Refusal.TheVariants.{NoOp, NoCanceller, NoHandle, Full, NotFlying, BadOutcome}
 use Rattle.ring_core.specs.declared.ledger.Reply.TheVariants.{Refused}
 use Rattle.ring_core.specs.Lists.{passes, has_number}
 use Rattle.ring_core.specs.Request.{named}
 use Rattle.ring_core.specs.Ledger.{Ledger, Operation, Owner, Item, is_kept, is_owned, user_holds}
-use Rattle.ring_core.specs.Refusal.{cause, refused_if, lacks_op, lacks_handle, allowed, is_full}
+use Rattle.ring_core.specs.Refusal.{cause, refused_if, lacks_op, lacks_handle, allowed, has_no_canceller, is_full}
 use Rattle.ring_core.specs.Step.{step, row, answered}
 use Rattle.ring_core.proofs.Numbers.{same-or-not}
 use Rattle.ring_core.proofs.Leaving.{has-other}
@@ -95,7 +96,7 @@ lacks-none true rest h = (refl, h)
 lacks-none false rest h = (let f : ⊥ = cc in absurd f)
 
 -- Where no handle is lacking, the user holds each.
-names-held : (L : Ledger) (names : List ℕ) → lacks_handle L names ≡ false → (h : ℕ) → has_number h names ≡ true → user_holds L h ≡ true
+pub names-held : (L : Ledger) (names : List ℕ) → lacks_handle L names ≡ false → (h : ℕ) → has_number h names ≡ true → user_holds L h ≡ true
 names-held L [] none h is = (let f : ⊥ = cc in absurd f)
 names-held L (k ∷ names) none h is =
     let both = lacks-none (user_holds L k) (lacks_handle L names) none in
@@ -105,13 +106,45 @@ names-held L (k ∷ names) none h is =
     ]
 
 -- A first test that refuses nothing fails.
-refuses-none : (b : Bool) (refusal : Refusal) (next : Option Refusal) → refused_if b refusal next ≡ None → b ≡ false
+pub refuses-none : (b : Bool) (refusal : Refusal) (next : Option Refusal) → refused_if b refusal next ≡ None → b ≡ false
 refuses-none true refusal next h = (let f : ⊥ = cc in absurd f)
 refuses-none false refusal next h = refl
 
+-- Nor does any later test refuse anything.
+refuses-next : (b : Bool) (refusal : Refusal) (next : Option Refusal) → refused_if b refusal next ≡ None → next ≡ None
+refuses-next true refusal next h = (let f : ⊥ = cc in absurd f)
+refuses-next false refusal next h = h
+
+-- What is refused of a Submit, once its cancel handle is there: a handle that it names isn't its user's, or there are too many.
+abbrev submit_next : Ledger → Request Buffer Parts → Option ℕ → Option Refusal
+submit_next L request under =
+    refused_if (lacks_handle L (named request)) NoHandle (refused_if (is_full L (Submit request under)) Full None)
+
 -- A Submit that isn't refused names handles that its user holds.
-pub submitted-held : (L : Ledger) (request : Request Buffer Parts) → cause L (Submit request) ≡ None → (h : ℕ) →
+pub submitted-held : (L : Ledger) (request : Request Buffer Parts) (under : Option ℕ) → cause L (Submit request under) ≡ None → (h : ℕ) →
     has_number h (named request) ≡ true → user_holds L h ≡ true
-submitted-held L request unrefused h names =
+submitted-held L request under unrefused h names =
     names-held L (named request)
-    (refuses-none (lacks_handle L (named request)) NoHandle (refused_if (is_full L (Submit request)) Full None) unrefused) h names
+    (refuses-none (lacks_handle L (named request)) NoHandle (refused_if (is_full L (Submit request under)) Full None)
+    (refuses-next (has_no_canceller L (Submit request under)) NoCanceller (submit_next L request under) unrefused)) h names
+
+-- What isn't at or past the end is below it.
+below-end : (n end : ℕ) (refusal : Refusal) (next : Option Refusal) → refused_if (nat_le end n) refusal next ≡ None → n < end
+below-end n end refusal next h = elim (leb_tells end n) [
+  | inl past ↦ absurd (let f : true ≡ false = sym past.0 ∙ refuses-none (nat_le end n) refusal next h in let g : ⊥ = cc in g)
+  | inr within ↦ within.1
+]
+
+-- A Submit under a cancel handle that isn't refused finds it.
+pub submitted-under : (L : Ledger) (request : Request Buffer Parts) (handle : ℕ) → cause L (Submit request (Some handle)) ≡ None →
+    handle < length L.cancel_handles
+submitted-under L request handle unrefused =
+    below-end handle (length L.cancel_handles) NoCanceller (submit_next L request (Some handle)) unrefused
+
+-- A NewHandle that isn't refused finds its canceller.
+pub handle-canceller : (L : Ledger) (c : ℕ) → cause L (NewHandle c) ≡ None → c < length L.cancellers
+handle-canceller L c unrefused = below-end c (length L.cancellers) NoCanceller None unrefused
+
+-- So does a CancelAll.
+pub cancel-canceller : (L : Ledger) (c : ℕ) → cause L (CancelAll c) ≡ None → c < length L.cancellers
+cancel-canceller L c unrefused = below-end c (length L.cancellers) NoCanceller None unrefused

@@ -2,6 +2,7 @@ pub mod Lists
 pub mod World
 pub mod Request
 pub mod Surroundings
+pub mod Attempt
 pub mod Outcome
 pub mod Effect
 pub mod Ledger
@@ -11,8 +12,11 @@ pub mod Turn
 pub mod Step
 pub mod Run
 pub mod Rows
+pub mod GroupRows
 pub mod OutcomeRows
 pub mod BufferRows
+pub mod RequestRows
+pub mod MadeRows
 pub mod Counts
 pub mod Entry
 pub mod Ring
@@ -24,4 +28,6 @@ pub mod Reserved
 pub mod Payloads
 pub mod Called
 pub mod MemRing
+pub mod WorldCall
+pub mod FaultRing
 pub mod Lends

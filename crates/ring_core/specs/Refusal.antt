@@ -1,16 +1,17 @@
 -- Which events are refused, and why: a test for each refusal, over the events that may get it.
-use Rattle.std.specs.Prelude.{ℕ, Bool, true, false, not, ◌||◌, nat_le, List, [], ◌∷◌, length, Option, Some, None, slice_get}
+use Rattle.std.specs.Prelude.{ℕ, Bool, true, false, not, ◌&&◌, ◌||◌, nat_le, List, [], ◌∷◌, length, Option, Some, None, slice_get}
 use Rattle.ring_core.specs.declared.ledger.TheConstants.{MOST_LIVE}
 use Rattle.ring_core.specs.declared.ledger.Event.{Event}
-use Rattle.ring_core.specs.declared.ledger.Event.TheVariants.{Feed, End, Look, Close, Submit, Poll, Drop, Cancel, Exec}
+use Rattle.ring_core.specs.declared.ledger.Event.TheVariants.{Feed, FeedMessage, End, Look, Close, Submit, Poll, Drop, Cancel, Exec}
+use Rattle.ring_core.specs.declared.ledger.Event.TheVariants.{NewHandle, CancelAll}
 use Rattle.ring_core.specs.declared.ledger.Refusal.{Refusal}
-use Rattle.ring_core.specs.declared.ledger.Refusal.TheVariants.{NoOp, NoHandle, Full, NotFlying, BadOutcome, BadHandleEvent}
+use Rattle.ring_core.specs.declared.ledger.Refusal.TheVariants.{NoOp, NoCanceller, NoHandle, Full, NotFlying, BadOutcome, BadHandleEvent}
 use Rattle.ring_core.specs.declared.request.Told.{Told}
 use Rattle.ring_core.specs.Lists.{passes}
-use Rattle.ring_core.specs.World.{is_ended_at}
+use Rattle.ring_core.specs.World.{refuses_feed, refuses_message, refuses_end}
 use Rattle.ring_core.specs.Request.{named, call_of}
 use Rattle.ring_core.specs.Outcome.{is_allowed, may_close}
-use Rattle.ring_core.specs.Ledger.{Ledger, Item, Op, is_owned, live_ops, user_holds}
+use Rattle.ring_core.specs.Ledger.{Ledger, Item, Op, is_owned, live_ops, user_holds, is_under_marked}
 
 -- An operation was never submitted, is gone, or was dropped.
 abbrev pub lacks_op : Ledger → ℕ → Bool
@@ -33,18 +34,26 @@ has_no_op L (Drop n) = lacks_op L n
 has_no_op L (Cancel n) = lacks_op L n
 has_no_op L _ = false
 
+-- NoCanceller: the canceller was never created, or the cancel handle that a request is submitted under wasn't.
+abbrev pub has_no_canceller : Ledger → Event → Bool
+has_no_canceller L (NewHandle c) = nat_le (length L.cancellers) c
+has_no_canceller L (CancelAll c) = nat_le (length L.cancellers) c
+has_no_canceller L (Submit request (Some handle)) = nat_le (length L.cancel_handles) handle
+has_no_canceller L _ = false
+
 -- NoHandle: the user doesn't hold a handle that the event names.
 abbrev pub has_no_handle : Ledger → Event → Bool
 has_no_handle L (Feed h bytes) = lacks_handle L (h ∷ [])
+has_no_handle L (FeedMessage h addr bytes) = lacks_handle L (h ∷ [])
 has_no_handle L (End h) = lacks_handle L (h ∷ [])
 has_no_handle L (Look h) = lacks_handle L (h ∷ [])
 has_no_handle L (Close h) = lacks_handle L (h ∷ [])
-has_no_handle L (Submit request) = lacks_handle L (named request)
+has_no_handle L (Submit request under) = lacks_handle L (named request)
 has_no_handle L _ = false
 
--- Full: as many operations as there may be are live.
+-- Full: as many operations as there may be are live. It is asked only of a request that isn't submitted under a marked group.
 abbrev pub is_full : Ledger → Event → Bool
-is_full L (Submit request) = nat_le MOST_LIVE (length (live_ops L))
+is_full L (Submit request under) = not (is_under_marked L under) && nat_le MOST_LIVE (length (live_ops L))
 is_full L _ = false
 
 -- NotFlying: the place isn't below the length of `flying`.
@@ -57,10 +66,11 @@ abbrev pub has_bad_outcome : Ledger → Event → Bool
 has_bad_outcome L (Exec place told) = not (passes (λ item. allowed L item told) (slice_get L.flying place))
 has_bad_outcome L _ = false
 
--- BadHandleEvent: what arrives at the handle has ended.
+-- BadHandleEvent: the handle doesn't take what arrives, by its kind, or because its end is marked.
 abbrev pub has_bad_handle_event : Ledger → Event → Bool
-has_bad_handle_event L (Feed h bytes) = is_ended_at L.world h
-has_bad_handle_event L (End h) = is_ended_at L.world h
+has_bad_handle_event L (Feed h bytes) = passes refuses_feed (slice_get L.world h)
+has_bad_handle_event L (FeedMessage h addr bytes) = passes refuses_message (slice_get L.world h)
+has_bad_handle_event L (End h) = passes refuses_end (slice_get L.world h)
 has_bad_handle_event L _ = false
 
 -- A refusal where its test passes, else the next one.
@@ -72,8 +82,9 @@ refused_if false refusal next = next
 abbrev pub cause : Ledger → Event → Option Refusal
 cause L event =
     refused_if (has_no_op L event) NoOp (
+    refused_if (has_no_canceller L event) NoCanceller (
     refused_if (has_no_handle L event) NoHandle (
     refused_if (is_full L event) Full (
     refused_if (is_not_flying L event) NotFlying (
     refused_if (has_bad_outcome L event) BadOutcome (
-    refused_if (has_bad_handle_event L event) BadHandleEvent None)))))
+    refused_if (has_bad_handle_event L event) BadHandleEvent None))))))

@@ -1,5 +1,5 @@
 -- Worked runs of the machine on operations: a capacity, the events, and their replies.
-use Rattle.std.specs.Prelude.{ℕ, ◌≡◌, List, [], ◌∷◌}
+use Rattle.std.specs.Prelude.{ℕ, ◌≡◌, List, [], ◌∷◌, None}
 use Rattle.rent_buf.specs.Buffer.{Buffer}
 use Rattle.rent_buf.specs.declared.kind.Kind.TheVariants.{Vector}
 use Rattle.rent_buf.specs.declared.held.Held.TheVariants.{One}
@@ -8,8 +8,8 @@ use Rattle.ring_core.specs.declared.request.Request.TheVariants.{Recv}
 use Rattle.ring_core.specs.declared.request.TheConstants.{CANCELED}
 use Rattle.ring_core.specs.declared.request.Told.TheVariants.{Count, Fail}
 use Rattle.ring_core.specs.declared.request.Outcome.{Outcome}
-use Rattle.ring_core.specs.declared.ledger.Event.TheVariants.{Give, Feed, Look, Close, Submit, Poll, Drop, Cancel, Turn, Exec}
-use Rattle.ring_core.specs.declared.ledger.Refusal.TheVariants.{NoOp, NoHandle, NotFlying, BadOutcome}
+use Rattle.ring_core.specs.declared.ledger.Event.TheVariants.{Give, Feed, Look, Close, Submit, Poll, Drop, Cancel, NewHandle, Turn, Exec}
+use Rattle.ring_core.specs.declared.ledger.Refusal.TheVariants.{NoOp, NoCanceller, NoHandle, NotFlying, BadOutcome}
 use Rattle.ring_core.specs.declared.ledger.Reply.TheVariants.{Handle, Fed, Released, Submitted, Pending, Handed, Dropped, Asked, Turned}
 use Rattle.ring_core.specs.declared.ledger.Reply.TheVariants.{ExecutedOp, ExecutedClose}
 use Rattle.ring_core.specs.declared.ledger.Reply.TheVariants.{Refused}
@@ -25,7 +25,7 @@ abbrev pub OneRead : Type 0
 OneRead =
     replies (empty 1) (
     Give Stream ∷
-    Submit (Recv 0 (vector 4 0 4 [])) ∷
+    Submit (Recv 0 (vector 4 0 4 [])) None ∷
     Poll 0 7 ∷
     Feed 0 (97 ∷ 98 ∷ []) ∷
     Turn ∷
@@ -50,12 +50,14 @@ OneRead =
 abbrev pub RefusedInOrder : Type 0
 RefusedInOrder =
     replies (empty 4) (
-    Submit (Recv 9 (vector 1 0 1 [])) ∷
+    Submit (Recv 9 (vector 1 0 1 [])) None ∷
     Exec 0 (Count 0) ∷
+    NewHandle 3 ∷
     Poll 0 1 ∷ [])
     ≡ (
     Refused NoHandle ∷
     Refused NotFlying ∷
+    Refused NoCanceller ∷
     Refused NoOp ∷ [])
 
 -- A cancel that is taken late marks nothing: neither its own operation, which is done, nor the next one.
@@ -64,13 +66,13 @@ LateCancel =
     replies (empty 8) (
     Give Stream ∷
     Feed 0 (97 ∷ []) ∷
-    Submit (Recv 0 (vector 1 0 1 [])) ∷
+    Submit (Recv 0 (vector 1 0 1 [])) None ∷
     Turn ∷
     Exec 0 (Count 1) ∷
     Turn ∷
     Cancel 0 ∷
     Poll 0 1 ∷
-    Submit (Recv 0 (vector 1 0 1 [])) ∷
+    Submit (Recv 0 (vector 1 0 1 [])) None ∷
     Turn ∷
     Exec 0 (Fail CANCELED) ∷
     Feed 0 (98 ∷ []) ∷
@@ -99,8 +101,8 @@ abbrev pub FullQueue : Type 0
 FullQueue =
     replies (empty 1) (
     Give Stream ∷
-    Submit (Recv 0 (vector 1 0 1 [])) ∷
-    Submit (Recv 0 (vector 1 0 1 [])) ∷
+    Submit (Recv 0 (vector 1 0 1 [])) None ∷
+    Submit (Recv 0 (vector 1 0 1 [])) None ∷
     Drop 1 ∷
     Turn ∷
     Exec 1 (Fail CANCELED) ∷
@@ -121,7 +123,7 @@ abbrev pub CloseUnderRead : Type 0
 CloseUnderRead =
     replies (empty 4) (
     Give Stream ∷
-    Submit (Recv 0 (vector 1 0 1 [])) ∷
+    Submit (Recv 0 (vector 1 0 1 [])) None ∷
     Turn ∷
     Close 0 ∷
     Exec 0 (Fail 104) ∷

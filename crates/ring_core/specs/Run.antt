@@ -1,5 +1,5 @@
 -- The ledger after events, the replies, and the moments of an operation.
-use Rattle.std.specs.Prelude.{ℕ, ◌≡◌, ◌<◌, ◌≤◌, List, [], ◌∷◌, take, Some, None, slice_get}
+use Rattle.std.specs.Prelude.{ℕ, ◌≡◌, ◌<◌, ◌≤◌, List, [], ◌∷◌, take, Option, Some, None, slice_get}
 use Rattle.rent_buf.specs.Buffer.{Buffer}
 use Rattle.rent_buf.specs.Parts.{Parts}
 use Rattle.rent_buf.specs.Held.{HeldBuf}
@@ -35,10 +35,11 @@ ledger capacity events = after (empty capacity) events
 abbrev pub ledger_before : ℕ → List Event → ℕ → Ledger
 ledger_before capacity events i = ledger capacity (take i events)
 
--- The event at i got the reply Submitted n.
+-- The event at i got the reply Submitted n; it submitted a request, under a cancel handle or none.
 pub record IsGiven (capacity : ℕ) (events : List Event) (n i : ℕ) : Type 0 where
   pub request : Request Buffer Parts
-  pub event : slice_get events i ≡ Some (Submit request)
+  pub under : Option ℕ
+  pub event : slice_get events i ≡ Some (Submit request under)
   pub reply : slice_get (replies (empty capacity) events) i ≡ Some (Submitted n)
 
 -- The event at i is the unrefused Exec of a place that holds Op n, with this report.

@@ -1,21 +1,27 @@
 -- The step of the machine: the next ledger and the reply, for each event.
-use Rattle.std.specs.Prelude.{ℕ, Bool, true, false, [], ◌∷◌, ◌++◌, length, Option, Some, None, slice_get}
+use Rattle.std.specs.Prelude.{ℕ, Bool, true, false, [], ◌∷◌, ◌++◌, length, map, Option, Some, None, unwrap_or, slice_get}
 use Rattle.rent_buf.specs.Buffer.{Buffer}
 use Rattle.rent_buf.specs.Parts.{Parts}
 use Rattle.ring_core.specs.declared.request.Request.{Request}
 use Rattle.ring_core.specs.declared.world.HandleState.{HandleState}
+use Rattle.ring_core.specs.declared.world.Look.{Look as Shown}
+use Rattle.ring_core.specs.declared.world.Look.TheVariants.{Bytes as ShownBytes, Messages as ShownMessages}
 use Rattle.ring_core.specs.declared.ledger.Event.{Event}
-use Rattle.ring_core.specs.declared.ledger.Event.TheVariants.{Give, Feed, End, Look, Close, Submit, Poll, Drop, Cancel, Turn, Exec}
+use Rattle.ring_core.specs.declared.ledger.Event.TheVariants.{Give, Feed, FeedMessage, End, Look, Close, Submit, Poll, Drop, Cancel, Turn}
+use Rattle.ring_core.specs.declared.ledger.Event.TheVariants.{Exec}
+use Rattle.ring_core.specs.declared.ledger.Event.TheVariants.{NewCanceller, NewHandle, CancelAll}
 use Rattle.ring_core.specs.declared.ledger.Refusal.{Refusal}
 use Rattle.ring_core.specs.declared.ledger.Refusal.TheVariants.{NoOp}
 use Rattle.ring_core.specs.declared.ledger.Reply.{Reply}
-use Rattle.ring_core.specs.declared.ledger.Reply.TheVariants.{Handle, Fed, Ended, Released, Output, Submitted, Pending, Handed, Dropped}
-use Rattle.ring_core.specs.declared.ledger.Reply.TheVariants.{Asked}
-use Rattle.ring_core.specs.declared.ledger.Reply.TheVariants.{Refused}
+use Rattle.ring_core.specs.declared.ledger.Reply.TheVariants.{Handle, Fed, Ended, Released, Output, Messages, Submitted, Pending, Handed}
+use Rattle.ring_core.specs.declared.ledger.Reply.TheVariants.{Dropped}
+use Rattle.ring_core.specs.declared.ledger.Reply.TheVariants.{Asked, CanceledAtOnce, Canceller, CancelHandle, Cancels, Refused}
 use Rattle.ring_core.specs.Lists.{amended}
-use Rattle.ring_core.specs.World.{fresh, with_input, with_end, output_at}
+use Rattle.ring_core.specs.Request.{held_of}
+use Rattle.ring_core.specs.World.{fresh, with_input, with_message, with_end, look_at}
 use Rattle.ring_core.specs.Ledger.{Ledger, Operation, Owner, Place, Reaped, Queued, Req, new_operation}
-use Rattle.ring_core.specs.Queue.{with_op, push, is_unheld, leave}
+use Rattle.ring_core.specs.Ledger.{is_under_marked, group_under, members}
+use Rattle.ring_core.specs.Queue.{with_op, push, push_each, is_unheld, leave}
 use Rattle.ring_core.specs.Turn.{turn_step, exec_step}
 use Rattle.ring_core.specs.Refusal.{cause}
 
@@ -55,17 +61,27 @@ close_step L h = close_unheld (with_user L h false) h
 abbrev pub with_new_op : Ledger → Operation → Ledger
 with_new_op L operation = record L { ops = L.ops ++ operation ∷ [] }
 
--- Submit: the next number, and a push of its request.
-abbrev pub submit_step : Ledger → Request Buffer Parts → Ledger
-submit_step L request = push (with_new_op L (new_operation request)) (Req (length L.ops))
+-- Submit under no marked group: the next number, and a push of its request.
+abbrev pub submit_step : Ledger → Request Buffer Parts → Option ℕ → Ledger
+submit_step L request group = push (with_new_op L (new_operation request group)) (Req (length L.ops))
+
+-- Submit: under a marked group what the request holds comes back, and nothing changes; else it is a new operation of its group.
+abbrev pub submit_if : Bool → Ledger → Request Buffer Parts → Option ℕ → Ledger × Reply
+submit_if true L request group = (L, CanceledAtOnce (held_of request))
+submit_if false L request group = (submit_step L request group, Submitted (length L.ops))
 
 -- An operation that a task waits for.
 abbrev pub with_task : ℕ → Operation → Operation
 with_task task operation = record operation { task = Some task }
 
--- Poll: where the operation is reaped it is returned and leaves; else its task is this one.
+-- A handle that was made, where there is one, becomes its user's.
+abbrev pub handed_over : Ledger → Option ℕ → Ledger
+handed_over L None = L
+handed_over L (Some h) = with_user L h true
+
+-- Poll: where the operation is reaped it is returned, with the handle that it made, and leaves; else its task is this one.
 abbrev pub poll_at : Ledger → ℕ → ℕ → Operation → Place → Ledger × Reply
-poll_at L n task operation (Reaped outcome) = (leave L n, Handed outcome operation.buffer)
+poll_at L n task operation (Reaped outcome) = (leave (handed_over L operation.made) n, Handed outcome operation.buffer)
 poll_at L n task operation _ = (with_op L n (with_task task), Pending)
 
 -- The poll of an operation that was looked up.
@@ -87,17 +103,54 @@ abbrev pub drop_step : Ledger → ℕ → Option Operation → Ledger × Reply
 drop_step L n None = (L, Refused NoOp)
 drop_step L n (Some operation) = (drop_at (with_op L n with_drop) n operation.place, Dropped)
 
+-- A fresh group, which isn't marked.
+abbrev pub with_group : Ledger → Ledger
+with_group L = record L { groups = L.groups ++ false ∷ [] }
+
+-- NewCanceller: a canceller of a fresh group.
+abbrev pub new_canceller_step : Ledger → Ledger
+new_canceller_step L = record (with_group L) { cancellers = L.cancellers ++ length L.groups ∷ [] }
+
+-- The present group of a canceller.
+abbrev pub group_of : Ledger → ℕ → ℕ
+group_of L c = unwrap_or (slice_get L.cancellers c) 0
+
+-- NewHandle: a cancel handle of the canceller's present group.
+abbrev pub new_handle_step : Ledger → ℕ → Ledger
+new_handle_step L c = record L { cancel_handles = L.cancel_handles ++ group_of L c ∷ [] }
+
+-- A group is marked for good.
+abbrev pub with_mark : Ledger → ℕ → Ledger
+with_mark L g = record L { groups = amended L.groups g (λ mark. true) }
+
+-- A canceller gets a fresh group.
+abbrev pub renew_group : Ledger → ℕ → Ledger
+renew_group L c = record (with_group L) { cancellers = amended L.cancellers c (λ g. length L.groups) }
+
+-- CancelAll: the canceller's group is marked, the cancel of each of its members is pushed, and the canceller gets a fresh group.
+abbrev pub cancel_all_step : Ledger → ℕ → ℕ → Ledger
+cancel_all_step L c g = renew_group (push_each (with_mark L g) (map Queued.Cancel (members L g))) c
+
+-- The reply to a look.
+abbrev pub look_reply : Shown → Reply
+look_reply (ShownBytes bytes) = Output bytes
+look_reply (ShownMessages messages) = Messages messages
+
 -- The rule for an event that isn't refused.
 abbrev pub row : Ledger → Event → Ledger × Reply
 row L (Give kind) = (give_step L (fresh kind), Handle (length L.world))
 row L (Feed h bytes) = (with_handle L h (with_input bytes), Fed)
+row L (FeedMessage h addr bytes) = (with_handle L h (with_message addr bytes), Fed)
 row L (End h) = (with_handle L h with_end, Ended)
-row L (Look h) = (L, Output (output_at L.world h))
+row L (Look h) = (L, look_reply (look_at L.world h))
 row L (Close h) = (close_step L h, Released)
-row L (Submit request) = (submit_step L request, Submitted (length L.ops))
+row L (Submit request under) = submit_if (is_under_marked L under) L request (group_under L under)
 row L (Poll n task) = poll_step L n task (slice_get L.ops n)
 row L (Drop n) = drop_step L n (slice_get L.ops n)
 row L (Cancel n) = (push L (Queued.Cancel n), Asked)
+row L NewCanceller = (new_canceller_step L, Canceller (length L.cancellers))
+row L (NewHandle c) = (new_handle_step L c, CancelHandle (length L.cancel_handles))
+row L (CancelAll c) = (cancel_all_step L c (group_of L c), Cancels (members L (group_of L c)))
 row L Turn = turn_step L
 row L (Exec place told) = exec_step L place told (slice_get L.flying place)
 

@@ -3,7 +3,7 @@
 use Rattle.std.specs.Prelude.{ℕ, List, Option, Some, None}
 use Rattle.rent_buf.specs.Parts.{Parts}
 use Rattle.rent_buf.specs.declared.held.Held.{Held}
-use Rattle.rent_buf.specs.declared.held.Held.TheVariants.{One, Parts as InParts}
+use Rattle.rent_buf.specs.declared.held.Held.TheVariants.{One, Parts as InParts, Nothing}
 use Rattle.ring_core.specs.declared.request.Request.{Request}
 use Rattle.ring_core.specs.Request.{held_of}
 
@@ -16,10 +16,11 @@ pub record Surroundings : Type 0 where
 abbrev pub around : {B : Type 0} → (B → List (ℕ × ℕ)) → (B → Parts) → B → Surroundings
 around under beside buf = record { under = under buf; beside = beside buf }
 
--- The surroundings of what is held: parts have none.
+-- The surroundings of what is held: parts have none, nor has nothing.
 abbrev pub held_around : {B V : Type 0} → (B → Surroundings) → Held B V → Option Surroundings
 held_around reader (One buf) = Some (reader buf)
 held_around reader (InParts parts) = None
+held_around reader Nothing = None
 
 -- The surroundings of what a request holds.
 abbrev pub request_around : {B V : Type 0} → (B → Surroundings) → Request B V → Option Surroundings

@@ -8,8 +8,8 @@ use Rattle.ring_core.specs.declared.ledger.Refusal.TheVariants.{NotFlying}
 use Rattle.ring_core.specs.declared.ledger.Reply.{Reply}
 use Rattle.ring_core.specs.declared.ledger.Reply.TheVariants.{Turned, ExecutedOp, ExecutedClose, Refused}
 use Rattle.ring_core.specs.Request.{sent_of, call_of, held}
-use Rattle.ring_core.specs.Effect.{Effect, effect}
-use Rattle.ring_core.specs.Ledger.{Ledger, Operation, Place, InDone, Reaped, Item, Op}
+use Rattle.ring_core.specs.Effect.{Effect, effect, made_by}
+use Rattle.ring_core.specs.Ledger.{Ledger, Operation, Owner, Place, InDone, Reaped, Item, Op}
 use Rattle.ring_core.specs.Queue.{with_op, take_all, leave}
 
 -- What was done is reaped; another place stays.
@@ -80,13 +80,25 @@ turn_step L = reap_all (take_all L)
 abbrev pub effect_of : Ledger → Request Buffer Parts → Told → Effect
 effect_of L request told = effect L.world (call_of request) (sent_of request) told
 
--- An executed operation has its outcome, and what its request holds after it.
+-- An executed operation has its outcome, what its request holds after it, and the handle that it made.
 abbrev pub with_result : Told → Effect → Operation → Operation
-with_result told result operation = record operation { buffer = held operation.request told result.got; place = InDone result.outcome }
+with_result told result operation = record operation {
+  buffer = held operation.request told result.got;
+  made = made_by result.outcome;
+  place = InDone result.outcome;
+}
+
+-- Whose the handle is that was made, where there is one: not its user's yet.
+abbrev pub made_owners : Option ℕ → List Owner
+made_owners None = []
+made_owners (Some h) = record { is_user = false } ∷ []
 
 -- What executing an operation leaves.
 abbrev pub with_effect : Ledger → ℕ → Told → Effect → Ledger
-with_effect L n told result = record (with_op L n (with_result told result)) { world = result.world }
+with_effect L n told result = record (with_op L n (with_result told result)) {
+  world = result.world;
+  owners = L.owners ++ made_owners (made_by result.outcome);
+}
 
 -- Executing an operation that was looked up.
 abbrev pub exec_op : Ledger → ℕ → Told → Option Operation → Ledger

@@ -55,14 +55,16 @@ pub enum Body {
 }
 
 impl Body {
-    /// How many bytes it sends with this report; None where it sends nothing: it reads, failed, or is no call. (not in monoio)
+    /// How many bytes it sends of what its request holds, with this report; None where it sends nothing of it, or failed.
+    /// (not in monoio)
     pub fn sends(&self, told: Told) -> Option<u32>
         ensures { result ≡ body_sends self.now told }
     {
         match self {
-            Body::Call(Call::In { .. }) => None,
-            Body::Call(Call::Out { .. }) => told.count(),
-            Body::Cancel(_) | Body::Close(_) => None,
+            Body::Call(Call::Out { .. })
+            | Body::Call(Call::MessageOut { .. })
+            | Body::Call(Call::WriteAt { .. }) => told.count(),
+            Body::Call(_) | Body::Cancel(_) | Body::Close(_) => None,
         }
     }
 }

@@ -1,12 +1,13 @@
 //! The ring in memory.
-ghost use Rattle.std.specs.Prelude.{◌≡◌, ◌<◌, ◌≤◌, ◌+◌, [], length, true, IfSome};
+ghost use Rattle.std.specs.Prelude.{◌≡◌, ◌<◌, ◌≤◌, ◌+◌, [], length, true, IfSome, OnOk, OnErr};
 ghost use Rattle.std.specs.VecDeque.{deque_len, deque_capacity};
 ghost use Rattle.std.specs.Borrow.{sem};
 ghost use Rattle.ring_core.specs.Ring.{flying_after_entry, flying_after, done_after_entry, done_after};
 ghost use Rattle.ring_core.specs.MemRing.{fresh_ring, entry_at, completion_of, completed, FinishesFor, ExecutesFor};
 ghost use Rattle.ring_core.specs.Lends.{lends_world};
+ghost use Rattle.ring_core.specs.FaultRing.{with_completion};
 
-use crate::entry::{Body, Completion, Entry};
+use crate::entry::{Body, Completion, Entry, MOST_HANDLES};
 use crate::flights::Flights;
 use crate::payloads::{Payloads, append_first};
 use crate::request::{Outcome, Told};
@@ -120,7 +121,8 @@ impl MemRing {
         told: Told,
         payloads: &mut P,
     ) -> Result<Completion, ExecRefusal>
-        ensures { ExecutesFor P.offered P.stores P.takes_memory self.old place told self.new payloads.old payloads.new result }
+        ensures executes { ExecutesFor P.offered P.stores P.takes_memory self.old place told self.new payloads.old payloads.new result }
+        ensures few { length self.old.world ≤ MOST_HANDLES → length self.new.world ≤ MOST_HANDLES }
     {
         let Some(flight) = self.flying.look(place) else {
             return Err(ExecRefusal::NotFlying);
@@ -130,6 +132,17 @@ impl MemRing {
             Err(RunError::NotAllowed) => Err(ExecRefusal::BadOutcome),
             Err(RunError::OutOfMemory) => Err(ExecRefusal::OutOfMemory),
         }
+    }
+
+    // Adds a completion that is of no entry behind those that are ready.
+    pub(crate) fn complete_stray(&mut self, stray: Completion) -> Result<(), OutOfMemory>
+        ensures ok { OnOk result (self.new ≡ with_completion self.old stray) }
+        ensures err { OnErr result (self.new ≡ self.old) }
+    {
+        self.reserve(1)?;
+        self.done.push_back_reserved(stray);
+        self.spare -= 1;
+        Ok(())
     }
 
     // The entry at a place becomes the last completion.
@@ -154,7 +167,8 @@ impl MemRing {
         got: &mut ByteList,
     ) -> Result<Completion, ExecRefusal>
         requires { got.old ≡ [] }
-        ensures { FinishesFor self.old place told sent.now self.new got.new result }
+        ensures finishes { FinishesFor self.old place told sent.now self.new got.new result }
+        ensures few { length self.old.world ≤ MOST_HANDLES → length self.new.world ≤ MOST_HANDLES }
     {
         let mut lists = SentAndGot {
             sent,

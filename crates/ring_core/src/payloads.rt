@@ -67,7 +67,7 @@ pub fn append_first_parts<V: IoVecBuf>(
 }
 
 // The first `count` bytes, or all where there are fewer.
-fn first(count: usize, bytes: &[u8]) -> &[u8]
+pub(crate) fn first(count: usize, bytes: &[u8]) -> &[u8]
     ensures { result.now ≡ take count bytes.now }
 {
     if count < bytes.len() {

@@ -1,16 +1,13 @@
 //! What is asked of the ring, and how it ended. (monoio: `driver::op`)
-ghost use Rattle.std.specs.Prelude.{◌≡◌, ◌≤◌, ◌<◌, ◌++◌, Ok, Err, length, min, take, slice_index, IfOk, IfErr, OnOk, OnErr};
-ghost use Rattle.std.specs.List.{concat};
-ghost use Rattle.rent_buf.specs.Buffer.{shown};
-ghost use Rattle.rent_buf.specs.Parts.{bytes_of};
-ghost use Rattle.ring_core.specs.Request.{named, listed, way_of, held_of, shape_of, call_of, plain_request, room_of, shown_by, held_after};
-ghost use Rattle.ring_core.specs.Request.{request_copied, held_copied, IsMade, HeldFailed};
-ghost use Rattle.ring_core.specs.Surroundings.{around, request_around};
-ghost use Rattle.ring_core.specs.Effect.{count_told};
+ghost use Rattle.std.specs.Prelude.{◌≡◌};
+ghost use Rattle.ring_core.specs.Effect.{count_told, made_by};
 
-use crate::payloads::{append_first, append_first_parts};
 use handle_core::SharedFd;
-use rent_buf::{ByteList, Held, IoBufMut, IoVecBuf, IoVecBufMut, OutOfMemory, VecBuf};
+use rent_buf::ByteList;
+
+mod bytes;
+mod copy;
+mod parts;
 
 /// The most bytes that one request asks for.
 pub const MOST_ASKED: usize = 2147483647;
@@ -52,6 +49,114 @@ pub enum Request<B, V> {
         /// The parts that are sent.
         parts: V,
     },
+    /// Receive one message of a datagram, and its address. (monoio: `RecvMsg`)
+    RecvMsg {
+        /// The datagram.
+        fd: SharedFd,
+        /// The buffer that is filled.
+        buf: B,
+    },
+    /// Send one message from a datagram: all the bytes that the range of a buffer shows. (monoio: `SendMsg`)
+    SendMsg {
+        /// The datagram.
+        fd: SharedFd,
+        /// The address that it is sent to, where one is given.
+        addr: Option<u64>,
+        /// The buffer that is sent.
+        buf: B,
+    },
+    /// Read bytes of a file from a position on. (monoio: `Read`)
+    Read {
+        /// The file.
+        fd: SharedFd,
+        /// The position, in bytes from the file's start.
+        pos: u64,
+        /// The buffer that is filled.
+        buf: B,
+    },
+    /// Write the bytes that the range of a buffer shows to a file from a position on. (monoio: `Write`)
+    Write {
+        /// The file.
+        fd: SharedFd,
+        /// The position, in bytes from the file's start.
+        pos: u64,
+        /// The buffer that is written.
+        buf: B,
+    },
+    /// Move bytes from a handle to a pipe. (monoio: `Splice::splice_to_pipe`)
+    SpliceTo {
+        /// The handle that they come from.
+        fd: SharedFd,
+        /// The pipe that takes them.
+        pipe: SharedFd,
+        /// The most bytes that are moved.
+        len: u32,
+    },
+    /// Move bytes from a pipe to a handle. (monoio: `Splice::splice_from_pipe`)
+    SpliceFrom {
+        /// The pipe that they come from.
+        pipe: SharedFd,
+        /// The handle that takes them.
+        fd: SharedFd,
+        /// The most bytes that are moved.
+        len: u32,
+    },
+    /// Accept a connection on a listener, as a new stream. (monoio: `Accept`)
+    Accept {
+        /// The listener.
+        fd: SharedFd,
+    },
+    /// Open a file, as a new handle. (monoio: `Open`)
+    Open {
+        /// Its path: bytes that nobody interprets.
+        path: ByteList,
+        /// How it is opened: bits that nobody interprets.
+        flags: u32,
+        /// Its mode, where it is created.
+        mode: u32,
+    },
+    /// Connect a stream or a datagram to an address. (monoio: `Connect`)
+    Connect {
+        /// The handle that is connected.
+        fd: SharedFd,
+        /// The address.
+        addr: u64,
+    },
+    /// Have the writes to a file stored. (monoio: `Fsync`)
+    Fsync {
+        /// The file.
+        fd: SharedFd,
+        /// Only its data, and none of what describes it.
+        data_only: bool,
+    },
+    /// Wait until a handle is ready. (monoio: `PollAdd`)
+    PollAdd {
+        /// The handle.
+        fd: SharedFd,
+        /// To be read, or else to be written.
+        read: bool,
+    },
+    /// Make a directory. (monoio: `MkDir`)
+    MkDir {
+        /// Its path: bytes that nobody interprets.
+        path: ByteList,
+        /// Its mode.
+        mode: u32,
+    },
+    /// Give a file another path. (monoio: `Rename`)
+    Rename {
+        /// The path that it has.
+        from: ByteList,
+        /// The path that it gets.
+        to: ByteList,
+    },
+    /// Remove a path. (monoio: `Unlink`)
+    Unlink {
+        /// The path.
+        path: ByteList,
+        /// It is that of a directory, or else that of a file.
+        remove_dir: bool,
+    },
 }
 
 /// Which way a request's bytes go. (not in monoio)
@@ -61,18 +166,22 @@ pub enum Way {
     Reads,
     /// Out of what the request holds to the handle.
     Sends,
+    /// Neither: the request holds no buffer.
+    Neither,
 }
 
 /// The handles that a request names, without the request. (not in monoio)
 #[derive(Clone, Copy, Debug, PartialEq, Eq)]
 pub enum Names {
-    /// There is no request.
+    /// No handle, or there is no request.
     Nothing,
     /// This handle.
     One(u64),
+    /// These handles, the lower number first.
+    Two(u64, u64),
 }
 
-/// What a request asks a handle for, without its buffer. (not in monoio)
+/// What a request asks for, without what it holds. (not in monoio)
 #[derive(Clone, Copy, Debug, PartialEq, Eq)]
 pub enum Call {
     /// At most `ask` bytes from the handle `h`.
@@ -89,6 +198,84 @@ pub enum Call {
         /// The number of bytes that are offered.
         ask: u32,
     },
+    /// The first message of the datagram `h`, and at most `ask` bytes of it.
+    MessageIn {
+        /// The handle's number.
+        h: u64,
+        /// The number of bytes that are wanted.
+        ask: u32,
+    },
+    /// A message of `ask` bytes from the datagram `h`.
+    MessageOut {
+        /// The handle's number.
+        h: u64,
+        /// The address that it is sent to, where one is given.
+        addr: Option<u64>,
+        /// The number of bytes that are offered.
+        ask: u32,
+    },
+    /// At most `ask` bytes of the file `h`, from a position on.
+    ReadAt {
+        /// The handle's number.
+        h: u64,
+        /// The position, in bytes.
+        pos: u64,
+        /// The number of bytes that are wanted.
+        ask: u32,
+    },
+    /// At most `ask` bytes to the file `h`, from a position on.
+    WriteAt {
+        /// The handle's number.
+        h: u64,
+        /// The position, in bytes.
+        pos: u64,
+        /// The number of bytes that are offered.
+        ask: u32,
+    },
+    /// At most `ask` bytes from the handle `h` to a pipe.
+    ToPipe {
+        /// The handle's number.
+        h: u64,
+        /// The pipe's number.
+        pipe: u64,
+        /// The most bytes that are moved.
+        ask: u32,
+    },
+    /// At most `ask` bytes from a pipe to the handle `h`.
+    FromPipe {
+        /// The pipe's number.
+        pipe: u64,
+        /// The handle's number.
+        h: u64,
+        /// The most bytes that are moved.
+        ask: u32,
+    },
+    /// A connection on the listener `h`.
+    Accept {
+        /// The handle's number.
+        h: u64,
+    },
+    /// A file is opened, and no handle takes part.
+    Open,
+    /// The handle `h` is connected.
+    Connect {
+        /// The handle's number.
+        h: u64,
+    },
+    /// The writes to the file `h` are stored.
+    Fsync {
+        /// The handle's number.
+        h: u64,
+    },
+    /// The handle `h` is ready.
+    PollAdd {
+        /// The handle's number.
+        h: u64,
+        /// To be read, or else to be written.
+        read: bool,
+    },
+    /// Something is done with a path, and no handle takes part.
+    Path,
 }
 
 /// What an executor reports of a call that it made. `Outcome` is what the machine makes of it. (not in monoio)
@@ -117,226 +304,24 @@ impl Told {
 pub enum Outcome {
     /// So many bytes moved.
     Count(u32),
+    /// It made the handle of this number.
+    Made(u64),
+    /// So many bytes of a message came, and this is its address.
+    From(u32, u64),
     /// It failed with this error.
     Fail(u16),
 }
 
-impl<B, V> Request<B, V> {
-    /// How many handles it names. (not in monoio)
-    pub fn named_len(&self) -> usize
-        ensures { result ≡ length (named self.now) }
+impl Outcome {
+    /// The handle that it names as made; None where it made none. (not in monoio)
+    pub fn made(&self) -> Option<u64>
+        ensures { result ≡ made_by self.now }
     {
         match self {
-            Request::Recv { .. } => 1,
-            Request::ReadVec { .. } => 1,
-            Request::Send { .. } => 1,
-            Request::WriteVec { .. } => 1,
+            Outcome::Made(h) => Some(*h),
+            _ => None,
         }
     }
-
-    /// The handles that it names. (not in monoio)
-    pub fn names(&self) -> Names
-        ensures { listed result ≡ named self.now }
-    {
-        match self {
-            Request::Recv { fd, .. } => Names::One(fd.number()),
-            Request::ReadVec { fd, .. } => Names::One(fd.number()),
-            Request::Send { fd, .. } => Names::One(fd.number()),
-            Request::WriteVec { fd, .. } => Names::One(fd.number()),
-        }
-    }
-
-    /// The number of a handle that it names, by its place among those. (not in monoio)
-    pub fn named_at(&self, i: usize) -> u64
-        requires { i < length (named self.now) }
-        ensures { result ≡ slice_index (named self.now) i }
-    {
-        match self {
-            Request::Recv { fd, .. } => fd.number(),
-            Request::ReadVec { fd, .. } => fd.number(),
-            Request::Send { fd, .. } => fd.number(),
-            Request::WriteVec { fd, .. } => fd.number(),
-        }
-    }
-
-    /// Which way its bytes go. (not in monoio)
-    pub fn way(&self) -> Way
-        ensures { result ≡ way_of self.now }
-    {
-        match self {
-            Request::Recv { .. } => Way::Reads,
-            Request::ReadVec { .. } => Way::Reads,
-            Request::Send { .. } => Way::Sends,
-            Request::WriteVec { .. } => Way::Sends,
-        }
-    }
-
-    /// What it holds, taken out. (not in monoio)
-    pub fn into_held(self) -> Held<B, V>
-        ensures { result ≡ held_of self }
-    {
-        match self {
-            Request::Recv { fd: _, buf } => Held::One(buf),
-            Request::ReadVec { fd: _, parts } => Held::Parts(parts),
-            Request::Send { fd: _, buf } => Held::One(buf),
-            Request::WriteVec { fd: _, parts } => Held::Parts(parts),
-        }
-    }
-
-    /// The request with a reference to what it holds. (not in monoio; like `Option::as_ref`)
-    pub fn as_ref(&self) -> Request<&B, &V>
-        ensures { request_copied result ≡ self.now }
-    {
-        match self {
-            Request::Recv { fd, buf } => Request::Recv { fd: *fd, buf },
-            Request::ReadVec { fd, parts } => Request::ReadVec { fd: *fd, parts },
-            Request::Send { fd, buf } => Request::Send { fd: *fd, buf },
-            Request::WriteVec { fd, parts } => Request::WriteVec { fd: *fd, parts },
-        }
-    }
-
-    /// What it holds, lent. (not in monoio)
-    pub fn held(&self) -> Held<&B, &V>
-        ensures { held_copied result ≡ held_of self.now }
-    {
-        self.as_ref().into_held()
-    }
-
-    /// The request with what it holds made into something else: its buffer by `one`, its parts by `many`. An error is that of the
-    /// call that was made, and what it held is dropped. (not in monoio)
-    pub fn try_map<C, W, E, F, G>(self, one: F, many: G) -> Result<Request<C, W>, E>
-    where
-        F: FnOnce(B) -> Result<C, E> + Drop,
-        G: FnOnce(V) -> Result<W, E> + Drop,
-        requires one { F.IsAlwaysCallable one }
-        requires many { G.IsAlwaysCallable many }
-        ensures ok { IfOk result (λ new. IsMade (λ x y. F.post one x (Ok y)) (λ x y. G.post many x (Ok y)) self new) }
-        ensures err { IfErr result (λ e. HeldFailed (λ x e. F.post one x (Err e)) (λ x e. G.post many x (Err e)) (held_of self) e) }
-    {
-        match self {
-            Request::Recv { fd, buf } => match one(buf) {
-                Ok(buf) => Ok(Request::Recv { fd, buf }),
-                Err(error) => Err(error),
-            },
-            Request::ReadVec { fd, parts } => match many(parts) {
-                Ok(parts) => Ok(Request::ReadVec { fd, parts }),
-                Err(error) => Err(error),
-            },
-            Request::Send { fd, buf } => match one(buf) {
-                Ok(buf) => Ok(Request::Send { fd, buf }),
-                Err(error) => Err(error),
-            },
-            Request::WriteVec { fd, parts } => match many(parts) {
-                Ok(parts) => Ok(Request::WriteVec { fd, parts }),
-                Err(error) => Err(error),
-            },
-        }
-    }
-}
-
-impl<B: IoBufMut> Request<B, VecBuf> {
-    /// What it asks a handle for. A reading one asks for what fits what it holds, a sending one offers the bytes that it shows, both
-    /// cut to `MOST_ASKED`. (not in monoio)
-    pub fn call(&self) -> Call
-        ensures { result ≡ call_of (plain_request B.buffer self.now) }
-    {
-        match self {
-            Request::Recv { fd, buf } => Call::In {
-                h: fd.number(),
-                ask: asked(buf.bytes_total()),
-            },
-            Request::ReadVec { fd, parts } => Call::In {
-                h: fd.number(),
-                ask: asked(parts.total_room()),
-            },
-            Request::Send { fd, buf } => Call::Out {
-                h: fd.number(),
-                ask: offered(buf),
-            },
-            Request::WriteVec { fd, parts } => Call::Out {
-                h: fd.number(),
-                ask: parts_offered(parts),
-            },
-        }
-    }
-
-    /// How many bytes fit what it holds: 0 where it sends. (not in monoio)
-    pub fn room(&self) -> usize
-        ensures { result ≡ room_of (plain_request B.buffer self.now) }
-    {
-        match self.way() {
-            Way::Reads => match self.held() {
-                Held::One(buf) => buf.bytes_total(),
-                Held::Parts(parts) => parts.total_room(),
-            },
-            Way::Sends => 0,
-        }
-    }
-
-    /// Stores bytes that came in what it holds: from the start of its buffer's range, or in its parts from the first one. What is
-    /// sent stays. It takes no memory. (not in monoio)
-    pub fn store(&mut self, bytes: &[u8])
-        requires { length bytes.now ≤ room_of (plain_request B.buffer self.old) }
-        ensures shape { shape_of self.new ≡ shape_of self.old }
-        ensures holds { held_of (plain_request B.buffer self.new) ≡ held_after (plain_request B.buffer self.old) bytes.now }
-        // What surrounds its buffer stays: the ranges under it, and the parts beside it.
-        ensures surroundings { request_around (around B.under B.beside) self.new ≡ request_around (around B.under B.beside) self.old }
-    {
-        match self {
-            Request::Recv { fd: _, buf } => buf.store(0, bytes),
-            Request::ReadVec { fd: _, parts } => parts.store_front(bytes),
-            Request::Send { .. } => {}
-            Request::WriteVec { .. } => {}
-        }
-    }
-
-    /// Appends the first `count` bytes that it shows, or all where there are fewer, to a list; a reading one shows none. They are
-    /// copied once. If memory runs out, the list stays. (not in monoio)
-    pub fn append_shown(&self, count: usize, list: &mut ByteList) -> Result<(), OutOfMemory>
-        ensures ok { OnOk result (list.new ≡ list.old ++ take count (shown_by (plain_request B.buffer self.now))) }
-        ensures err { OnErr result (list.new ≡ list.old) }
-    {
-        match self.way() {
-            Way::Reads => Ok(()),
-            Way::Sends => match self.held() {
-                Held::One(buf) => {
-                    buf.keeps_bounds();
-                    append_first(list, count, buf.bytes())
-                }
-                Held::Parts(parts) => append_first_parts(list, count, parts),
-            },
-        }
-    }
-}
-
-// A number of bytes, cut to the most that one request asks for.
-fn asked(count: usize) -> u32
-    ensures { result ≡ min count MOST_ASKED }
-{
-    if count < MOST_ASKED {
-        count as u32
-    } else {
-        MOST_ASKED as u32
-    }
-}
-
-// How many bytes a request offers of a buffer.
-fn offered<B: IoBufMut>(buf: &B) -> u32
-    ensures { result ≡ length (take MOST_ASKED (shown (B.buffer buf.now))) }
-{
-    buf.keeps_bounds();
-    asked(buf.bytes_init())
-}
-
-// How many bytes a request offers of parts. A sum that saturates is cut all the same.
-fn parts_offered(parts: &VecBuf) -> u32
-    ensures { result ≡ length (take MOST_ASKED (concat (bytes_of parts.now))) }
-{
-    let mut count: usize = 0;
-    for i in 0..parts.parts_len() {
-        count = count.saturating_add(parts.part(i).len());
-    }
-    asked(count)
 }
 
 #[cfg(test)]

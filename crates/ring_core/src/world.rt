@@ -1,29 +1,54 @@
 //! The handles of a machine in memory.
-ghost use Rattle.std.specs.Prelude.{◌≡◌, ◌<◌, ◌&&◌, [], ◌∷◌, ◌++◌, length, OnOk, OnErr, IfOk};
-ghost use Rattle.ring_core.specs.World.{fresh, gives_bytes, takes_bytes, output_at, WorldFeeds, WorldEnds};
-ghost use Rattle.ring_core.specs.Outcome.{may_read, may_send, may_fail};
-ghost use Rattle.ring_core.specs.Called.{ClosesFor, MovesFor, RunsFor};
+ghost use Rattle.std.specs.Prelude.{◌≡◌, ◌<◌, ◌≤◌, [], ◌∷◌, ◌++◌, length, OnOk, OnErr, IfOk};
+ghost use Rattle.ring_core.specs.World.{fresh, look_at, look_of, WorldFeeds, WorldFeedsMessage, WorldEnds};
+ghost use Rattle.ring_core.specs.Called.{MakesFor, MovesFor, RunsFor};
 
-use crate::entry::{Body, Flight};
+use crate::entry::{Body, Flight, MOST_HANDLES};
 use crate::input::Input;
+use crate::messages::Messages;
 use crate::payloads::Payloads;
-use crate::request::{CANCELED, Call, LAST_ERROR, Outcome, Told};
-use rent_buf::{ByteList, OutOfMemory};
+use crate::request::{Call, Outcome, Told};
+use rent_buf::{ByteList, MessageList, OutOfMemory};
 use std::alloc::Global;
 use std::marker::Model;
 use thiserror::Error;
 
+mod allows;
+mod attempt;
+mod call;
+mod moves;
+mod splices;
+
+use allows::{
+    close_outcome, connects_at, is_file_at, may_accept_at, may_end_with, nothing_moves,
+    takes_no_bytes, takes_no_end, takes_no_message,
+};
+pub use call::{BROKEN_PIPE, FILE_TOO_BIG, INVALID, WorldCall};
+use moves::{read_at, read_file_at, receive_at, send_at, send_message_at, write_file_at};
+use splices::{splice_from_at, splice_to_at};
+
+/// The end of a file that a write may reach, in bytes.
+pub const MOST_FILE: usize = 16777216;
+
 /// What a handle is.
 #[derive(Clone, Copy, Debug, PartialEq, Eq)]
 pub enum HandleKind {
-    /// A stream of bytes.
+    /// A stream of bytes, which come in and go out.
     Stream,
+    /// Messages, each with an address.
+    Datagram,
+    /// A file: bytes that are read and written at a position.
+    File,
+    /// A pipe: what is sent to it waits to be read from it.
+    Pipe,
+    /// A listener: connections are accepted on it.
+    Listener,
 }
 
 /// Why a call on a handle did nothing. The world is as it was.
 #[derive(Clone, Copy, Debug, PartialEq, Eq, Error)]
 pub enum WorldError {
-    /// What arrives at the handle has ended.
+    /// The handle doesn't take what arrives, by its kind, or because its end is marked.
     #[error("BadHandleEvent")]
     BadHandleEvent,
     /// Memory ran out. `end` takes no memory and never returns it.
@@ -46,24 +71,30 @@ pub(crate) enum RunError {
     OutOfMemory,
 }
 
-/// What stands on a handle. (not in monoio)
+/// What stands on a handle. A listener has nothing. (not in monoio)
 #[derive(Debug, Drop)]
 pub struct HandleState {
     /// What the handle is.
     pub kind: HandleKind,
-    /// The bytes that wait to be read.
+    /// The bytes that wait to be read, or those of a file.
     pub input: Input,
+    /// The messages that wait to be received.
+    pub messages_in: Messages,
     /// No more bytes arrive.
     pub ended: bool,
     /// The bytes that were sent to it.
     pub output: ByteList,
+    /// The messages that it sent.
+    pub messages_out: MessageList,
 }
 
 /// What looking at a handle shows. (not in monoio)
 #[derive(Debug, Drop)]
 pub enum Look {
-    /// The bytes that were sent to it.
+    /// The bytes that were sent to a stream, or those of a pipe or a file.
     Bytes(ByteList),
+    /// The messages that a datagram sent: of each the address, where it has one, and its bytes.
+    Messages(MessageList),
 }
 
 /// The handles of a machine in memory, by number from 0. (not in monoio)
@@ -105,23 +136,19 @@ impl World {
         self.handles.len() as u64
     }
 
-    /// A new handle of a kind, and its number: nothing stands on it, and its end isn't marked. (not in monoio)
+    /// A new handle of a kind, and its number: nothing stands on it, and its end isn't marked. `OutOfMemory` comes also where there are
+    /// `MOST_HANDLES` handles. (not in monoio)
     pub fn give(&mut self, kind: HandleKind) -> Result<u64, OutOfMemory>
         ensures number { IfOk result (λ h. h ≡ length self.old) }
+        ensures below { IfOk result (λ h. h < MOST_HANDLES) }
         ensures ok { OnOk result (self.new ≡ self.old ++ fresh kind ∷ []) }
         ensures err { OnErr result (self.new ≡ self.old) }
     {
-        let h = self.handles.len() as u64;
-        self.handles.push(HandleState {
-            kind,
-            input: Input::new(self.alloc),
-            ended: false,
-            output: ByteList::new(self.alloc),
-        })?;
-        Ok(h)
+        add_handle(&mut self.handles, self.alloc, kind)
     }
 
-    /// Bytes join the input's end of a handle. `BadHandleEvent` comes exactly when its end is marked. (not in monoio)
+    /// Bytes join the input's end of a handle. `BadHandleEvent` comes exactly when the handle is a datagram or a listener, or its end is
+    /// marked. (not in monoio)
     pub fn feed(&mut self, h: u64, bytes: &[u8]) -> Result<(), WorldError>
         requires { h < length self.old }
         ensures { WorldFeeds bytes.now self.old h self.new result }
@@ -129,8 +156,17 @@ impl World {
         feed_at(&mut self.handles, h as usize, bytes)
     }
 
-    /// Marks a handle's end: no more bytes arrive. `BadHandleEvent` comes exactly when it is marked already. It takes no
-    /// memory. (not in monoio)
+    /// A message joins those that wait on a handle: its address, and a copy of its bytes. `BadHandleEvent` comes exactly when the
+    /// handle is no datagram. (not in monoio)
+    pub fn feed_message(&mut self, h: u64, addr: u64, bytes: &[u8]) -> Result<(), WorldError>
+        requires { h < length self.old }
+        ensures { WorldFeedsMessage addr bytes.now self.old h self.new result }
+    {
+        feed_message_at(&mut self.handles, h as usize, addr, bytes)
+    }
+
+    /// Marks a handle's end: no more bytes arrive. `BadHandleEvent` comes exactly when the handle is neither a stream nor a pipe, or
+    /// its end is marked already. It takes no memory. (not in monoio)
     pub fn end(&mut self, h: u64) -> Result<(), WorldError>
         requires { h < length self.old }
         ensures { WorldEnds self.old h self.new result }
@@ -138,12 +174,13 @@ impl World {
         end_at(&mut self.handles, h as usize)
     }
 
-    /// What was sent to a handle, copied once. (not in monoio)
+    /// The bytes that were sent to a stream, those of a pipe or a file, or the messages that a datagram sent, copied once.
+    /// (not in monoio)
     pub fn look(&self, h: u64) -> Result<Look, OutOfMemory>
         requires { h < length self.now }
-        ensures { IfOk result (λ look. look ≡ Look.Bytes (output_at self.now h)) }
+        ensures { IfOk result (λ look. look ≡ look_at self.now h) }
     {
-        Ok(Look::Bytes(self.handles[h as usize].output.try_clone()?))
+        look_at(self.alloc, &self.handles[h as usize])
     }
 
     // Carries an entry in flight out with a reported outcome, where that is allowed to it (`is_allowed_body`): moves its bytes
@@ -155,8 +192,9 @@ impl World {
         told: Told,
         payloads: &mut P,
     ) -> Result<Outcome, RunError>
-        ensures { RunsFor P.stores P.takes_memory flight.now told (P.offered payloads.old flight.now.entry.word)
+        ensures runs { RunsFor P.stores P.takes_memory flight.now told (P.offered payloads.old flight.now.entry.word)
             self.old self.new payloads.old payloads.new result }
+        ensures few { length self.old ≤ MOST_HANDLES → length self.new ≤ MOST_HANDLES }
     {
         let call = match flight.entry.body {
             Body::Call(call) => call,
@@ -164,10 +202,7 @@ impl World {
             Body::Cancel(_) => return Err(RunError::NotAllowed),
         };
         match told {
-            Told::Count(k) => match self.transfer(call, k, flight.entry.word, payloads) {
-                Ok(()) => Ok(Outcome::Count(k)),
-                Err(why) => Err(why),
-            },
+            Told::Count(k) => self.transfer(call, k, flight.entry.word, payloads),
             Told::Fail(e) => {
                 if may_end_with(flight.marked, e) {
                     Ok(Outcome::Fail(e))
@@ -178,97 +213,111 @@ impl World {
         }
     }
 
-    // Moves so many bytes of a call, where that is allowed to it (`may_count`, `count_effect`).
+    // Moves so many bytes of a call, where that is allowed to it (`may_count`, `count_effect`), and returns the outcome.
     fn transfer<P: Payloads>(
         &mut self,
         call: Call,
         k: u32,
         word: u64,
         payloads: &mut P,
-    ) -> Result<(), RunError>
-        ensures { MovesFor P.stores P.takes_memory call k word (P.offered payloads.old word)
+    ) -> Result<Outcome, RunError>
+        ensures moves { MovesFor P.stores P.takes_memory call k word (P.offered payloads.old word)
             self.old self.new payloads.old payloads.new result }
+        ensures few { length self.old ≤ MOST_HANDLES → length self.new ≤ MOST_HANDLES }
     {
+        let alloc = self.alloc;
+        let handles = &mut self.handles;
         match call {
-            Call::In { h, ask } => {
-                if h >= self.count() {
-                    return Err(RunError::NotAllowed);
-                }
-                read_at(&mut self.handles, h as usize, ask, k, word, payloads)
+            Call::In { h, ask } => read_at(handles, h, ask, k, word, payloads),
+            Call::Out { h, ask } => send_at(handles, h, ask, k, word, payloads),
+            Call::MessageIn { h, ask } => receive_at(handles, h, ask, k, word, payloads),
+            Call::MessageOut { h, addr, ask } => {
+                send_message_at(handles, alloc, h, addr, ask, k, word, payloads)
             }
-            Call::Out { h, ask } => {
-                if h >= self.count() {
-                    return Err(RunError::NotAllowed);
-                }
-                send_at(&mut self.handles, h as usize, ask, k, word, payloads)
+            Call::ReadAt { h, pos, ask } => read_file_at(handles, h, pos, ask, k, word, payloads),
+            Call::WriteAt { h, pos, ask } => write_file_at(handles, h, pos, ask, k, word, payloads),
+            Call::ToPipe { h, pipe, ask } => splice_to_at(handles, alloc, h, pipe, ask, k),
+            Call::FromPipe { pipe, h, ask } => splice_from_at(handles, alloc, pipe, h, ask, k),
+            Call::Accept { h } => {
+                let may = may_accept_at(handles, h, k);
+                return make_handle(handles, alloc, may, HandleKind::Stream);
             }
+            Call::Open => return make_handle(handles, alloc, k == 0, HandleKind::File),
+            Call::Connect { h } => nothing_moves(connects_at(handles, h), k),
+            Call::Fsync { h } => nothing_moves(is_file_at(handles, h), k),
+            Call::PollAdd { h, .. } => nothing_moves(h < handles.len() as u64, k),
+            Call::Path => nothing_moves(true, k),
         }
     }
 }
 
-// An execution may end with this error.
-fn may_end_with(canceled: bool, e: u16) -> bool
-    ensures { result ≡ may_fail canceled e }
+// A new handle of a kind behind the others, and its number. None joins `MOST_HANDLES` others.
+fn add_handle(
+    handles: &mut Vec<HandleState>,
+    alloc: Global,
+    kind: HandleKind,
+) -> Result<u64, OutOfMemory>
+    ensures number { IfOk result (λ h. h ≡ length handles.old.items) }
+    ensures below { IfOk result (λ h. h < MOST_HANDLES) }
+    ensures ok { OnOk result (handles.new.items ≡ handles.old.items ++ fresh kind ∷ []) }
+    ensures err { OnErr result (handles.new.items ≡ handles.old.items) }
 {
-    if e == CANCELED {
-        canceled
-    } else {
-        e >= 1 && e <= LAST_ERROR
+    let h = handles.len() as u64;
+    if h >= MOST_HANDLES {
+        return Err(OutOfMemory);
+    }
+    handles.push(HandleState {
+        kind,
+        input: Input::new(alloc),
+        messages_in: Messages::new(alloc),
+        ended: false,
+        output: ByteList::new(alloc),
+        messages_out: MessageList::new(alloc),
+    })?;
+    Ok(h)
+}
+
+// Makes a new handle of a kind, where it may be made.
+fn make_handle(
+    handles: &mut Vec<HandleState>,
+    alloc: Global,
+    may: bool,
+    kind: HandleKind,
+) -> Result<Outcome, RunError>
+    ensures makes { MakesFor may kind handles.old.items handles.new.items result }
+    ensures few { length handles.old.items ≤ MOST_HANDLES → length handles.new.items ≤ MOST_HANDLES }
+{
+    if !may {
+        return Err(RunError::NotAllowed);
+    }
+    match add_handle(handles, alloc, kind) {
+        Ok(h) => Ok(Outcome::Made(h)),
+        Err(_) => Err(RunError::OutOfMemory),
     }
 }
 
-// How a close ends with a reported outcome, where that is allowed to it. It moves nothing.
-fn close_outcome(told: Told) -> Result<Outcome, RunError>
-    ensures { ClosesFor told result }
+// What looking at a handle shows, copied once.
+fn look_at(alloc: Global, handle: &HandleState) -> Result<Look, OutOfMemory>
+    ensures { IfOk result (λ look. look ≡ look_of handle.now) }
 {
-    match told {
-        Told::Count(0) => Ok(Outcome::Count(0)),
-        Told::Fail(e) if may_end_with(false, e) => Ok(Outcome::Fail(e)),
-        _ => Err(RunError::NotAllowed),
+    match handle.kind {
+        HandleKind::Stream => Ok(Look::Bytes(handle.output.try_clone()?)),
+        HandleKind::Datagram => Ok(Look::Messages(handle.messages_out.try_clone()?)),
+        HandleKind::File | HandleKind::Pipe => {
+            let mut bytes = ByteList::new(alloc);
+            bytes.append(handle.input.as_slice())?;
+            Ok(Look::Bytes(bytes))
+        }
+        HandleKind::Listener => Ok(Look::Bytes(ByteList::new(alloc))),
     }
 }
 
-// Bytes come out of a handle of this kind.
-fn is_readable(kind: HandleKind) -> bool
-    ensures { result ≡ gives_bytes kind }
-{
-    match kind {
-        HandleKind::Stream => true,
-    }
-}
-
-// A read of `ask` bytes may have this count.
-fn may_take(handle: &HandleState, ask: u32, k: u32) -> bool
-    ensures { result ≡ (gives_bytes handle.now.kind && may_read ask k handle.now) }
-{
-    is_readable(handle.kind)
-        && k <= ask
-        && k as usize <= handle.input.len()
-        && (k >= 1 || ask == 0 || (handle.ended && handle.input.is_empty()))
-}
-
-// Bytes can be sent to a handle of this kind.
-fn is_writable(kind: HandleKind) -> bool
-    ensures { result ≡ takes_bytes kind }
-{
-    match kind {
-        HandleKind::Stream => true,
-    }
-}
-
-// A send of `ask` bytes may have this count.
-fn may_be_sent(handle: &HandleState, ask: u32, k: u32) -> bool
-    ensures { result ≡ (takes_bytes handle.now.kind && may_send ask k) }
-{
-    is_writable(handle.kind) && k <= ask && (k >= 1 || ask == 0)
-}
-
-// Bytes join the input's end of the handle at a place, unless its end is marked.
+// Bytes join the input's end of the handle at a place, unless it takes none.
 fn feed_at(handles: &mut Vec<HandleState>, h: usize, bytes: &[u8]) -> Result<(), WorldError>
     requires { h < length handles.old.items }
     ensures { WorldFeeds bytes.now handles.old.items h handles.new.items result }
 {
-    if handles[h].ended {
+    if takes_no_bytes(&handles[h]) {
         return Err(WorldError::BadHandleEvent);
     }
     match handles[h].input.append(bytes) {
@@ -277,67 +326,33 @@ fn feed_at(handles: &mut Vec<HandleState>, h: usize, bytes: &[u8]) -> Result<(),
     }
 }
 
-// The end of the handle at a place is marked, unless it was before.
+// A message joins those that wait on the handle at a place, where it is a datagram.
+fn feed_message_at(
+    handles: &mut Vec<HandleState>,
+    h: usize,
+    addr: u64,
+    bytes: &[u8],
+) -> Result<(), WorldError>
+    requires { h < length handles.old.items }
+    ensures { WorldFeedsMessage addr bytes.now handles.old.items h handles.new.items result }
+{
+    if takes_no_message(&handles[h]) {
+        return Err(WorldError::BadHandleEvent);
+    }
+    match handles[h].messages_in.push(addr, bytes) {
+        Ok(()) => Ok(()),
+        Err(_) => Err(WorldError::OutOfMemory),
+    }
+}
+
+// The end of the handle at a place is marked, unless it was before or is never.
 fn end_at(handles: &mut Vec<HandleState>, h: usize) -> Result<(), WorldError>
     requires { h < length handles.old.items }
     ensures { WorldEnds handles.old.items h handles.new.items result }
 {
-    if handles[h].ended {
+    if takes_no_end(&handles[h]) {
         return Err(WorldError::BadHandleEvent);
     }
     handles[h].ended = true;
     Ok(())
-}
-
-// Moves the first bytes of a handle's input to the payload of a data word, where a read of `ask` bytes may have this count.
-fn read_at<P: Payloads>(
-    handles: &mut Vec<HandleState>,
-    h: usize,
-    ask: u32,
-    k: u32,
-    word: u64,
-    payloads: &mut P,
-) -> Result<(), RunError>
-    requires { h < length handles.old.items }
-    ensures { MovesFor P.stores P.takes_memory (Call.In h ask) k word (P.offered payloads.old word)
-        handles.old.items handles.new.items payloads.old payloads.new result }
-{
-    let handle = &mut handles[h];
-    if !may_take(handle, ask, k) {
-        return Err(RunError::NotAllowed);
-    }
-    match payloads.store(word, handle.input.first(k as usize)) {
-        Ok(()) => {
-            handle.input.consume(k as usize);
-            Ok(())
-        }
-        Err(_) => Err(RunError::OutOfMemory),
-    }
-}
-
-// Appends the first bytes that the payload of a data word offers to a handle's output, where a send of `ask` bytes may have
-// this count.
-fn send_at<P: Payloads>(
-    handles: &mut Vec<HandleState>,
-    h: usize,
-    ask: u32,
-    k: u32,
-    word: u64,
-    payloads: &mut P,
-) -> Result<(), RunError>
-    requires { h < length handles.old.items }
-    ensures { MovesFor P.stores P.takes_memory (Call.Out h ask) k word (P.offered payloads.old word)
-        handles.old.items handles.new.items payloads.old payloads.new result }
-{
-    let handle = &mut handles[h];
-    if !may_be_sent(handle, ask, k) {
-        return Err(RunError::NotAllowed);
-    }
-    if k == 0 {
-        return Ok(());
-    }
-    match payloads.append_to(word, k, &mut handle.output) {
-        Ok(()) => Ok(()),
-        Err(_) => Err(RunError::OutOfMemory),
-    }
 }

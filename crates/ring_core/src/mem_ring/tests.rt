@@ -5,6 +5,7 @@ use crate::request::Call;
 use crate::world::{HandleKind, Look, World, WorldError};
 use handle_core::SharedFd;
 use rent_buf::VecBuf;
+use std::alloc::Global;
 use std::test::Fail;
 
 // A read of the handle 0.
@@ -36,6 +37,24 @@ fn entered_ring(rt: &HostRuntime, entries: [Entry; 3]) -> Result<MemRing, Fail> 
     }
     let _ = ring.enter()?;
     Ok(ring)
+}
+
+// What a look at a handle shows: its bytes, or those of all its messages, each behind a byte for whether it has an address.
+fn shown(rt: &HostRuntime, world: &World, h: u64) -> Result<ByteList, Fail> {
+    let mut bytes = ByteList::new(rt.alloc());
+    if h >= world.count() {
+        return Ok(bytes);
+    }
+    match world.look(h)? {
+        Look::Bytes(output) => bytes.append(output.as_slice())?,
+        Look::Messages(messages) => {
+            for (addr, message) in messages.as_slice() {
+                bytes.push(if addr.is_some() { b'+' } else { b'-' })?;
+                bytes.append(message.as_slice())?;
+            }
+        }
+    }
+    Ok(bytes)
 }
 
 // Pushes an entry and enters it, through the bound alone.
@@ -101,9 +120,53 @@ fn a_send_moves_what_is_counted(rt: HostRuntime) -> Result<(), Fail> {
     let sent = ring.finish_at(0, Told::Count(3), b"hello", &mut got);
     assert_eq!(rt; sent.is_ok(), true);
     assert_eq!(rt; got.len(), 0);
-    assert!(rt; ring.world().count() > 0);
-    let Look::Bytes(shown) = ring.world().look(0)?;
-    assert_eq!(rt; shown.as_slice(), b"hel".as_slice());
+    assert_eq!(rt; shown(&rt, ring.world(), 0)?.as_slice(), b"hel".as_slice());
+    Ok(())
+}
+
+// One execution: its name, the kind of the handle 0 and what is fed to it, the call, the count, the bytes to send, the bytes that come,
+// the outcome, and what a look at the handle 0 and at the pipe 1 shows then.
+#[rattlefmt::skip]
+const MOVED: [(&str, HandleKind, &str, Call, u32, &str, &str, Outcome, &str, &str); 10] = [
+    ("recvmsg", HandleKind::Datagram, "abc", Call::MessageIn { h: 0, ask: 2 }, 2, "", "ab", Outcome::From(2, 5), "", ""),
+    ("sendmsg", HandleKind::Datagram, "", Call::MessageOut { h: 0, addr: Some(7), ask: 2 }, 2, "xy", "", Outcome::Count(2), "+xy", ""),
+    ("read", HandleKind::File, "abc", Call::ReadAt { h: 0, pos: 1, ask: 9 }, 2, "", "bc", Outcome::Count(2), "abc", ""),
+    ("write over", HandleKind::File, "abc", Call::WriteAt { h: 0, pos: 1, ask: 1 }, 1, "x", "", Outcome::Count(1), "axc", ""),
+    ("write past", HandleKind::File, "abc", Call::WriteAt { h: 0, pos: 2, ask: 2 }, 2, "xy", "", Outcome::Count(2), "abxy", ""),
+    ("write a gap", HandleKind::File, "a", Call::WriteAt { h: 0, pos: 2, ask: 1 }, 1, "x", "", Outcome::Count(1), "a\0x", ""),
+    ("spliceto", HandleKind::Stream, "abc", Call::ToPipe { h: 0, pipe: 1, ask: 9 }, 3, "", "", Outcome::Count(3), "", "abc"),
+    ("send to a pipe", HandleKind::Pipe, "ab", Call::Out { h: 0, ask: 1 }, 1, "x", "", Outcome::Count(1), "abx", ""),
+    ("open", HandleKind::Stream, "", Call::Open, 0, "", "", Outcome::Made(2), "", ""),
+    ("polladd", HandleKind::Stream, "", Call::PollAdd { h: 0, read: true }, 0, "", "", Outcome::Count(0), "", ""),
+];
+
+// A ring with a handle of a kind, to which bytes were fed, and a pipe, with one call in flight.
+fn calling_ring(alloc: Global, kind: HandleKind, fed: &str, call: Call) -> Result<MemRing, Fail> {
+    let mut ring = MemRing::new(alloc, 1);
+    let h = ring.world().give(kind)?;
+    if kind != HandleKind::Datagram {
+        ring.world().feed(h, fed.as_bytes())?;
+    } else if !fed.is_empty() {
+        ring.world().feed_message(h, 5, fed.as_bytes())?;
+    }
+    let _ = ring.world().give(HandleKind::Pipe)?;
+    let _ = submit(&mut ring, Entry::call(5, 7, call))?;
+    Ok(ring)
+}
+
+#[test]
+fn what_moves_is_that_of_the_call(rt: HostRuntime) -> Result<(), Fail> {
+    for (name, kind, fed, call, k, sent, came, outcome, first, pipe) in MOVED {
+        let mut ring = calling_ring(rt.alloc(), kind, fed, call)?;
+        let mut got = ByteList::new(rt.alloc());
+        let done = ring.finish_at(0, Told::Count(k), sent.as_bytes(), &mut got);
+        let told = done.map(|completion| completion.outcome);
+        assert_eq!(rt; told, Ok(outcome), "in the row {name}");
+        assert_eq!(rt; got.as_slice(), came.as_bytes(), "in the row {name}");
+        let (one, two) = (shown(&rt, ring.world(), 0)?, shown(&rt, ring.world(), 1)?);
+        assert_eq!(rt; one.as_slice(), first.as_bytes(), "in the row {name}");
+        assert_eq!(rt; two.as_slice(), pipe.as_bytes(), "in the row {name}");
+    }
     Ok(())
 }
 
@@ -177,9 +240,7 @@ fn an_execution_sends_from_its_payload_and_stores_into_it(rt: HostRuntime) -> Re
     );
 
     assert_eq!(rt; payloads.came.as_slice(), b"ab".as_slice());
-    assert!(rt; ring.world().count() > 0);
-    let Look::Bytes(shown) = ring.world().look(0)?;
-    assert_eq!(rt; shown.as_slice(), b"xy".as_slice());
+    assert_eq!(rt; shown(&rt, ring.world(), 0)?.as_slice(), b"xy".as_slice());
     Ok(())
 }
 
@@ -304,9 +365,7 @@ fn an_error_is_allowed_by_its_number_and_moves_nothing(rt: HostRuntime) -> Resul
         };
         assert_eq!(rt; finished, want, "the error {e}");
         assert!(rt; got.as_slice().is_empty(), "the error {e}");
-        assert!(rt; ring.world().count() > 0);
-        let Look::Bytes(shown) = ring.world().look(0)?;
-        assert!(rt; shown.as_slice().is_empty(), "the error {e}");
+        assert!(rt; shown(&rt, ring.world(), 0)?.is_empty(), "the error {e}");
     }
     Ok(())
 }

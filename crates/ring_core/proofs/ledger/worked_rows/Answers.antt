@@ -61,3 +61,43 @@ returns-clause-parts_send c = refl
 pub returns-clause-close_under_read : goal.returns-clause-close_under_read
 unfolding step
 returns-clause-close_under_read c = refl
+
+pub returns-clause-canceled_group : goal.returns-clause-canceled_group
+unfolding step
+returns-clause-canceled_group c = refl
+
+pub returns-clause-full_queue_group : goal.returns-clause-full_queue_group
+unfolding step
+returns-clause-full_queue_group c = refl
+
+pub returns-clause-group_members : goal.returns-clause-group_members
+unfolding step
+returns-clause-group_members c = refl
+
+pub returns-clause-messages_in_and_out : goal.returns-clause-messages_in_and_out
+unfolding step
+returns-clause-messages_in_and_out c = refl
+
+pub returns-clause-file_positions : goal.returns-clause-file_positions
+unfolding step
+returns-clause-file_positions c = refl
+
+pub returns-clause-splices : goal.returns-clause-splices
+unfolding step
+returns-clause-splices c = refl
+
+pub returns-clause-plain_requests : goal.returns-clause-plain_requests
+unfolding step
+returns-clause-plain_requests c = refl
+
+pub returns-clause-abandoned_accept : goal.returns-clause-abandoned_accept
+unfolding step
+returns-clause-abandoned_accept c = refl
+
+pub returns-clause-echo_server : goal.returns-clause-echo_server
+unfolding step
+returns-clause-echo_server c = refl
+
+pub returns-clause-opened_file : goal.returns-clause-opened_file
+unfolding step
+returns-clause-opened_file c = refl

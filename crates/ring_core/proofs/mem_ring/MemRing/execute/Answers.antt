@@ -4,13 +4,13 @@ use Rattle.ring_core.specs.MemRing.{IsExecuted, completed}
 use Rattle.ring_core.proofs.Executed.{run-executed}
 use Rattle.ring_core.proofs.mem_ring.MemRing.execute.Goals as goal
 
-pub returns-in-Ok : goal.returns-in-Ok
-returns-in-Ok g c =
+pub returns-in-Ok-clause-executes : goal.returns-in-Ok-clause-executes
+returns-in-Ok-clause-executes g c =
     subst (λ old. IsExecuted g.P.Payloads.offered g.P.Payloads.stores old c.args.place c.args.told c.complete.new.self c.args.payloads.now
     c.execute.new.payloads c.complete.result)
     c.self.view_is
     (run-executed _ _ _ _ c.execute.new.self _ _ _ _ c.in-Some.flight c.in-Ok.outcome _
-    (sym c.in-Some.ensures.value) c.in-Ok.ensures
+    (sym c.in-Some.ensures.value) c.in-Ok.ensures.runs
     (subst (λ (f : InFlight). c.complete.new.self ≡ completed (record {
       capacity = c.self.inside.entries;
       queue = c.self.inside.queue.items;
