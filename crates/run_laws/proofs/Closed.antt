@@ -19,6 +19,7 @@ use Rattle.run_laws.proofs.Times.{times, times-some, times-there, times-once}
 use Rattle.run_laws.proofs.Replies.{reply-at, reply-event, after-next}
 use Rattle.run_laws.proofs.Closing.{closed_by, Ends, ends-step}
 use Rattle.run_laws.proofs.Unused.{Unused, unused-step}
+use Rattle.run_laws.proofs.Made.{made-only, Unreturned, unreturned-now, unreturned-next, abandoned}
 
 -- A reply that names a close is that of a Turn.
 turned-some : (r : Reply) (h : ℕ) → 1 ≤ times h (closed_by r) →
@@ -32,13 +33,14 @@ module _ (capacity : ℕ) (events : List Event) where
   answers = replies (empty capacity) events
 
   -- What holds of the closes before the event at k: a handle that nobody holds has its close in the lists, or it was named; one
-  -- whose close was named is there, nobody holds it, and its close is in no list; and one that its user doesn't hold was released.
+  -- whose close was named is there, nobody holds it, and its close is in no list; and one that its user doesn't hold was released, or an
+  -- operation made it that wasn't returned.
   record Settled (k : ℕ) (L : Ledger) : Type 0 where
     waiting : (h : ℕ) → h < length L.owners → is_unheld L h ≡ true → (1 ≤ close_count L h) ⊎ IsClosedBefore answers h k
     within : (h : ℕ) → IsClosedBefore answers h k → h < length L.owners
     unheld : (h : ℕ) → IsClosedBefore answers h k → is_unheld L h ≡ true
     none : (h : ℕ) → IsClosedBefore answers h k → close_count L h ≡ 0
-    released : (h : ℕ) → Unused L h → IsReleasedBefore events answers h k
+    released : (h : ℕ) → Unused L h → IsReleasedBefore events answers h k ⊎ Unreturned capacity events h k
 
   -- What a reply that names a close says: the closes named are those of the step.
   names-times : (k h place : ℕ) (r : Reply) → slice_get answers k ≡ Some r → NamesClosed answers h k place → 1 ≤ times h (closed_by r)
@@ -62,7 +64,7 @@ module _ (capacity : ℕ) (events : List Event) where
 
     -- What the step makes of the closes.
     pub ends : Ends old new (closed_by (step old e).1)
-    ends = ends-step old e lawful
+    ends = ends-step old e lawful (made-only capacity events k)
 
     -- The reply to it.
     reply : slice_get answers k ≡ Some (step old e).1
@@ -129,13 +131,22 @@ module _ (capacity : ℕ) (events : List Event) where
         | inr before ↦ inr (before-next h before)
       ]
 
-      -- A handle that its user doesn't hold was released now, or before.
-      released-next : (h : ℕ) → Unused new h → IsReleasedBefore events answers h (suc k)
-      released-next h u = elim (unused-step old e h u) [
-        | inl v ↦ (
-            let r = settled.released h v in
-            record { release = r.release; before = (let b = r.before in omega (arith, b)); event = r.event; reply = r.reply })
-        | inr f ↦ record { release = k; before = omega arith; event = here ∙ ap Some f.0; reply = reply ∙ ap Some f.1 }
+      -- A handle that its user doesn't hold was released now, or before, or an operation made it that wasn't returned.
+      released-next : (h : ℕ) → Unused new h → IsReleasedBefore events answers h (suc k) ⊎ Unreturned capacity events h (suc k)
+      released-next h u = elim (unused-step old e h lawful.known u) [
+        | inl v ↦ elim (settled.released h v) [
+          | inl r ↦ inl (record {
+            release = r.release;
+            before = (let b = r.before in omega (arith, b));
+            event = r.event;
+            reply = r.reply;
+          })
+          | inr r ↦ inr (unreturned-next capacity events k e here h u r)
+        ]
+        | inr x ↦ elim x [
+          | inl f ↦ inl (record { release = k; before = omega arith; event = here ∙ ap Some f.0; reply = reply ∙ ap Some f.1 })
+          | inr m ↦ inr (unreturned-now capacity events k e here h m.0 m.1)
+        ]
       ]
 
       -- One event more.
@@ -217,12 +228,16 @@ module _ (capacity : ℕ) (events : List Event) where
   pub named-at : (h i place : ℕ) (x : NamesClosed answers h i place) (e : Event) (here : slice_get events i ≡ Some e) → Named i e here h
   named-at h i place x e here = named-now i e here h place x
 
-  -- A Turn names the close of a handle only after an unrefused Close of it.
-  pub closed-when-released : ClosedWhenReleased events answers
+  -- A Turn names the close of a handle only after an unrefused Close of it, or where it was abandoned.
+  pub closed-when-released : ClosedWhenReleased capacity events answers
   closed-when-released h i place x =
       let e = event-of h i place x in
       let n = named-at h i place x e.0 e.1 in
-      (settled-at i e.0 e.1).released h (n.within, (unheld-is (ledger_before capacity events i) h n.unheld).user)
+      let unheld : is_unheld (ledger_before capacity events i) h ≡ true = n.unheld in
+      elim ((settled-at i e.0 e.1).released h (n.within, (unheld-is (ledger_before capacity events i) h unheld).user)) [
+        | inl r ↦ inl r
+        | inr r ↦ inr (abandoned capacity events h i (let l = slice_get_within events i e.0 e.1 in omega (arith, l)) unheld r)
+      ]
 
   -- The close of a handle is in the lists at most once, and only where nobody holds it.
   pub closed-only : ClosedOnly capacity events

@@ -1,44 +1,53 @@
 -- What a step makes of the closes of handles, by what its reply names.
-use Rattle.std.proofs.Common.{◌≡◌, inl, inr, ℕ, ◌+◌, ◌≤◌, ◌<◌, true, false, List, [], ◌∷◌, length, Option}
-use Rattle.std.proofs.Common.{None, Some, slice_get, refl, sym, ◌∙◌, ap, subst, arith, length-append}
+use Rattle.std.proofs.Common.{◌≡◌, inl, inr, ℕ, ◌+◌, ◌≤◌, ◌<◌, Bool, true, false, List, [], ◌∷◌, length, map, Option}
+use Rattle.std.proofs.Common.{None, Some, slice_get, refl, sym, ◌∙◌, ap, subst, arith, true≢false, length-append}
 use Rattle.rent_buf.specs.Buffer.{Buffer}
 use Rattle.rent_buf.specs.Parts.{Parts}
 use Rattle.ring_core.specs.declared.request.Request.{Request}
 use Rattle.ring_core.specs.declared.request.Told.{Told}
 use Rattle.ring_core.specs.declared.world.HandleState.{HandleState}
 use Rattle.ring_core.specs.declared.ledger.Event.{Event}
-use Rattle.ring_core.specs.declared.ledger.Event.TheVariants.{Give, Feed, End, Look, Close, Submit, Poll, Drop, Cancel, Turn, Exec}
+use Rattle.ring_core.specs.declared.ledger.Event.TheVariants.{Give, Feed, FeedMessage, End, Look, Close, Submit, Poll, Drop, Cancel, Turn}
+use Rattle.ring_core.specs.declared.ledger.Event.TheVariants.{Exec}
+use Rattle.ring_core.specs.declared.ledger.Event.TheVariants.{NewCanceller, NewHandle, CancelAll}
 use Rattle.ring_core.specs.declared.ledger.Refusal.{Refusal}
 use Rattle.ring_core.specs.declared.ledger.Reply.{Reply}
 use Rattle.ring_core.specs.declared.ledger.Reply.TheVariants.{Turned}
 use Rattle.ring_core.specs.Lists.{passes, has_number}
 use Rattle.ring_core.specs.World.{fresh}
-use Rattle.ring_core.specs.Request.{named}
+use Rattle.ring_core.specs.Request.{named, call_of, sent_of}
+use Rattle.ring_core.specs.Effect.{Effect, made_by}
 use Rattle.ring_core.specs.Ledger.{Ledger, Operation, Place, InQueue, InFlight, InDone, Reaped, Gone, Queued, Req, Item, Op}
-use Rattle.ring_core.specs.Ledger.{new_operation, is_kept, is_live, user_holds}
-use Rattle.ring_core.specs.Queue.{with_op, take_all, make_room, append, push, leave, is_unheld}
-use Rattle.ring_core.specs.Turn.{closes_in, turn_step, exec_op, exec_step, complete_at, effect_of, with_result}
-use Rattle.ring_core.specs.Step.{new_owner, give_step, step, row, with_new_op, submit_step, with_task, poll_at, poll_step, with_drop}
-use Rattle.ring_core.specs.Step.{drop_at, drop_step}
+use Rattle.ring_core.specs.Ledger.{new_operation, is_kept, is_live, user_holds, is_under_marked, group_under, members}
+use Rattle.ring_core.specs.Queue.{with_op, take_all, make_room, append, push, push_each, leave, is_unheld}
+use Rattle.ring_core.specs.Turn.{closes_in, turn_step, exec_op, exec_step, complete_at, effect_of, made_owners, with_effect}
+use Rattle.ring_core.specs.Step.{new_owner, give_step, step, row, with_new_op, submit_step, with_task, handed_over, poll_at, poll_step}
+use Rattle.ring_core.specs.Step.{with_drop}
+use Rattle.ring_core.specs.Step.{drop_at, drop_step, submit_if, new_canceller_step, group_of, new_handle_step, with_mark, renew_group}
+use Rattle.ring_core.specs.Step.{cancel_all_step}
 use Rattle.ring_core.specs.Refusal.{cause}
-use Rattle.ring_core.specs.Closes.{close_count, ClosesOnce}
+use Rattle.ring_core.specs.Closes.{AreKnown, close_count, ClosesOnce, made_at, MadeAlone}
 use Rattle.ring_core.proofs.Numbers.{below-or-not}
 use Rattle.ring_core.proofs.Amended.{get-amended-same}
 use Rattle.ring_core.proofs.Appended.{get-append-within, get-append-end}
 use Rattle.ring_core.proofs.Taken.{queue-take_each}
 use Rattle.ring_core.proofs.Occurring.{closes_queued-append}
 use Rattle.ring_core.proofs.Staying.{Stays, stays-make_room}
-use Rattle.ring_core.proofs.Holders.{AreLive, live-none, holders-own, holders-take_all, held-by_user, unheld-at, unheld-same}
-use Rattle.ring_core.proofs.Closing.{count-take_all, count-complete_at}
+use Rattle.ring_core.proofs.Holders.{AreLive, live-none, live-push_cancel, holders-own, holders-take_all, held-by_user, unheld-at}
+use Rattle.ring_core.proofs.Holders.{unheld-same, held-by_op}
+use Rattle.ring_core.proofs.Closing.{count-take_all, count-complete_at, known-lists}
 use Rattle.ring_core.proofs.Once.{once-fewer, once-take_all}
-use Rattle.ring_core.proofs.Turning.{apart-none, live-gone}
+use Rattle.ring_core.proofs.Turning.{apart-none, live-gone, Grows, grows-effect, unheld-with_effect}
 use Rattle.ring_core.proofs.Taking.{in_queue, Listed}
 use Rattle.ring_core.proofs.Listed.{submit-joined, listed-changed, flying-there}
 use Rattle.ring_core.proofs.Stepping.{step-refused, step-row, OwnedAt, found, executed-there, closed-held, submitted-held}
-use Rattle.ring_core.proofs.Lawful.{Lawful, listed-live, listed-unasked}
+use Rattle.ring_core.proofs.Lawful.{Lawful, listed-live, listed-unasked, handed-there}
+use Rattle.ring_core.proofs.Alone.{made-there, made-holding, listed-handed}
+use Rattle.ring_core.proofs.Makes.{closing-handed, unheld-before}
 use Rattle.ring_core.proofs.Unheld.{Closing, closing-same, closing-then, closing-op, closing-take_all, closing-make_room, closing-new_op}
 use Rattle.ring_core.proofs.Unheld.{closing-push, closing-leave, closing-close, closing-reap_each}
 use Rattle.run_laws.proofs.Times.{times, times-closes}
+use Rattle.run_laws.proofs.Looks.{looked}
 
 -- The handles whose closes a reply names.
 abbrev pub closed_by : Reply → List ℕ
@@ -97,39 +106,79 @@ ends-give L handle =
     }
 
 -- A new operation on handles that its user holds.
-ends-submit : (L : Ledger) (request : Request Buffer Parts) →
-    ((h : ℕ) → has_number h (named request) ≡ true → user_holds L h ≡ true) → Lawful L → Ends L (submit_step L request) []
-ends-submit L request holds l =
+ends-submit : (L : Ledger) (request : Request Buffer Parts) (group : Option ℕ) →
+    ((h : ℕ) → has_number h (named request) ≡ true → user_holds L h ≡ true) → Lawful L → Ends L (submit_step L request group) []
+ends-submit L request group holds l =
     let M : Ledger = make_room L in
-    let N : Ledger = with_new_op M (new_operation request) in
+    let N : Ledger = with_new_op M (new_operation request group) in
     let stays : Stays L M = stays-make_room L in
-    let new : Closing M N = closing-new_op M (new_operation request) (λ h names. held-by_user M h
+    let new : Closing M N = closing-new_op M (new_operation request group) (λ h names. held-by_user M h
     (ap (λ owners. user_holds (record L { owners = owners }) h) stays.owners ∙ holds h names)) in
     let asked : Closing N (append N (Req (length M.ops))) = closing-same N (append N (Req (length M.ops))) refl
     (record { users = λ h. refl; ops = λ h. refl })
     (λ h. (let a = closes_queued-append h N.queue (Req (length M.ops) ∷ []) in omega (arith, a))) in
-    subst (λ K. Ends L K []) (sym (submit-joined L request l.lists))
+    subst (λ K. Ends L K []) (sym (submit-joined L request group l.lists))
     (ends-quiet (closing-then (closing-make_room L (listed-live L l.lists)) (closing-then new asked)))
+
+-- A submission, under a marked group or not.
+ends-submit_if : (b : Bool) (L : Ledger) (request : Request Buffer Parts) (group : Option ℕ) →
+    ((h : ℕ) → has_number h (named request) ≡ true → user_holds L h ≡ true) → Lawful L →
+    Ends L (submit_if b L request group).0 (closed_by (submit_if b L request group).1)
+ends-submit_if true L request group holds l = ends-same L
+ends-submit_if false L request group holds l = ends-submit L request group holds l
 
 -- A cancel that is pushed.
 closing-cancel : (L : Ledger) (n : ℕ) → AreLive L.ops L.queue → Closing L (push L (Queued.Cancel n))
 closing-cancel L n live = closing-push L (Queued.Cancel n) (λ h. refl) live
 
+-- Other groups.
+closing-groups : (L : Ledger) (cancellers cancel_handles : List ℕ) (groups : List Bool) →
+    Closing L (record L { cancellers = cancellers; cancel_handles = cancel_handles; groups = groups })
+closing-groups L cancellers cancel_handles groups =
+    closing-same L (record L { cancellers = cancellers; cancel_handles = cancel_handles; groups = groups }) refl
+    (record { users = λ h. refl; ops = λ h. refl }) (λ h. refl)
+
+-- Cancels that are pushed.
+closing-cancels : (L : Ledger) (numbers : List ℕ) → AreLive L.ops L.queue → Closing L (push_each L (map Queued.Cancel numbers))
+closing-cancels L [] live = closing-same L L refl (holders-own L) (λ h. refl)
+closing-cancels L (n ∷ numbers) live =
+    closing-then (closing-cancel L n live) (closing-cancels (push L (Queued.Cancel n)) numbers (live-push_cancel L n live))
+
+-- A group that is canceled.
+closing-cancel_all : (L : Ledger) (c g : ℕ) → AreLive L.ops L.queue → Closing L (cancel_all_step L c g)
+closing-cancel_all L c g live =
+    let M : Ledger = with_mark L g in
+    let N : Ledger = push_each M (map Queued.Cancel (members L g)) in
+    closing-then (closing-groups L L.cancellers L.cancel_handles M.groups)
+    (closing-then (closing-cancels M (members L g) (record { live = live.live }))
+    (closing-groups N (renew_group N c).cancellers N.cancel_handles (renew_group N c).groups))
+
 -- A reaped operation that leaves.
-closing-left : (L : Ledger) (n : ℕ) (o : Operation) (p : Place) → slice_get L.ops n ≡ Some o → in_queue o.place ≡ 0 → Listed L →
-    Closing L (leave L n)
-closing-left L n o p there none lists =
+closing-left : (L : Ledger) (n : ℕ) (o : Operation) → slice_get L.ops n ≡ Some o → in_queue o.place ≡ 0 → Listed L → Closing L (leave L n)
+closing-left L n o there none lists =
     closing-leave L n (live-gone L.ops L.queue n (listed-unasked L n o lists there none) (listed-live L lists))
 
+-- An operation that a task waits for.
+closing-waits : (L : Ledger) (n task : ℕ) → Closing L (with_op L n (with_task task))
+closing-waits L n task = closing-op L n (with_task task) (λ q is. record { request = refl; made = refl; live = refl })
+
+-- A reaped operation that is returned, and the handle that it made is handed over.
+closing-returned : (L : Ledger) (n : ℕ) (o : Operation) → slice_get L.ops n ≡ Some o → is_live o ≡ true → in_queue o.place ≡ 0 → Lawful L →
+    Closing L (leave (handed_over L o.made) n)
+closing-returned L n o there live none l =
+    closing-then
+    (closing-handed L o.made
+    (λ h made. (made-there L n h o l.known there made, held-by_op L h n o there (made-holding h o live made))))
+    (closing-left (handed_over L o.made) n o (handed-there L o.made n o there) none (listed-handed L o.made l.lists))
+
 -- A poll, by the place of its operation.
-ends-poll : (L : Ledger) (n task : ℕ) (o : Operation) → slice_get L.ops n ≡ Some o → Listed L → (p : Place) → o.place ≡ p →
+ends-poll : (L : Ledger) (n task : ℕ) (o : Operation) → slice_get L.ops n ≡ Some o → Lawful L → (p : Place) → o.place ≡ p →
     Ends L (poll_at L n task o p).0 (closed_by (poll_at L n task o p).1)
-ends-poll L n task o there lists InQueue at = ends-quiet (closing-op L n (with_task task) (λ q is. record { request = refl; live = refl }))
-ends-poll L n task o there lists InFlight at = ends-quiet (closing-op L n (with_task task) (λ q is. record { request = refl; live = refl }))
-ends-poll L n task o there lists (InDone outcome) at =
-    ends-quiet (closing-op L n (with_task task) (λ q is. record { request = refl; live = refl }))
-ends-poll L n task o there lists (Reaped outcome) at = ends-quiet (closing-left L n o (Reaped outcome) there (ap in_queue at) lists)
-ends-poll L n task o there lists Gone at = ends-quiet (closing-op L n (with_task task) (λ q is. record { request = refl; live = refl }))
+ends-poll L n task o there l (Reaped outcome) at = ends-quiet (closing-returned L n o there (ap is_kept at) (ap in_queue at) l)
+ends-poll L n task o there l InQueue at = ends-quiet (closing-waits L n task)
+ends-poll L n task o there l InFlight at = ends-quiet (closing-waits L n task)
+ends-poll L n task o there l (InDone outcome) at = ends-quiet (closing-waits L n task)
+ends-poll L n task o there l Gone at = ends-quiet (closing-waits L n task)
 
 -- A drop, by the place of its operation.
 closing-drop : (L : Ledger) (n : ℕ) (o : Operation) → slice_get L.ops n ≡ Some o → Listed L → (p : Place) → o.place ≡ p →
@@ -137,7 +186,7 @@ closing-drop : (L : Ledger) (n : ℕ) (o : Operation) → slice_get L.ops n ≡ 
 closing-drop L n o there lists InQueue at = closing-cancel L n (listed-live L lists)
 closing-drop L n o there lists InFlight at = closing-cancel L n (listed-live L lists)
 closing-drop L n o there lists (InDone outcome) at = closing-cancel L n (listed-live L lists)
-closing-drop L n o there lists (Reaped outcome) at = closing-left L n o (Reaped outcome) there (ap in_queue at) lists
+closing-drop L n o there lists (Reaped outcome) at = closing-left L n o there (ap in_queue at) lists
 closing-drop L n o there lists Gone at = closing-cancel L n (listed-live L lists)
 
 -- A turn names the closes that are done.
@@ -172,60 +221,84 @@ ends-turn L l =
       few = λ h. (let b = all h in let c = times-closes h T.done in omega (arith, b, c));
     }
 
+-- An operation that made nothing yet, and isn't gone, is executed.
+ends-effect : (L : Ledger) (n : ℕ) (o : Operation) (told : Told) (result : Effect) → Grows L.world result → AreKnown L →
+    slice_get L.ops n ≡ Some o → is_live o ≡ true → o.made ≡ None → Ends L (with_effect L n told result) []
+ends-effect L n o told result grows known there live none =
+    let count = length-append L.owners (made_owners (made_by result.outcome)) in
+    let lives : (p : Operation) → slice_get L.ops n ≡ Some p → is_live p ≡ true = λ p at.
+    (let q : o ≡ p = (let w = sym there ∙ at in cc) in ap is_live (sym q) ∙ live) in
+    record {
+      more = omega (arith, count);
+      stays = λ h within is. unheld-with_effect L n told result grows lives known h within is;
+      closes = λ h within is. omega arith;
+      comes = λ h within held is. (
+          let b = unheld-before L n o told result grows known there live none h within is in
+          absurd (true≢false (sym b.1 ∙ held b.0)));
+      few = λ h. omega arith;
+    }
+
 -- An execution of what is in flight.
-ends-exec : (L : Ledger) (place : ℕ) (told : Told) (item : Item) → slice_get L.flying place ≡ Some item → Listed L →
+ends-exec : (L : Ledger) (place : ℕ) (told : Told) (item : Item) → slice_get L.flying place ≡ Some item → Lawful L → MadeAlone L →
     Ends L (exec_step L place told (Some item)).0 (closed_by (exec_step L place told (Some item)).1)
-ends-exec L place told (Op m) there lists =
-    let f = flying-there L place m lists there in
+ends-exec L place told (Op m) there l a =
+    let f = flying-there L place m l.lists there in
     let C : Ledger = complete_at L place (Op m) in
-    let completed : Closing L C =
-    closing-same L C refl (record { users = λ h. refl; ops = λ h. refl }) (λ h. count-complete_at L place (Op m) h there) in
-    let result = effect_of L f.0.request told in
-    let executed : Closing C (with_op C m (with_result told result)) = closing-op C m (with_result told result)
-    (λ o at. (let q : f.0 ≡ o = (let w = sym f.1 ∙ at in cc) in
-    record { request = refl; live = sym (ap is_live (sym q) ∙ ap is_kept f.2) })) in
-    subst (λ x. Ends L (exec_op C m told x) []) (sym f.1) (ends-beside (ends-quiet (closing-then completed executed)) result.world)
-  where
-    ends-beside : {M : Ledger} → Ends L M [] → (world : List HandleState) → Ends L (record M { world = world }) []
-    ends-beside e world = record { more = e.more; stays = e.stays; closes = e.closes; comes = e.comes; few = e.few }
-ends-exec L place told (Item.Close k) there lists =
+    let e = ends-effect C m f.0 told (effect_of L f.0.request told)
+    (grows-effect L.world (call_of f.0.request) (sent_of f.0.request) told) (known-lists L L.queue C.flying C.done l.known) f.1
+    (ap is_kept f.2) (a.agrees m f.0 f.1 (ap is_kept f.2) ∙ ap made_at f.2) in
+    subst (λ x. Ends L (exec_op C m told x) []) (sym f.1) (record {
+      more = e.more;
+      stays = e.stays;
+      closes = λ h within is. e.closes h within is ∙ count-complete_at L place (Op m) h there;
+      comes = e.comes;
+      few = λ h. omega arith;
+    })
+ends-exec L place told (Item.Close k) there l a =
     let C : Ledger = complete_at L place (Item.Close k) in
     ends-quiet (closing-same L C refl (record { users = λ h. refl; ops = λ h. refl })
     (λ h. count-complete_at L place (Item.Close k) h there))
 
 -- The row of an event that isn't refused.
-ends-row : (L : Ledger) (e : Event) → cause L e ≡ None → Lawful L → Ends L (row L e).0 (closed_by (row L e).1)
-ends-row L (Give kind) u l = ends-give L (fresh kind)
-ends-row L (Feed h bytes) u l = ends-world L _
-ends-row L (End h) u l = ends-world L _
-ends-row L (Look h) u l = ends-same L
-ends-row L (Close h) u l =
+ends-row : (L : Ledger) (e : Event) → cause L e ≡ None → Lawful L → MadeAlone L → Ends L (row L e).0 (closed_by (row L e).1)
+ends-row L (Give kind) u l a = ends-give L (fresh kind)
+ends-row L (Feed h bytes) u l a = ends-world L _
+ends-row L (FeedMessage h addr bytes) u l a = ends-world L _
+ends-row L (End h) u l a = ends-world L _
+ends-row L (Look h) u l a = looked (λ reply. Ends L L (closed_by reply)) L h (λ b. ends-same L) (λ m. ends-same L)
+ends-row L (Close h) u l a =
     ends-quiet (closing-close L h (held-by_user L h (closed-held L h u)) (listed-live L l.lists))
-ends-row L (Submit request) u l = ends-submit L request (submitted-held L request u) l
-ends-row L (Poll n task) u l =
+ends-row L (Submit request under) u l a =
+    ends-submit_if (is_under_marked L under) L request (group_under L under) (submitted-held L request under u) l
+ends-row L (Poll n task) u l a =
     let f : OwnedAt L n = found L n u in
     subst (λ x. Ends L (poll_step L n task x).0 (closed_by (poll_step L n task x).1)) (sym f.there)
-    (ends-poll L n task f.operation f.there l.lists f.operation.place refl)
-ends-row L (Drop n) u l =
+    (ends-poll L n task f.operation f.there l f.operation.place refl)
+ends-row L (Drop n) u l a =
     let f : OwnedAt L n = found L n u in
     let D : Ledger = with_op L n with_drop in
     subst (λ x. Ends L (drop_step L n x).0 (closed_by (drop_step L n x).1)) (sym f.there)
-    (ends-quiet (closing-then (closing-op L n with_drop (λ q is. record { request = refl; live = refl }))
+    (ends-quiet (closing-then (closing-op L n with_drop (λ q is. record { request = refl; made = refl; live = refl }))
     (closing-drop D n (with_drop f.operation) (get-amended-same with_drop L.ops n f.operation f.there)
     (listed-changed L n with_drop f.operation l.lists f.there (record { queue = refl; flight = refl; done = refl }))
     f.operation.place refl)))
-ends-row L (Cancel n) u l = ends-quiet (closing-cancel L n (listed-live L l.lists))
-ends-row L Turn u l = ends-turn L l
-ends-row L (Exec place told) u l =
+ends-row L (Cancel n) u l a = ends-quiet (closing-cancel L n (listed-live L l.lists))
+ends-row L NewCanceller u l a =
+    let N : Ledger = new_canceller_step L in ends-quiet (closing-groups L N.cancellers L.cancel_handles N.groups)
+ends-row L (NewHandle c) u l a = ends-quiet (closing-groups L L.cancellers (new_handle_step L c).cancel_handles L.groups)
+ends-row L (CancelAll c) u l a = ends-quiet (closing-cancel_all L c (group_of L c) (listed-live L l.lists))
+ends-row L Turn u l a = ends-turn L l
+ends-row L (Exec place told) u l a =
     let i = executed-there L place told u in
     subst (λ x. Ends L (exec_step L place told x).0 (closed_by (exec_step L place told x).1)) (sym i.1)
-    (ends-exec L place told i.0 i.1 l.lists)
+    (ends-exec L place told i.0 i.1 l a)
 
 -- An event, by its cause.
-ends-cause : (L : Ledger) (e : Event) (c : Option Refusal) → cause L e ≡ c → Lawful L → Ends L (step L e).0 (closed_by (step L e).1)
-ends-cause L e None h l = subst (λ s. Ends L s.0 (closed_by s.1)) (sym (step-row L e h)) (ends-row L e h l)
-ends-cause L e (Some refusal) h l = subst (λ s. Ends L s.0 (closed_by s.1)) (sym (step-refused L e refusal h)) (ends-same L)
+ends-cause : (L : Ledger) (e : Event) (c : Option Refusal) → cause L e ≡ c → Lawful L → MadeAlone L →
+    Ends L (step L e).0 (closed_by (step L e).1)
+ends-cause L e None h l a = subst (λ s. Ends L s.0 (closed_by s.1)) (sym (step-row L e h)) (ends-row L e h l a)
+ends-cause L e (Some refusal) h l a = subst (λ s. Ends L s.0 (closed_by s.1)) (sym (step-refused L e refusal h)) (ends-same L)
 
 -- A step.
-pub ends-step : (L : Ledger) (e : Event) → Lawful L → Ends L (step L e).0 (closed_by (step L e).1)
-ends-step L e l = ends-cause L e (cause L e) refl l
+pub ends-step : (L : Ledger) (e : Event) → Lawful L → MadeAlone L → Ends L (step L e).0 (closed_by (step L e).1)
+ends-step L e l a = ends-cause L e (cause L e) refl l a

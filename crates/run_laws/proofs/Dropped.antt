@@ -96,7 +96,7 @@ module _ (capacity : ℕ) (events : List Event) (k : ℕ) (L : Ledger) (lists : 
   trace-cancels : Trace capacity events (suc k) (push (with_op L n with_drop) (Queued.Cancel n))
   trace-cancels =
       trace-pushed capacity events (suc k) (with_op L n with_drop) n listed-marked trace-marked
-      (record { ask = k; before = omega arith; asked = inr drops })
+      (record { ask = k; before = omega arith; asked = inr (inl drops) })
 
   -- A Drop, by the place of the operation.
   pub trace-dropped : (p : Place) → o.place ≡ p → Trace capacity events (suc k) (drop_at (with_op L n with_drop) n p)

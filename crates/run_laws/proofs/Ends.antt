@@ -3,21 +3,27 @@
 use Rattle.std.proofs.Common.{◌≡◌, inl, inr, ℕ, zero, suc, ◌≤◌, Bool, true, false, not, List, [], ◌∷◌, length, Option, Some, None}
 use Rattle.std.proofs.Common.{slice_get, refl, sym, ◌∙◌, ap, subst, arith}
 use Rattle.std.specs.Prelude.{nat_le}
+use Rattle.rent_buf.specs.Buffer.{Buffer}
+use Rattle.rent_buf.specs.Parts.{Parts}
 use Rattle.rent_buf.specs.Held.{HeldBuf}
+use Rattle.ring_core.specs.declared.request.Request.{Request}
 use Rattle.ring_core.specs.declared.request.Told.{Told}
 use Rattle.ring_core.specs.declared.request.Told.TheVariants.{Fail}
 use Rattle.ring_core.specs.declared.ledger.Event.{Event}
-use Rattle.ring_core.specs.declared.ledger.Event.TheVariants.{Give, Feed, End, Look, Close, Submit, Poll, Drop, Cancel, Turn, Exec}
+use Rattle.ring_core.specs.declared.ledger.Event.TheVariants.{Give, Feed, FeedMessage, End, Look, Close, Submit, Poll, Drop, Cancel, Turn}
+use Rattle.ring_core.specs.declared.ledger.Event.TheVariants.{Exec}
+use Rattle.ring_core.specs.declared.ledger.Event.TheVariants.{NewCanceller, NewHandle, CancelAll}
 use Rattle.ring_core.specs.declared.ledger.Refusal.{Refusal}
 use Rattle.ring_core.specs.declared.ledger.Refusal.TheVariants.{NotFlying, BadOutcome}
 use Rattle.ring_core.specs.declared.ledger.Reply.TheVariants.{Turned}
 use Rattle.ring_core.specs.Lists.{passes}
 use Rattle.ring_core.specs.declared.request.TheConstants.{CANCELED}
 use Rattle.ring_core.specs.Ledger.{Ledger, Operation, Place, InQueue, InFlight, InDone, Reaped, Gone, Item, Op, empty}
+use Rattle.ring_core.specs.Ledger.{is_under_marked, group_under}
 use Rattle.ring_core.specs.Queue.{take_all}
 use Rattle.ring_core.specs.Turn.{ops_in, closes_in, tasks_woken, exec_step}
 use Rattle.ring_core.specs.Refusal.{cause, refused_if, allowed}
-use Rattle.ring_core.specs.Step.{step, row, answered, poll_at, poll_step, drop_step}
+use Rattle.ring_core.specs.Step.{step, row, answered, submit_if, poll_at, poll_step, drop_step}
 use Rattle.ring_core.specs.Run.{replies, ledger_before, IsReaped}
 use Rattle.run_laws.specs.Moments.{NamesReaped}
 use Rattle.run_laws.specs.Headline.{ReapNames, KeptUntilReaped, CanceledWhereAsked}
@@ -32,6 +38,7 @@ use Rattle.run_laws.proofs.Moments.{Placed, History}
 use Rattle.run_laws.proofs.Trace.{Trace}
 use Rattle.run_laws.proofs.Reached.{reached}
 use Rattle.run_laws.proofs.Polls.{traced, lists_before, executed-once}
+use Rattle.run_laws.proofs.Looks.{looked}
 
 -- What stands among completions is named at a place.
 listed-named : (n : ℕ) (items : List Item) → 1 ≤ listed n items → (place : ℕ) × (slice_get (ops_in items) place ≡ Some n)
@@ -80,17 +87,29 @@ exec-no-turn L place told None reaped closed woken h = cc
 exec-no-turn L place told (Some (Op n)) reaped closed woken h = cc
 exec-no-turn L place told (Some (Item.Close k)) reaped closed woken h = cc
 
+-- A submission isn't answered as a turn.
+submit-no-turn : (b : Bool) (L : Ledger) (request : Request Buffer Parts) (group : Option ℕ) (reaped closed woken : List ℕ) →
+    (submit_if b L request group).1 ≡ Turned reaped closed woken → ⊥
+submit-no-turn true L request group reaped closed woken h = cc
+submit-no-turn false L request group reaped closed woken h = cc
+
 -- Only a Turn is answered so.
 turn-row : (L : Ledger) (e : Event) (reaped closed woken : List ℕ) → (row L e).1 ≡ Turned reaped closed woken → e ≡ Turn
 turn-row L (Give kind) reaped closed woken h = cc
 turn-row L (Feed x bytes) reaped closed woken h = cc
+turn-row L (FeedMessage x addr bytes) reaped closed woken h = cc
 turn-row L (End x) reaped closed woken h = cc
-turn-row L (Look x) reaped closed woken h = cc
+turn-row L (Look x) reaped closed woken h =
+    absurd (looked (λ reply. reply ≡ Turned reaped closed woken → ⊥) L x (λ b q. cc) (λ m q. cc) h)
 turn-row L (Close x) reaped closed woken h = cc
-turn-row L (Submit request) reaped closed woken h = cc
+turn-row L (Submit request under) reaped closed woken h =
+    absurd (submit-no-turn (is_under_marked L under) L request (group_under L under) reaped closed woken h)
 turn-row L (Poll n task) reaped closed woken h = absurd (poll-step-no-turn L n task (slice_get L.ops n) reaped closed woken h)
 turn-row L (Drop n) reaped closed woken h = absurd (drop-no-turn L n (slice_get L.ops n) reaped closed woken h)
 turn-row L (Cancel n) reaped closed woken h = cc
+turn-row L NewCanceller reaped closed woken h = cc
+turn-row L (NewHandle c) reaped closed woken h = cc
+turn-row L (CancelAll c) reaped closed woken h = cc
 turn-row L Turn reaped closed woken h = refl
 turn-row L (Exec place told) reaped closed woken h = absurd (exec-no-turn L place told (slice_get L.flying place) reaped closed woken h)
 
@@ -118,7 +137,7 @@ turn-names L reaped closed woken h =
     (sym e ∙ ap ops_in d, sym f ∙ ap closes_in d)
 
 -- What stands in flight, and isn't refused its outcome, is allowed it.
-allowed-there : (L : Ledger) (told : Told) (b : Bool) (x : Option Item) →
+pub allowed-there : (L : Ledger) (told : Told) (b : Bool) (x : Option Item) →
     refused_if b NotFlying (refused_if (not (passes (λ item. allowed L item told) x)) BadOutcome None) ≡ None →
     passes (λ item. allowed L item told) x ≡ true
 allowed-there L told true x h = (let f : ⊥ = cc in absurd f)

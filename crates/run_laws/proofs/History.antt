@@ -47,7 +47,13 @@ module _ (capacity : ℕ) (events : List Event) (k : ℕ) (e : Event) (r : Reply
 
   -- One event more keeps each part of a history.
   pub given-next : (n : ℕ) (request : Request Buffer Parts) → Given capacity events k n request → Given capacity events (suc k) n request
-  given-next n request g = record { at = g.at; before = (let b = g.before in omega arith); event = g.event; reply = g.reply }
+  given-next n request g = record {
+    at = g.at;
+    before = (let b = g.before in omega arith);
+    under = g.under;
+    event = g.event;
+    reply = g.reply;
+  }
 
   -- What was executed and not reaped is so after an event that isn't a turn.
   stands-next : (n : ℕ) (outcome : Outcome) (buffer : HeldBuf) → (e ≡ Turn → ⊥) → Stands capacity events k n outcome buffer →

@@ -1,3 +1,4 @@
+pub mod Looks
 pub mod Asked
 pub mod Replies
 pub mod Numbers
@@ -12,6 +13,20 @@ pub mod Ends
 pub mod Times
 pub mod Closing
 pub mod Unused
+pub mod Made
+pub mod Used
+pub mod Handles
 pub mod Closed
 pub mod Over
+pub mod GroupReplies
+pub mod Origins
+pub mod Groups
+pub mod Counting
+pub mod Created
+pub mod AtOnce
+pub mod Canceled
+pub mod Files
+pub mod Passing
+pub mod Moves
+pub mod Bytes
 pub mod Laws

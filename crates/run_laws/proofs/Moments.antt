@@ -35,7 +35,8 @@ Drops capacity events n j = IsDropped events (replies (empty capacity) events) n
 pub record Given (capacity : ℕ) (events : List Event) (k n : ℕ) (request : Request Buffer Parts) : Type 0 where
   pub at : ℕ
   pub before : at < k
-  pub event : slice_get events at ≡ Some (Submit request)
+  pub under : Option ℕ
+  pub event : slice_get events at ≡ Some (Submit request under)
   pub reply : slice_get (replies (empty capacity) events) at ≡ Some (Submitted n)
 
 -- n was executed before k, and no Turn came since.

@@ -3,7 +3,9 @@ use Rattle.std.proofs.Common.{◌≡◌, ◌⊎◌, inl, inr, ℕ, ◌<◌, ◌�
 use Rattle.std.proofs.Common.{◌∙◌, ap, subst, arith}
 use Rattle.ring_core.specs.declared.request.Told.{Told}
 use Rattle.ring_core.specs.declared.ledger.Event.{Event}
-use Rattle.ring_core.specs.declared.ledger.Event.TheVariants.{Give, Feed, End, Look, Close, Submit, Poll, Drop, Cancel, Turn, Exec}
+use Rattle.ring_core.specs.declared.ledger.Event.TheVariants.{Give, Feed, FeedMessage, End, Look, Close, Submit, Poll, Drop, Cancel, Turn}
+use Rattle.ring_core.specs.declared.ledger.Event.TheVariants.{Exec}
+use Rattle.ring_core.specs.declared.ledger.Event.TheVariants.{NewCanceller, NewHandle, CancelAll}
 use Rattle.ring_core.specs.declared.ledger.Refusal.{Refusal}
 use Rattle.ring_core.specs.declared.ledger.Refusal.TheVariants.{NoOp}
 use Rattle.ring_core.specs.declared.ledger.Reply.TheVariants.{Refused}
@@ -24,13 +26,17 @@ use Rattle.run_laws.proofs.Polls.{traced, lists_before, answer, reaped-once}
 cause-about : (L : Ledger) (e : Event) (n : ℕ) → operation_of e ≡ Some n → cause L e ≡ refused_if (lacks_op L n) NoOp None
 cause-about L (Give kind) n h = (let f : ⊥ = cc in absurd f)
 cause-about L (Feed x bytes) n h = (let f : ⊥ = cc in absurd f)
+cause-about L (FeedMessage x addr bytes) n h = (let f : ⊥ = cc in absurd f)
 cause-about L (End x) n h = (let f : ⊥ = cc in absurd f)
 cause-about L (Look x) n h = (let f : ⊥ = cc in absurd f)
 cause-about L (Close x) n h = (let f : ⊥ = cc in absurd f)
-cause-about L (Submit request) n h = (let f : ⊥ = cc in absurd f)
+cause-about L (Submit request under) n h = (let f : ⊥ = cc in absurd f)
 cause-about L (Poll m task) n h = ap (λ k. refused_if (lacks_op L k) NoOp None) (let e : m ≡ n = cc in e)
 cause-about L (Drop m) n h = ap (λ k. refused_if (lacks_op L k) NoOp None) (let e : m ≡ n = cc in e)
 cause-about L (Cancel m) n h = ap (λ k. refused_if (lacks_op L k) NoOp None) (let e : m ≡ n = cc in e)
+cause-about L NewCanceller n h = (let f : ⊥ = cc in absurd f)
+cause-about L (NewHandle c) n h = (let f : ⊥ = cc in absurd f)
+cause-about L (CancelAll c) n h = (let f : ⊥ = cc in absurd f)
 cause-about L Turn n h = (let f : ⊥ = cc in absurd f)
 cause-about L (Exec place told) n h = (let f : ⊥ = cc in absurd f)
 
@@ -41,7 +47,7 @@ module _ (capacity : ℕ) (events : List Event) where
       record {
         given = g.at;
         before = (let b = g.before in omega arith);
-        is_given = record { request = o.request; event = g.event; reply = g.reply };
+        is_given = record { request = o.request; under = g.under; event = g.event; reply = g.reply };
       }
 
   -- Why an operation isn't its user's: it wasn't given before, or was handed over or dropped before.
@@ -141,15 +147,20 @@ module _ (capacity : ℕ) (events : List Event) where
       let h : History capacity events i n (Some f.0) = subst (History capacity events i n) f.1 (t.history n) in
       given-before n i j f.0 (omega arith) h.given
 
-  -- What was handed over was reaped before.
-  handed-reaped : (n i : ℕ) → Hands capacity events n i → IsReapedBefore capacity events n i
-  handed-reaped n i x = elim (about-cause n i (poll-about n i x.task x.event)) [
-    | inl a ↦ elim (answer capacity events n i (record { task = x.task; event = x.event; unrefused = a.0 })) [
-      | inl w ↦ absurd (let q = sym x.reply ∙ w.0 in let f : ⊥ = cc in f)
-      | inr w ↦ w.1
-    ]
+  -- The Poll that hands an operation over isn't refused.
+  pub handed-unrefused : (n i : ℕ) (x : Hands capacity events n i) → cause (ledger_before capacity events i) (Poll n x.task) ≡ None
+  handed-unrefused n i x = elim (about-cause n i (poll-about n i x.task x.event)) [
+    | inl a ↦ a.0
     | inr b ↦ absurd (let q = sym x.reply ∙ refused-reply n i (poll-about n i x.task x.event) b.0 in let f : ⊥ = cc in f)
   ]
+
+  -- What was handed over was reaped before.
+  pub handed-reaped : (n i : ℕ) → Hands capacity events n i → IsReapedBefore capacity events n i
+  handed-reaped n i x =
+      elim (answer capacity events n i (record { task = x.task; event = x.event; unrefused = handed-unrefused n i x })) [
+        | inl w ↦ absurd (let q = sym x.reply ∙ w.0 in let f : ⊥ = cc in f)
+        | inr w ↦ w.1
+      ]
 
   -- The first Poll of an operation after its reap hands it over, where it wasn't dropped.
   pub first-poll-hands : FirstPollHands capacity events (replies (empty capacity) events)

@@ -1,4 +1,4 @@
--- A close is named only after each operation on its handle was over.
+-- A close is named only after each operation on its handle, and the one that made it, was over.
 use Rattle.std.proofs.Common.{◌≡◌, inl, inr, ℕ, zero, suc, ◌+◌, ◌-◌, ◌≤◌, ◌<◌, Bool, true, false, ◌&&◌, List, length, Option}
 use Rattle.std.proofs.Common.{None, Some, slice_get, refl, sym, ◌∙◌, ap, subst, arith}
 use Rattle.std.proofs.lemmas.Option.{slice_get_cases, slice_get_within}
@@ -8,19 +8,21 @@ use Rattle.ring_core.specs.declared.ledger.Event.TheVariants.{Submit}
 use Rattle.ring_core.specs.declared.ledger.Reply.TheVariants.{Submitted, Refused}
 use Rattle.ring_core.specs.Lists.{has_number}
 use Rattle.ring_core.specs.Request.{named}
-use Rattle.ring_core.specs.Ledger.{Ledger, Operation, Place, InQueue, InFlight, InDone, Reaped, Gone, empty, is_kept}
+use Rattle.ring_core.specs.Ledger.{Ledger, Operation, Place, InQueue, InFlight, InDone, Reaped, Gone, empty, is_kept, holds}
 use Rattle.ring_core.specs.Queue.{is_unheld}
 use Rattle.ring_core.specs.Refusal.{cause}
 use Rattle.ring_core.specs.Run.{ledger_before, IsGiven}
 use Rattle.run_laws.specs.Moments.{IsReapedBefore}
 use Rattle.run_laws.specs.Closes.{IsGivenOn, IsOverBefore}
-use Rattle.run_laws.specs.Closes.{ClosedWhenOver}
+use Rattle.run_laws.specs.Closes.{ClosedWhenOver, ClosedWhenMakerOver}
 use Rattle.ring_core.proofs.Numbers.{same-or-not, below-or-above}
 use Rattle.ring_core.proofs.Holders.{unheld-is}
+use Rattle.ring_core.proofs.Leaving.{holds-named}
 use Rattle.ring_core.proofs.Stepping.{step-refused, submitted-held}
 use Rattle.run_laws.proofs.Replies.{reply-at, after-next}
 use Rattle.run_laws.proofs.Moments.{Placed, Owned, History}
 use Rattle.run_laws.proofs.Polls.{traced, given-once}
+use Rattle.run_laws.proofs.Made.{over-by, made-before, maker-over}
 use Rattle.run_laws.proofs.Closed.{answers, ends, event-of, Named, named-at}
 
 module _ (capacity : ℕ) (events : List Event) where
@@ -32,12 +34,6 @@ module _ (capacity : ℕ) (events : List Event) where
   gone-by n i o (InDone outcome) left placed = (let f : ⊥ = cc in absurd f)
   gone-by n i o (Reaped outcome) left placed = (let f : ⊥ = cc in absurd f)
   gone-by n i o Gone left placed = placed
-
-  -- An operation that is gone is over: it was returned, or it was dropped and reaped.
-  over-by : (n i : ℕ) (dropped : Bool) → Owned capacity events i n dropped false → IsReapedBefore capacity events n i →
-      IsOverBefore capacity events (answers capacity events) n i
-  over-by n i true owned reaped = inr (owned, reaped)
-  over-by n i false owned reaped = inl owned
 
   -- A test that passes beside another one that fails as a whole.
   and-fails : (a b : Bool) → (a && b) ≡ false → b ≡ true → a ≡ false
@@ -51,14 +47,16 @@ module _ (capacity : ℕ) (events : List Event) where
     over-at None there lt past unheld = absurd (past.ungiven j lt x.given)
     over-at (Some o) there lt past unheld =
         let g : IsGiven capacity events n past.given.at =
-        record { request = o.request; event = past.given.event; reply = past.given.reply } in
+        record { request = o.request; under = past.given.under; event = past.given.event; reply = past.given.reply } in
         let same : past.given.at ≡ j = given-once capacity events n past.given.at j g x.given in
         let request : o.request ≡ x.given.request =
         (let q = sym past.given.event ∙ ap (slice_get events) same ∙ x.given.event in cc) in
         let names : has_number h (named o.request) ≡ true = ap (λ r. has_number h (named r)) request ∙ x.names in
-        let holds = (unheld-is (ledger_before capacity events i) h unheld).ops n o there in
-        let left : is_kept o.place ≡ false = and-fails (is_kept o.place) (has_number h (named o.request)) holds names in
-        over-by n i o.dropped (subst (Owned capacity events i n o.dropped) left past.owned) (gone-by n i o o.place left past.placed)
+        let holding = (unheld-is (ledger_before capacity events i) h unheld).ops n o there in
+        let left : is_kept o.place ≡ false = and-fails (is_kept o.place) (has_number h (holds o)) holding
+        (holds-named h o.made (named o.request) names) in
+        over-by capacity events n i o.dropped (subst (Owned capacity events i n o.dropped) left past.owned)
+        (gone-by n i o o.place left past.placed)
 
   -- A handle that nobody holds, and is there, is so before each later event.
   unheld-later : (h i count : ℕ) → i + count ≤ length events → h < length (ledger_before capacity events i).owners →
@@ -95,13 +93,14 @@ module _ (capacity : ℕ) (events : List Event) where
   unheld-ungiven : (h n i j : ℕ) → i < j → h < length (ledger_before capacity events i).owners →
       is_unheld (ledger_before capacity events i) h ≡ true → IsGivenOn capacity events n h j → ⊥
   unheld-ungiven h n i j lt within is x =
-      let inside = slice_get_within events j (Submit x.given.request) x.given.event in
+      let inside = slice_get_within events j (Submit x.given.request x.given.under) x.given.event in
       let at : i + (j - i) ≡ j = omega arith in
       let later = unheld-later h i (j - i) (omega (arith, at, inside)) within is in
       let L : Ledger = ledger_before capacity events j in
       let unheld : is_unheld L h ≡ true = subst (λ k. is_unheld (ledger_before capacity events k) h ≡ true) at later.1 in
-      let unrefused = given-unrefused j n (Submit x.given.request) (cause L (Submit x.given.request)) x.given.event x.given.reply refl in
-      let f : true ≡ false = sym (submitted-held L x.given.request unrefused h x.names) ∙ (unheld-is L h unheld).user in
+      let e : Event = Submit x.given.request x.given.under in
+      let unrefused = given-unrefused j n e (cause L e) x.given.event x.given.reply refl in
+      let f : true ≡ false = sym (submitted-held L x.given.request x.given.under unrefused h x.names) ∙ (unheld-is L h unheld).user in
       cc
 
   -- A Turn names the close of a handle only after each operation on it was over.
@@ -118,3 +117,11 @@ module _ (capacity : ℕ) (events : List Event) where
           | inr gt ↦ absurd (unheld-ungiven h n i j gt N.within N.unheld y)
         ]
       ]
+
+  -- Nor before the operation that made it was over.
+  pub closed-when-maker-over : ClosedWhenMakerOver capacity events (answers capacity events)
+  closed-when-maker-over h n i place x m =
+      let e = event-of capacity events h i place x in
+      let N : Named capacity events i e.0 e.1 h = named-at capacity events h i place x e.0 e.1 in
+      maker-over capacity events n h m i (made-before capacity events n h m i N.within)
+      (let l = slice_get_within events i e.0 e.1 in omega (arith, l)) N.unheld

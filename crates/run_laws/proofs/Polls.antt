@@ -23,7 +23,7 @@ use Rattle.run_laws.proofs.Reached.{reached}
 use Rattle.run_laws.proofs.Numbers.{submitted-number}
 
 -- What no later event is again happens once.
-once-by : (P : ℕ → Type 0) → ((i j : ℕ) → i < j → P i → P j → ⊥) → (i j : ℕ) → P i → P j → i ≡ j
+pub once-by : (P : ℕ → Type 0) → ((i j : ℕ) → i < j → P i → P j → ⊥) → (i j : ℕ) → P i → P j → i ≡ j
 once-by P late i j p q = elim (same-or-not i j) [
   | inl e ↦ e
   | inr e ↦ absurd (elim (below-or-above i j e) [ inl lt ↦ late i j lt p q | inr gt ↦ late j i gt q p ])
@@ -58,9 +58,9 @@ module _ (capacity : ℕ) (events : List Event) where
   given-late : (n i j : ℕ) → i < j → IsGiven capacity events n i → IsGiven capacity events n j → ⊥
   given-late n i j lt x y =
       let L : Ledger = ledger_before capacity events j in
-      let t : Trace capacity events j L = traced j (Submit y.request) y.event in
-      let number : n ≡ length L.ops = submitted-number L (Submit y.request) n
-      (let q = sym (reply-at (empty capacity) events j (Submit y.request) y.event) ∙ y.reply in cc) in
+      let t : Trace capacity events j L = traced j (Submit y.request y.under) y.event in
+      let number : n ≡ length L.ops = submitted-number L (Submit y.request y.under) n
+      (let q = sym (reply-at (empty capacity) events j (Submit y.request y.under) y.event) ∙ y.reply in cc) in
       let h : History capacity events j n None = subst (History capacity events j n) (slice_get_past L.ops n (omega arith)) (t.history n) in
       h.ungiven i lt x
 

@@ -1,26 +1,36 @@
 -- Each ledger of a run has its trace.
-use Rattle.std.proofs.Common.{◌≡◌, ℕ, zero, suc, ◌≤◌, inl, inr, Bool, true, false, List, [], ◌∷◌, length, take, Option, Some, None}
+use Rattle.std.proofs.Common.{◌≡◌, ℕ, zero, suc, ◌≤◌, inl, inr, Bool, true, false, List, [], ◌∷◌, length, map, take, Option, Some, None}
 use Rattle.std.proofs.Common.{slice_get, refl, sym, ◌∙◌, ap, subst}
 use Rattle.std.proofs.Common.{arith}
 use Rattle.std.proofs.lemmas.Option.{slice_get_cases}
+use Rattle.rent_buf.specs.Buffer.{Buffer}
+use Rattle.rent_buf.specs.Parts.{Parts}
+use Rattle.ring_core.specs.declared.request.Request.{Request}
 use Rattle.ring_core.specs.declared.request.Told.{Told}
 use Rattle.ring_core.specs.declared.ledger.Event.{Event}
-use Rattle.ring_core.specs.declared.ledger.Event.TheVariants.{Give, Feed, End, Look, Close, Submit, Poll, Drop, Cancel, Turn, Exec}
+use Rattle.ring_core.specs.declared.ledger.Event.TheVariants.{Give, Feed, FeedMessage, End, Look, Close, Submit, Poll, Drop, Cancel, Turn}
+use Rattle.ring_core.specs.declared.ledger.Event.TheVariants.{Exec}
+use Rattle.ring_core.specs.declared.ledger.Event.TheVariants.{NewCanceller, NewHandle, CancelAll}
 use Rattle.ring_core.specs.declared.ledger.Refusal.{Refusal}
 use Rattle.ring_core.specs.declared.ledger.Reply.TheVariants.{Released, Dropped, Asked, ExecutedClose, Refused}
-use Rattle.ring_core.specs.Ledger.{Ledger, Operation, InFlight, Item, Op, empty}
-use Rattle.ring_core.specs.Queue.{with_op, is_unheld}
+use Rattle.ring_core.specs.Ledger.{Ledger, Operation, InFlight, Queued, Item, Op, empty, is_under_marked, group_under, members}
+use Rattle.ring_core.specs.Queue.{with_op, push, push_each, is_unheld}
 use Rattle.ring_core.specs.Turn.{effect_of, complete_at, exec_op, exec_step}
+use Rattle.ring_core.specs.Lists.{has_number}
 use Rattle.ring_core.specs.Refusal.{cause}
 use Rattle.ring_core.specs.Step.{step, row, poll_at, poll_step, with_drop, drop_at, drop_step, with_user, close_if}
+use Rattle.ring_core.specs.Step.{submit_if, new_canceller_step, group_of, new_handle_step, with_mark, renew_group}
 use Rattle.ring_core.specs.Run.{replies, ledger_before, IsExecuted}
-use Rattle.ring_core.proofs.Listed.{flying-there}
+use Rattle.ring_core.proofs.Listed.{flying-there, listed-push_cancel}
+use Rattle.ring_core.proofs.Leaving.{has-first, has-later}
 use Rattle.ring_core.proofs.Taking.{Listed}
 use Rattle.ring_core.proofs.Stepping.{step-refused, step-row, OwnedAt, found, executed-there}
 use Rattle.ring_core.proofs.Lawful.{lawful-ledger}
 use Rattle.run_laws.proofs.Replies.{reply-at, after-next, dropped-row}
-use Rattle.run_laws.proofs.Trace.{Trace, trace-closes, trace-world, trace-turn, trace-submit, trace-polled, trace-executed}
+use Rattle.run_laws.proofs.Trace.{AskedBefore, Trace, trace-closes, trace-world, trace-turn, trace-submit, trace-polled, trace-executed}
 use Rattle.run_laws.proofs.Dropped.{trace-pushed, trace-dropped}
+use Rattle.run_laws.proofs.Moments.{IsCalm}
+use Rattle.run_laws.proofs.Looks.{looked}
 
 -- The row of an event passes the trace on.
 module _ (capacity : ℕ) (events : List Event) (k : ℕ) (trace : Trace capacity events k (ledger_before capacity events k)) where
@@ -63,8 +73,8 @@ module _ (capacity : ℕ) (events : List Event) (k : ℕ) (trace : Trace capacit
   -- The close of a handle is pushed, or isn't.
   trace-close_if : (b : Bool) (M : Ledger) (h : ℕ) → Listed M → Trace capacity events (suc k) M →
       Trace capacity events (suc k) (close_if b M h)
-  trace-close_if true M h lists trace = trace-closes capacity events (suc k) M (h ∷ []) lists trace
-  trace-close_if false M h lists trace = trace
+  trace-close_if true M h listed traced = trace-closes capacity events (suc k) M (h ∷ []) listed traced
+  trace-close_if false M h listed traced = traced
 
   -- A Close takes the handle from its user.
   close-next : (h : ℕ) → slice_get events k ≡ Some (Close h) → slice_get (replies (empty capacity) events) k ≡ Some Released →
@@ -113,6 +123,53 @@ module _ (capacity : ℕ) (events : List Event) (k : ℕ) (trace : Trace capacit
       trace-pushed capacity events (suc k) L n lists same
       (record { ask = k; before = omega arith; asked = inl (record { event = here; reply = reply }) })
 
+  -- Other groups are no event of a history.
+  trace-groups : (j : ℕ) (M : Ledger) (cancellers cancel_handles : List ℕ) (groups : List Bool) → Trace capacity events j M →
+      Trace capacity events j (record M { cancellers = cancellers; cancel_handles = cancel_handles; groups = groups })
+  trace-groups j M cancellers cancel_handles groups t =
+      record { history = t.history; asked = record { waiting = t.asked.waiting; taken = t.asked.taken } }
+
+  -- A submission is a new operation, but under a marked group.
+  submit-next : (b : Bool) (request : Request Buffer Parts) (under group : Option ℕ) → slice_get events k ≡ Some (Submit request under) →
+      slice_get (replies (empty capacity) events) k ≡ Some (submit_if b (ledger_before capacity events k) request group).1 →
+      Trace capacity events (suc k) (submit_if b (ledger_before capacity events k) request group).0
+  submit-next true request under group here reply =
+      trace-world capacity events k (ledger_before capacity events k) lists trace (Submit request under) _ here reply
+      (λ m. record { gives_none = λ q. cc; executes_none = λ q. cc; hands_none = λ t outcome buffer p q. cc; drops_none = λ p q. cc })
+      (λ q. cc) _ _
+  submit-next false request under group here reply =
+      trace-submit capacity events k (ledger_before capacity events k) lists trace request under group here reply
+
+  -- Cancels that were asked for are pushed.
+  cancels-next : (j : ℕ) (M : Ledger) (numbers : List ℕ) → Listed M → Trace capacity events j M →
+      ((n : ℕ) → has_number n numbers ≡ true → AskedBefore capacity events j n) →
+      Trace capacity events j (push_each M (map Queued.Cancel numbers))
+  cancels-next j M [] listed t asked = t
+  cancels-next j M (n ∷ numbers) listed t asked =
+      cancels-next j (push M (Queued.Cancel n)) numbers (listed-push_cancel M n listed)
+      (trace-pushed capacity events j M n listed t (asked n (has-first n numbers))) (λ m is. asked m (has-later m n numbers is))
+
+  -- A CancelAll pushes the cancels that it names.
+  cancel_all-next : (c : ℕ) → slice_get events k ≡ Some (CancelAll c) →
+      slice_get (replies (empty capacity) events) k ≡ Some (row (ledger_before capacity events k) (CancelAll c)).1 →
+      Trace capacity events (suc k) (row (ledger_before capacity events k) (CancelAll c)).0
+  cancel_all-next c here reply =
+      let L : Ledger = ledger_before capacity events k in
+      let g : ℕ = group_of L c in
+      let M : Ledger = with_mark L g in
+      let N : Ledger = push_each M (map Queued.Cancel (members L g)) in
+      let same : Trace capacity events (suc k) L = trace-world capacity events k L lists trace (CancelAll c) _ here reply
+      (λ m. record { gives_none = λ q. cc; executes_none = λ q. cc; hands_none = λ t outcome buffer p q. cc; drops_none = λ p q. cc })
+      (λ q. cc) L.world L.owners in
+      trace-groups (suc k) N (renew_group N c).cancellers N.cancel_handles (renew_group N c).groups
+      (cancels-next (suc k) M (members L g) (record { waiting = lists.waiting; flown = lists.flown; standing = lists.standing })
+      (trace-groups (suc k) L L.cancellers L.cancel_handles M.groups same)
+      (λ n is. record {
+        ask = k;
+        before = omega arith;
+        asked = inr (inr (record { numbers = members L g; reply = reply; named = is }));
+      }))
+
   -- Each row.
   row-next : (e : Event) → slice_get events k ≡ Some e → cause (ledger_before capacity events k) e ≡ None →
       slice_get (replies (empty capacity) events) k ≡ Some (row (ledger_before capacity events k) e).1 →
@@ -125,20 +182,40 @@ module _ (capacity : ℕ) (events : List Event) (k : ℕ) (trace : Trace capacit
       trace-world capacity events k (ledger_before capacity events k) lists trace (Feed h bytes) _ here reply
       (λ n. record { gives_none = λ q. cc; executes_none = λ q. cc; hands_none = λ t outcome buffer p q. cc; drops_none = λ p q. cc })
       (λ q. cc) _ _
+  row-next (FeedMessage h addr bytes) here unrefused reply =
+      trace-world capacity events k (ledger_before capacity events k) lists trace (FeedMessage h addr bytes) _ here reply
+      (λ n. record { gives_none = λ q. cc; executes_none = λ q. cc; hands_none = λ t outcome buffer p q. cc; drops_none = λ p q. cc })
+      (λ q. cc) _ _
   row-next (End h) here unrefused reply =
       trace-world capacity events k (ledger_before capacity events k) lists trace (End h) _ here reply
       (λ n. record { gives_none = λ q. cc; executes_none = λ q. cc; hands_none = λ t outcome buffer p q. cc; drops_none = λ p q. cc })
       (λ q. cc) _ _
   row-next (Look h) here unrefused reply =
       trace-world capacity events k (ledger_before capacity events k) lists trace (Look h) _ here reply
-      (λ n. record { gives_none = λ q. cc; executes_none = λ q. cc; hands_none = λ t outcome buffer p q. cc; drops_none = λ p q. cc })
+      (λ n. looked (λ r. IsCalm (Look h) r n) (ledger_before capacity events k) h
+      (λ b. record { gives_none = λ q. cc; executes_none = λ q. cc; hands_none = λ t outcome buffer p q. cc; drops_none = λ p q. cc })
+      (λ m. record { gives_none = λ q. cc; executes_none = λ q. cc; hands_none = λ t outcome buffer p q. cc; drops_none = λ p q. cc }))
       (λ q. cc) _ _
   row-next (Close h) here unrefused reply = close-next h here reply
-  row-next (Submit request) here unrefused reply =
-      trace-submit capacity events k (ledger_before capacity events k) lists trace request here reply
+  row-next (Submit request under) here unrefused reply =
+      let L : Ledger = ledger_before capacity events k in
+      submit-next (is_under_marked L under) request under (group_under L under) here reply
   row-next (Poll n task) here unrefused reply = poll-next n task here unrefused reply
   row-next (Drop n) here unrefused reply = drop-next n here unrefused reply
   row-next (Cancel n) here unrefused reply = cancel-next n here reply
+  row-next NewCanceller here unrefused reply =
+      let L : Ledger = ledger_before capacity events k in
+      let N : Ledger = new_canceller_step L in
+      trace-groups (suc k) L N.cancellers L.cancel_handles N.groups (trace-world capacity events k L lists trace NewCanceller _ here reply
+      (λ m. record { gives_none = λ q. cc; executes_none = λ q. cc; hands_none = λ t outcome buffer p q. cc; drops_none = λ p q. cc })
+      (λ q. cc) L.world L.owners)
+  row-next (NewHandle c) here unrefused reply =
+      let L : Ledger = ledger_before capacity events k in
+      trace-groups (suc k) L L.cancellers (new_handle_step L c).cancel_handles L.groups
+      (trace-world capacity events k L lists trace (NewHandle c) _ here reply
+      (λ m. record { gives_none = λ q. cc; executes_none = λ q. cc; hands_none = λ t outcome buffer p q. cc; drops_none = λ p q. cc })
+      (λ q. cc) L.world L.owners)
+  row-next (CancelAll c) here unrefused reply = cancel_all-next c here reply
   row-next Turn here unrefused reply =
       trace-turn capacity events k (ledger_before capacity events k) lists trace _ here reply
       (λ n. record { gives_none = λ q. cc; executes_none = λ q. cc; hands_none = λ t outcome buffer p q. cc; drops_none = λ p q. cc })

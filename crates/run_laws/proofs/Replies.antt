@@ -1,20 +1,27 @@
 -- The replies of a run, one by one: each is that of the step from the ledger before it.
-use Rattle.std.proofs.Common.{◌≡◌, ℕ, zero, suc, List, [], ◌∷◌, length, take, Option, Some, None, slice_get}
+use Rattle.std.proofs.Common.{◌≡◌, ℕ, zero, suc, Bool, true, false, List, [], ◌∷◌, length, take, Option, Some, None, slice_get}
 use Rattle.std.proofs.Common.{refl, sym, ◌∙◌, ap}
+use Rattle.rent_buf.specs.Buffer.{Buffer}
+use Rattle.rent_buf.specs.Parts.{Parts}
+use Rattle.ring_core.specs.declared.request.Request.{Request}
 use Rattle.ring_core.specs.declared.request.Told.{Told}
 use Rattle.ring_core.specs.declared.ledger.Event.{Event}
-use Rattle.ring_core.specs.declared.ledger.Event.TheVariants.{Give, Feed, End, Look, Close, Submit, Poll, Drop, Cancel, Turn, Exec}
+use Rattle.ring_core.specs.declared.ledger.Event.TheVariants.{Give, Feed, FeedMessage, End, Look, Close, Submit, Poll, Drop, Cancel, Turn}
+use Rattle.ring_core.specs.declared.ledger.Event.TheVariants.{Exec}
+use Rattle.ring_core.specs.declared.ledger.Event.TheVariants.{NewCanceller, NewHandle, CancelAll}
 use Rattle.ring_core.specs.declared.ledger.Reply.{Reply}
 use Rattle.ring_core.specs.declared.ledger.Reply.TheVariants.{Dropped, ExecutedOp, Refused}
 use Rattle.ring_core.specs.declared.ledger.Refusal.{Refusal}
 use Rattle.ring_core.specs.Ledger.{Ledger, Operation, Place, InQueue, InFlight, InDone, Reaped, Gone, Item, Op, empty}
+use Rattle.ring_core.specs.Ledger.{is_under_marked, group_under}
 use Rattle.ring_core.specs.Refusal.{cause}
 use Rattle.ring_core.specs.Turn.{exec_step}
-use Rattle.ring_core.specs.Step.{step, row, answered, poll_at, poll_step, drop_step}
+use Rattle.ring_core.specs.Step.{step, row, answered, submit_if, poll_at, poll_step, drop_step}
 use Rattle.ring_core.specs.Run.{after, replies, ledger_before, IsExecuted}
 pub use Rattle.ring_core.proofs.Stepping.{step-refused, step-row}
 use Rattle.ring_core.proofs.Stepping.{OwnedAt, found, executed-there}
 use Rattle.run_laws.specs.Headline.{RefusedExactly}
+use Rattle.run_laws.proofs.Looks.{looked}
 
 -- There is one reply for each event.
 pub length-replies : (L : Ledger) (events : List Event) → length (replies L events) ≡ length events
@@ -73,19 +80,29 @@ item-answers : (L : Ledger) (place : ℕ) (told : Told) (item : Item) (c : Refus
 item-answers L place told (Op m) c h = cc
 item-answers L place told (Item.Close k) c h = cc
 
+-- A Submit of a request that isn't refused isn't answered so, under a marked group or not.
+submit-answers : (b : Bool) (L : Ledger) (request : Request Buffer Parts) (group : Option ℕ) (c : Refusal) →
+    (submit_if b L request group).1 ≡ Refused c → ⊥
+submit-answers true L request group c h = cc
+submit-answers false L request group c h = cc
+
 -- An event that isn't refused isn't answered so.
 row-answers : (L : Ledger) (e : Event) (c : Refusal) → cause L e ≡ None → (row L e).1 ≡ Refused c → ⊥
 row-answers L (Give kind) c h r = cc
 row-answers L (Feed x bytes) c h r = cc
+row-answers L (FeedMessage x addr bytes) c h r = cc
 row-answers L (End x) c h r = cc
-row-answers L (Look x) c h r = cc
+row-answers L (Look x) c h r = looked (λ reply. reply ≡ Refused c → ⊥) L x (λ b q. cc) (λ m q. cc) r
 row-answers L (Close x) c h r = cc
-row-answers L (Submit request) c h r = cc
+row-answers L (Submit request under) c h r = submit-answers (is_under_marked L under) L request (group_under L under) c r
 row-answers L (Poll n task) c h r =
     (let f = found L n h in let a = ap (λ x. (poll_step L n task x).1) f.there in
     place-answers L n task f.operation f.operation.place c (sym a ∙ r))
 row-answers L (Drop n) c h r = (let f = found L n h in let a : (row L (Drop n)).1 ≡ Dropped = dropped-row L n f in cc)
 row-answers L (Cancel n) c h r = cc
+row-answers L NewCanceller c h r = cc
+row-answers L (NewHandle k) c h r = cc
+row-answers L (CancelAll k) c h r = cc
 row-answers L Turn c h r = cc
 row-answers L (Exec place told) c h r =
     (let t = executed-there L place told h in item-answers L place told t.0 c (ap (λ x. (exec_step L place told x).1) (sym t.1) ∙ r))

@@ -1,7 +1,6 @@
 -- Every ledger that events led to has a history of each number, and cancels that were asked for.
-use Rattle.std.proofs.Common.{◌≡◌, inl, inr, ℕ, suc, true, false, List, length, map, Option, Some, option_map, slice_get, refl, sym, ◌∙◌}
-use Rattle.std.proofs.Common.{ap, subst}
-use Rattle.std.proofs.Common.{arith}
+use Rattle.std.proofs.Common.{◌≡◌, inl, inr, ℕ, suc, true, false, List, length, map, Option, None, Some, option_map, slice_get, refl, sym}
+use Rattle.std.proofs.Common.{◌∙◌, ap, subst, arith}
 use Rattle.rent_buf.specs.Buffer.{Buffer}
 use Rattle.rent_buf.specs.Parts.{Parts}
 use Rattle.ring_core.specs.declared.world.HandleState.{HandleState}
@@ -18,7 +17,7 @@ use Rattle.ring_core.specs.Ledger.{new_operation}
 use Rattle.ring_core.specs.Ledger.{is_kept}
 use Rattle.ring_core.specs.Queue.{with_op, at_place, take_all, make_room, push_each, became_unheld, with_gone, leave}
 use Rattle.ring_core.specs.Turn.{turn_step, effect_of, with_result, with_effect, complete_at}
-use Rattle.ring_core.specs.Step.{submit_step, with_task, poll_at}
+use Rattle.ring_core.specs.Step.{submit_step, with_task, handed_over, poll_at}
 use Rattle.ring_core.specs.Run.{replies, ledger_before, IsExecuted}
 use Rattle.ring_core.proofs.Taken.{length-make_room}
 use Rattle.run_laws.specs.Moments.{IsHanded, IsCanceledBefore}
@@ -27,6 +26,8 @@ use Rattle.ring_core.proofs.Taking.{in_queue, in_flight, in_done, Listed, take_a
 use Rattle.ring_core.proofs.Reaping.{reap_all-ops, closed-take_all}
 use Rattle.ring_core.proofs.Listed.{joined, submit-joined, MayTake, make_room-ops, push_closes-ops}
 use Rattle.ring_core.proofs.Ending.{listed-gone}
+use Rattle.ring_core.proofs.Lawful.{handed-there}
+use Rattle.ring_core.proofs.Alone.{listed-handed}
 use Rattle.run_laws.proofs.Asked.{Asked, asked-more, asked-op, asked-push_closes, asked-take_all, asked-make_room, asked-joined}
 use Rattle.run_laws.proofs.Asked.{asked-reap_all}
 use Rattle.run_laws.proofs.Replies.{executed-reply}
@@ -61,6 +62,13 @@ trace-closes capacity events k M handles lists trace = record {
   asked = asked-push_closes (AskedBefore capacity events k) M handles trace.asked;
 }
 
+-- Nor is a handle that is handed over, by an operation that leaves.
+trace-gone : (capacity : ℕ) (events : List Event) (k : ℕ) (L : Ledger) (made : Option ℕ) (n : ℕ) → Trace capacity events k (with_gone L n) →
+    Trace capacity events k (with_gone (handed_over L made) n)
+trace-gone capacity events k L None n trace = trace
+trace-gone capacity events k L (Some h) n trace =
+    record { history = trace.history; asked = record { waiting = trace.asked.waiting; taken = trace.asked.taken } }
+
 module _ (capacity : ℕ) (events : List Event) (k : ℕ) (L : Ledger) (lists : Listed L) (trace : Trace capacity events k L) where
   -- One event more asks for no less.
   pub asked-on : Asked (AskedBefore capacity events (suc k)) L
@@ -93,13 +101,19 @@ module _ (capacity : ℕ) (events : List Event) (k : ℕ) (L : Ledger) (lists : 
   history-room n =
       history-may_take capacity events k n (slice_get L.ops n) (slice_get (make_room L).ops n) (make_room-ops L lists n) (trace.history n)
 
-  module _ (request : Request Buffer Parts) (here : slice_get events k ≡ Some (Submit request))
+  module _ (request : Request Buffer Parts) (under group : Option ℕ) (here : slice_get events k ≡ Some (Submit request under))
       (reply : slice_get (replies (empty capacity) events) k ≡ Some (Submitted (length L.ops))) where
     -- A new operation has its history.
     history-new : (n : ℕ) → n ≡ length L.ops → Unknown capacity events k n →
-        History capacity events (suc k) n (Some (new_operation request))
+        History capacity events (suc k) n (Some (new_operation request group))
     history-new n e h = record {
-      given = record { at = k; before = omega arith; event = here; reply = reply ∙ ap (λ m. Some (Submitted m)) (sym e) };
+      given = record {
+        at = k;
+        before = omega arith;
+        under = under;
+        event = here;
+        reply = reply ∙ ap (λ m. Some (Submitted m)) (sym e);
+      };
       placed =
           not-before-next (Executes capacity events n) k (λ x.
           (let q = sym reply ∙ executed-reply capacity events n k x.0 x.1 in cc)) h.unexecuted;
@@ -110,12 +124,12 @@ module _ (capacity : ℕ) (events : List Event) (k : ℕ) (L : Ledger) (lists : 
     }
 
     -- So has each other one.
-    history-joined : (n : ℕ) → History capacity events (suc k) n (slice_get (joined (make_room L) (new_operation request)).ops n)
-    history-joined n = elim (joined-cases (make_room L).ops (new_operation request) n) [
+    history-joined : (n : ℕ) → History capacity events (suc k) n (slice_get (joined (make_room L) (new_operation request group)).ops n)
+    history-joined n = elim (joined-cases (make_room L).ops (new_operation request group) n) [
       | inl e ↦ subst (History capacity events (suc k) n) (sym e.2)
           (history-new n (e.0 ∙ length-make_room L) (subst (History capacity events k n) e.1 (history-room n)))
       | inr e ↦ subst (History capacity events (suc k) n) (sym e.1)
-          (history-next capacity events k (Submit request) (Submitted (length L.ops)) here reply n (slice_get (make_room L).ops n)
+          (history-next capacity events k (Submit request under) (Submitted (length L.ops)) here reply n (slice_get (make_room L).ops n)
           (record {
             gives_none = λ q. e.0 (let p : length L.ops ≡ n = cc in sym p ∙ sym (length-make_room L));
             executes_none = λ q. cc;
@@ -126,12 +140,12 @@ module _ (capacity : ℕ) (events : List Event) (k : ℕ) (L : Ledger) (lists : 
     ]
 
     -- A Submit.
-    pub trace-submit : Trace capacity events (suc k) (submit_step L request)
+    pub trace-submit : Trace capacity events (suc k) (submit_step L request group)
     trace-submit =
         let P : ℕ → Type 0 = AskedBefore capacity events (suc k) in
-        subst (Trace capacity events (suc k)) (sym (submit-joined L request lists)) (record {
+        subst (Trace capacity events (suc k)) (sym (submit-joined L request group lists)) (record {
           history = history-joined;
-          asked = asked-joined P (make_room L) (new_operation request) refl (asked-make_room P L asked-on);
+          asked = asked-joined P (make_room L) (new_operation request group) refl (asked-make_room P L asked-on);
         })
 
   module _ (n task : ℕ) (o : Operation) (here : slice_get events k ≡ Some (Poll n task)) (there : slice_get L.ops n ≡ Some o) where
@@ -202,11 +216,13 @@ module _ (capacity : ℕ) (events : List Event) (k : ℕ) (L : Ledger) (lists : 
       }
 
       -- The handles that it held alone are closed.
-      trace-hands : Trace capacity events (suc k) (leave L n)
+      trace-hands : Trace capacity events (suc k) (leave (handed_over L o.made) n)
       trace-hands =
-          trace-closes capacity events (suc k) (with_gone L n) (became_unheld L (with_gone L n))
-          (listed-gone L n o lists there
-          (record { queue = ap in_queue reaped; flight = ap in_flight reaped; done = ap in_done reaped })) trace-handed
+          let H : Ledger = handed_over L o.made in
+          trace-closes capacity events (suc k) (with_gone H n) (became_unheld H (with_gone H n))
+          (listed-gone H n o (listed-handed L o.made lists) (handed-there L o.made n o there)
+          (record { queue = ap in_queue reaped; flight = ap in_flight reaped; done = ap in_done reaped }))
+          (trace-gone capacity events (suc k) L o.made n trace-handed)
 
     -- A Poll, by the place of the operation.
     pub trace-polled : (p : Place) → o.place ≡ p → is_kept p ≡ true → o.dropped ≡ false →
@@ -240,7 +256,7 @@ module _ (capacity : ℕ) (events : List Event) (k : ℕ) (L : Ledger) (lists : 
               given = g.at;
               exec = k;
               told = told;
-              is_given = record { request = o.request; event = g.event; reply = g.reply };
+              is_given = record { request = o.request; under = g.under; event = g.event; reply = g.reply };
               is_executed = done;
               result = result;
               result_is = own;

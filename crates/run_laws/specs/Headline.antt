@@ -84,7 +84,8 @@ KeptUntilReaped capacity events =
     operation.place ≡ Gone →
     IsReapedBefore capacity events n i
 
--- An operation ends with the error of a cancel only where its own cancel was asked for, or it was dropped, before.
+-- An operation ends with the error of a cancel only where its own cancel was asked for, or it was dropped, or its group was canceled,
+-- before.
 abbrev pub CanceledWhereAsked : ℕ → List Event → List Reply → Type 0
 CanceledWhereAsked capacity events replies =
     (n i : ℕ) → IsExecuted capacity events n i (Fail CANCELED) → IsCanceledBefore events replies n i

@@ -1,11 +1,12 @@
 -- What an event of a run and its reply are to an operation, and what came before an event. The laws of whole runs are said in these words.
-use Rattle.std.specs.Prelude.{ℕ, ◌≡◌, ◌<◌, ◌⊎◌, List, Option, Some, None, slice_get}
+use Rattle.std.specs.Prelude.{ℕ, ◌≡◌, ◌<◌, ◌⊎◌, true, List, Option, Some, None, slice_get}
 use Rattle.rent_buf.specs.Held.{HeldBuf}
 use Rattle.ring_core.specs.declared.request.Outcome.{Outcome}
 use Rattle.ring_core.specs.declared.ledger.Event.{Event}
 use Rattle.ring_core.specs.declared.ledger.Event.TheVariants.{Poll, Drop, Cancel}
 use Rattle.ring_core.specs.declared.ledger.Reply.{Reply}
-use Rattle.ring_core.specs.declared.ledger.Reply.TheVariants.{Handed, Dropped, Asked, Turned}
+use Rattle.ring_core.specs.declared.ledger.Reply.TheVariants.{Handed, Dropped, Asked, Cancels, Turned}
+use Rattle.ring_core.specs.Lists.{has_number}
 use Rattle.ring_core.specs.Refusal.{cause}
 use Rattle.ring_core.specs.Run.{ledger_before, IsGiven, IsReaped, IsOwn}
 
@@ -88,8 +89,14 @@ pub record NamesReaped (replies : List Reply) (n i : ℕ) : Type 0 where
   pub reply : slice_get replies i ≡ Some (Turned reaped closed woken)
   pub named : slice_get reaped place ≡ Some n
 
--- A Cancel of n or a Drop of n came before the event at i, and wasn't refused.
+-- The reply at i is that of a CancelAll, and names n.
+pub record NamesCanceled (replies : List Reply) (n i : ℕ) : Type 0 where
+  pub numbers : List ℕ
+  pub reply : slice_get replies i ≡ Some (Cancels numbers)
+  pub named : has_number n numbers ≡ true
+
+-- A Cancel of n or a Drop of n came before the event at i, and wasn't refused, or the reply to a CancelAll before it named n.
 pub record IsCanceledBefore (events : List Event) (replies : List Reply) (n i : ℕ) : Type 0 where
   pub ask : ℕ
   pub before : ask < i
-  pub asked : IsAsked events replies n ask ⊎ IsDropped events replies n ask
+  pub asked : IsAsked events replies n ask ⊎ IsDropped events replies n ask ⊎ NamesCanceled replies n ask

@@ -2,7 +2,12 @@
 use Rattle.run_laws.proofs.Laws.{one-reply-each, refused-exactly, pending-until-reaped, reaped-or-not, hands-back-own, handed-once}
 use Rattle.run_laws.proofs.Laws.{dropped-once, refused-where-gone, first-poll-hands, reap-names, kept-until-reaped, canceled-where-asked}
 use Rattle.run_laws.proofs.Laws.{given-once, executed-once, reaped-once, one-own, given-in-order}
-use Rattle.run_laws.proofs.Laws.{closed-once, closed-when-released, closed-when-over, unheld-closes, closed-only}
+use Rattle.run_laws.proofs.Laws.{closed-once, closed-when-released, closed-when-over, closed-when-maker-over, unheld-closes}
+use Rattle.run_laws.proofs.Laws.{closed-only, created-once, made-once, made-only, used-when-returned}
+use Rattle.run_laws.proofs.Laws.{cancels-members, canceled-at-once-exactly, no-canceller-exactly}
+use Rattle.run_laws.proofs.Laws.{cancellers-in-order, handles-in-order}
+use Rattle.run_laws.proofs.Laws.{input-in-order, messages-in-order, files-hold-last, output-in-order, sent-in-order}
+use Rattle.run_laws.proofs.Laws.{moves-own, reads-take-own, receives-take-own, splices-pass-on}
 use Rattle.run_laws.proofs.headline.headline.Goals as goal
 
 pub returns-clause-one_each : goal.returns-clause-one_each
@@ -65,8 +70,65 @@ returns-clause-closed_released c = closed-when-released
 pub returns-clause-closed_over : goal.returns-clause-closed_over
 returns-clause-closed_over c = closed-when-over
 
+pub returns-clause-closed_made : goal.returns-clause-closed_made
+returns-clause-closed_made c = closed-when-maker-over
+
+pub returns-clause-created_once : goal.returns-clause-created_once
+returns-clause-created_once c = created-once
+
+pub returns-clause-made_once : goal.returns-clause-made_once
+returns-clause-made_once c = made-once
+
+pub returns-clause-made_used : goal.returns-clause-made_used
+returns-clause-made_used c = used-when-returned
+
+pub returns-clause-made_alone : goal.returns-clause-made_alone
+returns-clause-made_alone c = made-only
+
 pub returns-clause-closed_unheld : goal.returns-clause-closed_unheld
 returns-clause-closed_unheld c = unheld-closes
 
 pub returns-clause-closed_only : goal.returns-clause-closed_only
 returns-clause-closed_only c = closed-only
+
+pub returns-clause-input : goal.returns-clause-input
+returns-clause-input c = input-in-order
+
+pub returns-clause-messages : goal.returns-clause-messages
+returns-clause-messages c = messages-in-order
+
+pub returns-clause-files : goal.returns-clause-files
+returns-clause-files c = files-hold-last
+
+pub returns-clause-output : goal.returns-clause-output
+returns-clause-output c = output-in-order
+
+pub returns-clause-sent : goal.returns-clause-sent
+returns-clause-sent c = sent-in-order
+
+pub returns-clause-moves : goal.returns-clause-moves
+returns-clause-moves c = moves-own
+
+pub returns-clause-splices : goal.returns-clause-splices
+returns-clause-splices c = splices-pass-on
+
+pub returns-clause-reads : goal.returns-clause-reads
+returns-clause-reads c = reads-take-own
+
+pub returns-clause-receives : goal.returns-clause-receives
+returns-clause-receives c = receives-take-own
+
+pub returns-clause-cancels : goal.returns-clause-cancels
+returns-clause-cancels c = cancels-members
+
+pub returns-clause-at_once : goal.returns-clause-at_once
+returns-clause-at_once c = canceled-at-once-exactly
+
+pub returns-clause-no_canceller : goal.returns-clause-no_canceller
+returns-clause-no_canceller c = no-canceller-exactly
+
+pub returns-clause-cancellers : goal.returns-clause-cancellers
+returns-clause-cancellers c = cancellers-in-order
+
+pub returns-clause-handles : goal.returns-clause-handles
+returns-clause-handles c = handles-in-order

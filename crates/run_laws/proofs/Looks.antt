@@ -1,0 +1,19 @@
+-- The reply to a look, by what is looked at.
+use Rattle.std.proofs.Common.{ℕ, List, Option}
+use Rattle.ring_core.specs.declared.world.Look.{Look as Shown}
+use Rattle.ring_core.specs.declared.world.Look.TheVariants.{Bytes as ShownBytes, Messages as ShownMessages}
+use Rattle.ring_core.specs.declared.ledger.Event.TheVariants.{Look}
+use Rattle.ring_core.specs.declared.ledger.Reply.{Reply}
+use Rattle.ring_core.specs.declared.ledger.Reply.TheVariants.{Output, Messages}
+use Rattle.ring_core.specs.World.{look_at}
+use Rattle.ring_core.specs.Ledger.{Ledger}
+use Rattle.ring_core.specs.Step.{look_reply, row}
+
+-- What holds of each list of bytes and of each list of messages as a reply holds of the reply to a look.
+pub looked : (P : Reply → Type 0) (L : Ledger) (h : ℕ) → ((bytes : List ℕ) → P (Output bytes)) →
+    ((messages : List (Option ℕ × List ℕ)) → P (Messages messages)) → P (row L (Look h)).1
+looked P L h bytes messages = by (look_at L.world h)
+  where
+    by : (look : Shown) → P (look_reply look)
+    by (ShownBytes shown) = bytes shown
+    by (ShownMessages shown) = messages shown
