@@ -6,6 +6,7 @@ mod TextWrites
 pub mod TextFields
 mod TextSpaces
 mod TextParts
+mod TextForms
 mod TextRequests
 mod TextEvents
 mod TextLinesRead

@@ -1,19 +1,17 @@
 -- What the words of a line are read as, part by part: each is read exactly when it is written.
 use Rattle.std.proofs.Common.{◌≡◌, ◌∙◌, ℕ, ◌^◌, ◌<◌, List, [], ◌∷◌, length, refl, ap, sym, subst, arith, inl, inr}
 use Rattle.std.specs.Prelude.{Bool, true, false, ◌⊎◌, ◌&&◌, if◌then◌else◌, nat_le, Option, Some, None, option_and_then, option_map}
-use Rattle.std.specs.Prelude.{bytes_eq, codes, decimal}
+use Rattle.std.specs.Prelude.{bytes_eq, decimal}
 use Rattle.std.proofs.lemmas.Bool.{leb-true, le-leb, eq-eqb, eqb-true}
 use Rattle.std.proofs.lemmas.Option.{same_Some}
 use Rattle.std.proofs.lemmas.Slice.Eq.{bytes_eq-Decides}
 use Rattle.rent_buf.specs.Buffer.{Buffer, BufferBounds, IsFull}
 use Rattle.rent_buf.specs.declared.kind.Kind.{Kind}
 use Rattle.rent_buf.specs.declared.kind.Kind.TheVariants.{Vector, Grown, Fixed}
-use Rattle.ring_core.specs.declared.world.HandleKind.{HandleKind}
-use Rattle.ring_core.specs.declared.world.HandleKind.TheVariants.{Stream}
-use Rattle.event_text.specs.TextEvent.{AreBytes, IsBuffer, buffer_kind_word, buffer_words, handle_kind_word}
-use Rattle.event_text.specs.TextReads.{number_of, number_field, last_number_of, bytes_end, at_end, handle_kind_of, buffer_kind_of}
-use Rattle.event_text.specs.TextReads.{kind_field, is_full, bounded, buffer_of}
-use Rattle.event_text.specs.TextWords.{bytes_word}
+use Rattle.event_text.specs.TextReaders.{field, at_end, value_of}
+use Rattle.event_text.specs.TextReads.{number_of, bytes_end, buffer_kind_of, is_full, bounded, buffer_of}
+use Rattle.event_text.specs.TextRequest.{IsBuffer, buffer_kind_word, buffer_words}
+use Rattle.event_text.specs.TextWords.{AreBytes, bytes_word}
 use Rattle.event_text.proofs.TextHex.{bytes_of-bytes_word, bytes_of-Some}
 use Rattle.event_text.proofs.TextNumbers.{number_of-decimal, number_of-Some}
 
@@ -50,17 +48,35 @@ pub at_end-Some : {A : Type 0} (value : A) (words : List (List ℕ)) (y : A) →
 at_end-Some value [] y is = (refl, cc)
 at_end-Some value (word ∷ words) y is = absurd (cc)
 
+-- A first field is what the first word is read as.
+pub field-Some : {A : Type 0} (read : List ℕ → Option A) (words rest : List (List ℕ)) (x : A) → field read words ≡ Some (x, rest)
+    → (word : List ℕ) × (words ≡ word ∷ rest) × (read word ≡ Some x)
+field-Some read [] rest x is = absurd (cc)
+field-Some {A = A} read (word ∷ words) rest x is =
+    let found = and_then-Some (λ (y : A). Some (y, words)) (read word) (x, rest) is in
+    let pair : (found.0, words) ≡ (x, rest) = same_Some (found.0, words) (x, rest) found.2 in (
+      word,
+      ap (λ (p : A × List (List ℕ)). word ∷ p.1) pair,
+      found.1 ∙ ap (λ (p : A × List (List ℕ)). Some p.0) pair,
+    )
+
 -- A first word that is read as a number is its digits.
-pub number_field-Some : (words rest : List (List ℕ)) (n : ℕ) → number_field words ≡ Some (n, rest)
+pub number_field-Some : (words rest : List (List ℕ)) (n : ℕ) → field number_of words ≡ Some (n, rest)
     → (words ≡ decimal n ∷ rest) × (n < 2 ^ 64)
-number_field-Some [] rest n is = absurd (cc)
-number_field-Some (word ∷ words) rest n is =
-    let read = and_then-Some (λ (number : ℕ). Some (number, words)) (number_of word) (n, rest) is in
-    let pair : (read.0, words) ≡ (n, rest) = same_Some (read.0, words) (n, rest) read.2 in
-    let same : read.0 ≡ n = ap (λ (p : ℕ × List (List ℕ)). p.0) pair in
-    let behind : words ≡ rest = ap (λ (p : ℕ × List (List ℕ)). p.1) pair in
-    let number = number_of-Some word n (read.1 ∙ ap (λ (m : ℕ). Some m) same) in
-    (rw (number.0, behind) refl, number.1)
+number_field-Some words rest n is =
+    let first = field-Some number_of words rest n is in
+    let number = number_of-Some first.0 n first.2 in
+    (first.1 ∙ ap (λ (word : List ℕ). word ∷ rest) number.0, number.1)
+
+-- A word that is read as one of some values is that value's.
+pub value_of-Some : {A : Type 0} (word_of : A → List ℕ) (values : List A) (word : List ℕ) (x : A) → value_of word_of values word ≡ Some x
+    → word ≡ word_of x
+value_of-Some word_of [] word x is = absurd (cc)
+value_of-Some word_of (value ∷ values) word x is =
+    elim (either-Some (bytes_eq word (word_of value)) (Some value) (value_of word_of values word) x is) [
+      | inl it ↦ (bytes_eq-Decides word (word_of value)).0 it.0 ∙ ap word_of (same_Some value x it.1)
+      | inr is ↦ value_of-Some word_of values word x is
+    ]
 
 -- Bytes.
 pub bytes_end-Some : (words : List (List ℕ)) (bytes : List ℕ) → bytes_end words ≡ Some bytes
@@ -69,47 +85,19 @@ bytes_end-Some [] bytes is = absurd (cc)
 bytes_end-Some (word ∷ []) bytes is = let read = bytes_of-Some word bytes is in (ap (λ (w : List ℕ). w ∷ []) read.0, read.1)
 bytes_end-Some (word ∷ next ∷ words) bytes is = absurd (cc)
 
--- A word that is read as a handle's kind is that kind's.
-pub handle_kind_of-Some : (word : List ℕ) (kind : HandleKind) → handle_kind_of word ≡ Some kind → word ≡ handle_kind_word kind
-handle_kind_of-Some word Stream is =
-    (bytes_eq-Decides word (codes "stream")).0 (if-Some (bytes_eq word (codes "stream")) (Some Stream) Stream is).0
-
 -- A buffer's kind is read from its word.
 pub buffer_kind_of-word : (kind : Kind) → buffer_kind_of (buffer_kind_word kind) ≡ Some kind
 buffer_kind_of-word Vector = refl
 buffer_kind_of-word Grown = refl
 buffer_kind_of-word Fixed = refl
 
--- The first of two answers, or the other.
-either-kind : (b : Bool) (kind : Kind) (o : Option Kind) (y : Kind) → (if b then Some kind else o) ≡ Some y
-    → ((b ≡ true) × (kind ≡ y)) ⊎ (o ≡ Some y)
-either-kind true kind o y is = inl (refl, same_Some kind y is)
-either-kind false kind o y is = inr is
-
--- A word that is read as a buffer's kind is that kind's.
-pub buffer_kind_of-Some : (word : List ℕ) (kind : Kind) → buffer_kind_of word ≡ Some kind → word ≡ buffer_kind_word kind
-buffer_kind_of-Some word kind is =
-    elim (either-kind (bytes_eq word (codes "v")) Vector _ kind is) [
-      | inl it ↦ (bytes_eq-Decides word (codes "v")).0 it.0 ∙ ap buffer_kind_word it.1
-      | inr is ↦ elim (either-kind (bytes_eq word (codes "g")) Grown _ kind is) [
-        | inl it ↦ (bytes_eq-Decides word (codes "g")).0 it.0 ∙ ap buffer_kind_word it.1
-        | inr is ↦
-            let it = if-Some (bytes_eq word (codes "b")) (Some Fixed) kind is in
-            (bytes_eq-Decides word (codes "b")).0 it.0 ∙ ap buffer_kind_word (same_Some Fixed kind it.1)
-      ]
-    ]
-
 -- A first word that is read as a buffer's kind is that kind's.
-pub kind_field-Some : (words rest : List (List ℕ)) (kind : Kind) → kind_field words ≡ Some (kind, rest)
+kind_field-Some : (words rest : List (List ℕ)) (kind : Kind) → field buffer_kind_of words ≡ Some (kind, rest)
     → words ≡ buffer_kind_word kind ∷ rest
-kind_field-Some [] rest kind is = absurd (cc)
-kind_field-Some (word ∷ words) rest kind is =
-    let read = and_then-Some (λ (k : Kind). Some (k, words)) (buffer_kind_of word) (kind, rest) is in
-    let pair : (read.0, words) ≡ (kind, rest) = same_Some (read.0, words) (kind, rest) read.2 in
-    let same : read.0 ≡ kind = ap (λ (p : Kind × List (List ℕ)). p.0) pair in
-    let behind : words ≡ rest = ap (λ (p : Kind × List (List ℕ)). p.1) pair in
-    let first : word ≡ buffer_kind_word kind = buffer_kind_of-Some word kind (read.1 ∙ ap (λ (k : Kind). Some k) same) in
-    rw (first, behind) refl
+kind_field-Some words rest kind is =
+    let first = field-Some buffer_kind_of words rest kind is in
+    first.1 ∙ ap (λ (word : List ℕ). word ∷ rest)
+    (value_of-Some buffer_kind_word (Vector ∷ Grown ∷ Fixed ∷ []) first.0 kind first.2)
 
 -- Buffers.
 is_full-IsFull : (kind : Kind) (bytes : List ℕ) (total : ℕ) → IsFull kind bytes total → is_full kind (length bytes) total ≡ true
@@ -197,25 +185,16 @@ buffer_read all b is =
     (λ (bytes : List ℕ). bounded (record { kind = kind; bytes = bytes; total = total; begin = begin; end = end.0 }))
     (bytes_end end.1) in
     let behind_begin = λ (kind : Kind) (total : ℕ) (begin : ℕ × List (List ℕ)). option_and_then (behind_end kind total begin.0)
-    (number_field begin.1) in
-    let behind_total = λ (kind : Kind) (total : ℕ × List (List ℕ)). option_and_then (behind_begin kind total.0) (number_field total.1) in
-    let behind_kind = λ (kind : Kind × List (List ℕ)). option_and_then (behind_total kind.0) (number_field kind.1) in
-    let kind = and_then-Some behind_kind (kind_field all) b is in
-    let total = and_then-Some (behind_total kind.0.0) (number_field kind.0.1) b kind.2 in
-    let begin = and_then-Some (behind_begin kind.0.0 total.0.0) (number_field total.0.1) b total.2 in
-    let end = and_then-Some (behind_end kind.0.0 total.0.0 begin.0.0) (number_field begin.0.1) b begin.2 in
+    (field number_of begin.1) in
+    let behind_total = λ (kind : Kind) (total : ℕ × List (List ℕ)). option_and_then (behind_begin kind total.0) (field number_of total.1) in
+    let behind_kind = λ (kind : Kind × List (List ℕ)). option_and_then (behind_total kind.0) (field number_of kind.1) in
+    let kind = and_then-Some behind_kind (field buffer_kind_of all) b is in
+    let total = and_then-Some (behind_total kind.0.0) (field number_of kind.0.1) b kind.2 in
+    let begin = and_then-Some (behind_begin kind.0.0 total.0.0) (field number_of total.0.1) b total.2 in
+    let end = and_then-Some (behind_end kind.0.0 total.0.0 begin.0.0) (field number_of begin.0.1) b begin.2 in
     let bytes = and_then-Some (λ (bytes : List ℕ). bounded
     (record { kind = kind.0.0; bytes = bytes; total = total.0.0; begin = begin.0.0; end = end.0.0 })) (bytes_end end.0.1) b end.2 in
     buffer_parts all b kind.0.0 total.0.0 begin.0.0 end.0.0 bytes.0 kind.0.1 total.0.1 begin.0.1 end.0.1
     (kind_field-Some all kind.0.1 kind.0.0 kind.1) (number_field-Some kind.0.1 total.0.1 total.0.0 total.1)
     (number_field-Some total.0.1 begin.0.1 begin.0.0 begin.1)
     (number_field-Some begin.0.1 end.0.1 end.0.0 end.1) (bytes_end-Some end.0.1 bytes.0 bytes.1) bytes.2
-
--- One word that is read as a number is its digits.
-pub last_number-Some : (words : List (List ℕ)) (n : ℕ) → last_number_of words ≡ Some n → (words ≡ decimal n ∷ []) × (n < 2 ^ 64)
-last_number-Some words n is =
-    let found = and_then-Some (λ (m : ℕ × List (List ℕ)). at_end m.0 m.1) (number_field words) n is in
-    let end = at_end-Some found.0.0 found.0.1 n found.2 in
-    let number = number_field-Some words found.0.1 found.0.0 found.1 in
-    let P : ℕ → Type 0 = λ k. k < 2 ^ 64 in
-    (number.0 ∙ ap (λ (l : List (List ℕ)). decimal found.0.0 ∷ l) end.0 ∙ ap (λ (k : ℕ). decimal k ∷ []) end.1, subst P end.1 number.1)

@@ -7,9 +7,8 @@ use Rattle.std.proofs.lemmas.Grind.{common_steps}
 use Rattle.std.proofs.lemmas.List.{take_more, drop_all, append-nil}
 use Rattle.std.proofs.Math.Bool.{or-true}
 use Rattle.std.proofs.lemmas.Slice.Eq.{bytes_eq-Decides}
-use Rattle.event_text.specs.TextEvent.{AreBytes}
 use Rattle.event_text.specs.TextReads.{digit_value_of, pair_onto, pairs_of, bytes_of}
-use Rattle.event_text.specs.TextWords.{hex, hex_digit, bytes_word}
+use Rattle.event_text.specs.TextWords.{AreBytes, hex, hex_digit, bytes_word}
 
 -- A digit's value has that digit.
 pub digit_value_of-hex_digit : (v : ℕ) → v < 16 → digit_value_of (hex_digit v) ≡ v

@@ -10,9 +10,10 @@ use Rattle.std.proofs.lemmas.Option.{same_Some}
 use Rattle.std.proofs.lemmas.Slice.Eq.{bytes_eq-Decides}
 use Rattle.rent_buf.specs.Parts.{Parts, IsParts, parts_of_pairs, rooms_of}
 use Rattle.rent_buf.specs.Rent.{Rented}
-use Rattle.event_text.specs.TextEvent.{AreBytes, AreTypedParts, part_words, parts_words}
-use Rattle.event_text.specs.TextReads.{number_of, bytes_of, number_field, part_onto, parts_end, all_fit, counted, counted_of, parts_of}
-use Rattle.event_text.specs.TextWords.{bytes_word}
+use Rattle.event_text.specs.TextReaders.{field}
+use Rattle.event_text.specs.TextReads.{number_of, bytes_of, part_onto, parts_end, all_fit, counted, counted_of, parts_of}
+use Rattle.event_text.specs.TextRequest.{AreTypedParts, part_words, parts_words}
+use Rattle.event_text.specs.TextWords.{AreBytes, bytes_word}
 use Rattle.event_text.proofs.TextFields.{and-true, and_then-Some, map-Some, if-Some, number_field-Some}
 use Rattle.event_text.proofs.TextHex.{onto, bytes_of-bytes_word, bytes_of-Some}
 use Rattle.event_text.proofs.TextNumbers.{None-from, number_of-decimal, number_of-Some}
@@ -135,7 +136,7 @@ counted-new (Some parts) count pairs some exact is =
 
 -- What `PartsSpec::new` makes is what the words are read as.
 pub counted_of-new : (words behind : List (List ℕ)) (made : Option Parts) (count : ℕ) (pairs : List (ℕ × List ℕ))
-    → number_field words ≡ Some (count, behind) → Some (parts_of_pairs pairs) ≡ parts_end behind
+    → field number_of words ≡ Some (count, behind) → Some (parts_of_pairs pairs) ≡ parts_end behind
     → length pairs ≡ count → IfSome made (λ parts. parts ≡ parts_of_pairs pairs) → IsSome made ↔ IsParts (parts_of_pairs pairs)
     → made ≡ counted_of words
 counted_of-new words behind made count pairs number read is some exact =
@@ -205,7 +206,7 @@ counted_read : (words : List (List ℕ)) (parts : Parts) → counted_of words �
     → (codes "p" ∷ words ≡ parts_words parts) × AreTypedParts parts
 counted_read words parts is =
     let count = and_then-Some (λ (count : ℕ × List (List ℕ)). option_and_then (counted count.0) (parts_end count.1))
-    (number_field words) parts is in
+    (field number_of words) parts is in
     let found = and_then-Some (counted count.0.0) (parts_end count.0.1) parts count.2 in
     let tests = counted-Some count.0.0 found.0 parts found.2 in
     let number = number_field-Some words count.0.1 count.0.0 count.1 in

@@ -19,11 +19,6 @@ use Rattle.event_text.proofs.TextHex.{onto, pairs_of-more, pairs_of-stop, pairs_
 use Rattle.event_text.proofs.TextLinesRead.{HaveRead, have_read-more, have_read-wrong}
 use Rattle.event_text.proofs.TextParts.{counted-bounds, counted-None, rooms-more, rooms-alone, rooms-done}
 
--- An option is tested as what it is mapped to.
-pub is_some-map : {A B : Type 0} (f : A → B) (o : Option A) → is_some (option_map f o) ≡ is_some o
-is_some-map f None = refl
-is_some-map f (Some x) = refl
-
 -- So many lines in front of the rest stand for events.
 pub record HaveSeen (text rest : List ℕ) (n : ℕ) : Type 0 where
   pub events : List Event

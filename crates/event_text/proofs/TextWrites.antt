@@ -1,10 +1,12 @@
 -- What a write that failed leaves.
 use Rattle.std.proofs.Common.{◌≡◌, ◌∙◌, ℕ, ◌+◌, ◌-◌, ◌<◌, ◌≤◌, List, [], ◌∷◌, ◌++◌, length, get_or, take, drop, refl, ap, sym, arith}
-use Rattle.std.proofs.Common.{decimal, append_assoc}
+use Rattle.std.proofs.Common.{codes, decimal, append_assoc}
+use Rattle.std.specs.Prelude.{Option}
 use Rattle.std.proofs.lemmas.List.{take_more, take_all, append-nil}
 use Rattle.event_text.proofs.TextCuts.{take-rest}
 use Rattle.rent_buf.specs.Parts.{Parts, part_at}
-use Rattle.event_text.specs.TextEvent.{part_words, parts_words}
+use Rattle.event_text.specs.TextReply.{message_words}
+use Rattle.event_text.specs.TextRequest.{address_word, part_words, parts_words}
 use Rattle.event_text.specs.TextWords.{bytes_word, numbers_word, spaced}
 
 -- Numbers, each behind a comma.
@@ -89,3 +91,36 @@ pub parts-written : (old first all : List ℕ) (parts : Parts) (count i : ℕ) �
     → all ≡ first ++ behind_spaces (part_words (take i parts)) → all ≡ old ++ spaced (parts_words parts)
 parts-written old first all parts count i done isc is0 is1 =
     rw (is1, is0, isc, take_all i parts done, spaced-cons (decimal (length parts)) (part_words parts)) (simp append_assoc)
+
+-- The words of joined messages are those of each, joined.
+message_words-append : (ms ns : List (Option ℕ × List ℕ)) → message_words (ms ++ ns) ≡ message_words ms ++ message_words ns
+message_words-append [] ns = refl
+message_words-append (m ∷ ms) ns =
+    ap (λ (words : List (List ℕ)). address_word m.0 ∷ bytes_word m.1 ∷ words) (message_words-append ms ns)
+
+-- What the loop of `put_messages` leaves after one message more.
+pub messages-more : (old before between behind bytes : List ℕ) (messages : List (Option ℕ × List ℕ)) (i : ℕ) (message : Option ℕ × List ℕ)
+    → i < length messages → before ≡ old ++ behind_spaces (message_words (take i messages)) → message ≡ get_or messages i message
+    → bytes ≡ message.1 → between ≡ before ++ 32 ∷ address_word message.0 → behind ≡ between ++ 32 ∷ bytes_word bytes
+    → behind ≡ old ++ behind_spaces (message_words (take (i + 1) messages))
+messages-more old before between behind bytes messages i message below is0 ism isb is1 is2 =
+    rw (
+      is2,
+      is1,
+      is0,
+      isb,
+      take_more messages i message below,
+      sym ism,
+      message_words-append (take i messages) (message ∷ []),
+      behind_spaces-append (message_words (take i messages)) (message_words (message ∷ [])),
+      append-nil (bytes_word message.1),
+    )
+    (simp append_assoc)
+
+-- What `put_messages` leaves.
+pub messages-written : (old first all : List ℕ) (messages items : List (Option ℕ × List ℕ)) (count i : ℕ) → items ≡ messages
+    → length items ≤ i → count ≡ length messages → first ≡ old ++ (codes "messages " ++ decimal count)
+    → all ≡ first ++ behind_spaces (message_words (take i items))
+    → all ≡ old ++ spaced (codes "messages" ∷ decimal (length messages) ∷ message_words messages)
+messages-written old first all messages items count i same done isc is0 is1 =
+    rw (is1, is0, isc, take_all i items done, same, spaced-cons (decimal (length messages)) (message_words messages)) (simp append_assoc)

@@ -1,8 +1,11 @@
 pub mod TextWords
+pub mod TextRequest
 pub mod TextEvent
 pub mod TextReply
 pub mod TextLines
 pub mod TextWrites
+pub mod TextReaders
 pub mod TextReads
+pub mod TextRequestReads
 pub mod TextEventReads
 pub mod TextValid

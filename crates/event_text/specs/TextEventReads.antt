@@ -1,98 +1,106 @@
--- What the readers of a line's requests and events answer. Only contracts of private functions cite these: `event_of-stands` and
--- `stands-event_of` (proofs/TextEvents.antt) prove that a line is read as an event exactly when it stands for it.
-use Rattle.std.specs.Prelude.{ℕ, ◌^◌, nat_lt, if◌then◌else◌, List, [], ◌∷◌, codes, bytes_eq, Option, Some, None, option_and_then}
-use Rattle.std.specs.Prelude.{option_map}
-use Rattle.rent_buf.specs.Buffer.{Buffer}
-use Rattle.rent_buf.specs.Parts.{Parts}
+-- What the readers of a line's events answer: tables of first words, each with what is read behind it. Only contracts of private functions
+-- cite these: `event_of-stands` and `stands-event_of` (proofs/TextEvents.antt) prove that a line is read as an event exactly when it
+-- stands for it.
+use Rattle.std.specs.Prelude.{ℕ, ◌^◌, List, [], ◌∷◌, codes, Option, Some, None, option_map}
 use Rattle.ring_core.specs.declared.ledger.Event.{Event}
-use Rattle.ring_core.specs.declared.ledger.Event.TheVariants.{Give, Feed, End, Look, Close, Submit, Poll, Drop, Cancel, Turn, Exec}
-use Rattle.ring_core.specs.declared.request.Request.{Request}
-use Rattle.ring_core.specs.declared.request.Request.TheVariants.{Recv, ReadVec, Send, WriteVec}
+use Rattle.ring_core.specs.declared.ledger.Event.TheVariants.{Give, Feed, FeedMessage, End, Look, Close, Submit, Poll, Drop, Cancel}
+use Rattle.ring_core.specs.declared.ledger.Event.TheVariants.{NewCanceller, NewHandle, CancelAll, Turn, Exec}
 use Rattle.ring_core.specs.declared.request.Told.{Told}
 use Rattle.ring_core.specs.declared.request.Told.TheVariants.{Count, Fail}
-use Rattle.event_text.specs.TextReads.{number_field, last_number_of, bytes_end, at_end, handle_kind_of, buffer_of, parts_of}
+use Rattle.event_text.specs.TextReaders.{with_first, at_end, last_of, row, by_name}
+use Rattle.event_text.specs.TextReads.{number_of, number_below, bytes_end, handle_kind_of}
+use Rattle.event_text.specs.TextRequestReads.{request_of}
 
--- The handle that the first word writes, with what the further words write.
-abbrev pub with_handle : {A : Type 0} → (List (List ℕ) → Option A) → List (List ℕ) → Option (ℕ × A)
-with_handle read words = option_and_then (λ h. option_map (λ found. (h.0, found)) (read h.1)) (number_field words)
-
--- The request of this name that the words behind it write.
-abbrev pub request_by : List ℕ → List (List ℕ) → Option (Request Buffer Parts)
-request_by word words =
-    if bytes_eq word (codes "recv") then option_map (λ found. Recv found.0 found.1) (with_handle buffer_of words)
-    else if bytes_eq word (codes "readv") then option_map (λ found. ReadVec found.0 found.1) (with_handle parts_of words)
-    else if bytes_eq word (codes "send") then option_map (λ found. Send found.0 found.1) (with_handle buffer_of words)
-    else if bytes_eq word (codes "writev") then option_map (λ found. WriteVec found.0 found.1) (with_handle parts_of words)
-    else None
-
--- The request that words write.
-abbrev pub request_of : List (List ℕ) → Option (Request Buffer Parts)
-request_of [] = None
-request_of (word ∷ words) = request_by word words
-
--- What an executor tells, by one word, a number below a bound.
-abbrev pub told_below : ℕ → (ℕ → Told) → List (List ℕ) → Option Told
-told_below bound make words = option_and_then (λ number. if nat_lt number bound then Some (make number) else None) (last_number_of words)
+-- What an executor tells, by its words.
+abbrev pub told_rows : List (List ℕ × (List (List ℕ) → Option Told))
+told_rows = row (codes "ok") Count (last_of (number_below (2 ^ 32))) ∷ row (codes "err") Fail (last_of (number_below (2 ^ 16))) ∷ []
 
 -- What an executor tells, by words.
 abbrev pub told_of : List (List ℕ) → Option Told
 told_of [] = None
-told_of (word ∷ words) =
-    if bytes_eq word (codes "ok") then told_below (2 ^ 32) Count words
-    else if bytes_eq word (codes "err") then told_below (2 ^ 16) Fail words
-    else None
+told_of (name ∷ words) = by_name told_rows None name words
 
 -- The events by the words behind their first one: of no word,
 abbrev pub turn_of : List (List ℕ) → Option Event
 turn_of words = at_end Turn words
 
+-- .. of no word, too,
+abbrev pub canceller_of : List (List ℕ) → Option Event
+canceller_of words = at_end NewCanceller words
+
 -- .. of one kind of handle.
 abbrev pub give_of : List (List ℕ) → Option Event
-give_of [] = None
-give_of (word ∷ words) = option_and_then (λ kind. at_end (Give kind) words) (handle_kind_of word)
+give_of words = option_map Give (last_of handle_kind_of words)
 
 -- .. of a handle and bytes.
 abbrev pub feed_of : List (List ℕ) → Option Event
-feed_of words = option_and_then (λ h. option_map (λ bytes. Feed h.0 bytes) (bytes_end h.1)) (number_field words)
+feed_of words = option_map (λ found. Feed found.0 found.1) (with_first number_of bytes_end words)
+
+-- .. of a handle, an address and bytes.
+abbrev pub message_of : List (List ℕ) → Option Event
+message_of words =
+    option_map (λ found. FeedMessage found.0 found.1.0 found.1.1) (with_first number_of (with_first number_of bytes_end) words)
 
 -- .. of a request.
 abbrev pub submit_of : List (List ℕ) → Option Event
-submit_of words = option_map Submit (request_of words)
+submit_of words = option_map (λ request. Submit request None) (request_of words)
+
+-- .. of a cancel handle and a request.
+abbrev pub under_of : List (List ℕ) → Option Event
+under_of words = option_map (λ found. Submit found.1 (Some found.0)) (with_first number_of request_of words)
 
 -- .. of an operation and a task.
 abbrev pub poll_of : List (List ℕ) → Option Event
-poll_of words = option_and_then (λ n. option_and_then (λ task. at_end (Poll n.0 task.0) task.1) (number_field n.1)) (number_field words)
-
--- .. of one number, from which it is made.
-abbrev pub numbered_of : (ℕ → Event) → List (List ℕ) → Option Event
-numbered_of make words = option_map make (last_number_of words)
+poll_of words = option_map (λ found. Poll found.0 found.1) (with_first number_of (last_of number_of) words)
 
 -- .. of a place and what is told.
 abbrev pub exec_of : List (List ℕ) → Option Event
-exec_of words = option_and_then (λ place. option_map (λ told. Exec place.0 told) (told_of place.1)) (number_field words)
+exec_of words = option_map (λ found. Exec found.0 found.1) (with_first number_of told_of words)
 
--- The event of one number, by its first word and those behind it.
+-- Events of one number.
+abbrev pub numbered_rows : List (List ℕ × (List (List ℕ) → Option Event))
+numbered_rows =
+    row (codes "drop") Drop (last_of number_of)
+    ∷ row (codes "cancel") Cancel (last_of number_of)
+    ∷ row (codes "end") End (last_of number_of)
+    ∷ row (codes "look") Look (last_of number_of)
+    ∷ row (codes "close") Close (last_of number_of)
+    ∷ row (codes "newhandle") NewHandle (last_of number_of)
+    ∷ row (codes "cancelall") CancelAll (last_of number_of)
+    ∷ []
+
+-- Events that submit a request, or create a handle or a canceller.
+abbrev pub created_rows : List (List ℕ × (List (List ℕ) → Option Event))
+created_rows =
+    (codes "submit", submit_of)
+    ∷ (codes "under", under_of)
+    ∷ (codes "give", give_of)
+    ∷ (codes "canceller", canceller_of)
+    ∷ []
+
+-- Events of a turn, an execution, a poll, and of what arrives.
+abbrev pub event_rows : List (List ℕ × (List (List ℕ) → Option Event))
+event_rows =
+    (codes "turn", turn_of)
+    ∷ (codes "exec", exec_of)
+    ∷ (codes "poll", poll_of)
+    ∷ (codes "feed", feed_of)
+    ∷ (codes "message", message_of)
+    ∷ []
+
+-- The event by its first word and those behind it, by the tables from one of them on.
 unfoldable pub numbered_by : List ℕ → List (List ℕ) → Option Event
-numbered_by word words =
-    if bytes_eq word (codes "drop") then numbered_of Drop words
-    else if bytes_eq word (codes "cancel") then numbered_of Cancel words
-    else if bytes_eq word (codes "end") then numbered_of End words
-    else if bytes_eq word (codes "look") then numbered_of Look words
-    else if bytes_eq word (codes "close") then numbered_of Close words
-    else None
+numbered_by name words = by_name numbered_rows None name words
 
--- The event by its first word and those behind it.
+-- .. from that of what submits or creates on,
+unfoldable pub created_by : List ℕ → List (List ℕ) → Option Event
+created_by name words = by_name created_rows (numbered_by name words) name words
+
+-- .. by all of them.
 unfoldable pub event_by : List ℕ → List (List ℕ) → Option Event
-event_by word words =
-    if bytes_eq word (codes "turn") then turn_of words
-    else if bytes_eq word (codes "exec") then exec_of words
-    else if bytes_eq word (codes "poll") then poll_of words
-    else if bytes_eq word (codes "feed") then feed_of words
-    else if bytes_eq word (codes "submit") then submit_of words
-    else if bytes_eq word (codes "give") then give_of words
-    else numbered_by word words
+event_by name words = by_name event_rows (created_by name words) name words
 
 -- The event that words write.
 abbrev pub event_of : List (List ℕ) → Option Event
 event_of [] = None
-event_of (word ∷ words) = event_by word words
+event_of (name ∷ words) = event_by name words

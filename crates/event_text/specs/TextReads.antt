@@ -1,16 +1,19 @@
 -- What the readers of a line's words answer: numbers, bytes, buffers and parts. Public contracts cite only `number_of` and `bytes_of`,
 -- the others are of private functions: `event_of-stands` and `stands-event_of` (proofs/TextEvents.antt) prove that a line is read as an
 -- event exactly when it stands for it.
-use Rattle.std.specs.Prelude.{ℕ, Bool, true, ◌+◌, ◌-◌, ◌*◌, ◌^◌, ◌==◌, ◌&&◌, ◌||◌, nat_lt, nat_le, if◌then◌else◌, List, [], ◌∷◌, length}
-use Rattle.std.specs.Prelude.{codes, bytes_eq, decimal, Option, Some, None, option_and_then, option_map}
+use Rattle.std.specs.Prelude.{ℕ, Bool, true, false, ◌+◌, ◌-◌, ◌*◌, ◌^◌, ◌==◌, ◌&&◌, ◌||◌, nat_lt, nat_le, if◌then◌else◌, List, [], ◌∷◌}
+use Rattle.std.specs.Prelude.{length, codes, bytes_eq, decimal, Option, Some, None, option_and_then, option_map}
 use Rattle.std.specs.Str.Parse.{digits_value}
 use Rattle.rent_buf.specs.Buffer.{Buffer}
 use Rattle.rent_buf.specs.Parts.{Parts, rooms_of}
 use Rattle.rent_buf.specs.declared.kind.Kind.{Kind}
 use Rattle.rent_buf.specs.declared.kind.Kind.TheVariants.{Vector, Grown, Fixed}
 use Rattle.ring_core.specs.declared.world.HandleKind.{HandleKind}
-use Rattle.ring_core.specs.declared.world.HandleKind.TheVariants.{Stream}
+use Rattle.ring_core.specs.declared.world.HandleKind.TheVariants.{Stream, Datagram, File, Pipe, Listener}
+use Rattle.event_text.specs.TextEvent.{handle_kind_word}
 use Rattle.event_text.specs.TextLines.{onto_first}
+use Rattle.event_text.specs.TextReaders.{value_of, field}
+use Rattle.event_text.specs.TextRequest.{buffer_kind_word}
 
 -- The words of a line, which a space ends.
 abbrev pub words : List ℕ → List (List ℕ)
@@ -26,6 +29,10 @@ words_behind (space ∷ bytes) = words bytes
 unfoldable pub number_of : List ℕ → Option ℕ
 number_of word =
     if nat_lt (digits_value 10 word) (2 ^ 64) && bytes_eq (decimal (digits_value 10 word)) word then Some (digits_value 10 word) else None
+
+-- The number below a bound that a word writes.
+abbrev pub number_below : ℕ → List ℕ → Option ℕ
+number_below bound word = option_and_then (λ number. if nat_lt number bound then Some number else None) (number_of word)
 
 -- The value of a lower-case hexadecimal digit, or 16.
 abbrev pub digit_value_of : ℕ → ℕ
@@ -49,42 +56,27 @@ pairs_of (high ∷ low ∷ digits) = pair_onto (digit_value_of high) (digit_valu
 abbrev pub bytes_of : List ℕ → Option (List ℕ)
 bytes_of word = if bytes_eq word (codes "-") then Some [] else if length word == 0 then None else pairs_of word
 
--- The number that the first word writes, and the further words.
-abbrev pub number_field : List (List ℕ) → Option (ℕ × List (List ℕ))
-number_field [] = None
-number_field (word ∷ words) = option_and_then (λ number. Some (number, words)) (number_of word)
+-- The address that a word writes, or that there is none.
+abbrev pub address_of : List ℕ → Option (Option ℕ)
+address_of word = if bytes_eq word (codes "-") then Some None else option_map Some (number_of word)
 
--- The value, where no further word stands.
-abbrev pub at_end : {A : Type 0} → A → List (List ℕ) → Option A
-at_end value [] = Some value
-at_end value (word ∷ words) = None
+-- Whether a word is the first of two, or the second.
+abbrev pub flag_of : List ℕ → List ℕ → List ℕ → Option Bool
+flag_of set unset word = if bytes_eq word set then Some true else if bytes_eq word unset then Some false else None
 
--- The number that the one word writes.
-abbrev pub last_number_of : List (List ℕ) → Option ℕ
-last_number_of words = option_and_then (λ number. at_end number.0 number.1) (number_field words)
+-- The kind of a handle that a word writes.
+abbrev pub handle_kind_of : List ℕ → Option HandleKind
+handle_kind_of word = value_of handle_kind_word (Stream ∷ Datagram ∷ File ∷ Pipe ∷ Listener ∷ []) word
+
+-- The kind of a buffer that a word writes.
+abbrev pub buffer_kind_of : List ℕ → Option Kind
+buffer_kind_of word = value_of buffer_kind_word (Vector ∷ Grown ∷ Fixed ∷ []) word
 
 -- The bytes that the one word writes.
 abbrev pub bytes_end : List (List ℕ) → Option (List ℕ)
 bytes_end [] = None
 bytes_end (word ∷ []) = bytes_of word
 bytes_end (word ∷ _) = None
-
--- The kind of a handle that a word writes.
-abbrev pub handle_kind_of : List ℕ → Option HandleKind
-handle_kind_of word = if bytes_eq word (codes "stream") then Some Stream else None
-
--- The kind of a buffer that a word writes.
-abbrev pub buffer_kind_of : List ℕ → Option Kind
-buffer_kind_of word =
-    if bytes_eq word (codes "v") then Some Vector
-    else if bytes_eq word (codes "g") then Some Grown
-    else if bytes_eq word (codes "b") then Some Fixed
-    else None
-
--- The kind of a buffer that the first word writes, and the further words.
-abbrev pub kind_field : List (List ℕ) → Option (Kind × List (List ℕ))
-kind_field [] = None
-kind_field (word ∷ words) = option_and_then (λ kind. Some (kind, words)) (buffer_kind_of word)
 
 -- A buffer of the kind may have so many bytes.
 abbrev pub is_full : Kind → ℕ → ℕ → Bool
@@ -104,7 +96,7 @@ abbrev pub buffer_of : List (List ℕ) → Option Buffer
 buffer_of words =
     option_and_then (λ kind. option_and_then (λ total. option_and_then (λ begin. option_and_then (λ end. option_and_then (λ bytes.
     bounded (record { kind = kind.0; bytes = bytes; total = total.0; begin = begin.0; end = end.0 }))
-    (bytes_end end.1)) (number_field begin.1)) (number_field total.1)) (number_field kind.1)) (kind_field words)
+    (bytes_end end.1)) (field number_of begin.1)) (field number_of total.1)) (field number_of kind.1)) (field buffer_kind_of words)
 
 -- A part in front of parts that were read.
 abbrev pub part_onto : Option ℕ → Option (List ℕ) → Option Parts → Option Parts
@@ -129,7 +121,7 @@ counted count parts = if count == length parts && all_fit parts && nat_lt (rooms
 
 -- The parts that the words behind `p` write: their number, then their rooms and bytes.
 abbrev pub counted_of : List (List ℕ) → Option Parts
-counted_of words = option_and_then (λ count. option_and_then (counted count.0) (parts_end count.1)) (number_field words)
+counted_of words = option_and_then (λ count. option_and_then (counted count.0) (parts_end count.1)) (field number_of words)
 
 -- The parts that words write.
 abbrev pub parts_of : List (List ℕ) → Option Parts

@@ -1,5 +1,5 @@
 -- How words, numbers and bytes are written. The texts of events and of replies cite these.
-use Rattle.std.specs.Prelude.{ℕ, ◌+◌, ◌/◌, ◌%◌, List, [], ◌∷◌, ◌++◌, map, codes, decimal, nat_lt, if◌then◌else◌}
+use Rattle.std.specs.Prelude.{ℕ, ◌+◌, ◌/◌, ◌%◌, ◌<◌, List, [], ◌∷◌, ◌++◌, All, map, codes, decimal, nat_lt, if◌then◌else◌}
 
 -- Pieces with one byte between them.
 abbrev pub joined : ℕ → List (List ℕ) → List ℕ
@@ -10,6 +10,10 @@ joined between (piece ∷ more) = piece ++ between ∷ joined between more
 -- Words with one space between them.
 abbrev pub spaced : List (List ℕ) → List ℕ
 spaced words = joined 32 words
+
+-- Bytes of the program: each is below 256.
+abbrev pub AreBytes : List ℕ → Type 0
+AreBytes bytes = All (λ byte. byte < 256) bytes
 
 -- The lower-case hexadecimal digit of a value below 16.
 abbrev pub hex_digit : ℕ → ℕ

@@ -2,10 +2,11 @@
 ghost use Rattle.std.specs.Prelude.{◌≡◌, ◌++◌, IfOk, MatchOption, OnOk, OnErr, Some, None, option_map};
 ghost use Rattle.rent_buf.specs.Parts.{parts_of_pairs};
 ghost use Rattle.event_text.specs.TextWrites.{Starts};
-ghost use Rattle.event_text.specs.TextEvent.{buffer_kind_word, buffer_words, parts_words};
 ghost use Rattle.event_text.specs.TextReply.{held_words};
+ghost use Rattle.event_text.specs.TextRequest.{buffer_kind_word, buffer_words, parts_words};
 ghost use Rattle.event_text.specs.TextWords.{spaced};
-ghost use Rattle.event_text.specs.TextReads.{words_behind, buffer_of, parts_of, counted_of, parts_end, kind_field, buffer_kind_of};
+ghost use Rattle.event_text.specs.TextReaders.{field};
+ghost use Rattle.event_text.specs.TextReads.{words_behind, buffer_of, parts_of, counted_of, parts_end, buffer_kind_of};
 
 use crate::word::hex::{put_bytes, read_bytes};
 use crate::word::number::read_number;
@@ -39,8 +40,8 @@ pub(crate) fn read_buffer(alloc: Global, rest: &[u8]) -> Result<Option<BufSpec>,
 }
 
 pub(crate) fn next_buffer_kind(rest: &[u8]) -> Option<(Kind, &[u8])>
-    ensures { MatchOption result (kind_field (words_behind rest.now) ≡ None)
-        (λ cut. kind_field (words_behind rest.now) ≡ Some (cut.0, words_behind cut.1.now)) }
+    ensures { MatchOption result (field buffer_kind_of (words_behind rest.now) ≡ None)
+        (λ cut. field buffer_kind_of (words_behind rest.now) ≡ Some (cut.0, words_behind cut.1.now)) }
 {
     let (word, rest) = next_word(rest)?;
     let kind = buffer_kind(word)?;
@@ -107,7 +108,7 @@ fn read_rooms(alloc: Global, rest: &[u8]) -> Result<Option<Vec<(usize, ByteList)
     Ok(Some(pairs))
 }
 
-/// Appends the words of a buffer or of parts.
+/// Appends the words of what a request held.
 pub(crate) fn put_held(held: &HeldBuf, out: &mut Vec<u8>) -> Result<(), OutOfMemory>
     ensures ok { OnOk result (out.new.items ≡ out.old.items ++ spaced (held_words held.now)) }
     ensures err { OnErr result (Starts out.old.items out.new.items) }
@@ -115,6 +116,7 @@ pub(crate) fn put_held(held: &HeldBuf, out: &mut Vec<u8>) -> Result<(), OutOfMem
     match held {
         HeldBuf::One(buf) => put_buffer(buf, out),
         HeldBuf::Parts(parts) => put_parts(parts, out),
+        HeldBuf::Nothing => put_byte(b'-', out),
     }
 }
 

@@ -1,17 +1,16 @@
 //! Events as text: one line each, read and written.
-ghost use Rattle.std.specs.Prelude.{◌≡◌, ◌++◌, ◌^◌, IfOk, OnOk, OnErr};
+ghost use Rattle.std.specs.Prelude.{◌≡◌, ◌++◌, IfOk, OnOk, OnErr};
 ghost use Rattle.event_text.specs.TextWrites.{Starts};
 ghost use Rattle.event_text.specs.TextEvent.{event_text};
 ghost use Rattle.event_text.specs.TextReads.{words, words_behind, handle_kind_of};
-ghost use Rattle.event_text.specs.TextEventReads.{event_of, feed_of, submit_of, poll_of, exec_of, give_of, numbered_by, turn_of, told_of};
-ghost use Rattle.event_text.specs.TextEventReads.{told_below};
+ghost use Rattle.event_text.specs.TextEventReads.{event_of, feed_of, message_of, submit_of, under_of, poll_of, exec_of, give_of};
+ghost use Rattle.event_text.specs.TextEventReads.{turn_of, canceller_of, created_by, numbered_by, told_of};
 
-use crate::request::{put_request, read_request};
-use crate::word::hex::put_bytes;
-use crate::word::number::put_number;
+use crate::request::put::put_request;
+use crate::request::read_request;
 use crate::word::{
-    first_word, is_word, last_bytes, last_number, next_number, next_word, put, put_byte,
-    put_counted,
+    first_word, if_last, is_word, last_bytes, last_number, last_u16, last_u32, next_number,
+    next_word, put, put_byte, put_counted, put_next_bytes, put_next_number,
 };
 use rent_buf::{BufSpec, OutOfMemory, PartsSpec};
 use ring_core::{Event, HandleKind, Request, Told};
@@ -35,11 +34,28 @@ pub(crate) fn event_of_line(alloc: Global, line: &[u8]) -> Result<Option<Event>,
     if is_word(word, b"feed") {
         return feed_event(alloc, rest);
     }
+    if is_word(word, b"message") {
+        return message_event(alloc, rest);
+    }
+    created_event(alloc, word, rest)
+}
+
+// An event that submits a request, or creates a handle or a canceller, or what `numbered_event` reads.
+#[tactic(auto, unfolding(crate::specs::TextEventReads::created_by))]
+fn created_event(alloc: Global, word: &[u8], rest: &[u8]) -> Result<Option<Event>, OutOfMemory>
+    ensures { IfOk result (λ event. event ≡ created_by word.now (words_behind rest.now)) }
+{
     if is_word(word, b"submit") {
         return submit_event(alloc, rest);
     }
+    if is_word(word, b"under") {
+        return under_event(alloc, rest);
+    }
     if is_word(word, b"give") {
         return Ok(give_event(rest));
+    }
+    if is_word(word, b"canceller") {
+        return Ok(canceller_event(rest));
     }
     Ok(numbered_event(word, rest))
 }
@@ -64,6 +80,12 @@ pub(crate) fn numbered_event(word: &[u8], rest: &[u8]) -> Option<Event>
     if is_word(word, b"close") {
         return last_number(rest).map(Event::Close);
     }
+    if is_word(word, b"newhandle") {
+        return last_number(rest).map(Event::NewHandle);
+    }
+    if is_word(word, b"cancelall") {
+        return last_number(rest).map(Event::CancelAll);
+    }
     None
 }
 
@@ -87,10 +109,13 @@ pub fn write_event(event: &Event, out: &mut Vec<u8>) -> Result<(), OutOfMemory>
 pub(crate) fn turn_event(rest: &[u8]) -> Option<Event>
     ensures { result ≡ turn_of (words_behind rest.now) }
 {
-    match next_word(rest) {
-        None => Some(Event::Turn),
-        Some(_) => None,
-    }
+    if_last(Event::Turn, rest)
+}
+
+pub(crate) fn canceller_event(rest: &[u8]) -> Option<Event>
+    ensures { result ≡ canceller_of (words_behind rest.now) }
+{
+    if_last(Event::NewCanceller, rest)
 }
 
 pub(crate) fn give_event(rest: &[u8]) -> Option<Event>
@@ -98,10 +123,7 @@ pub(crate) fn give_event(rest: &[u8]) -> Option<Event>
 {
     let (word, rest) = next_word(rest)?;
     let kind = handle_kind(word)?;
-    match next_word(rest) {
-        None => Some(Event::Give(kind)),
-        Some(_) => None,
-    }
+    if_last(Event::Give(kind), rest)
 }
 
 fn feed_event(alloc: Global, rest: &[u8]) -> Result<Option<Event>, OutOfMemory>
@@ -116,11 +138,38 @@ fn feed_event(alloc: Global, rest: &[u8]) -> Result<Option<Event>, OutOfMemory>
     }
 }
 
+fn message_event(alloc: Global, rest: &[u8]) -> Result<Option<Event>, OutOfMemory>
+    ensures { IfOk result (λ event. event ≡ message_of (words_behind rest.now)) }
+{
+    let Some((h, rest)) = next_number(rest) else {
+        return Ok(None);
+    };
+    let Some((address, rest)) = next_number(rest) else {
+        return Ok(None);
+    };
+    match last_bytes(alloc, rest)? {
+        Some(bytes) => Ok(Some(Event::FeedMessage(h, address, bytes))),
+        None => Ok(None),
+    }
+}
+
 fn submit_event(alloc: Global, rest: &[u8]) -> Result<Option<Event>, OutOfMemory>
     ensures { IfOk result (λ event. event ≡ submit_of (words_behind rest.now)) }
 {
     match read_request(alloc, rest)? {
-        Some(request) => Ok(Some(Event::Submit(request))),
+        Some(request) => Ok(Some(Event::Submit(request, None))),
+        None => Ok(None),
+    }
+}
+
+fn under_event(alloc: Global, rest: &[u8]) -> Result<Option<Event>, OutOfMemory>
+    ensures { IfOk result (λ event. event ≡ under_of (words_behind rest.now)) }
+{
+    let Some((handle, rest)) = next_number(rest) else {
+        return Ok(None);
+    };
+    match read_request(alloc, rest)? {
+        Some(request) => Ok(Some(Event::Submit(request, Some(handle)))),
         None => Ok(None),
     }
 }
@@ -129,11 +178,8 @@ pub(crate) fn poll_event(rest: &[u8]) -> Option<Event>
     ensures { result ≡ poll_of (words_behind rest.now) }
 {
     let (n, rest) = next_number(rest)?;
-    let (task, rest) = next_number(rest)?;
-    match next_word(rest) {
-        None => Some(Event::Poll(n, task)),
-        Some(_) => None,
-    }
+    let task = last_number(rest)?;
+    Some(Event::Poll(n, task))
 }
 
 pub(crate) fn exec_event(rest: &[u8]) -> Option<Event>
@@ -149,44 +195,33 @@ fn read_told(rest: &[u8]) -> Option<Told>
 {
     let (word, rest) = next_word(rest)?;
     if is_word(word, b"ok") {
-        return read_count(rest);
+        return last_u32(rest).map(Told::Count);
     }
     if is_word(word, b"err") {
-        return read_error(rest);
+        return last_u16(rest).map(Told::Fail);
     }
     None
-}
-
-// What is told by a count.
-fn read_count(rest: &[u8]) -> Option<Told>
-    ensures { result ≡ told_below (2 ^ 32) Told.Count (words_behind rest.now) }
-{
-    let k = last_number(rest)?;
-    if k > u32::MAX as u64 {
-        return None;
-    }
-    Some(Told::Count(k as u32))
-}
-
-// What is told by an error.
-fn read_error(rest: &[u8]) -> Option<Told>
-    ensures { result ≡ told_below (2 ^ 16) Told.Fail (words_behind rest.now) }
-{
-    let e = last_number(rest)?;
-    if e > u16::MAX as u64 {
-        return None;
-    }
-    Some(Told::Fail(e as u16))
 }
 
 fn handle_kind(word: &[u8]) -> Option<HandleKind>
     ensures { result ≡ handle_kind_of word.now }
 {
     if is_word(word, b"stream") {
-        Some(HandleKind::Stream)
-    } else {
-        None
+        return Some(HandleKind::Stream);
     }
+    if is_word(word, b"datagram") {
+        return Some(HandleKind::Datagram);
+    }
+    if is_word(word, b"file") {
+        return Some(HandleKind::File);
+    }
+    if is_word(word, b"pipe") {
+        return Some(HandleKind::Pipe);
+    }
+    if is_word(word, b"listener") {
+        return Some(HandleKind::Listener);
+    }
+    None
 }
 
 // Each of these appends, and if memory runs out `out` begins as it was.
@@ -198,13 +233,17 @@ fn put_event(event: &Event, out: &mut Vec<u8>) -> Result<(), OutOfMemory>
     match event {
         Event::Give(kind) => put_give(*kind, out),
         Event::Feed(h, bytes) => put_feed(*h, bytes.as_slice(), out),
+        Event::FeedMessage(h, address, bytes) => put_message(*h, *address, bytes.as_slice(), out),
         Event::End(h) => put_counted(b"end ", *h, out),
         Event::Look(h) => put_counted(b"look ", *h, out),
         Event::Close(h) => put_counted(b"close ", *h, out),
-        Event::Submit(request) => put_submit(request, out),
+        Event::Submit(request, under) => put_submit(request, *under, out),
         Event::Poll(n, task) => put_poll(*n, *task, out),
         Event::Drop(n) => put_counted(b"drop ", *n, out),
         Event::Cancel(n) => put_counted(b"cancel ", *n, out),
+        Event::NewCanceller => put(b"canceller", out),
+        Event::NewHandle(c) => put_counted(b"newhandle ", *c, out),
+        Event::CancelAll(c) => put_counted(b"cancelall ", *c, out),
         Event::Turn => put(b"turn", out),
         Event::Exec(place, told) => put_exec(*place, *told, out),
     }
@@ -216,6 +255,10 @@ fn put_give(kind: HandleKind, out: &mut Vec<u8>) -> Result<(), OutOfMemory>
 {
     match kind {
         HandleKind::Stream => put(b"give stream", out),
+        HandleKind::Datagram => put(b"give datagram", out),
+        HandleKind::File => put(b"give file", out),
+        HandleKind::Pipe => put(b"give pipe", out),
+        HandleKind::Listener => put(b"give listener", out),
     }
 }
 
@@ -223,17 +266,34 @@ fn put_feed(h: u64, bytes: &[u8], out: &mut Vec<u8>) -> Result<(), OutOfMemory>
     ensures ok { OnOk result (out.new.items ≡ out.old.items ++ event_text (Event.Feed h bytes.now)) }
     ensures err { OnErr result (Starts out.old.items out.new.items) }
 {
-    put(b"feed ", out)?;
-    put_number(h, out)?;
-    put_byte(b' ', out)?;
-    put_bytes(bytes, out)
+    put_counted(b"feed ", h, out)?;
+    put_next_bytes(bytes, out)
 }
 
-fn put_submit(request: &Request<BufSpec, PartsSpec>, out: &mut Vec<u8>) -> Result<(), OutOfMemory>
-    ensures ok { OnOk result (out.new.items ≡ out.old.items ++ event_text (Event.Submit request.now)) }
+fn put_message(h: u64, address: u64, bytes: &[u8], out: &mut Vec<u8>) -> Result<(), OutOfMemory>
+    ensures ok { OnOk result (out.new.items ≡ out.old.items ++ event_text (Event.FeedMessage h address bytes.now)) }
     ensures err { OnErr result (Starts out.old.items out.new.items) }
 {
-    put(b"submit ", out)?;
+    put_counted(b"message ", h, out)?;
+    put_next_number(address, out)?;
+    put_next_bytes(bytes, out)
+}
+
+fn put_submit(
+    request: &Request<BufSpec, PartsSpec>,
+    under: Option<u64>,
+    out: &mut Vec<u8>,
+) -> Result<(), OutOfMemory>
+    ensures ok { OnOk result (out.new.items ≡ out.old.items ++ event_text (Event.Submit request.now under)) }
+    ensures err { OnErr result (Starts out.old.items out.new.items) }
+{
+    match under {
+        None => put(b"submit ", out)?,
+        Some(handle) => {
+            put_counted(b"under ", handle, out)?;
+            put_byte(b' ', out)?;
+        }
+    }
     put_request(request, out)
 }
 
@@ -241,10 +301,8 @@ fn put_poll(n: u64, task: u64, out: &mut Vec<u8>) -> Result<(), OutOfMemory>
     ensures ok { OnOk result (out.new.items ≡ out.old.items ++ event_text (Event.Poll n task)) }
     ensures err { OnErr result (Starts out.old.items out.new.items) }
 {
-    put(b"poll ", out)?;
-    put_number(n, out)?;
-    put_byte(b' ', out)?;
-    put_number(task, out)
+    put_counted(b"poll ", n, out)?;
+    put_next_number(task, out)
 }
 
 fn put_exec(place: usize, told: Told, out: &mut Vec<u8>) -> Result<(), OutOfMemory>

@@ -6,8 +6,8 @@ ghost use Rattle.event_text.specs.TextWords.{numbers_word};
 
 use crate::buffer::put_held;
 use crate::word::number::put_number;
-use crate::word::{put, put_byte, put_counted, put_next_bytes};
-use rent_buf::{HeldBuf, OutOfMemory};
+use crate::word::{put, put_byte, put_counted, put_next_address, put_next_bytes, put_next_number};
+use rent_buf::{HeldBuf, MessageList, OutOfMemory};
 use ring_core::{Outcome, Refusal, Reply};
 
 /// Appends the text of a reply, with no newline. If memory runs out, `out` is unchanged. (not in monoio)
@@ -37,11 +37,16 @@ fn put_reply(reply: &Reply, out: &mut Vec<u8>) -> Result<(), OutOfMemory>
         Reply::Ended => put(b"ended", out),
         Reply::Released => put(b"released", out),
         Reply::Output(bytes) => put_output(bytes.as_slice(), out),
+        Reply::Messages(messages) => put_messages(messages, out),
         Reply::Submitted(n) => put_counted(b"op ", *n, out),
+        Reply::CanceledAtOnce(held) => put_canceled(held, out),
         Reply::Pending => put(b"pending", out),
         Reply::Handed(outcome, held) => put_ready(*outcome, held, out),
         Reply::Dropped => put(b"dropped", out),
         Reply::Asked => put(b"asked", out),
+        Reply::Canceller(c) => put_counted(b"canceller ", *c, out),
+        Reply::CancelHandle(handle) => put_counted(b"cancelhandle ", *handle, out),
+        Reply::Cancels(numbers) => put_cancels(numbers.as_slice(), out),
         Reply::Turned(reaped, closed, woken) => {
             put_turned(reaped.as_slice(), closed.as_slice(), woken.as_slice(), out)
         }
@@ -57,9 +62,22 @@ fn put_ready(outcome: Outcome, held: &HeldBuf, out: &mut Vec<u8>) -> Result<(), 
 {
     match outcome {
         Outcome::Count(k) => put_counted(b"ready ok ", k as u64, out)?,
+        Outcome::Made(h) => put_counted(b"ready made ", h, out)?,
+        Outcome::From(k, address) => {
+            put_counted(b"ready from ", k as u64, out)?;
+            put_next_number(address, out)?;
+        }
         Outcome::Fail(e) => put_counted(b"ready err ", e as u64, out)?,
     }
     put_byte(b' ', out)?;
+    put_held(held, out)
+}
+
+fn put_canceled(held: &HeldBuf, out: &mut Vec<u8>) -> Result<(), OutOfMemory>
+    ensures ok { OnOk result (out.new.items ≡ out.old.items ++ reply_text (Reply.CanceledAtOnce held.now)) }
+    ensures err { OnErr result (Starts out.old.items out.new.items) }
+{
+    put(b"canceled ", out)?;
     put_held(held, out)
 }
 
@@ -69,6 +87,26 @@ fn put_output(bytes: &[u8], out: &mut Vec<u8>) -> Result<(), OutOfMemory>
 {
     put(b"output", out)?;
     put_next_bytes(bytes, out)
+}
+
+fn put_messages(messages: &MessageList, out: &mut Vec<u8>) -> Result<(), OutOfMemory>
+    ensures ok { OnOk result (out.new.items ≡ out.old.items ++ reply_text (Reply.Messages messages.now)) }
+    ensures err { OnErr result (Starts out.old.items out.new.items) }
+{
+    put_counted(b"messages ", messages.len() as u64, out)?;
+    for (address, bytes) in messages.as_slice() {
+        put_next_address(*address, out)?;
+        put_next_bytes(bytes.as_slice(), out)?;
+    }
+    Ok(())
+}
+
+fn put_cancels(numbers: &[u64], out: &mut Vec<u8>) -> Result<(), OutOfMemory>
+    ensures ok { OnOk result (out.new.items ≡ out.old.items ++ reply_text (Reply.Cancels numbers.now)) }
+    ensures err { OnErr result (Starts out.old.items out.new.items) }
+{
+    put(b"cancels ", out)?;
+    put_numbers(numbers, out)
 }
 
 fn put_turned(
@@ -101,6 +139,7 @@ fn refusal_name(refusal: Refusal) -> &'static [u8]
 {
     match refusal {
         Refusal::NoOp => b"NoOp",
+        Refusal::NoCanceller => b"NoCanceller",
         Refusal::NoHandle => b"NoHandle",
         Refusal::Full => b"Full",
         Refusal::NotFlying => b"NotFlying",

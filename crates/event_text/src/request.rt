@@ -1,14 +1,19 @@
-//! Requests as text, read and written: a name, a handle, then a buffer or parts.
-ghost use Rattle.std.specs.Prelude.{◌≡◌, ◌++◌, IfOk, OnOk, OnErr};
-ghost use Rattle.event_text.specs.TextWrites.{Starts};
-ghost use Rattle.event_text.specs.TextEvent.{request_words};
-ghost use Rattle.event_text.specs.TextWords.{spaced};
-ghost use Rattle.event_text.specs.TextReads.{words_behind, buffer_of, parts_of};
-ghost use Rattle.event_text.specs.TextEventReads.{with_handle, request_of, request_by};
+//! Requests as text, read and, in `put`, written: a name, then what the request names and holds.
+ghost use Rattle.std.specs.Prelude.{◌≡◌, ◌^◌, IfOk};
+ghost use Rattle.event_text.specs.TextReaders.{with_first, last_of};
+ghost use Rattle.event_text.specs.TextReads.{words_behind, number_of, number_below, bytes_of, address_of, flag_of, bytes_end};
+ghost use Rattle.event_text.specs.TextReads.{buffer_of, parts_of};
+ghost use Rattle.event_text.specs.TextRequestReads.{request_of, request_by, place_request_by, path_request_by, handle_request_by};
 
-use crate::buffer::{put_buffer, put_parts, read_buffer, read_parts};
-use crate::word::{is_word, next_number, next_word, put_byte, put_counted};
-use rent_buf::{BufSpec, OutOfMemory, PartsSpec};
+pub(crate) mod put;
+
+use crate::buffer::{read_buffer, read_parts};
+use crate::word::hex::read_bytes;
+use crate::word::{
+    is_word, last_bytes, last_flag, last_number, last_u32, next_address, next_number, next_u32,
+    next_word,
+};
+use rent_buf::{BufSpec, ByteList, OutOfMemory, PartsSpec};
 use ring_core::{Request, SharedFd};
 use std::alloc::Global;
 
@@ -20,93 +25,322 @@ pub(crate) fn read_request(
     ensures { IfOk result (λ request. request ≡ request_of (words_behind rest.now)) }
 {
     match next_word(rest) {
-        Some((word, rest)) => request_of_name(alloc, word, rest),
+        Some((name, rest)) => request_of_name(alloc, name, rest),
         None => Ok(None),
     }
 }
 
 // The request of a name, by the words behind it.
+#[tactic(auto, unfolding(crate::specs::TextRequestReads::request_by))]
 fn request_of_name(
     alloc: Global,
-    word: &[u8],
+    name: &[u8],
     rest: &[u8],
 ) -> Result<Option<Request<BufSpec, PartsSpec>>, OutOfMemory>
-    ensures { IfOk result (λ request. request ≡ request_by word.now (words_behind rest.now)) }
+    ensures { IfOk result (λ request. request ≡ request_by name.now (words_behind rest.now)) }
 {
-    if is_word(word, b"recv") {
-        let found = handle_and_buffer(alloc, rest)?;
-        return Ok(found.map(|(fd, buf)| Request::Recv { fd, buf }));
+    if is_word(name, b"recv") {
+        let found = number_and_buffer(alloc, rest)?;
+        return Ok(found.map(|(h, buf)| Request::Recv {
+            fd: SharedFd::new(h),
+            buf,
+        }));
     }
-    if is_word(word, b"readv") {
-        let found = handle_and_parts(alloc, rest)?;
-        return Ok(found.map(|(fd, parts)| Request::ReadVec { fd, parts }));
+    if is_word(name, b"readv") {
+        let found = number_and_parts(alloc, rest)?;
+        return Ok(found.map(|(h, parts)| Request::ReadVec {
+            fd: SharedFd::new(h),
+            parts,
+        }));
     }
-    if is_word(word, b"send") {
-        let found = handle_and_buffer(alloc, rest)?;
-        return Ok(found.map(|(fd, buf)| Request::Send { fd, buf }));
+    if is_word(name, b"send") {
+        let found = number_and_buffer(alloc, rest)?;
+        return Ok(found.map(|(h, buf)| Request::Send {
+            fd: SharedFd::new(h),
+            buf,
+        }));
     }
-    if is_word(word, b"writev") {
-        let found = handle_and_parts(alloc, rest)?;
-        return Ok(found.map(|(fd, parts)| Request::WriteVec { fd, parts }));
+    if is_word(name, b"writev") {
+        let found = number_and_parts(alloc, rest)?;
+        return Ok(found.map(|(h, parts)| Request::WriteVec {
+            fd: SharedFd::new(h),
+            parts,
+        }));
     }
-    Ok(None)
+    place_request(alloc, name, rest)
 }
 
-fn handle_and_buffer(alloc: Global, rest: &[u8]) -> Result<Option<(SharedFd, BufSpec)>, OutOfMemory>
-    ensures { IfOk result (λ found. found ≡ with_handle buffer_of (words_behind rest.now)) }
+// A request of a message, or of bytes at a position, or what `path_request` reads.
+#[tactic(auto, unfolding(crate::specs::TextRequestReads::place_request_by))]
+fn place_request(
+    alloc: Global,
+    name: &[u8],
+    rest: &[u8],
+) -> Result<Option<Request<BufSpec, PartsSpec>>, OutOfMemory>
+    ensures { IfOk result (λ request. request ≡ place_request_by name.now (words_behind rest.now)) }
 {
-    let Some((h, rest)) = next_number(rest) else {
+    if is_word(name, b"recvmsg") {
+        let found = number_and_buffer(alloc, rest)?;
+        return Ok(found.map(|(h, buf)| Request::RecvMsg {
+            fd: SharedFd::new(h),
+            buf,
+        }));
+    }
+    if is_word(name, b"sendmsg") {
+        let found = number_address_and_buffer(alloc, rest)?;
+        return Ok(found.map(|(h, (addr, buf))| Request::SendMsg {
+            fd: SharedFd::new(h),
+            addr,
+            buf,
+        }));
+    }
+    if is_word(name, b"read") {
+        let found = numbers_and_buffer(alloc, rest)?;
+        return Ok(found.map(|(h, (pos, buf))| Request::Read {
+            fd: SharedFd::new(h),
+            pos,
+            buf,
+        }));
+    }
+    if is_word(name, b"write") {
+        let found = numbers_and_buffer(alloc, rest)?;
+        return Ok(found.map(|(h, (pos, buf))| Request::Write {
+            fd: SharedFd::new(h),
+            pos,
+            buf,
+        }));
+    }
+    path_request(alloc, name, rest)
+}
+
+// A request of paths, or what `handle_request` reads.
+#[tactic(auto, unfolding(crate::specs::TextRequestReads::path_request_by))]
+fn path_request(
+    alloc: Global,
+    name: &[u8],
+    rest: &[u8],
+) -> Result<Option<Request<BufSpec, PartsSpec>>, OutOfMemory>
+    ensures { IfOk result (λ request. request ≡ path_request_by name.now (words_behind rest.now)) }
+{
+    if is_word(name, b"open") {
+        let found = bytes_and_u32s(alloc, rest)?;
+        return Ok(found.map(|(path, (flags, mode))| Request::Open { path, flags, mode }));
+    }
+    if is_word(name, b"mkdir") {
+        let found = bytes_and_u32(alloc, rest)?;
+        return Ok(found.map(|(path, mode)| Request::MkDir { path, mode }));
+    }
+    if is_word(name, b"rename") {
+        let found = bytes_and_bytes(alloc, rest)?;
+        return Ok(found.map(|(from, to)| Request::Rename { from, to }));
+    }
+    if is_word(name, b"unlink") {
+        let found = bytes_and_flag(alloc, rest, b"dir", b"file")?;
+        return Ok(found.map(|(path, remove_dir)| Request::Unlink { path, remove_dir }));
+    }
+    Ok(handle_request(name, rest))
+}
+
+/// A request of handles alone. It takes no memory.
+#[tactic(auto, unfolding(crate::specs::TextRequestReads::handle_request_by))]
+pub(crate) fn handle_request(name: &[u8], rest: &[u8]) -> Option<Request<BufSpec, PartsSpec>>
+    ensures { result ≡ handle_request_by name.now (words_behind rest.now) }
+{
+    if is_word(name, b"spliceto") {
+        let (h, (pipe, len)) = numbers_and_u32(rest)?;
+        return Some(Request::SpliceTo {
+            fd: SharedFd::new(h),
+            pipe: SharedFd::new(pipe),
+            len,
+        });
+    }
+    if is_word(name, b"splicefrom") {
+        let (pipe, (h, len)) = numbers_and_u32(rest)?;
+        return Some(Request::SpliceFrom {
+            pipe: SharedFd::new(pipe),
+            fd: SharedFd::new(h),
+            len,
+        });
+    }
+    if is_word(name, b"accept") {
+        let h = last_number(rest)?;
+        return Some(Request::Accept {
+            fd: SharedFd::new(h),
+        });
+    }
+    if is_word(name, b"connect") {
+        let (h, rest) = next_number(rest)?;
+        let addr = last_number(rest)?;
+        return Some(Request::Connect {
+            fd: SharedFd::new(h),
+            addr,
+        });
+    }
+    if is_word(name, b"fsync") {
+        let (h, data_only) = number_and_flag(rest, b"data", b"all")?;
+        return Some(Request::Fsync {
+            fd: SharedFd::new(h),
+            data_only,
+        });
+    }
+    if is_word(name, b"polladd") {
+        let (h, read) = number_and_flag(rest, b"read", b"write")?;
+        return Some(Request::PollAdd {
+            fd: SharedFd::new(h),
+            read,
+        });
+    }
+    None
+}
+
+// What is behind the names, by its shape.
+
+fn number_and_buffer(alloc: Global, rest: &[u8]) -> Result<Option<(u64, BufSpec)>, OutOfMemory>
+    ensures { IfOk result (λ found. found ≡ with_first number_of buffer_of (words_behind rest.now)) }
+{
+    let Some((number, rest)) = next_number(rest) else {
         return Ok(None);
     };
     match read_buffer(alloc, rest)? {
-        Some(buf) => Ok(Some((SharedFd::new(h), buf))),
+        Some(buf) => Ok(Some((number, buf))),
         None => Ok(None),
     }
 }
 
-fn handle_and_parts(
+fn numbers_and_buffer(
     alloc: Global,
     rest: &[u8],
-) -> Result<Option<(SharedFd, PartsSpec)>, OutOfMemory>
-    ensures { IfOk result (λ found. found ≡ with_handle parts_of (words_behind rest.now)) }
+) -> Result<Option<(u64, (u64, BufSpec))>, OutOfMemory>
+    ensures { IfOk result (λ found. found ≡ with_first number_of (with_first number_of buffer_of) (words_behind rest.now)) }
 {
-    let Some((h, rest)) = next_number(rest) else {
+    let Some((number, rest)) = next_number(rest) else {
+        return Ok(None);
+    };
+    match number_and_buffer(alloc, rest)? {
+        Some(found) => Ok(Some((number, found))),
+        None => Ok(None),
+    }
+}
+
+fn number_address_and_buffer(
+    alloc: Global,
+    rest: &[u8],
+) -> Result<Option<(u64, (Option<u64>, BufSpec))>, OutOfMemory>
+    ensures { IfOk result (λ found. found ≡ with_first number_of (with_first address_of buffer_of) (words_behind rest.now)) }
+{
+    let Some((number, rest)) = next_number(rest) else {
+        return Ok(None);
+    };
+    let Some((address, rest)) = next_address(rest) else {
+        return Ok(None);
+    };
+    match read_buffer(alloc, rest)? {
+        Some(buf) => Ok(Some((number, (address, buf)))),
+        None => Ok(None),
+    }
+}
+
+fn number_and_parts(alloc: Global, rest: &[u8]) -> Result<Option<(u64, PartsSpec)>, OutOfMemory>
+    ensures { IfOk result (λ found. found ≡ with_first number_of parts_of (words_behind rest.now)) }
+{
+    let Some((number, rest)) = next_number(rest) else {
         return Ok(None);
     };
     match read_parts(alloc, rest)? {
-        Some(parts) => Ok(Some((SharedFd::new(h), parts))),
+        Some(parts) => Ok(Some((number, parts))),
         None => Ok(None),
     }
 }
 
-/// Appends the words of a request.
-pub(crate) fn put_request(
-    request: &Request<BufSpec, PartsSpec>,
-    out: &mut Vec<u8>,
-) -> Result<(), OutOfMemory>
-    ensures ok { OnOk result (out.new.items ≡ out.old.items ++ spaced (request_words request.now)) }
-    ensures err { OnErr result (Starts out.old.items out.new.items) }
+fn numbers_and_u32(rest: &[u8]) -> Option<(u64, (u64, u32))>
+    ensures { result ≡ with_first number_of (with_first number_of (last_of (number_below (2 ^ 32)))) (words_behind rest.now) }
 {
-    match request {
-        Request::Recv { fd, buf } => {
-            put_counted(b"recv ", fd.number(), out)?;
-            put_byte(b' ', out)?;
-            put_buffer(buf, out)
-        }
-        Request::ReadVec { fd, parts } => {
-            put_counted(b"readv ", fd.number(), out)?;
-            put_byte(b' ', out)?;
-            put_parts(parts, out)
-        }
-        Request::Send { fd, buf } => {
-            put_counted(b"send ", fd.number(), out)?;
-            put_byte(b' ', out)?;
-            put_buffer(buf, out)
-        }
-        Request::WriteVec { fd, parts } => {
-            put_counted(b"writev ", fd.number(), out)?;
-            put_byte(b' ', out)?;
-            put_parts(parts, out)
-        }
+    let (first, rest) = next_number(rest)?;
+    let (second, rest) = next_number(rest)?;
+    let third = last_u32(rest)?;
+    Some((first, (second, third)))
+}
+
+fn number_and_flag(rest: &[u8], set: &[u8], unset: &[u8]) -> Option<(u64, bool)>
+    ensures { result ≡ with_first number_of (last_of (flag_of set.now unset.now)) (words_behind rest.now) }
+{
+    let (number, rest) = next_number(rest)?;
+    let flag = last_flag(rest, set, unset)?;
+    Some((number, flag))
+}
+
+fn bytes_and_u32(alloc: Global, rest: &[u8]) -> Result<Option<(ByteList, u32)>, OutOfMemory>
+    ensures { IfOk result (λ found. found ≡ with_first bytes_of (last_of (number_below (2 ^ 32))) (words_behind rest.now)) }
+{
+    let Some((word, rest)) = next_word(rest) else {
+        return Ok(None);
+    };
+    let Some(bytes) = read_bytes(alloc, word)? else {
+        return Ok(None);
+    };
+    match last_u32(rest) {
+        Some(number) => Ok(Some((bytes, number))),
+        None => Ok(None),
+    }
+}
+
+fn bytes_and_u32s(alloc: Global, rest: &[u8]) -> Result<Option<(ByteList, (u32, u32))>, OutOfMemory>
+    ensures { IfOk result
+        (λ found. found ≡ with_first bytes_of (with_first (number_below (2 ^ 32)) (last_of (number_below (2 ^ 32))))
+        (words_behind rest.now)) }
+{
+    let Some((word, rest)) = next_word(rest) else {
+        return Ok(None);
+    };
+    let Some(bytes) = read_bytes(alloc, word)? else {
+        return Ok(None);
+    };
+    match u32s(rest) {
+        Some(numbers) => Ok(Some((bytes, numbers))),
+        None => Ok(None),
+    }
+}
+
+/// Two numbers below 2^32.
+pub(crate) fn u32s(rest: &[u8]) -> Option<(u32, u32)>
+    ensures { result ≡ with_first (number_below (2 ^ 32)) (last_of (number_below (2 ^ 32))) (words_behind rest.now) }
+{
+    let (first, rest) = next_u32(rest)?;
+    let second = last_u32(rest)?;
+    Some((first, second))
+}
+
+fn bytes_and_bytes(alloc: Global, rest: &[u8]) -> Result<Option<(ByteList, ByteList)>, OutOfMemory>
+    ensures { IfOk result (λ found. found ≡ with_first bytes_of bytes_end (words_behind rest.now)) }
+{
+    let Some((word, rest)) = next_word(rest) else {
+        return Ok(None);
+    };
+    let Some(first) = read_bytes(alloc, word)? else {
+        return Ok(None);
+    };
+    match last_bytes(alloc, rest)? {
+        Some(second) => Ok(Some((first, second))),
+        None => Ok(None),
+    }
+}
+
+fn bytes_and_flag(
+    alloc: Global,
+    rest: &[u8],
+    set: &[u8],
+    unset: &[u8],
+) -> Result<Option<(ByteList, bool)>, OutOfMemory>
+    ensures { IfOk result (λ found. found ≡ with_first bytes_of (last_of (flag_of set.now unset.now)) (words_behind rest.now)) }
+{
+    let Some((word, rest)) = next_word(rest) else {
+        return Ok(None);
+    };
+    let Some(bytes) = read_bytes(alloc, word)? else {
+        return Ok(None);
+    };
+    match last_flag(rest, set, unset) {
+        Some(flag) => Ok(Some((bytes, flag))),
+        None => Ok(None),
     }
 }

@@ -1,16 +1,25 @@
 //! Whether lines are events' texts, found with no memory taken.
-ghost use Rattle.std.specs.Prelude.{◌≡◌, ◌&&◌, nat_le, option_and_then, MatchOption};
+ghost use Rattle.std.specs.Prelude.{◌≡◌, ◌&&◌, ◌^◌, nat_le, option_and_then, MatchOption};
 ghost use Rattle.std.specs.Option.{is_some};
 ghost use Rattle.event_text.specs.TextLines.{lines, AreEvents, IsFirstWrong};
-ghost use Rattle.event_text.specs.TextReads.{words, words_behind, buffer_of, parts_of, counted, counted_of, parts_end, is_full};
-ghost use Rattle.event_text.specs.TextEventReads.{event_of, feed_of, submit_of, request_by, with_handle};
+ghost use Rattle.event_text.specs.TextReaders.{with_first, last_of};
+ghost use Rattle.event_text.specs.TextReads.{words, words_behind, number_of, number_below, bytes_of, address_of, flag_of, bytes_end};
+ghost use Rattle.event_text.specs.TextReads.{buffer_of, parts_of, counted, counted_of, parts_end, is_full};
+ghost use Rattle.event_text.specs.TextRequestReads.{request_of, request_by, place_request_by, path_request_by};
+ghost use Rattle.event_text.specs.TextEventReads.{event_of, created_by, feed_of, message_of, submit_of, under_of};
 ghost use Rattle.event_text.specs.TextValid.{AddsPart, NoPart};
 
 use crate::buffer::next_buffer_kind;
-use crate::event::{exec_event, give_event, numbered_event, poll_event, turn_event};
+use crate::event::{
+    canceller_event, exec_event, give_event, numbered_event, poll_event, turn_event,
+};
+use crate::request::{handle_request, u32s};
 use crate::word::hex::count_bytes;
 use crate::word::number::read_number;
-use crate::word::{count_last_bytes, first_line, first_word, is_word, next_number, next_word};
+use crate::word::{
+    count_last_bytes, first_line, first_word, is_word, last_flag, last_u32, next_address,
+    next_number, next_word,
+};
 use rent_buf::Kind;
 
 /// The number of the first line that is no event's text, counted from 1; none if each line is one. It takes no memory.
@@ -48,11 +57,28 @@ pub(crate) fn is_event_line(line: &[u8]) -> bool
     if is_word(word, b"feed") {
         return is_feed(rest);
     }
+    if is_word(word, b"message") {
+        return is_message(rest);
+    }
+    is_created(word, rest)
+}
+
+// Whether the words are an event's that submits a request, or creates a handle or a canceller, or one's of one number.
+#[tactic(auto, unfolding(crate::specs::TextEventReads::created_by))]
+fn is_created(word: &[u8], rest: &[u8]) -> bool
+    ensures { result ≡ is_some (created_by word.now (words_behind rest.now)) }
+{
     if is_word(word, b"submit") {
         return is_submit(rest);
     }
+    if is_word(word, b"under") {
+        return is_under(rest);
+    }
     if is_word(word, b"give") {
         return give_event(rest).is_some();
+    }
+    if is_word(word, b"canceller") {
+        return canceller_event(rest).is_some();
     }
     numbered_event(word, rest).is_some()
 }
@@ -67,9 +93,39 @@ fn is_feed(rest: &[u8]) -> bool
     }
 }
 
+// Whether the words behind `message` are a handle, an address and bytes.
+fn is_message(rest: &[u8]) -> bool
+    ensures { result ≡ is_some (message_of (words_behind rest.now)) }
+{
+    let Some((_, rest)) = next_number(rest) else {
+        return false;
+    };
+    match next_number(rest) {
+        Some((_, rest)) => count_last_bytes(rest).is_some(),
+        None => false,
+    }
+}
+
 // Whether the words behind `submit` are a request.
 fn is_submit(rest: &[u8]) -> bool
     ensures { result ≡ is_some (submit_of (words_behind rest.now)) }
+{
+    are_request(rest)
+}
+
+// Whether the words behind `under` are a cancel handle and a request.
+fn is_under(rest: &[u8]) -> bool
+    ensures { result ≡ is_some (under_of (words_behind rest.now)) }
+{
+    match next_number(rest) {
+        Some((_, rest)) => are_request(rest),
+        None => false,
+    }
+}
+
+// Whether words are a request's.
+fn are_request(rest: &[u8]) -> bool
+    ensures { result ≡ is_some (request_of (words_behind rest.now)) }
 {
     match next_word(rest) {
         Some((word, rest)) => is_request(word, rest),
@@ -78,26 +134,67 @@ fn is_submit(rest: &[u8]) -> bool
 }
 
 // Whether the words behind a name are that request's.
-fn is_request(word: &[u8], rest: &[u8]) -> bool
-    ensures { result ≡ is_some (request_by word.now (words_behind rest.now)) }
+#[tactic(auto, unfolding(crate::specs::TextRequestReads::request_by))]
+fn is_request(name: &[u8], rest: &[u8]) -> bool
+    ensures { result ≡ is_some (request_by name.now (words_behind rest.now)) }
 {
-    if is_word(word, b"recv") {
-        return is_handle_and_buffer(rest);
+    if is_word(name, b"recv") {
+        return is_number_and_buffer(rest);
     }
-    if is_word(word, b"readv") {
-        return is_handle_and_parts(rest);
+    if is_word(name, b"readv") {
+        return is_number_and_parts(rest);
     }
-    if is_word(word, b"send") {
-        return is_handle_and_buffer(rest);
+    if is_word(name, b"send") {
+        return is_number_and_buffer(rest);
     }
-    if is_word(word, b"writev") {
-        return is_handle_and_parts(rest);
+    if is_word(name, b"writev") {
+        return is_number_and_parts(rest);
     }
-    false
+    is_place_request(name, rest)
 }
 
-fn is_handle_and_buffer(rest: &[u8]) -> bool
-    ensures { result ≡ is_some (with_handle buffer_of (words_behind rest.now)) }
+// Whether the words are those of a request of a message, or of bytes at a position, or of a further one.
+#[tactic(auto, unfolding(crate::specs::TextRequestReads::place_request_by))]
+fn is_place_request(name: &[u8], rest: &[u8]) -> bool
+    ensures { result ≡ is_some (place_request_by name.now (words_behind rest.now)) }
+{
+    if is_word(name, b"recvmsg") {
+        return is_number_and_buffer(rest);
+    }
+    if is_word(name, b"sendmsg") {
+        return is_number_address_and_buffer(rest);
+    }
+    if is_word(name, b"read") {
+        return is_numbers_and_buffer(rest);
+    }
+    if is_word(name, b"write") {
+        return is_numbers_and_buffer(rest);
+    }
+    is_path_request(name, rest)
+}
+
+// Whether the words are those of a request of paths, or of handles alone.
+#[tactic(auto, unfolding(crate::specs::TextRequestReads::path_request_by))]
+fn is_path_request(name: &[u8], rest: &[u8]) -> bool
+    ensures { result ≡ is_some (path_request_by name.now (words_behind rest.now)) }
+{
+    if is_word(name, b"open") {
+        return is_bytes_and_u32s(rest);
+    }
+    if is_word(name, b"mkdir") {
+        return is_bytes_and_u32(rest);
+    }
+    if is_word(name, b"rename") {
+        return is_bytes_and_bytes(rest);
+    }
+    if is_word(name, b"unlink") {
+        return is_bytes_and_flag(rest, b"dir", b"file");
+    }
+    handle_request(name, rest).is_some()
+}
+
+fn is_number_and_buffer(rest: &[u8]) -> bool
+    ensures { result ≡ is_some (with_first number_of buffer_of (words_behind rest.now)) }
 {
     match next_number(rest) {
         Some((_, rest)) => is_buffer(rest),
@@ -105,13 +202,71 @@ fn is_handle_and_buffer(rest: &[u8]) -> bool
     }
 }
 
-fn is_handle_and_parts(rest: &[u8]) -> bool
-    ensures { result ≡ is_some (with_handle parts_of (words_behind rest.now)) }
+fn is_numbers_and_buffer(rest: &[u8]) -> bool
+    ensures { result ≡ is_some (with_first number_of (with_first number_of buffer_of) (words_behind rest.now)) }
+{
+    match next_number(rest) {
+        Some((_, rest)) => is_number_and_buffer(rest),
+        None => false,
+    }
+}
+
+fn is_number_address_and_buffer(rest: &[u8]) -> bool
+    ensures { result ≡ is_some (with_first number_of (with_first address_of buffer_of) (words_behind rest.now)) }
+{
+    let Some((_, rest)) = next_number(rest) else {
+        return false;
+    };
+    match next_address(rest) {
+        Some((_, rest)) => is_buffer(rest),
+        None => false,
+    }
+}
+
+fn is_number_and_parts(rest: &[u8]) -> bool
+    ensures { result ≡ is_some (with_first number_of parts_of (words_behind rest.now)) }
 {
     match next_number(rest) {
         Some((_, rest)) => are_parts(rest),
         None => false,
     }
+}
+
+fn is_bytes_and_u32(rest: &[u8]) -> bool
+    ensures { result ≡ is_some (with_first bytes_of (last_of (number_below (2 ^ 32))) (words_behind rest.now)) }
+{
+    let Some((word, rest)) = next_word(rest) else {
+        return false;
+    };
+    count_bytes(word).is_some() && last_u32(rest).is_some()
+}
+
+fn is_bytes_and_u32s(rest: &[u8]) -> bool
+    ensures { result ≡
+        is_some (with_first bytes_of (with_first (number_below (2 ^ 32)) (last_of (number_below (2 ^ 32)))) (words_behind rest.now)) }
+{
+    let Some((word, rest)) = next_word(rest) else {
+        return false;
+    };
+    count_bytes(word).is_some() && u32s(rest).is_some()
+}
+
+fn is_bytes_and_bytes(rest: &[u8]) -> bool
+    ensures { result ≡ is_some (with_first bytes_of bytes_end (words_behind rest.now)) }
+{
+    let Some((word, rest)) = next_word(rest) else {
+        return false;
+    };
+    count_bytes(word).is_some() && count_last_bytes(rest).is_some()
+}
+
+fn is_bytes_and_flag(rest: &[u8], set: &[u8], unset: &[u8]) -> bool
+    ensures { result ≡ is_some (with_first bytes_of (last_of (flag_of set.now unset.now)) (words_behind rest.now)) }
+{
+    let Some((word, rest)) = next_word(rest) else {
+        return false;
+    };
+    count_bytes(word).is_some() && last_flag(rest, set, unset).is_some()
 }
 
 // Whether words are a buffer's.

@@ -1,8 +1,11 @@
 //! Lines cut into words, and words of numbers and bytes; appending to a text.
-ghost use Rattle.std.specs.Prelude.{◌≡◌, ◌≢◌, ◌∷◌, ◌++◌, ◌<◌, ◌≤◌, ℕ, IfOk, OnOk, OnErr, MatchOption, Some, None, [], bytes_eq, decimal};
+ghost use Rattle.std.specs.Prelude.{◌≡◌, ◌≢◌, ◌∷◌, ◌++◌, ◌^◌, ◌<◌, ◌≤◌, ℕ};
+ghost use Rattle.std.specs.Prelude.{IfOk, OnOk, OnErr, MatchOption, Some, None, [], bytes_eq, decimal};
 ghost use Rattle.std.specs.Prelude.{length, option_map, slice_index};
 ghost use Rattle.event_text.specs.TextLines.{lines};
-ghost use Rattle.event_text.specs.TextReads.{words, words_behind, number_field, last_number_of, bytes_end};
+ghost use Rattle.event_text.specs.TextReaders.{field, at_end, last_of};
+ghost use Rattle.event_text.specs.TextReads.{words, words_behind, number_of, number_below, address_of, flag_of, bytes_end};
+ghost use Rattle.event_text.specs.TextRequest.{address_word};
 ghost use Rattle.event_text.specs.TextWords.{bytes_word};
 ghost use Rattle.event_text.specs.TextWrites.{Starts};
 
@@ -11,7 +14,7 @@ pub(crate) mod number;
 
 use hex::{count_bytes, put_bytes, read_bytes};
 use memchr::memchr;
-use number::{put_number, read_number};
+use number::{put_number, read_number, read_u16, read_u32};
 use rent_buf::{ByteList, OutOfMemory};
 use std::alloc::Global;
 
@@ -64,21 +67,82 @@ pub(crate) fn is_word(word: &[u8], text: &[u8]) -> bool
 
 /// The number that the next word writes, and what is behind it.
 pub(crate) fn next_number(rest: &[u8]) -> Option<(u64, &[u8])>
-    ensures { MatchOption result (number_field (words_behind rest.now) ≡ None)
-        (λ cut. number_field (words_behind rest.now) ≡ Some (cut.0, words_behind cut.1.now)) }
+    ensures { MatchOption result (field number_of (words_behind rest.now) ≡ None)
+        (λ cut. field number_of (words_behind rest.now) ≡ Some (cut.0, words_behind cut.1.now)) }
 {
     let (word, rest) = next_word(rest)?;
     let number = read_number(word)?;
     Some((number, rest))
 }
 
+/// The address that the next word writes, if it isn't `-`, and what is behind it.
+pub(crate) fn next_address(rest: &[u8]) -> Option<(Option<u64>, &[u8])>
+    ensures { MatchOption result (field address_of (words_behind rest.now) ≡ None)
+        (λ cut. field address_of (words_behind rest.now) ≡ Some (cut.0, words_behind cut.1.now)) }
+{
+    let (word, rest) = next_word(rest)?;
+    if is_word(word, b"-") {
+        return Some((None, rest));
+    }
+    let address = read_number(word)?;
+    Some((Some(address), rest))
+}
+
 /// The number that the one word behind another writes.
 pub(crate) fn last_number(rest: &[u8]) -> Option<u64>
-    ensures { result ≡ last_number_of (words_behind rest.now) }
+    ensures { result ≡ last_of number_of (words_behind rest.now) }
 {
     let (number, rest) = next_number(rest)?;
+    if_last(number, rest)
+}
+
+/// The number below 2^32 that the next word writes, and what is behind it.
+pub(crate) fn next_u32(rest: &[u8]) -> Option<(u32, &[u8])>
+    ensures { MatchOption result (field (number_below (2 ^ 32)) (words_behind rest.now) ≡ None)
+        (λ cut. field (number_below (2 ^ 32)) (words_behind rest.now) ≡ Some (cut.0, words_behind cut.1.now)) }
+{
+    let (word, rest) = next_word(rest)?;
+    let number = read_u32(word)?;
+    Some((number, rest))
+}
+
+/// The number that the one word behind another writes, if it is below 2^32.
+pub(crate) fn last_u32(rest: &[u8]) -> Option<u32>
+    ensures { result ≡ last_of (number_below (2 ^ 32)) (words_behind rest.now) }
+{
+    let (number, rest) = next_u32(rest)?;
+    if_last(number, rest)
+}
+
+/// The number that the one word behind another writes, if it is below 2^16.
+pub(crate) fn last_u16(rest: &[u8]) -> Option<u16>
+    ensures { result ≡ last_of (number_below (2 ^ 16)) (words_behind rest.now) }
+{
+    let (word, rest) = next_word(rest)?;
+    let number = read_u16(word)?;
+    if_last(number, rest)
+}
+
+/// Whether the one word behind another is `set`; it may be `unset`, and nothing else.
+pub(crate) fn last_flag(rest: &[u8], set: &[u8], unset: &[u8]) -> Option<bool>
+    ensures { result ≡ last_of (flag_of set.now unset.now) (words_behind rest.now) }
+{
+    let (word, rest) = next_word(rest)?;
+    if is_word(word, set) {
+        return if_last(true, rest);
+    }
+    if is_word(word, unset) {
+        return if_last(false, rest);
+    }
+    None
+}
+
+/// A value, if no word is behind those that it was read from.
+pub(crate) fn if_last<T: Drop>(value: T, rest: &[u8]) -> Option<T>
+    ensures { result ≡ at_end value (words_behind rest.now) }
+{
     match next_word(rest) {
-        None => Some(number),
+        None => Some(value),
         Some(_) => None,
     }
 }
@@ -150,4 +214,15 @@ pub(crate) fn put_next_bytes(bytes: &[u8], out: &mut Vec<u8>) -> Result<(), OutO
 {
     put_byte(b' ', out)?;
     put_bytes(bytes, out)
+}
+
+/// Appends a space and the word of an address: `-` if there is none.
+pub(crate) fn put_next_address(address: Option<u64>, out: &mut Vec<u8>) -> Result<(), OutOfMemory>
+    ensures ok { OnOk result (out.new.items ≡ out.old.items ++ 32 ∷ address_word address) }
+    ensures err { OnErr result (Starts out.old.items out.new.items) }
+{
+    match address {
+        None => put(b" -", out),
+        Some(address) => put_next_number(address, out),
+    }
 }

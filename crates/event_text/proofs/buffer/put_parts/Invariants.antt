@@ -1,5 +1,5 @@
 use Rattle.std.proofs.Common.{◌≡◌, ◌++◌, take}
-use Rattle.event_text.specs.TextEvent.{part_words}
+use Rattle.event_text.specs.TextRequest.{part_words}
 use Rattle.event_text.proofs.TextWrites.{behind_spaces}
 use Rattle.event_text.proofs.buffer.put_parts.Given as goal
 
