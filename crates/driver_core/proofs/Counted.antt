@@ -1,234 +1,110 @@
--- A table that counts the operations in slots, and that stands for the holders of a ledger, once operations joined or left.
-use Rattle.std.proofs.Common.{◌≡◌, ◌∙◌, inl, inr, ℕ, suc, ◌<◌, Bool, true, false, not, ◌==◌, List, [], ◌∷◌, ◌++◌, length, Some}
-use Rattle.std.proofs.Common.{None, refl, sym, ap, arith, if◌then◌else◌}
-use Rattle.std.specs.Prelude.{◌⊎◌, ◌&&◌, is_some, nat_lt, slice_get, filter}
-use Rattle.std.proofs.Common.{length-append}
-use Rattle.std.proofs.lemmas.Bool.Decides.{nat_tests}
+-- A table that counts the operations in slots, after a change of one slot, and what the operation in a slot holds.
+use Rattle.std.proofs.Common.{◌≡◌, ◌≢◌, ◌∙◌, inl, inr, ℕ, ◌+◌, ◌<◌, true, false, List, [], ◌∷◌, ◌++◌, Option, Some, None, refl, sym, ap}
 use Rattle.std.specs.Ordering.{nat_cmp}
-use Rattle.std.specs.FinMap.{FinMap, get, insert, remove, empty, get-empty, len-empty}
-use Rattle.handle_core.specs.declared.table.Holders.{Holders}
-use Rattle.handle_core.specs.Table.{Table, holders_at, without_operation}
+use Rattle.std.specs.FinMap.{FinMap, get, empty}
+use Rattle.handle_core.specs.Table.{Table, holders_at}
 use Rattle.ring_core.specs.Lists.{has_number}
+use Rattle.ring_core.specs.Ranks.{one_if}
 use Rattle.ring_core.specs.Request.{named}
-use Rattle.ring_core.specs.Ledger.{Ledger, Operation, is_live, is_holding, holding_ops, user_holds}
-use Rattle.ring_core.specs.Queue.{with_gone, is_unheld, became_unheld}
-use Rattle.ring_core.specs.Step.{with_new_op}
-use Rattle.ring_core.specs.Closes.{AreKnown}
+use Rattle.ring_core.specs.declared.request.Outcome.{Outcome}
+use Rattle.ring_core.specs.Ledger.{with_made}
 use Rattle.ring_core.proofs.Numbers.{same-or-not}
-pub use Rattle.ring_core.proofs.Numbers.{some-of, none-of}
-use Rattle.ring_core.proofs.Holders.{SameHolders, unheld-count, holding-gone, holding-gone-other, holding-new_op}
-use Rattle.ring_core.proofs.Leaving.{Ascends, has-first, has-other, became-named}
+use Rattle.ring_core.proofs.Leaving.{named-ascends, has-last}
+use Rattle.op_slots.specs.declared.lifecycle.Lifecycle.{Lifecycle}
+use Rattle.op_slots.specs.declared.lifecycle.Lifecycle.TheVariants.{Submitted, Waiting, Ignored, Completed}
 use Rattle.driver_core.specs.declared.slot.Slot.{Slot}
-use Rattle.driver_core.specs.Holds.{named_in, AreCounted, is_nobody, settled, left_holders, with_ops, without_ops, unheld_by, front_if}
-use Rattle.driver_core.specs.Holds.{CanLeave, HoldersStand}
-use Rattle.driver_core.proofs.Maps.{put-same, put-other, gone-same, gone-other, len-new, len-gone, len-some}
-use Rattle.driver_core.proofs.Holds.{user-joined, user-left, joined-other, joined-one, left-other, left-one, can-leave, settled-other}
-use Rattle.driver_core.proofs.Holds.{above-other}
+use Rattle.driver_core.specs.Slot.{is_flying}
+use Rattle.driver_core.specs.Holds.{named_in, made_life, made_in, held_in, is_maker, AreCounted, AreMaking, AreApart, CanLeave}
+use Rattle.driver_core.proofs.Distinct.{Distinct, ascends-distinct, distinct-made}
+use Rattle.driver_core.proofs.Holds.{can-leave}
+use Rattle.driver_core.proofs.Passing.{number-none, number-some, number-kept, number-changed}
 
--- A test passes, or it doesn't.
-pub test-cases : (b : Bool) → (b ≡ true) ⊎ (b ≡ false)
-test-cases true = inl refl
-test-cases false = inr refl
-
--- No slot names a handle.
+-- No operation holds a handle.
 pub counted-none : {B : Type 0} (table : Table) (slots : FinMap nat_cmp (Slot B)) → ((h : ℕ) → (holders_at table h).operations ≡ 0) →
     slots ≡ empty → AreCounted table slots
-counted-none {B} table slots none is = λ h. record {
-  keys = empty;
-  few = len-empty nat_cmp (Slot B) ∙ sym (none h);
-  each = λ key. ap is_some (get-empty {X = Slot B} nat_cmp key)
-      ∙ sym (ap (λ m. has_number h (named_in (get m key))) is ∙ ap (λ o. has_number h (named_in o)) (get-empty {X = Slot B} nat_cmp key));
-}
+counted-none {B} table slots none is =
+    λ h. number-none (λ (slot : Option (Slot B)). has_number h (held_in slot)) slots (holders_at table h).operations refl is (none h)
 
--- Slots that name what they named are counted as they were.
+-- Slots whose operations hold what they held are counted as they were.
 pub counted-kept : {B : Type 0} (table : Table) (slots slots' : FinMap nat_cmp (Slot B)) → AreCounted table slots →
-    ((key : ℕ) → named_in (get slots' key) ≡ named_in (get slots key)) → AreCounted table slots'
-counted-kept table slots slots' counted same = λ h. record {
-  keys = (counted h).keys;
-  few = (counted h).few;
-  each = λ key. (counted h).each key ∙ ap (has_number h) (sym (same key));
-}
+    ((key : ℕ) → held_in (get slots' key) ≡ held_in (get slots key)) → AreCounted table slots'
+counted-kept {B} table slots slots' counted same =
+    λ h. number-kept (λ (slot : Option (Slot B)). has_number h (held_in slot)) (counted h) (λ key. ap (has_number h) (same key))
 
--- A handle that a slot names is held by an operation.
-pub counted-some : {B : Type 0} (table : Table) (slots : FinMap nat_cmp (Slot B)) (key : ℕ) (s : Slot B) → AreCounted table slots →
-    get slots key ≡ Some s → (h : ℕ) → has_number h (named s.request) ≡ true → 0 < (holders_at table h).operations
-counted-some table slots key s counted there h names =
-    let c = counted h in
-    let a = len-some c.keys key (c.each key ∙ ap (λ o. has_number h (named_in o)) there ∙ names) in
-    let b = c.few in
-    omega (arith, a, b)
+-- A handle that an operation in a slot holds is held by an operation.
+pub counted-some : {B : Type 0} (table : Table) (slots : FinMap nat_cmp (Slot B)) (key : ℕ) → AreCounted table slots →
+    (h : ℕ) → has_number h (held_in (get slots key)) ≡ true → 0 < (holders_at table h).operations
+counted-some {B} table slots key counted h holds =
+    number-some (λ (slot : Option (Slot B)). has_number h (held_in slot)) (counted h) key holds
 
--- An operation in a slot whose handles rise may leave.
-pub counted-leave : {B : Type 0} (table : Table) (slots : FinMap nat_cmp (Slot B)) (key : ℕ) (s : Slot B) → AreCounted table slots →
-    get slots key ≡ Some s → Ascends 0 (named s.request) → CanLeave table (named s.request)
-counted-leave table slots key s counted there rise = can-leave table 0 (named s.request) rise (counted-some table slots key s counted there)
+-- One slot changed, and with it how often operations hold each handle.
+pub counted-changed : {B : Type 0} (table table' : Table) (slots slots' : FinMap nat_cmp (Slot B)) (key : ℕ) → AreCounted table slots →
+    ((k : ℕ) → k ≢ key → get slots' k ≡ get slots k) →
+    ((h : ℕ) → (holders_at table' h).operations + one_if (has_number h (held_in (get slots key)))
+    ≡ (holders_at table h).operations + one_if (has_number h (held_in (get slots' key)))) → AreCounted table' slots'
+counted-changed {B} table table' slots slots' key counted others counts =
+    λ h. number-changed (λ (slot : Option (Slot B)). has_number h (held_in slot)) (counted h) key
+    (λ k e. ap (λ slot. has_number h (held_in slot)) (others k e)) (holders_at table' h).operations (counts h)
 
-module _ {B : Type 0} (table : Table) (slots slots' : FinMap nat_cmp (Slot B)) (key : ℕ) (s : Slot B) (counted : AreCounted table slots)
-    (rise : Ascends 0 (named s.request)) where
-  -- Once a request got a slot, its operation is counted.
-  pub counted-joined : get slots key ≡ None → slots' ≡ insert slots key s → AreCounted (with_ops table (named s.request)) slots'
-  counted-joined free is = λ h. elim (test-cases (has_number h (named s.request))) [
-    | inl names ↦ record {
-      keys = insert (counted h).keys key s;
-      few = (
-          let a = len-new (counted h).keys key s
-          (none-of (get (counted h).keys key) ((counted h).each key ∙ ap (λ o. has_number h (named_in o)) free)) in
-          let b = (counted h).few in
-          let c = ap (λ x. x.operations) (joined-one table 0 (named s.request) rise h names) in
-          omega (arith, a, b, c));
-      each = λ k. elim (same-or-not k key) [
-        | inl e ↦ (
-            ap (λ x. is_some (get (insert (counted h).keys key s) x)) e ∙ ap is_some (put-same (counted h).keys key s) ∙ sym names
-            ∙ sym (ap (λ m. has_number h (named_in (get m k))) is ∙ ap (λ x. has_number h (named_in (get (insert slots key s) x))) e
-            ∙ ap (λ o. has_number h (named_in o)) (put-same slots key s)))
-        | inr e ↦ (
-            ap is_some (put-other (counted h).keys key s k e) ∙ (counted h).each k
-            ∙ sym (ap (λ m. has_number h (named_in (get m k))) is ∙ ap (λ o. has_number h (named_in o)) (put-other slots key s k e)))
-      ];
-    }
-    | inr not ↦ record {
-      keys = (counted h).keys;
-      few = (counted h).few ∙ ap (λ x. x.operations) (sym (joined-other table (named s.request) h not));
-      each = λ k. elim (same-or-not k key) [
-        | inl e ↦ (
-            (counted h).each k ∙ ap (λ x. has_number h (named_in (get slots x))) e ∙ ap (λ o. has_number h (named_in o)) free ∙ sym not
-            ∙ sym (ap (λ m. has_number h (named_in (get m k))) is ∙ ap (λ x. has_number h (named_in (get (insert slots key s) x))) e
-            ∙ ap (λ o. has_number h (named_in o)) (put-same slots key s)))
-        | inr e ↦ (
-            (counted h).each k
-            ∙ sym (ap (λ m. has_number h (named_in (get m k))) is ∙ ap (λ o. has_number h (named_in o)) (put-other slots key s k e)))
-      ];
-    }
-  ]
+-- No slot makes a handle.
+pub making-none : {B : Type 0} (slots : FinMap nat_cmp (Slot B)) (count : ℕ) → slots ≡ empty → count ≡ 0 → AreMaking slots count
+making-none {B} slots count is none = number-none (is_maker {B = B}) slots count refl is none
 
-  -- Once a slot is free again, its operation isn't counted.
-  pub counted-left : get slots key ≡ Some s → slots' ≡ remove slots key → AreCounted (without_ops table (named s.request)) slots'
-  counted-left there is = λ h. elim (test-cases (has_number h (named s.request))) [
-    | inl names ↦ record {
-      keys = remove (counted h).keys key;
-      few = (
-          let has = (counted h).each key ∙ ap (λ o. has_number h (named_in o)) there ∙ names in
-          let was = some-of (get (counted h).keys key) has in
-          let a = len-gone (counted h).keys key was.0 was.1 in
-          let d = len-some (counted h).keys key has in
-          let b = (counted h).few in
-          let c = ap (λ x. x.operations) (left-one table 0 (named s.request) rise h names) in
-          omega (arith, a, b, c, d));
-      each = λ k. elim (same-or-not k key) [
-        | inl e ↦ (
-            ap (λ x. is_some (get (remove (counted h).keys key) x)) e ∙ ap is_some (gone-same (counted h).keys key)
-            ∙ sym (ap (λ m. has_number h (named_in (get m k))) is ∙ ap (λ x. has_number h (named_in (get (remove slots key) x))) e
-            ∙ ap (λ o. has_number h (named_in o)) (gone-same slots key)))
-        | inr e ↦ (
-            ap is_some (gone-other (counted h).keys key k e) ∙ (counted h).each k
-            ∙ sym (ap (λ m. has_number h (named_in (get m k))) is ∙ ap (λ o. has_number h (named_in o)) (gone-other slots key k e)))
-      ];
-    }
-    | inr not ↦ record {
-      keys = (counted h).keys;
-      few = (counted h).few ∙ ap (λ x. x.operations) (sym (left-other table (named s.request) h not));
-      each = λ k. elim (same-or-not k key) [
-        | inl e ↦ (
-            (counted h).each k ∙ ap (λ x. has_number h (named_in (get slots x))) e ∙ ap (λ o. has_number h (named_in o)) there ∙ not
-            ∙ sym (ap (λ m. has_number h (named_in (get m k))) is ∙ ap (λ x. has_number h (named_in (get (remove slots key) x))) e
-            ∙ ap (λ o. has_number h (named_in o)) (gone-same slots key)))
-        | inr e ↦ (
-            (counted h).each k
-            ∙ sym (ap (λ m. has_number h (named_in (get m k))) is ∙ ap (λ o. has_number h (named_in o)) (gone-other slots key k e)))
-      ];
-    }
-  ]
+-- A slot that makes a handle is counted.
+pub making-some : {B : Type 0} (slots : FinMap nat_cmp (Slot B)) (count key : ℕ) → AreMaking slots count → is_maker (get slots key) ≡ true →
+    0 < count
+making-some {B} slots count key making maker = number-some (is_maker {B = B}) making key maker
 
--- A table stands for the holders of a ledger in which each handle has the same ones.
-pub holders-stand-same : {table : Table} {L M : Ledger} → HoldersStand table L → SameHolders L M → HoldersStand table M
-holders-stand-same stand same = record {
-  users = λ h. stand.users h ∙ sym (same.users h);
-  operations = λ h. stand.operations h ∙ sym (ap length (same.ops h));
-}
+-- One slot changed, and with it how many slots make a handle.
+pub making-changed : {B : Type 0} (slots slots' : FinMap nat_cmp (Slot B)) (count now key : ℕ) → AreMaking slots count →
+    ((k : ℕ) → k ≢ key → get slots' k ≡ get slots k) →
+    now + one_if (is_maker (get slots key)) ≡ count + one_if (is_maker (get slots' key)) → AreMaking slots' now
+making-changed {B} slots slots' count now key making others counts =
+    number-changed (is_maker {B = B}) making key (λ k e. ap is_maker (others k e)) now counts
 
--- Once an operation joined, its table stands for the ledger with the new operation.
-pub holders-stand-joined : (table : Table) (L : Ledger) (o : Operation) → HoldersStand table L → is_live o ≡ true →
-    Ascends 0 (named o.request) → HoldersStand (with_ops table (named o.request)) (with_new_op L o)
-holders-stand-joined table L o stand live rise = record {
-  users = λ h. ap (nat_lt 0) (user-joined table (named o.request) h) ∙ stand.users h;
-  operations = λ h. elim (test-cases (has_number h (named o.request))) [
-    | inl names ↦ (
-        let a = ap (λ x. x.operations) (joined-one table 0 (named o.request) rise h names) in
-        let b = stand.operations h in
-        let c = ap length (holding-new_op L o h ∙ ap (λ b. holding_ops L h ++ (if b then length L.ops ∷ [] else []))
-        (ap (λ b. b && has_number h (named o.request)) live ∙ names)) in
-        let d = length-append (holding_ops L h) (length L.ops ∷ []) in
-        omega (arith, a, b, c, d))
-    | inr not ↦ (
-        let a = ap (λ x. x.operations) (joined-other table (named o.request) h not) in
-        let b = stand.operations h in
-        let c = ap length (holding-new_op L o h ∙ ap (λ b. holding_ops L h ++ (if b then length L.ops ∷ [] else []))
-        (ap (λ b. b && has_number h (named o.request)) live ∙ not)) in
-        let d = length-append {A = ℕ} (holding_ops L h) [] in
-        omega (arith, a, b, c, d))
-  ];
-}
+-- No slot's operation made a handle that it names.
+pub apart-none : {B : Type 0} (slots : FinMap nat_cmp (Slot B)) → ((key : ℕ) → get slots key ≡ None) → AreApart slots
+apart-none slots none = λ key h made.
+    (let f : None ≡ Some h = ap made_in (sym (none key)) ∙ made in let g : ⊥ = cc in absurd g)
 
-module _ (table : Table) (L : Ledger) (n : ℕ) (o : Operation) (stand : HoldersStand table L) (there : slice_get L.ops n ≡ Some o)
-    (live : is_live o ≡ true) (rise : Ascends 0 (named o.request)) where
-  -- The operation holds what it names.
-  holds-named : (h : ℕ) → is_holding h o ≡ has_number h (named o.request)
-  holds-named h = ap (λ b. b && has_number h (named o.request)) live
+-- One slot changed, and its operation made no handle that it names.
+pub apart-changed : {B : Type 0} (slots slots' : FinMap nat_cmp (Slot B)) (key : ℕ) → AreApart slots →
+    ((k : ℕ) → k ≢ key → get slots' k ≡ get slots k) →
+    ((h : ℕ) → made_in (get slots' key) ≡ Some h → has_number h (named_in (get slots' key)) ≡ false) → AreApart slots'
+apart-changed slots slots' key apart others here = λ k h made. elim (same-or-not k key) [
+  | inl e ↦ ap (λ x. has_number h (named_in (get slots' x))) e ∙ here h (ap (λ x. made_in (get slots' x)) (sym e) ∙ made)
+  | inr e ↦ ap (λ slot. has_number h (named_in slot)) (others k e) ∙ apart k h (ap made_in (sym (others k e)) ∙ made)
+]
 
-  -- What was looked up is the operation.
-  same-op : (p : Operation) → slice_get L.ops n ≡ Some p → o ≡ p
-  same-op p h = (let a : Some o ≡ Some p = sym there ∙ h in cc)
+-- The handles that the request in a slot names are distinct.
+pub named-distinct : {B : Type 0} (slot : Option (Slot B)) → Distinct (named_in slot)
+named-distinct None = tt
+named-distinct (Some slot) = ascends-distinct 0 (named slot.request) (named-ascends slot.request)
 
-  -- Once an operation left, its table stands for the ledger in which it is gone.
-  pub holders-stand-left : HoldersStand (without_ops table (named o.request)) (with_gone L n)
-  holders-stand-left = record {
-    users = λ h. ap (nat_lt 0) (user-left table (named o.request) h) ∙ stand.users h;
-    operations = λ h. elim (test-cases (has_number h (named o.request))) [
-      | inl names ↦ (
-          let a = ap (λ x. x.operations) (left-one table 0 (named o.request) rise h names) in
-          let b = stand.operations h in
-          let c = holding-gone L n h o there (holds-named h ∙ names) in
-          omega (arith, a, b, c))
-      | inr not ↦ (
-          ap (λ x. x.operations) (left-other table (named o.request) h not) ∙ stand.operations h
-          ∙ ap length (sym (holding-gone-other L n h (λ p q. ap (is_holding h) (sym (same-op p q)) ∙ holds-named h ∙ not))))
-    ];
-  }
+-- So are those that the operation in a slot holds.
+pub held-distinct : {B : Type 0} (slots : FinMap nat_cmp (Slot B)) (key : ℕ) → AreApart slots → Distinct (held_in (get slots key))
+held-distinct slots key apart =
+    distinct-made (made_in (get slots key)) (named_in (get slots key)) (named-distinct (get slots key)) (apart key)
 
--- Nobody is among holders exactly where its user doesn't hold the handle, and no operation does.
-pub nobody-counts : (held : Holders) → is_nobody held ≡ (not (nat_lt 0 held.user) && (held.operations == 0))
-nobody-counts held = ap (λ b. b && (held.operations == 0)) (zero-not held.user) where
-  zero-not : (k : ℕ) → (k == 0) ≡ not (nat_lt 0 k)
-  zero-not k = grind (arith, nat_tests)
+-- An operation in a slot may leave.
+pub counted-leave : {B : Type 0} (table : Table) (slots : FinMap nat_cmp (Slot B)) (key : ℕ) → AreCounted table slots → AreApart slots →
+    CanLeave table (held_in (get slots key))
+counted-leave table slots key counted apart =
+    can-leave table (held_in (get slots key)) (held-distinct slots key apart) (counted-some table slots key counted)
 
--- Nobody holds a handle in a table exactly where nobody does in the ledger that it stands for.
-pub nobody-unheld : {table : Table} {L : Ledger} → HoldersStand table L → (h : ℕ) → is_nobody (holders_at table h) ≡ is_unheld L h
-nobody-unheld {table} {L} stand h =
-    nobody-counts (holders_at table h) ∙ ap (λ b. not b && ((holders_at table h).operations == 0)) (stand.users h)
-    ∙ ap (λ k. not (user_holds L h) && (k == 0)) (stand.operations h) ∙ sym (unheld-count L h)
+-- An operation that isn't reaped made nothing that is seen.
+pub flying-made : (l : Lifecycle Outcome) → is_flying l ≡ true → made_life l ≡ None
+flying-made Submitted flies = refl
+flying-made (Waiting task) flies = refl
+flying-made Ignored flies = refl
+flying-made (Completed outcome) flies = (let f : ⊥ = cc in absurd f)
 
--- Of handles that rise, those that nobody holds any more once an operation left are those of which nobody is left.
-pub unheld-left : (table : Table) (test : ℕ → Bool) (j : ℕ) (handles : List ℕ) → Ascends j handles →
-    ((h : ℕ) → has_number h handles ≡ true → is_nobody (left_holders table h) ≡ test h) → unheld_by table handles ≡ filter test handles
-unheld-left table test j [] rise says = refl
-unheld-left table test j (h ∷ handles) rise says =
-    ap (λ xs. front_if (is_nobody (left_holders table h)) h xs)
-    (unheld-left (settled table h (left_holders table h)) test (suc h) handles rise.1 (λ k there.
-    let e = above-other h handles rise.1 k there in
-    ap (λ x. is_nobody (without_operation x)) (settled-other table h (left_holders table h) k e)
-    ∙ says k (has-other k h handles e ∙ there)))
-    ∙ ap (λ b. front_if b h (filter test handles)) (says h (has-first h handles)) ∙ kept-first (test h)
-  where
-    kept-first : (b : Bool) → front_if b h (filter test handles) ≡ (if b then h ∷ filter test handles else filter test handles)
-    kept-first true = refl
-    kept-first false = refl
+-- So it holds what its request names.
+pub flying-held : {B : Type 0} (slot : Slot B) → is_flying slot.life ≡ true → held_in (Some slot) ≡ named slot.request
+flying-held slot flies = ap (λ m. with_made m (named slot.request)) (flying-made slot.life flies)
 
--- Those that nobody holds any more in a table, once an operation left, are those whose holders became none in the ledger.
-pub unheld-became : (table : Table) (L : Ledger) (n : ℕ) (o : Operation) → HoldersStand table L → slice_get L.ops n ≡ Some o →
-    is_live o ≡ true → Ascends 0 (named o.request) → AreKnown L →
-    unheld_by table (named o.request) ≡ became_unheld L (with_gone L n)
-unheld-became table L n o stand there live rise known =
-    unheld-left table (is_unheld (with_gone L n)) 0 (named o.request) rise (λ h names.
-    ap is_nobody (sym (left-one table 0 (named o.request) rise h names))
-    ∙ nobody-unheld (holders-stand-left table L n o stand there live rise) h)
-    ∙ sym (became-named L n o there live known rise)
+-- The handle that an operation made is among those that it holds.
+pub made-held : (made : Option ℕ) (names : List ℕ) (h : ℕ) → made ≡ Some h → has_number h (with_made made names) ≡ true
+made-held None names h is = (let f : ⊥ = cc in absurd f)
+made-held (Some k) names h is =
+    (let e : k ≡ h = cc in ap (λ x. has_number x (names ++ k ∷ [])) (sym e) ∙ has-last k names)

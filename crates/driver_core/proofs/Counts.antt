@@ -4,6 +4,7 @@ use Rattle.std.proofs.Common.{arith, add_assoc}
 use Rattle.std.specs.Prelude.{slice_get, not, if◌then◌else◌}
 use Rattle.ring_core.specs.Lists.{amended, numbers_where}
 use Rattle.ring_core.specs.Ledger.{Operation, is_live, is_owned}
+use Rattle.ring_core.specs.Ranks.{one_if}
 use Rattle.ring_core.proofs.Numbers.{and-left}
 
 -- The operations that pass, counted.
@@ -79,6 +80,30 @@ pub where-all : (test : Operation → Bool) (f : Operation → Operation) (ops :
 where-all test f ops n l = length-numbers test 0 (amended ops n f) ∙ amended-all test f ops n l ∙ sym (length-numbers test 0 ops)
 
 -- One that passes no more.
+-- A number in front of others, or not.
+length-led : (b : Bool) (k : ℕ) (ns : List ℕ) → length (if b then k ∷ ns else ns) ≡ one_if b + length ns
+length-led true k ns = let e : suc (length ns) ≡ 1 + length ns = omega arith in e
+length-led false k ns = let e : length ns ≡ 0 + length ns = omega arith in e
+
+-- So many as are counted with the one that was and the one that is.
+pub where-changed : (test : Operation → Bool) (f : Operation → Operation) (ops : List Operation) (n k : ℕ) (o : Operation) →
+    slice_get ops n ≡ Some o →
+    length (numbers_where test k (amended ops n f)) + one_if (test o) ≡ length (numbers_where test k ops) + one_if (test (f o))
+where-changed test f [] n k o h = cc
+where-changed test f (x ∷ ops) zero k o h =
+    let e : x ≡ o = cc in
+    let a = ap (λ y. one_if (test y)) e in
+    let b = ap (λ y. one_if (test (f y))) e in
+    let c = length-led (test x) k (numbers_where test (suc k) ops) in
+    let d = length-led (test (f x)) k (numbers_where test (suc k) ops) in
+    omega (arith, a, b, c, d)
+where-changed test f (x ∷ ops) (suc n) k o h =
+    let r = where-changed test f ops n (suc k) o h in
+    let c = length-led (test x) k (numbers_where test (suc k) ops) in
+    let d = length-led (test x) k (numbers_where test (suc k) (amended ops n f)) in
+    omega (arith, r, c, d)
+
+-- One less.
 pub where-less : (test : Operation → Bool) (f : Operation → Operation) (ops : List Operation) (n : ℕ) (o : Operation) →
     slice_get ops n ≡ Some o → test o ≡ true → test (f o) ≡ false →
     length (numbers_where test 0 (amended ops n f)) + 1 ≡ length (numbers_where test 0 ops)

@@ -1,15 +1,17 @@
 -- What tables of holders are, handle by handle, once operations joined or left.
-use Rattle.std.proofs.Common.{◌≡◌, ◌≢◌, ◌∙◌, inl, inr, ℕ, suc, ◌+◌, ◌<◌, Bool, true, false, not, List, [], ◌∷◌, length, Option, Some, None}
+use Rattle.std.proofs.Common.{◌≡◌, ◌≢◌, ◌∙◌, inl, inr, ℕ, ◌+◌, ◌<◌, Bool, true, false, not, List, [], ◌∷◌, length, Option, Some, None}
 use Rattle.std.proofs.Common.{refl, sym, ap, subst, arith}
-use Rattle.std.specs.Prelude.{is_some, IsSome, unwrap_or}
+use Rattle.std.specs.Prelude.{◌==◌, is_some, IsSome, unwrap_or}
 use Rattle.std.proofs.lemmas.Bool.Decides.{nat_tests}
 use Rattle.std.specs.FinMap.{get, len}
 use Rattle.handle_core.specs.declared.table.TheConstants.{MAX_HOLDS}
 use Rattle.handle_core.specs.declared.table.Holders.{Holders}
-use Rattle.handle_core.specs.Table.{Table, IsHeld, holders_at, with_holders, with_operation, without_operation, nobody}
+use Rattle.handle_core.specs.Table.{Table, IsHeld, holders_at, with_holders, with_operation, without_operation, nobody, handed}
 use Rattle.ring_core.specs.Lists.{has_number}
-use Rattle.ring_core.proofs.Numbers.{same-or-not}
-use Rattle.ring_core.proofs.Leaving.{Ascends, ascends-not, has-first, has-other}
+use Rattle.ring_core.specs.Ranks.{one_if}
+use Rattle.ring_core.proofs.Numbers.{same-or-not, equal-other}
+use Rattle.ring_core.proofs.Leaving.{has-first, has-other}
+use Rattle.driver_core.proofs.Distinct.{Distinct, first-other, equal-is}
 use Rattle.driver_core.specs.Holds.{is_nobody, settled, settle_if, left_holders, with_ops, without_ops, front_if, unheld_by, CanJoin}
 use Rattle.driver_core.specs.Holds.{CanLeave}
 use Rattle.driver_core.proofs.Maps.{put-same, put-other, gone-same, gone-other, len-put, len-gone, len-some}
@@ -95,77 +97,104 @@ left-other table (h ∷ handles) k not =
           ∙ settled-other table h (left_holders table h) k e)
     ]
 
--- A handle among those that an operation names, which rise, is held once more once the operation joined.
-pub joined-one : (table : Table) (j : ℕ) (handles : List ℕ) → Ascends j handles → (k : ℕ) → has_number k handles ≡ true →
+-- A handle among those that an operation names, which are distinct, is held once more once the operation joined.
+pub joined-one : (table : Table) (handles : List ℕ) → Distinct handles → (k : ℕ) → has_number k handles ≡ true →
     holders_at (with_ops table handles) k ≡ with_operation (holders_at table k)
-joined-one table j [] rise k there = (let f : ⊥ = cc in absurd f)
-joined-one table j (h ∷ handles) rise k there =
+joined-one table [] apart k there = (let f : ⊥ = cc in absurd f)
+joined-one table (h ∷ handles) apart k there =
     elim (same-or-not k h) [
       | inl e ↦ (
           joined-other (with_holders table h (with_operation (holders_at table h))) handles k
-          (ap (λ x. has_number x handles) e ∙ ascends-not h (suc h) handles (omega arith) rise.1)
+          (ap (λ x. has_number x handles) e ∙ apart.0)
           ∙ ap (holders_at (with_holders table h (with_operation (holders_at table h)))) e
           ∙ with-same table h (with_operation (holders_at table h)) ∙ ap (λ x. with_operation (holders_at table x)) (sym e))
       | inr e ↦ (
-          joined-one (with_holders table h (with_operation (holders_at table h))) (suc h) handles rise.1 k
+          joined-one (with_holders table h (with_operation (holders_at table h))) handles apart.1 k
           (sym (has-other k h handles e) ∙ there)
           ∙ ap with_operation (with-other table h (with_operation (holders_at table h)) k e))
     ]
 
 -- It is held once less once the operation left.
-pub left-one : (table : Table) (j : ℕ) (handles : List ℕ) → Ascends j handles → (k : ℕ) → has_number k handles ≡ true →
+pub left-one : (table : Table) (handles : List ℕ) → Distinct handles → (k : ℕ) → has_number k handles ≡ true →
     holders_at (without_ops table handles) k ≡ left_holders table k
-left-one table j [] rise k there = (let f : ⊥ = cc in absurd f)
-left-one table j (h ∷ handles) rise k there =
+left-one table [] apart k there = (let f : ⊥ = cc in absurd f)
+left-one table (h ∷ handles) apart k there =
     elim (same-or-not k h) [
       | inl e ↦ (
           left-other (settled table h (left_holders table h)) handles k
-          (ap (λ x. has_number x handles) e ∙ ascends-not h (suc h) handles (omega arith) rise.1)
+          (ap (λ x. has_number x handles) e ∙ apart.0)
           ∙ ap (holders_at (settled table h (left_holders table h))) e
           ∙ settled-same table h (left_holders table h) ∙ ap (left_holders table) (sym e))
       | inr e ↦ (
-          left-one (settled table h (left_holders table h)) (suc h) handles rise.1 k (sym (has-other k h handles e) ∙ there)
+          left-one (settled table h (left_holders table h)) handles apart.1 k (sym (has-other k h handles e) ∙ there)
           ∙ ap without_operation (settled-other table h (left_holders table h) k e))
     ]
 
--- An operation that named handles which rise, each held by an operation, may leave.
-pub can-leave : (table : Table) (j : ℕ) (handles : List ℕ) → Ascends j handles →
+-- An operation that held handles which are distinct, each held by an operation, may leave.
+pub can-leave : (table : Table) (handles : List ℕ) → Distinct handles →
     ((k : ℕ) → has_number k handles ≡ true → 0 < (holders_at table k).operations) → CanLeave table handles
-can-leave table j [] rise held = tt
-can-leave table j (h ∷ handles) rise held = (
+can-leave table [] apart held = tt
+can-leave table (h ∷ handles) apart held = (
   held h (has-first h handles),
-  can-leave (settled table h (left_holders table h)) (suc h) handles rise.1 (λ k there.
-      let e : k ≢ h = (λ same.
-      let a : ◌≡◌ {A = Bool} true false =
-      sym there ∙ ap (λ x. has_number x handles) same ∙ ascends-not h (suc h) handles (omega arith) rise.1 in
-      let f : ⊥ = cc in f) in
+  can-leave (settled table h (left_holders table h)) handles apart.1 (λ k there.
+      let e = first-other h handles apart k there in
       subst (λ x. 0 < x.operations) (sym (settled-other table h (left_holders table h) k e)) (held k (has-other k h handles e ∙ there))),
 )
 
--- A number of a list of numbers that are above another isn't that one.
-pub above-other : (h : ℕ) (handles : List ℕ) → Ascends (suc h) handles → (k : ℕ) → has_number k handles ≡ true → k ≢ h
-above-other h handles rise k there same =
-    let a : ◌≡◌ {A = Bool} true false =
-    sym there ∙ ap (λ x. has_number x handles) same ∙ ascends-not h (suc h) handles (omega arith) rise in
-    let f : ⊥ = cc in f
-
--- An operation may join handles that rise, are held, and are held by fewer operations than the bound.
-pub can-join : (table : Table) (j : ℕ) (handles : List ℕ) → Ascends j handles → ((k : ℕ) → has_number k handles ≡ true → IsHeld table k) →
+-- An operation may join handles that are distinct, are held, and are held by fewer operations than the bound.
+pub can-join : (table : Table) (handles : List ℕ) → Distinct handles → ((k : ℕ) → has_number k handles ≡ true → IsHeld table k) →
     ((k : ℕ) → has_number k handles ≡ true → (holders_at table k).operations < MAX_HOLDS) → CanJoin table handles
-can-join table j [] rise held few = tt
-can-join table j (h ∷ handles) rise held few = (
+can-join table [] apart held few = tt
+can-join table (h ∷ handles) apart held few = (
   held h (has-first h handles),
   few h (has-first h handles),
-  can-join (with_holders table h (with_operation (holders_at table h))) (suc h) handles rise.1
+  can-join (with_holders table h (with_operation (holders_at table h))) handles apart.1
       (λ k there.
-      let e = above-other h handles rise.1 k there in
+      let e = first-other h handles apart k there in
       subst (λ o. IsSome o) (sym (put-other table.holders h (with_operation (holders_at table h)) k e))
       (held k (has-other k h handles e ∙ there)))
       (λ k there.
-      let e = above-other h handles rise.1 k there in
+      let e = first-other h handles apart k there in
       subst (λ x. x.operations < MAX_HOLDS) (sym (with-other table h (with_operation (holders_at table h)) k e))
       (few k (has-other k h handles e ∙ there))),
 )
+
+-- How often operations hold a handle of those that are distinct, once an operation joined.
+pub ops-joined : (table : Table) (handles : List ℕ) → Distinct handles → (k : ℕ) →
+    (holders_at (with_ops table handles) k).operations ≡ (holders_at table k).operations + one_if (has_number k handles)
+ops-joined table handles apart k = by (has_number k handles) refl
+  where
+    by : (b : Bool) → has_number k handles ≡ b →
+        (holders_at (with_ops table handles) k).operations ≡ (holders_at table k).operations + one_if b
+    by true is = ap (λ x. x.operations) (joined-one table handles apart k is)
+    by false is = (let a = ap (λ x. x.operations) (joined-other table handles k is) in omega (arith, a))
+
+-- And once one left that held them.
+pub ops-left : (table : Table) (handles : List ℕ) → Distinct handles →
+    ((k : ℕ) → has_number k handles ≡ true → 0 < (holders_at table k).operations) → (k : ℕ) →
+    (holders_at (without_ops table handles) k).operations + one_if (has_number k handles) ≡ (holders_at table k).operations
+ops-left table handles apart held k = by (has_number k handles) refl
+  where
+    by : (b : Bool) → has_number k handles ≡ b →
+        (holders_at (without_ops table handles) k).operations + one_if b ≡ (holders_at table k).operations
+    by true is = (let a = ap (λ x. x.operations) (left-one table handles apart k is) in let b = held k is in omega (arith, a, b))
+    by false is = (let a = ap (λ x. x.operations) (left-other table handles k is) in omega (arith, a))
+
+-- How often operations hold a handle, once one of them handed it, or another one, over.
+pub ops-handed : (table : Table) (h : ℕ) → 0 < (holders_at table h).operations → (k : ℕ) →
+    (holders_at (with_holders table h (handed (holders_at table h))) k).operations + one_if (k == h) ≡ (holders_at table k).operations
+ops-handed table h some k = elim (same-or-not k h) [
+  | inl e ↦ (
+      let a = ap (λ x. (holders_at (with_holders table h (handed (holders_at table h))) x).operations) e
+      ∙ ap (λ x. x.operations) (with-same table h (handed (holders_at table h))) in
+      let b = ap (λ x. (holders_at table x).operations) e in
+      let c = ap one_if (equal-is k h e) in
+      omega (arith, a, b, c, some))
+  | inr e ↦ (
+      let a = ap (λ x. x.operations) (with-other table h (handed (holders_at table h)) k e) in
+      let b = ap one_if (equal-other k h e) in
+      omega (arith, a, b))
+]
 
 -- A handle that somebody holds has an entry.
 entry-of : (o : Option Holders) → 0 < (unwrap_or o nobody).user + (unwrap_or o nobody).operations → (x : Holders) × (o ≡ Some x)
@@ -201,3 +230,10 @@ len-left table (h ∷ handles) may =
     let here = len-settled table h (left_holders table h) was.0 (is_nobody (left_holders table h))
     (unheld_by (settled table h (left_holders table h)) handles) was.1 some in
     omega (arith, rest, here)
+
+-- So many handles are in the table as before, once an operation handed one over.
+pub len-handed : (table : Table) (h : ℕ) → 0 < (holders_at table h).operations →
+    len (with_holders table h (handed (holders_at table h))).holders ≡ len table.holders
+len-handed table h some =
+    let was = entry-of (get table.holders h) (omega (arith, some)) in
+    len-put table.holders h (handed (holders_at table h)) was.0 was.1

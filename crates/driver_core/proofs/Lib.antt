@@ -1,7 +1,14 @@
 pub mod Lists
 pub mod Maps
+pub mod Distinct
 pub mod Holds
+pub mod Passing
 pub mod Counted
+pub mod Seen
+pub mod Standing
+pub mod Early
+pub mod Seeing
+pub mod Abandoned
 pub mod Numbers
 pub mod Completing
 pub mod Counts
@@ -11,3 +18,8 @@ pub mod Filling
 pub mod Polling
 pub mod Requests
 pub mod Tokens
+pub mod Trees
+pub mod Joining
+pub mod Membership
+pub mod Placing
+pub mod Grouping

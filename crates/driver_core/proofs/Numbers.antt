@@ -91,3 +91,8 @@ owner-at m key number (Some s) h n =
 -- A number at a key has a slot there.
 pub owner : {B : Type 0} (m : FinMap nat_cmp (Slot B)) (key number : ℕ) → number_at m key ≡ Some number → Owner m key number
 owner m key number h = owner-at m key number (get m key) refl h
+
+-- The number of a slot that is its user's.
+pub slot-number : {B : Type 0} (m : FinMap nat_cmp (Slot B)) (key : ℕ) (s : Slot B) → get m key ≡ Some s → is_owned_life s.life ≡ true →
+    number_at m key ≡ Some s.serial
+slot-number m key s there owned = ap serial_of there ∙ ap (λ b. number_if b s.serial) owned

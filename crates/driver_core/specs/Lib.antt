@@ -6,3 +6,6 @@ pub mod Requests
 pub mod Operations
 pub mod Holds
 pub mod Answers
+pub mod Members
+pub mod Calls
+pub mod Groups

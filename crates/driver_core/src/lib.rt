@@ -1,12 +1,14 @@
-//! What every driver shares: operations in slots, their numbers and tokens, and what calls on them answer.
+//! What every driver shares: operations in slots, their numbers and tokens, what calls on them answer, and cancel groups.
 #![tactic(auto)]
 
 pub mod driver;
+pub mod members;
 pub mod op;
 pub mod operations;
 mod slot;
 
 pub use driver::{Driver, Parked};
+pub use members::{CancelHandle, Canceller, Members, Place};
 pub use op::{Done, Executed, Op, PollOp, Stop, SubmitError, SubmitFault, Submitted, Turned};
-pub use operations::{MOST_GIVEN, Operations};
+pub use operations::{CallAnswer, Calls, MOST_GIVEN, Operations};
 pub use slot::Slot;

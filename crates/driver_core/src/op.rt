@@ -50,17 +50,20 @@ impl Op {
     }
 }
 
-/// What a submission returns.
+/// What a submission returns. (monoio: an `Op`, or `operation_canceled()`)
 #[derive(Debug)]
-pub enum Submitted {
+pub enum Submitted<B> {
     /// The token of the new operation.
     Op(Op),
+    /// The group that the request was submitted under is canceled: no operation was submitted, and the request comes back as it was
+    /// passed in, with its buffer or its parts.
+    Canceled(Request<B, VecBuf>),
 }
 
 /// Why nothing was submitted. (monoio answers an `io::Error`)
 #[derive(Clone, Copy, Debug, PartialEq, Eq, Error)]
 pub enum SubmitFault {
-    /// `MAX_LIVE` operations are in flight or wait for their poll.
+    /// `MAX_LIVE` operations are in flight or wait for their poll. A submission under a canceled group is never refused as this.
     #[error("Full")]
     Full,
     /// The queue was full, or an entry was due, and the ring failed to take it: its count of faults rose.
@@ -120,7 +123,8 @@ pub enum Stop {
     #[error("Busy")]
     Busy,
     /// The turn ended at a completion with this data word, which is not reserved, and names no slot in flight and no handle that is
-    /// closing.
+    /// closing; or which names a slot in flight, and a handle as made that its request doesn't make, that is known, or that isn't below
+    /// `MOST_HANDLES`.
     #[error("BadCompletion {0}")]
     BadCompletion(u64),
     /// Memory ran out. Nothing changed.

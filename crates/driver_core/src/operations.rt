@@ -4,15 +4,20 @@ ghost use Rattle.std.specs.FinMap as map;
 ghost use Rattle.driver_core.specs.Slot.{flies_in, CompletesSlot, KeepsNumbers};
 ghost use Rattle.driver_core.specs.Op.{Holds, HoldsNone, DropsToken, AddsToken, PollsTokens};
 ghost use Rattle.driver_core.specs.Operations.{Submits, PollsOp, DropsOp, offered, Stores};
+ghost use Rattle.driver_core.specs.Ops.{AreNumbered};
 ghost use Rattle.driver_core.specs.Requests.{request_at, ReturnsRequest, KeepsRequests};
-ghost use Rattle.driver_core.specs.Holds.{named_in, dropped_in};
+ghost use Rattle.driver_core.specs.Holds.{named_in, dropped_in, made_in, is_maker, is_dropped};
 ghost use Rattle.ring_core.specs.Request.{listed};
 ghost use Rattle.ring_core.specs.Surroundings.{around};
 
+mod calls;
+
 use crate::op::{Op, PollOp};
 use crate::slot::{
-    Slot, complete_slot, drop_at, dropped_names, is_numbered, names_in, poll_at, store_in,
+    Slot, complete_slot, drop_at, dropped_names, is_dropped, is_maker, is_numbered, made_in,
+    names_in, poll_at, store_in,
 };
+pub use calls::{CallAnswer, Calls};
 use op_slots::slab::MAX_LIVE;
 use op_slots::{AfterDrop, Lifecycle, Slab};
 use rent_buf::{ByteList, IoBufMut, OutOfMemory, VecBuf};
@@ -73,7 +78,8 @@ impl<B: Drop> Operations<B> {
 
     /// How many operations were submitted, which is the number of the next one.
     pub fn given(&self) -> u64
-        ensures { result ≡ self.now.given }
+        ensures given { result ≡ self.now.given }
+        ensures numbered { AreNumbered self.now.slots.values self.now.given }
     {
         self.given
     }
@@ -97,6 +103,27 @@ impl<B: Drop> Operations<B> {
         ensures { listed result ≡ named_in (map.get self.now.slots.values key) }
     {
         names_in(self.slots.peek(key))
+    }
+
+    /// The handle that the operation in the slot at a key made, once it is reaped; None where it made none, and where there is no slot.
+    pub fn made_at(&self, key: usize) -> Option<u64>
+        ensures { result ≡ made_in (map.get self.now.slots.values key) }
+    {
+        made_in(self.slots.peek(key))
+    }
+
+    /// The slot at a key is in flight, and its request may make a handle.
+    pub fn is_maker(&self, key: usize) -> bool
+        ensures { result ≡ is_maker (map.get self.now.slots.values key) }
+    {
+        is_maker(self.slots.peek(key))
+    }
+
+    /// The operation in the slot at a key was dropped: it is gone once it is completed.
+    pub fn is_dropped(&self, key: usize) -> bool
+        ensures { result ≡ is_dropped (map.get self.now.slots.values key) }
+    {
+        is_dropped(self.slots.peek(key))
     }
 
     /// The handles that the request in the slot at a key names, if its operation was dropped: it is gone once it is completed.
@@ -175,6 +202,7 @@ impl<B: Drop> Operations<B> {
     pub fn complete(&mut self, completion: &Completion) -> Option<(u64, Option<u64>)>
         ensures completes { CompletesSlot self.old.slots.values completion.now self.new.slots.values result }
         ensures stray { IfNone result (flies_in (map.get self.new.slots.values completion.now.word) ≡ false) }
+        ensures numbered { AreNumbered self.old.slots.values self.old.given }
         ensures numbers { KeepsNumbers self.old.slots.values self.new.slots.values }
         ensures requests { KeepsRequests self.old self.new }
         ensures given { self.new.given ≡ self.old.given }

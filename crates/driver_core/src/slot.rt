@@ -4,7 +4,7 @@ ghost use Rattle.std.specs.FinMap as map;
 ghost use Rattle.op_slots.specs.Lifecycle.{IsCompleted, IsIgnored};
 ghost use Rattle.ring_core.specs.Request.{listed};
 ghost use Rattle.ring_core.specs.Surroundings.{around};
-ghost use Rattle.driver_core.specs.Holds.{named_in, dropped_in};
+ghost use Rattle.driver_core.specs.Holds.{named_in, dropped_in, made_in, is_maker, is_dropped};
 ghost use Rattle.driver_core.specs.Slot.{has_number, flies_in, fits_in, KeepsNumbers};
 ghost use Rattle.driver_core.specs.Slot.{PollsSlot, PollsAt, DropsSlot, DropsAt, CompletesSlot, FillsSlot};
 ghost use Rattle.driver_core.specs.Requests.{surroundings_in, StaysHeld};
@@ -62,7 +62,43 @@ pub fn names_in<B>(slot: Option<&Slot<B>>) -> Names
     }
 }
 
-/// The same, if its operation was dropped.
+/// The handle that the operation in the slot that was looked up made, once it is reaped.
+pub fn made_in<B>(slot: Option<&Slot<B>>) -> Option<u64>
+    ensures { result ≡ made_in (option_copied slot.entry) }
+{
+    match slot {
+        Some(slot) => match &slot.life {
+            Lifecycle::Completed(outcome) => outcome.made(),
+            _ => None,
+        },
+        None => None,
+    }
+}
+
+/// The slot that was looked up is in flight, and its request may make a handle.
+pub fn is_maker<B>(slot: Option<&Slot<B>>) -> bool
+    ensures { result ≡ is_maker (option_copied slot.entry) }
+{
+    match slot {
+        Some(slot) => match &slot.life {
+            Lifecycle::Completed(_) => false,
+            _ => slot.request.makes(),
+        },
+        None => false,
+    }
+}
+
+/// The operation in the slot that was looked up was dropped.
+pub fn is_dropped<B>(slot: Option<&Slot<B>>) -> bool
+    ensures { result ≡ is_dropped (option_copied slot.entry) }
+{
+    match slot {
+        Some(slot) => matches!(&slot.life, Lifecycle::Ignored),
+        None => false,
+    }
+}
+
+/// The handles that the request of the slot that was looked up names, if its operation was dropped.
 pub fn dropped_names<B>(slot: Option<&Slot<B>>) -> Names
     ensures { listed result ≡ dropped_in (option_copied slot.entry) }
 {

@@ -1,0 +1,309 @@
+-- What calls leave of groups that stand for those of a ledger.
+use Rattle.std.proofs.Common.{◌≡◌, ◌≢◌, ◌⊎◌, inl, inr, ℕ, zero, suc, ◌<◌, Bool, true, false, List, [], ◌∷◌, ◌++◌, length, map, Option, Some}
+use Rattle.std.proofs.Common.{None, option_map, set, slice_get, IfSome, refl, sym, ◌∙◌, ap, subst, arith, nat_cmp, Greater}
+use Rattle.std.specs.FinMap as finite
+use Rattle.std.specs.Cmp.{nat_cmp_is}
+use Rattle.std.specs.Ordering.{match_ordering}
+use Rattle.std.proofs.lemmas.List.{map-append, get_or-set_same, get_or-set_other}
+use Rattle.std.proofs.lemmas.Option.{slice_get_within}
+use Rattle.rent_buf.specs.Buffer.{Buffer}
+use Rattle.ring_core.specs.Ledger.{Ledger, Place, InQueue, InFlight, InDone, Reaped, Gone, is_kept, is_marked, members, empty}
+use Rattle.ring_core.specs.Lists.{amended, has_number, passes}
+use Rattle.ring_core.specs.Step.{new_canceller_step, new_handle_step, cancel_all_step}
+use Rattle.ring_core.proofs.Amended.{get-amended-other}
+use Rattle.ring_core.proofs.Grouping.{op_groups, GroupsStay, groups-cancel_all}
+use Rattle.ring_core.proofs.Leaving.{has-first, has-later}
+use Rattle.ring_core.proofs.Members.{members-are}
+use Rattle.ring_core.proofs.Numbers.{same-or-not}
+use Rattle.ring_core.proofs.Owning.{members-marked, members-kept, members-left, members-more, members-beside, marks-more}
+use Rattle.ring_core.proofs.Staying.{Groups, groups_of}
+use Rattle.ring_core.proofs.Stepping.{OwnedAt}
+use Rattle.cancel_core.specs.Group.{Group, fresh, canceled, group_at, with_members, joined, without}
+use Rattle.driver_core.specs.declared.members.places.Place.{Place as Placed}
+use Rattle.driver_core.specs.declared.op.Op.{Op}
+use Rattle.driver_core.specs.declared.slot.Slot.{Slot}
+use Rattle.driver_core.specs.Groups.{GroupsStand, is_under_canceled, joins_if}
+use Rattle.driver_core.specs.Members.{Membership, ArePlaced, none, with_fresh, leaves, leaves_from, cancels}
+use Rattle.driver_core.specs.Op.{AddsToken, DropsToken}
+use Rattle.driver_core.specs.Ops.{Ops}
+use Rattle.driver_core.specs.Slot.{number_at, number_if, serial_of, is_owned_life, KeepsNumbers}
+use Rattle.driver_core.specs.Slots.{SlotsStand, life_of, owned_life}
+use Rattle.driver_core.proofs.Joining.{at-more, at-same, at-other, has-contains}
+use Rattle.driver_core.proofs.Lists.{some}
+use Rattle.driver_core.proofs.Numbers.{owner}
+use Rattle.driver_core.proofs.Owned.{owned-slot}
+use Rattle.driver_core.proofs.Placing.{without-absent, apart-absent}
+
+-- The slot of an operation that isn't gone, and wasn't dropped, is its user's.
+owned-place : (p : Place) (task : Option ℕ) → is_kept p ≡ true → is_owned_life (owned_life p task) ≡ true
+owned-place InQueue None kept = refl
+owned-place InQueue (Some task) kept = refl
+owned-place InFlight None kept = refl
+owned-place InFlight (Some task) kept = refl
+owned-place (InDone outcome) None kept = refl
+owned-place (InDone outcome) (Some task) kept = refl
+owned-place (Reaped outcome) task kept = refl
+owned-place Gone task kept = (let f : ⊥ = cc in absurd f)
+
+module _ {B : Type 0} (buffer : B → Buffer) (slots : finite.FinMap nat_cmp (Slot B)) (L : Ledger) (old : SlotsStand buffer slots L.ops)
+  where
+    -- The number of a slot is that of an operation of its user's.
+    pub numbered-owned : (key n : ℕ) → number_at slots key ≡ Some n → OwnedAt L n
+    numbered-owned key n is =
+        let h = owner slots key n is in
+        let w = owned-slot buffer L h.slot (old.holds key h.slot h.there) h.owned in
+        record {
+          operation = w.fit.operation;
+          there = ap (slice_get L.ops) (sym h.serial) ∙ w.fit.there;
+          kept = w.fit.live;
+          undropped = w.not_dropped;
+        }
+
+    -- An operation of its user's has its number at a key.
+    pub owned-numbered : (n : ℕ) → OwnedAt L n → (key : ℕ) × (number_at slots key ≡ Some n)
+    owned-numbered n o =
+        let h = old.each n o.operation o.there o.kept in
+        let fit = old.holds h.key h.slot h.there in
+        let same = some fit.operation o.operation (slice_get L.ops n) (ap (slice_get L.ops) (sym h.serial) ∙ fit.there) o.there in
+        let mine : is_owned_life h.slot.life ≡ true =
+        ap is_owned_life fit.life ∙ ap (λ p. is_owned_life (life_of p.dropped p.place p.task)) same
+        ∙ ap (λ b. is_owned_life (life_of b o.operation.place o.operation.task)) o.undropped
+        ∙ owned-place o.operation.place o.operation.task o.kept in
+        (h.key, ap serial_of h.there ∙ ap (λ b. number_if b h.slot.serial) mine ∙ ap Some h.serial)
+
+    -- It has it at one key alone.
+    pub one-key : (key j n : ℕ) → number_at slots key ≡ Some n → number_at slots j ≡ Some n → key ≡ j
+    one-key key j n at also =
+        let h = owner slots key n at in
+        let k = owner slots j n also in
+        old.one key j h.slot k.slot h.there k.there (h.serial ∙ sym k.serial)
+
+-- With no groups they stand for those of the empty ledger.
+pub groups-none : (capacity : ℕ) (m : Membership) → m ≡ none → GroupsStand m (empty capacity)
+groups-none capacity m is = subst (λ x. GroupsStand x (empty capacity)) (sym is) (record { marks = refl; members = λ group. refl })
+
+-- Groups that stay have their marks.
+stays-marked : (L M : Ledger) (g : ℕ) → groups_of M ≡ groups_of L → is_marked M g ≡ is_marked L g
+stays-marked L M g same = ap (λ (G : Groups). passes (λ mark. mark) (slice_get G.groups g)) same
+
+-- Where slots keep their numbers and groups stay, what stood for a ledger stands for the next one.
+pub groups-kept : {B : Type 0} (buffer : B → Buffer) (slots slots' : finite.FinMap nat_cmp (Slot B)) (L M : Ledger) (m : Membership) →
+    SlotsStand buffer slots L.ops → SlotsStand buffer slots' M.ops → KeepsNumbers slots slots' → GroupsStay L M → GroupsStand m L →
+    GroupsStand m M
+groups-kept buffer slots slots' L M m old new keeps stay stand =
+    let into : (n : ℕ) → OwnedAt L n → OwnedAt M n = λ n o.
+    (let k = owned-numbered buffer slots L old n o in numbered-owned buffer slots' M new k.0 n (keeps k.0 ∙ k.1)) in
+    let from : (n : ℕ) → OwnedAt M n → OwnedAt L n = λ n o.
+    (let k = owned-numbered buffer slots' M new n o in numbered-owned buffer slots L old k.0 n (sym (keeps k.0) ∙ k.1)) in
+    record {
+      marks = stand.marks ∙ sym (ap (λ (G : Groups). G.groups) stay.groups);
+      members = λ g. stand.members g ∙ sym (members-kept L M g (stays-marked L M g stay.groups) stay.ops into from);
+    }
+
+-- A change of one group's members leaves all marks.
+marks-stay : (gs : List Group) (g : ℕ) (ks : List ℕ) → map (λ x. x.canceled) (with_members gs g ks) ≡ map (λ x. x.canceled) gs
+marks-stay [] g ks = refl
+marks-stay (x ∷ gs) zero ks = refl
+marks-stay (x ∷ gs) (suc g) ks = ap (λ marks. x.canceled ∷ marks) (marks-stay gs g ks)
+
+-- The groups that an operation leaves, by its place.
+module _ (m : Membership) (placed : ArePlaced m) (n : ℕ) where
+  -- They have their marks.
+  left-marks : (x : Option Placed) → finite.get m.places n ≡ x →
+      map (λ g. g.canceled) (leaves_from m n x).groups ≡ map (λ g. g.canceled) m.groups
+  left-marks None at = refl
+  left-marks (Some place) at = marks-stay m.groups place.group (without (group_at m.groups place.group).members n)
+
+  -- They have their members but that one.
+  left-members : (x : Option Placed) → finite.get m.places n ≡ x → (g : ℕ) →
+      (group_at (leaves_from m n x).groups g).members ≡ without (group_at m.groups g).members n
+  left-members None at g = sym (without-absent n (group_at m.groups g).members (apart-absent m placed n g at))
+  left-members (Some place) at g = elim (same-or-not g place.group) [
+    | inl e ↦
+        let fewer : List ℕ = without (group_at m.groups place.group).members n in
+        ap (λ i. (group_at (with_members m.groups place.group fewer) i).members) e
+        ∙ ap (λ (x : Group). x.members) (at-same m.groups place.group fewer
+        (placed.made place.group n (ap (option_map (λ p. p.group)) at)))
+        ∙ ap (λ i. without (group_at m.groups i).members n) (sym e)
+    | inr e ↦
+        ap (λ (x : Group). x.members) (at-other m.groups place.group g (without (group_at m.groups place.group).members n) e)
+        ∙ sym (without-absent n (group_at m.groups g).members (elsewhere e))
+  ]
+    where
+      elsewhere : g ≢ place.group → has_number n (group_at m.groups g).members ≡ false
+      elsewhere other = by (has_number n (group_at m.groups g).members) refl
+        where
+          by : (b : Bool) → has_number n (group_at m.groups g).members ≡ b → b ≡ false
+          by false e = refl
+          by true e = absurd (other (let same : ◌≡◌ {A = Option ℕ} (Some g) (Some place.group) =
+              sym (placed.members g n (has-contains n (group_at m.groups g).members e)) ∙ ap (option_map (λ p. p.group)) at in cc))
+
+-- Where one operation is its user's no more, and leaves its group, they stand for those of the next ledger.
+pub groups-left : {B : Type 0} (buffer : B → Buffer) (old new : Ops B) (L M : Ledger) (m : Membership) (op : Op) →
+    SlotsStand buffer old.slots.values L.ops → SlotsStand buffer new.slots.values M.ops →
+    number_at old.slots.values op.key ≡ Some op.number → DropsToken old new op → GroupsStay L M → ArePlaced m → GroupsStand m L →
+    GroupsStand (leaves m op.number) M
+groups-left buffer old new L M m op was is at spends stay placed stand =
+    let n = op.number in
+    let into : (q : ℕ) → q ≢ n → OwnedAt L q → OwnedAt M q = λ q other o.
+    (let k = owned-numbered buffer old.slots.values L was q o in
+    numbered-owned buffer new.slots.values M is k.0 q
+    ((spends (record { number = q; key = k.0 })).1 (k.1, λ e. other (ap (λ x. x.number) e)))) in
+    let from : (q : ℕ) → OwnedAt M q → OwnedAt L q × (q ≢ n) = λ q o.
+    (let k = owned-numbered buffer new.slots.values M is q o in
+    let both = (spends (record { number = q; key = k.0 })).0 k.1 in (
+      numbered-owned buffer old.slots.values L was k.0 q both.0,
+      λ e. both.1 (same-op q k.0 e (one-key buffer old.slots.values L was k.0 op.key n
+          (subst (λ i. number_at old.slots.values k.0 ≡ Some i) e both.0) at)),
+    )) in
+    record {
+      marks = left-marks m placed n (finite.get m.places n) refl ∙ stand.marks ∙ sym (ap (λ (G : Groups). G.groups) stay.groups);
+      members = λ g. left-members m placed n (finite.get m.places n) refl g ∙ ap (λ ms. without ms n) (stand.members g)
+          ∙ sym (members-left L M g n (stays-marked L M g stay.groups) stay.ops into from);
+    }
+  where
+    same-op : (q k : ℕ) → q ≡ op.number → k ≡ op.key → ◌≡◌ {A = Op} (record { number = q; key = k }) op
+    same-op q k e f = ap (λ i. record { number = i; key = k }) e ∙ ap (λ j. record { number = op.number; key = j }) f
+
+-- A number above others joins them at their end.
+joined-last : (n : ℕ) (xs : List ℕ) → ((q : ℕ) → has_number q xs ≡ true → q < n) → joined xs n ≡ xs ++ n ∷ []
+joined-last n [] below = refl
+joined-last n (x ∷ xs) below =
+    let above : Greater ≡ nat_cmp n x = nat_cmp_is n x Greater (below x (has-first x xs)) in
+    ap (λ r. match_ordering r (n ∷ x ∷ xs) (x ∷ xs) (x ∷ joined xs n)) (sym above)
+    ∙ ap (λ ys. x ∷ ys) (joined-last n xs (λ q h. below q (has-later q x xs h)))
+
+-- A group that isn't canceled isn't marked in a ledger for which groups stand.
+pub stands-marked : (m : Membership) (L : Ledger) → GroupsStand m L → (g : ℕ) → g < length m.groups →
+    is_marked L g ≡ (group_at m.groups g).canceled
+stands-marked m L stand g within =
+    ap (λ marks. passes (λ mark. mark) (slice_get marks g)) (sym stand.marks) ∙ read m.groups g within
+  where
+    read : (gs : List Group) (h : ℕ) → h < length gs →
+        passes (λ mark. mark) (slice_get (map (λ x. x.canceled) gs) h) ≡ (group_at gs h).canceled
+    read [] h lt = absurd (omega (arith, lt))
+    read (x ∷ gs) zero lt = refl
+    read (x ∷ gs) (suc h) lt = read gs h (omega (arith, lt))
+
+-- Where a new operation joins the group that it is submitted under, or none, they stand for those of the next ledger.
+module _ {B : Type 0} (buffer : B → Buffer) (old new : Ops B) (L M : Ledger) (m : Membership) (op : Op) (under : Option ℕ)
+    (was : SlotsStand buffer old.slots.values L.ops) (is : SlotsStand buffer new.slots.values M.ops) (adds : AddsToken old new op)
+    (groups : groups_of M ≡ groups_of L) (ops : op_groups M ≡ op_groups L ++ under ∷ []) (number : op.number ≡ length L.ops)
+    (stand : GroupsStand m L) where
+  into : (n : ℕ) → OwnedAt L n → OwnedAt M n
+  into n o =
+      let k = owned-numbered buffer old.slots.values L was n o in
+      numbered-owned buffer new.slots.values M is k.0 n (adds.kept (record { number = n; key = k.0 }) k.1)
+
+  this : OwnedAt M op.number
+  this = numbered-owned buffer new.slots.values M is op.key op.number adds.this
+
+  from : (n : ℕ) → OwnedAt M n → OwnedAt L n ⊎ (n ≡ op.number)
+  from n o =
+      let k = owned-numbered buffer new.slots.values M is n o in
+      elim (adds.only (record { number = n; key = k.0 }) k.1) [
+        | inl e ↦ inr (ap (λ x. x.number) e)
+        | inr h ↦ inl (numbered-owned buffer old.slots.values L was k.0 n h)
+      ]
+
+  -- A member that there was is below the new one.
+  below : (g q : ℕ) → is_marked L g ≡ false → has_number q (members L g) ≡ true → q < op.number
+  below g q unmarked h =
+      let a = members-are L g q unmarked h in
+      let w = slice_get_within L.ops q a.operation a.there in
+      omega (arith, w, number)
+
+  pub groups-joined : (key : ℕ) → IfSome under (λ g. g < length m.groups) → is_under_canceled m under ≡ false →
+      GroupsStand (joins_if m under op.number key) M
+  groups-joined key known unmarked = by under refl known unmarked
+    where
+      marks : M.groups ≡ L.groups
+      marks = ap (λ (G : Groups). G.groups) groups
+
+      beside : (g : ℕ) → under ≢ Some g → members M g ≡ members L g
+      beside g other = members-beside L M op.number under ops number into this from g (stays-marked L M g groups) other
+
+      by : (x : Option ℕ) → under ≡ x → IfSome x (λ g. g < length m.groups) → is_under_canceled m x ≡ false →
+          GroupsStand (joins_if m x op.number key) M
+      by None e within opened = record {
+        marks = stand.marks ∙ sym marks;
+        members = λ g. stand.members g ∙ sym (beside g (λ q. (let f : ◌≡◌ {A = Option ℕ} None (Some g) = sym e ∙ q in cc)));
+      }
+      by (Some u) e within opened =
+          let now : is_marked L u ≡ false = stands-marked m L stand u within ∙ opened in
+          let more : List ℕ = joined (group_at m.groups u).members op.number in
+          record {
+            marks = marks-stay m.groups u more ∙ stand.marks ∙ sym marks;
+            members = λ g. elim (same-or-not g u) [
+              | inl q ↦
+                  ap (λ i. (group_at (with_members m.groups u more) i).members) q
+                  ∙ ap (λ (x : Group). x.members) (at-same m.groups u more within)
+                  ∙ ap (λ ms. joined ms op.number) (stand.members u)
+                  ∙ joined-last op.number (members L u) (λ i h. below u i now h)
+                  ∙ sym (members-more L M op.number under ops number into this from u (stays-marked L M u groups ∙ now) now e)
+                  ∙ ap (members M) (sym q)
+              | inr q ↦
+                  ap (λ (x : Group). x.members) (at-other m.groups u g more q) ∙ stand.members g
+                  ∙ sym (beside g (λ f. q (let s : ◌≡◌ {A = Option ℕ} (Some u) (Some g) = sym e ∙ f in cc)))
+            ];
+          }
+
+-- With a fresh group behind them they stand for those of the ledger with a new canceller.
+pub groups-fresh : (m : Membership) (L : Ledger) → GroupsStand m L → GroupsStand (with_fresh m) (new_canceller_step L)
+groups-fresh m L stand = record {
+  marks = map-append (λ x. x.canceled) m.groups (fresh ∷ []) ∙ ap (λ marks. marks ++ false ∷ []) stand.marks;
+  members = λ g. ap (λ (x : Group). x.members) (at-more m.groups g) ∙ stand.members g
+      ∙ sym (members-kept L (new_canceller_step L) g (marks-more L.groups g) refl
+      (λ n o. record { operation = o.operation; there = o.there; kept = o.kept; undropped = o.undropped })
+      (λ n o. record { operation = o.operation; there = o.there; kept = o.kept; undropped = o.undropped }));
+}
+
+-- A cancel handle leaves groups and operations.
+pub groups-handle : (m : Membership) (L : Ledger) (c : ℕ) → GroupsStand m L → GroupsStand m (new_handle_step L c)
+groups-handle m L c stand = record { marks = stand.marks; members = stand.members }
+
+-- The marks of groups of which one is canceled.
+marks-canceled : (gs : List Group) (c : ℕ) →
+    map (λ x. x.canceled) (set gs c canceled) ≡ amended (map (λ x. x.canceled) gs) c (λ mark. true)
+marks-canceled [] c = refl
+marks-canceled (x ∷ gs) zero = refl
+marks-canceled (x ∷ gs) (suc c) = ap (λ marks. x.canceled ∷ marks) (marks-canceled gs c)
+
+-- Where a group that was made is canceled, which is that of a canceller, and its slots stay, they stand for those of the ledger with that
+-- group canceled.
+pub groups-canceled : {B : Type 0} (buffer : B → Buffer) (slots : finite.FinMap nat_cmp (Slot B)) (L : Ledger) (m : Membership) (k c : ℕ) →
+    SlotsStand buffer slots L.ops → SlotsStand buffer slots (cancel_all_step L k c).ops → c < length m.groups → GroupsStand m L →
+    GroupsStand (cancels m c) (cancel_all_step L k c)
+groups-canceled buffer slots L m k c old new within stand =
+    let M : Ledger = cancel_all_step L k c in
+    let s = groups-cancel_all L k c in
+    let marks : M.groups ≡ amended L.groups c (λ mark. true) ++ false ∷ [] = ap (λ (G : Groups). G.groups) s.0 in
+    let into : (n : ℕ) → OwnedAt L n → OwnedAt M n = λ n o.
+    (let j = owned-numbered buffer slots L old n o in numbered-owned buffer slots M new j.0 n j.1) in
+    let from : (n : ℕ) → OwnedAt M n → OwnedAt L n = λ n o.
+    (let j = owned-numbered buffer slots M new n o in numbered-owned buffer slots L old j.0 n j.1) in
+    let at : (g : ℕ) → is_marked M g ≡ passes (λ mark. mark) (slice_get (amended L.groups c (λ mark. true)) g) = λ g.
+    ap (λ ms. passes (λ mark. mark) (slice_get ms g)) marks ∙ marks-more (amended L.groups c (λ mark. true)) g in
+    record {
+      marks = map-append (λ x. x.canceled) (set m.groups c canceled) (fresh ∷ [])
+          ∙ ap (λ ms. ms ++ false ∷ []) (marks-canceled m.groups c ∙ ap (λ ms. amended ms c (λ mark. true)) stand.marks) ∙ sym marks;
+      members = λ g. ap (λ (x : Group). x.members) (at-more (set m.groups c canceled) g) ∙ elim (same-or-not g c) [
+        | inl e ↦
+            ap (λ i. (group_at (set m.groups c canceled) i).members) e
+            ∙ ap (λ (x : Group). x.members) (get_or-set_same m.groups c canceled fresh within)
+            ∙ sym (members-marked M c (at c ∙ ap (passes (λ mark. mark)) (marked-this L.groups c
+            (subst (λ ms. c < length ms) stand.marks (rw (length-marks m.groups) within))))) ∙ ap (members M) (sym e)
+        | inr e ↦
+            ap (λ (x : Group). x.members) (get_or-set_other m.groups c g canceled fresh e) ∙ stand.members g
+            ∙ sym (members-kept L M g (at g ∙ ap (passes (λ mark. mark)) (get-amended-other (λ mark. true) L.groups c g e)) s.1 into from)
+      ];
+    }
+  where
+    length-marks : (gs : List Group) → length (map (λ x. x.canceled) gs) ≡ length gs
+    length-marks [] = refl
+    length-marks (x ∷ gs) = ap suc (length-marks gs)
+
+    marked-this : (ms : List Bool) (i : ℕ) → i < length ms → slice_get (amended ms i (λ mark. true)) i ≡ Some true
+    marked-this [] i lt = absurd (omega (arith, lt))
+    marked-this (x ∷ ms) zero lt = refl
+    marked-this (x ∷ ms) (suc i) lt = marked-this ms i (omega (arith, lt))
