@@ -1,4 +1,15 @@
+pub mod CallRows
+pub mod Io
+pub mod Legacy
+pub mod LegacyStep
+pub mod MemIo
 pub mod Places
+pub mod Polling
 pub mod Ready
+pub mod Reports
 pub mod Rooms
+pub mod Readiness
+pub mod Records
 pub mod ScheduledIo
+pub mod Spelled
+pub mod SpelledRows

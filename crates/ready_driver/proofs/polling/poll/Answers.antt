@@ -1,0 +1,131 @@
+use Rattle.std.proofs.Common.{◌≡◌, true, sym, ◌∙◌, ap, subst}
+use Rattle.std.specs.FinMap.{get}
+use Rattle.driver_core.specs.Op.{key_of}
+use Rattle.driver_core.specs.Slot.{flies_in}
+use Rattle.driver_core.specs.Calls.{CallsSlot}
+use Rattle.driver_core.specs.declared.operations.calls.CallAnswer.TheVariants.{Done, WouldBlock, OutOfMemory}
+use Rattle.ring_core.specs.Request.{plain_request}
+use Rattle.ready_driver.specs.Io.{IsMade, CallsFor}
+use Rattle.ready_driver.specs.Polling.{EndsSlot}
+use Rattle.ready_driver.proofs.Ended.{ready-reply, ready-stand, ready-rest, unmade-stand, blocks-driven, made-reply, made-stand, made-rest}
+use Rattle.ready_driver.proofs.Ended.{called-flies}
+use Rattle.ready_driver.proofs.polling.poll.Goals as goal
+
+pub returns-in-Ready-clause-polls : goal.returns-in-Ready-clause-polls
+returns-in-Ready-clause-polls g c = λ memory D stand. (
+    let st = stand.operations.slots in
+    let rest = ready-rest g.B.IoBufMut.buffer D _ c.args.op.key c.args.op.number st c.requires c.args.task _ c.in-Ready.done
+    c.in-Ready.ensures.polls in (
+      ready-reply g.B.IoBufMut.buffer D _ c.args.op.key c.args.op.number st c.requires c.args.task _ c.in-Ready.done
+          c.in-Ready.ensures.polls,
+      record {
+        operations = record {
+          given = c.poll.ensures.given ∙ stand.operations.given ∙ sym rest.1;
+          slots = ready-stand g.B.IoBufMut.buffer D _ c.args.op.key c.args.op.number st c.requires c.args.task _ c.in-Ready.done
+              c.in-Ready.ensures.polls;
+        };
+        handles = stand.handles ∙ sym rest.0;
+      },
+    ))
+
+pub end-requires-clause-flies : goal.end-requires-clause-flies
+end-requires-clause-flies g c =
+    let same = ap key_of c.in-Pending.ensures.tokens.0 in
+    subst (λ key. flies_in (get c.call.new.self.slots.values key) ≡ true) (sym same)
+    (called-flies g.B.IoBufMut.buffer c.args.ops.now.slots.values c.args.op.key c.args.op.number c.requires g.I.Calls.called c.args.task
+    c.poll.new.self.slots.values c.call.new.self.slots.values c.args.io.now c.call.new.caller c.call.result c.in-Pending.ensures.polls
+    (subst (λ key. CallsSlot g.B.IoBufMut.buffer g.I.Calls.called c.poll.new.self.slots.values key c.args.io.now
+    c.call.new.self.slots.values
+    c.call.new.caller c.call.result) same c.call.ensures.calls))
+
+pub returns-in-Done-clause-polls : goal.returns-in-Done-clause-polls
+returns-in-Done-clause-polls g c = λ memory D stand. (
+    let same = ap key_of c.in-Pending.ensures.tokens.0 in
+    let st = stand.operations.slots in
+    let calls : CallsSlot g.B.IoBufMut.buffer g.I.Calls.called c.poll.new.self.slots.values c.args.op.key c.args.io.now
+    c.call.new.self.slots.values c.call.new.caller (Done c.in-Done.outcome) =
+    subst (λ key. CallsSlot g.B.IoBufMut.buffer g.I.Calls.called c.poll.new.self.slots.values key c.args.io.now
+    c.call.new.self.slots.values c.call.new.caller (Done c.in-Done.outcome)) same c.in-Done.ensures.calls in
+    let moved : IsMade g.I.NonBlock.tells g.I.NonBlock.memory (g.I.NonBlock.view c.args.io.now)
+    (plain_request g.B.IoBufMut.buffer calls.slot.request) (g.I.NonBlock.view c.call.new.caller)
+    (plain_request g.B.IoBufMut.buffer calls.now.request) c.in-Done.outcome =
+    g.met.I.NonBlock.calls c.args.io.now (plain_request g.B.IoBufMut.buffer calls.slot.request) c.call.new.caller
+    (plain_request g.B.IoBufMut.buffer calls.now.request) (Done c.in-Done.outcome) calls.calls in
+    let made = moved.called memory in
+    let ends = subst (λ key. EndsSlot c.call.new.self.slots.values key c.in-Done.outcome c.end.new.ops.slots.values c.end.result) same
+    c.end.ensures.ends in
+    let rest = made-rest g.B.IoBufMut.buffer D c.args.ops.now.slots.values c.args.op.key c.args.op.number st c.requires g.I.Calls.called
+    c.args.task c.poll.new.self.slots.values c.call.new.self.slots.values c.args.io.now c.call.new.caller (Done c.in-Done.outcome)
+    c.in-Pending.ensures.polls calls
+    _ _ c.in-Done.outcome c.end.result c.end.new.ops.slots.values stand.handles made.0 ends in (
+      made-reply g.B.IoBufMut.buffer D c.args.ops.now.slots.values c.args.op.key c.args.op.number st c.requires g.I.Calls.called c.args.task
+          c.poll.new.self.slots.values c.call.new.self.slots.values c.args.io.now c.call.new.caller (Done c.in-Done.outcome)
+          c.in-Pending.ensures.polls calls _ _
+          c.in-Done.outcome c.end.result c.end.new.ops.slots.values stand.handles made.0 ends,
+      record {
+        operations = record {
+          given = c.end.ensures.given ∙ c.call.ensures.given ∙ c.poll.ensures.given ∙ stand.operations.given ∙ sym rest.1;
+          slots = made-stand g.B.IoBufMut.buffer D c.args.ops.now.slots.values c.args.op.key c.args.op.number st c.requires g.I.Calls.called
+              c.args.task c.poll.new.self.slots.values c.call.new.self.slots.values c.args.io.now c.call.new.caller (Done c.in-Done.outcome)
+              c.in-Pending.ensures.polls calls _ _ c.in-Done.outcome c.end.result c.end.new.ops.slots.values stand.handles made.0 ends;
+        };
+        handles = rest.0;
+      },
+    ))
+
+pub returns-in-WouldBlock-clause-polls : goal.returns-in-WouldBlock-clause-polls
+returns-in-WouldBlock-clause-polls g c = λ memory D stand. (
+    let same = ap key_of c.in-Pending.ensures.tokens.0 in
+    let st = stand.operations.slots in
+    let calls : CallsSlot g.B.IoBufMut.buffer g.I.Calls.called c.poll.new.self.slots.values c.args.op.key c.args.io.now
+    c.call.new.self.slots.values c.call.new.caller WouldBlock =
+    subst (λ key. CallsSlot g.B.IoBufMut.buffer g.I.Calls.called c.poll.new.self.slots.values key c.args.io.now
+    c.call.new.self.slots.values c.call.new.caller WouldBlock) same c.in-WouldBlock.ensures.calls in
+    let unmade : CallsFor g.I.NonBlock.tells g.I.NonBlock.memory (g.I.NonBlock.view c.args.io.now)
+    (plain_request g.B.IoBufMut.buffer calls.slot.request) (g.I.NonBlock.view c.call.new.caller)
+    (plain_request g.B.IoBufMut.buffer calls.now.request) WouldBlock =
+    g.met.I.NonBlock.calls c.args.io.now (plain_request g.B.IoBufMut.buffer calls.slot.request) c.call.new.caller
+    (plain_request g.B.IoBufMut.buffer calls.now.request) WouldBlock calls.calls in (
+      c.in-Pending.ensures.tokens.0,
+      blocks-driven g.B.IoBufMut.buffer D c.args.ops.now.slots.values c.args.op.key c.args.op.number st c.requires g.I.Calls.called
+          c.args.task
+          c.poll.new.self.slots.values c.call.new.self.slots.values c.args.io.now c.call.new.caller WouldBlock
+          c.in-Pending.ensures.polls calls _
+          stand.handles (unmade.2 memory),
+      record {
+        operations = record {
+          given = c.call.ensures.given ∙ c.poll.ensures.given ∙ stand.operations.given;
+          slots = unmade-stand g.B.IoBufMut.buffer D c.args.ops.now.slots.values c.args.op.key c.args.op.number st c.requires
+              g.I.Calls.called
+              c.args.task c.poll.new.self.slots.values c.call.new.self.slots.values c.args.io.now c.call.new.caller WouldBlock
+              c.in-Pending.ensures.polls calls unmade.0.same;
+        };
+        handles = unmade.0.world (g.met.I.NonBlock.memory_tells memory) ∙ stand.handles;
+      },
+    ))
+
+pub returns-in-OutOfMemory-clause-polls : goal.returns-in-OutOfMemory-clause-polls
+returns-in-OutOfMemory-clause-polls g c = λ memory D stand. (
+    let same = ap key_of c.in-Pending.ensures.tokens.0 in
+    let st = stand.operations.slots in
+    let calls : CallsSlot g.B.IoBufMut.buffer g.I.Calls.called c.poll.new.self.slots.values c.args.op.key c.args.io.now
+    c.call.new.self.slots.values c.call.new.caller OutOfMemory =
+    subst (λ key. CallsSlot g.B.IoBufMut.buffer g.I.Calls.called c.poll.new.self.slots.values key c.args.io.now
+    c.call.new.self.slots.values c.call.new.caller OutOfMemory) same c.in-OutOfMemory.ensures.calls in
+    let unmade : CallsFor g.I.NonBlock.tells g.I.NonBlock.memory (g.I.NonBlock.view c.args.io.now)
+    (plain_request g.B.IoBufMut.buffer calls.slot.request) (g.I.NonBlock.view c.call.new.caller)
+    (plain_request g.B.IoBufMut.buffer calls.now.request) OutOfMemory =
+    g.met.I.NonBlock.calls c.args.io.now (plain_request g.B.IoBufMut.buffer calls.slot.request) c.call.new.caller
+    (plain_request g.B.IoBufMut.buffer calls.now.request) OutOfMemory calls.calls in (
+      c.in-Pending.ensures.tokens.0,
+      record {
+        operations = record {
+          given = c.call.ensures.given ∙ c.poll.ensures.given ∙ stand.operations.given;
+          slots = unmade-stand g.B.IoBufMut.buffer D c.args.ops.now.slots.values c.args.op.key c.args.op.number st c.requires
+              g.I.Calls.called
+              c.args.task c.poll.new.self.slots.values c.call.new.self.slots.values c.args.io.now c.call.new.caller OutOfMemory
+              c.in-Pending.ensures.polls calls unmade.same;
+        };
+        handles = unmade.world (g.met.I.NonBlock.memory_tells memory) ∙ stand.handles;
+      },
+    ))

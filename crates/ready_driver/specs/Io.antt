@@ -1,0 +1,146 @@
+-- An object whose calls don't wait, as its callers see it, and what its calls do. Cited by `NonBlock`.
+use Rattle.std.specs.Prelude.{ℕ, ◌≡◌, ◌≤◌, Bool, true, IsTrue, List, [], length, min, Option, None, Result, Ok, Err}
+use Rattle.rent_buf.specs.Buffer.{Buffer}
+use Rattle.rent_buf.specs.Parts.{Parts}
+use Rattle.rent_buf.specs.Counts.{Rose}
+use Rattle.ring_core.specs.declared.request.TheConstants.{MOST_ASKED}
+use Rattle.ring_core.specs.declared.request.Request.{Request}
+use Rattle.ring_core.specs.declared.request.Request.TheVariants.{SpliceTo, SpliceFrom}
+use Rattle.ring_core.specs.declared.request.Way.{Way}
+use Rattle.ring_core.specs.declared.request.Way.TheVariants.{Reads, Sends, Neither}
+use Rattle.ring_core.specs.declared.request.Told.{Told}
+use Rattle.ring_core.specs.declared.request.Told.TheVariants.{Count as Counts, Fail as Fails}
+use Rattle.ring_core.specs.declared.request.Outcome.{Outcome}
+use Rattle.ring_core.specs.declared.request.Outcome.TheVariants.{Count, From, Made, Fail}
+use Rattle.ring_core.specs.declared.world.HandleState.{HandleState}
+use Rattle.ring_core.specs.Request.{call_of, makes, way_of, held_of, held_want, held_after, held, sent_of, IsHolding}
+use Rattle.ring_core.specs.Outcome.{may_count}
+use Rattle.ring_core.specs.Attempt.{attempt}
+use Rattle.ring_core.specs.Effect.{made_by}
+use Rattle.ring_core.specs.WorldCall.{IsCalled, call_effect}
+use Rattle.driver_core.specs.declared.operations.calls.CallAnswer.{CallAnswer}
+use Rattle.driver_core.specs.declared.operations.calls.CallAnswer.TheVariants.{Done, WouldBlock, OutOfMemory}
+use Rattle.ready_driver.specs.declared.non_block.Report.{Report}
+use Rattle.ready_driver.specs.declared.non_block.NonBlockError.{NonBlockError}
+use Rattle.ready_driver.specs.declared.non_block.NonBlockError.TheVariants.{Fault, OutOfMemory as NoMemory}
+use Rattle.ready_driver.specs.Reports.{with_key, with_made_key}
+
+-- An object: how often a call of it failed as a whole, would have blocked, and ended with an error; its handles; by handle, the key that it
+-- is registered with, if it is; and what a wait reports. Every object shows its counts. The rest means something only where the object
+-- shows it.
+pub record IoView : Type 0 where
+  pub faults : ℕ
+  pub blocks : ℕ
+  pub fails : ℕ
+  pub world : List HandleState
+  pub keys : List (Option ℕ)
+  pub reports : List Report
+
+-- The counts never fall.
+pub record IsLater (old new : IoView) : Type 0 where
+  pub faults : old.faults ≤ new.faults
+  pub blocks : old.blocks ≤ new.blocks
+  pub fails : old.fails ≤ new.fails
+
+-- The count of errors rose where a call ended with one.
+abbrev pub FailRose : Outcome → ℕ → ℕ → Type 0
+FailRose (Count k) before now = Unit {0}
+FailRose (From k addr) before now = Unit {0}
+FailRose (Made h) before now = Unit {0}
+FailRose (Fail e) before now = Rose before now
+
+-- A request has k bytes that came stored in what it holds; it asked for as many at least.
+pub record IsFilled (request : Request Buffer Parts) (now : Request Buffer Parts) (k : ℕ) : Type 0 where
+  pub bytes : List ℕ
+  pub count : length bytes ≡ k
+  pub wanted : k ≤ held_want (held_of request)
+  pub holds : IsHolding request (held_after request bytes) now
+
+-- The most that a request without a buffer moves: what a splice asks for; another moves nothing.
+abbrev pub most_spliced : {B V : Type 0} → Request B V → ℕ
+most_spliced (SpliceTo fd pipe len) = min len MOST_ASKED
+most_spliced (SpliceFrom pipe fd len) = min len MOST_ASKED
+most_spliced _ = 0
+
+-- What became of a request after a count, by the way that its bytes go.
+abbrev pub CountsFor : Way → Request Buffer Parts → Request Buffer Parts → ℕ → Type 0
+CountsFor Reads request now k = IsFilled request now k
+CountsFor Sends request now k = (k ≤ length (sent_of request)) × (now ≡ request)
+CountsFor Neither request now k = (k ≤ most_spliced request) × (now ≡ request)
+
+-- What became of a request: only one that makes handles makes one, and then it is as it was, as it is after an error.
+abbrev pub EndsFor : Request Buffer Parts → Request Buffer Parts → Outcome → Type 0
+EndsFor request now (Count k) = CountsFor (way_of request) request now k
+EndsFor request now (From k addr) = CountsFor (way_of request) request now k
+EndsFor request now (Made h) = (makes request ≡ true) × (now ≡ request)
+EndsFor request now (Fail e) = now ≡ request
+
+-- A reported outcome is an error, or a count that the machine allows to a call on these handles.
+abbrev pub MayEnd : List HandleState → Request Buffer Parts → Told → Type 0
+MayEnd world request (Counts k) = may_count world (call_of request) k ≡ true
+MayEnd world request (Fails e) = Unit {0}
+
+-- A call moved what the machine moves with a report that may end it.
+pub record IsMoved (old : List HandleState) (request : Request Buffer Parts) (new : List HandleState) (now : Request Buffer Parts)
+    (outcome : Outcome) : Type 0 where
+  pub told : Told
+  pub may : MayEnd old request told
+  pub outcome_is : outcome ≡ (call_effect old request told).outcome
+  pub world : new ≡ (call_effect old request told).world
+  pub holds : IsHolding request (held request told (call_effect old request told).got) now
+
+-- A call was made. An object that shows its handles moved what the machine moves; a world in memory made the call as such a world does, and
+-- a handle that it made isn't registered.
+pub record IsMade (tells memory : Bool) (old : IoView) (request : Request Buffer Parts) (new : IoView) (now : Request Buffer Parts)
+    (outcome : Outcome) : Type 0 where
+  pub later : IsLater old new
+  pub fails : FailRose outcome old.fails new.fails
+  pub ends : EndsFor request now outcome
+  pub moved : IsTrue tells → IsMoved old.world request new.world now outcome
+  pub called : IsTrue memory → IsCalled old.world request new.world now outcome × (new.keys ≡ with_made_key (made_by outcome) old.keys)
+
+-- A call wasn't made: the request is as it was, and so are the handles and what is registered.
+pub record IsUnmade (tells memory : Bool) (old : IoView) (request : Request Buffer Parts) (new : IoView) (now : Request Buffer Parts) :
+    Type 0 where
+  pub later : IsLater old new
+  pub same : now ≡ request
+  pub world : IsTrue tells → new.world ≡ old.world
+  pub keys : IsTrue memory → new.keys ≡ old.keys
+
+-- What the call of a request answers and leaves. `WouldBlock` comes only where its count rose; of a world in memory, exactly where the call
+-- isn't made at once.
+abbrev pub CallsFor : Bool → Bool → IoView → Request Buffer Parts → IoView → Request Buffer Parts → CallAnswer → Type 0
+CallsFor tells memory old request new now (Done outcome) = IsMade tells memory old request new now outcome
+CallsFor tells memory old request new now WouldBlock =
+    IsUnmade tells memory old request new now × Rose old.blocks new.blocks
+    × (IsTrue memory → attempt old.world (call_of request) ≡ None)
+CallsFor tells memory old request new now OutOfMemory = IsUnmade tells memory old request new now
+
+-- A call that moves nothing: the handles are as they were, and these keys are registered.
+pub record IsStill (tells memory : Bool) (old new : IoView) (keys : List (Option ℕ)) : Type 0 where
+  pub later : IsLater old new
+  pub world : IsTrue tells → new.world ≡ old.world
+  pub keys_are : IsTrue memory → new.keys ≡ keys
+
+-- Why a call failed: `Fault` comes only where its count rose, and never of a world in memory.
+abbrev pub FaultsFor : Bool → IoView → IoView → NonBlockError → Type 0
+FaultsFor memory old new Fault = Rose old.faults new.faults × (IsTrue memory → ⊥)
+FaultsFor memory old new NoMemory = Unit {0}
+
+-- What registering a handle, or taking that back, answers and leaves. A world in memory always does it.
+abbrev pub RegistersFor : Bool → Bool → ℕ → Option ℕ → IoView → IoView → Result Unit NonBlockError → Type 0
+RegistersFor tells memory h key old new (Ok done) = IsStill tells memory old new (with_key old.keys h key)
+RegistersFor tells memory h key old new (Err why) =
+    IsStill tells memory old new old.keys × FaultsFor memory old new why × (IsTrue memory → ⊥)
+
+-- What closing a handle answers and leaves. A world in memory answers the count 0.
+pub record IsClosed (tells memory : Bool) (old new : IoView) (outcome : Outcome) : Type 0 where
+  pub still : IsStill tells memory old new old.keys
+  pub outcome_is : IsTrue memory → outcome ≡ Count 0
+
+-- What a wait answers and leaves. An object that shows its reports puts just these into the list; after an error there is none.
+abbrev pub WaitsFor : Bool → Bool → Bool → IoView → IoView → List Report → Result Unit NonBlockError → Type 0
+WaitsFor tells reporting memory old new reports (Ok done) =
+    IsStill tells memory old new old.keys × (IsTrue reporting → reports ≡ old.reports)
+WaitsFor tells reporting memory old new reports (Err why) =
+    IsStill tells memory old new old.keys × FaultsFor memory old new why × (reports ≡ [])

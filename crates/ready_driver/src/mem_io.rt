@@ -1,0 +1,277 @@
+//! Handles in memory, whose calls are made at once.
+ghost use Rattle.std.specs.Prelude.{◌≡◌, ◌++◌, ◌<◌, ◌≤◌, [], ◌∷◌, true, None, length, slice_get, option_copied, refl, IsTrue, IfSome, IfOk};
+ghost use Rattle.std.specs.Prelude.{OnOk, OnErr};
+ghost use Rattle.ring_core.specs.Attempt.{is_readable_at};
+ghost use Rattle.ring_core.specs.World.{fresh, look_at, WorldFeeds, WorldFeedsMessage, WorldEnds};
+ghost use Rattle.ready_driver.specs.Io.{CallsFor, FailRose};
+ghost use Rattle.ready_driver.specs.MemIo.{memory_view, no_handles};
+ghost use Rattle.ready_driver.specs.Reports.{bits_of, report_of, reports_in, with_key, with_made_key};
+ghost use Rattle.std.specs.Vec.{vec_len, vec_capacity};
+
+use crate::non_block::{NonBlock, NonBlockError, Report, Reports};
+use crate::ready::Ready;
+use driver_core::{CallAnswer, Calls};
+use rent_buf::{IoBufMut, OutOfMemory, VecBuf};
+use ring_core::{HandleKind, Look, Outcome, Request, World, WorldCall, WorldError};
+use std::alloc::Global;
+use std::marker::Model;
+
+/// A world of handles in memory, as an object whose calls don't wait: its faults never rise. (not in monoio)
+///
+/// A `wait` looks at each handle that was created. Each other call costs the same however many there are.
+#[derive(Debug, Drop)]
+pub struct MemIo {
+    world: World,
+    // By handle, the key with which it is registered.
+    keys: Vec<Option<usize>>,
+    blocks: u64,
+    fails: u64,
+}
+
+impl Model for MemIo {
+    ghost use Rattle.std.specs.Prelude.{◌≡◌, length};
+    ghost use Rattle.ready_driver.specs.MemIo.{Memory};
+
+    ghost Value = { Memory };
+
+    ghost view = { λ m. record { world = m.world; keys = m.keys.items; blocks = m.blocks; fails = m.fails } };
+
+    ghost invariant = { λ m. length m.keys.items ≡ length m.world };
+}
+
+impl MemIo {
+    /// No handles. It takes no memory. (not in monoio)
+    pub fn new(alloc: Global) -> MemIo
+        ensures { result ≡ no_handles }
+    {
+        MemIo {
+            world: World::new(alloc),
+            keys: Vec::new(alloc),
+            blocks: 0,
+            fails: 0,
+        }
+    }
+
+    /// How many handles there are. (not in monoio)
+    pub fn count(&self) -> u64
+        ensures { result ≡ length self.now.world }
+    {
+        self.world.count()
+    }
+
+    /// A new handle of a kind, which isn't registered, and its number. (not in monoio)
+    pub fn give(&mut self, kind: HandleKind) -> Result<u64, OutOfMemory>
+        ensures number { IfOk result (λ h. h ≡ length self.old.world) }
+        ensures ok { OnOk result (self.new ≡
+            record self.old { world = self.old.world ++ fresh kind ∷ []; keys = self.old.keys ++ None ∷ [] }) }
+        ensures err { OnErr result (self.new ≡ self.old) }
+    {
+        self.keys.reserve(1)?;
+        let h = self.world.give(kind)?;
+        self.keys.push_reserved(None);
+        Ok(h)
+    }
+
+    /// Bytes join the input's end of a handle. `BadHandleEvent` comes exactly when the handle is a datagram or a listener, or its end is
+    /// marked. (not in monoio)
+    pub fn feed(&mut self, h: u64, bytes: &[u8]) -> Result<(), WorldError>
+        requires { h < length self.old.world }
+        ensures feeds { WorldFeeds bytes.now self.old.world h self.new.world result }
+        ensures rest { self.new ≡ record self.old { world = self.new.world } }
+    {
+        self.world.feed(h, bytes)
+    }
+
+    /// A message joins those that wait on a handle: its address, and a copy of its bytes. `BadHandleEvent` comes exactly when the
+    /// handle is no datagram. (not in monoio)
+    pub fn feed_message(&mut self, h: u64, addr: u64, bytes: &[u8]) -> Result<(), WorldError>
+        requires { h < length self.old.world }
+        ensures feeds { WorldFeedsMessage addr bytes.now self.old.world h self.new.world result }
+        ensures rest { self.new ≡ record self.old { world = self.new.world } }
+    {
+        self.world.feed_message(h, addr, bytes)
+    }
+
+    /// Marks a handle's end: no more bytes arrive. `BadHandleEvent` comes exactly when the handle is neither a stream nor a pipe, or
+    /// its end is marked already. It takes no memory. (not in monoio)
+    pub fn end(&mut self, h: u64) -> Result<(), WorldError>
+        requires { h < length self.old.world }
+        ensures ends { WorldEnds self.old.world h self.new.world result }
+        ensures rest { self.new ≡ record self.old { world = self.new.world } }
+    {
+        self.world.end(h)
+    }
+
+    /// The bytes that were sent to a stream, those of a pipe or a file, or the messages that a datagram sent, copied once.
+    /// (not in monoio)
+    pub fn look(&self, h: u64) -> Result<Look, OutOfMemory>
+        requires { h < length self.now.world }
+        ensures { IfOk result (λ look. look ≡ look_at self.now.world h) }
+    {
+        self.world.look(h)
+    }
+
+    // Puts the report of a handle behind the others, if it is registered.
+    fn report(&self, h: usize, reports: &mut Reports) -> Result<(), OutOfMemory>
+        ensures ok { OnOk result (reports.new ≡ reports.old ++ report_of (slice_get self.now.keys h) (is_readable_at self.now.world h)) }
+        ensures err { OnErr result (reports.new ≡ reports.old) }
+    {
+        let readable = self.world.readable(h as u64);
+        push_report(self.keys.get(h), readable, reports)
+    }
+
+    // Puts the report of each handle that is registered into an empty list.
+    fn report_all(&self, reports: &mut Reports) -> Result<(), OutOfMemory>
+        requires { reports.old ≡ [] }
+        ensures { OnOk result (reports.new ≡ reports_in self.now.world self.now.keys) }
+    {
+        for h in 0..self.keys.len() {
+            self.report(h, reports)?;
+        }
+        Ok(())
+    }
+}
+
+// Puts the report of a handle that is readable, or isn't, behind the others, if it has a key.
+fn push_report(
+    key: Option<&Option<usize>>,
+    readable: bool,
+    reports: &mut Reports,
+) -> Result<(), OutOfMemory>
+    ensures ok { OnOk result (reports.new ≡ reports.old ++ report_of (option_copied key.entry) readable) }
+    ensures err { OnErr result (reports.new ≡ reports.old) }
+{
+    match key {
+        Some(Some(key)) => reports.push(Report {
+            key: *key,
+            ready: ready_bits(readable),
+        }),
+        _ => Ok(()),
+    }
+}
+
+// What a handle is ready for that is readable, or isn't.
+fn ready_bits(readable: bool) -> Ready
+    ensures { result ≡ bits_of readable }
+{
+    if readable {
+        Ready::READABLE | Ready::WRITABLE
+    } else {
+        Ready::WRITABLE
+    }
+}
+
+// The count of errors after a call that ended so. It saturates.
+fn count_fail(fails: u64, outcome: Outcome) -> u64
+    ensures more { fails ≤ result }
+    ensures rose { FailRose outcome fails result }
+{
+    match outcome {
+        Outcome::Count(_) | Outcome::From(_, _) | Outcome::Made(_) => fails,
+        Outcome::Fail(_) => fails.saturating_add(1),
+    }
+}
+
+// Takes the memory of one more key, where a handle may be made.
+fn reserve_key(keys: &mut Vec<Option<usize>>, makes: bool) -> Result<(), OutOfMemory>
+    ensures items { keys.new.items ≡ keys.old.items }
+    ensures room { OnOk result (IsTrue makes → vec_len keys.new < vec_capacity keys.new) }
+{
+    if makes {
+        keys.reserve(1)?;
+    }
+    Ok(())
+}
+
+// A handle that was made, where there is one, isn't registered yet. It takes no memory.
+fn add_key(keys: &mut Vec<Option<usize>>, made: Option<u64>)
+    requires { IfSome made (λ h. vec_len keys.old < vec_capacity keys.old) }
+    ensures { keys.new.items ≡ with_made_key made keys.old.items }
+{
+    if made.is_some() {
+        keys.push_reserved(None);
+    }
+}
+
+// A handle is registered with a key from now on, or isn't.
+fn set_key(keys: &mut Vec<Option<usize>>, h: usize, key: Option<usize>)
+    ensures { keys.new.items ≡ with_key keys.old.items h key }
+{
+    if h < keys.len() {
+        keys[h] = key;
+    }
+}
+
+impl Calls for MemIo {
+    ghost called = { λ old request new now answer. CallsFor true true (memory_view old) request (memory_view new) now answer };
+
+    /// Makes the call of a request, where it doesn't block (`World::call`). A handle that it makes isn't registered.
+    fn call<B: IoBufMut>(&mut self, request: &mut Request<B, VecBuf>) -> CallAnswer {
+        if reserve_key(&mut self.keys, request.makes()).is_err() {
+            return CallAnswer::OutOfMemory;
+        }
+        match self.world.call(request) {
+            WorldCall::Done(outcome) => {
+                add_key(&mut self.keys, outcome.made());
+                self.fails = count_fail(self.fails, outcome);
+                CallAnswer::Done(outcome)
+            }
+            WorldCall::WouldBlock => {
+                self.blocks = self.blocks.saturating_add(1);
+                CallAnswer::WouldBlock
+            }
+            WorldCall::OutOfMemory => CallAnswer::OutOfMemory,
+        }
+    }
+}
+
+impl NonBlock for MemIo {
+    ghost view = { memory_view };
+
+    ghost tells = { true };
+
+    ghost reporting = { true };
+
+    ghost memory = { true };
+
+    ghost memory_tells = { λ told. told };
+
+    ghost memory_reports = { λ told. (told, λ io. refl) };
+
+    ghost calls = { λ old request new now answer called. called };
+
+    /// It takes no memory.
+    fn register(&mut self, h: u64, key: usize) -> Result<(), NonBlockError> {
+        set_key(&mut self.keys, h as usize, Some(key));
+        Ok(())
+    }
+
+    /// It takes no memory.
+    fn deregister(&mut self, h: u64) -> Result<(), NonBlockError> {
+        set_key(&mut self.keys, h as usize, None);
+        Ok(())
+    }
+
+    /// The count 0: nothing moves.
+    fn close(&mut self, h: u64) -> Outcome {
+        Outcome::Count(0)
+    }
+
+    fn is_file(&self, h: u64) -> bool {
+        self.world.is_file(h)
+    }
+
+    /// It doesn't wait.
+    fn wait(&mut self, limit: Option<u64>, reports: &mut Reports) -> Result<(), NonBlockError> {
+        match self.report_all(reports) {
+            Ok(()) => Ok(()),
+            Err(_) => {
+                reports.clear();
+                Err(NonBlockError::OutOfMemory)
+            }
+        }
+    }
+}
+
+#[cfg(test)]
+mod tests;

@@ -1,0 +1,144 @@
+//! What a readiness driver asks of the object that makes its calls.
+ghost use Rattle.std.specs.Prelude.{◌≡◌, ◌++◌, [], ◌∷◌, Bool, Some, None, IsTrue, OnOk, OnErr, length, slice_get};
+ghost use Rattle.rent_buf.specs.Buffer.{Buffer};
+ghost use Rattle.rent_buf.specs.Parts.{Parts};
+ghost use Rattle.ring_core.specs.declared.request.Request.{Request};
+ghost use Rattle.ring_core.specs.Attempt.{is_file_at};
+ghost use Rattle.driver_core.specs.declared.operations.calls.CallAnswer.{CallAnswer};
+ghost use Rattle.ready_driver.specs.Io.{IoView, CallsFor, RegistersFor, IsClosed, WaitsFor};
+ghost use Rattle.ready_driver.specs.Reports.{reports_in};
+
+use crate::ready::Ready;
+use driver_core::Calls;
+use rent_buf::OutOfMemory;
+use ring_core::Outcome;
+use std::alloc::Global;
+use std::marker::Model;
+use thiserror::Error;
+
+/// Why an object did nothing. (monoio: an `io::Error`)
+#[derive(Clone, Copy, Debug, PartialEq, Eq, Error)]
+pub enum NonBlockError {
+    /// It failed: its count of faults rose.
+    #[error("Fault")]
+    Fault,
+    /// Memory ran out.
+    #[error("OutOfMemory")]
+    OutOfMemory,
+}
+
+/// What a wait reports of one handle. (mio: an `Event`)
+#[derive(Clone, Copy, Debug, PartialEq, Eq)]
+pub struct Report {
+    /// The key that the handle was registered with.
+    pub key: usize,
+    /// What it is ready for.
+    pub ready: Ready,
+}
+
+/// What a wait reports, in order. (mio: `Events`)
+#[derive(Debug, Drop)]
+pub struct Reports {
+    list: Vec<Report>,
+}
+
+impl Model for Reports {
+    ghost use Rattle.std.specs.Prelude.{List};
+    ghost use Rattle.ready_driver.specs.declared.non_block.Report.{Report};
+
+    ghost Value = { List Report };
+
+    ghost view = { λ r. r.list.items };
+}
+
+impl Reports {
+    /// No report. It takes no memory. (mio: `Events::with_capacity`)
+    pub fn new(alloc: Global) -> Reports
+        ensures { result ≡ [] }
+    {
+        Reports {
+            list: Vec::new(alloc),
+        }
+    }
+
+    /// How many reports there are. (not in monoio)
+    pub fn len(&self) -> usize
+        ensures { result ≡ length self.now }
+    {
+        self.list.len()
+    }
+
+    /// The report at a place, if there is one. (not in monoio)
+    pub fn get(&self, at: usize) -> Option<Report>
+        ensures { result ≡ slice_get self.now at }
+    {
+        self.list.get(at).copied()
+    }
+
+    /// A further report, behind the others. If memory runs out, nothing changes. (not in monoio)
+    pub fn push(&mut self, report: Report) -> Result<(), OutOfMemory>
+        ensures ok { OnOk result (self.new ≡ self.old ++ report ∷ []) }
+        ensures err { OnErr result (self.new ≡ self.old) }
+    {
+        self.list.push(report)?;
+        Ok(())
+    }
+
+    /// No report any more. (mio: `Events::clear`)
+    pub fn clear(&mut self)
+        ensures { self.new ≡ [] }
+    {
+        self.list.clear();
+    }
+}
+
+/// An object whose calls don't wait: it makes the call of a request at once or answers that it would block, and reports which handles
+/// became ready. (monoio: the non-blocking file descriptors, and `mio::Poll`)
+///
+/// Every object shows three counts, which never fall: how often it failed, would have blocked, and ended a call with an error. Some show
+/// their handles too, as a world has them, and some what a wait reports; and some are a world in memory, which is known in all.
+pub trait NonBlock: Calls + Drop {
+    // The object as a value.
+    ghost view: { Self → IoView };
+
+    // It shows its handles.
+    ghost tells: { Bool };
+
+    // It shows what a wait reports.
+    ghost reporting: { Bool };
+
+    // It is a world in memory.
+    ghost memory: { Bool };
+
+    /// Registers a handle: from now on its reports have this key. (monoio: `Registry::register`)
+    fn register(&mut self, h: u64, key: usize) -> Result<(), NonBlockError>
+        ensures { RegistersFor tells memory h (Some key) (view self.old) (view self.new) result };
+
+    /// A handle isn't registered any more. (monoio: `Registry::deregister`)
+    fn deregister(&mut self, h: u64) -> Result<(), NonBlockError>
+        ensures { RegistersFor tells memory h None (view self.old) (view self.new) result };
+
+    /// Closes a handle, and answers how that ended. (libc: `close`)
+    fn close(&mut self, h: u64) -> Outcome
+        ensures { IsClosed tells memory (view self.old) (view self.new) result };
+
+    /// A handle is a file: its calls wait for nothing that is reported. (not in monoio)
+    fn is_file(&self, h: u64) -> bool
+        ensures { IsTrue memory → result ≡ is_file_at (view self.now).world h };
+
+    /// Waits for reports, no longer than so many milliseconds, and puts them into an empty list. (monoio: `Poll::poll`)
+    fn wait(&mut self, limit: Option<u64>, reports: &mut Reports) -> Result<(), NonBlockError>
+        requires { reports.old ≡ [] }
+        ensures { WaitsFor tells reporting memory (view self.old) (view self.new) reports.new result };
+
+    // A world in memory shows its handles.
+    ghost memory_tells: { IsTrue memory → IsTrue tells };
+
+    // It shows its reports: each handle that is registered.
+    ghost memory_reports: { IsTrue memory → IsTrue reporting ×
+        ((io : Self) → (view io).reports ≡ reports_in (view io).world (view io).keys) };
+
+    // What a call of a request answers and leaves.
+    ghost calls: { (old : Self) (request : Request Buffer Parts) (new : Self) (now : Request Buffer Parts) (answer : CallAnswer) →
+        Self.Calls.called old request new now answer → CallsFor tells memory (view old) request (view new) now answer };
+}

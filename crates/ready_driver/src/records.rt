@@ -1,0 +1,161 @@
+//! What a driver keeps of each of its handles: what it is ready for, what waits for it, and whether it is registered.
+ghost use Rattle.std.specs.Prelude.{◌≡◌, ◌-◌, ◌<◌, true, max, bit_or, None, option_map, OnOk, OnErr};
+ghost use Rattle.std.specs.FinMap as map;
+ghost use Rattle.ready_driver.specs.Ready.{without};
+ghost use Rattle.ready_driver.specs.ScheduledIo.{waiter_of, forgotten, taken, left, tasks_of};
+ghost use Rattle.ready_driver.specs.Records.{fresh_record, record_at, io_at, is_registered, with_record, changed, without_record};
+ghost use Rattle.ready_driver.specs.Records.{with_io, with_registered};
+
+use crate::ready::Ready;
+use crate::scheduled_io::ScheduledIo;
+use rent_buf::{NumList, OutOfMemory};
+use std::alloc::Global;
+use std::collections::HashMap;
+use std::marker::Model;
+
+/// What a driver keeps of a handle. (monoio: a `ScheduledIo` in the slab of the legacy driver)
+#[derive(Debug, Drop)]
+pub struct Record {
+    /// The handle is registered.
+    pub registered: bool,
+    /// What it is ready for, and what waits for it.
+    pub io: ScheduledIo,
+}
+
+/// The records of handles, each by its handle's number, and memory that is reserved for more of them. A call finds its record by a hash,
+/// however many there are. (monoio: the slab of `ScheduledIo` in the legacy driver, by the key with which each was registered)
+#[derive(Drop)]
+pub struct Records {
+    handles: HashMap<u64, Record>,
+    // For how many more handles memory is reserved.
+    reserved: usize,
+    alloc: Global,
+}
+
+impl Model for Records {
+    ghost use Rattle.std.specs.Coded.{codes};
+    ghost use Rattle.ready_driver.specs.Records.{Kept, kept_code, kept_of, IsRoomy};
+
+    ghost Value = { Kept };
+
+    ghost coded = { kept_code (Prim.hlevel codes) };
+
+    ghost view = { λ r. kept_of r.handles.entries r.reserved };
+
+    ghost invariant = { λ r. IsRoomy r.handles r.reserved };
+}
+
+impl Records {
+    /// No record, and no reserved memory. It takes none.
+    pub fn new(alloc: Global) -> Records
+        ensures { result ≡ record { handles = map.empty; spare = 0 } }
+    {
+        Records {
+            handles: HashMap::new(alloc),
+            reserved: 0,
+            alloc,
+        }
+    }
+
+    /// Reserves memory for at least `n` more records. Only `add_reserved` uses it up. If memory runs out, nothing changes.
+    pub fn reserve(&mut self, n: usize) -> Result<(), OutOfMemory>
+        ensures ok { OnOk result (self.new ≡ record self.old { spare = max n self.old.spare }) }
+        ensures err { OnErr result (self.new ≡ self.old) }
+    {
+        if n <= self.reserved {
+            return Ok(());
+        }
+        if self.handles.reserve(n).is_err() {
+            return Err(OutOfMemory);
+        }
+        self.reserved = n;
+        Ok(())
+    }
+
+    /// A handle that has no record gets one: it has no bits, nothing waits for it, and it isn't registered. It uses up one place of the
+    /// reserved memory, and takes none.
+    pub fn add_reserved(&mut self, h: u64)
+        requires fresh { record_at self.old h ≡ None }
+        requires room { 0 < self.old.spare }
+        ensures { self.new ≡ record (with_record self.old h fresh_record) { spare = self.old.spare - 1 } }
+    {
+        let one = Record {
+            registered: false,
+            io: ScheduledIo::new(self.alloc),
+        };
+        let _ = self.handles.insert(h, one);
+        self.reserved -= 1;
+    }
+
+    /// The record of a handle goes, with all that waits for it.
+    pub fn remove(&mut self, h: u64)
+        ensures { self.new ≡ without_record self.old h }
+    {
+        self.handles.remove(&h);
+    }
+
+    /// A handle is registered.
+    pub fn registered(&self, h: u64) -> bool
+        ensures { result ≡ is_registered self.now h }
+    {
+        match self.handles.get(&h) {
+            Some(one) => one.registered,
+            None => false,
+        }
+    }
+
+    /// A handle is registered from now on.
+    pub fn set_registered(&mut self, h: u64)
+        ensures { self.new ≡ changed self.old h (with_registered true) }
+    {
+        let Some(one) = self.handles.get_mut(&h) else {
+            return;
+        };
+        one.registered = true;
+    }
+
+    /// The bits of a handle.
+    pub fn readiness(&self, h: u64) -> Ready
+        ensures { result ≡ (io_at self.now h).ready }
+    {
+        match self.handles.get(&h) {
+            Some(one) => one.io.readiness(),
+            None => Ready::EMPTY,
+        }
+    }
+
+    /// Takes bits of a handle away.
+    pub fn clear_readiness(&mut self, h: u64, gone: Ready)
+        ensures { self.new ≡ changed self.old h (with_io (λ io. record io { ready = without io.ready gone })) }
+    {
+        let Some(one) = self.handles.get_mut(&h) else {
+            return;
+        };
+        one.io.clear_readiness(gone);
+    }
+
+    /// An operation waits for a handle no longer: answers the task that waited, or None exactly if it didn't wait.
+    pub fn forget(&mut self, h: u64, serial: u64) -> Option<u64>
+        ensures task { result ≡ option_map (λ w. w.task) (waiter_of (io_at self.old h).waiting serial) }
+        ensures rest { self.new ≡ changed self.old h (with_io (λ io. record io { waiting = forgotten io.waiting serial })) }
+    {
+        let Some(one) = self.handles.get_mut(&h) else {
+            return None;
+        };
+        one.io.forget(serial)
+    }
+
+    /// Treats a report of a handle: its bits are added, and what waits in a direction that they meet is taken, and its tasks are the
+    /// answer, in order. It takes no memory.
+    pub fn report(&mut self, h: u64, ready: Ready) -> NumList
+        ensures tasks { result ≡ tasks_of (taken ready (io_at self.old h).waiting) }
+        ensures rest { self.new ≡ changed self.old h
+            (with_io (λ io. record { ready = bit_or io.ready ready; waiting = left ready io.waiting })) }
+    {
+        let Some(one) = self.handles.get_mut(&h) else {
+            return NumList::new(self.alloc);
+        };
+        one.io.set_readiness(ready);
+        one.io.wake(ready)
+    }
+}
