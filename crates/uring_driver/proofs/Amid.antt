@@ -1,5 +1,5 @@
 -- What treating one completion does to the parts of a driver that stand for a ledger, in the middle of a turn.
-use Rattle.std.proofs.Common.{◌≡◌, inl, inr, ℕ, ◌+◌, ◌<◌, Bool, true, false, List, [], ◌∷◌, ◌++◌, length, flat_map, None}
+use Rattle.std.proofs.Common.{◌≡◌, inl, inr, ℕ, ◌+◌, ◌<◌, ◌≤◌, Bool, true, false, List, [], ◌∷◌, ◌++◌, length, flat_map, None}
 use Rattle.std.proofs.Common.{refl, sym, ◌∙◌, ap, subst, arith}
 use Rattle.std.specs.Prelude.{nat_lt, is_some}
 use Rattle.std.proofs.lemmas.Bool.Decides.{nat_tests}
@@ -8,15 +8,17 @@ use Rattle.std.specs.FinMap.{FinMap, get, len, remove}
 use Rattle.rent_buf.specs.Buffer.{Buffer}
 use Rattle.ring_core.specs.declared.entry.Completion.{Completion}
 use Rattle.ring_core.specs.declared.entry.Target.TheVariants.{Handle, Reserved}
+use Rattle.ring_core.specs.declared.entry.TheConstants.{MOST_HANDLES}
 use Rattle.ring_core.specs.Entry.{target}
 use Rattle.ring_core.specs.Ring.{RingView, with_done}
 use Rattle.ring_core.specs.Ledger.{Ledger, Item}
 use Rattle.ring_core.specs.Turn.{ops_in, closes_in, tasks_woken}
-use Rattle.ring_core.specs.Closes.{close_count, AreKnown, ClosesOnce}
+use Rattle.ring_core.specs.Closes.{close_count, AreKnown, ClosesOnce, MadeAlone}
 use Rattle.ring_core.proofs.Occurring.{same-cases}
 use Rattle.ring_core.proofs.Closing.{count-first, known-lists}
 use Rattle.ring_core.proofs.Once.{once-first}
 use Rattle.driver_core.specs.declared.slot.Slot.{Slot}
+use Rattle.driver_core.specs.Holds.{AreMaking}
 use Rattle.driver_core.proofs.Lists.{some}
 use Rattle.driver_core.proofs.Maps.{gone-same, gone-other}
 use Rattle.uring_driver.specs.Holding.{Holding, closes, reaped_if, HandlesStand}
@@ -27,14 +29,18 @@ use Rattle.uring_driver.specs.Reaps.{closes_of, posted}
 use Rattle.uring_driver.proofs.Means.{Means}
 use Rattle.uring_driver.proofs.Reaping.{means-less, done-first}
 
--- The parts of a driver stand for a ledger that needn't be one that events lead to: handles that operations name are there, and each close
--- is in the lists once.
+-- The parts of a driver stand for a ledger that needn't be one that events lead to: handles that operations name are there, each close is
+-- in the lists once, nobody else holds what an operation made, no handle's number is too great, and the operations that may make a handle
+-- are counted.
 pub record Amid {B : Type 0} (buffer : B → Buffer) (v : RingView) (slots : FinMap nat_cmp (Slot B)) (holding : Holding) (L : Ledger)
     : Type 0 where
   pub means : Means buffer v slots L
   pub handles : HandlesStand holding L
   pub known : AreKnown L
   pub once : ClosesOnce L
+  pub alone : MadeAlone L
+  pub few : length L.world ≤ MOST_HANDLES
+  pub making : AreMaking slots holding.makers
 
 -- What treating a completion comes to where its items are reaped: those are named, and nothing more is owed than room is left for.
 pub record TreatsItems {B : Type 0} (buffer : B → Buffer) (v : RingView) (holding : Holding) (L M : Ledger) (items : List Item)
@@ -44,7 +50,7 @@ pub record TreatsItems {B : Type 0} (buffer : B → Buffer) (v : RingView) (hold
   pub reaped : first.reaped ≡ ops_in items
   pub closed : first.closed ≡ closes_in items
   pub woken : first.woken ≡ tasks_woken L.ops (ops_in items)
-  pub owed : owed M first.holding + length first.queued ≡ owed L holding
+  pub owed : owed M first.holding + length first.queued ≤ owed L holding
 
 -- A number above 0 is found so.
 found-lt : (k : ℕ) → 0 < k → nat_lt 0 k ≡ true
@@ -55,6 +61,11 @@ table-reaped : (holding : Holding) (h : ℕ) (b : Bool) → (reaped_if b holding
 table-reaped holding h true = refl
 table-reaped holding h false = refl
 
+-- And how many operations may make a handle.
+makers-reaped : (holding : Holding) (h : ℕ) (b : Bool) → (reaped_if b holding h).makers ≡ holding.makers
+makers-reaped holding h true = refl
+makers-reaped holding h false = refl
+
 module _ {B : Type 0} (buffer : B → Buffer) (v : RingView) (slots : FinMap nat_cmp (Slot B)) (holding : Holding) (L : Ledger)
     (c : Completion) (rest : List Completion) (old : Amid buffer v slots holding L) (first : v.done ≡ c ∷ rest) where
   -- The ledger without what the first completion means.
@@ -63,6 +74,9 @@ module _ {B : Type 0} (buffer : B → Buffer) (v : RingView) (slots : FinMap nat
 
   pub less-known : AreKnown less
   less-known = known-lists L L.queue L.flying (flat_map done_items_of rest) old.known
+
+  pub less-alone : MadeAlone less
+  less-alone = (let a = old.alone in record { agrees = a.agrees; users = a.users; others = a.others; makers = a.makers })
 
   less-means : Means buffer (with_done v rest) slots less
   less-means = means-less buffer v slots L c rest old.means first
@@ -80,6 +94,9 @@ module _ {B : Type 0} (buffer : B → Buffer) (v : RingView) (slots : FinMap nat
           handles = subst (HandlesStand holding) same old.handles;
           known = less-known;
           once = subst ClosesOnce same old.once;
+          alone = less-alone;
+          few = old.few;
+          making = old.making;
         };
         reaped = refl;
         closed = refl;
@@ -128,9 +145,15 @@ module _ {B : Type 0} (buffer : B → Buffer) (v : RingView) (slots : FinMap nat
                 });
             known = less-known;
             once = once-first L (Item.Close h) (flat_map done_items_of rest) done-close old.once;
+            alone = less-alone;
+            few = old.few;
+            making = subst (AreMaking slots) (sym (makers-reaped holding h (closes holding h))) old.making;
           };
           reaped = refl;
           closed = refl;
           woken = refl;
-          owed = (let t = ap (λ t. len t.holders) (table-reaped holding h (closes holding h)) in omega (arith, t));
+          owed = (
+              let t = ap (λ t. len t.holders) (table-reaped holding h (closes holding h)) in
+              let m = makers-reaped holding h (closes holding h) in
+              omega (arith, t, m));
         })

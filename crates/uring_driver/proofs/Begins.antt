@@ -10,29 +10,42 @@ use Rattle.ring_core.specs.Ledger.{Ledger, Queued}
 use Rattle.ring_core.specs.Queue.{take_each, take_all}
 use Rattle.ring_core.specs.Closes.{close_count, closes_queued, closes_listed}
 use Rattle.ring_core.proofs.Closing.{closes-flown, known-stays}
+use Rattle.ring_core.proofs.Making.{OpsFrom}
+use Rattle.ring_core.proofs.Alone.{alone-from}
 use Rattle.ring_core.proofs.Once.{once-same}
 use Rattle.ring_core.proofs.Holders.{SameHolders, AreLive, holders-take_each}
 use Rattle.ring_core.proofs.Occurring.{closes_queued-append}
 use Rattle.ring_core.proofs.Staying.{stays-take_each}
 use Rattle.ring_core.proofs.Taken.{queue-take_each}
 use Rattle.driver_core.specs.declared.slot.Slot.{Slot}
+use Rattle.driver_core.specs.Holds.{AreMaking}
 use Rattle.driver_core.proofs.Lists.{get-front}
+use Rattle.driver_core.proofs.Seen.{SameSeen, AreEarly, seen-take_each}
+use Rattle.driver_core.proofs.Early.{from-take_each}
 use Rattle.uring_driver.specs.declared.uring.IoUringDriver.{IoUringDriver}
 use Rattle.uring_driver.specs.Holding.{Holding}
 use Rattle.uring_driver.specs.Stands.{Stands}
 use Rattle.uring_driver.specs.Turned.{taken_front}
 use Rattle.uring_driver.specs.Uring.{whole_ring}
 use Rattle.uring_driver.proofs.Amid.{Amid}
-use Rattle.uring_driver.proofs.Answering.{lawful-of}
-use Rattle.uring_driver.proofs.Holders.{means-live, handles-same}
+use Rattle.uring_driver.proofs.Answering.{lawful-of, alone-of}
+use Rattle.uring_driver.proofs.Holders.{means-early, means-live, handles-same}
 use Rattle.uring_driver.proofs.Means.{Means, means-of}
 
 -- The parts of a driver that stands for a ledger do.
 pub amid-of : {R B : Type 0} {view : R → RingView} {buffer : B → Buffer} {d : IoUringDriver R B} {L : Ledger} → Stands view buffer d L →
-    Amid buffer (whole_ring view d) d.slots.values d.holding L
-amid-of stands =
+    AreMaking d.slots.values d.holding.makers → Amid buffer (whole_ring view d) d.slots.values d.holding L
+amid-of stands making =
     let lawful = lawful-of stands in
-    record { means = means-of stands; handles = stands.handles; known = lawful.known; once = lawful.closes }
+    record {
+      means = means-of stands;
+      handles = stands.handles;
+      known = lawful.known;
+      once = lawful.closes;
+      alone = alone-of stands;
+      few = stands.few;
+      making = making;
+    }
 
 module _ {B : Type 0} (buffer : B → Buffer) (v w : RingView) (slots : FinMap nat_cmp (Slot B)) (holding : Holding) (L : Ledger)
     (old : Amid buffer v slots holding L) where
@@ -47,6 +60,19 @@ module _ {B : Type 0} (buffer : B → Buffer) (v w : RingView) (slots : FinMap n
           (means-live buffer v slots L old.means).live place n o
           (ap (λ xs. slice_get xs place) queue ∙ get-front es rest place _ is) there;
     }
+
+    early : AreEarly L.ops es
+    early = record {
+      early = λ place n o is there.
+          (means-early buffer v slots L old.means).early place n o
+          (ap (λ xs. slice_get xs place) queue ∙ get-front es rest place _ is) there;
+    }
+
+    same-seen : SameSeen L taken
+    same-seen = (let s = seen-take_each (record L { queue = rest }) es early in record { users = s.users; ops = s.ops })
+
+    comes : OpsFrom L taken
+    comes = (let s = from-take_each (record L { queue = rest }) es early in record { users = s.users; ops = s.ops })
 
     same-holders : SameHolders L taken
     same-holders = (let s = holders-take_each (record L { queue = rest }) es asks in record { users = s.users; ops = s.ops })
@@ -65,15 +91,19 @@ module _ {B : Type 0} (buffer : B → Buffer) (v w : RingView) (slots : FinMap n
         let stays = stays-take_each (record L { queue = rest }) es in
         record {
           means = means;
-          handles = handles-same holding L old.handles taken same-holders same-count;
+          handles = handles-same holding L old.handles taken same-seen same-count;
           known = known-stays (record {
             capacity = stays.capacity;
             done = stays.done;
             world = stays.world;
             owners = stays.owners;
+            groups = stays.groups;
             ops = stays.ops;
           }) old.known;
           once = once-same L taken same-count same-holders (let e = ap length stays.owners in omega (arith, e)) old.once;
+          alone = alone-from comes old.alone;
+          few = (let e = ap length stays.world in let f = old.few in omega (arith, e, f));
+          making = old.making;
         }
 
   -- A prefix of the queue is taken.

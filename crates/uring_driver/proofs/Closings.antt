@@ -1,5 +1,5 @@
 -- What holds of holders and closes always, through each change of a table.
-use Rattle.std.proofs.Common.{◌≡◌, ◌≢◌, ◌∙◌, inl, inr, ℕ, ◌+◌, ◌-◌, ◌<◌, Bool, true, false, Option, Some, None}
+use Rattle.std.proofs.Common.{◌≡◌, ◌≢◌, ◌∙◌, inl, inr, ℕ, ◌+◌, ◌-◌, ◌<◌, Bool, true, false, [], ◌∷◌, Option, Some, None}
 use Rattle.std.proofs.Common.{refl, sym, ap, subst, arith}
 use Rattle.std.specs.Prelude.{is_some, unwrap_or, nat_lt, ◌||◌, OnOk, OnErr, Result, Ok, Err}
 use Rattle.std.proofs.lemmas.Bool.Decides.{nat_tests}
@@ -9,10 +9,10 @@ use Rattle.handle_core.specs.declared.table.Holders.{Holders}
 use Rattle.handle_core.specs.Table.{Table, holders_at, with_holders, without_handle, nobody, by_user, by_operation}
 use Rattle.handle_core.proofs.Kept.{held-with, held-without}
 use Rattle.ring_core.specs.declared.entry.TheConstants.{MOST_HANDLES}
-use Rattle.ring_core.proofs.Numbers.{same-or-not}
-use Rattle.driver_core.proofs.Counted.{some-of, none-of}
+use Rattle.ring_core.proofs.Numbers.{same-or-not, some-of, none-of}
 use Rattle.driver_core.proofs.Maps.{put-same, put-other, gone-same, gone-other, len-put, len-new, len-gone, len-some, above}
-use Rattle.uring_driver.specs.Holding.{Holding, is_held, closes, knows, is_users, user_count, IsKept}
+use Rattle.uring_driver.specs.Making.{maker_ended}
+use Rattle.uring_driver.specs.Holding.{Holding, is_held, closes, knows, is_users, user_count, places, IsKept}
 
 -- A handle that somebody holds is in the table.
 pub held-some : (table : Table) (h : ℕ) → 0 < (holders_at table h).user + (holders_at table h).operations →
@@ -48,9 +48,10 @@ somebody-of held not = above (held.user + held.operations) (λ z.
     ap (λ x. record held { user = x }) a ∙ ap (λ x. record { user = 0; operations = x }) b))
 
 -- Nothing held and nothing closing.
-pub kept-none : (holding : Holding) → holding.table.holders ≡ empty → holding.closing.holders ≡ empty → IsKept holding
-kept-none holding none closed = record {
-  room = (let a = ap len none in let b = len-empty nat_cmp Holders in omega (arith, a, b));
+pub kept-none : (holding : Holding) → holding.table.holders ≡ empty → holding.closing.holders ≡ empty → holding.makers ≡ 0 → IsKept holding
+kept-none holding none closed idle = record {
+  room = (let a = ap len none in let b = len-empty nat_cmp Holders in omega (arith, a, b, idle));
+  made = omega (arith, idle);
   apart = λ h held. ap (λ m. is_some (get m h)) closed ∙ ap is_some (get-empty {X = Holders} nat_cmp h);
   below = λ h held.
       let e = ap (λ m. is_some (get m h)) none ∙ ap is_some (get-empty {X = Holders} nat_cmp h) in
@@ -68,9 +69,10 @@ module _ (holding : Holding) (kept : IsKept holding) (h : ℕ) where
 
   -- A handle that wasn't known is held from now on.
   pub kept-added : (held : Holders) → is_held holding h ≡ false → closes holding h ≡ false → h < MOST_HANDLES →
-      len holding.table.holders < holding.closing.spare → 0 < held.user + held.operations → IsKept (written held)
+      places holding < holding.closing.spare → 0 < held.user + held.operations → IsKept (written held)
   kept-added held fresh apart below room some = record {
     room = (let a = len-new holding.table.holders h held (none-of (get holding.table.holders h) fresh) in omega (arith, a, room));
+    made = kept.made;
     apart = λ q at. elim (same-or-not q h) [
       | inl e ↦ ap (closes holding) e ∙ apart
       | inr e ↦ kept.apart q (sym (ap is_some (put-other holding.table.holders h held q e)) ∙ at)
@@ -91,6 +93,7 @@ module _ (holding : Holding) (kept : IsKept holding) (h : ℕ) where
         let a = len-put holding.table.holders h held was.0 was.1 in
         let b = kept.room in
         omega (arith, a, b));
+    made = kept.made;
     apart = λ q at. elim (same-or-not q h) [
       | inl e ↦ kept.apart q (ap (is_held holding) e ∙ there)
       | inr e ↦ kept.apart q (sym (ap is_some (put-other holding.table.holders h held q e)) ∙ at)
@@ -129,6 +132,7 @@ module _ (holding : Holding) (kept : IsKept holding) (h : ℕ) where
   pub kept-forgotten : is_held holding h ≡ true → IsKept (record holding { table = without_handle holding.table h })
   kept-forgotten there = record {
     room = (let a = fewer there in let b = kept.room in omega (arith, a, b));
+    made = kept.made;
     apart = λ q at. kept.apart q (remains q at).1;
     below = λ q at. kept.below q (remains q at).1;
     somebody = held-without holding.table h kept.somebody;
@@ -136,15 +140,56 @@ module _ (holding : Holding) (kept : IsKept holding) (h : ℕ) where
   }
 
   -- A handle that is held is closing from now on.
-  pub kept-closing : is_held holding h ≡ true → IsKept (record {
+  pub kept-closing : is_held holding h ≡ true → IsKept (record holding {
     table = without_handle holding.table h;
     closing = record (with_holders holding.closing h by_operation) { spare = holding.closing.spare - 1 };
   })
   kept-closing there = record {
     room = (let a = fewer there in let b = kept.room in omega (arith, a, b));
+    made = kept.made;
     apart = λ q at. ap is_some (put-other holding.closing.holders h by_operation q (remains q at).0) ∙ kept.apart q (remains q at).1;
     below = λ q at. kept.below q (remains q at).1;
     somebody = held-without holding.table h kept.somebody;
+    once = λ q held at. elim (same-or-not q h) [
+      | inl e ↦ (
+          let a : ◌≡◌ {A = Option Holders} (Some held) (Some by_operation) =
+          sym at ∙ ap (get (insert holding.closing.holders h by_operation)) e ∙ put-same holding.closing.holders h by_operation in
+          cc)
+      | inr e ↦ kept.once q held (sym (put-other holding.closing.holders h by_operation q e) ∙ at)
+    ];
+  }
+
+  -- A new handle that is held is one of those that operations may make, or is closing at once.
+  pub kept-made : is_held holding h ≡ false → closes holding h ≡ false → h < MOST_HANDLES → 0 < holding.makers →
+      IsKept (maker_ended holding (h ∷ []) [])
+  kept-made fresh apart below some = record {
+    room = (
+        let a = len-new holding.table.holders h by_operation (none-of (get holding.table.holders h) fresh) in
+        let b = kept.room in
+        omega (arith, a, b, some));
+    made = (let a = kept.made in omega (arith, a, some));
+    apart = λ q at. elim (same-or-not q h) [
+      | inl e ↦ ap (closes holding) e ∙ apart
+      | inr e ↦ kept.apart q (sym (ap is_some (put-other holding.table.holders h by_operation q e)) ∙ at)
+    ];
+    below = λ q at. elim (same-or-not q h) [
+      | inl e ↦ subst (λ x. x < MOST_HANDLES) (sym e) below
+      | inr e ↦ kept.below q (sym (ap is_some (put-other holding.table.holders h by_operation q e)) ∙ at)
+    ];
+    somebody = held-with holding.table h by_operation kept.somebody (omega arith);
+    once = kept.once;
+  }
+
+  pub kept-lost : is_held holding h ≡ false → closes holding h ≡ false → 0 < holding.makers → IsKept (maker_ended holding [] (h ∷ []))
+  kept-lost fresh apart some = record {
+    room = (let b = kept.room in omega (arith, b, some));
+    made = (let a = kept.made in omega (arith, a, some));
+    apart = λ q at. elim (same-or-not q h) [
+      | inl e ↦ absurd (let a : ◌≡◌ {A = Bool} true false = sym at ∙ ap (is_held holding) e ∙ fresh in cc)
+      | inr e ↦ ap is_some (put-other holding.closing.holders h by_operation q e) ∙ kept.apart q at
+    ];
+    below = kept.below;
+    somebody = kept.somebody;
     once = λ q held at. elim (same-or-not q h) [
       | inl e ↦ (
           let a : ◌≡◌ {A = Option Holders} (Some held) (Some by_operation) =
@@ -158,6 +203,7 @@ module _ (holding : Holding) (kept : IsKept holding) (h : ℕ) where
   pub kept-reaped : IsKept (record holding { closing = without_handle holding.closing h })
   kept-reaped = record {
     room = kept.room;
+    made = kept.made;
     apart = λ q at. elim (same-or-not q h) [
       | inl e ↦ ap (λ x. is_some (get (remove holding.closing.holders h) x)) e ∙ ap is_some (gone-same holding.closing.holders h)
       | inr e ↦ ap is_some (gone-other holding.closing.holders h q e) ∙ kept.apart q at

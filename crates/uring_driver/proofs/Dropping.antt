@@ -1,52 +1,62 @@
 -- What a drop and a cancel do to a driver that stands for a ledger.
-use Rattle.std.proofs.Common.{◌≡◌, ℕ, ◌+◌, ◌≤◌, ◌<◌, Bool, true, List, map, IsTrue}
+use Rattle.std.proofs.Common.{◌≡◌, ℕ, ◌+◌, ◌≤◌, ◌<◌, Bool, true, false, IsTrue}
 use Rattle.std.proofs.Math.Bool.{and-false}
 use Rattle.std.proofs.Common.{length, Option, Some, None, refl, sym, ◌∙◌, ap, subst, arith}
-use Rattle.std.specs.FinMap.{get, insert, remove, len}
+use Rattle.std.specs.Prelude.{slice_get}
+use Rattle.std.specs.FinMap.{get, insert, remove}
 use Rattle.rent_buf.specs.Buffer.{Buffer}
-use Rattle.op_slots.specs.declared.lifecycle.AfterDrop.TheVariants.{Left, Free}
+use Rattle.op_slots.specs.declared.lifecycle.AfterDrop.TheVariants.{Left}
+use Rattle.op_slots.specs.declared.lifecycle.Lifecycle.TheVariants.{Completed}
 use Rattle.op_slots.specs.Lifecycle.{dropped, after_drop}
-use Rattle.ring_core.specs.declared.entry.TheConstants.{MOST_HANDLES}
 use Rattle.ring_core.specs.Ring.{RingView}
-use Rattle.ring_core.specs.Lists.{amended, numbers_where, has_number}
+use Rattle.ring_core.specs.Lists.{amended, numbers_where}
+use Rattle.ring_core.specs.Closes.{made_at}
 use Rattle.ring_core.specs.Request.{named, plain_request}
 use Rattle.ring_core.specs.declared.request.Outcome.{Outcome}
 use Rattle.ring_core.specs.declared.ledger.Event.TheVariants.{Drop, Cancel as Asks}
 use Rattle.ring_core.specs.declared.ledger.Reply.TheVariants.{Dropped, Asked}
 use Rattle.ring_core.specs.Ledger.{Ledger, Cancel, Operation, Place, InQueue, InFlight, InDone}
-use Rattle.ring_core.specs.Ledger.{Reaped, Gone, is_live, is_kept, is_owned}
-use Rattle.ring_core.specs.Queue.{with_op, with_gone, at_place, push, leave}
+use Rattle.ring_core.specs.Ledger.{Reaped, Gone, is_live, is_kept, is_owned, with_made}
+use Rattle.ring_core.specs.Queue.{with_op, with_gone, at_place, push}
 use Rattle.ring_core.specs.Step.{with_drop}
 use Rattle.ring_core.proofs.Amended.{get-amended-same, length-amended}
 use Rattle.driver_core.specs.declared.slot.Slot.{Slot}
 use Rattle.uring_driver.specs.declared.uring.IoUringDriver.{IoUringDriver}
 use Rattle.uring_driver.specs.Uring.{room_in}
-use Rattle.uring_driver.specs.Holding.{ops_left, HandlesStand}
-use Rattle.ring_core.specs.Entry.{cancel_entry, close_entry}
-use Rattle.uring_driver.specs.Submissions.{pending_ring, Posts, PostsEach}
-use Rattle.driver_core.specs.Holds.{unheld_by}
+use Rattle.uring_driver.specs.Holding.{ops_left, places, HandlesStand}
+use Rattle.ring_core.specs.Entry.{cancel_entry}
+use Rattle.uring_driver.specs.Submissions.{pending_ring, Posts}
+use Rattle.driver_core.specs.Holds.{made_life, held_in, seen, unheld_by, HoldersStand}
 use Rattle.driver_core.proofs.Holds.{len-left}
-use Rattle.driver_core.specs.Slot.{with_life, is_owned_life}
-use Rattle.driver_core.specs.Slots.{SlotFor, waiting, owned_life}
+use Rattle.driver_core.specs.Slot.{with_life, is_owned_life, number_at}
+use Rattle.driver_core.specs.Slots.{SlotFor, waiting, life_of, life_at, owned_life}
 use Rattle.uring_driver.specs.Stands.{Stands, Answers}
-use Rattle.driver_core.proofs.Lists.{amended-twice}
+use Rattle.driver_core.proofs.Lists.{some, amended-twice}
+use Rattle.driver_core.proofs.Seen.{SeenAlike, AreEarly, seen-op, early-changed}
+use Rattle.driver_core.proofs.Early.{listed-early, early-gone}
+use Rattle.driver_core.proofs.Standing.{holders-stand-same, holders-stand-left}
+use Rattle.driver_core.proofs.Seeing.{seen-distinct, unheld-became}
+use Rattle.driver_core.proofs.Abandoned.{seen-abandoned, became-abandoned}
 use Rattle.driver_core.proofs.Maps.{put-same}
 use Rattle.driver_core.proofs.Counts.{where-less}
 use Rattle.uring_driver.proofs.Steps.{is_waiting, step-drop-waiting, step-drop-reaped, step-cancel}
+use Rattle.driver_core.proofs.Numbers.{slot-number}
 use Rattle.driver_core.proofs.Owned.{Owned, owned-slot}
 use Rattle.uring_driver.proofs.Means.{Means, means-of}
 use Rattle.uring_driver.proofs.Changing.{means-changed, means-freed}
 use Rattle.uring_driver.proofs.Posting.{posts-cancel}
 use Rattle.uring_driver.proofs.Holders.{handles-same, handles-push}
-use Rattle.uring_driver.proofs.Answering.{lawful-of, fits-of, answers-parts}
-use Rattle.uring_driver.proofs.Lefts.{parts-left, owned-push}
-use Rattle.uring_driver.proofs.Polling.{TakesParts}
+use Rattle.uring_driver.proofs.Answering.{LeavesGroup, lawful-of, alone-of, fits-of, groups-still, groups-less, answers-parts}
+use Rattle.uring_driver.proofs.Lefts.{owned-push}
+use Rattle.uring_driver.proofs.Leaving.{TakesParts}
+use Rattle.uring_driver.proofs.Departing.{Departs, stands-departs}
+use Rattle.uring_driver.proofs.Polling.{take-reaped}
 use Rattle.ring_core.proofs.Taken.{length-make_room}
 use Rattle.ring_core.proofs.Taking.{in_queue}
 use Rattle.ring_core.proofs.Turning.{live-gone}
 use Rattle.ring_core.proofs.Lawful.{listed-live, listed-unasked}
-use Rattle.ring_core.proofs.Closing.{known-op}
-use Rattle.ring_core.proofs.Holders.{AreLive, HoldsSame, holders-op, live-changed}
+use Rattle.ring_core.proofs.Staying.{stays-push}
+use Rattle.ring_core.proofs.Holders.{AreLive, live-changed}
 use Rattle.ring_core.proofs.Requests.{named-holding, named-mapped}
 use Rattle.driver_core.proofs.Polling.{ignored-left}
 
@@ -63,17 +73,21 @@ left-waits (InDone r) t h e = refl
 left-waits (Reaped r) t h e = (let f : ⊥ = cc in absurd f)
 left-waits Gone t h e = (let f : ⊥ = cc in absurd f)
 
--- An operation whose slot is freed was reaped.
-free-reaped : (p : Place) (t : Option ℕ) → is_kept p ≡ true → after_drop (owned_life p t) ≡ Free → (r : Outcome) × (p ≡ Reaped r)
-free-reaped InQueue t h e = (let z = sym (wait-left t) ∙ e in cc)
-free-reaped InFlight t h e = (let z = sym (wait-left t) ∙ e in cc)
-free-reaped (InDone r) t h e = (let z = sym (wait-left t) ∙ e in cc)
-free-reaped (Reaped r) t h e = (r, refl)
-free-reaped Gone t h e = (let f : ⊥ = cc in absurd f)
+-- A drop of an operation that isn't reaped leaves what is seen.
+drop-seen : (o : Operation) → is_waiting o.place ≡ true → SeenAlike o (with_drop o)
+drop-seen o waits = record { request = refl; made = by o.dropped o.place o.task waits; live = refl }
+  where
+    none : (t : Option ℕ) → made_life (waiting t) ≡ None
+    none None = refl
+    none (Some t) = refl
 
--- A drop leaves who holds what.
-drop-holds : (o : Operation) → HoldsSame o (with_drop o)
-drop-holds o = record { request = refl; live = refl }
+    by : (b : Bool) (p : Place) (t : Option ℕ) → is_waiting p ≡ true → made_life (life_of true p t) ≡ made_life (life_of b p t)
+    by true p t waits = refl
+    by false InQueue t waits = sym (none t)
+    by false InFlight t waits = sym (none t)
+    by false (InDone r) t waits = sym (none t)
+    by false (Reaped r) t waits = (let f : ⊥ = cc in absurd f)
+    by false Gone t waits = (let f : ⊥ = cc in absurd f)
 
 module _ {R B : Type 0} (view : R → RingView) (buffer : B → Buffer) (tells steady : Bool) (always : IsTrue steady)
     (d new : IoUringDriver R B) (L : Ledger) (key : ℕ) (s : Slot B) (old : Stands view buffer d L) (there : get d.slots.values key ≡ Some s)
@@ -96,6 +110,10 @@ module _ {R B : Type 0} (view : R → RingView) (buffer : B → Buffer) (tells s
   requests : AreLive M.ops M.queue
   requests = live-changed L.ops L.queue s.serial with_drop (λ o live. live) (listed-live L (lawful-of old).lists)
 
+  -- They weren't executed.
+  asks : AreEarly M.ops M.queue
+  asks = early-changed L.ops L.queue s.serial with_drop (λ o early. early) (listed-early L (lawful-of old).lists)
+
   -- The drop of an operation that isn't reaped.
   module _ (left : after_drop s.life ≡ Left) where
     -- The slot once it was dropped.
@@ -116,31 +134,35 @@ module _ {R B : Type 0} (view : R → RingView) (buffer : B → Buffer) (tells s
     }
 
     -- Its slot stays, and its cancel joins the queue.
-    pub stands-leaves : new.slots.values ≡ insert d.slots.values key (with_life s (dropped s.life)) → new.holding ≡ d.holding →
+    pub stands-leaves : LeavesGroup d new (record { number = s.serial; key = key }) →
+        new.slots.values ≡ insert d.slots.values key (with_life s (dropped s.life)) → new.holding ≡ d.holding →
         Posts view tells steady d.ring new.ring (cancel_entry key s.serial) → Answers view buffer L (Drop s.serial) Dropped new
-    unfolding my has-room requests
-    stands-leaves put holding posts =
+    unfolding my has-room requests asks
+    stands-leaves leaves_it put holding posts =
         let o = my.fit.operation in
+        let waits = left-waits o.place o.task my.fit.live (sym (ap after_drop my.life) ∙ left) in
         let a = subst (λ x. Means buffer (pending_ring view d.ring) x M) (sym put)
         (means-changed buffer (pending_ring view d.ring) d.slots.values L key s (dropped s.life) with_drop o (means-of old) there
         my.fit.there (λ p. (refl, refl)) fits) in
         let c = posts-cancel view buffer tells steady new.slots.values always d.ring new.ring M key t s.serial a
         (ap (λ m. get m key) put ∙ put-same d.slots.values key t) refl has-room (fits-of view d old) posts in
-        answers-parts view buffer d new L (push M (Cancel s.serial)) (Drop s.serial) Dropped old
-        (step-drop-waiting L s.serial o my.fit.there my.owned (left-waits o.place o.task my.fit.live (sym (ap after_drop my.life) ∙ left)))
-        c.capacity c.means
+        let e = step-drop-waiting L s.serial o my.fit.there my.owned waits in
+        answers-parts view buffer d new L (push M (Cancel s.serial)) (Drop s.serial) Dropped old e c.capacity c.means
         (given ∙ old.operations.numbered ∙ sym (length-make_room M ∙ length-amended with_drop L.ops s.serial))
         (subst (λ x. HandlesStand x (push M (Cancel s.serial))) (sym holding)
         (handles-push d.holding M
-        (handles-same d.holding L old.handles M (holders-op L s.serial with_drop (λ p q. drop-holds p)) (λ h. refl))
-        (Cancel s.serial) (λ h. refl) requests))
+        (handles-same d.holding L old.handles M (seen-op L s.serial with_drop (λ p q.
+        drop-seen p (ap (λ x. is_waiting x.place) (some p o (slice_get L.ops s.serial) q my.fit.there) ∙ waits))) (λ h. refl))
+        (Cancel s.serial) (λ h. refl) asks))
+        (groups-less view buffer d new L (push M (Cancel s.serial)) (Drop s.serial) Dropped old e c.capacity refl c.means.in_slots
+        (record { number = s.serial; key = key }) (slot-number d.slots.values key s there mine) leaves_it)
         (let x = where-less is_owned with_drop L.ops s.serial o my.fit.there my.owned (and-false (is_live o)) in
         let y = ap length (owned-push M (Cancel s.serial) requests) in
-        let z = ap (λ x. len x.table.holders) holding in
+        let z = ap (λ x. places x) holding in
         let w = c.room in
         let r = old.room in
         omega (arith, x, y, z, w, r))
-        c.fits
+        c.fits (stays-push M (Cancel s.serial)).world
 
   -- The slot names what its operation does.
   names : named my.fit.operation.request ≡ named s.request
@@ -148,62 +170,95 @@ module _ {R B : Type 0} (view : R → RingView) (buffer : B → Buffer) (tells s
       ∙ named-mapped buffer (λ parts. parts) s.request
 
   -- The drop of one that is.
-  pub stands-frees : after_drop s.life ≡ Free → new.slots.values ≡ remove d.slots.values key →
-      TakesParts view tells steady d new (named s.request) → Answers view buffer L (Drop s.serial) Dropped new
-  unfolding my names requests
-  stands-frees free gone parts =
-      let o = my.fit.operation in
-      let at = free-reaped o.place o.task my.fit.live (sym (ap after_drop my.life) ∙ free) in
-      let f : Operation → Operation = λ x. at_place Gone (with_drop x) in
-      let us : List ℕ → List ℕ = λ hs. unheld_by d.holding.table hs in
-      let lawful = lawful-of old in
-      let twice : with_op L s.serial f ≡ with_gone M s.serial =
-      ap (λ ops. record L { ops = ops }) (sym (amended-twice L.ops s.serial with_drop (at_place Gone))) in
-      let freed = subst (λ x. Means buffer (pending_ring view d.ring) x (with_gone M s.serial)) (sym gone)
-      (subst (λ K. Means buffer (pending_ring view d.ring) (remove d.slots.values key) K) twice
-      (means-freed buffer (pending_ring view d.ring) d.slots.values L key s f o at.0 (means-of old) there my.fit.there at.1 refl)) in
-      let asked = live-gone M.ops M.queue s.serial
-      (listed-unasked L s.serial o lawful.lists my.fit.there (ap in_queue at.1)) requests in
-      let left = parts-left view buffer tells steady new.slots.values d.ring new.ring d.holding M s.serial (with_drop o) always freed
-      (handles-same d.holding L old.handles M (holders-op L s.serial with_drop (λ p q. drop-holds p)) (λ h. refl))
-      (get-amended-same with_drop L.ops s.serial o my.fit.there) my.fit.live
-      (known-op L s.serial with_drop (λ p. refl) lawful.known) asked
-      (subst (λ hs. (h : ℕ) → has_number h (us hs) ≡ true → h < MOST_HANDLES) (sym names) parts.below)
-      (subst (λ hs. length (us hs) ≤ room_in d) (sym names) parts.room) (fits-of view d old)
-      (subst (λ hs. PostsEach view tells steady d.ring new.ring (map close_entry (us hs))) (sym names) parts.posts) in
-      answers-parts view buffer d new L (leave M s.serial) (Drop s.serial) Dropped old
-      (step-drop-reaped L s.serial o my.fit.there my.owned at.0 at.1) left.capacity left.means
-      (given ∙ old.operations.numbered ∙ sym (left.count ∙ length-amended (at_place Gone) M.ops s.serial
-      ∙ length-amended with_drop L.ops s.serial))
-      (subst (λ x. HandlesStand x (leave M s.serial)) (ap (ops_left d.holding) names ∙ sym parts.holding) left.handles)
-      (let a = where-less is_owned f L.ops s.serial o my.fit.there my.owned refl in
-      let b = ap length left.owned in
-      let k = ap (λ (K : Ledger). length (numbers_where is_owned 0 K.ops)) twice in
-      let c = left.room in
-      let e = ap (λ hs. length (us hs)) names in
-      let l = len-left d.holding.table (named s.request) parts.may in
-      let g = ap (λ x. len x.table.holders) parts.holding in
-      let r = old.room in
-      omega (arith, a, b, k, c, e, l, g, r))
-      left.fits
+  module _ (r : Outcome) (life : s.life ≡ Completed r) (gone : new.slots.values ≡ remove d.slots.values key)
+      (parts : TakesParts view tells steady d new d.holding (held_in (Some s))) where
+    reaped : my.fit.operation.place ≡ Reaped r
+    unfolding my
+    reaped = take-reaped my.fit.operation.place my.fit.operation.task r my.fit.live (sym my.life ∙ life)
+
+    -- What its slot holds is what it is seen to hold.
+    seen-is : held_in (Some s) ≡ seen my.fit.operation
+    unfolding my names
+    seen-is =
+        ap (λ hs. with_made (made_life s.life) hs) (sym names)
+        ∙ ap (λ m. with_made m (named my.fit.operation.request)) (ap made_life my.fit.life)
+
+    -- All that it made is seen.
+    all-seen : made_life (life_at my.fit.operation) ≡ my.fit.operation.made
+    unfolding my reaped
+    all-seen =
+        ap made_life (sym my.fit.life ∙ life)
+        ∙ sym ((alone-of old).agrees s.serial my.fit.operation my.fit.there my.fit.live ∙ ap made_at reaped)
+
+    departs : Departs view buffer tells steady d new L M s.serial (unheld_by d.holding.table (held_in (Some s)))
+    unfolding my reaped requests asks
+    departs =
+        let o = my.fit.operation in
+        let f : Operation → Operation = λ x. at_place Gone (with_drop x) in
+        let lawful = lawful-of old in
+        let distinct = seen-distinct d.holding.table L s.serial o old.handles.holders my.fit.there my.fit.live lawful.known
+        (alone-of old) in
+        let twice : with_op L s.serial f ≡ with_gone M s.serial =
+        ap (λ ops. record L { ops = ops }) (sym (amended-twice L.ops s.serial with_drop (at_place Gone))) in
+        let holding = parts.holding ∙ ap (ops_left d.holding) seen-is in
+        let unasked = listed-unasked L s.serial o lawful.lists my.fit.there (ap in_queue reaped) in
+        record {
+          means = subst (λ x. Means buffer (pending_ring view d.ring) x (with_gone M s.serial)) (sym gone)
+              (subst (λ K. Means buffer (pending_ring view d.ring) (remove d.slots.values key) K) twice
+              (means-freed buffer (pending_ring view d.ring) d.slots.values L key s f o r (means-of old) there my.fit.there reaped refl));
+          closing = old.handles.closing;
+          stand = subst (λ t. HoldersStand t (with_gone M s.serial)) (sym (ap (λ x. x.table) holding))
+              (holders-stand-same
+              (holders-stand-left d.holding.table L s.serial o old.handles.holders my.fit.there my.fit.live distinct)
+              (seen-abandoned L s.serial));
+          became = ap (unheld_by d.holding.table) seen-is
+              ∙ unheld-became d.holding.table L s.serial o old.handles.holders my.fit.there my.fit.live lawful.known (alone-of old) all-seen
+              ∙ sym (became-abandoned L s.serial);
+          closed = ap (λ x. x.closing) parts.holding;
+          early = early-gone M.ops M.queue s.serial unasked asks;
+          live = live-gone M.ops M.queue s.serial unasked requests;
+          below = parts.below;
+          room = parts.room;
+          posts = parts.posts;
+          owned = (
+              let a = where-less is_owned f L.ops s.serial o my.fit.there my.owned refl in
+              let k = ap (λ (K : Ledger). length (numbers_where is_owned 0 K.ops)) twice in
+              omega (arith, a, k));
+          count = length-amended (at_place Gone) M.ops s.serial ∙ length-amended with_drop L.ops s.serial;
+          world = refl;
+          places = (
+              let a = len-left d.holding.table (held_in (Some s)) parts.may in
+              let b = ap (λ x. places x) parts.holding in
+              omega (arith, a, b));
+        }
+
+    pub stands-frees : LeavesGroup d new (record { number = s.serial; key = key }) → Answers view buffer L (Drop s.serial) Dropped new
+    unfolding my reaped
+    stands-frees leaves_it =
+        stands-departs view buffer tells steady d new L M s.serial (unheld_by d.holding.table (held_in (Some s))) (Drop s.serial) Dropped
+        always old departs (step-drop-reaped L s.serial my.fit.operation my.fit.there my.owned r reaped) given refl
+        (record { number = s.serial; key = key }) (slot-number d.slots.values key s there mine) leaves_it
 
   -- Its cancel is asked for.
-  pub stands-asks : new.slots.values ≡ d.slots.values → new.holding ≡ d.holding →
-      length (numbers_where is_owned 0 L.ops) + len d.holding.table.holders ≤ room_in new → 0 < room_in d →
+  pub stands-asks : new.slots.values ≡ d.slots.values → new.holding ≡ d.holding → new.members ≡ d.members →
+      length (numbers_where is_owned 0 L.ops) + places d.holding ≤ room_in new → 0 < room_in d →
       Posts view tells steady d.ring new.ring (cancel_entry key s.serial) → Answers view buffer L (Asks s.serial) Asked new
   unfolding my
-  stands-asks same holding room some posts =
+  stands-asks same holding members room some posts =
       let o = my.fit.operation in
       let live = listed-live L (lawful-of old).lists in
+      let early = listed-early L (lawful-of old).lists in
       let c = posts-cancel view buffer tells steady new.slots.values always d.ring new.ring L key s s.serial
       (subst (λ x. Means buffer (pending_ring view d.ring) x L) (sym same) (means-of old)) (ap (λ m. get m key) same ∙ there) refl some
       (fits-of view d old) posts in
-      answers-parts view buffer d new L (push L (Cancel s.serial)) (Asks s.serial) Asked old
-      (step-cancel L s.serial o my.fit.there my.owned) c.capacity c.means
+      let e = step-cancel L s.serial o my.fit.there my.owned in
+      answers-parts view buffer d new L (push L (Cancel s.serial)) (Asks s.serial) Asked old e c.capacity c.means
       (given ∙ old.operations.numbered ∙ sym (length-make_room L))
       (subst (λ x. HandlesStand x (push L (Cancel s.serial))) (sym holding)
-      (handles-push d.holding L old.handles (Cancel s.serial) (λ h. refl) live))
+      (handles-push d.holding L old.handles (Cancel s.serial) (λ h. refl) early))
+      (groups-still view buffer d new L (push L (Cancel s.serial)) (Asks s.serial) Asked old e c.capacity refl c.means.in_slots
+      (λ k. ap (λ m. number_at m k) same) members)
       (let y = ap length (owned-push L (Cancel s.serial) live) in
-      let z = ap (λ x. len x.table.holders) holding in
+      let z = ap (λ x. places x) holding in
       omega (arith, y, z, room))
-      c.fits
+      c.fits (stays-push L (Cancel s.serial)).world

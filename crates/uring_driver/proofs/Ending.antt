@@ -18,8 +18,8 @@ use Rattle.uring_driver.specs.declared.uring.turn.Named.{Named}
 use Rattle.uring_driver.specs.Holding.{Holding}
 use Rattle.uring_driver.specs.Uring.{ring_in, pending, whole_ring}
 use Rattle.uring_driver.specs.Submissions.{Enters}
-use Rattle.uring_driver.specs.Reap.{IsStray, Treated, treat_each}
-use Rattle.uring_driver.specs.Reaps.{closes_of, PendingJoins, Treats, Reaps, ReapsAll}
+use Rattle.uring_driver.specs.Reap.{HasStray, Treated, treat_each}
+use Rattle.uring_driver.specs.Reaps.{closes_of, PendingJoins, Treats, Reaps, ReapsAll, midway_of}
 use Rattle.uring_driver.specs.Turned.{StopsFor, TreatsTaken, TreatsFor}
 use Rattle.uring_driver.specs.Begun.{EnteredFor, HasBegun, why_stopped}
 use Rattle.uring_driver.proofs.Strays.{treats-stray, Split, split}
@@ -72,11 +72,12 @@ pub record Ends {R B : Type 0} (view : R → RingView) (tells steady : Bool) (mi
   pub count : ℕ
   pub within : count ≤ length (view (ring_in mid)).done
   pub all : bad ≡ None → count ≡ length (view (ring_in mid)).done
-  pub reaps : Reaps view tells steady mid new before after count bad
+  pub reaps : Reaps view tells steady (midway_of mid) (midway_of new) before after count bad
 
 -- How far the reaps of a turn went.
 pub ends-of : {R B : Type 0} (view : R → RingView) (tells steady : Bool) (mid new : IoUringDriver R B) (before after : Named)
-    (bad : Option ℕ) → ReapsAll view tells steady mid new before after bad → Ends view tells steady mid new before after bad
+    (bad : Option ℕ) → ReapsAll view tells steady (midway_of mid) (midway_of new) before after bad →
+    Ends view tells steady mid new before after bad
 ends-of view tells steady mid new before after None reaps = record {
   count = length (view (ring_in mid)).done;
   within = omega arith;
@@ -167,8 +168,8 @@ module _ {R B : Type 0} (view : R → RingView) (tells steady : Bool) (old mid n
   -- The word of a bad completion is stray.
   stray : (word : ℕ) → bad ≡ Some word → StopsFor view old new turned all.queued (Some (BadCompletion word))
   stray word is =
-      subst (λ m. IsStray m new.holding word) ends.reaps.treats.slots
-      (subst (λ h. IsStray all.slots h word) ends.reaps.treats.holding
+      subst (λ m. HasStray m new.holding word) ends.reaps.treats.slots
+      (subst (λ h. HasStray all.slots h word) ends.reaps.treats.holding
       (treats-stray mid.slots.values mid.holding taken word (ends.reaps.treats.bad ∙ is)))
 
   -- Why it stopped, by how its enter went.

@@ -1,5 +1,6 @@
 -- What an execution does to a ring and slots that mean a ledger.
-use Rattle.std.proofs.Common.{◌≡◌, ◌≢◌, ℕ, ◌≤◌, Bool, true, false, Option, List, [], ◌∷◌, Some, refl, sym, ◌∙◌, ap, subst, arith, length}
+use Rattle.std.proofs.Common.{◌≡◌, ◌≢◌, ℕ, ◌≤◌, Bool, true, false, Option, List, [], ◌∷◌, ◌++◌, Some, refl, sym, ◌∙◌}
+use Rattle.std.proofs.Common.{ap, subst, arith, length}
 use Rattle.std.specs.Prelude.{slice_get}
 use Rattle.std.specs.Ordering.{nat_cmp}
 use Rattle.std.specs.FinMap.{FinMap, get, insert}
@@ -12,7 +13,7 @@ use Rattle.ring_core.proofs.Targets.{target-slot}
 use Rattle.ring_core.specs.Lists.{amended}
 use Rattle.ring_core.specs.MemRing.{IsFinished, body_effect}
 use Rattle.ring_core.specs.Outcome.{is_allowed}
-use Rattle.ring_core.specs.Effect.{Effect, effect}
+use Rattle.ring_core.specs.Effect.{Effect, effect, made_by}
 use Rattle.ring_core.specs.Payloads.{comes, body_comes, StoresIf}
 use Rattle.ring_core.specs.Request.{call_of, sent_of, plain_request, room_of, held, held_of, held_after, IsHolding}
 use Rattle.ring_core.specs.declared.entry.Entry.{Entry}
@@ -22,7 +23,7 @@ use Rattle.ring_core.specs.declared.request.Request.{Request}
 use Rattle.ring_core.specs.declared.request.Told.{Told}
 use Rattle.ring_core.specs.declared.request.Outcome.{Outcome}
 use Rattle.ring_core.specs.Ledger.{Ledger, Operation, Place, InQueue, InFlight, InDone, Op, is_live, is_kept}
-use Rattle.ring_core.specs.Turn.{with_result, with_effect, complete_at}
+use Rattle.ring_core.specs.Turn.{with_result, with_effect, made_owners, complete_at}
 use Rattle.ring_core.proofs.Amended.{get-amended-same, get-amended-other}
 use Rattle.ring_core.proofs.Requests.{holding-own, held-comes, held-stays, got-fits}
 use Rattle.driver_core.specs.declared.slot.Slot.{Slot}
@@ -37,7 +38,7 @@ use Rattle.driver_core.proofs.Maps.{put-same, put-self}
 use Rattle.driver_core.proofs.Slots.{slots-replaced, other-slot}
 use Rattle.driver_core.proofs.Filling.{filled-where-fits}
 use Rattle.uring_driver.proofs.Kept.{slot-done}
-use Rattle.uring_driver.proofs.Finishing.{lists-finished}
+use Rattle.uring_driver.proofs.Finishing.{lists-finished, lists-owners}
 use Rattle.uring_driver.proofs.Flights.{o, s, slot-there, n-is, there-s, which, flies, request-is, life-is, allows-is, comes-is, here}
 
 -- An operation that was executed keeps its stage of life.
@@ -240,7 +241,9 @@ module _ {B : Type 0} (buffer : B → Buffer) (v : RingView) (before after : Ops
       (λ z. cc)
 
   lists-stand : ListsStand buffer slots' v' L'
-  lists-stand = lists-finished buffer slots slots' v v' place told sent got c fin L ops' result.world (Op n) old.in_lists
+  lists-stand = lists-owners buffer slots' v' (record (complete_at L place (Op n)) { ops = ops'; world = result.world })
+      (L.owners ++ made_owners (made_by result.outcome))
+      (lists-finished buffer slots slots' v v' place told sent got c fin L ops' result.world (Op n) old.in_lists
       (ap (done_items_in c) keyed ∙ ap (λ x. Op x ∷ []) serial)
       (λ x a. (let q = not-this x.serial InQueue a.1 (λ r. cc) in (entry-kept x a.0 q, at-kept x.serial InQueue a.1 q)))
       (λ i x at b a. (
@@ -252,7 +255,7 @@ module _ {B : Type 0} (buffer : B → Buffer) (v : RingView) (before after : Ops
       (completion-kept x a.0 q, at-kept x.serial (InDone x.outcome) a.1 q)))
       (subst (λ t. DoneFor slots' ops' c t) (sym keyed)
       (new-completion, subst (λ y. IsAt ops' y (InDone c.outcome)) (sym serial) new-place))
-      (λ i x h p _ r. done-other i x h p (r ∙ serial))
+      (λ i x h p _ r. done-other i x h p (r ∙ serial)))
 
   pub means-executed : Means buffer v' after.slots.values
       (with_effect (complete_at L place (Op fin.flight.entry.serial)) fin.flight.entry.serial told

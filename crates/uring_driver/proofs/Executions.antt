@@ -1,7 +1,7 @@
 -- What an execution answers, of a driver that stands for a ledger.
-use Rattle.std.proofs.Common.{◌≡◌, ℕ, true, List, [], ◌∷◌, ◌++◌, Some, refl, sym, ◌∙◌, ap, subst, arith, length}
+use Rattle.std.proofs.Common.{◌≡◌, ◌≤◌, ℕ, true, List, [], ◌∷◌, ◌++◌, Some, refl, sym, ◌∙◌, ap, subst, arith, length}
 use Rattle.std.specs.Prelude.{slice_get, ◌&&◌, not, Ok}
-use Rattle.std.specs.FinMap.{get, len}
+use Rattle.std.specs.FinMap.{get}
 use Rattle.rent_buf.specs.Buffer.{Buffer}
 use Rattle.ring_core.specs.Ring.{RingView}
 use Rattle.ring_core.specs.MemRing.{IsFinished, IsExecuted, body_effect}
@@ -12,27 +12,32 @@ use Rattle.ring_core.specs.Effect.{effect}
 use Rattle.ring_core.specs.declared.entry.Body.{Body}
 use Rattle.ring_core.specs.declared.entry.Body.TheVariants.{Call as Calls, Cancel as Cancels, Close as Closes}
 use Rattle.ring_core.specs.declared.entry.Entry.{Entry}
+use Rattle.ring_core.specs.declared.entry.TheConstants.{MOST_HANDLES}
 use Rattle.ring_core.specs.declared.entry.Completion.{Completion}
 use Rattle.ring_core.specs.declared.request.Told.{Told}
 use Rattle.ring_core.specs.declared.ledger.Event.TheVariants.{Exec}
 use Rattle.ring_core.specs.declared.ledger.Reply.TheVariants.{ExecutedOp, ExecutedClose}
 use Rattle.ring_core.specs.declared.ledger.Reply.{Reply}
 use Rattle.ring_core.specs.Lists.{numbers_where}
-use Rattle.ring_core.specs.Ledger.{Ledger, Operation, Item, Op, is_kept, is_live, is_owned}
+use Rattle.ring_core.specs.Ledger.{Ledger, Operation, Item, Op, is_kept, is_owned}
 use Rattle.ring_core.specs.Refusal.{allowed}
 use Rattle.ring_core.specs.Step.{step}
 use Rattle.ring_core.proofs.Targets.{target-slot}
 use Rattle.ring_core.specs.Turn.{effect_of, with_result, with_effect, exec_op, complete_at}
 use Rattle.ring_core.specs.Run.{ledger}
 use Rattle.ring_core.proofs.Amended.{length-amended}
-use Rattle.driver_core.specs.Slot.{shown_in}
+use Rattle.driver_core.specs.Groups.{GroupsStand}
+use Rattle.driver_core.specs.Slots.{is_early}
+use Rattle.driver_core.specs.Slot.{shown_in, number_at, KeepsNumbers}
+use Rattle.driver_core.proofs.Grouping.{groups-kept}
+use Rattle.ring_core.proofs.Grouped.{groups-step}
 use Rattle.driver_core.specs.Operations.{offered, StoresAt}
 use Rattle.uring_driver.specs.declared.uring.IoUringDriver.{IoUringDriver}
 use Rattle.uring_driver.specs.Uring.{ring_in, due_in, room_in, whole_ring}
 use Rattle.uring_driver.specs.Op.{ops_in}
 use Rattle.uring_driver.specs.Submissions.{with_due}
 use Rattle.uring_driver.specs.Lists.{FlightFor, is_call, item_in}
-use Rattle.uring_driver.specs.Holding.{HandlesStand}
+use Rattle.uring_driver.specs.Holding.{places, HandlesStand}
 use Rattle.uring_driver.specs.Executed.{ExecutesFor, executed_as}
 use Rattle.uring_driver.specs.Stands.{Stands, Answers}
 use Rattle.driver_core.proofs.Lists.{some}
@@ -64,9 +69,10 @@ module _ {B : Type 0} (buffer : B → Buffer) (d : IoUringDriver RingView B) (L 
       IsFinished (ring_in d) place told sent (ring_in new) got c → step L (Exec place told) ≡ (M, reply) →
       Means buffer (with_due (ring_in new) (due_in d)) new.slots.values M → HandlesStand d.holding M →
       length M.ops ≡ length L.ops → length (numbers_where is_owned 0 M.ops) ≡ length (numbers_where is_owned 0 L.ops) →
-      new.given ≡ d.given → due_in new ≡ due_in d → room_in new ≡ room_in d → new.holding ≡ d.holding →
+      new.given ≡ d.given → due_in new ≡ due_in d → room_in new ≡ room_in d → new.holding ≡ d.holding → new.members ≡ d.members →
+      KeepsNumbers d.slots.values new.slots.values → length (ring_in new).world ≤ MOST_HANDLES →
       Answers (λ r. r) buffer L (Exec place told) reply new
-  stands-next new c sent got M reply fin e next handles long owned given due room holding =
+  stands-next new c sent got M reply fin e next handles long owned given due room holding members numbers few =
       let means = subst (λ K. Means buffer (whole_ring (λ r. r) new) new.slots.values K) (sym (ap (λ x. x.0) e))
       (subst (λ xs. Means buffer (with_due (ring_in new) xs) new.slots.values M) (sym due) next) in
       record {
@@ -81,14 +87,18 @@ module _ {B : Type 0} (buffer : B → Buffer) (d : IoUringDriver RingView B) (L 
           };
           handles = subst (λ K. HandlesStand new.holding K) (sym (ap (λ x. x.0) e))
               (subst (λ h. HandlesStand h M) (sym holding) handles);
+          groups = subst (λ m. GroupsStand m (step L (Exec place told)).0) (sym members)
+              (groups-kept buffer d.slots.values new.slots.values L (step L (Exec place told)).0 d.members old.operations.in_slots
+              means.in_slots numbers (groups-step L (Exec place told) refl) old.groups);
           room = (
               let b = ap (λ x. length (numbers_where is_owned 0 x.0.ops)) e in
-              let h = ap (λ x. len x.table.holders) holding in
+              let h = ap places holding in
               let r = old.room in
               omega (arith, owned, b, h, r, room));
           fits = (let a = ap (λ x. length (x.queue ++ due_in new)) fin.ring in
               let b = ap (λ xs. length ((ring_in d).queue ++ xs)) due in let k = ap (λ x. x.capacity) fin.ring in let f = old.fits in
               omega (arith, a, b, k, f));
+          few = (let a = ap length means.world in omega (arith, a, few));
           ring = ring-of means;
         };
       }
@@ -105,9 +115,10 @@ module _ {B : Type 0} (buffer : B → Buffer) (d : IoUringDriver RingView B) (L 
   executes-call : (new : IoUringDriver RingView B) (c : Completion)
       (executed : IsExecuted (offered buffer) (StoresAt buffer) (ring_in d) place told (ring_in new) (ops_in d) (ops_in new) c) →
       is_call executed.finishes.flight.entry.body ≡ true → due_in new ≡ due_in d → room_in new ≡ room_in d → new.holding ≡ d.holding →
+      new.members ≡ d.members → length (ring_in new).world ≤ MOST_HANDLES →
       ExecutesFor buffer L place told new (Ok (executed_as c (target c.word)))
   unfolding finished-behind
-  executes-call new c executed calls due room holding =
+  executes-call new c executed calls due room holding members few =
       let sent = offered buffer (ops_in d) c.word in
       let got = executed.got in
       let finished = executed.finishes in
@@ -116,8 +127,8 @@ module _ {B : Type 0} (buffer : B → Buffer) (d : IoUringDriver RingView B) (L 
       let w = with_due (ring_in new) d.ring.due in
       let fin = finished-behind (ring_in d) (ring_in new) place told sent got c d.ring.due finished in
       let slots = d.slots.values in
-      let given = (executed-numbers buffer (ops_in d) (ops_in new) c.word got
-      (body_comes finished.flight.entry.body told) executed.stored).1 in
+      let stays = executed-numbers buffer (ops_in d) (ops_in new) c.word got (body_comes finished.flight.entry.body told)
+      executed.stored in
       let slot = s buffer v slots L place fin.flight before fin.there calls in
       let here = slot-there buffer v slots L place fin.flight before fin.there calls in
       let word : c.word ≡ fin.flight.entry.word = ap (λ x. x.word) fin.answer in
@@ -137,24 +148,25 @@ module _ {B : Type 0} (buffer : B → Buffer) (d : IoUringDriver RingView B) (L 
       let allows : allowed L (Op n) told ≡ true = allowed-op L n told op wh
       ∙ sym (allows-is buffer v slots L place fin.flight before fin.there calls told) ∙ fin.allows in
       let e : step L (Exec place told) ≡ (M, ExecutedOp c.serial) = step-op n op c.serial there wh allows serial in
-      let lives : (p : Operation) → slice_get L.ops n ≡ Some p → is_live p ≡ true = λ p h.
-      ap is_live (some p op (slice_get L.ops n) h wh) ∙ ap is_kept at in
+      let early : (p : Operation) → slice_get L.ops n ≡ Some p → is_early p.place ≡ true = λ p h.
+      ap (λ x. is_early x.place) (some p op (slice_get L.ops n) h wh) ∙ ap is_early at in
       let below = before.in_slots.below fin.flight.entry.word slot here in
       subst (λ x. ExecutesFor buffer L place told new (Ok x))
       (sym (ap (executed_as c) (target-slot c.word (omega (arith, word, below)))))
       (stands-next new c sent got M (ExecutedOp c.serial) finished e
       (means-executed buffer v (ops_in d) (ops_in new) L place told sent w got c before fin calls executed.stored eff)
-      (handles-executed d.holding L old.handles place n told result there lives) (length-amended (with_result told result) L.ops n)
+      (handles-executed d.holding L old.handles place n told result there early) (length-amended (with_result told result) L.ops n)
       (where-same is_owned (with_result told result) L.ops n op wh (sym (ap (λ p. is_kept p && not op.dropped) at)))
-      given due room holding)
+      stays.1 due room holding members stays.0 few)
 
   -- A close was executed.
   executes-close : (new : IoUringDriver RingView B) (c : Completion)
       (executed : IsExecuted (offered buffer) (StoresAt buffer) (ring_in d) place told (ring_in new) (ops_in d) (ops_in new) c) (k : ℕ) →
       executed.finishes.flight.entry.body ≡ Closes k → due_in new ≡ due_in d → room_in new ≡ room_in d → new.holding ≡ d.holding →
+      new.members ≡ d.members → length (ring_in new).world ≤ MOST_HANDLES →
       ExecutesFor buffer L place told new (Ok (executed_as c (target c.word)))
   unfolding finished-behind
-  executes-close new c executed k closes due room holding =
+  executes-close new c executed k closes due room holding members few =
       let sent = offered buffer (ops_in d) c.word in
       let got = executed.got in
       let finished = executed.finishes in
@@ -171,14 +183,15 @@ module _ {B : Type 0} (buffer : B → Buffer) (d : IoUringDriver RingView B) (L 
       (stands-next new c sent got (complete_at L place (Item.Close k)) (ExecutedClose k) finished e
       (subst (λ m. Means buffer w m (complete_at L place (Item.Close k))) (sym (ap (λ x. x.slots.values) same))
       (means-close-executed buffer v slots L place told sent w got c k before fin closes))
-      (handles-closed d.holding L old.handles place k there) refl refl (ap (λ x. x.given) same) due room holding)
+      (handles-closed d.holding L old.handles place k there) refl refl (ap (λ x. x.given) same) due room holding members
+      (λ key. ap (λ x. number_at x.slots.values key) same) few)
 
   -- What was executed is by its body a call or a close; a cancel is never in flight.
   executes-by : (new : IoUringDriver RingView B) (c : Completion)
       (executed : IsExecuted (offered buffer) (StoresAt buffer) (ring_in d) place told (ring_in new) (ops_in d) (ops_in new) c) →
       (b : Body) → executed.finishes.flight.entry.body ≡ b → FlightFor buffer d.slots.values L.ops executed.finishes.flight b →
-      due_in new ≡ due_in d → room_in new ≡ room_in d → new.holding ≡ d.holding →
-      ExecutesFor buffer L place told new (Ok (executed_as c (target c.word)))
+      due_in new ≡ due_in d → room_in new ≡ room_in d → new.holding ≡ d.holding → new.members ≡ d.members →
+      length (ring_in new).world ≤ MOST_HANDLES → ExecutesFor buffer L place told new (Ok (executed_as c (target c.word)))
   executes-by new c executed (Calls call) is _ = executes-call new c executed (ap is_call is)
   executes-by new c executed (Cancels key) is never = absurd never
   executes-by new c executed (Closes k) is _ = executes-close new c executed k is
@@ -186,8 +199,10 @@ module _ {B : Type 0} (buffer : B → Buffer) (d : IoUringDriver RingView B) (L 
   -- A driver that executed stands for the next ledger.
   pub stands-executes : (new : IoUringDriver RingView B) (c : Completion) →
       IsExecuted (offered buffer) (StoresAt buffer) (ring_in d) place told (ring_in new) (ops_in d) (ops_in new) c →
-      due_in new ≡ due_in d → room_in new ≡ room_in d → new.holding ≡ d.holding →
+      due_in new ≡ due_in d → room_in new ≡ room_in d → new.holding ≡ d.holding → new.members ≡ d.members →
+      (length (ring_in d).world ≤ MOST_HANDLES → length (ring_in new).world ≤ MOST_HANDLES) →
       ExecutesFor buffer L place told new (Ok (executed_as c (target c.word)))
-  stands-executes new c executed =
+  stands-executes new c executed due room holding members few =
       let flight = executed.finishes.flight in
-      executes-by new c executed flight.entry.body refl (old.ring.in_lists.in_flight place flight executed.finishes.there)
+      executes-by new c executed flight.entry.body refl (old.ring.in_lists.in_flight place flight executed.finishes.there) due room holding
+      members (few (let a = ap length old.ring.world in let b = old.few in omega (arith, a, b)))

@@ -14,13 +14,29 @@ use Rattle.ring_core.specs.declared.entry.Flight.{Flight}
 use Rattle.ring_core.specs.declared.entry.Completion.{Completion}
 use Rattle.ring_core.specs.declared.request.Told.{Told}
 use Rattle.ring_core.specs.declared.world.HandleState.{HandleState}
-use Rattle.ring_core.specs.Ledger.{Ledger, Operation, InQueue, InDone, Item}
+use Rattle.ring_core.specs.Ledger.{Ledger, Operation, Owner, InQueue, InDone, Item}
 use Rattle.ring_core.specs.Turn.{complete_at}
 use Rattle.driver_core.specs.declared.slot.Slot.{Slot}
 use Rattle.driver_core.proofs.Lists.{skip, skip-one, get-removed, map-removed, get-pushed}
 use Rattle.uring_driver.specs.Lists.{EntryFor, CompletionFor, DoneFor, IsAt, IsFlown, ListsStand, is_call, names_slot, queued_of, item_of}
 use Rattle.uring_driver.specs.Lists.{done_items_of}
 use Rattle.uring_driver.proofs.Kept.{queued-kept, flight-kept, done-kept}
+
+-- A ring's lists mean those of a ledger with other owners too.
+pub lists-owners : {B : Type 0} (buffer : B → Buffer) (slots : FinMap nat_cmp (Slot B)) (v : RingView) (L : Ledger) (owners : List Owner) →
+    ListsStand buffer slots v L → ListsStand buffer slots v (record L { owners = owners })
+lists-owners buffer slots v L owners l = record {
+  queue = l.queue;
+  flying = l.flying;
+  done = l.done;
+  in_queue = l.in_queue;
+  in_flight = l.in_flight;
+  in_done = l.in_done;
+  queue_once = l.queue_once;
+  flight_once = l.flight_once;
+  done_once = l.done_once;
+  cancels = record { before = l.cancels.before; flown = l.cancels.flown };
+}
 
 module _ {B : Type 0} (buffer : B → Buffer) (slots slots' : FinMap nat_cmp (Slot B)) (v v' : RingView) (place : ℕ) (told : Told)
     (sent got : List ℕ) (c : Completion) (fin : IsFinished v place told sent v' got c) (L : Ledger) (ops' : List Operation)

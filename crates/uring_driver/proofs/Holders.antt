@@ -1,13 +1,13 @@
 -- Who holds the handles of a driver, and which closes aren't reaped, after steps that change neither, and after a submission.
-use Rattle.std.proofs.Common.{◌≡◌, ℕ, true, false, not, ◌||◌, List, [], ◌∷◌, Some, refl, sym, ◌∙◌, ap}
-use Rattle.std.proofs.Common.{subst, arith}
+use Rattle.std.proofs.Common.{Option, ◌≡◌, inl, inr, ℕ, Bool, true, false, not, ◌||◌, List, [], ◌∷◌, ◌++◌, None, Some, refl, sym, ◌∙◌}
+use Rattle.std.proofs.Common.{ap, subst, arith, append-nil}
 use Rattle.std.specs.Prelude.{slice_get, nat_lt, is_some, unwrap_or}
 use Rattle.std.specs.Ordering.{nat_cmp}
 use Rattle.std.specs.FinMap.{FinMap, get, get-empty, empty as map-empty}
 use Rattle.rent_buf.specs.Buffer.{Buffer}
 use Rattle.rent_buf.specs.Parts.{Parts}
 use Rattle.handle_core.specs.declared.table.Holders.{Holders}
-use Rattle.handle_core.specs.Table.{Table, holders_at, nobody}
+use Rattle.handle_core.specs.Table.{holders_at, nobody}
 use Rattle.ring_core.specs.declared.world.HandleState.{HandleState}
 use Rattle.ring_core.specs.declared.entry.Body.{Body}
 use Rattle.ring_core.specs.declared.entry.Body.TheVariants.{Call as Calls, Cancel as Cancels, Close as Closes}
@@ -16,25 +16,29 @@ use Rattle.ring_core.specs.Ring.{RingView}
 use Rattle.ring_core.specs.declared.request.Request.{Request}
 use Rattle.ring_core.specs.declared.request.Told.{Told}
 use Rattle.ring_core.specs.Request.{named}
-use Rattle.ring_core.specs.Effect.{Effect}
-use Rattle.ring_core.specs.Ledger.{Ledger, Operation, Queued, Req, Item, Op, InQueue, is_kept, is_live, user_holds}
+use Rattle.ring_core.specs.Effect.{Effect, made_by}
+use Rattle.ring_core.specs.Lists.{passes}
+use Rattle.ring_core.specs.Ledger.{Ledger, Operation, Owner, Queued, Req, Item, Op, InQueue, InDone, is_kept, user_holds}
 use Rattle.ring_core.specs.Ledger.{new_operation, empty}
-use Rattle.ring_core.specs.Queue.{make_room, append, push, take_all}
+use Rattle.ring_core.specs.Queue.{make_room, append, push}
 use Rattle.ring_core.specs.Refusal.{lacks_handle}
-use Rattle.ring_core.specs.Turn.{with_effect, with_result, complete_at}
+use Rattle.ring_core.specs.Turn.{with_effect, with_result, made_owners, complete_at}
 use Rattle.ring_core.specs.Step.{with_new_op}
 use Rattle.ring_core.specs.Closes.{closes_queued, close_count}
 use Rattle.ring_core.proofs.Numbers.{and-left, and-right}
 use Rattle.ring_core.proofs.Occurring.{closes_queued-append}
-use Rattle.ring_core.proofs.Holders.{SameHolders, AreLive, holders-op, holders-push, holders-take_all, holders-make_room}
-use Rattle.ring_core.proofs.Closing.{count-push, count-take_all, count-make_room, count-complete_at}
-use Rattle.ring_core.proofs.Leaving.{named-ascends}
-use Rattle.driver_core.specs.Holds.{with_ops}
+use Rattle.ring_core.proofs.Amended.{joined-cases}
+use Rattle.ring_core.proofs.Holders.{AreLive}
+use Rattle.ring_core.proofs.Closing.{count-push, count-make_room, count-complete_at}
+use Rattle.driver_core.specs.Slots.{is_early}
 use Rattle.driver_core.specs.declared.slot.Slot.{Slot}
 use Rattle.driver_core.proofs.Lists.{some, map-get}
-use Rattle.driver_core.proofs.Counted.{counted-none, holders-stand-same, holders-stand-joined}
+use Rattle.driver_core.proofs.Counted.{counted-none, making-none, apart-none}
+use Rattle.driver_core.proofs.Seen.{SameSeen, AreEarly, seen-op, seen-push, seen-make_room, made-early, made-done, early-live}
+use Rattle.driver_core.proofs.Standing.{holders-stand-same, holders-stand-joined}
 use Rattle.uring_driver.specs.declared.uring.IoUringDriver.{IoUringDriver}
 use Rattle.uring_driver.specs.Holding.{Holding, IsSameHolding, HandlesStand}
+use Rattle.uring_driver.specs.Making.{op_joined}
 use Rattle.uring_driver.specs.State.{AreHolding}
 use Rattle.uring_driver.specs.Uring.{holds_handle, holds_all}
 use Rattle.uring_driver.specs.Lists.{IsAt, is_call, queued_in, queued_of}
@@ -65,7 +69,15 @@ module _ {B : Type 0} (buffer : B → Buffer) (v : RingView) (slots : FinMap nat
       subst (λ x. IsAt L.ops x InQueue) r.0
       (call-queued buffer slots L.ops g.0 g.0.body (means.in_lists.in_queue i g.0 g.1) r.1).1
 
-  -- So it is that of an operation that isn't gone.
+  -- So it is that of an operation that wasn't executed.
+  pub means-early : AreEarly L.ops L.queue
+  means-early = record {
+    early = λ i n o h there.
+        let a = req-queued i n h in
+        ap is_early (ap (λ x. x.place) (some o a.operation (slice_get L.ops n) there a.there) ∙ a.stays);
+  }
+
+  -- It isn't gone.
   pub means-live : AreLive L.ops L.queue
   means-live = record {
     live = λ i n o h there.
@@ -96,21 +108,32 @@ handles-none holding capacity none closed =
       closing = λ h. ap (λ m. is_some (get m h)) closed ∙ ap is_some (nothing h);
     }
 
--- No operation holds a handle.
-pub holding-none : {B : Type 0} (table : Table) (slots : FinMap nat_cmp (Slot B)) (given : ℕ) → table.holders ≡ map-empty →
-    slots ≡ map-empty → AreHolding table slots given
-holding-none table slots given none fresh =
-    let nobody-there : (h : ℕ) → (holders_at table h).operations ≡ 0 = λ h.
+-- No operation holds a handle, and none makes one.
+pub holding-none : {B : Type 0} (holding : Holding) (slots : FinMap nat_cmp (Slot B)) (given : ℕ) → holding.table.holders ≡ map-empty →
+    holding.makers ≡ 0 → slots ≡ map-empty → AreHolding holding slots given
+holding-none {B} holding slots given none idle fresh =
+    let nobody-there : (h : ℕ) → (holders_at holding.table h).operations ≡ 0 = λ h.
     ap (λ m. (unwrap_or (get m h) nobody).operations) none
     ∙ ap (λ o. (unwrap_or o nobody).operations) (get-empty {X = Holders} nat_cmp h) in
     record {
-      counted = counted-none table slots nobody-there fresh;
+      counted = counted-none holding.table slots nobody-there fresh;
       few = λ h. (let z = nobody-there h in omega (arith, z));
+      making = making-none slots holding.makers fresh idle;
+      apart = apart-none slots (λ key. ap (λ m. get m key) fresh ∙ get-empty {X = Slot B} nat_cmp key);
     }
 
+-- The user of each handle is as it was where an operation made one.
+user-made : (owners : List Owner) (made : Option ℕ) (h : ℕ) →
+    passes (λ owner. owner.is_user) (slice_get (owners ++ made_owners made) h) ≡ passes (λ owner. owner.is_user) (slice_get owners h)
+user-made owners None h = ap (λ os. passes (λ owner. owner.is_user) (slice_get os h)) (append-nil owners)
+user-made owners (Some m) h = elim (joined-cases owners (record { is_user = false }) h) [
+  | inl e ↦ ap (passes (λ owner. owner.is_user)) e.2 ∙ sym (ap (passes (λ owner. owner.is_user)) e.1)
+  | inr e ↦ ap (passes (λ owner. owner.is_user)) e.1
+]
+
 module _ (holding : Holding) (L : Ledger) (old : HandlesStand holding L) where
-  -- Each handle has the same holders, and as many closes.
-  pub handles-same : (M : Ledger) → SameHolders L M → ((h : ℕ) → close_count M h ≡ close_count L h) → HandlesStand holding M
+  -- Each handle is seen to have the same holders, and has as many closes.
+  pub handles-same : (M : Ledger) → SameSeen L M → ((h : ℕ) → close_count M h ≡ close_count L h) → HandlesStand holding M
   handles-same M same count = record {
     holders = holders-stand-same old.holders same;
     closing = λ h. old.closing h ∙ ap (nat_lt 0) (sym (count h));
@@ -120,23 +143,25 @@ module _ (holding : Holding) (L : Ledger) (old : HandlesStand holding L) where
   pub handles-world : (world : List HandleState) → HandlesStand holding (record L { world = world })
   handles-world world = handles-same (record L { world = world }) (record { users = λ h. refl; ops = λ h. refl }) (λ h. refl)
 
-  -- The queue is taken.
-  pub handles-take_all : AreLive L.ops L.queue → HandlesStand holding (take_all L)
-  handles-take_all live = handles-same (take_all L) (holders-take_all L live) (count-take_all L)
-
   -- What isn't a close is pushed.
-  pub handles-push : (entry : Queued) → ((h : ℕ) → closes_queued h (entry ∷ []) ≡ 0) → AreLive L.ops L.queue →
+  pub handles-push : (entry : Queued) → ((h : ℕ) → closes_queued h (entry ∷ []) ≡ 0) → AreEarly L.ops L.queue →
       HandlesStand holding (push L entry)
-  handles-push entry none live = handles-same (push L entry) (holders-push L entry live)
+  handles-push entry none early = handles-same (push L entry) (seen-push L entry early)
       (λ h. (let a = count-push L entry h in let b = none h in omega (arith, a, b)))
 
   -- An operation in flight is executed.
   pub handles-executed : (place n : ℕ) (told : Told) (result : Effect) → slice_get L.flying place ≡ Some (Op n) →
-      ((o : Operation) → slice_get L.ops n ≡ Some o → is_live o ≡ true) →
+      ((o : Operation) → slice_get L.ops n ≡ Some o → is_early o.place ≡ true) →
       HandlesStand holding (with_effect (complete_at L place (Op n)) n told result)
-  handles-executed place n told result there live =
-      let same = holders-op L n (with_result told result) (λ o at. record { request = refl; live = sym (live o at) }) in
-      handles-same (with_effect (complete_at L place (Op n)) n told result) (record { users = same.users; ops = same.ops })
+  handles-executed place n told result there early =
+      let same = seen-op L n (with_result told result) (λ o at. record {
+        request = refl;
+        made = made-done o.dropped (InDone result.outcome) o.task result.outcome refl
+            ∙ sym (made-early o.dropped o.place o.task (early o at));
+        live = sym (early-live o (early o at));
+      }) in
+      handles-same (with_effect (complete_at L place (Op n)) n told result)
+      (record { users = λ h. user-made L.owners (made_by result.outcome) h; ops = same.ops })
       (λ h. count-complete_at L place (Op n) h there)
 
   -- A close in flight is executed.
@@ -146,9 +171,9 @@ module _ (holding : Holding) (L : Ledger) (old : HandlesStand holding L) where
       (λ h. count-complete_at L place (Item.Close k) h there)
 
 -- A new operation holds the handles that it names: room is made, and its request is queued.
-module _ (holding : Holding) (L : Ledger) (request : Request Buffer Parts) (n : ℕ) (live : AreLive L.ops L.queue) where
+module _ (holding : Holding) (L : Ledger) (request : Request Buffer Parts) (group : Option ℕ) (n : ℕ) (early : AreEarly L.ops L.queue) where
   abbrev joined : Ledger
-  joined = append (with_new_op (make_room L) (new_operation request)) (Req n)
+  joined = append (with_new_op (make_room L) (new_operation request group)) (Req n)
 
   joined-count : (h : ℕ) → close_count joined h ≡ close_count L h
   joined-count h =
@@ -156,13 +181,12 @@ module _ (holding : Holding) (L : Ledger) (request : Request Buffer Parts) (n : 
       let m = count-make_room L h in
       omega (arith, q, m)
 
-  pub handles-joined : HandlesStand holding L →
-      HandlesStand (record holding { table = with_ops holding.table (named request) })
-      (append (with_new_op (make_room L) (new_operation request)) (Req n))
-  handles-joined old = record {
+  pub handles-joined : (maker : Bool) → HandlesStand holding L →
+      HandlesStand (op_joined holding (named request) maker) (append (with_new_op (make_room L) (new_operation request group)) (Req n))
+  handles-joined maker old = record {
     holders = holders-stand-same
-        (holders-stand-joined holding.table (make_room L) (new_operation request)
-        (holders-stand-same old.holders (holders-make_room L live)) refl (named-ascends request))
+        (holders-stand-joined holding.table (make_room L) (new_operation request group)
+        (holders-stand-same old.holders (seen-make_room L early)) refl refl)
         (record { users = λ h. refl; ops = λ h. refl });
     closing = λ h. old.closing h ∙ ap (nat_lt 0) (sym (joined-count h));
   }

@@ -11,29 +11,27 @@ use Rattle.rent_buf.specs.Buffer.{Buffer}
 use Rattle.ring_core.specs.declared.entry.TheConstants.{MOST_HANDLES}
 use Rattle.ring_core.specs.Lists.{has_number, numbers_where}
 use Rattle.ring_core.specs.Ranks.{one_if}
-use Rattle.ring_core.specs.Request.{named, listed}
 use Rattle.ring_core.specs.Entry.{close_entry}
 use Rattle.ring_core.specs.Ring.{RingView}
 use Rattle.ring_core.specs.Ledger.{Ledger, Operation, Queued, Req, Cancel, Place, InQueue, InFlight, InDone, Reaped, Gone}
 use Rattle.ring_core.specs.Ledger.{is_live, is_owned}
 use Rattle.ring_core.specs.Queue.{at_place, canceled_at, with_cancel, take_one, take_each, take_all, push, push_each, with_gone}
 use Rattle.ring_core.specs.Queue.{leave, became_unheld}
-use Rattle.ring_core.specs.Closes.{close_count, closes_queued, AreKnown}
+use Rattle.ring_core.specs.Closes.{close_count, closes_queued, is_closing}
 use Rattle.ring_core.proofs.Numbers.{same-or-not, equal-other}
 use Rattle.ring_core.proofs.Closing.{count-push_each}
 use Rattle.ring_core.proofs.Keeping.{or-false as or-left}
-use Rattle.ring_core.proofs.Holders.{AreLive, holders-push_closes, live-take_one, live-push_close}
+use Rattle.ring_core.proofs.Holders.{AreLive, live-take_one, live-push_close}
 use Rattle.ring_core.proofs.Lawful.{Lawful, listed-live, listed-unasked}
 use Rattle.ring_core.proofs.Taking.{in_queue}
 use Rattle.ring_core.proofs.Turning.{live-gone}
 use Rattle.ring_core.specs.declared.entry.Entry.{Entry}
 use Rattle.ring_core.proofs.Where.{where-kept}
 use Rattle.ring_core.proofs.Staying.{stays-length, stays-push_each}
-use Rattle.ring_core.proofs.Leaving.{Ascends, named-ascends}
-use Rattle.ring_core.specs.declared.request.Names.{Names}
-use Rattle.ring_core.specs.declared.request.Names.TheVariants.{One as OneName}
-use Rattle.driver_core.specs.Holds.{is_nobody, left_holders, front_if, unheld_by}
-use Rattle.driver_core.proofs.Counted.{holders-stand-same, holders-stand-left, unheld-became}
+use Rattle.driver_core.specs.Holds.{HoldersStand}
+use Rattle.driver_core.proofs.Seen.{AreEarly, seen-push_closes}
+use Rattle.driver_core.proofs.Early.{early-gone, listed-early}
+use Rattle.driver_core.proofs.Standing.{holders-stand-same}
 use Rattle.driver_core.specs.declared.slot.Slot.{Slot}
 use Rattle.driver_core.proofs.Maps.{put-same, put-other}
 use Rattle.uring_driver.specs.Pending.{Pending}
@@ -42,7 +40,7 @@ use Rattle.uring_driver.proofs.Means.{Means}
 use Rattle.uring_driver.proofs.Posting.{posts-closes}
 use Rattle.uring_driver.proofs.TakingCancels.{equal-test}
 use Rattle.uring_driver.specs.Reaps.{FitsQueue}
-use Rattle.uring_driver.specs.Holding.{Holding, with_closes, ops_left, HandlesStand}
+use Rattle.uring_driver.specs.Holding.{Holding, closes, with_added, HandlesStand}
 
 -- One of three tests, in another order.
 or-turn : (a b c : Bool) → ((a || b) || c) ≡ (a || (b || c))
@@ -66,7 +64,7 @@ closing-one closing h k spare = elim (same-or-not k h) [
 
 -- What is closing once closes joined: what was, and these.
 pub closing-joined : (closing : Table) (handles : List ℕ) (k : ℕ) →
-    is_some (get (with_closes closing handles).holders k) ≡ (is_some (get closing.holders k) || has_number k handles)
+    is_some (get (with_added closing handles).holders k) ≡ (is_some (get closing.holders k) || has_number k handles)
 closing-joined closing [] k = sym (or-false (is_some (get closing.holders k)))
 closing-joined closing (h ∷ handles) k =
     closing-joined (record (with_holders closing h by_operation) { spare = closing.spare - 1 }) handles k
@@ -97,26 +95,20 @@ closes-pushed a k (h ∷ handles) =
       above a false h = grind (arith, nat_tests)
     one-more a false = none-more a
 
--- Once an operation that names these handles left, holders and closes stand for the ledger that it left.
-pub handles-left : (holding : Holding) (L : Ledger) (n : ℕ) (o : Operation) → HandlesStand holding L → slice_get L.ops n ≡ Some o →
-    is_live o ≡ true → Ascends 0 (named o.request) → AreKnown L → AreLive (with_gone L n).ops L.queue →
-    HandlesStand (ops_left holding (named o.request)) (leave L n)
-handles-left holding L n o stand there live rise known requests =
-    let us = became_unheld L (with_gone L n) in
-    let same : unheld_by holding.table (named o.request) ≡ us = unheld-became holding.table L n o stand.holders there live rise known in
+-- Once an operation left, whose handles had no close before, holders and closes stand for the ledger that it left: its table stands for
+-- that in which it is gone, and these are the handles whose holders became none.
+pub handles-left : (holding new : Holding) (L : Ledger) (n : ℕ) (us : List ℕ) → ((h : ℕ) → closes holding h ≡ is_closing L h) →
+    HoldersStand new.table (with_gone L n) → us ≡ became_unheld L (with_gone L n) →
+    new.closing ≡ with_added holding.closing us → AreEarly (with_gone L n).ops L.queue → HandlesStand new (leave L n)
+handles-left holding new L n us closing stand are is requests =
+    let cs = became_unheld L (with_gone L n) in
     record {
-      holders = holders-stand-same (holders-stand-left holding.table L n o stand.holders there live rise)
-          (holders-push_closes (with_gone L n) us requests);
+      holders = holders-stand-same stand (seen-push_closes (with_gone L n) cs requests);
       closing = λ h.
-          ap (λ xs. is_some (get (with_closes holding.closing xs).holders h)) same ∙ closing-joined holding.closing us h
-          ∙ ap (λ b. b || has_number h us) (stand.closing h)
-          ∙ sym (ap (nat_lt 0) (count-push_each (with_gone L n) (map Queued.Close us) h) ∙ closes-pushed (close_count L h) h us);
+          ap (λ t. is_some (get t.holders h)) is ∙ ap (λ xs. is_some (get (with_added holding.closing xs).holders h)) are
+          ∙ closing-joined holding.closing cs h ∙ ap (λ b. b || has_number h cs) (closing h)
+          ∙ sym (ap (nat_lt 0) (count-push_each (with_gone L n) (map Queued.Close cs) h) ∙ closes-pushed (close_count L h) h cs);
     }
-
--- Of one name, the handle that nobody holds any more is that one.
-pub unheld-one : (table : Table) (names : Names) (h : ℕ) → names ≡ OneName h → is_nobody (left_holders table h) ≡ true →
-    unheld_by table (listed names) ≡ h ∷ []
-unheld-one table names h one none = ap (λ x. unheld_by table (listed x)) one ∙ ap (λ b. front_if b h []) none
 
 -- A cancel that was taken leaves whether its operation is its user's.
 owned-canceled : (p : Place) (o : Operation) → is_owned (canceled_at p o) ≡ is_owned o
@@ -168,38 +160,37 @@ owned-push_closes L (h ∷ handles) requests =
 -- What the leaving of an operation makes of the parts of a driver: they stand for the ledger that it left, which has as many operations of
 -- its user's as the one in which it is gone.
 pub record LeftParts {R B : Type 0} (view : R → RingView) (buffer : B → Buffer) (slots : FinMap nat_cmp (Slot B)) (old new : Pending R)
-    (holding : Holding) (named_by : List ℕ) (K M : Ledger) : Type 0 where
+    (holding : Holding) (used : ℕ) (K M : Ledger) : Type 0 where
   pub means : Means buffer (pending_ring view new) slots M
-  pub handles : HandlesStand (ops_left holding named_by) M
-  pub room : new.room + length (unheld_by holding.table named_by) ≡ old.room
+  pub handles : HandlesStand holding M
+  pub room : new.room + used ≡ old.room
   pub fits : FitsQueue view new
   pub capacity : (view new.ring).capacity ≡ (view old.ring).capacity
   pub owned : numbers_where is_owned 0 M.ops ≡ numbers_where is_owned 0 K.ops
   pub count : length M.ops ≡ length K.ops
+  pub world : M.world ≡ K.world
 
--- An operation that holds these handles leaves: its slot is free, and the closes of those that nobody holds any more were posted.
+-- An operation leaves: its slot is free, and the closes of the handles whose holders became none were posted.
 pub parts-left : {R B : Type 0} (view : R → RingView) (buffer : B → Buffer) (tells steady : Bool) (slots : FinMap nat_cmp (Slot B))
-    (old new : Pending R) (holding : Holding) (L : Ledger) (n : ℕ) (o : Operation) → IsTrue steady →
-    Means buffer (pending_ring view old) slots (with_gone L n) → HandlesStand holding L → slice_get L.ops n ≡ Some o → is_live o ≡ true →
-    AreKnown L → AreLive (with_gone L n).ops L.queue →
-    ((h : ℕ) → has_number h (unheld_by holding.table (named o.request)) ≡ true → h < MOST_HANDLES) →
-    length (unheld_by holding.table (named o.request)) ≤ old.room → FitsQueue view old →
-    PostsEach view tells steady old new (map close_entry (unheld_by holding.table (named o.request))) →
-    LeftParts view buffer slots old new holding (named o.request) (with_gone L n) (leave L n)
-parts-left view buffer tells steady slots old new holding L n o always means stand there live known requests below room fits posts =
-    let us = unheld_by holding.table (named o.request) in
-    let same = unheld-became holding.table L n o stand.holders there live (named-ascends o.request) known in
+    (old new : Pending R) (holding after : Holding) (L : Ledger) (n : ℕ) (us : List ℕ) → IsTrue steady →
+    Means buffer (pending_ring view old) slots (with_gone L n) → ((h : ℕ) → closes holding h ≡ is_closing L h) →
+    HoldersStand after.table (with_gone L n) → us ≡ became_unheld L (with_gone L n) → after.closing ≡ with_added holding.closing us →
+    AreEarly (with_gone L n).ops L.queue → AreLive (with_gone L n).ops L.queue → ((h : ℕ) → has_number h us ≡ true → h < MOST_HANDLES) →
+    length us ≤ old.room → FitsQueue view old → PostsEach view tells steady old new (map close_entry us) →
+    LeftParts view buffer slots old new after (length us) (with_gone L n) (leave L n)
+parts-left view buffer tells steady slots old new holding after L n us always means closing stand are is early live below room fits posts =
     let pushed = posts-closes view buffer tells steady slots always old new (with_gone L n) us means below room fits posts in
-    subst (λ hs. LeftParts view buffer slots old new holding (named o.request) (with_gone L n)
-    (push_each (with_gone L n) (map Queued.Close hs))) same (record {
+    subst (λ hs. LeftParts view buffer slots old new after (length us) (with_gone L n)
+    (push_each (with_gone L n) (map Queued.Close hs))) are (record {
       means = pushed.means;
-      handles = subst (λ hs. HandlesStand (ops_left holding (named o.request)) (push_each (with_gone L n) (map Queued.Close hs))) (sym same)
-          (handles-left holding L n o stand there live (named-ascends o.request) known requests);
+      handles = subst (λ hs. HandlesStand after (push_each (with_gone L n) (map Queued.Close hs))) (sym are)
+          (handles-left holding after L n us closing stand are is early);
       room = pushed.room;
       fits = pushed.fits;
       capacity = pushed.capacity;
-      owned = owned-push_closes (with_gone L n) us requests;
+      owned = owned-push_closes (with_gone L n) us live;
       count = stays-length (stays-push_each (with_gone L n) (map Queued.Close us));
+      world = (stays-push_each (with_gone L n) (map Queued.Close us)).world;
     })
 
 -- Posts use up the room of one entry each.
@@ -212,6 +203,10 @@ posts-room view tells steady old new (entry ∷ entries) room posts =
     omega (arith, one, rest)
 
 -- What an operation that isn't queued leaves asks for no other one.
+pub early-left : (L : Ledger) (n : ℕ) (o : Operation) → Lawful L → slice_get L.ops n ≡ Some o → in_queue o.place ≡ 0 →
+    AreEarly (with_gone L n).ops L.queue
+early-left L n o lawful there out = early-gone L.ops L.queue n (listed-unasked L n o lawful.lists there out) (listed-early L lawful.lists)
+
 pub live-left : (L : Ledger) (n : ℕ) (o : Operation) → Lawful L → slice_get L.ops n ≡ Some o → in_queue o.place ≡ 0 →
     AreLive (with_gone L n).ops L.queue
 live-left L n o lawful there out = live-gone L.ops L.queue n (listed-unasked L n o lawful.lists there out) (listed-live L lawful.lists)

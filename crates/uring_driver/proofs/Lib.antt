@@ -1,4 +1,5 @@
 mod Means
+mod Finish
 mod Entering
 mod Kept
 pub mod Steps
@@ -10,14 +11,18 @@ mod TakingCloses
 mod Taking
 mod Posting
 mod Posted
+mod Ended
+mod Holdings
 mod Treating
 mod Treated
+mod Completing
 mod Reaping
 mod Amid
 mod AmidOps
 mod Turns
-mod Polling
 mod Leaving
+mod Departing
+mod Polling
 mod Joining
 mod Flights
 mod Finishing
@@ -29,6 +34,7 @@ mod Refusing
 mod Holders
 mod Closings
 mod Lefts
+mod Letting
 mod Answering
 mod Starting
 mod Submitting
@@ -44,3 +50,4 @@ mod Sound
 mod Handling
 mod Giving
 pub mod Parks
+mod Groups

@@ -7,11 +7,21 @@ use Rattle.rent_buf.specs.Buffer.{Buffer}
 use Rattle.ring_core.specs.Ledger.{Ledger}
 use Rattle.ring_core.specs.Ring.{RingView}
 use Rattle.driver_core.specs.declared.slot.Slot.{Slot}
+use Rattle.driver_core.specs.Members.{Membership}
+use Rattle.driver_core.specs.Ops.{Ops}
 use Rattle.driver_core.specs.Slots.{SlotsStand}
 use Rattle.uring_driver.specs.declared.uring.IoUringDriver.{IoUringDriver}
 use Rattle.uring_driver.specs.Uring.{whole_ring}
+use Rattle.uring_driver.specs.Holding.{Holding}
 use Rattle.uring_driver.specs.Lists.{ListsStand}
+use Rattle.uring_driver.specs.Pending.{Pending}
+use Rattle.uring_driver.specs.State.{State}
 use Rattle.uring_driver.specs.Stands.{RingStands, Stands}
+
+-- A driver of these parts.
+abbrev pub by_parts : {R B : Type 0} → Pending R → Ops B → Holding → Membership → State R B
+by_parts ring ops holding members =
+    record { ring = ring; slots = ops.slots; given = ops.given; holding = holding; members = members }
 
 -- A ring and slots mean a ledger: its capacity, what stands on its handles, its operations by their slots, and its lists.
 pub record Means {B : Type 0} (buffer : B → Buffer) (view : RingView) (slots : FinMap nat_cmp (Slot B)) (L : Ledger) : Type 0 where

@@ -1,56 +1,63 @@
 -- What a poll of a live slot does to a driver that stands for a ledger, and to its tokens.
-use Rattle.std.proofs.Common.{◌≡◌, ◌≤◌, ◌<◌, ℕ, Bool, true, List, map, Option, Some, None, refl, sym, ◌∙◌, ap}
+use Rattle.std.proofs.Common.{◌≡◌, ◌≤◌, ℕ, ◌+◌, Bool, true, false, List, Option, Some, None, refl, sym, ◌∙◌, ap}
 use Rattle.std.proofs.Common.{subst, length, arith, IsTrue}
 use Rattle.std.specs.Prelude.{◌↔◌, slice_get}
-use Rattle.std.specs.FinMap.{get, insert, remove, len}
+use Rattle.std.specs.FinMap.{get, insert, remove}
 use Rattle.rent_buf.specs.Buffer.{Buffer}
 use Rattle.op_slots.specs.declared.lifecycle.Lifecycle.{Lifecycle}
 use Rattle.op_slots.specs.declared.lifecycle.Lifecycle.TheVariants.{Submitted, Waiting, Ignored, Completed}
 use Rattle.op_slots.specs.declared.lifecycle.AfterPoll.TheVariants.{Pending as Waits}
 use Rattle.op_slots.specs.Lifecycle.{after_poll, polled}
-use Rattle.ring_core.specs.declared.entry.TheConstants.{MOST_HANDLES}
 use Rattle.ring_core.specs.Ring.{RingView}
-use Rattle.ring_core.specs.Lists.{amended, has_number}
-use Rattle.ring_core.specs.Entry.{close_entry}
+use Rattle.ring_core.specs.Lists.{amended, numbers_where}
 use Rattle.ring_core.specs.Request.{named, plain_request, held_of, IsHolding}
 use Rattle.ring_core.specs.declared.request.Outcome.{Outcome}
 use Rattle.ring_core.specs.declared.ledger.Event.TheVariants.{Poll}
 use Rattle.ring_core.specs.declared.ledger.Reply.TheVariants.{Pending, Handed}
-use Rattle.ring_core.specs.Ledger.{Ledger, Operation, Place, InQueue, InFlight, InDone, Reaped, Gone, is_kept, is_owned}
+use Rattle.ring_core.specs.Ledger.{Ledger, Operation, Place, InQueue, InFlight, InDone, Reaped, Gone, is_kept, is_owned, with_made}
 use Rattle.ring_core.specs.Queue.{with_op, with_gone, at_place, leave}
-use Rattle.ring_core.specs.Step.{with_task}
+use Rattle.ring_core.specs.Step.{with_task, with_user, handed_over}
+use Rattle.ring_core.specs.Effect.{made_by}
+use Rattle.ring_core.specs.Closes.{made_at}
 use Rattle.ring_core.proofs.Amended.{get-amended-same, length-amended}
-use Rattle.ring_core.proofs.Holders.{HoldsSame, holders-op}
+use Rattle.driver_core.proofs.Seen.{SeenAlike, seen-op}
 use Rattle.ring_core.proofs.Taking.{in_queue}
 use Rattle.ring_core.proofs.Requests.{named-holding, named-mapped}
 use Rattle.driver_core.specs.declared.slot.Slot.{Slot}
 use Rattle.uring_driver.specs.declared.uring.IoUringDriver.{IoUringDriver}
-use Rattle.uring_driver.specs.Holding.{ops_left, HandlesStand}
-use Rattle.uring_driver.specs.Uring.{room_in}
-use Rattle.uring_driver.specs.Submissions.{pending_ring, PostsEach}
-use Rattle.driver_core.specs.Holds.{unheld_by, CanLeave}
+use Rattle.uring_driver.specs.Holding.{ops_left, places, with_added, HandlesStand}
+use Rattle.uring_driver.specs.Making.{made_handed, handed_if}
+use Rattle.uring_driver.specs.Uring.{whole_ring}
+use Rattle.uring_driver.specs.Submissions.{pending_ring}
+use Rattle.driver_core.specs.Holds.{made_life, seen, unheld_by, HoldersStand}
 use Rattle.driver_core.proofs.Holds.{len-left}
-use Rattle.driver_core.specs.Slot.{with_life, is_owned_life, is_flying}
-use Rattle.driver_core.specs.Slots.{SlotFor, waiting, life_of, owned_life}
+use Rattle.driver_core.specs.Slot.{with_life, is_owned_life, is_flying, KeepsNumbers}
+use Rattle.driver_core.specs.Slots.{SlotFor, waiting, life_of, life_at, owned_life}
 use Rattle.driver_core.specs.declared.op.Done.{Done}
 use Rattle.driver_core.specs.declared.op.Op.{Op}
 use Rattle.driver_core.specs.declared.op.PollOp.{PollOp}
 use Rattle.driver_core.specs.declared.op.PollOp.TheVariants as Answer
 use Rattle.driver_core.specs.Slot.{PollsAt}
 use Rattle.driver_core.specs.Answers.{IsOwnRequest}
-use Rattle.driver_core.proofs.Numbers.{Owner}
-use Rattle.driver_core.proofs.Tokens.{held-slot}
+use Rattle.driver_core.proofs.Numbers.{Owner, slot-number}
+use Rattle.driver_core.proofs.Tokens.{held-slot, poll-keeps}
 use Rattle.uring_driver.specs.Op.{Holds, number_of}
-use Rattle.uring_driver.specs.PollOp.{PollsFor, PollsOp, IsPending, IsUnreaped, IsUnreapedOp, IsUnreapedPlace}
+use Rattle.uring_driver.specs.PollOp.{PollsFor, PollsOp, handed_by, IsPending, IsUnreaped, IsUnreapedOp, IsUnreapedPlace}
 use Rattle.uring_driver.specs.Reaps.{FitsQueue}
 use Rattle.uring_driver.specs.Stands.{Stands, Answers}
 use Rattle.uring_driver.proofs.Steps.{is_waiting, step-poll-waiting, step-poll-reaped}
 use Rattle.uring_driver.proofs.Means.{Means, means-of}
 use Rattle.uring_driver.proofs.Holders.{handles-same}
-use Rattle.uring_driver.proofs.Answering.{lawful-of, fits-of, answers-parts}
-use Rattle.uring_driver.proofs.Lefts.{parts-left, live-left}
+use Rattle.uring_driver.proofs.Answering.{LeavesGroup, lawful-of, alone-of, fits-of, groups-still, answers-parts}
+use Rattle.uring_driver.proofs.Lefts.{early-left, live-left}
+use Rattle.uring_driver.proofs.Leaving.{TakesParts}
+use Rattle.uring_driver.proofs.Departing.{Departs, stands-departs}
+use Rattle.uring_driver.proofs.Starting.{means-world}
 use Rattle.uring_driver.proofs.Changing.{means-changed, means-freed}
 use Rattle.driver_core.proofs.Counts.{where-all, where-less}
+use Rattle.driver_core.proofs.Lists.{some}
+use Rattle.driver_core.proofs.Standing.{holders-stand-left}
+use Rattle.driver_core.proofs.Seeing.{seen-distinct, unheld-became, holders-stand-handed, unheld-handed}
 use Rattle.driver_core.proofs.Owned.{Owned, owned-slot}
 
 -- An operation whose slot isn't completed isn't reaped.
@@ -67,7 +74,7 @@ waiting-not None r e = cc
 waiting-not (Some t) r e = cc
 
 -- An operation whose slot is completed was reaped.
-take-reaped : (p : Place) (t : Option ℕ) (r : Outcome) → is_kept p ≡ true → owned_life p t ≡ Completed r → p ≡ Reaped r
+pub take-reaped : (p : Place) (t : Option ℕ) (r : Outcome) → is_kept p ≡ true → owned_life p t ≡ Completed r → p ≡ Reaped r
 take-reaped InQueue t r h e = absurd (waiting-not t r e)
 take-reaped InFlight t r h e = absurd (waiting-not t r e)
 take-reaped (InDone o) t r h e = absurd (waiting-not t r e)
@@ -102,9 +109,21 @@ life-waits (InDone r) t task h = polled-waiting t task
 life-waits (Reaped r) t task h = (let f : ⊥ = cc in absurd f)
 life-waits Gone t task h = (let f : ⊥ = cc in absurd f)
 
--- A task that waits leaves who holds what.
-task-holds : (task : ℕ) (o : Operation) → HoldsSame o (with_task task o)
-task-holds task o = record { request = refl; live = refl }
+-- A task that waits leaves what is seen.
+task-seen : (task : ℕ) (o : Operation) → is_waiting o.place ≡ true → SeenAlike o (with_task task o)
+task-seen task o waits = record { request = refl; made = by o.dropped o.place o.task waits; live = refl }
+  where
+    none : (t : Option ℕ) → made_life (waiting t) ≡ None
+    none None = refl
+    none (Some t) = refl
+
+    by : (b : Bool) (p : Place) (t : Option ℕ) → is_waiting p ≡ true → made_life (life_of b p (Some task)) ≡ made_life (life_of b p t)
+    by true p t waits = refl
+    by false InQueue t waits = sym (none t)
+    by false InFlight t waits = sym (none t)
+    by false (InDone r) t waits = sym (none t)
+    by false (Reaped r) t waits = (let f : ⊥ = cc in absurd f)
+    by false Gone t waits = (let f : ⊥ = cc in absurd f)
 
 module _ {R B : Type 0} (view : R → RingView) (buffer : B → Buffer) (d new : IoUringDriver R B) (L : Ledger) (key task : ℕ) (s : Slot B)
     (old : Stands view buffer d L) (there : get d.slots.values key ≡ Some s) (mine : is_owned_life s.life ≡ true)
@@ -114,11 +133,12 @@ module _ {R B : Type 0} (view : R → RingView) (buffer : B → Buffer) (d new :
   my = owned-slot buffer L s (old.operations.in_slots.holds key s there) mine
 
   -- A poll of an operation that isn't reaped.
-  pub stands-waits : new.ring ≡ d.ring → new.holding ≡ d.holding → after_poll s.life ≡ Waits →
+  pub stands-waits : new.ring ≡ d.ring → new.holding ≡ d.holding → new.members ≡ d.members →
+      KeepsNumbers d.slots.values new.slots.values → after_poll s.life ≡ Waits →
       new.slots.values ≡ insert d.slots.values key (with_life s (polled s.life task)) →
       Answers view buffer L (Poll s.serial task) Pending new
   unfolding my
-  stands-waits ring holding waits_here slots =
+  stands-waits ring holding members keeps waits_here slots =
       let o = my.fit.operation in
       let w = pending-waits o.place o.task my.fit.live (ap after_poll (sym my.life) ∙ waits_here) in
       let M = with_op L s.serial (with_task task) in
@@ -136,15 +156,18 @@ module _ {R B : Type 0} (view : R → RingView) (buffer : B → Buffer) (d new :
       (subst (λ x. Means buffer (pending_ring view d.ring) x M) (sym slots)
       (means-changed buffer (pending_ring view d.ring) d.slots.values L key s (polled s.life task) (with_task task) o
       (means-of old) there my.fit.there (λ p. (refl, refl)) fits)) in
-      answers-parts view buffer d new L M (Poll s.serial task) Pending old
-      (step-poll-waiting L s.serial task o my.fit.there my.owned w) (ap (λ p. (view p.ring).capacity) ring) means
+      let e = step-poll-waiting L s.serial task o my.fit.there my.owned w in
+      let capacity = ap (λ p. (view p.ring).capacity) ring in
+      answers-parts view buffer d new L M (Poll s.serial task) Pending old e capacity means
       (given ∙ old.operations.numbered ∙ sym (length-amended (with_task task) L.ops s.serial))
       (subst (λ x. HandlesStand x M) (sym holding)
-      (handles-same d.holding L old.handles M (holders-op L s.serial (with_task task) (λ p q. task-holds task p)) (λ h. refl)))
+      (handles-same d.holding L old.handles M (seen-op L s.serial (with_task task) (λ p q.
+      task-seen task p (ap (λ x. is_waiting x.place) (some p o (slice_get L.ops s.serial) q my.fit.there) ∙ w))) (λ h. refl)))
+      (groups-still view buffer d new L M (Poll s.serial task) Pending old e capacity refl means.in_slots keeps members)
       (let a = where-all is_owned (with_task task) L.ops s.serial (λ p. refl) in
-      let b = ap (λ x. len x.table.holders) holding in let c = ap (λ p. p.room) ring in let r = old.room in
+      let b = ap (λ x. places x) holding in let c = ap (λ p. p.room) ring in let r = old.room in
       omega (arith, a, b, c, r))
-      (subst (λ p. FitsQueue view p) (sym ring) (fits-of view d old))
+      (subst (λ p. FitsQueue view p) (sym ring) (fits-of view d old)) refl
 
   -- An operation whose poll waits isn't reaped.
   pub waits-unreaped : after_poll s.life ≡ Waits → IsUnreaped L s.serial
@@ -157,57 +180,130 @@ module _ {R B : Type 0} (view : R → RingView) (buffer : B → Buffer) (d new :
   names = sym (named-holding my.fit.operation.request my.fit.operation.buffer (plain_request buffer s.request) my.fit.request)
       ∙ named-mapped buffer (λ parts. parts) s.request
 
-  -- A poll of an operation that was reaped.
-  pub stands-takes : (tells steady : Bool) → IsTrue steady → (r : Outcome) → s.life ≡ Completed r →
-      new.slots.values ≡ remove d.slots.values key → new.holding ≡ ops_left d.holding (named s.request) →
-      length (unheld_by d.holding.table (named s.request)) ≤ room_in d →
-      ((h : ℕ) → has_number h (unheld_by d.holding.table (named s.request)) ≡ true → h < MOST_HANDLES) →
-      CanLeave d.holding.table (named s.request) →
-      PostsEach view tells steady d.ring new.ring (map close_entry (unheld_by d.holding.table (named s.request))) →
-      Answers view buffer L (Poll s.serial task) (Handed r (held_of (plain_request buffer s.request))) new
-  unfolding my names
-  stands-takes tells steady always r life slots holding room below may posts =
-      let o = my.fit.operation in
-      let w = take-reaped o.place o.task r my.fit.live (sym my.life ∙ life) in
-      let M = leave L s.serial in
-      let us : List ℕ → List ℕ = λ hs. unheld_by d.holding.table hs in
-      let lawful = lawful-of old in
-      let freed = subst (λ x. Means buffer (pending_ring view d.ring) x (with_gone L s.serial)) (sym slots)
-      (means-freed buffer (pending_ring view d.ring) d.slots.values L key s (at_place Gone) o r (means-of old) there my.fit.there w refl) in
-      let left = parts-left view buffer tells steady new.slots.values d.ring new.ring d.holding L s.serial o always freed old.handles
-      my.fit.there my.fit.live lawful.known (live-left L s.serial o lawful my.fit.there (ap in_queue w))
-      (subst (λ hs. (h : ℕ) → has_number h (us hs) ≡ true → h < MOST_HANDLES) (sym names) below)
-      (subst (λ hs. length (us hs) ≤ room_in d) (sym names) room) (fits-of view d old)
-      (subst (λ hs. PostsEach view tells steady d.ring new.ring (map close_entry (us hs))) (sym names) posts) in
-      answers-parts view buffer d new L M (Poll s.serial task) (Handed r (held_of (plain_request buffer s.request))) old
-      (step-poll-reaped L s.serial task o my.fit.there my.owned r w ∙ ap (λ x. (M, Handed r x)) (sym my.fit.request.holds))
-      left.capacity left.means
-      (given ∙ old.operations.numbered ∙ sym (left.count ∙ length-amended (at_place Gone) L.ops s.serial))
-      (subst (λ x. HandlesStand x M) (ap (ops_left d.holding) names ∙ sym holding) left.handles)
-      (let a = where-less is_owned (at_place Gone) L.ops s.serial o my.fit.there my.owned refl in
-      let b = ap length left.owned in
-      let c = left.room in
-      let e = ap (λ hs. length (us hs)) names in
-      let f = len-left d.holding.table (named s.request) may in
-      let g = ap (λ x. len x.table.holders) holding in
-      let r = old.room in
-      omega (arith, a, b, c, e, f, g, r))
-      left.fits
+  -- What the operation of a completed slot made is seen: it is what its outcome says.
+  made-reaped : (r : Outcome) → s.life ≡ Completed r → (made_life (life_at my.fit.operation) ≡ made_by r)
+      × (my.fit.operation.made ≡ made_by r)
+  unfolding my
+  made-reaped r life =
+      let o = my.fit.operation in (
+        ap made_life (sym my.fit.life ∙ life),
+        (alone-of old).agrees s.serial o my.fit.there my.fit.live
+            ∙ ap made_at (take-reaped o.place o.task r my.fit.live (sym my.life ∙ life)),
+      )
+
+  -- A poll of an operation that was reaped, by what it made.
+  module _ (tells steady : Bool) (r : Outcome) (life : s.life ≡ Completed r) (slots : new.slots.values ≡ remove d.slots.values key)
+      (parts : TakesParts view tells steady d new (handed_if d.holding (made_by r)) (named s.request)) where
+    abbrev us : Option ℕ → List ℕ
+    us made = unheld_by (handed_if d.holding made).table (named s.request)
+
+    abbrev o : Operation
+    o = my.fit.operation
+
+    reaped : my.fit.operation.place ≡ Reaped r
+    unfolding my
+    reaped = take-reaped my.fit.operation.place my.fit.operation.task r my.fit.live (sym my.life ∙ life)
+
+    freed : (H : Ledger) → Means buffer (pending_ring view d.ring) d.slots.values H → slice_get H.ops s.serial ≡ Some my.fit.operation →
+        Means buffer (pending_ring view d.ring) new.slots.values (with_gone H s.serial)
+    freed H means at = subst (λ x. Means buffer (pending_ring view d.ring) x (with_gone H s.serial)) (sym slots)
+        (means-freed buffer (pending_ring view d.ring) d.slots.values H key s (at_place Gone) my.fit.operation r means there at reaped refl)
+
+    owned-less : length (numbers_where is_owned 0 (with_gone L s.serial).ops) + 1 ≡ length (numbers_where is_owned 0 L.ops)
+    unfolding my
+    owned-less = where-less is_owned (at_place Gone) L.ops s.serial my.fit.operation my.fit.there my.owned refl
+
+    places-less : places (handed_if d.holding (made_by r)) ≡ places d.holding →
+        places new.holding + length (us (made_by r)) ≤ places d.holding
+    places-less same =
+        let a = len-left (handed_if d.holding (made_by r)).table (named s.request) parts.may in
+        let b = ap (λ x. places x) parts.holding in
+        omega (arith, a, b, same)
+
+    departs : (made : Option ℕ) → made_by r ≡ made → places (handed_if d.holding (made_by r)) ≡ places d.holding →
+        Departs view buffer tells steady d new L (handed_over L made) s.serial (us (made_by r))
+    unfolding my names reaped
+    departs None is same =
+        let o = my.fit.operation in
+        let lawful = lawful-of old in
+        let none : made_life (life_at o) ≡ None = (made-reaped r life).0 ∙ is in
+        let seen-is : seen o ≡ named s.request =
+        ap (λ m. with_made m (named o.request)) none ∙ names in
+        let holding : new.holding ≡ ops_left d.holding (seen o) =
+        parts.holding ∙ ap (λ m. ops_left (handed_if d.holding m) (named s.request)) is ∙ ap (ops_left d.holding) (sym seen-is) in
+        let distinct = seen-distinct d.holding.table L s.serial o old.handles.holders my.fit.there my.fit.live lawful.known
+        (alone-of old) in
+        record {
+          means = freed L (means-of old) my.fit.there;
+          closing = old.handles.closing;
+          stand = subst (λ t. HoldersStand t (with_gone L s.serial)) (sym (ap (λ x. x.table) holding))
+              (holders-stand-left d.holding.table L s.serial o old.handles.holders my.fit.there my.fit.live distinct);
+          became = ap us is ∙ ap (unheld_by d.holding.table) (sym seen-is)
+              ∙ unheld-became d.holding.table L s.serial o old.handles.holders my.fit.there my.fit.live lawful.known (alone-of old)
+              ((made-reaped r life).0 ∙ sym (made-reaped r life).1);
+          closed = ap (λ x. x.closing) parts.holding
+              ∙ ap (λ m. with_added (handed_if d.holding m).closing (us (made_by r))) is;
+          early = early-left L s.serial o lawful my.fit.there (ap in_queue reaped);
+          live = live-left L s.serial o lawful my.fit.there (ap in_queue reaped);
+          below = parts.below;
+          room = parts.room;
+          posts = parts.posts;
+          owned = owned-less;
+          count = length-amended (at_place Gone) L.ops s.serial;
+          world = refl;
+          places = places-less same;
+        }
+    departs (Some h) is same =
+        let o = my.fit.operation in
+        let H : Ledger = with_user L h true in
+        let lawful = lawful-of old in
+        let made : o.made ≡ Some h = (made-reaped r life).1 ∙ is in
+        let all : made_life (life_at o) ≡ o.made = (made-reaped r life).0 ∙ sym (made-reaped r life).1 in
+        let holding : new.holding ≡ ops_left (made_handed d.holding h) (named o.request) =
+        parts.holding ∙ ap (λ m. ops_left (handed_if d.holding m) (named s.request)) is
+        ∙ ap (ops_left (made_handed d.holding h)) (sym names) in
+        record {
+          means = freed H (means-world buffer (whole_ring view d) d.slots.values L (whole_ring view d).world L.world H.owners
+              old.ring.world (means-of old)) my.fit.there;
+          closing = old.handles.closing;
+          stand = subst (λ t. HoldersStand t (with_gone H s.serial)) (sym (ap (λ x. x.table) holding))
+              (holders-stand-handed d.holding.table L s.serial o old.handles.holders my.fit.there my.fit.live lawful.known (alone-of old)
+              h made all);
+          became = ap us is ∙ ap (unheld_by (made_handed d.holding h).table) (sym names)
+              ∙ unheld-handed d.holding.table L s.serial o old.handles.holders my.fit.there my.fit.live lawful.known (alone-of old)
+              h made all;
+          closed = ap (λ x. x.closing) parts.holding
+              ∙ ap (λ m. with_added (handed_if d.holding m).closing (us (made_by r))) is;
+          early = early-left L s.serial o lawful my.fit.there (ap in_queue reaped);
+          live = live-left L s.serial o lawful my.fit.there (ap in_queue reaped);
+          below = parts.below;
+          room = parts.room;
+          posts = parts.posts;
+          owned = owned-less;
+          count = length-amended (at_place Gone) L.ops s.serial;
+          world = refl;
+          places = places-less same;
+        }
+
+    -- It answers what the machine does.
+    pub stands-takes : IsTrue steady → LeavesGroup d new (record { number = s.serial; key = key }) →
+        places (handed_if d.holding (made_by r)) ≡ places d.holding →
+        Answers view buffer L (Poll s.serial task) (Handed r (held_of (plain_request buffer s.request))) new
+    unfolding my reaped
+    stands-takes always leaves_it same =
+        let o = my.fit.operation in
+        let e = step-poll-reaped L s.serial task o my.fit.there my.owned r reaped
+        ∙ ap (λ x. (leave (handed_over L o.made) s.serial, Handed r x)) (sym my.fit.request.holds)
+        ∙ ap (λ m. (leave (handed_over L m) s.serial, Handed r (held_of (plain_request buffer s.request)))) (made-reaped r life).1 in
+        stands-departs view buffer tells steady d new L (handed_over L (made_by r)) s.serial (us (made_by r)) (Poll s.serial task)
+        (Handed r (held_of (plain_request buffer s.request))) always old (departs (made_by r) refl same) e given refl
+        (record { number = s.serial; key = key }) (slot-number d.slots.values key s there mine) leaves_it
 
   -- One whose slot is completed is.
   pub takes-reaped : (r : Outcome) → s.life ≡ Completed r → IsUnreaped L s.serial → ⊥
   unfolding my
   takes-reaped r life unreaped = subst (λ x. IsUnreapedPlace x) (take-reaped my.fit.operation.place my.fit.operation.task r my.fit.live
       (sym my.life ∙ life)) (subst (λ x. IsUnreapedOp x) my.fit.there unreaped)
-
--- What a poll that takes did to a driver's parts: the handles that the operation named were let go, and their closes posted.
-pub record TakesParts {R B : Type 0} (view : R → RingView) (tells steady : Bool) (d new : IoUringDriver R B) (handles : List ℕ)
-    : Type 0 where
-  pub holding : new.holding ≡ ops_left d.holding handles
-  pub room : length (unheld_by d.holding.table handles) ≤ room_in d
-  pub below : (h : ℕ) → has_number h (unheld_by d.holding.table handles) ≡ true → h < MOST_HANDLES
-  pub may : CanLeave d.holding.table handles
-  pub posts : PostsEach view tells steady d.ring new.ring (map close_entry (unheld_by d.holding.table handles))
 
 -- The answers of a poll, by what it did to the slot of its token.
 module _ {R B : Type 0} (view : R → RingView) (buffer : B → Buffer) (d new : IoUringDriver R B) (op : Op) (task : ℕ) (holds : Holds d op)
@@ -217,26 +313,30 @@ module _ {R B : Type 0} (view : R → RingView) (buffer : B → Buffer) (d new :
   has = held-slot d.slots.values op holds
 
   -- A poll that waits answers what the machine does.
-  pub poll-waits : new.ring ≡ d.ring → new.holding ≡ d.holding → PollsAt d.slots.values op.key task new.slots.values None →
+  pub poll-waits : new.ring ≡ d.ring → new.holding ≡ d.holding → new.members ≡ d.members →
+      PollsAt d.slots.values op.key task new.slots.values None →
       Answers view buffer L (Poll (number_of op) task) Pending new
-  poll-waits ring holding polls =
+  poll-waits ring holding members polls =
       let s = has.slot in
       let is = polls s has.there in
       subst (λ n. Answers view buffer L (Poll n task) Pending new) has.serial
-      (stands-waits view buffer d new L op.key task s old has.there has.owned given ring holding (waits-flies s.life is.0 has.owned) is.1)
+      (stands-waits view buffer d new L op.key task s old has.there has.owned given ring holding members
+      (poll-keeps d.slots.values op holds task new.slots.values polls) (waits-flies s.life is.0 has.owned) is.1)
 
   -- One that takes answers what the machine does.
-  takes : (tells steady : Bool) → IsTrue steady → (done : Done B) →
-      PollsAt d.slots.values op.key task new.slots.values (Some done) → TakesParts view tells steady d new (named done.request) →
+  takes : (tells steady : Bool) → IsTrue steady → LeavesGroup d new op → (done : Done B) →
+      PollsAt d.slots.values op.key task new.slots.values (Some done) →
+      TakesParts view tells steady d new (handed_by d.holding done) (named done.request) →
+      places (handed_by d.holding done) ≡ places d.holding →
       Answers view buffer L (Poll (number_of op) task) (Handed done.outcome (held_of (plain_request buffer done.request))) new
-  takes tells steady always done polls parts =
+  takes tells steady always leaves_it done polls parts same =
       let s = has.slot in
       let is = polls s has.there in
-      let own = subst (λ r. TakesParts view tells steady d new (named r)) is.1 parts in
+      let own = subst (λ r. TakesParts view tells steady d new (handed_by d.holding done) (named r)) is.1 parts in
       subst (λ r. Answers view buffer L (Poll (number_of op) task) (Handed done.outcome (held_of (plain_request buffer r))) new) (sym is.1)
       (subst (λ n. Answers view buffer L (Poll n task) (Handed done.outcome (held_of (plain_request buffer s.request))) new) has.serial
-      (stands-takes view buffer d new L op.key task s old has.there has.owned given tells steady always done.outcome is.0 is.2 own.holding
-      own.room own.below own.may own.posts))
+      (stands-takes view buffer d new L op.key task s old has.there has.owned given tells steady done.outcome is.0 is.2 own always
+      (subst (λ n. LeavesGroup d new (record { number = n; key = op.key })) (sym has.serial) leaves_it) same))
 
   -- What it takes is the operation's own request.
   owns : (done : Done B) → PollsAt d.slots.values op.key task new.slots.values (Some done) →
@@ -252,10 +352,13 @@ module _ {R B : Type 0} (view : R → RingView) (buffer : B → Buffer) (d new :
       }
 
   -- It hands out the operation's own request.
-  pub poll-takes : (tells steady : Bool) → IsTrue steady → (done : Done B) →
-      PollsAt d.slots.values op.key task new.slots.values (Some done) → TakesParts view tells steady d new (named done.request) →
+  pub poll-takes : (tells steady : Bool) → IsTrue steady → LeavesGroup d new op → (done : Done B) →
+      PollsAt d.slots.values op.key task new.slots.values (Some done) →
+      TakesParts view tells steady d new (handed_by d.holding done) (named done.request) →
+      places (handed_by d.holding done) ≡ places d.holding →
       PollsFor view buffer L op task new (Answer.Ready done)
-  poll-takes tells steady always done polls parts = (takes tells steady always done polls parts, owns done polls)
+  poll-takes tells steady always leaves_it done polls parts same =
+      (takes tells steady always leaves_it done polls parts same, owns done polls)
 
   -- A poll is pending exactly while the operation isn't reaped.
   pub pending-unreaped : (result : PollOp B) → PollsOp d new op task result → IsPending result ↔ IsUnreaped L (number_of op)

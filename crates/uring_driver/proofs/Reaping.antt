@@ -1,7 +1,7 @@
 -- What treating one completion does to a ring and slots that mean a ledger.
 use Rattle.std.proofs.Common.{◌≡◌, ◌≢◌, ℕ, suc, Bool, true, false, List, [], ◌∷◌, ◌++◌, flat_map, Option, Some, None, refl, sym, ◌∙◌, ap}
 use Rattle.std.proofs.Common.{subst}
-use Rattle.std.specs.Prelude.{slice_get, option_to_list}
+use Rattle.std.specs.Prelude.{slice_get, option_to_list, ◌&&◌}
 use Rattle.std.specs.Ordering.{nat_cmp}
 use Rattle.std.specs.FinMap.{FinMap, get, insert, remove}
 use Rattle.rent_buf.specs.Buffer.{Buffer}
@@ -12,13 +12,13 @@ use Rattle.ring_core.specs.declared.entry.Completion.{Completion}
 use Rattle.ring_core.specs.declared.request.Outcome.{Outcome}
 use Rattle.ring_core.specs.Ledger.{Ledger, Operation, Place, InQueue, InFlight, InDone, Gone, is_live, is_kept}
 use Rattle.ring_core.specs.Queue.{at_place, with_op, with_gone}
-use Rattle.ring_core.specs.Request.{named as handles_of, plain_request}
+use Rattle.ring_core.specs.Request.{named as handles_of, makes, plain_request}
 use Rattle.ring_core.specs.Turn.{reaped_place, with_reap, task_if}
 use Rattle.ring_core.proofs.Amended.{get-amended-same, get-amended-other}
-use Rattle.ring_core.proofs.Requests.{named-holding, named-mapped}
+use Rattle.ring_core.proofs.Requests.{named-holding, named-mapped, makes-holding, makes-mapped}
 use Rattle.driver_core.specs.declared.slot.Slot.{Slot}
-use Rattle.driver_core.specs.Slot.{with_life, is_flying, task_in, slots_completed, named_by, named_if, slots_if, slots_after}
-use Rattle.driver_core.specs.Holds.{if_dropped, dropped_in}
+use Rattle.driver_core.specs.Slot.{with_life, is_flying, flies_in, task_in, slots_completed, named_by, named_if, slots_if, slots_after}
+use Rattle.driver_core.specs.Holds.{if_dropped, dropped_in, is_maker, is_dropped, is_dropped_life}
 use Rattle.driver_core.specs.Slots.{SlotFor, SlotsStand, waiting, life_of, is_early}
 use Rattle.ring_core.specs.declared.entry.Target.TheVariants.{Slot as Keyed}
 use Rattle.ring_core.specs.Entry.{target}
@@ -44,6 +44,16 @@ waiting-flies (Some t) = refl
 done-flies : (b : Bool) (r : Outcome) (t : Option ℕ) → is_flying (life_of b (InDone r) t) ≡ true
 done-flies true r t = refl
 done-flies false r t = waiting-flies t
+
+-- A slot that waits wasn't dropped.
+kept-waiting : (t : Option ℕ) → is_dropped_life (waiting t) ≡ false
+kept-waiting None = refl
+kept-waiting (Some t) = refl
+
+-- The slot of an operation that is done was dropped exactly where the operation was.
+dropped-by : (b : Bool) (r : Outcome) (t : Option ℕ) → is_dropped_life (life_of b (InDone r) t) ≡ b
+dropped-by true r t = refl
+dropped-by false r t = kept-waiting t
 
 -- A slot that waits wakes its task.
 wakes : (t : Option ℕ) → option_to_list (task_in (waiting t)) ≡ option_to_list t
@@ -105,6 +115,9 @@ pub record Completes {B : Type 0} (buffer : B → Buffer) (v : RingView) (slots 
   pub there : slice_get L.ops c.serial ≡ Some operation
   pub done : operation.place ≡ InDone c.outcome
   pub named : Names (named_by (get slots c.word)) c.serial (task_if operation.dropped operation.task)
+  pub flies : flies_in (get slots c.word) ≡ true
+  pub maker : is_maker (get slots c.word) ≡ makes operation.request
+  pub drop : is_dropped (get slots c.word) ≡ operation.dropped
   pub kept : operation.dropped ≡ false → Means buffer (with_done v rest) (slots_after slots c (get slots c.word))
       (with_op (record L { done = flat_map done_items_of rest }) c.serial with_reap) × (dropped_in (get slots c.word) ≡ [])
   pub left : operation.dropped ≡ true → Means buffer (with_done v rest) (slots_after slots c (get slots c.word))
@@ -288,12 +301,21 @@ module _ {B : Type 0} (buffer : B → Buffer) (v : RingView) (slots : FinMap nat
   named-here : named_by (get slots c.word) ≡ Some (s.serial, task_in s.life)
   named-here = ap named_by slot-there ∙ ap (λ b. named_if b s) flies
 
+  maker-here : is_maker (get slots c.word) ≡ makes o.request
+  unfolding o mine
+  maker-here = ap is_maker slot-there ∙ ap (λ b. b && makes s.request) flies
+      ∙ sym (makes-mapped buffer (λ parts. parts) s.request)
+      ∙ makes-holding mine.operation.request mine.operation.buffer (plain_request buffer s.request) mine.request
+
   pub completes : Completes buffer v slots L c rest
   unfolding s
   completes = record {
     operation = o;
     there = which;
     done = stands-done;
+    flies = ap flies_in slot-there ∙ flies;
+    maker = maker-here;
+    drop = ap is_dropped slot-there ∙ ap is_dropped_life life-is ∙ dropped-by o.dropped c.outcome o.task;
     named = record {
       task = task_in s.life;
       is = named-here ∙ ap (λ n. Some (n, task_in s.life)) n-is;

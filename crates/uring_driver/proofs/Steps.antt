@@ -1,6 +1,6 @@
 -- What a step of the machine is, where the event isn't refused.
 use Rattle.std.proofs.Common.{◌≡◌, ◌<◌, ◌≤◌, ℕ, Bool, true, false, List, [], ◌∷◌, ◌++◌, length, Option, None, Some, refl, ◌∙◌, ap, arith}
-use Rattle.std.proofs.Common.{not, ◌||◌}
+use Rattle.std.proofs.Common.{not, ◌||◌, ◌&&◌, unwrap_or}
 use Rattle.std.specs.Prelude.{slice_get, nat_le}
 use Rattle.std.proofs.lemmas.Bool.Decides.{nat_tests}
 use Rattle.std.proofs.lemmas.Option.{slice_get_within}
@@ -12,23 +12,26 @@ use Rattle.ring_core.specs.declared.request.Outcome.{Outcome}
 use Rattle.ring_core.specs.declared.world.HandleKind.{HandleKind}
 use Rattle.ring_core.specs.declared.ledger.Event.{Event}
 use Rattle.ring_core.specs.declared.ledger.Event.TheVariants.{Give, Feed, End, Look, Close, Submit, Poll, Drop, Cancel as Asks, Turn, Exec}
-use Rattle.ring_core.specs.declared.ledger.Reply.TheVariants.{Handle, Fed, Ended, Output, Submitted, Pending, Handed, Dropped, Asked}
-use Rattle.ring_core.specs.declared.ledger.Reply.TheVariants.{Released}
+use Rattle.ring_core.specs.declared.ledger.Event.TheVariants.{FeedMessage, NewCanceller, NewHandle, CancelAll}
+use Rattle.ring_core.specs.declared.ledger.Reply.TheVariants.{Handle, Fed, Ended, Submitted, Pending, Handed, Dropped, Asked}
+use Rattle.ring_core.specs.declared.ledger.Reply.TheVariants.{Released, CanceledAtOnce, Canceller, CancelHandle, Cancels}
 use Rattle.ring_core.specs.declared.ledger.Refusal.{Refusal}
-use Rattle.ring_core.specs.declared.ledger.Refusal.TheVariants.{NoOp, NoHandle, Full, NotFlying, BadOutcome, BadHandleEvent}
+use Rattle.ring_core.specs.declared.ledger.Refusal.TheVariants.{NoOp, NoCanceller, NoHandle, Full, NotFlying, BadOutcome}
+use Rattle.ring_core.specs.declared.ledger.Refusal.TheVariants.{BadHandleEvent}
 use Rattle.ring_core.specs.Lists.{passes}
 use Rattle.ring_core.specs.Outcome.{is_allowed}
-use Rattle.ring_core.specs.Request.{named, call_of}
-use Rattle.ring_core.specs.World.{fresh, with_input, with_end, is_ended_at, output_at}
+use Rattle.ring_core.specs.Request.{named, held_of, call_of}
+use Rattle.ring_core.specs.World.{fresh, with_input, with_message, with_end, look_at, refuses_feed, refuses_message, refuses_end}
 use Rattle.ring_core.specs.Ledger.{Ledger, Operation, Place, InQueue, InFlight, InDone, Reaped, Gone, Cancel, Item, Op, is_owned}
-use Rattle.ring_core.specs.Ledger.{live_ops}
-use Rattle.ring_core.specs.Ledger.{user_holds, empty}
+use Rattle.ring_core.specs.Ledger.{live_ops, user_holds, empty, is_under_marked, group_under, members}
 use Rattle.ring_core.specs.Queue.{with_op, push, leave}
-use Rattle.ring_core.specs.Refusal.{cause, refused_if, lacks_handle, allowed}
+use Rattle.ring_core.specs.Refusal.{cause, refused_if, lacks_handle, allowed, has_no_canceller}
 use Rattle.ring_core.specs.declared.ledger.TheConstants.{MOST_LIVE}
 use Rattle.ring_core.specs.Turn.{turn_step, exec_step}
 use Rattle.ring_core.specs.Step.{step, answered, give_step, poll_at, poll_step, drop_at, drop_step, submit_step, with_handle, with_task}
-use Rattle.ring_core.specs.Step.{with_drop, close_step}
+use Rattle.ring_core.specs.Step.{handed_over, with_drop, close_step, submit_if, new_canceller_step, new_handle_step}
+use Rattle.ring_core.specs.Step.{cancel_all_step, look_reply}
+use Rattle.ring_core.proofs.Stepping.{step-row}
 use Rattle.ring_core.specs.Run.{after, ledger}
 
 -- One more event is one step more.
@@ -72,9 +75,9 @@ pub step-poll-waiting : (L : Ledger) (n task : ℕ) (o : Operation) → slice_ge
     is_waiting o.place ≡ true → step L (Poll n task) ≡ (with_op L n (with_task task), Pending)
 step-poll-waiting L n task o there owned h = step-poll L n task o there owned ∙ poll-waiting L n task o o.place h
 
--- A poll of a reaped operation hands over its outcome and buffer, and the operation leaves.
+-- A poll of a reaped operation hands over its outcome and buffer, with the handle that it made, and the operation leaves.
 pub step-poll-reaped : (L : Ledger) (n task : ℕ) (o : Operation) → slice_get L.ops n ≡ Some o → is_owned o ≡ true → (r : Outcome) →
-    o.place ≡ Reaped r → step L (Poll n task) ≡ (leave L n, Handed r o.buffer)
+    o.place ≡ Reaped r → step L (Poll n task) ≡ (leave (handed_over L o.made) n, Handed r o.buffer)
 step-poll-reaped L n task o there owned r h = step-poll L n task o there owned ∙ ap (poll_at L n task o) h
 
 -- A drop of an operation that its user holds goes by its place.
@@ -113,13 +116,58 @@ step-cancel L n o there owned =
     ap (λ x. answered (refused_if (not (passes is_owned x)) NoOp None) L (Asks n)) there
     ∙ ap (λ b. answered (refused_if (not b) NoOp None) L (Asks n)) owned
 
--- A request whose handles the user holds is submitted where there is room for one more.
-pub step-submit : (L : Ledger) (r : Request Buffer Parts) → lacks_handle L (named r) ≡ false →
-    nat_le MOST_LIVE (length (live_ops L)) ≡ false → step L (Submit r) ≡ (submit_step L r, Submitted (length L.ops))
+-- The test doesn't find a number at most another that is below it.
+pub below-test : (n k : ℕ) → k < n → nat_le n k ≡ false
+below-test n k h = grind (arith, nat_tests)
+
+-- What is refused of a submission: its cancel handle wasn't created, a handle that it names isn't its user's, or there are too many.
+abbrev submit-cause : Bool → Bool → Bool → Bool → Option Refusal
+submit-cause unknown lacks marked full =
+    refused_if unknown NoCanceller (refused_if lacks NoHandle (refused_if (not marked && full) Full None))
+
+module _ (L : Ledger) (r : Request Buffer Parts) (handle : Option ℕ) (here : has_no_canceller L (Submit r handle) ≡ false)
+    (user : lacks_handle L (named r) ≡ false) where
+  abbrev full : Bool
+  full = nat_le MOST_LIVE (length (live_ops L))
+
+  -- A submission of handles that the user holds, under a cancel handle that was created or under none, is refused only where there are too
+  -- many operations, and it isn't under a marked group.
+  submit-unrefused : (marked : Bool) → is_under_marked L handle ≡ marked →
+      cause L (Submit r handle) ≡ refused_if (not marked && full) Full None
+  submit-unrefused marked is =
+      ap (λ b. submit-cause b (lacks_handle L (named r)) (is_under_marked L handle) full) here
+      ∙ ap (λ b. submit-cause false b (is_under_marked L handle) full) user ∙ ap (λ b. submit-cause false false b full) is
+
+  -- It is submitted where there is room for one more, and its group isn't marked.
+  pub step-submit : is_under_marked L handle ≡ false → full ≡ false →
+      step L (Submit r handle) ≡ (submit_step L r (group_under L handle), Submitted (length L.ops))
+  step-submit unmarked room =
+      step-row L (Submit r handle) (submit-unrefused false unmarked ∙ ap (λ b. refused_if b Full None) room)
+      ∙ ap (λ b. submit_if b L r (group_under L handle)) unmarked
+
+  -- Under a marked group nothing is submitted.
+  pub step-canceled : is_under_marked L handle ≡ true → step L (Submit r handle) ≡ (L, CanceledAtOnce (held_of r))
+  step-canceled marked =
+      step-row L (Submit r handle) (submit-unrefused true marked) ∙ ap (λ b. submit_if b L r (group_under L handle)) marked
+
+-- A new canceller is never refused.
+pub step-canceller : (L : Ledger) → step L NewCanceller ≡ (new_canceller_step L, Canceller (length L.cancellers))
 unfolding step
-step-submit L r user room =
-    ap (λ b. answered (refused_if b NoHandle (refused_if (nat_le MOST_LIVE (length (live_ops L))) Full None)) L (Submit r)) user
-    ∙ ap (λ b. answered (refused_if b Full None) L (Submit r)) room
+step-canceller L = refl
+
+-- A cancel handle of a canceller that was created is created.
+pub step-handle : (L : Ledger) (c g : ℕ) → slice_get L.cancellers c ≡ Some g →
+    step L (NewHandle c) ≡ (new_handle_step L c, CancelHandle (length L.cancel_handles))
+step-handle L c g there = step-row L (NewHandle c)
+    (ap (λ b. refused_if b NoCanceller None) (below-test (length L.cancellers) c (slice_get_within L.cancellers c g there)))
+
+-- The group of a canceller that was created is canceled.
+pub step-cancel_all : (L : Ledger) (c g : ℕ) → slice_get L.cancellers c ≡ Some g →
+    step L (CancelAll c) ≡ (cancel_all_step L c g, Cancels (members L g))
+step-cancel_all L c g there =
+    step-row L (CancelAll c)
+    (ap (λ b. refused_if b NoCanceller None) (below-test (length L.cancellers) c (slice_get_within L.cancellers c g there)))
+    ∙ ap (λ k. (cancel_all_step L c k, Cancels (members L k))) (ap (λ x. unwrap_or x 0) there)
 
 -- A turn is never refused.
 pub step-turn : (L : Ledger) → step L Turn ≡ turn_step L
@@ -131,34 +179,50 @@ pub step-give : (L : Ledger) (kind : HandleKind) → step L (Give kind) ≡ (giv
 unfolding step
 step-give L kind = refl
 
--- What arrives at a handle, as bytes or as their end, is refused exactly where its end is marked.
+-- What arrives at a handle, as bytes, as a message or as their end, is refused exactly where the handle doesn't take it.
 abbrev arrival-cause : Bool → Bool → Option Refusal
-arrival-cause user ended = refused_if (not user || false) NoHandle (refused_if ended BadHandleEvent None)
+arrival-cause user refuses = refused_if (not user || false) NoHandle (refused_if refuses BadHandleEvent None)
 
--- Bytes for a handle that the user holds are refused exactly where its end is marked.
-pub cause-feed : (L : Ledger) (h : ℕ) (bytes : List ℕ) (ended : Bool) → user_holds L h ≡ true → is_ended_at L.world h ≡ ended →
-    cause L (Feed h bytes) ≡ refused_if ended BadHandleEvent None
-cause-feed L h bytes ended user at = ap (λ b. arrival-cause b (is_ended_at L.world h)) user ∙ ap (λ b. refused_if b BadHandleEvent None) at
+-- Bytes for a handle that the user holds are refused exactly where it takes none.
+pub cause-feed : (L : Ledger) (h : ℕ) (bytes : List ℕ) (refuses : Bool) → user_holds L h ≡ true →
+    passes refuses_feed (slice_get L.world h) ≡ refuses → cause L (Feed h bytes) ≡ refused_if refuses BadHandleEvent None
+cause-feed L h bytes refuses user at =
+    ap (λ b. arrival-cause b (passes refuses_feed (slice_get L.world h))) user ∙ ap (λ b. refused_if b BadHandleEvent None) at
 
--- The end of a handle that the user holds is refused exactly where it is marked.
-pub cause-end : (L : Ledger) (h : ℕ) (ended : Bool) → user_holds L h ≡ true → is_ended_at L.world h ≡ ended →
-    cause L (End h) ≡ refused_if ended BadHandleEvent None
-cause-end L h ended user at = ap (λ b. arrival-cause b (is_ended_at L.world h)) user ∙ ap (λ b. refused_if b BadHandleEvent None) at
+-- A message for a handle that the user holds is refused exactly where it takes none.
+pub cause-message : (L : Ledger) (h addr : ℕ) (bytes : List ℕ) (refuses : Bool) → user_holds L h ≡ true →
+    passes refuses_message (slice_get L.world h) ≡ refuses → cause L (FeedMessage h addr bytes) ≡ refused_if refuses BadHandleEvent None
+cause-message L h addr bytes refuses user at =
+    ap (λ b. arrival-cause b (passes refuses_message (slice_get L.world h))) user ∙ ap (λ b. refused_if b BadHandleEvent None) at
 
--- Bytes for a handle whose end isn't marked join its input.
-pub step-feed : (L : Ledger) (h : ℕ) (bytes : List ℕ) → user_holds L h ≡ true → is_ended_at L.world h ≡ false →
+-- The end of a handle that the user holds is refused exactly where it takes none.
+pub cause-end : (L : Ledger) (h : ℕ) (refuses : Bool) → user_holds L h ≡ true → passes refuses_end (slice_get L.world h) ≡ refuses →
+    cause L (End h) ≡ refused_if refuses BadHandleEvent None
+cause-end L h refuses user at =
+    ap (λ b. arrival-cause b (passes refuses_end (slice_get L.world h))) user ∙ ap (λ b. refused_if b BadHandleEvent None) at
+
+-- Bytes for a handle that takes them join its input.
+pub step-feed : (L : Ledger) (h : ℕ) (bytes : List ℕ) → user_holds L h ≡ true → passes refuses_feed (slice_get L.world h) ≡ false →
     step L (Feed h bytes) ≡ (with_handle L h (with_input bytes), Fed)
 unfolding step
-step-feed L h bytes user live = ap (λ why. answered why L (Feed h bytes)) (cause-feed L h bytes false user live)
+step-feed L h bytes user takes = ap (λ why. answered why L (Feed h bytes)) (cause-feed L h bytes false user takes)
 
--- The end of a handle is marked where it isn't.
-pub step-end : (L : Ledger) (h : ℕ) → user_holds L h ≡ true → is_ended_at L.world h ≡ false →
+-- A message for a handle that takes it joins those that wait.
+pub step-message : (L : Ledger) (h addr : ℕ) (bytes : List ℕ) → user_holds L h ≡ true →
+    passes refuses_message (slice_get L.world h) ≡ false →
+    step L (FeedMessage h addr bytes) ≡ (with_handle L h (with_message addr bytes), Fed)
+unfolding step
+step-message L h addr bytes user takes =
+    ap (λ why. answered why L (FeedMessage h addr bytes)) (cause-message L h addr bytes false user takes)
+
+-- The end of a handle is marked where the handle takes it.
+pub step-end : (L : Ledger) (h : ℕ) → user_holds L h ≡ true → passes refuses_end (slice_get L.world h) ≡ false →
     step L (End h) ≡ (with_handle L h with_end, Ended)
 unfolding step
-step-end L h user live = ap (λ why. answered why L (End h)) (cause-end L h false user live)
+step-end L h user takes = ap (λ why. answered why L (End h)) (cause-end L h false user takes)
 
--- A look at a handle that the user holds answers its output and changes nothing.
-pub step-look : (L : Ledger) (h : ℕ) → user_holds L h ≡ true → step L (Look h) ≡ (L, Output (output_at L.world h))
+-- A look at a handle that the user holds answers what it shows and changes nothing.
+pub step-look : (L : Ledger) (h : ℕ) → user_holds L h ≡ true → step L (Look h) ≡ (L, look_reply (look_at L.world h))
 unfolding step
 step-look L h user = ap (λ b. answered (refused_if (not b || false) NoHandle None) L (Look h)) user
 
@@ -166,10 +230,6 @@ step-look L h user = ap (λ b. answered (refused_if (not b || false) NoHandle No
 pub step-close : (L : Ledger) (h : ℕ) → user_holds L h ≡ true → step L (Close h) ≡ (close_step L h, Released)
 unfolding step
 step-close L h user = ap (λ b. answered (refused_if (not b || false) NoHandle None) L (Close h)) user
-
--- The test doesn't find a number at most another that is below it.
-pub below-test : (n k : ℕ) → k < n → nat_le n k ≡ false
-below-test n k h = grind (arith, nat_tests)
 
 -- The test finds a number that is at most another at most it.
 pub past-test : (n k : ℕ) → n ≤ k → nat_le n k ≡ true

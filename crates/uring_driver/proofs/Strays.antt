@@ -9,24 +9,39 @@ use Rattle.ring_core.specs.declared.entry.Target.TheVariants.{Slot as Keyed, Han
 use Rattle.ring_core.specs.Entry.{target}
 use Rattle.driver_core.specs.declared.slot.Slot.{Slot}
 use Rattle.driver_core.specs.Slot.{is_flying, flies_in, named_by, named_if}
+use Rattle.driver_core.specs.Holds.{is_maker}
+use Rattle.ring_core.specs.Effect.{made_by}
+use Rattle.std.specs.Prelude.{not, ◌||◌}
 use Rattle.uring_driver.specs.Holding.{Holding, closes}
-use Rattle.uring_driver.specs.Reap.{IsStrayFor, IsStray, Treated, treats_slot, treats_close, treat_one, behind, goes_on, treat_each}
-
--- A slot that names nobody isn't in flight.
-unnamed-flies : {B : Type 0} (x : Option (Slot B)) → named_by x ≡ None → flies_in x ≡ false
-unnamed-flies None h = refl
-unnamed-flies (Some s) h = by_flight (is_flying s.life) h
-  where
-    by_flight : (b : Bool) → named_if b s ≡ None → b ≡ false
-    by_flight true e = (let f : ⊥ = cc in absurd f)
-    by_flight false e = refl
+use Rattle.uring_driver.specs.Making.{refuses_made}
+use Rattle.uring_driver.specs.Reap.{IsStrayFor, HasStray, Treated, is_refused, named_unless, names_in, treats_slot}
+use Rattle.uring_driver.specs.Reap.{treats_close, treat_one, behind, goes_on, treat_each}
 
 module _ {B : Type 0} (slots : FinMap nat_cmp (Slot B)) (holding : Holding) (c : Completion) where
-  -- A completion that is stray changed nothing, and its word names no slot in flight and no handle that is closing.
-  slot-stray : (who : Option (ℕ × Option ℕ)) (word : ℕ) → named_by (get slots c.word) ≡ who →
-      (treats_slot who slots holding c).bad ≡ Some word → (c.word ≡ word) × (flies_in (get slots c.word) ≡ false)
+  -- A slot that names nobody isn't in flight, so its completion is refused.
+  unnamed-refused : (x : Option (Slot B)) → names_in holding c.outcome x ≡ None → is_refused holding c.outcome x ≡ true
+  unnamed-refused x none = by (is_refused holding c.outcome x) refl none
+    where
+      unflown : (y : Option (Slot B)) → named_by y ≡ None → flies_in y ≡ false
+      unflown None h = refl
+      unflown (Some s) h = by_flight (is_flying s.life) h
+        where
+          by_flight : (b : Bool) → named_if b s ≡ None → b ≡ false
+          by_flight true e = (let f : ⊥ = cc in absurd f)
+          by_flight false e = refl
+
+      by : (b : Bool) → is_refused holding c.outcome x ≡ b → named_unless b (named_by x) ≡ None → b ≡ true
+      by true is h = refl
+      by false is h =
+          let q : ◌≡◌ {A = Bool} true false =
+          sym (ap (λ f. not f || refuses_made holding (is_maker x) (made_by c.outcome)) (unflown x h)) ∙ is in
+          (let f : ⊥ = cc in absurd f)
+
+  -- A completion that is stray changed nothing, and is refused by the slot that its word names, or names no handle that is closing.
+  slot-stray : (who : Option (ℕ × Option ℕ)) (word : ℕ) → names_in holding c.outcome (get slots c.word) ≡ who →
+      (treats_slot who slots holding c).bad ≡ Some word → (c.word ≡ word) × (is_refused holding c.outcome (get slots c.word) ≡ true)
       × ((treats_slot who slots holding c).slots ≡ slots) × ((treats_slot who slots holding c).holding ≡ holding)
-  slot-stray None word none bad = (cc, unnamed-flies (get slots c.word) none, refl, refl)
+  slot-stray None word none bad = (cc, unnamed-refused (get slots c.word) none, refl, refl)
   slot-stray (Some who) word some bad = (let f : ⊥ = cc in absurd f)
 
   close-stray : (b : Bool) (h word : ℕ) → closes holding h ≡ b → (treats_close b slots holding c.word h).bad ≡ Some word →
@@ -36,29 +51,29 @@ module _ {B : Type 0} (slots : FinMap nat_cmp (Slot B)) (holding : Holding) (c :
   close-stray false h word is bad = (cc, is, refl, refl)
 
   one-stray : (t : Target) (word : ℕ) → target c.word ≡ t → (treat_one t slots holding c).bad ≡ Some word →
-      IsStray (treat_one t slots holding c).slots (treat_one t slots holding c).holding word
+      HasStray (treat_one t slots holding c).slots (treat_one t slots holding c).holding word
   one-stray (Keyed key) word is bad =
-      let s = slot-stray (named_by (get slots c.word)) word refl bad in
-      subst (λ m. IsStray m (treat_one (Keyed key) slots holding c).holding word) (sym s.2)
-      (subst (λ h. IsStray slots h word) (sym s.3)
-      (subst (λ w. IsStray slots holding w) s.0 (subst (λ t. IsStrayFor slots holding c.word t) (sym is) s.1)))
+      let s = slot-stray (names_in holding c.outcome (get slots c.word)) word refl bad in
+      subst (λ m. HasStray m (treat_one (Keyed key) slots holding c).holding word) (sym s.2)
+      (subst (λ h. HasStray slots h word) (sym s.3)
+      (record { completion = c; words = s.0; stray = subst (λ t. IsStrayFor slots holding c t) (sym is) s.1 }))
   one-stray (Handle h) word is bad =
       let s = close-stray (closes holding h) h word refl bad in
-      subst (λ m. IsStray m (treat_one (Handle h) slots holding c).holding word) (sym s.2)
-      (subst (λ k. IsStray slots k word) (sym s.3)
-      (subst (λ w. IsStray slots holding w) s.0 (subst (λ t. IsStrayFor slots holding c.word t) (sym is) s.1)))
+      subst (λ m. HasStray m (treat_one (Handle h) slots holding c).holding word) (sym s.2)
+      (subst (λ k. HasStray slots k word) (sym s.3)
+      (record { completion = c; words = s.0; stray = subst (λ t. IsStrayFor slots holding c t) (sym is) s.1 }))
   one-stray (Reserved w) word is bad = (let f : ⊥ = cc in absurd f)
 
 -- The first completion is stray, or one of the rest is.
 stray-first : {B : Type 0} (one rest : Treated B) (xs : List Completion) (word : ℕ) (b : Option ℕ) → one.bad ≡ b →
-    (one.bad ≡ Some word → IsStray one.slots one.holding word) → (rest.bad ≡ Some word → IsStray rest.slots rest.holding word) →
-    (goes_on b one xs rest).bad ≡ Some word → IsStray (goes_on b one xs rest).slots (goes_on b one xs rest).holding word
+    (one.bad ≡ Some word → HasStray one.slots one.holding word) → (rest.bad ≡ Some word → HasStray rest.slots rest.holding word) →
+    (goes_on b one xs rest).bad ≡ Some word → HasStray (goes_on b one xs rest).slots (goes_on b one xs rest).holding word
 stray-first one rest xs word None is first more bad = more bad
 stray-first one rest xs word (Some w) is first more bad = first bad
 
 -- The word of the completion at which treating ends is stray.
 pub treats-stray : {B : Type 0} (slots : FinMap nat_cmp (Slot B)) (holding : Holding) (cs : List Completion) (word : ℕ) →
-    (treat_each slots holding cs).bad ≡ Some word → IsStray (treat_each slots holding cs).slots (treat_each slots holding cs).holding word
+    (treat_each slots holding cs).bad ≡ Some word → HasStray (treat_each slots holding cs).slots (treat_each slots holding cs).holding word
 treats-stray slots holding [] word bad = (let f : ⊥ = cc in absurd f)
 treats-stray slots holding (c ∷ cs) word bad =
     let one = treat_one (target c.word) slots holding c in

@@ -1,6 +1,7 @@
 -- What a submission answers, of a driver that stands for a ledger.
-use Rattle.std.proofs.Common.{◌≡◌, ℕ, suc, ◌+◌, ◌<◌, ◌≤◌, Bool, true, false, List, []}
-use Rattle.std.proofs.Common.{◌∷◌, ◌++◌, length, Some, None, refl, sym, ◌∙◌, ap, subst, arith, length-append}
+use Rattle.std.proofs.Common.{◌≡◌, inl, inr, ℕ, suc, ◌+◌, ◌<◌, ◌≤◌, Bool, true, false, List, []}
+use Rattle.std.proofs.Common.{◌∷◌, ◌++◌, length, Option, Some, None, IfSome, refl, sym, ◌∙◌, ap, subst, arith}
+use Rattle.std.proofs.Common.{length-append}
 use Rattle.std.specs.Prelude.{slice_get, nat_le, IsTrue, ◌==◌, if◌then◌else◌}
 use Rattle.std.specs.Ordering.{nat_cmp}
 use Rattle.std.specs.FinMap.{FinMap, get, insert, len}
@@ -11,40 +12,54 @@ use Rattle.rent_buf.specs.Parts.{Parts}
 use Rattle.op_slots.specs.declared.slab.TheConstants.{MAX_LIVE}
 use Rattle.op_slots.specs.declared.lifecycle.Lifecycle.TheVariants.{Submitted as Fresh}
 use Rattle.ring_core.specs.Ring.{RingView, pushed}
-use Rattle.ring_core.specs.Request.{named, call_of, plain_request}
+use Rattle.ring_core.specs.Ranks.{one_if}
+use Rattle.ring_core.specs.Request.{named, makes, call_of, held_of, plain_request}
 use Rattle.ring_core.specs.declared.request.Request.{Request}
 use Rattle.ring_core.proofs.Requests.{named-mapped}
 use Rattle.ring_core.specs.declared.entry.Body.TheVariants.{Call as Calls}
 use Rattle.ring_core.specs.declared.entry.Entry.{Entry}
 use Rattle.ring_core.specs.declared.ledger.Event.TheVariants.{Submit}
-use Rattle.ring_core.specs.declared.ledger.Reply.TheVariants.{Submitted}
-use Rattle.ring_core.specs.Lists.{numbers_where}
+use Rattle.ring_core.specs.declared.ledger.Reply.TheVariants.{Submitted, CanceledAtOnce}
+use Rattle.ring_core.specs.Lists.{numbers_where, passes}
 use Rattle.ring_core.specs.Ledger.{Ledger, Queued, Req, Cancel, Operation, InFlight, is_live, is_owned, live_ops, new_operation}
+use Rattle.ring_core.specs.Ledger.{is_marked, is_under_marked, group_under}
+use Rattle.ring_core.specs.Refusal.{has_no_canceller}
 use Rattle.ring_core.specs.Queue.{take_one, take_each, take_all, make_room, append, push, at_place, with_cancel}
 use Rattle.ring_core.specs.declared.ledger.TheConstants.{MOST_LIVE}
-use Rattle.ring_core.specs.Step.{submit_step, with_new_op}
+use Rattle.ring_core.specs.Step.{step, submit_step, with_new_op}
+use Rattle.ring_core.proofs.Grouping.{op_groups, groups-submit}
+use Rattle.ring_core.proofs.Staying.{groups_of, stays-make_room}
 use Rattle.ring_core.specs.Run.{ledger}
 use Rattle.driver_core.specs.declared.op.SubmitFault.{SubmitFault}
 use Rattle.driver_core.specs.declared.op.SubmitFault.TheVariants.{Full, RingFault, Busy, OutOfMemory}
 use Rattle.driver_core.specs.declared.slot.Slot.{Slot}
 use Rattle.uring_driver.specs.declared.uring.IoUringDriver.{IoUringDriver}
 use Rattle.uring_driver.specs.Uring.{ring_in, room_in, whole_ring, holds_all}
-use Rattle.uring_driver.specs.Holding.{HandlesStand}
-use Rattle.driver_core.specs.Holds.{with_ops, CanJoin}
-use Rattle.driver_core.proofs.Holds.{len-joined}
+use Rattle.uring_driver.specs.Holding.{Holding, places, IsSameHolding, HandlesStand}
+use Rattle.uring_driver.specs.Making.{KeepsHolding, op_joined}
+use Rattle.driver_core.specs.Holds.{CanJoin}
 use Rattle.driver_core.specs.declared.op.Op.{Op}
+use Rattle.driver_core.specs.Answers.{IsUnder}
+use Rattle.driver_core.specs.Groups.{GroupsStand, is_under_canceled, joins_if}
+use Rattle.driver_core.specs.Members.{Membership, moves}
+use Rattle.driver_core.specs.Op.{AddsToken}
 use Rattle.driver_core.specs.Ops.{Ops}
+use Rattle.driver_core.specs.Slot.{number_at}
+use Rattle.driver_core.proofs.Grouping.{groups-joined, stands-marked}
+use Rattle.driver_core.proofs.Placing.{moved-joined}
+use Rattle.uring_driver.specs.Op.{ops_in}
 use Rattle.driver_core.specs.Operations.{Submits, new_slot}
 use Rattle.uring_driver.specs.Submissions.{with_spare, room_made}
 use Rattle.uring_driver.specs.Stands.{Stands, Answers}
-use Rattle.uring_driver.specs.Submitted.{IsSameRing, WhyRefused, Unprepared}
+use Rattle.uring_driver.specs.Submitted.{IsSameRing, WhyRefused, CannotSubmit}
 use Rattle.ring_core.proofs.Amended.{amended-append, amended-append-fixed}
 use Rattle.driver_core.proofs.Counts.{where-more, where-within, owned-lives}
 use Rattle.uring_driver.proofs.Means.{Means, means-of, ring-of}
 use Rattle.uring_driver.proofs.Entering.{room-capacity}
-use Rattle.uring_driver.proofs.Holders.{lacks-none, req-queued, means-live, handles-joined}
+use Rattle.uring_driver.proofs.Holders.{lacks-none, req-queued, means-early, handles-room, handles-joined}
+use Rattle.uring_driver.proofs.Joining.{keeps-same, places-joined}
 use Rattle.uring_driver.proofs.Starting.{stands-same}
-use Rattle.uring_driver.proofs.Steps.{reached-more, step-submit}
+use Rattle.uring_driver.proofs.Steps.{reached-more, step-submit, step-canceled, below-test}
 use Rattle.uring_driver.proofs.Submitting.{means-pushed}
 use Rattle.uring_driver.proofs.Heads.{means-view}
 use Rattle.uring_driver.proofs.Taking.{means-room, owned-room}
@@ -109,93 +124,140 @@ all-known count (Queued.Close k ∷ qs) h = (tt, all-known count qs (λ i m g. h
 is-room : (n : ℕ) → n < MAX_LIVE → nat_le MOST_LIVE n ≡ false
 is-room n h = grind (arith, nat_tests)
 
+-- The group of the cancel handle that the machine submits under is the one that the driver submits under.
+under-group : (L : Ledger) (under handle : Option ℕ) → IsUnder L under handle → group_under L handle ≡ under
+under-group L None handle is = ap (group_under L) is
+under-group L (Some g) handle is = is
+
+-- That cancel handle was created.
+under-known : (L : Ledger) (r : Request Buffer Parts) (under handle : Option ℕ) → IsUnder L under handle →
+    has_no_canceller L (Submit r handle) ≡ false
+under-known L r under None is = refl
+under-known L r None (Some k) is = (let f : ⊥ = cc in absurd f)
+under-known L r (Some g) (Some k) is = below-test (length L.cancel_handles) k (slice_get_within L.cancel_handles k g is)
+
+-- Its group is marked exactly where the driver's is canceled.
+under-marked : (m : Membership) (L : Ledger) (under handle : Option ℕ) → GroupsStand m L → IsUnder L under handle →
+    IfSome under (λ g. g < length m.groups) → is_under_marked L handle ≡ is_under_canceled m under
+under-marked m L None handle stand is within = ap (λ g. passes (is_marked L) g) (ap (group_under L) is)
+under-marked m L (Some g) handle stand is within = ap (λ x. passes (is_marked L) x) is ∙ stands-marked m L stand g within
+
 module _ {R B : Type 0} (view : R → RingView) (buffer : B → Buffer) where
+  -- Under a canceled group the driver stays, and the machine's reply is what the request holds.
+  pub stands-canceled : (d : IoUringDriver R B) (L : Ledger) (request : Request B Parts) (under handle : Option ℕ) →
+      Stands view buffer d L → IsTrue (holds_all d (named request)) → IsUnder L under handle →
+      IfSome under (λ g. g < length d.members.groups) → is_under_canceled d.members under ≡ true →
+      Answers view buffer L (Submit (plain_request buffer request) handle) (CanceledAtOnce (held_of (plain_request buffer request))) d
+  stands-canceled d L request under handle old user names_group within marked =
+      let r = plain_request buffer request in
+      let names : named r ≡ named request = named-mapped buffer (λ parts. parts) request in
+      let user' = lacks-none d L (named r) old.handles.holders.users (ap (holds_all d) names ∙ user) in
+      let s = step-canceled L r handle (under-known L r under handle names_group) user'
+      (under-marked d.members L under handle old.groups names_group within ∙ marked) in
+      record { reply_is = ap (λ x. x.1) s; stands = subst (λ K. Stands view buffer d K) (sym (ap (λ x. x.0) s)) old }
+
   -- A submission that went well answers what the machine does.
-  pub stands-submits : (d new : IoUringDriver R B) (L : Ledger) (request : Request B Parts) (key spare spare' : ℕ) (mid : RingView) →
+  pub stands-submits : (d new : IoUringDriver R B) (L : Ledger) (request : Request B Parts) (under handle : Option ℕ)
+      (key spare spare' : ℕ) (mid : RingView) (held : Holding) →
       Stands view buffer d L → IsTrue (holds_all d (named request)) → len d.slots.values < MAX_LIVE → get d.slots.values key ≡ None →
       key < MAX_LIVE →
       new.slots.values ≡ insert d.slots.values key (record { serial = d.given; request = request; life = Fresh }) →
       mid ≡ with_spare (room_made (whole_ring view d)) spare → length mid.queue < mid.capacity →
       whole_ring view new
       ≡ with_spare (pushed mid (record { word = key; serial = d.given; body = Calls (call_of (plain_request buffer request)) })) spare' →
-      len d.slots.values + len d.holding.table.holders + 1 ≤ room_in new → CanJoin d.holding.table (named request) →
-      new.given ≡ d.given + 1 → new.holding ≡ record d.holding { table = with_ops d.holding.table (named request) } →
-      (number : ℕ) → number ≡ d.given →
-      Answers view buffer L (Submit (plain_request buffer request)) (Submitted number) new
-  stands-submits d new L request key spare spare' mid old user few free below put made has_room ring more can given holding number is =
+      IsSameHolding d.holding held → len d.slots.values + (places held + one_if (makes request)) + 1 ≤ room_in new →
+      CanJoin held.table (named request) → new.given ≡ d.given + 1 → new.holding ≡ op_joined held (named request) (makes request) →
+      IsUnder L under handle → IfSome under (λ g. g < length d.members.groups) → is_under_canceled d.members under ≡ false →
+      (op : Op) → op.number ≡ d.given → AddsToken (ops_in d) (ops_in new) op →
+      new.members ≡ joins_if d.members under op.number op.key →
+      Answers view buffer L (Submit (plain_request buffer request) handle) (Submitted op.number) new
+  stands-submits d new L request under handle key spare spare' mid held old user few free below put made has_room ring same_held more can
+      given holding names_group within unmarked op is adds members =
       let r = plain_request buffer request in
       let v = whole_ring view d in
       let before = means-of old in
       let entry : Entry = record { word = key; serial = d.given; body = Calls (call_of r) } in
       let names : named r ≡ named request = named-mapped buffer (λ parts. parts) request in
       let user' = lacks-none d L (named r) old.handles.holders.users (ap (holds_all d) names ∙ user) in
-      let s = step-submit L r user' (is-room (length (live_ops L)) (subst (λ n. n < MAX_LIVE) old.operations.in_slots.counted few)) in
+      let s = step-submit L r handle (under-known L r under handle names_group) user'
+      (under-marked d.members L under handle old.groups names_group within ∙ unmarked)
+      (is-room (length (live_ops L)) (subst (λ n. n < MAX_LIVE) old.operations.in_slots.counted few))
+      ∙ ap (λ g. (submit_step L r g, Submitted (length L.ops))) (under-group L under handle names_group) in
       let M = make_room L in
-      let order : submit_step L r ≡ append (with_new_op M (new_operation r)) (Req d.given) =
-      push-new_op (new_operation r) refl L (Req (length L.ops))
+      let order : submit_step L r under ≡ append (with_new_op M (new_operation r under)) (Req d.given) =
+      push-new_op (new_operation r under) refl L (Req (length L.ops))
       (all-known (length L.ops) L.queue (queue-numbers buffer v d.slots.values L before))
-      ∙ ap (λ n. append (with_new_op M (new_operation r)) (Req n)) (sym old.operations.numbered) in
+      ∙ ap (λ n. append (with_new_op M (new_operation r under)) (Req n)) (sym old.operations.numbered) in
       let e = s ∙ ap (λ K. (K, Submitted (length L.ops))) order in
       let long : length M.ops ≡ length L.ops = length-make_room L in
       let roomy = means-room buffer v d.slots.values L before in
       let m : Means buffer mid d.slots.values M = subst (λ x. Means buffer x d.slots.values M) (sym made)
       (means-view buffer (room_made v) (with_spare (room_made v) spare) d.slots.values M refl refl refl refl refl roomy) in
-      let p = means-pushed buffer mid d.slots.values M d.given key request m (old.operations.numbered ∙ sym long) free below in
+      let p = means-pushed buffer mid d.slots.values M d.given key request under m (old.operations.numbered ∙ sym long) free below in
       let capacity : (view (ring_in new)).capacity ≡ v.capacity = ap (λ x. x.capacity) ring ∙ ap (λ x. x.capacity) made ∙ room-capacity v in
       let means = subst (λ K. Means buffer (whole_ring view new) new.slots.values K) (sym (ap (λ x. x.0) e))
-      (subst (λ x. Means buffer x new.slots.values (append (with_new_op M (new_operation r)) (Req d.given))) (sym ring)
-      (subst (λ x. Means buffer (with_spare (pushed mid entry) spare') x (append (with_new_op M (new_operation r)) (Req d.given)))
+      (subst (λ x. Means buffer x new.slots.values (append (with_new_op M (new_operation r under)) (Req d.given))) (sym ring)
+      (subst (λ x. Means buffer (with_spare (pushed mid entry) spare') x (append (with_new_op M (new_operation r under)) (Req d.given)))
       (sym put)
       (means-view buffer (pushed mid entry) (with_spare (pushed mid entry) spare')
       (insert d.slots.values key (record { serial = d.given; request = request; life = Fresh }))
-      (append (with_new_op M (new_operation r)) (Req d.given)) refl refl refl refl refl p))) in
+      (append (with_new_op M (new_operation r under)) (Req d.given)) refl refl refl refl refl p))) in
+      let number : op.number ≡ length L.ops = is ∙ old.operations.numbered in
+      let grouped = groups-submit L r under in
       record {
-        reply_is = ap (λ x. x.1) s ∙ ap (λ x. Submitted x) (sym (is ∙ old.operations.numbered));
+        reply_is = ap (λ x. x.1) s ∙ ap (λ x. Submitted x) (sym number);
         stands = record {
-          events = old.events ++ Submit r ∷ [];
-          reached = reached-more L (view (ring_in new)).capacity old.events (Submit r)
+          events = old.events ++ Submit r handle ∷ [];
+          reached = reached-more L (view (ring_in new)).capacity old.events (Submit r handle)
               (old.reached ∙ ap (λ x. ledger x old.events) (sym capacity));
           operations = record {
-            numbered = given ∙ ap (λ n. n + 1) (old.operations.numbered ∙ sym long) ∙ sym (length-append M.ops (new_operation r ∷ []))
+            numbered = given ∙ ap (λ n. n + 1) (old.operations.numbered ∙ sym long) ∙ sym (length-append M.ops (new_operation r under ∷ []))
                 ∙ ap (λ x. length x.0.ops) (sym e);
             in_slots = means.in_slots;
           };
           handles = subst (λ K. HandlesStand new.holding K) (sym (ap (λ x. x.0) e))
-              (subst (λ h. HandlesStand h (append (with_new_op M (new_operation r)) (Req d.given)))
-              (sym (holding ∙ ap (λ hs. record d.holding { table = with_ops d.holding.table hs }) (sym names)))
-              (handles-joined d.holding L r d.given (means-live buffer v d.slots.values L before) old.handles));
+              (subst (λ h. HandlesStand h (append (with_new_op M (new_operation r under)) (Req d.given)))
+              (sym (holding ∙ ap (λ hs. op_joined held hs (makes request)) (sym names)))
+              (handles-joined held L r under d.given (means-early buffer v d.slots.values L before) (makes request)
+              (handles-room d.holding held L same_held old.handles)));
+          groups = subst (λ m. GroupsStand m (step L (Submit r handle)).0) (sym members)
+              (groups-joined buffer (ops_in d) (ops_in new) L (step L (Submit r handle)).0 d.members op under old.operations.in_slots
+              means.in_slots adds (ap (λ x. groups_of x.0) s ∙ grouped.0) (ap (λ x. op_groups x.0) s ∙ grouped.1) number old.groups op.key
+              within unmarked);
           room = (
-              let a = where-more is_owned M.ops (new_operation r) refl in
+              let a = where-more is_owned M.ops (new_operation r under) refl in
               let b = owned-room buffer v d.slots.values L before in
               let c = where-within is_owned is_live L.ops owned-lives in
               let k = old.operations.in_slots.counted in
               let f = ap (λ x. length (numbers_where is_owned 0 x.0.ops)) e in
-              let h = ap (λ x. len x.table.holders) holding in
-              let j = len-joined d.holding.table (named request) can in
+              let h = ap places holding in
+              let j = places-joined held (named request) (makes request) can in
               omega (arith, a, b, c, k, f, h, j, more));
           fits = (let a = ap (λ x. length x.queue) ring in let b = length-append mid.queue (entry ∷ []) in
               let k = ap (λ x. x.capacity) ring in omega (arith, a, b, k, has_room));
+          few = (let a = ap (λ x. length x.0.world) e in let b = ap length (stays-make_room L).world in let f = old.few in
+              omega (arith, a, b, f));
           ring = ring-of means;
         };
       }
 
   -- Why a submission was refused, by what preparing it left.
-  pub why-refused : (d new : IoUringDriver R B) (steady : Bool) (why : SubmitFault) →
-      new ≡ record d { ring = new.ring; slots = new.slots } → new.slots.values ≡ d.slots.values →
-      Unprepared view steady d.ring new.ring d.slots new.slots why → WhyRefused view buffer steady d new why
-  why-refused d new steady Full same values h = same ∙ ap (λ r. record d { ring = r; slots = new.slots }) h.1
-      ∙ ap (λ s. record d { slots = s }) h.2
-  why-refused d new steady RingFault same values h = (h.1, h.2, h.3)
-  why-refused d new steady Busy same values h = (h.1, h.2, h.3)
-  why-refused d new steady OutOfMemory same values h = λ L old. stands-same view buffer d new L _ h.1.ring h.1.due h.1.room values
-      (ap (λ x. x.given) same) (record {
-        table = ap (λ x. x.holding.table.holders) same;
-        closing = ap (λ x. x.holding.closing.holders) same;
-      }) old
+  pub why-refused : (d new : IoUringDriver R B) (steady : Bool) (why : SubmitFault) (maker : Bool) →
+      KeepsHolding maker d.holding new.holding → (why ≡ Full → new.holding ≡ d.holding) →
+      new ≡ record d { ring = new.ring; slots = new.slots; holding = new.holding } → new.slots.values ≡ d.slots.values →
+      CannotSubmit view steady d.ring new.ring d.slots new.slots why → WhyRefused view buffer steady d new why
+  why-refused d new steady Full maker keeps full same values h =
+      same ∙ ap (λ r. record d { ring = r; slots = new.slots; holding = new.holding }) h.1
+      ∙ ap (λ s. record d { slots = s; holding = new.holding }) h.2 ∙ ap (λ x. record d { holding = x }) (full refl)
+  why-refused d new steady RingFault maker keeps full same values h = h.1
+  why-refused d new steady Busy maker keeps full same values h = h.1
+  why-refused d new steady OutOfMemory maker keeps full same values h = λ L old.
+      stands-same view buffer d new L _ h.1.ring h.1.due h.1.room values (ap (λ x. x.given) same)
+      (keeps-same maker d.holding new.holding keeps) (ap (λ x. x.members) same) old
 
   -- Where memory ran out the ring has other room at most.
   pub same-room : (d new : IoUringDriver R B) (steady : Bool) (why : SubmitFault) →
-      Unprepared view steady d.ring new.ring d.slots new.slots why → why ≡ OutOfMemory → IsSameRing view d new
+      CannotSubmit view steady d.ring new.ring d.slots new.slots why → why ≡ OutOfMemory → IsSameRing view d new
   same-room d new steady Full h e = (let f : ⊥ = cc in absurd f)
   same-room d new steady RingFault h e = (let f : ⊥ = cc in absurd f)
   same-room d new steady Busy h e = (let f : ⊥ = cc in absurd f)
@@ -212,3 +274,22 @@ put-over old mid new request op same given puts = record {
       ∙ ap (λ n. insert old.slots.values op.key (record { serial = n; request = request; life = Fresh })) given;
   given = puts.given ∙ ap (λ n. n + 1) given;
 }
+
+-- The token that a submission added, over the slots that were there before.
+pub adds-over : {B : Type 0} (old mid new : Ops B) (op : Op) → mid.slots.values ≡ old.slots.values → mid.given ≡ old.given →
+    AddsToken mid new op → AddsToken old new op
+adds-over old mid new op same given adds = record {
+  this = adds.this;
+  kept = λ o h. adds.kept o (ap (λ m. number_at m o.key) same ∙ h);
+  only = λ o h. elim (adds.only o h) [ inl e ↦ inl e | inr q ↦ inr (sym (ap (λ m. number_at m o.key) same) ∙ q) ];
+  number = adds.number ∙ given;
+  next = adds.next ∙ ap (λ n. n + 1) given;
+}
+
+-- The groups once the next operation joined one, and its slot has its key.
+pub joined-at : (m mid new : Membership) (under : Option ℕ) (given : ℕ) (op : Op) (number key : ℕ) → op.number ≡ given →
+    number ≡ op.number → key ≡ op.key → get m.places given ≡ None → mid ≡ joins_if m under given 0 → new ≡ moves mid number key →
+    new ≡ joins_if m under op.number op.key
+joined-at m mid new under given op number key is n k apart joins moved =
+    moved ∙ ap (λ x. moves x number key) joins ∙ ap (λ i. moves (joins_if m under given 0) i key) (n ∙ is)
+    ∙ moved-joined m under given 0 key apart ∙ ap (joins_if m under given) k ∙ ap (λ i. joins_if m under i op.key) (sym is)

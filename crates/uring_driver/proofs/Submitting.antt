@@ -1,6 +1,6 @@
 -- What a new operation and its entry do to a ring and slots that mean a ledger.
-use Rattle.std.proofs.Common.{◌≡◌, ◌≢◌, ◌⊎◌, inl, inr, ℕ, ◌+◌, ◌<◌, true, List, [], ◌∷◌, ◌++◌, length, Some, None, refl, sym, ◌∙◌, ap}
-use Rattle.std.proofs.Common.{subst, arith}
+use Rattle.std.proofs.Common.{◌≡◌, ◌≢◌, ◌⊎◌, inl, inr, ℕ, ◌+◌, ◌<◌, true, List, [], ◌∷◌, ◌++◌, length, Option, Some, None, refl, sym, ◌∙◌}
+use Rattle.std.proofs.Common.{ap, subst, arith}
 use Rattle.std.specs.Prelude.{slice_get}
 use Rattle.std.specs.Ordering.{nat_cmp}
 use Rattle.std.specs.FinMap.{FinMap, get, insert}
@@ -34,7 +34,7 @@ use Rattle.uring_driver.proofs.Kept.{queued-kept, flight-kept, done-kept, call-q
 use Rattle.ring_core.proofs.Requests.{holding-own}
 
 module _ {B : Type 0} (buffer : B → Buffer) (w : RingView) (slots : FinMap nat_cmp (Slot B)) (M : Ledger) (given key : ℕ)
-    (request : Request B Parts)
+    (request : Request B Parts) (group : Option ℕ)
     (old : Means buffer w slots M) (numbered : given ≡ length M.ops) (free : get slots key ≡ None) (below : key < MAX_LIVE) where
   abbrev t : Slot B
   t = record { serial = given; request = request; life = Fresh }
@@ -43,7 +43,7 @@ module _ {B : Type 0} (buffer : B → Buffer) (w : RingView) (slots : FinMap nat
   e = record { word = key; serial = given; body = Calls (call_of (plain_request buffer request)) }
 
   abbrev new : Operation
-  new = new_operation (plain_request buffer request)
+  new = new_operation (plain_request buffer request) group
 
   abbrev ops' : List Operation
   ops' = M.ops ++ new ∷ []
@@ -198,7 +198,7 @@ module _ {B : Type 0} (buffer : B → Buffer) (w : RingView) (slots : FinMap nat
 
   pub means-pushed : Means buffer (pushed w (record { word = key; serial = given; body = Calls (call_of (plain_request buffer request)) }))
       (insert slots key (record { serial = given; request = request; life = Fresh }))
-      (append (with_new_op M (new_operation (plain_request buffer request))) (Req given))
+      (append (with_new_op M (new_operation (plain_request buffer request) group)) (Req given))
   means-pushed = record {
     capacity = old.capacity;
     world = old.world;

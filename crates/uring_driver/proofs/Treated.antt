@@ -14,9 +14,8 @@ use Rattle.ring_core.proofs.Numbers.{same-or-not}
 use Rattle.driver_core.specs.declared.slot.Slot.{Slot}
 use Rattle.uring_driver.specs.declared.uring.turn.Named.{Named}
 use Rattle.uring_driver.specs.Holding.{Holding}
-use Rattle.uring_driver.specs.State.{State}
 use Rattle.uring_driver.specs.Reap.{Treated, treats_none, treat_one, behind, goes_on, treat_each}
-use Rattle.uring_driver.specs.Reaps.{Treats, PostsAll, Reaps, ReapsRing}
+use Rattle.uring_driver.specs.Reaps.{Treats, PostsAll, Midway, Reaps, ReapsRing}
 use Rattle.uring_driver.proofs.Posted.{ring-on, ring-taken, ring-posts, ring-none}
 
 -- A completion with none behind it.
@@ -119,7 +118,7 @@ below-second (x ∷ xs) ys below k among = below-second xs ys (λ n is. below n 
 
 module _ {R B : Type 0} (view : R → RingView) (tells steady : Bool) where
   -- A completion that was taken off and treated is a reap.
-  pub reaps-one : (old new mid : State R B) (before after : Named) (c : Completion) (bad : Option ℕ) →
+  pub reaps-one : (old new mid : Midway R B) (before after : Named) (c : Completion) (bad : Option ℕ) →
       IsTakenOff tells (view old.ring.ring) (view mid.ring.ring) c → mid.ring.due ≡ old.ring.due → mid.ring.room ≡ old.ring.room →
       PostsAll view tells steady mid.ring new.ring (treat_one (target c.word) old.slots.values old.holding c).queued →
       Treats (treat_one (target c.word) old.slots.values old.holding c) new.slots.values new.holding before after bad →
@@ -147,7 +146,7 @@ module _ {R B : Type 0} (view : R → RingView) (tells steady : Bool) where
       }
 
   -- No reap.
-  pub reaps-none : (old : State R B) (named : Named) → Reaps view tells steady old old named named 0 None
+  pub reaps-none : (old : Midway R B) (named : Named) → Reaps view tells steady old old named named 0 None
   reaps-none old named = record {
     taken = [];
     counted = refl;
@@ -165,7 +164,7 @@ module _ {R B : Type 0} (view : R → RingView) (tells steady : Bool) where
   }
 
   -- Reaps, and then more.
-  pub reaps-on : (a b c : State R B) (n0 n1 n2 : Named) (i j : ℕ) (bad : Option ℕ) → Reaps view tells steady a b n0 n1 i None →
+  pub reaps-on : (a b c : Midway R B) (n0 n1 n2 : Named) (i j : ℕ) (bad : Option ℕ) → Reaps view tells steady a b n0 n1 i None →
       Reaps view tells steady b c n1 n2 j bad → Reaps view tells steady a c n0 n2 (i + j) bad
   reaps-on a b c n0 n1 n2 i j bad f g =
       let first = treat_each a.slots.values a.holding f.taken in

@@ -17,6 +17,8 @@ use Rattle.ring_core.specs.Step.{step}
 use Rattle.ring_core.specs.Turn.{ops_in, closes_in, tasks_woken}
 use Rattle.ring_core.proofs.Staying.{stays-length, stays-take_each, stays-reap_each}
 use Rattle.driver_core.specs.declared.op.Turned.{Turned}
+use Rattle.driver_core.specs.Holds.{AreMaking}
+use Rattle.driver_core.specs.Slot.{KeepsNumbers}
 use Rattle.driver_core.specs.Slots.{SlotsStand}
 use Rattle.uring_driver.specs.declared.uring.IoUringDriver.{IoUringDriver}
 use Rattle.uring_driver.specs.declared.uring.turn.Begun.{Begun}
@@ -31,7 +33,7 @@ use Rattle.uring_driver.specs.Reaps.{FitsQueue, closes_of, posted, KeepsUp}
 use Rattle.uring_driver.specs.Turned.{taken_front, reaped_out, TurnsTo, TurnsFor}
 use Rattle.uring_driver.specs.Begun.{EnteredFor, HasBegun, why_stopped}
 use Rattle.uring_driver.proofs.Amid.{Amid}
-use Rattle.uring_driver.proofs.Answering.{answers-parts, fits-of}
+use Rattle.uring_driver.proofs.Answering.{groups-still, answers-parts, fits-of}
 use Rattle.uring_driver.proofs.Begins.{amid-of, amid-front, amid-all}
 use Rattle.uring_driver.proofs.Ending.{Ends, enters, told-is, cut, all-cut}
 use Rattle.uring_driver.proofs.Entering.{later-behind, none-pending}
@@ -47,8 +49,13 @@ module _ {R B : Type 0} (view : R → RingView) (buffer : B → Buffer) (tells s
     (turned : Turned) (named : Named) (bad : Option ℕ) (has : HasBegun view tells steady old mid begun)
     (ends : Ends view tells steady mid new begun.named named bad)
     (reaped : turned.reaped ≡ named.reaped.items) (closed : turned.closed ≡ named.closed.items)
-    (woken : turned.woken ≡ named.woken.items) (given : new.given ≡ mid.given)
-    (shows : IsTrue tells) (L : Ledger) (stands : Stands view buffer old L) where
+    (woken : turned.woken ≡ named.woken.items) (given : new.given ≡ mid.given) (members : new.members ≡ mid.members)
+    (numbers : KeepsNumbers mid.slots.values new.slots.values)
+    (shows : IsTrue tells) (L : Ledger) (stands : Stands view buffer old L) (making : AreMaking mid.slots.values mid.holding.makers) where
+  making-old : AreMaking old.slots.values old.holding.makers
+  making-old = subst (λ m. AreMaking m old.holding.makers) has.same.slots
+      (subst (λ h. AreMaking mid.slots.values h.makers) has.same.holding making)
+
   abbrev taken : List Completion
   taken = ends.reaps.taken
 
@@ -94,7 +101,7 @@ module _ {R B : Type 0} (view : R → RingView) (buffer : B → Buffer) (tells s
       let front = enter.told shows in
       let later = later-behind (view (ring_in old)) (view (ring_in mid)) (due_in old) (due_in mid) enter.later in
       amid-mid (taken_front front.count L)
-      (amid-front buffer (whole_ring view old) (whole_ring view mid) old.slots.values old.holding L (amid-of stands) front.count
+      (amid-front buffer (whole_ring view old) (whole_ring view mid) old.slots.values old.holding L (amid-of stands making-old) front.count
       (means-took-front buffer (whole_ring view old) old.slots.values L (means-of stands) (whole_ring view mid) front.count later
       front.took))
 
@@ -104,7 +111,7 @@ module _ {R B : Type 0} (view : R → RingView) (buffer : B → Buffer) (tells s
       let front = enter.0.told shows in
       let later = later-behind (view (ring_in old)) (view (ring_in mid)) (due_in old) (due_in mid) enter.0.later in
       amid-mid (take_all L)
-      (amid-all buffer (whole_ring view old) (whole_ring view mid) old.slots.values old.holding L (amid-of stands)
+      (amid-all buffer (whole_ring view old) (whole_ring view mid) old.slots.values old.holding L (amid-of stands making-old)
       (means-took-all buffer (whole_ring view old) old.slots.values L (means-of stands) (whole_ring view mid) front.count later
       front.took (none-pending (view (ring_in mid)).queue (due_in mid) enter.1 enter.2)))
 
@@ -202,10 +209,16 @@ module _ {R B : Type 0} (view : R → RingView) (buffer : B → Buffer) (tells s
         omega (arith, left, taken_from, same, before, room, used, reserved)
 
     answers : KeepsUp steady all.queued → Answers view buffer L Turn (TurnReply turned.reaped turned.closed turned.woken) new
-    answers keeps = answers-parts view buffer old new L M Turn (TurnReply turned.reaped turned.closed turned.woken) stands reply-is
-        (ends.reaps.ring.later.same_capacity ∙ entered.later.same_capacity)
+    answers keeps =
+        let capacity = ends.reaps.ring.later.same_capacity ∙ entered.later.same_capacity in
+        answers-parts view buffer old new L M Turn (TurnReply turned.reaped turned.closed turned.woken) stands reply-is capacity
         (means-new (take_all L) (all-mid enter) all-count none keeps) (numbered (take_all L) (all-mid enter) all-count none) goes.handles
+        (groups-still view buffer old new L M Turn (TurnReply turned.reaped turned.closed turned.woken) stands reply-is capacity refl
+        goes.operations.in_slots (subst (λ slots. KeepsNumbers slots new.slots.values) has.same.slots numbers)
+        (members ∙ has.same.members))
         roomy (ends.reaps.ring.exact shows keeps fits-mid).1
+        ((stays-reap_each (record (take_all L) { done = [] }) (take_all L).done).world
+        ∙ (stays-take_each (record L { queue = [] }) L.queue).world)
 
   -- A prefix of the queue has no more entries than the queue.
   within-queue : (enter : Enters view tells old.ring mid.ring) → (enter.told shows).count ≤ length L.queue

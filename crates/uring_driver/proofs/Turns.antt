@@ -1,5 +1,5 @@
 -- Completions treated one after another, against a ledger in the middle of a turn.
-use Rattle.std.proofs.Common.{◌≡◌, ℕ, ◌+◌, ◌<◌, true, List, [], ◌∷◌, ◌++◌, length, flat_map, Option, Some, None, refl, sym, ◌∙◌, ap}
+use Rattle.std.proofs.Common.{◌≡◌, ℕ, ◌+◌, ◌<◌, ◌≤◌, true, List, [], ◌∷◌, ◌++◌, length, flat_map, Option, Some, None, refl, sym, ◌∙◌, ap}
 use Rattle.std.proofs.Common.{subst}
 use Rattle.std.proofs.Common.{arith, append_assoc, length-append}
 use Rattle.std.specs.Prelude.{slice_get, option_map}
@@ -86,7 +86,7 @@ pub record TreatsAll {B : Type 0} (buffer : B → Buffer) (v : RingView) (holdin
   pub reaped : all.reaped ≡ ops_in L.done
   pub closed : all.closed ≡ closes_in L.done
   pub woken : all.woken ≡ tasks_woken L.ops (ops_in L.done)
-  pub owed : owed (reaped_out L) all.holding + length all.queued ≡ owed L holding
+  pub owed : owed (reaped_out L) all.holding + length all.queued ≤ owed L holding
 
 -- One is treated, and then the rest.
 module _ {B : Type 0} (buffer : B → Buffer) (v : RingView) (slots : FinMap nat_cmp (Slot B)) (holding : Holding) (L : Ledger)

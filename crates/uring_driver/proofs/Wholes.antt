@@ -11,6 +11,7 @@ use Rattle.ring_core.specs.Step.{step}
 use Rattle.driver_core.specs.declared.op.Stop.{Stop}
 use Rattle.driver_core.specs.declared.op.Stop.TheVariants.{RingFault, Busy, BadCompletion, OutOfMemory}
 use Rattle.driver_core.specs.declared.op.Turned.{Turned}
+use Rattle.driver_core.specs.Holds.{AreMaking}
 use Rattle.driver_core.specs.Slot.{KeepsNumbers, number_at}
 use Rattle.driver_core.proofs.Tokens.{tokens-kept}
 use Rattle.uring_driver.specs.declared.uring.IoUringDriver.{IoUringDriver}
@@ -20,7 +21,7 @@ use Rattle.uring_driver.specs.Stands.{Stands, StandsIfSteady}
 use Rattle.uring_driver.specs.Uring.{due_in, pending}
 use Rattle.uring_driver.specs.Submitted.{SameSlots}
 use Rattle.uring_driver.specs.Reap.{treat_each}
-use Rattle.uring_driver.specs.Reaps.{ReapsAll}
+use Rattle.uring_driver.specs.Reaps.{ReapsAll, midway_of}
 use Rattle.uring_driver.specs.Turned.{TreatsNone, StopsFor, TreatsFor, TurnsFor, TurnMeets}
 use Rattle.uring_driver.specs.Begun.{EnteredFor, HasBegun, CannotBegin, why_stopped}
 use Rattle.uring_driver.proofs.Ending.{ends-of, moves, stops, treats}
@@ -29,17 +30,20 @@ use Rattle.uring_driver.proofs.Turning.{turns}
 module _ {R B : Type 0} (view : R → RingView) (buffer : B → Buffer) (tells steady : Bool) where
   -- What was begun, and then treated, is a whole turn.
   pub whole : (old mid new : IoUringDriver R B) (begun : Begun) (turned : Turned) (named : Named) (bad : Option ℕ) →
-      HasBegun view tells steady old mid begun → ReapsAll view tells steady mid new begun.named named bad →
+      HasBegun view tells steady old mid begun → ReapsAll view tells steady (midway_of mid) (midway_of new) begun.named named bad →
+      AreMaking mid.slots.values mid.holding.makers →
       (IsTrue steady → due_in mid ≡ [] → due_in new ≡ []) → KeepsNumbers mid.slots.values new.slots.values → new.given ≡ mid.given →
+      new.members ≡ mid.members →
       turned.reaped ≡ named.reaped.items → turned.closed ≡ named.closed.items → turned.woken ≡ named.woken.items →
       turned.stop ≡ why_stopped bad begun.busy → TurnMeets view buffer tells steady old new turned
-  whole old mid new begun turned named bad has reaps due numbers given reaped closed woken stop =
+  whole old mid new begun turned named bad has reaps making due numbers given members reaped closed woken stop =
       let ends = ends-of view tells steady mid new begun.named named bad reaps in
       let queued = (treat_each mid.slots.values mid.holding ends.reaps.taken).queued in
       record {
         queued = queued;
         turns = λ shows L stands. subst (λ s. TurnsFor view buffer steady L old new turned queued s) (sym stop)
-            (turns view buffer tells steady old mid new begun turned named bad has ends reaped closed woken given shows L stands);
+            (turns view buffer tells steady old mid new begun turned named bad has ends reaped closed woken given members numbers
+            shows L stands making);
         stops = subst (λ s. StopsFor view old new turned queued s) (sym stop)
             (stops view tells steady old mid new begun turned named bad has ends reaped closed woken);
         treats = subst (λ s. TreatsFor view tells old new turned queued s) (sym stop)
@@ -49,6 +53,7 @@ module _ {R B : Type 0} (view : R → RingView) (buffer : B → Buffer) (tells s
         tokens = tokens-kept old.slots.values new.slots.values
             (subst (λ slots. KeepsNumbers slots new.slots.values) has.same.slots numbers);
         given = given ∙ has.same.given;
+        members = members ∙ has.same.members;
       }
     where
       none-due : (a b : IoUringDriver R B) (busy : Bool) → EnteredFor view tells steady a.ring b.ring busy → IsTrue steady → due_in b ≡ []
@@ -66,7 +71,7 @@ module _ {R B : Type 0} (view : R → RingView) (buffer : B → Buffer) (tells s
         queued = [];
         turns = λ shows L stands. subst (λ s. TurnsFor view buffer steady L old new turned [] s) (sym stop) cannot.3;
         stops = subst (λ s. StopsFor view old new turned [] s) (sym stop) (cannot.0, none);
-        treats = subst (λ s. TreatsFor view tells old new turned [] s) (sym stop) tt;
+        treats = subst (λ s. TreatsFor view tells old new turned [] s) (sym stop) cannot.2;
         moves = λ shows. (
             let front = cannot.2.told shows in
             let head = take front.count (pending view old) in
@@ -78,6 +83,7 @@ module _ {R B : Type 0} (view : R → RingView) (buffer : B → Buffer) (tells s
         none_due = λ always none. absurd (cannot.3 always);
         tokens = tokens-kept old.slots.values new.slots.values (λ key. ap (λ m. number_at m key) cannot.1.slots);
         given = cannot.1.given;
+        members = cannot.1.members;
       }
   stopped old new turned Busy cannot reaped closed woken stop = absurd cannot
   stopped old new turned (BadCompletion word) cannot reaped closed woken stop = absurd cannot
@@ -86,6 +92,7 @@ module _ {R B : Type 0} (view : R → RingView) (buffer : B → Buffer) (tells s
         slots = ap (λ d. d.slots.values) cannot;
         given = ap (λ d. d.given) cannot;
         holding = ap (λ d. d.holding) cannot;
+        members = ap (λ d. d.members) cannot;
       } in
       let none : TreatsNone old new turned [] =
       record { same = same; reaped = reaped; closed = closed; woken = woken; none_queued = refl } in
@@ -98,6 +105,7 @@ module _ {R B : Type 0} (view : R → RingView) (buffer : B → Buffer) (tells s
         none_due = λ always none. ap due_in cannot ∙ none;
         tokens = tokens-kept old.slots.values new.slots.values (λ key. ap (λ m. number_at m key) same.slots);
         given = same.given;
+        members = same.members;
       }
 
   -- A turn that doesn't stop leads to the machine's next ledger, over a steady ring.

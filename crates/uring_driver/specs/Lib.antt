@@ -1,5 +1,6 @@
 pub mod Pending
 pub mod Holding
+pub mod Making
 pub mod Submissions
 pub mod Uring
 pub mod Op
@@ -16,4 +17,6 @@ pub mod Turned
 pub mod Begun
 pub mod Parked
 pub mod State
+pub mod Finish
 pub mod Dropped
+pub mod Groups

@@ -7,6 +7,7 @@ use Rattle.driver_core.specs.declared.op.Op.{Op}
 use Rattle.driver_core.specs.declared.op.PollOp.{PollOp}
 use Rattle.driver_core.specs.declared.op.PollOp.TheVariants.{Pending, Ready}
 use Rattle.driver_core.specs.Holds.{unheld_by}
+use Rattle.driver_core.specs.Members.{leaves}
 use Rattle.ring_core.specs.declared.entry.Entry.{Entry}
 use Rattle.ring_core.specs.Entry.{close_entry}
 use Rattle.ring_core.specs.Request.{named}
@@ -15,9 +16,12 @@ use Rattle.driver_core.specs.Operations.{PollsOp as PollsIn}
 use Rattle.driver_core.specs.Op.{PollsTokens as PollsTokensIn}
 use Rattle.driver_core.specs.Requests.{ReturnsRequest as ReturnsIn}
 use Rattle.uring_driver.specs.declared.uring.IoUringDriver.{IoUringDriver}
-use Rattle.uring_driver.specs.Op.{ops_in}
+use Rattle.uring_driver.specs.Op.{ops_in, number_of}
 use Rattle.uring_driver.specs.Stands.{Stands}
-use Rattle.uring_driver.specs.Holding.{ops_left}
+use Rattle.driver_core.specs.declared.op.Done.{Done}
+use Rattle.ring_core.specs.Effect.{made_by}
+use Rattle.uring_driver.specs.Holding.{Holding, ops_left}
+use Rattle.uring_driver.specs.Making.{handed_if}
 pub use Rattle.driver_core.specs.Op.{IsPending}
 
 -- A poll answers what the machine does. What is ready has its outcome, and its own request with its buffer.
@@ -54,15 +58,25 @@ IsUnreapedOp (Some operation) = IsUnreapedPlace operation.place
 abbrev pub IsUnreaped : Ledger → ℕ → Type 0
 IsUnreaped L number = IsUnreapedOp (slice_get L.ops number)
 
--- What a poll leaves of who holds handles, over any ring: one that is pending keeps all; one that is ready is of an operation that is gone.
+-- Who holds handles once the one that an operation made became its user's, where it made one.
+abbrev pub handed_by : {B : Type 0} → Holding → Done B → Holding
+handed_by holding done = handed_if holding (made_by done.outcome)
+
+-- What a poll leaves of who holds handles, over any ring: one that is pending keeps all; one that is ready hands over what its operation
+-- made, which is gone.
 abbrev pub PollsHandles : {R B : Type 0} → IoUringDriver R B → IoUringDriver R B → PollOp B → Type 0
 PollsHandles old new (Pending back) = new.holding ≡ old.holding
-PollsHandles old new (Ready done) = new.holding ≡ ops_left old.holding (named done.request)
+PollsHandles old new (Ready done) = new.holding ≡ ops_left (handed_by old.holding done) (named done.request)
+
+-- What a poll leaves of cancel groups, over any ring: one that is pending keeps all; one that is ready takes its operation out.
+abbrev pub PollsMembers : {R B : Type 0} → IoUringDriver R B → IoUringDriver R B → Op → PollOp B → Type 0
+PollsMembers old new op (Pending back) = new.members ≡ old.members
+PollsMembers old new op (Ready done) = new.members ≡ leaves old.members (number_of op)
 
 -- The closes that a poll makes pending: of each handle that the operation named which is gone, and that nobody holds any more.
 abbrev pub closes_of_poll : {R B : Type 0} → IoUringDriver R B → PollOp B → List Entry
 closes_of_poll old (Pending back) = []
-closes_of_poll old (Ready done) = map close_entry (unheld_by old.holding.table (named done.request))
+closes_of_poll old (Ready done) = map close_entry (unheld_by (handed_by old.holding done).table (named done.request))
 
 -- A poll leaves the ring's lists as the machine's push does: the ring always takes its whole queue, or the poll is pending and
 -- queues nothing.

@@ -8,12 +8,14 @@ use Rattle.ring_core.specs.declared.entry.Completion.{Completion}
 use Rattle.ring_core.specs.Entry.{close_entry}
 use Rattle.ring_core.specs.Lists.{has_number}
 use Rattle.ring_core.specs.Ring.{RingView, IsLater, pushed, with_done}
+use Rattle.op_slots.specs.Slots.{Slots}
 use Rattle.driver_core.specs.declared.slot.Slot.{Slot}
 use Rattle.driver_core.specs.Ops.{Ops}
 use Rattle.uring_driver.specs.declared.uring.turn.Named.{Named}
 use Rattle.uring_driver.specs.Holding.{Holding}
 use Rattle.uring_driver.specs.Pending.{Pending}
-use Rattle.uring_driver.specs.State.{State}
+use Rattle.uring_driver.specs.declared.uring.IoUringDriver.{IoUringDriver}
+use Rattle.uring_driver.specs.Op.{ops_in}
 use Rattle.uring_driver.specs.Submissions.{with_spare, room_made, pending_ring, PostsEach}
 use Rattle.uring_driver.specs.Reap.{Treated, treat_each}
 
@@ -90,12 +92,23 @@ pub record PostsAll {R : Type 0} (view : R → RingView) (tells steady : Bool) (
   pub few : length handles ≤ old.room
   pub posts : PostsEach view tells steady old new (closes_of handles)
 
--- A driver in the middle of a turn, by its parts.
-abbrev pub midway : {R B : Type 0} → Pending R → Ops B → Holding → State R B
+-- A driver in the middle of a turn: what a turn may change of it.
+pub record Midway (R B : Type 0) : Type 0 where
+  pub ring : Pending R
+  pub slots : Slots (Slot B)
+  pub given : ℕ
+  pub holding : Holding
+
+-- It is made of these parts.
+abbrev pub midway : {R B : Type 0} → Pending R → Ops B → Holding → Midway R B
 midway ring ops holding = record { ring = ring; slots = ops.slots; given = ops.given; holding = holding }
 
+-- What a turn may change of a driver.
+abbrev pub midway_of : {R B : Type 0} → IoUringDriver R B → Midway R B
+midway_of driver = midway driver.ring (ops_in driver) driver.holding
+
 -- What so many reaps did to a driver: completions were taken off, oldest first, and treated, and those that they named joined the lists.
-pub record Reaps {R B : Type 0} (view : R → RingView) (tells steady : Bool) (old new : State R B) (before after : Named) (count : ℕ)
+pub record Reaps {R B : Type 0} (view : R → RingView) (tells steady : Bool) (old new : Midway R B) (before after : Named) (count : ℕ)
     (bad : Option ℕ) : Type 0 where
   pub taken : List Completion
   pub counted : length taken ≡ count
@@ -104,7 +117,7 @@ pub record Reaps {R B : Type 0} (view : R → RingView) (tells steady : Bool) (o
   pub treats : Treats (treat_each old.slots.values old.holding taken) new.slots.values new.holding before after bad
 
 -- What the reaps of a turn did: as many as completions were ready, or up to a stray one.
-abbrev pub ReapsAll : {R B : Type 0} → (R → RingView) → Bool → Bool → State R B → State R B → Named → Named → Option ℕ → Type 0
+abbrev pub ReapsAll : {R B : Type 0} → (R → RingView) → Bool → Bool → Midway R B → Midway R B → Named → Named → Option ℕ → Type 0
 ReapsAll view tells steady old new before after None =
     Reaps view tells steady old new before after (length (view old.ring.ring).done) None
 ReapsAll view tells steady old new before after (Some word) =

@@ -8,7 +8,7 @@ use Rattle.ring_core.specs.declared.ledger.Reply.TheVariants.{Released}
 use Rattle.ring_core.specs.Ledger.{Ledger}
 use Rattle.ring_core.specs.Ring.{RingView}
 use Rattle.uring_driver.specs.declared.uring.IoUringDriver.{IoUringDriver}
-use Rattle.uring_driver.specs.Holding.{Holding}
+use Rattle.uring_driver.specs.Holding.{Holding, places}
 use Rattle.uring_driver.specs.Uring.{room_in, holding_in}
 use Rattle.uring_driver.specs.Stands.{Stands, Answers}
 
@@ -16,15 +16,16 @@ use Rattle.uring_driver.specs.Stands.{Stands, Answers}
 pub record Adopts (old : Holding) (h : ℕ) (new : Holding) : Type 0 where
   pub table : new.table.holders ≡ map.insert old.table.holders h by_user
   pub closing : new.closing.holders ≡ old.closing.holders
+  pub makers : new.makers ≡ old.makers
 
 -- A driver has the memory of one handle more: of its close, in the ring and in the table of closes.
 pub record HasHandleRoom {R B : Type 0} (driver : IoUringDriver R B) : Type 0 where
-  pub close : map.len (holding_in driver).table.holders < (holding_in driver).closing.spare
-  pub entry : map.len driver.slots.values + map.len (holding_in driver).table.holders + 1 ≤ room_in driver
+  pub close : places (holding_in driver) < (holding_in driver).closing.spare
+  pub entry : map.len driver.slots.values + places (holding_in driver) + 1 ≤ room_in driver
 
--- A driver has the memory of a cancel for each slot, and of a close for each handle that is held.
+-- A driver has the memory of a cancel for each slot, and of a close for each handle that is held or may be made.
 abbrev pub HasCloseRoom : {R B : Type 0} → IoUringDriver R B → Type 0
-HasCloseRoom driver = map.len driver.slots.values + map.len (holding_in driver).table.holders ≤ room_in driver
+HasCloseRoom driver = map.len driver.slots.values + places (holding_in driver) ≤ room_in driver
 
 -- The user dropped a hold, by whether that was its only one: that is the machine's event, and else the driver stands for the same ledger.
 abbrev pub ReleasesIf : {R B : Type 0} → (R → RingView) → (B → Buffer) → Ledger → ℕ → Bool → IoUringDriver R B → Type 0

@@ -5,6 +5,7 @@ use Rattle.std.specs.FinMap as map
 use Rattle.rent_buf.specs.Buffer.{Buffer}
 use Rattle.ring_core.specs.declared.ledger.Event.{Event}
 use Rattle.ring_core.specs.declared.ledger.Reply.{Reply}
+use Rattle.ring_core.specs.declared.entry.TheConstants.{MOST_HANDLES}
 use Rattle.ring_core.specs.Lists.{numbers_where}
 use Rattle.ring_core.specs.Ledger.{Ledger, is_owned}
 use Rattle.ring_core.specs.Run.{ledger}
@@ -12,8 +13,9 @@ use Rattle.ring_core.specs.Ring.{RingView}
 use Rattle.driver_core.specs.declared.slot.Slot.{Slot}
 use Rattle.driver_core.specs.Operations.{OperationsStand}
 use Rattle.driver_core.specs.Answers.{Answers as AnswersBy}
+use Rattle.driver_core.specs.Groups.{GroupsStand}
 use Rattle.uring_driver.specs.declared.uring.IoUringDriver.{IoUringDriver}
-use Rattle.uring_driver.specs.Holding.{Holding, HandlesStand}
+use Rattle.uring_driver.specs.Holding.{Holding, places, HandlesStand}
 use Rattle.uring_driver.specs.Uring.{ring_in, room_in, pending, whole_ring}
 use Rattle.uring_driver.specs.Op.{ops_in}
 use Rattle.uring_driver.specs.Lists.{ListsStand}
@@ -25,20 +27,23 @@ pub record RingStands {B : Type 0} (buffer : B → Buffer) (slots : map.FinMap n
   pub in_lists : ListsStand buffer slots view L
 
 -- For how many entries memory is owed to calls that take none: a cancel of each operation that its user may drop, and a close of each
--- handle that is held.
+-- handle that is held or may be made.
 abbrev pub owed : Ledger → Holding → ℕ
-owed L holding = length (numbers_where is_owned 0 L.ops) + map.len holding.table.holders
+owed L holding = length (numbers_where is_owned 0 L.ops) + places holding
 
 -- A driver stands for a ledger that some events led to, from the empty one of its ring's capacity. `view` reads its ring, and
--- `buffer` its buffers. Its operations stand for the ledger's, and so do its handles' holders and closes. There is room for what is
--- owed. Its ring's queue, followed by what is due, is the ledger's queue, and fits the ring's.
+-- `buffer` its buffers. Its operations stand for the ledger's, and so do its handles' holders and closes, and its cancel groups. There is
+-- room for what is owed. Its ring's queue, followed by what is due, is the ledger's queue, and fits the ring's. The ledger has no more
+-- handles than there are numbers of handles.
 pub record Stands {R B : Type 0} (view : R → RingView) (buffer : B → Buffer) (driver : IoUringDriver R B) (L : Ledger) : Type 0 where
   pub events : List Event
   pub reached : L ≡ ledger (view (ring_in driver)).capacity events
   pub operations : OperationsStand buffer (ops_in driver) L.ops
   pub handles : HandlesStand driver.holding L
+  pub groups : GroupsStand driver.members L
   pub room : owed L driver.holding ≤ room_in driver
   pub fits : length (pending view driver) ≤ (view (ring_in driver)).capacity
+  pub few : length L.world ≤ MOST_HANDLES
   pub ring : RingStands buffer driver.slots.values (whole_ring view driver) L
 
 -- A call's answer is the machine's reply to its event, and the driver stands for the machine's next ledger.

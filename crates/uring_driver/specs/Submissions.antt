@@ -82,6 +82,12 @@ pub record PendingMoves (old new joined : List Entry) : Type 0 where
   pub within : count ≤ length old
   pub moved : new ≡ drop count old ++ joined
 
+-- Entries joined what is pending, one after another: each joined its end, after a prefix of it was entered.
+abbrev pub PendingMovesEach : List Entry → List Entry → List Entry → Type 0
+PendingMovesEach old new [] = new ≡ old
+PendingMovesEach old new (entry ∷ entries) =
+    (mid : List Entry) × PendingMoves old mid (entry ∷ []) × PendingMovesEach mid new entries
+
 -- What is pending stays, and the room for more. Of a ring that shows its lists only completions are taken off.
 pub record KeepsPending {R : Type 0} (view : R → RingView) (tells : Bool) (old new : Pending R) : Type 0 where
   pub due : new.due ≡ old.due

@@ -15,11 +15,11 @@ use Rattle.driver_core.specs.declared.op.Turned.{Turned}
 use Rattle.driver_core.specs.Operations.{OperationsStand}
 use Rattle.uring_driver.specs.declared.uring.IoUringDriver.{IoUringDriver}
 use Rattle.uring_driver.specs.Holding.{HandlesStand}
-use Rattle.uring_driver.specs.Uring.{ring_in, due_in, pending, whole_ring, given_by, holding_in}
+use Rattle.uring_driver.specs.Uring.{ring_in, due_in, pending, whole_ring, given_by, holding_in, members_in}
 use Rattle.uring_driver.specs.Op.{KeepsTokens, ops_in as operations_in}
-use Rattle.uring_driver.specs.Submissions.{TakesFront}
+use Rattle.uring_driver.specs.Submissions.{TakesFront, Enters}
 use Rattle.uring_driver.specs.Stands.{RingStands, Stands, Answers}
-use Rattle.uring_driver.specs.Reap.{IsStray, treat_each}
+use Rattle.uring_driver.specs.Reap.{HasStray, treat_each}
 use Rattle.uring_driver.specs.Reaps.{waiting_in, closes_of, PendingJoins, KeepsUp}
 use Rattle.uring_driver.specs.Submitted.{SameSlots}
 
@@ -33,7 +33,7 @@ pub record TreatsNone {R B : Type 0} (old new : IoUringDriver R B) (turned : Tur
 
 -- Why a turn stopped, over any ring, where it queued the closes of these handles. None: what is pending or ready now is no more than
 -- those closes, so without them all was taken and treated. RingFault: that count rose, and nothing was treated. Busy: that count rose,
--- and no completion is left, unless closes were queued. BadCompletion: its word names no slot in flight and no handle that is closing.
+-- and no completion is left, unless closes were queued. BadCompletion: a completion of this word is stray.
 -- OutOfMemory: nothing changed.
 abbrev pub StopsFor : {R B : Type 0} → (R → RingView) → IoUringDriver R B → IoUringDriver R B → Turned → List ℕ → Option Stop → Type 0
 StopsFor view old new turned queued None = waiting_in view new.ring ≤ length queued
@@ -41,7 +41,7 @@ StopsFor view old new turned queued (Some RingFault) =
     Rose (view (ring_in old)).faults (view (ring_in new)).faults × TreatsNone old new turned queued
 StopsFor view old new turned queued (Some Busy) =
     Rose (view (ring_in old)).busies (view (ring_in new)).busies × (queued ≡ [] → (view (ring_in new)).done ≡ [])
-StopsFor view old new turned queued (Some (BadCompletion word)) = IsStray new.slots.values new.holding word
+StopsFor view old new turned queued (Some (BadCompletion word)) = HasStray new.slots.values new.holding word
 StopsFor view old new turned queued (Some OutOfMemory) = (new ≡ old) × TreatsNone old new turned queued
 
 -- Of a ring that shows its lists: a prefix of what was pending was taken, and those that were treated are the first of what was ready
@@ -74,11 +74,12 @@ pub record TreatsTaken {R B : Type 0} (view : R → RingView) (tells : Bool) (ol
   pub few : waiting_in view new.ring + length taken ≤ waiting_in view old.ring + length queued
   pub shown : IsTrue tells → TreatsReady view old new taken bad
 
--- What a turn treated, by why it stopped: at a bad completion as at none.
+-- What a turn treated, by why it stopped: at a bad completion as at none. Where the ring failed, it only entered what was pending, and no
+-- completion was lost.
 abbrev pub TreatsFor : {R B : Type 0} → (R → RingView) → Bool → IoUringDriver R B → IoUringDriver R B → Turned → List ℕ → Option Stop →
     Type 0
 TreatsFor view tells old new turned queued None = TreatsTaken view tells old new turned queued None
-TreatsFor view tells old new turned queued (Some RingFault) = ⊤
+TreatsFor view tells old new turned queued (Some RingFault) = Enters view tells old.ring new.ring
 TreatsFor view tells old new turned queued (Some Busy) = TreatsTaken view tells old new turned queued None
 TreatsFor view tells old new turned queued (Some (BadCompletion word)) = TreatsTaken view tells old new turned queued (Some word)
 TreatsFor view tells old new turned queued (Some OutOfMemory) = ⊤
@@ -136,3 +137,4 @@ pub record TurnMeets {R B : Type 0} (view : R → RingView) (buffer : B → Buff
   pub none_due : IsTrue steady → due_in old ≡ [] → due_in new ≡ []
   pub tokens : KeepsTokens old new
   pub given : given_by new ≡ given_by old
+  pub members : members_in new ≡ members_in old

@@ -1,8 +1,9 @@
 -- What the readers of a driver show. Cited by `IoUringDriver` and by whoever holds one.
-use Rattle.std.specs.Prelude.{ℕ, Bool, true, ◌&&◌, List, [], ◌∷◌, ◌++◌}
+use Rattle.std.specs.Prelude.{ℕ, Bool, true, ◌&&◌, List, [], ◌∷◌, ◌++◌, length}
 use Rattle.std.specs.FinMap as map
 use Rattle.ring_core.specs.declared.entry.Entry.{Entry}
 use Rattle.ring_core.specs.Ring.{RingView}
+use Rattle.driver_core.specs.Members.{Membership}
 use Rattle.uring_driver.specs.declared.uring.IoUringDriver.{IoUringDriver}
 use Rattle.uring_driver.specs.Holding.{Holding, is_users}
 use Rattle.uring_driver.specs.Submissions.{pending_ring}
@@ -38,6 +39,14 @@ given_by driver = driver.given
 -- Who holds the driver's handles, and which closes aren't reaped.
 abbrev pub holding_in : {R B : Type 0} → IoUringDriver R B → Holding
 holding_in driver = driver.holding
+
+-- The driver's cancel groups, and where the operations under them are.
+abbrev pub members_in : {R B : Type 0} → IoUringDriver R B → Membership
+members_in driver = driver.members
+
+-- How many groups were made.
+abbrev pub group_count : {R B : Type 0} → IoUringDriver R B → ℕ
+group_count driver = length driver.members.groups
 
 -- The user holds a handle.
 abbrev pub holds_handle : {R B : Type 0} → IoUringDriver R B → ℕ → Bool

@@ -6,12 +6,7 @@ mod submissions;
 pub mod uring;
 
 pub use driver_core::{
-    Done, Driver, Executed, MOST_GIVEN, Op, Parked, PollOp, Stop, SubmitError, SubmitFault,
-    Submitted, Turned,
+    CancelHandle, Canceller, Done, Driver, Executed, MOST_GIVEN, Op, Parked, PollOp, Stop,
+    SubmitError, SubmitFault, Submitted, Turned,
 };
 pub use uring::IoUringDriver;
-
-#[cfg(test)]
-mod example;
-#[cfg(test)]
-mod tests;

@@ -1,16 +1,17 @@
 //! The ring as the driver uses it: with room that is reserved in it, and with the entries that it kept out behind it.
-ghost use Rattle.std.specs.Prelude.{◌≡◌, ◌≤◌, ◌<◌, ◌+◌, ◌^◌, ◌++◌, [], ◌∷◌, length, Some, None, IsTrue};
+ghost use Rattle.std.specs.Prelude.{◌≡◌, ◌≤◌, ◌<◌, ◌+◌, ◌^◌, ◌++◌, ◌↔◌, [], ◌∷◌, length, Some, None, IsTrue};
 ghost use Rattle.std.specs.Prelude.{IfSome, IfNone, IfOk, IfErr, OnOk, OnErr};
 ghost use Rattle.ring_core.specs.Ring.{IsLater, NextFor, entered, pushed};
-ghost use Rattle.ring_core.specs.World.{fresh, output_at, WorldFeeds, WorldEnds};
+ghost use Rattle.ring_core.specs.World.{fresh, look_at, WorldFeeds, WorldFeedsMessage, WorldEnds};
 ghost use Rattle.ring_core.specs.Lends.{with_world};
 ghost use Rattle.ring_core.specs.MemRing.{ExecutesFor};
+ghost use Rattle.uring_driver.specs.Finish.{over_ring, injected};
 ghost use Rattle.uring_driver.specs.Submissions.{with_spare, room_made, pending_ring, IsSameButWorld, Enters, MustEnter, KeptOut, Posts};
 
 use rent_buf::OutOfMemory;
 use ring_core::{
-    Completion, EnterError, Entry, ExecRefusal, HandleKind, Look, MemRing, Payloads, Push, Ring,
-    Told, WorldError,
+    Completion, EnterError, Entry, ExecRefusal, FaultRing, HandleKind, Look, MOST_HANDLES, MemRing,
+    Payloads, Push, Ring, Told, WorldError,
 };
 use std::alloc::Global;
 use std::collections::VecDeque;
@@ -58,6 +59,25 @@ impl<R: Ring> Submissions<R> {
         ensures { result.now ≡ self.now.ring }
     {
         &self.ring
+    }
+
+    /// The ring alone. What is due is dropped.
+    pub fn into_ring(self) -> R
+        ensures { result ≡ self.ring }
+    {
+        let Submissions {
+            ring,
+            due: _due,
+            room: _room,
+        } = self;
+        ring
+    }
+
+    /// Nothing is queued or due.
+    pub fn none_pending(&self) -> bool
+        ensures { IsTrue result ↔ (((R.view self.now.ring).queue ≡ []) × (self.now.due ≡ [])) }
+    {
+        self.ring.queued() == 0 && self.due.is_empty()
     }
 
     /// How many entries are due.
@@ -220,6 +240,17 @@ impl<R: Ring> Submissions<R> {
     }
 }
 
+impl Submissions<FaultRing> {
+    /// Adds a completion behind those that are ready in the ring.
+    pub fn inject(&mut self, completion: Completion) -> Result<(), OutOfMemory>
+        ensures ok { OnOk result (self.new ≡ over_ring self.old (injected self.old.ring completion)) }
+        ensures err { OnErr result (self.new ≡ self.old) }
+        ensures rest { self.new ≡ over_ring self.old self.new.ring }
+    {
+        self.ring.inject(completion)
+    }
+}
+
 impl Submissions<MemRing> {
     /// How many handles the ring's world has.
     pub fn handles(&self) -> u64
@@ -246,6 +277,15 @@ impl Submissions<MemRing> {
         self.ring.world().feed(h, bytes)
     }
 
+    /// A message joins those that wait on a handle of the ring's world.
+    pub fn feed_message(&mut self, h: u64, addr: u64, bytes: &[u8]) -> Result<(), WorldError>
+        requires { h < length self.old.ring.world }
+        ensures feeds { WorldFeedsMessage addr bytes.now self.old.ring.world h self.new.ring.world result }
+        ensures rest { IsSameButWorld self.old self.new }
+    {
+        self.ring.world().feed_message(h, addr, bytes)
+    }
+
     /// Marks the end of a handle of the ring's world. It takes no memory.
     pub fn end(&mut self, h: u64) -> Result<(), WorldError>
         requires { h < length self.old.ring.world }
@@ -255,10 +295,10 @@ impl Submissions<MemRing> {
         self.ring.world().end(h)
     }
 
-    /// What was sent to a handle of the ring's world, copied once.
+    /// What looking at a handle of the ring's world shows, copied once.
     pub fn look(&self, h: u64) -> Result<Look, OutOfMemory>
         requires { h < length self.now.ring.world }
-        ensures { IfOk result (λ look. look ≡ Look.Bytes (output_at self.now.ring.world h)) }
+        ensures { IfOk result (λ look. look ≡ look_at self.now.ring.world h) }
     {
         self.ring.handles().look(h)
     }
@@ -272,6 +312,7 @@ impl Submissions<MemRing> {
     ) -> Result<Completion, ExecRefusal>
         ensures executes { ExecutesFor P.offered P.stores P.takes_memory self.old.ring place told
             self.new.ring payloads.old payloads.new result }
+        ensures few { length self.old.ring.world ≤ MOST_HANDLES → length self.new.ring.world ≤ MOST_HANDLES }
         ensures due { self.new.due ≡ self.old.due }
         ensures room { self.new.room ≡ self.old.room }
     {

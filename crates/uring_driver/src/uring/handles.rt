@@ -3,9 +3,10 @@ ghost use Rattle.std.specs.Prelude.{◌≡◌, ◌<◌, ◌-◌, ◌↔◌, true
 ghost use Rattle.handle_core.specs.Table.{holders_at, with_holders, with_user, without_user};
 ghost use Rattle.ring_core.specs.Entry.{close_entry};
 ghost use Rattle.ring_core.specs.Ledger.{Ledger};
+ghost use Rattle.ring_core.specs.Request.{listed};
 ghost use Rattle.driver_core.specs.Holds.{is_nobody};
 ghost use Rattle.uring_driver.specs.Holding.{closes, knows, user_count, user_left, unheld_if, IsSameHolding};
-ghost use Rattle.uring_driver.specs.Uring.{due_in, pending, holding_in, holds_handle};
+ghost use Rattle.uring_driver.specs.Uring.{due_in, pending, holding_in, holds_handle, holds_all};
 ghost use Rattle.uring_driver.specs.Op.{KeepsTokens, KeepsRequests};
 ghost use Rattle.uring_driver.specs.Submissions.{PendingMoves};
 ghost use Rattle.uring_driver.specs.Stands.{Stands};
@@ -15,7 +16,7 @@ ghost use Rattle.uring_driver.specs.Released.{Adopts, ReleasesFor, HasHandleRoom
 use crate::uring::{IoUringDriver, owed};
 use handle_core::{MAX_HOLDS, Released, SharedFd};
 use rent_buf::{IoBufMut, OutOfMemory};
-use ring_core::{Entry, MOST_HANDLES, Ring};
+use ring_core::{Entry, MOST_HANDLES, Names, Ring};
 
 impl<R: Ring, B: IoBufMut + Drop> IoUringDriver<R, B> {
     /// The user holds a handle of this number, below `MOST_HANDLES`, which wasn't known. The memory of its close is reserved, so that no
@@ -60,6 +61,17 @@ impl<R: Ring, B: IoBufMut + Drop> IoUringDriver<R, B> {
         ensures { result ≡ holds_handle self.now h }
     {
         self.handles.user_holds(h)
+    }
+
+    /// The user holds each of these handles, as `submit_with` asks of those that its request names. (not in monoio)
+    pub fn holds_names(&self, names: Names) -> bool
+        ensures { result ≡ holds_all self.now (listed names) }
+    {
+        match names {
+            Names::Nothing => true,
+            Names::One(h) => self.user_holds(h),
+            Names::Two(lower, upper) => self.user_holds(lower) && self.user_holds(upper),
+        }
     }
 
     /// How often the user holds a handle: once more by each `hold`, once less by each `release`. (not in monoio)
@@ -137,7 +149,7 @@ impl<R: Ring, B: IoBufMut + Drop> IoUringDriver<R, B> {
         ensures ok { OnOk result (HasHandleRoom self.new) }
         ensures stands { (L : Ledger) → Stands R.view B.buffer self.old L → Stands R.view B.buffer self.new L }
     {
-        let Some(room) = owed(&self.ops, self.handles.len(), 1) else {
+        let Some(room) = owed(&self.ops, self.handles.places(), 1) else {
             return Err(OutOfMemory);
         };
         if self.handles.reserve_close().is_err() {

@@ -1,6 +1,6 @@
 //! The calls of a driver over the ring in memory: its handles, and what executes its operations.
 ghost use Rattle.std.specs.Prelude.{◌≡◌, ◌≤◌, ◌<◌, ◌++◌, ◌&&◌, nat_lt, false, [], ◌∷◌, IsTrue, IfOk, IfErr, OnOk, OnErr, length};
-ghost use Rattle.ring_core.specs.World.{fresh, output_at, WorldFeeds, WorldEnds};
+ghost use Rattle.ring_core.specs.World.{fresh, look_at, WorldFeeds, WorldFeedsMessage, WorldEnds};
 ghost use Rattle.ring_core.specs.Surroundings.{around};
 ghost use Rattle.ring_core.specs.Ledger.{Ledger, empty};
 ghost use Rattle.ring_core.specs.declared.ledger.Event.TheVariants.{Give};
@@ -10,10 +10,10 @@ ghost use Rattle.uring_driver.specs.Submissions.{IsSameButWorld};
 ghost use Rattle.ring_core.specs.Entry.{target};
 ghost use Rattle.uring_driver.specs.Holding.{knows, IsSameHolding};
 ghost use Rattle.uring_driver.specs.Released.{Adopts};
-ghost use Rattle.uring_driver.specs.Uring.{ring_in, due_in, pending, given_by, holding_in, holds_handle};
+ghost use Rattle.uring_driver.specs.Uring.{ring_in, due_in, pending, given_by, holding_in, holds_handle, members_in};
 ghost use Rattle.uring_driver.specs.Stands.{Stands, Answers};
 ghost use Rattle.uring_driver.specs.Submitted.{SameSlots, SameOps, IsSameRing};
-ghost use Rattle.uring_driver.specs.Handles.{FeedsFor, EndsFor, LooksFor};
+ghost use Rattle.uring_driver.specs.Handles.{FeedsFor, FeedsMessageFor, EndsFor, LooksFor};
 ghost use Rattle.uring_driver.specs.Executed.{ExecutesFor, ExecutesOver, executed_as};
 
 use crate::uring::IoUringDriver;
@@ -97,8 +97,8 @@ impl<B: IoBufMut + Drop> IoUringDriver<MemRing, B> {
         }
     }
 
-    /// Bytes arrive at a handle of the ring that the user holds: they join its input's end. `BadHandleEvent` comes exactly when its end is
-    /// marked. (not in monoio)
+    /// Bytes arrive at a handle of the ring that the user holds: they join its input's end. `BadHandleEvent` comes exactly when the handle
+    /// is a datagram, or its end is marked. (not in monoio)
     pub fn feed(&mut self, h: u64, bytes: &[u8]) -> Result<(), WorldError>
         requires held { IsTrue (holds_handle self.old h) }
         requires here { h < length (ring_in self.old).world }
@@ -120,8 +120,31 @@ impl<B: IoBufMut + Drop> IoUringDriver<MemRing, B> {
         Ok(())
     }
 
-    /// The end of what arrives at a handle of the ring that the user holds. `BadHandleEvent` comes exactly when it is marked already. It
-    /// takes no memory, so `OutOfMemory` doesn't come. (not in monoio)
+    /// A message arrives at a handle of the ring that the user holds: it joins those that wait, with its address and a copy of its bytes.
+    /// `BadHandleEvent` comes exactly when the handle is no datagram. (not in monoio)
+    pub fn feed_message(&mut self, h: u64, addr: u64, bytes: &[u8]) -> Result<(), WorldError>
+        requires held { IsTrue (holds_handle self.old h) }
+        requires here { h < length (ring_in self.old).world }
+        ensures answers { (L : Ledger) → Stands (λ r. r) B.buffer self.old L → FeedsMessageFor B.buffer L h addr bytes.now self.new result }
+        // Over every driver: the handle changes as the ring's world says, and nothing else.
+        ensures feeds { WorldFeedsMessage addr bytes.now (ring_in self.old).world h (ring_in self.new).world result }
+        ensures rest { IsSameButWorld self.old.ring self.new.ring × SameSlots self.old self.new }
+        ensures err { OnErr result (self.new ≡ self.old) }
+        ensures tokens { KeepsTokens self.old self.new }
+        ensures requests { KeepsRequests self.old self.new }
+        ensures pending { pending (λ r. r) self.new ≡ pending (λ r. r) self.old }
+        ensures due { due_in self.new ≡ due_in self.old }
+        ensures given { given_by self.new ≡ given_by self.old }
+    {
+        match self.ring.feed_message(h, addr, bytes) {
+            Ok(()) => {}
+            Err(why) => return Err(why),
+        }
+        Ok(())
+    }
+
+    /// The end of what arrives at a handle of the ring that the user holds. `BadHandleEvent` comes exactly when the handle is neither a
+    /// stream nor a pipe, or its end is marked already. It takes no memory, so `OutOfMemory` doesn't come. (not in monoio)
     pub fn end(&mut self, h: u64) -> Result<(), WorldError>
         requires held { IsTrue (holds_handle self.old h) }
         requires here { h < length (ring_in self.old).world }
@@ -144,24 +167,27 @@ impl<B: IoBufMut + Drop> IoUringDriver<MemRing, B> {
         Ok(())
     }
 
-    /// What was sent to a handle of the ring that the user holds, copied once. (not in monoio)
+    /// What looking at a handle of the ring that the user holds shows, copied once: the bytes that were sent to a stream, those of a pipe
+    /// or a file, the messages that a datagram sent. (not in monoio)
     pub fn look(&self, h: u64) -> Result<Look, OutOfMemory>
         requires held { IsTrue (holds_handle self.now h) }
         requires here { h < length (ring_in self.now).world }
         ensures answers { IfOk result (λ look. (L : Ledger) → Stands (λ r. r) B.buffer self.now L → LooksFor L h look) }
-        ensures looks { IfOk result (λ look. look ≡ Look.Bytes (output_at (ring_in self.now).world h)) }
+        ensures looks { IfOk result (λ look. look ≡ look_at (ring_in self.now).world h) }
     {
         self.ring.look(h)
     }
 
     /// Executes what is in flight at a place with a reported outcome: it becomes the last completion. A close moves nothing. The bytes
-    /// that come go from the handle's input into the operation's buffer, and those that are sent are copied from the buffer to the
-    /// handle's output; an error leaves the buffer as it was submitted. Only a send takes memory. (not in monoio)
+    /// that come go from the handle into the operation's buffer, those that are sent are copied from the buffer to the handle, and those of
+    /// a splice go from one handle to the other; an error leaves the buffer as it was submitted. Only what sends or splices takes memory.
+    /// (not in monoio)
     pub fn execute(&mut self, place: usize, told: Told) -> Result<Executed, ExecRefusal>
         ensures answers { (L : Ledger) → Stands (λ r. r) B.buffer self.old L → ExecutesFor B.buffer L place told self.new result }
         // Over every driver: what its ring does with its operations, and nothing else.
         ensures executes { ExecutesOver B.buffer self.old place told self.new result }
         ensures handles { holding_in self.new ≡ holding_in self.old }
+        ensures members { members_in self.new ≡ members_in self.old }
         ensures err { OnErr result (self.new ≡ self.old) }
         ensures tokens { KeepsTokens self.old self.new }
         // Bytes come to a buffer at most: what surrounds it stays.

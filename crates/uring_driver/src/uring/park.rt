@@ -107,6 +107,3 @@ fn none_woken(alloc: Global) -> Woken
         again: WakerList::from_vec(Vec::new(alloc)),
     }
 }
-
-#[cfg(test)]
-mod tests;

@@ -5,6 +5,8 @@ ghost use Rattle.ring_core.specs.Entry.{target};
 ghost use Rattle.driver_core.specs.Slot.{KeepsNumbers};
 ghost use Rattle.driver_core.specs.Requests.{KeepsRequests};
 ghost use Rattle.uring_driver.specs.State.{IsSound, AreHolding};
+ghost use Rattle.uring_driver.specs.Holding.{places};
+ghost use Rattle.uring_driver.specs.Making.{refuses_made};
 ghost use Rattle.uring_driver.specs.Op.{ops_in};
 ghost use Rattle.uring_driver.specs.Reap.{HasRoom, treat_one};
 ghost use Rattle.uring_driver.specs.Reaps.{Treats, PostsAll, Reaps, ReapsAll, midway};
@@ -14,7 +16,7 @@ ghost use Rattle.uring_driver.specs.Begun.{HasBegun, CannotBegin, EndsTurn, HasT
 use crate::holding::Handles;
 use crate::submissions::Submissions;
 use crate::uring::IoUringDriver;
-use crate::uring::leave::let_go;
+use crate::uring::leave::end_op;
 use driver_core::{Operations, Stop, Turned};
 use rent_buf::{IoBufMut, NumList, OutOfMemory};
 use ring_core::{Completion, EnterError, Ring, Target};
@@ -124,8 +126,8 @@ fn reap_one<R: Ring, B: Drop>(
 ) -> Option<u64>
     requires some { 0 < length (R.view ring.old.ring).done }
     requires room { HasRoom named.old 1 }
-    requires sound { IsSound ring.old.room ops.old.slots.values handles.old.table }
-    requires holding { AreHolding handles.old.table ops.old.slots.values ops.old.given }
+    requires sound { IsSound ring.old.room ops.old.slots.values (places handles.old) }
+    requires holding { AreHolding handles.old ops.old.slots.values ops.old.given }
     ensures reaps { Reaps R.view R.tells R.steady
         (midway ring.old ops.old handles.old) (midway ring.new ops.new handles.new) named.old named.new 1 result }
     ensures none_due { IsTrue R.steady → ring.old.due ≡ [] → ring.new.due ≡ [] }
@@ -133,8 +135,8 @@ fn reap_one<R: Ring, B: Drop>(
     ensures numbers { KeepsNumbers ops.old.slots.values ops.new.slots.values }
     ensures requests { KeepsRequests ops.old ops.new }
     ensures given { ops.new.given ≡ ops.old.given }
-    ensures sound { IsSound ring.new.room ops.new.slots.values handles.new.table }
-    ensures holding { AreHolding handles.new.table ops.new.slots.values ops.new.given }
+    ensures sound { IsSound ring.new.room ops.new.slots.values (places handles.new) }
+    ensures holding { AreHolding handles.new ops.new.slots.values ops.new.given }
 {
     let Some(completion) = ring.next() else {
         unreachable!();
@@ -143,7 +145,7 @@ fn reap_one<R: Ring, B: Drop>(
 }
 
 // Treats a completion that was taken off: it completes its slot, or its close is reaped. Where the slot of a dropped operation goes, its
-// handles are let go. It answers the word of a stray one.
+// handles are let go, and one that it made is closed. It answers the word of a stray one.
 fn treat<R: Ring, B: Drop>(
     ring: &mut Submissions<R>,
     ops: &mut Operations<B>,
@@ -152,8 +154,8 @@ fn treat<R: Ring, B: Drop>(
     completion: &Completion,
 ) -> Option<u64>
     requires room { HasRoom named.old 1 }
-    requires sound { IsSound ring.old.room ops.old.slots.values handles.old.table }
-    requires holding { AreHolding handles.old.table ops.old.slots.values ops.old.given }
+    requires sound { IsSound ring.old.room ops.old.slots.values (places handles.old) }
+    requires holding { AreHolding handles.old ops.old.slots.values ops.old.given }
     ensures treats { Treats (treat_one (target completion.now.word) ops.old.slots.values handles.old completion.now)
         ops.new.slots.values handles.new named.old named.new result }
     ensures posts { PostsAll R.view R.tells R.steady ring.old ring.new
@@ -163,8 +165,8 @@ fn treat<R: Ring, B: Drop>(
     ensures numbers { KeepsNumbers ops.old.slots.values ops.new.slots.values }
     ensures requests { KeepsRequests ops.old ops.new }
     ensures given { ops.new.given ≡ ops.old.given }
-    ensures sound { IsSound ring.new.room ops.new.slots.values handles.new.table }
-    ensures holding { AreHolding handles.new.table ops.new.slots.values ops.new.given }
+    ensures sound { IsSound ring.new.room ops.new.slots.values (places handles.new) }
+    ensures holding { AreHolding handles.new ops.new.slots.values ops.new.given }
 {
     match Target::of(completion.word) {
         Target::Reserved(_) => None,
@@ -175,15 +177,57 @@ fn treat<R: Ring, B: Drop>(
             named.closed.push_reserved(h);
             None
         }
-        Target::Slot(key) => {
-            let names = ops.dropped_names(key);
-            let Some((number, task)) = ops.complete(completion) else {
-                return Some(completion.word);
-            };
-            note(named, number, task);
-            let_go(ring, handles, names);
-            None
-        }
+        Target::Slot(key) => treat_slot(ring, ops, handles, named, completion, key),
+    }
+}
+
+// The same, of a completion of a slot: it is completed, and what its operation makes is kept or closed.
+fn treat_slot<R: Ring, B: Drop>(
+    ring: &mut Submissions<R>,
+    ops: &mut Operations<B>,
+    handles: &mut Handles,
+    named: &mut Named,
+    completion: &Completion,
+    key: usize,
+) -> Option<u64>
+    requires word { key ≡ completion.now.word }
+    requires room { HasRoom named.old 1 }
+    requires sound { IsSound ring.old.room ops.old.slots.values (places handles.old) }
+    requires holding { AreHolding handles.old ops.old.slots.values ops.old.given }
+    ensures treats { Treats (treat_one (Target.Slot key) ops.old.slots.values handles.old completion.now)
+        ops.new.slots.values handles.new named.old named.new result }
+    ensures posts { PostsAll R.view R.tells R.steady ring.old ring.new
+        (treat_one (Target.Slot key) ops.old.slots.values handles.old completion.now).queued }
+    ensures none_due { IsTrue R.steady → ring.old.due ≡ [] → ring.new.due ≡ [] }
+    ensures room { (count : ℕ) → HasRoom named.old (count + 1) → HasRoom named.new count }
+    ensures numbers { KeepsNumbers ops.old.slots.values ops.new.slots.values }
+    ensures requests { KeepsRequests ops.old ops.new }
+    ensures given { ops.new.given ≡ ops.old.given }
+    ensures sound { IsSound ring.new.room ops.new.slots.values (places handles.new) }
+    ensures holding { AreHolding handles.new ops.new.slots.values ops.new.given }
+{
+    let names = ops.dropped_names(key);
+    let maker = ops.is_maker(key);
+    let dropped = ops.is_dropped(key);
+    let made = completion.outcome.made();
+    if refuses(handles, maker, made) {
+        return Some(completion.word);
+    }
+    let Some((number, task)) = ops.complete(completion) else {
+        return Some(completion.word);
+    };
+    note(named, number, task);
+    end_op(ring, handles, names, maker, dropped, made);
+    None
+}
+
+// What an operation names as made is refused: it may make no handle, or the handle can't be new.
+fn refuses(handles: &Handles, maker: bool, made: Option<u64>) -> bool
+    ensures { result ≡ refuses_made handles.now maker made }
+{
+    match made {
+        None => false,
+        Some(h) => !maker || handles.is_old(h),
     }
 }
 
@@ -214,16 +258,16 @@ pub fn reap_all<R: Ring, B: Drop>(
     named: &mut Named,
 ) -> Option<u64>
     requires room { HasRoom named.old (length (R.view ring.old.ring).done) }
-    requires sound { IsSound ring.old.room ops.old.slots.values handles.old.table }
-    requires holding { AreHolding handles.old.table ops.old.slots.values ops.old.given }
+    requires sound { IsSound ring.old.room ops.old.slots.values (places handles.old) }
+    requires holding { AreHolding handles.old ops.old.slots.values ops.old.given }
     ensures reaps { ReapsAll R.view R.tells R.steady
         (midway ring.old ops.old handles.old) (midway ring.new ops.new handles.new) named.old named.new result }
     ensures none_due { IsTrue R.steady → ring.old.due ≡ [] → ring.new.due ≡ [] }
     ensures numbers { KeepsNumbers ops.old.slots.values ops.new.slots.values }
     ensures requests { KeepsRequests ops.old ops.new }
     ensures given { ops.new.given ≡ ops.old.given }
-    ensures sound { IsSound ring.new.room ops.new.slots.values handles.new.table }
-    ensures holding { AreHolding handles.new.table ops.new.slots.values ops.new.given }
+    ensures sound { IsSound ring.new.room ops.new.slots.values (places handles.new) }
+    ensures holding { AreHolding handles.new ops.new.slots.values ops.new.given }
 {
     let ready = ring.ready();
     for i in 0..ready {

@@ -4,12 +4,12 @@ use Rattle.std.specs.FinMap.{get}
 use Rattle.handle_core.specs.Table.{nobody, without_operation}
 use Rattle.uring_driver.specs.Holding.{Holding, IsKept, closes}
 use Rattle.uring_driver.proofs.Closings.{kept-reaped}
-use Rattle.driver_core.proofs.Counted.{some-of}
+use Rattle.ring_core.proofs.Numbers.{some-of}
 use Rattle.uring_driver.proofs.holding.Handles.closed.Goals as goal
 
 pub invariant_of-self : goal.invariant_of-self
 invariant_of-self c =
-    let holding : Holding = record { table = c.self.inside.table; closing = c.self.inside.closing } in
+    let holding : Holding = record { table = c.self.inside.table; closing = c.self.inside.closing; makers = c.self.inside.makers } in
     let closing = subst (λ x. closes x c.args.h ≡ true) (sym c.self.view_is) (sym c.closing.ensures ∙ c.if-not-closing.false) in
     let was = some-of (get holding.closing.holders c.args.h) closing in
     let once = c.self.invariant.once c.args.h was.0 was.1 in

@@ -8,7 +8,7 @@ use Rattle.uring_driver.proofs.holding.Handles.forget.Goals as goal
 
 pub invariant_of-self : goal.invariant_of-self
 invariant_of-self c =
-    let holding : Holding = record { table = c.self.inside.table; closing = c.self.inside.closing } in
+    let holding : Holding = record { table = c.self.inside.table; closing = c.self.inside.closing; makers = c.self.inside.makers } in
     let there : get holding.table.holders c.args.h ≡ Some by_user =
     subst (λ (x : Holding). get x.table.holders c.args.h ≡ Some by_user) (sym c.self.view_is) c.requires in
     let last = c.release.ensures.last.1 (ap (λ o. without_user (unwrap_or o nobody)) there) in

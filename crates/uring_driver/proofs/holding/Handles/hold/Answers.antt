@@ -6,7 +6,7 @@ use Rattle.uring_driver.proofs.holding.Handles.hold.Goals as goal
 
 pub invariant_of-self : goal.invariant_of-self
 invariant_of-self c =
-    let holding : Holding = record { table = c.self.inside.table; closing = c.self.inside.closing } in
+    let holding : Holding = record { table = c.self.inside.table; closing = c.self.inside.closing; makers = c.self.inside.makers } in
     let users = subst (λ x. is_users x c.args.h ≡ true) (sym c.self.view_is) c.requires.held in
     subst (λ t. IsKept (record holding { table = t })) (sym c.hold.ensures)
     (kept-written holding c.self.invariant c.args.h (with_user (holders_at holding.table c.args.h))

@@ -8,26 +8,26 @@ use Rattle.uring_driver.proofs.holding.Handles.release.Goals as goal
 
 pub add_op_reserved-requires-clause-room : goal.add_op_reserved-requires-clause-room
 add_op_reserved-requires-clause-room c =
-    let holding : Holding = record { table = c.self.inside.table; closing = c.self.inside.closing } in
+    let holding : Holding = record { table = c.self.inside.table; closing = c.self.inside.closing; makers = c.self.inside.makers } in
     room-kept holding c.self.invariant c.args.h
     (held-user holding c.args.h (subst (λ x. is_users x c.args.h ≡ true) (sym c.self.view_is) c.requires))
 
 pub invariant_of-self : goal.invariant_of-self
 invariant_of-self c =
-    let holding : Holding = record { table = c.self.inside.table; closing = c.self.inside.closing } in
+    let holding : Holding = record { table = c.self.inside.table; closing = c.self.inside.closing; makers = c.self.inside.makers } in
     let closed = kept-closing holding c.self.invariant c.args.h
     (held-user holding c.args.h (subst (λ x. is_users x c.args.h ≡ true) (sym c.self.view_is) c.requires)) in
-    let left = subst (λ (t : Table). IsKept (record {
+    let left = subst (λ (t : Table). IsKept (record holding {
       table = t;
       closing = record (with_holders holding.closing c.args.h by_operation) {
         spare = holding.closing.spare - 1;
       };
     })) (sym (c.release.ensures.left c.in-Last.is)) closed in
-    subst (λ (t : Table). IsKept (record { table = c.release.new.self; closing = t })) (sym c.add_op_reserved.ensures) left
+    subst (λ (t : Table). IsKept (record holding { table = c.release.new.self; closing = t })) (sym c.add_op_reserved.ensures) left
 
 pub invariant_of-self-in-Held : goal.invariant_of-self-in-Held
 invariant_of-self-in-Held c =
-    let holding : Holding = record { table = c.self.inside.table; closing = c.self.inside.closing } in
+    let holding : Holding = record { table = c.self.inside.table; closing = c.self.inside.closing; makers = c.self.inside.makers } in
     let some = somebody-of (without_user (holders_at holding.table c.args.h)) (λ none.
     let f : ◌≡◌ {A = Released} Held Last = sym c.in-Held.is ∙ c.release.ensures.last.1 none in let z : ⊥ = cc in z) in
     subst (λ t. IsKept (record holding { table = t })) (sym (c.release.ensures.stays c.in-Held.is))

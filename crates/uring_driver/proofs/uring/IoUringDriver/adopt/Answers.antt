@@ -1,7 +1,7 @@
 use Rattle.std.proofs.Common.{sym, ◌∙◌, ap, subst}
 use Rattle.std.specs.Prelude.{is_some}
 use Rattle.std.specs.FinMap.{get, len}
-use Rattle.uring_driver.specs.Holding.{Holding}
+use Rattle.uring_driver.specs.Holding.{Holding, places}
 use Rattle.uring_driver.specs.Released.{HasHandleRoom}
 use Rattle.uring_driver.specs.State.{IsSound, AreHolding}
 use Rattle.uring_driver.proofs.Closings.{unknown}
@@ -20,10 +20,15 @@ invariant_of-self g c =
     ∙ ap (λ t. is_some (get t.holders c.args.h)) c.reserve_handle.ensures.table
     ∙ (unknown c.args.self.now.holding c.args.h c.requires.fresh).0 in
     elim c.match-add.branch [
-      | in-Ok w ↦ kept-new room slots given holding c.add.new.self c.args.h c.self.invariant w.in-Ok.ensures.ok fresh spare.entry
+      | in-Ok w ↦ (
+          let kept = kept-new room slots given holding c.add.new.self c.args.h (c.self.invariant.0, c.self.invariant.1) w.in-Ok.ensures.ok
+          fresh spare.entry in
+          (kept.0, kept.1, c.self.invariant.2))
       | in-Err w ↦ (
-          subst (λ (x : Holding). IsSound room slots x.table × AreHolding x.table slots given) {x = holding} (sym w.in-Err.ensures.err)
-          c.self.invariant)
+          let kept =
+          subst (λ (x : Holding). IsSound room slots (places x) × AreHolding x slots given) {x = holding} (sym w.in-Err.ensures.err)
+          (c.self.invariant.0, c.self.invariant.1) in
+          (kept.0, kept.1, c.self.invariant.2))
     ]
 
 pub returns-clause-room : goal.returns-clause-room

@@ -1,18 +1,30 @@
-use Rattle.std.proofs.Common.{List, map, refl, sym, subst}
-use Rattle.std.specs.Prelude.{ℕ}
+use Rattle.std.proofs.Common.{[], ◌∷◌, ◌≡◌, ◌<◌, ℕ, true, map, sym, subst, ap}
 use Rattle.ring_core.specs.Entry.{close_entry}
-use Rattle.uring_driver.specs.Submissions.{Posts, PostsEach}
-use Rattle.uring_driver.proofs.Lefts.{unheld-one}
+use Rattle.ring_core.specs.Lists.{has_number}
+use Rattle.ring_core.specs.declared.entry.TheConstants.{MOST_HANDLES}
+use Rattle.ring_core.specs.Request.{listed}
+use Rattle.driver_core.specs.Holds.{unheld_by}
+use Rattle.uring_driver.specs.Submissions.{PostsEach}
+use Rattle.uring_driver.proofs.Letting.{posts-on, below-on}
 use Rattle.uring_driver.proofs.uring.leave.let_go.Goals as goal
 
-pub returns-in-Last-clause-posts : goal.returns-in-Last-clause-posts
-returns-in-Last-clause-posts g c =
-    let last = c.release_op.ensures.last.0 c.in-Last.is in
-    let one = unheld-one c.args.handles.now.table c.args.names c.in-One.h c.in-One.is last in
-    let old = c.args.ring.now in
-    let new = c.post.new.self in
-    subst (λ (us : List ℕ). PostsEach g.R.Ring.view g.R.Ring.tells g.R.Ring.steady old new (map close_entry us)) (sym one) (
-      new,
-      subst (λ e. Posts g.R.Ring.view g.R.Ring.tells g.R.Ring.steady old new e) c.close.ensures c.post.ensures.posts,
-      refl,
-    )
+pub returns-in-Two-clause-posts : goal.returns-in-Two-clause-posts
+returns-in-Two-clause-posts g c =
+    let table = c.args.handles.now.table in
+    let mid = c.let_one_go-in-Two.new.ring in
+    let new = c.let_one_go-in-Two-2.new.ring in
+    let rest = subst (λ t. PostsEach g.R.Ring.view g.R.Ring.tells g.R.Ring.steady mid new
+    (map close_entry (unheld_by t (c.in-Two.upper ∷ []))))
+    (ap (λ h. h.table) c.let_one_go-in-Two.ensures.handles) c.let_one_go-in-Two-2.ensures.posts in
+    subst (λ names. PostsEach g.R.Ring.view g.R.Ring.tells g.R.Ring.steady c.args.ring.now new
+    (map close_entry (unheld_by table (listed names)))) (sym c.in-Two.is)
+    (posts-on g.R.Ring.view g.R.Ring.tells g.R.Ring.steady c.args.ring.now mid new table c.in-Two.lower (c.in-Two.upper ∷ [])
+    c.let_one_go-in-Two.ensures.posts rest)
+
+pub returns-in-Two-clause-below : goal.returns-in-Two-clause-below
+returns-in-Two-clause-below g c =
+    let table = c.args.handles.now.table in
+    let rest = subst (λ t. (k : ℕ) → has_number k (unheld_by t (c.in-Two.upper ∷ [])) ≡ true → k < MOST_HANDLES)
+    (ap (λ h. h.table) c.let_one_go-in-Two.ensures.handles) c.let_one_go-in-Two-2.ensures.below in
+    subst (λ names. (k : ℕ) → has_number k (unheld_by table (listed names)) ≡ true → k < MOST_HANDLES) (sym c.in-Two.is)
+    (below-on table c.in-Two.lower (c.in-Two.upper ∷ []) c.let_one_go-in-Two.ensures.below rest)

@@ -1,6 +1,7 @@
 use Rattle.std.proofs.Common.{◌≡◌, ◌-◌, [], length, None, IsTrue}
 use Rattle.driver_core.specs.Slot.{KeepsNumbers}
 use Rattle.driver_core.specs.Requests.{KeepsRequests}
+use Rattle.uring_driver.specs.Holding.{places}
 use Rattle.uring_driver.specs.State.{IsSound, AreHolding}
 use Rattle.uring_driver.specs.Reap.{HasRoom}
 use Rattle.uring_driver.specs.Reaps.{Reaps, midway}
@@ -16,6 +17,6 @@ invariant-loop-i g l = record {
   numbers : KeepsNumbers l.initial.ops.slots.values l.ops.slots.values;
   requests : KeepsRequests l.initial.ops l.ops;
   given : l.ops.given ≡ l.initial.ops.given;
-  sound : IsSound l.ring.room l.ops.slots.values l.handles.table;
-  holding : AreHolding l.handles.table l.ops.slots.values l.ops.given;
+  sound : IsSound l.ring.room l.ops.slots.values (places l.handles);
+  holding : AreHolding l.handles l.ops.slots.values l.ops.given;
 }

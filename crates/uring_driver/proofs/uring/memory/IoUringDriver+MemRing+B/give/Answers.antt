@@ -21,9 +21,10 @@ invariant_of-self-in-Err g c =
     let h = c.handles-h.result in
     let adopts = subst (λ x. Adopts c.args.self.now.holding h x.holding) (sym c.self-2.view_is) c.in_ok-fd.ensures.handles in
     let same = ap (λ p. p.room) c.in-Err.ensures.err in
-    kept-without c.self-2.inside.ring.room c.give.new.self.room c.self-2.inside.ops.slots.values c.self-2.inside.ops.given mid
-    c.forget.new.self h c.self-2.invariant (adopted c.args.self.now.holding mid h adopts)
-    c.forget.ensures (omega (arith, same))
+    let kept = kept-without c.self-2.inside.ring.room c.give.new.self.room c.self-2.inside.ops.slots.values c.self-2.inside.ops.given mid
+    c.forget.new.self h (c.self-2.invariant.0, c.self-2.invariant.1) (adopted c.args.self.now.holding mid h adopts)
+    c.forget.ensures (omega (arith, same)) in
+    (kept.0, kept.1, c.self-2.invariant.2)
 
 pub returns-in-Ok-clause-answers : goal.returns-in-Ok-clause-answers
 returns-in-Ok-clause-answers g c =
@@ -33,6 +34,7 @@ returns-in-Ok-clause-answers g c =
       slots = c.self-2.inside.ops.slots;
       given = c.self-2.inside.ops.given;
       holding = c.self-2.inside.handles;
+      members = c.self-2.inside.members;
     } in
     let h = c.handles-h.result in
     let number = c.handles-h.ensures ∙ ap (λ (x : State RingView g.row.B.Denot). length (ring_in x).world) c.self.view_is in
@@ -41,7 +43,7 @@ returns-in-Ok-clause-answers g c =
     let same = subst (λ x. SameOps d x × IsSameRing (λ r. r) d x) (sym c.self-2.view_is) c.in_ok-fd.ensures.rest in
     let room = subst (λ x. HasCloseRoom x) (sym c.self-2.view_is) c.in_ok-fd.ensures.room in
     λ L stands. rw c.in_ok-fd.ensures.fd (gives g.B.IoBufMut.buffer d mid (record mid { ring = c.give.new.self }) h unknown_one adopts
-    same room refl refl c.args.kind L stands number c.in-Ok.ensures.ok refl)
+    same room refl refl refl c.args.kind L stands number c.requires.counter c.in-Ok.ensures.ok refl)
 
 pub returns-in-Err-clause-err : goal.returns-in-Err-clause-err
 returns-in-Err-clause-err g c =
@@ -67,6 +69,7 @@ returns-in-Err-clause-stands g c =
       slots = c.self-2.inside.ops.slots;
       given = c.self-2.inside.ops.given;
       holding = c.self-2.inside.handles;
+      members = c.self-2.inside.members;
     } in
     let h = c.handles-h.result in
     let number = c.handles-h.ensures ∙ ap (λ (x : State RingView g.row.B.Denot). length (ring_in x).world) c.self.view_is in
@@ -75,4 +78,4 @@ returns-in-Err-clause-stands g c =
     let same = subst (λ x. SameOps d x × IsSameRing (λ r. r) d x) (sym c.self-2.view_is) c.in_ok-fd.ensures.rest in
     let room = subst (λ x. HasCloseRoom x) (sym c.self-2.view_is) c.in_ok-fd.ensures.room in
     λ L stands. stands-forgotten g.B.IoBufMut.buffer d mid (record mid { ring = c.give.new.self; holding = c.forget.new.self }) h
-    unknown_one adopts same room refl refl L stands c.in-Err.ensures.err c.forget.ensures
+    unknown_one adopts same room refl refl refl L stands c.in-Err.ensures.err c.forget.ensures

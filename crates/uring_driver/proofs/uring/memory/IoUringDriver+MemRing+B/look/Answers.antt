@@ -12,6 +12,7 @@ returns-clause-answers g c =
       slots = c.self.inside.ops.slots;
       given = c.self.inside.ops.given;
       holding = c.self.inside.handles;
+      members = c.self.inside.members;
     } in
     let holds = subst (λ x. IsTrue (holds_handle x c.args.h)) (sym c.self.view_is) c.requires.held in
     rw (← c.self.view_is) (
