@@ -22,7 +22,7 @@ are_held-kept tokens old new held kept n op = (
 )
 
 -- The token at a number after the place of another was emptied is what it was.
-pub token_at-emptied_other : (tokens : List (Option Op)) (n m : ℕ) → m ≢ n
+pub token_at-emptied_other : {A : Type 0} (tokens : List (Option A)) (n m : ℕ) → m ≢ n
     → token_at (amended tokens n (λ token. None)) m ≡ token_at tokens m
 token_at-emptied_other [] n m other = refl
 token_at-emptied_other (token ∷ tokens) zero zero other = absurd (other refl)
@@ -31,20 +31,20 @@ token_at-emptied_other (token ∷ tokens) (suc n) zero other = refl
 token_at-emptied_other (token ∷ tokens) (suc n) (suc m) other = token_at-emptied_other tokens n m (λ same. other (ap suc same))
 
 -- An emptied place has no token.
-pub token_at-emptied : (tokens : List (Option Op)) (n : ℕ) → token_at (amended tokens n (λ token. None)) n ≡ None
+pub token_at-emptied : {A : Type 0} (tokens : List (Option A)) (n : ℕ) → token_at (amended tokens n (λ token. None)) n ≡ None
 token_at-emptied [] n = refl
 token_at-emptied (token ∷ tokens) zero = refl
 token_at-emptied (token ∷ tokens) (suc n) = token_at-emptied tokens n
 
 -- A token that was taken and put back is where it was.
-pub put-taken : (tokens : List (Option Op)) (n : ℕ) (op : Op) → token_at tokens n ≡ Some op
+pub put-taken : {A : Type 0} (tokens : List (Option A)) (n : ℕ) (op : A) → token_at tokens n ≡ Some op
     → amended (amended tokens n (λ token. None)) n (λ token. Some op) ≡ tokens
 put-taken [] n op there = refl
 put-taken (token ∷ tokens) zero op there = ap (λ x. x ∷ tokens) (sym there)
 put-taken (token ∷ tokens) (suc n) op there = ap (λ xs. token ∷ xs) (put-taken tokens n op there)
 
 -- Where there is no token, emptying its place changes nothing.
-pub emptied-none : (tokens : List (Option Op)) (n : ℕ) → token_at tokens n ≡ None → amended tokens n (λ token. None) ≡ tokens
+pub emptied-none : {A : Type 0} (tokens : List (Option A)) (n : ℕ) → token_at tokens n ≡ None → amended tokens n (λ token. None) ≡ tokens
 emptied-none [] n none = refl
 emptied-none (token ∷ tokens) zero none = ap (λ x. x ∷ tokens) (sym none)
 emptied-none (token ∷ tokens) (suc n) none = ap (λ xs. token ∷ xs) (emptied-none tokens n none)
@@ -104,7 +104,7 @@ are_held-added tokens old new op count held adds n other = (
 )
 
 -- Past the last there is no token.
-pub token_at-past : (tokens : List (Option Op)) (n : ℕ) → length tokens ≤ n → token_at tokens n ≡ None
+pub token_at-past : {A : Type 0} (tokens : List (Option A)) (n : ℕ) → length tokens ≤ n → token_at tokens n ≡ None
 token_at-past [] n past = refl
 token_at-past (token ∷ tokens) zero past = absurd (omega arith)
 token_at-past (token ∷ tokens) (suc n) past = token_at-past tokens n (omega arith)

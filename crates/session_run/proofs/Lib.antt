@@ -1,6 +1,9 @@
 mod Commands
 mod KeptTokens
+mod KeptGroups
 mod Refusals
+mod Submitting
+mod Canceling
 mod Single
 mod Steps
 mod Runs
@@ -10,4 +13,3 @@ mod Replying
 mod Generating
 mod Endings
 mod Parts
-mod NamedHandles

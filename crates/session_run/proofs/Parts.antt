@@ -9,6 +9,7 @@ use Rattle.ring_core.specs.declared.ledger.Event.TheVariants.{Turn, Exec}
 use Rattle.ring_core.specs.declared.request.Told.{Told}
 use Rattle.ring_core.specs.declared.mem_ring.ExecRefusal.{ExecRefusal}
 use Rattle.ring_core.specs.Step.{step}
+use Rattle.ring_core.proofs.Staying.{groups_of}
 use Rattle.uring_driver.specs.declared.uring.IoUringDriver.{IoUringDriver}
 use Rattle.driver_core.specs.declared.op.Executed.{Executed}
 use Rattle.driver_core.specs.declared.op.Executed.TheVariants.{Op as ExecutedNumber, Close as ExecutedHandle}
@@ -23,6 +24,7 @@ use Rattle.session_run.specs.declared.tokens.Tokens.{Tokens}
 use Rattle.session_run.specs.Token.{by_number}
 use Rattle.session_run.specs.Session.{PartsStand, AreParts, AreSingle}
 use Rattle.session_run.proofs.KeptTokens.{are_held-kept}
+use Rattle.session_run.proofs.KeptGroups.{groups-same, groups-kept, groups-step}
 use Rattle.session_run.proofs.Single.{single-same, single-turned}
 use Rattle.session_run.proofs.Steps.{stopped-same}
 
@@ -32,9 +34,10 @@ parts_of_some engine kept L stand = record { ledger = L; stand = stand }
 
 -- A driver that holds the tokens that it held stays that of a session, where it stands for some ledger and nothing is due in it.
 parts-moved : (old new : IoUringDriver RingView Buf) (kept : Tokens) (L M : Ledger) → PartsStand old kept L → Stands (λ r. r) built new M
-    → (due_in old ≡ [] → due_in new ≡ []) → (AreSingle old → AreSingle new) → KeepsTokens old new → given_by new ≡ given_by old
+    → groups_of M ≡ groups_of L → (due_in old ≡ [] → due_in new ≡ []) → (AreSingle old → AreSingle new) → KeepsTokens old new
+    → given_by new ≡ given_by old
     → AreParts new kept
-parts-moved old new kept L M stand driver due single tokens given = record {
+parts-moved old new kept L M stand driver same due single tokens given = record {
   ledger = M;
   stand = record {
     driver = driver;
@@ -42,6 +45,7 @@ parts-moved old new kept L M stand driver due single tokens given = record {
     single = single stand.single;
     numbered = stand.numbered ∙ sym given;
     tokens = are_held-kept (by_number kept) old new stand.tokens tokens;
+    groups = groups-kept kept kept L M stand.groups (groups-same kept) same;
   };
 }
 
@@ -52,11 +56,11 @@ pub parts_executed : (old new : IoUringDriver RingView Buf) (kept : Tokens) (pla
     → given_by new ≡ given_by old → AreParts new kept
 parts_executed old new kept place told (Ok (ExecutedNumber n)) parts answers err holding due tokens given =
     parts-moved old new kept parts.ledger (step parts.ledger (Exec place told)).0 parts.stand
-    (answers parts.ledger parts.stand.driver).stands
+    (answers parts.ledger parts.stand.driver).stands (groups-step parts.ledger (Exec place told) refl)
     (λ none. due ∙ none) (single-same old new holding) tokens given
 parts_executed old new kept place told (Ok (ExecutedHandle h)) parts answers err holding due tokens given =
     parts-moved old new kept parts.ledger (step parts.ledger (Exec place told)).0 parts.stand
-    (answers parts.ledger parts.stand.driver).stands
+    (answers parts.ledger parts.stand.driver).stands (groups-step parts.ledger (Exec place told) refl)
     (λ none. due ∙ none) (single-same old new holding) tokens given
 parts_executed old new kept place told (Err why) parts answers err holding due tokens given = subst (λ d. AreParts d kept) (sym err) parts
 
@@ -68,6 +72,7 @@ parts_turned old new kept turned parts meets = by turned.stop (meets.turns refl 
     by : (stop : Option Stop) → TurnsFor (λ r. r) built true parts.ledger old new turned meets.queued stop →
         TreatsFor (λ r. r) true old new turned meets.queued stop → AreParts new kept
     by None turns treats = parts-moved old new kept parts.ledger (step parts.ledger Turn).0 parts.stand (turns.1 (inl refl)).stands
-        (meets.none_due refl) (single-turned old new turned meets.queued None treats) meets.tokens meets.given
+        (groups-step parts.ledger Turn refl) (meets.none_due refl) (single-turned old new turned meets.queued None treats) meets.tokens
+        meets.given
     by (Some stop) turns treats =
         subst (λ d. AreParts d kept) (sym (stopped-same parts.ledger old new turned meets.queued stop turns)) parts

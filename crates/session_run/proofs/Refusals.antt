@@ -1,29 +1,24 @@
 -- Which events a session refuses, by the causes that the machine names.
 use Rattle.std.proofs.Common.{◌≡◌, ◌<◌, ◌≤◌, ℕ, Bool, true, false, not, ◌||◌, ◌&&◌, List}
 use Rattle.std.proofs.Common.{[], ◌∷◌, length, Option, None, Some, refl, sym, ◌∙◌, ap}
-use Rattle.std.specs.Prelude.{slice_get, nat_le}
+use Rattle.std.specs.Prelude.{slice_get}
 use Rattle.rent_buf.specs.Buf.{built}
-use Rattle.rent_buf.specs.Buffer.{Buffer}
-use Rattle.rent_buf.specs.Parts.{Parts}
 use Rattle.rent_buf.specs.declared.plain.Buf.{Buf}
 use Rattle.ring_core.specs.Lists.{passes}
 use Rattle.ring_core.specs.Ring.{RingView}
 use Rattle.ring_core.specs.Ledger.{Ledger, Operation, Place, InQueue, InFlight, InDone, Reaped}
-use Rattle.ring_core.specs.Ledger.{Gone, is_live, is_owned, live_ops, user_holds}
-use Rattle.ring_core.specs.Request.{named}
-use Rattle.ring_core.specs.declared.ledger.TheConstants.{MOST_LIVE}
+use Rattle.ring_core.specs.Ledger.{Gone, is_live, is_owned, user_holds}
 use Rattle.ring_core.specs.Refusal.{cause, refused_if, lacks_handle}
-use Rattle.ring_core.specs.declared.ledger.Event.TheVariants.{Feed, End, Look, Close, Submit, Poll, Drop, Cancel}
-use Rattle.ring_core.specs.World.{is_ended_at}
-use Rattle.ring_core.specs.declared.ledger.Refusal.TheVariants.{NoOp, NoHandle, Full, BadHandleEvent}
+use Rattle.ring_core.specs.declared.ledger.Event.TheVariants.{Feed, FeedMessage, End, Look, Close, Poll, Drop, Cancel, NewHandle, CancelAll}
+use Rattle.ring_core.specs.World.{refuses_feed, refuses_message, refuses_end}
+use Rattle.ring_core.specs.declared.ledger.Refusal.TheVariants.{NoOp, NoCanceller, NoHandle, BadHandleEvent}
 use Rattle.driver_core.specs.declared.op.Op.{Op}
 use Rattle.uring_driver.specs.declared.uring.IoUringDriver.{IoUringDriver}
-use Rattle.uring_driver.specs.Uring.{holds_handle, holds_all, live_slots}
+use Rattle.uring_driver.specs.Uring.{holds_handle, holds_all}
 use Rattle.uring_driver.specs.Op.{Holds, number_of}
 use Rattle.driver_core.specs.declared.slot.Slot.{Slot}
 use Rattle.driver_core.specs.Slot.{is_owned_life, number_if, serial_of}
 use Rattle.driver_core.specs.Slots.{waiting, life_of, life_at}
-use Rattle.ring_core.specs.declared.request.Request.{Request}
 use Rattle.driver_core.proofs.Owned.{owned-slot}
 use Rattle.driver_core.proofs.Tokens.{held-slot}
 use Rattle.uring_driver.proofs.Steps.{below-test, past-test}
@@ -36,11 +31,17 @@ use Rattle.event_text.proofs.TextHex.{false-from}
 -- A feed of a handle that the user doesn't hold is refused.
 pub cause-feed : (L : Ledger) (h : ℕ) (bytes : List ℕ) → user_holds L h ≡ false → cause L (Feed h bytes) ≡ Some NoHandle
 cause-feed L h bytes absent = ap (λ held. refused_if (not held || false) NoHandle
-    (refused_if (is_ended_at L.world h) BadHandleEvent None)) absent
+    (refused_if (passes refuses_feed (slice_get L.world h)) BadHandleEvent None)) absent
+
+-- So is a message for one.
+pub cause-message : (L : Ledger) (h addr : ℕ) (bytes : List ℕ) → user_holds L h ≡ false → cause L (FeedMessage h addr bytes) ≡ Some NoHandle
+cause-message L h addr bytes absent = ap (λ held. refused_if (not held || false) NoHandle
+    (refused_if (passes refuses_message (slice_get L.world h)) BadHandleEvent None)) absent
 
 -- So is an end of one.
 pub cause-end : (L : Ledger) (h : ℕ) → user_holds L h ≡ false → cause L (End h) ≡ Some NoHandle
-cause-end L h absent = ap (λ held. refused_if (not held || false) NoHandle (refused_if (is_ended_at L.world h) BadHandleEvent None)) absent
+cause-end L h absent = ap (λ held. refused_if (not held || false) NoHandle
+    (refused_if (passes refuses_end (slice_get L.world h)) BadHandleEvent None)) absent
 
 -- So is a look at one.
 pub cause-look : (L : Ledger) (h : ℕ) → user_holds L h ≡ false → cause L (Look h) ≡ Some NoHandle
@@ -67,32 +68,6 @@ lacks_handle-holds_all driver L same (h ∷ handles) =
     ap (λ b. not b || lacks_handle L handles) (sym (same h))
     ∙ ap (λ b. not (holds_handle driver h) || b) (lacks_handle-holds_all driver L same handles)
     ∙ not-and (holds_handle driver h) (holds_all driver handles)
-
--- A submission that names a handle which the user doesn't hold is refused.
-pub cause-submit_handle : (session : Session) (L : Ledger) (request : Request Buffer Parts) → SessionStands session L →
-    holds_all session.driver (named request) ≡ false → cause L (Submit request) ≡ Some NoHandle
-cause-submit_handle session L request stands absent =
-    ap (λ lacks. refused_if lacks NoHandle (refused_if (nat_le MOST_LIVE (length (live_ops L))) Full None))
-    (lacks_handle-holds_all session.driver L stands.driver.handles.holders.users (named request) ∙ ap not absent)
-
--- Another one is refused as Full where as many operations as there may be are live.
-pub cause-submit_full : (session : Session) (L : Ledger) (request : Request Buffer Parts) (live : ℕ) → SessionStands session L →
-    holds_all session.driver (named request) ≡ true → live ≡ live_slots session.driver → MOST_LIVE ≤ live →
-    cause L (Submit request) ≡ Some Full
-cause-submit_full session L request live stands held count full =
-    ap (λ lacks. refused_if lacks NoHandle (refused_if (nat_le MOST_LIVE (length (live_ops L))) Full None))
-    (lacks_handle-holds_all session.driver L stands.driver.handles.holders.users (named request) ∙ ap not held)
-    ∙ ap (λ b. refused_if b Full None) (ap (λ k. nat_le MOST_LIVE k) (sym stands.driver.operations.in_slots.counted ∙ sym count)
-    ∙ past-test MOST_LIVE live full)
-
--- A submission of handles that the user holds isn't refused where fewer operations are live.
-pub unrefused-submit : (session : Session) (L : Ledger) (request : Request Buffer Parts) (live : ℕ) → SessionStands session L →
-    holds_all session.driver (named request) ≡ true → live ≡ live_slots session.driver → live < MOST_LIVE → cause L (Submit request) ≡ None
-unrefused-submit session L request live stands held count fewer =
-    ap (λ lacks. refused_if lacks NoHandle (refused_if (nat_le MOST_LIVE (length (live_ops L))) Full None))
-    (lacks_handle-holds_all session.driver L stands.driver.handles.holders.users (named request) ∙ ap not held)
-    ∙ ap (λ b. refused_if b Full None) (ap (λ k. nat_le MOST_LIVE k) (sym stands.driver.operations.in_slots.counted ∙ sym count)
-    ∙ below-test MOST_LIVE live fewer)
 
 -- A poll of what isn't its user's is refused.
 pub cause-poll : (L : Ledger) (n task : ℕ) → passes is_owned (slice_get L.ops n) ≡ false → cause L (Poll n task) ≡ Some NoOp
@@ -166,3 +141,19 @@ token-owns session L n op stands holds is =
 -- A cancel of what is its user's isn't refused.
 pub unrefused-cancel : (L : Ledger) (n : ℕ) → passes is_owned (slice_get L.ops n) ≡ true → cause L (Cancel n) ≡ None
 unrefused-cancel L n owned = ap (λ is. refused_if (not is) NoOp None) owned
+
+-- A cancel handle of a canceller that was never created is refused.
+pub cause-new_handle : (L : Ledger) (c : ℕ) → length L.cancellers ≤ c → cause L (NewHandle c) ≡ Some NoCanceller
+cause-new_handle L c past = ap (λ b. refused_if b NoCanceller None) (past-test (length L.cancellers) c past)
+
+-- So is a cancel of its group.
+pub cause-cancel_all : (L : Ledger) (c : ℕ) → length L.cancellers ≤ c → cause L (CancelAll c) ≡ Some NoCanceller
+cause-cancel_all L c past = ap (λ b. refused_if b NoCanceller None) (past-test (length L.cancellers) c past)
+
+-- A cancel handle of one that was created isn't.
+pub unrefused-new_handle : (L : Ledger) (c : ℕ) → c < length L.cancellers → cause L (NewHandle c) ≡ None
+unrefused-new_handle L c within = ap (λ b. refused_if b NoCanceller None) (below-test (length L.cancellers) c within)
+
+-- Nor is a cancel of its group.
+pub unrefused-cancel_all : (L : Ledger) (c : ℕ) → c < length L.cancellers → cause L (CancelAll c) ≡ None
+unrefused-cancel_all L c within = ap (λ b. refused_if b NoCanceller None) (below-test (length L.cancellers) c within)

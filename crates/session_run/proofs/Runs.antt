@@ -1,10 +1,10 @@
 -- The replies and the session along a run.
 use Rattle.std.proofs.Common.{◌≡◌, ◌<◌, ◌≤◌, ℕ, zero, suc, List, [], ◌∷◌, ◌++◌, length, get_or, take, drop, Some, refl, sym, ◌∙◌, ap}
-use Rattle.std.proofs.Common.{append_assoc, arith}
+use Rattle.std.proofs.Common.{append_assoc, subst, arith}
 use Rattle.std.specs.Prelude.{slice_get}
 use Rattle.ring_core.specs.declared.ledger.Event.{Event}
 use Rattle.ring_core.specs.declared.ledger.Reply.{Reply}
-use Rattle.ring_core.specs.Ledger.{Ledger}
+use Rattle.ring_core.specs.Ledger.{Ledger, empty}
 use Rattle.ring_core.specs.Step.{step}
 use Rattle.ring_core.specs.Run.{after, replies}
 use Rattle.ring_core.proofs.Keeping.{drop-suc}
@@ -51,3 +51,9 @@ pub replies-done : (L : Ledger) (events : List Event) (k : ℕ) (now all : List 
     now ++ replies (after L (take k events)) (drop k events) ≡ all → now ≡ all
 replies-done L events k now all past so_far =
     sym (append-none now) ∙ ap (λ rest. now ++ replies (after L (take k events)) rest) (sym (drop-past events k past)) ∙ so_far
+
+-- So what holds of the replies to all holds of the replies so far.
+pub holds-of_all : (capacity : ℕ) (events : List Event) (k : ℕ) (now all : List Reply) (law : List Reply → Type 0) → length events ≤ k →
+    now ++ replies (after (empty capacity) (take k events)) (drop k events) ≡ all → law all → law now
+holds-of_all capacity events k now all law past so_far holds =
+    subst law (sym (replies-done (empty capacity) events k now all past so_far)) holds

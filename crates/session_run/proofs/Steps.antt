@@ -1,6 +1,6 @@
 -- What each step of a session's driver makes of the session.
-use Rattle.std.proofs.Common.{◌≡◌, ℕ, ◌+◌, Bool, true, false, List, [], ◌∷◌, ◌++◌, length, None, Some, length-append, refl, sym, ◌∙◌, ap}
-use Rattle.std.proofs.Common.{subst}
+use Rattle.std.proofs.Common.{◌≡◌, ℕ, ◌+◌, Bool, true, false, List, [], ◌∷◌, ◌++◌, length, Option, None, Some, length-append, refl, sym}
+use Rattle.std.proofs.Common.{◌∙◌, ap, subst}
 use Rattle.std.specs.Prelude.{Result, Ok, Err, IfOk, OnErr}
 use Rattle.rent_buf.specs.Buffer.{Buffer}
 use Rattle.rent_buf.specs.Parts.{Parts}
@@ -9,13 +9,14 @@ use Rattle.rent_buf.specs.declared.plain.Buf.{Buf}
 use Rattle.ring_core.specs.Lists.{amended}
 use Rattle.ring_core.specs.Ring.{RingView}
 use Rattle.ring_core.specs.Ledger.{Ledger}
-use Rattle.ring_core.specs.Request.{named, plain_request}
+use Rattle.ring_core.specs.Request.{named, makes, plain_request}
 use Rattle.ring_core.specs.Refusal.{cause}
+use Rattle.ring_core.proofs.Staying.{groups_of}
+use Rattle.ring_core.proofs.Grouping.{may_group}
 use Rattle.ring_core.specs.declared.ledger.Event.{Event}
 use Rattle.ring_core.specs.declared.ledger.Event.TheVariants.{Look, Submit, Exec}
 use Rattle.ring_core.specs.declared.request.Told.{Told}
 use Rattle.ring_core.specs.declared.world.Look.{Look as Shown}
-use Rattle.ring_core.specs.declared.world.Look.TheVariants.{Bytes}
 use Rattle.uring_driver.specs.Handles.{LooksFor}
 use Rattle.ring_core.specs.declared.mem_ring.ExecRefusal.{ExecRefusal}
 use Rattle.rent_buf.specs.declared.fault.OutOfMemory.{OutOfMemory as NoMemory}
@@ -26,17 +27,17 @@ use Rattle.session_run.specs.Executed.{reply_to, AnswersRefusal}
 use Rattle.ring_core.specs.declared.ledger.Refusal.{Refusal}
 use Rattle.ring_core.specs.declared.ledger.Refusal.TheVariants.{NotFlying, BadOutcome}
 use Rattle.ring_core.specs.declared.ledger.Reply.{Reply}
-use Rattle.ring_core.specs.declared.ledger.Reply.TheVariants.{Refused, ExecutedOp, ExecutedClose, Output, Submitted as Given}
+use Rattle.ring_core.specs.declared.ledger.Reply.TheVariants.{Refused, ExecutedOp, ExecutedClose}
 use Rattle.ring_core.proofs.Amended.{length-amended}
 use Rattle.run_laws.proofs.Replies.{step-refused}
 use Rattle.driver_core.specs.declared.op.Op.{Op}
+use Rattle.driver_core.specs.Answers.{IsUnder}
 use Rattle.uring_driver.specs.declared.uring.IoUringDriver.{IoUringDriver}
 use Rattle.uring_driver.specs.Uring.{due_in, given_by}
 use Rattle.uring_driver.specs.Op.{number_of, KeepsTokens, DropsToken}
 use Rattle.driver_core.specs.Slot.{number_at}
-use Rattle.ring_core.specs.Step.{step}
-use Rattle.uring_driver.specs.Submitted.{AddsTo, AddsToken, SubmitsFor, SameSlots, WhyRefused, SubmitRefused}
-use Rattle.driver_core.specs.declared.op.Submitted.{Submitted}
+use Rattle.ring_core.specs.Step.{step, look_reply}
+use Rattle.uring_driver.specs.Submitted.{AddsTo, WhyRefused, SubmitRefused}
 use Rattle.uring_driver.specs.Turned.{TurnsFor}
 use Rattle.driver_core.specs.declared.op.Turned.{Turned}
 use Rattle.driver_core.specs.declared.op.Stop.{Stop}
@@ -46,50 +47,70 @@ use Rattle.driver_core.specs.declared.op.SubmitFault.{SubmitFault}
 use Rattle.ring_core.specs.declared.request.Request.{Request}
 use Rattle.uring_driver.specs.Stands.{Stands, Answers}
 use Rattle.session_run.specs.declared.session.Session.{Session}
-use Rattle.session_run.specs.Token.{token_at, by_number}
-use Rattle.session_run.specs.Session.{AreHeld, AreSingle, SessionStands, SessionAnswers, StepsFor}
+use Rattle.session_run.specs.Token.{token_at, by_number, KeepsGroups}
+use Rattle.session_run.specs.Session.{AreHeld, AreSingle, HasGroups, SessionStands, SessionAnswers, StepsFor}
 use Rattle.session_run.proofs.KeptTokens.{are_held-kept, are_held-taken, are_held-added}
-use Rattle.session_run.proofs.Single.{single-same}
+use Rattle.session_run.proofs.KeptGroups.{SameTokens, groups-kept, groups-step, groups-submitted}
+use Rattle.session_run.proofs.Single.{single-kept}
 
--- A session that keeps its tokens stands for a ledger where its driver does, which has nothing due and holds the tokens that it held.
-pub stands-kept : (old new : Session) (L M : Ledger) → SessionStands old L → by_number new.tokens ≡ by_number old.tokens →
-    Stands (λ r. r) built new.driver M → (due_in old.driver ≡ [] → due_in new.driver ≡ []) →
+-- A session that keeps its operations' tokens stands for a ledger where its driver does, which has nothing due and holds the tokens that it
+-- held, and where its cancellers and cancel handles are those of that ledger.
+pub stands-beside : (old new : Session) (L M : Ledger) → SessionStands old L → by_number new.tokens ≡ by_number old.tokens →
+    HasGroups new.tokens M → Stands (λ r. r) built new.driver M → (due_in old.driver ≡ [] → due_in new.driver ≡ []) →
     (AreSingle old.driver → AreSingle new.driver) → KeepsTokens old.driver new.driver →
     given_by new.driver ≡ given_by old.driver → SessionStands new M
-stands-kept old new L M stands tokens driver due single kept given = record {
+stands-beside old new L M stands tokens groups driver due single kept given = record {
   driver = driver;
   none_due = due stands.none_due;
   single = single stands.single;
   numbered = ap (λ items. length items) tokens ∙ stands.numbered ∙ sym given;
   tokens = subst (λ items. AreHeld items new.driver) (sym tokens)
       (are_held-kept (by_number old.tokens) old.driver new.driver stands.tokens kept);
+  groups = groups;
 }
 
--- A driver's answer, where it keeps all tokens, is the session's.
+-- So does one that keeps all tokens, where the groups of both ledgers are the same.
+pub stands-kept : (old new : Session) (L M : Ledger) → SessionStands old L → SameTokens old.tokens new.tokens →
+    groups_of M ≡ groups_of L → Stands (λ r. r) built new.driver M → (due_in old.driver ≡ [] → due_in new.driver ≡ []) →
+    (AreSingle old.driver → AreSingle new.driver) → KeepsTokens old.driver new.driver →
+    given_by new.driver ≡ given_by old.driver → SessionStands new M
+stands-kept old new L M stands tokens same driver due single kept given =
+    stands-beside old new L M stands tokens.ops (groups-kept old.tokens new.tokens L M stands.groups tokens.groups same)
+    driver due single kept given
+
+-- So does one whose driver is the same.
+pub stands-unmoved : (old new : Session) (L M : Ledger) → SessionStands old L → new.driver ≡ old.driver →
+    by_number new.tokens ≡ by_number old.tokens → HasGroups new.tokens M → Stands (λ r. r) built new.driver M → SessionStands new M
+stands-unmoved old new L M stands same tokens groups driver = stands-beside old new L M stands tokens groups driver
+    (λ none. ap (λ d. due_in d) same ∙ none) (λ single. subst (λ d. AreSingle d) (sym same) single)
+    (subst (λ d. KeepsTokens old.driver d) (sym same) (λ op. (λ h. h, λ h. h))) (ap (λ d. given_by d) same)
+
+-- A driver's answer, where it keeps all tokens and the event changes no groups, is the session's.
 pub answers-kept : (old new : Session) (L : Ledger) (event : Event) (reply : Reply) → SessionStands old L →
-    by_number new.tokens ≡ by_number old.tokens → Answers (λ r. r) built L event reply new.driver →
+    SameTokens old.tokens new.tokens → may_group event ≡ false → Answers (λ r. r) built L event reply new.driver →
     (due_in old.driver ≡ [] → due_in new.driver ≡ []) → (AreSingle old.driver → AreSingle new.driver) →
     KeepsTokens old.driver new.driver → given_by new.driver ≡ given_by old.driver → SessionAnswers L event reply new
-answers-kept old new L event reply stands tokens answers due single kept given = record {
+answers-kept old new L event reply stands tokens plain answers due single kept given = record {
   reply_is = answers.reply_is;
-  stands = stands-kept old new L (step L event).0 stands tokens answers.stands due single kept given;
+  stands = stands-kept old new L (step L event).0 stands tokens (groups-step L event plain) answers.stands due single kept given;
 }
 
 -- Where the driver and the tokens are the same, a session stands for the same ledger.
 pub stands-same : (old new : Session) (L : Ledger) → SessionStands old L → new.driver ≡ old.driver →
-    by_number new.tokens ≡ by_number old.tokens → SessionStands new L
+    SameTokens old.tokens new.tokens → SessionStands new L
 stands-same old new L stands driver tokens = record {
   driver = subst (λ d. Stands (λ r. r) built d L) (sym driver) stands.driver;
   none_due = ap (λ d. due_in d) driver ∙ stands.none_due;
   single = subst (λ d. AreSingle d) (sym driver) stands.single;
-  numbered = ap (λ items. length items) tokens ∙ stands.numbered ∙ ap (λ d. given_by d) (sym driver);
+  numbered = ap (λ items. length items) tokens.ops ∙ stands.numbered ∙ ap (λ d. given_by d) (sym driver);
   tokens = subst (λ d. AreHeld (by_number new.tokens) d) (sym driver)
-      (subst (λ items. AreHeld items old.driver) (sym tokens) stands.tokens);
+      (subst (λ items. AreHeld items old.driver) (sym tokens.ops) stands.tokens);
+  groups = groups-kept old.tokens new.tokens L L stands.groups tokens.groups refl;
 }
 
 -- A refused event changes nothing.
 pub answers-refused : (old new : Session) (L : Ledger) (event : Event) (refusal : Refusal) → SessionStands old L →
-    cause L event ≡ Some refusal → new.driver ≡ old.driver → by_number new.tokens ≡ by_number old.tokens →
+    cause L event ≡ Some refusal → new.driver ≡ old.driver → SameTokens old.tokens new.tokens →
     SessionAnswers L event (Refused refusal) new
 answers-refused old new L event refusal stands named driver tokens =
     let same = step-refused L event refusal named in
@@ -107,10 +128,10 @@ stopped-same L old new turned queued (BadCompletion word) turns = absurd turns
 stopped-same L old new turned queued OutOfMemory turns = turns
 
 -- A driver with the same slots holds the same tokens.
-pub kept-same_slots : (old new : IoUringDriver RingView Buf) → SameSlots old new → KeepsTokens old new
+kept-same_slots : (old new : IoUringDriver RingView Buf) → new.slots.values ≡ old.slots.values → KeepsTokens old new
 kept-same_slots old new same op = (
-  λ h. subst (λ slots. number_at slots op.key ≡ Some (number_of op)) (sym same.slots) h,
-  λ h. subst (λ slots. number_at slots op.key ≡ Some (number_of op)) same.slots h,
+  λ h. subst (λ slots. number_at slots op.key ≡ Some (number_of op)) (sym same) h,
+  λ h. subst (λ slots. number_at slots op.key ≡ Some (number_of op)) same h,
 )
 
 -- A driver over the ring in memory that refused a submission stands as before.
@@ -123,26 +144,29 @@ stands-refused old new L SubmitFault.OutOfMemory refused stands = refused L stan
 
 -- So does the session.
 pub stands-unsubmitted : (old new : Session) (L : Ledger) (request : Request Buf Parts) (refused : SubmitError Buf) → SessionStands old L →
-    by_number new.tokens ≡ by_number old.tokens → (due_in old.driver ≡ [] → due_in new.driver ≡ []) →
+    SameTokens old.tokens new.tokens → (due_in old.driver ≡ [] → due_in new.driver ≡ []) →
     SubmitRefused (λ r. r) built true request old.driver new.driver refused → SessionStands new L
 stands-unsubmitted old new L request refused stands tokens due why =
-    stands-kept old new L L stands tokens (stands-refused old.driver new.driver L refused.why why.why stands.driver) due
-    (single-same old.driver new.driver why.same.holding) (kept-same_slots old.driver new.driver why.same) why.same.given
+    stands-kept old new L L stands tokens refl (stands-refused old.driver new.driver L refused.why why.why stands.driver) due
+    (single-kept (makes request) old.driver new.driver why.same.holding) (kept-same_slots old.driver new.driver why.same.slots)
+    why.same.given
 
 -- What a look shows is the session's answer, which stays as it is.
-pub answers-looked : (session : Session) (L : Ledger) (h : ℕ) (shown : Shown) (bytes : List ℕ) → SessionStands session L →
-    shown ≡ Bytes bytes → LooksFor L h shown → SessionAnswers L (Look h) (Output bytes) session
-answers-looked session L h shown bytes stands is looks =
-    let same = subst (λ s. LooksFor L h s) is looks in
-    record { reply_is = ap (λ next. next.1) same; stands = subst (λ next. SessionStands session next.0) (sym same) stands }
+pub answers-looked : (session : Session) (L : Ledger) (h : ℕ) (shown : Shown) (reply : Reply) → SessionStands session L →
+    reply ≡ look_reply shown → LooksFor L h shown → SessionAnswers L (Look h) reply session
+answers-looked session L h shown reply stands is looks = record {
+  reply_is = ap (λ next. next.1) looks ∙ sym is;
+  stands = subst (λ next. SessionStands session next.0) (sym looks) stands;
+}
 
 -- An operation that is handed over or dropped leaves with its token.
 pub answers-taken : (old new : Session) (L : Ledger) (n : ℕ) (op : Op) (event : Event) (reply : Reply) → SessionStands old L →
     token_at (by_number old.tokens) n ≡ Some op → by_number new.tokens ≡ amended (by_number old.tokens) n (λ token. None) →
-    DropsToken old.driver new.driver op → (due_in old.driver ≡ [] → due_in new.driver ≡ []) →
+    KeepsGroups old.tokens new.tokens → may_group event ≡ false → DropsToken old.driver new.driver op →
+    (due_in old.driver ≡ [] → due_in new.driver ≡ []) →
     (AreSingle old.driver → AreSingle new.driver) → given_by new.driver ≡ given_by old.driver →
     Answers (λ r. r) built L event reply new.driver → SessionAnswers L event reply new
-answers-taken old new L n op event reply stands there tokens taken due single given answers = record {
+answers-taken old new L n op event reply stands there tokens groups plain taken due single given answers = record {
   reply_is = answers.reply_is;
   stands = record {
     driver = answers.stands;
@@ -151,6 +175,7 @@ answers-taken old new L n op event reply stands there tokens taken due single gi
     numbered = ap (λ items. length items) tokens ∙ length-amended (λ token. None) (by_number old.tokens) n ∙ stands.numbered ∙ sym given;
     tokens = subst (λ items. AreHeld items new.driver) (sym tokens)
         (are_held-taken (by_number old.tokens) old.driver new.driver n op there stands.tokens taken);
+    groups = groups-kept old.tokens new.tokens L (step L event).0 stands.groups groups (groups-step L event plain);
   };
 }
 
@@ -159,11 +184,11 @@ length-added : {A : Type 0} (xs : List A) (x : A) → length (xs ++ x ∷ []) �
 length-added xs x = length-append xs (x ∷ [])
 
 -- A new operation's token stands at the end.
-pub answers-added : (old new : Session) (L : Ledger) (op : Op) (event : Event) (reply : Reply) → SessionStands old L →
-    by_number new.tokens ≡ by_number old.tokens ++ Some op ∷ [] → AddsTo old.driver new.driver op →
-    (due_in old.driver ≡ [] → due_in new.driver ≡ []) → (AreSingle old.driver → AreSingle new.driver) →
-    Answers (λ r. r) built L event reply new.driver → SessionAnswers L event reply new
-answers-added old new L op event reply stands tokens adds due single answers = record {
+pub answers-added : (old new : Session) (L : Ledger) (op : Op) (request : Request Buffer Parts) (under : Option ℕ) (reply : Reply) →
+    SessionStands old L → by_number new.tokens ≡ by_number old.tokens ++ Some op ∷ [] → KeepsGroups old.tokens new.tokens →
+    AddsTo old.driver new.driver op → (due_in old.driver ≡ [] → due_in new.driver ≡ []) → (AreSingle old.driver → AreSingle new.driver) →
+    Answers (λ r. r) built L (Submit request under) reply new.driver → SessionAnswers L (Submit request under) reply new
+answers-added old new L op request under reply stands tokens groups adds due single answers = record {
   reply_is = answers.reply_is;
   stands = record {
     driver = answers.stands;
@@ -173,33 +198,35 @@ answers-added old new L op event reply stands tokens adds due single answers = r
         ∙ ap (λ k. k + 1) stands.numbered ∙ sym adds.next;
     tokens = subst (λ items. AreHeld items new.driver) (sym tokens)
         (are_held-added (by_number old.tokens) old.driver new.driver op stands.numbered stands.tokens adds);
+    groups = groups-kept old.tokens new.tokens L (step L (Submit request under)).0 stands.groups groups (groups-submitted L request under);
   };
 }
 
--- So does what a submission gave.
-pub answers-submitted : (old new : Session) (L : Ledger) (request : Request Buf Parts) (submitted : Submitted) (op : Op) →
-    submitted ≡ Submitted.Op op → SessionStands old L → by_number new.tokens ≡ by_number old.tokens ++ Some op ∷ [] →
-    AddsToken old.driver new.driver submitted → (due_in old.driver ≡ [] → due_in new.driver ≡ []) →
-    (AreSingle old.driver → AreSingle new.driver) → SubmitsFor (λ r. r) built L request new.driver submitted →
-    SessionAnswers L (Submit (plain_request built request)) (Given (number_of op)) new
-answers-submitted old new L request submitted op is stands tokens adds due single answers =
-    answers-added old new L op _ _ stands tokens (subst (λ s. AddsToken old.driver new.driver s) is adds) due single
-    (subst (λ s. SubmitsFor (λ r. r) built L request new.driver s) is answers)
+-- Under a canceled group the driver is the same, and its answer is the session's.
+pub answers-returned : (old new : Session) (L : Ledger) (request : Request Buffer Parts) (under : Option ℕ) (reply : Reply) →
+    SessionStands old L → SameTokens old.tokens new.tokens → new.driver ≡ old.driver →
+    Answers (λ r. r) built L (Submit request under) reply new.driver → SessionAnswers L (Submit request under) reply new
+answers-returned old new L request under reply stands tokens same answers = record {
+  reply_is = answers.reply_is;
+  stands = stands-unmoved old new L (step L (Submit request under)).0 stands same tokens.ops
+      (groups-kept old.tokens new.tokens L (step L (Submit request under)).0 stands.groups tokens.groups (groups-submitted L request under))
+      answers.stands;
+}
 
 -- What was executed is the session's answer.
 pub answers-executed : (old new : Session) (L : Ledger) (place : ℕ) (told : Told) (executed : Executed) → SessionStands old L →
-    by_number new.tokens ≡ by_number old.tokens → ExecutesFor built L place told new.driver (Ok executed) →
+    SameTokens old.tokens new.tokens → ExecutesFor built L place told new.driver (Ok executed) →
     (due_in old.driver ≡ [] → due_in new.driver ≡ []) → (AreSingle old.driver → AreSingle new.driver) →
     KeepsTokens old.driver new.driver → given_by new.driver ≡ given_by old.driver →
     SessionAnswers L (Exec place told) (reply_to executed) new
 answers-executed old new L place told (ExecutedNumber n) stands tokens answers due single kept given =
-    answers-kept old new L (Exec place told) (ExecutedOp n) stands tokens answers due single kept given
+    answers-kept old new L (Exec place told) (ExecutedOp n) stands tokens refl answers due single kept given
 answers-executed old new L place told (ExecutedHandle h) stands tokens answers due single kept given =
-    answers-kept old new L (Exec place told) (ExecutedClose h) stands tokens answers due single kept given
+    answers-kept old new L (Exec place told) (ExecutedClose h) stands tokens refl answers due single kept given
 
 -- So is an execution that was refused.
 pub steps-unexecuted : (old new : Session) (L : Ledger) (place : ℕ) (told : Told) (why : ExecRefusal) (result : Result Reply NoMemory) →
-    SessionStands old L → by_number new.tokens ≡ by_number old.tokens →
+    SessionStands old L → SameTokens old.tokens new.tokens →
     ExecutesFor built L place told new.driver (Err why) → new.driver ≡ old.driver → AnswersRefusal why result →
     StepsFor L (Exec place told) new result
 steps-unexecuted old new L place told ExecRefusal.NotFlying result stands tokens cause_is driver answer =
@@ -214,11 +241,14 @@ steps-unexecuted old new L place told ExecRefusal.OutOfMemory (Err refused) stan
     record { stands = stands-same old new L stands driver tokens; unrefused = cause_is }
 
 -- What a submission of a built request answers is what the session answers.
-pub steps-built : (old new : Session) (L : Ledger) (own : Request Buf Parts) (request : Request Buffer Parts)
+pub steps-built : (old new : Session) (L : Ledger) (own : Request Buf Parts) (request : Request Buffer Parts) (group under : Option ℕ)
     (result : Result Reply NoMemory) →
-    IfOk result (λ reply. (L : Ledger) → SessionStands old L → SessionAnswers L (Submit (plain_request built own)) reply new) →
+    IfOk result (λ reply. (L : Ledger) (under : Option ℕ) → SessionStands old L → IsUnder L group under →
+    SessionAnswers L (Submit (plain_request built own) under) reply new) →
     OnErr result ((L : Ledger) → SessionStands old L → SessionStands new L) →
-    plain_request built own ≡ request → SessionStands old L → cause L (Submit request) ≡ None → StepsFor L (Submit request) new result
-steps-built old new L own request (Ok reply) ok err plain stands unrefused =
-    subst (λ r. SessionAnswers L (Submit r) reply new) plain (ok L stands)
-steps-built old new L own request (Err error) ok err plain stands unrefused = record { stands = err L stands; unrefused = unrefused }
+    plain_request built own ≡ request → SessionStands old L → IsUnder L group under → cause L (Submit request under) ≡ None →
+    StepsFor L (Submit request under) new result
+steps-built old new L own request group under (Ok reply) ok err plain stands is unrefused =
+    subst (λ r. SessionAnswers L (Submit r under) reply new) plain (ok L under stands is)
+steps-built old new L own request group under (Err error) ok err plain stands is unrefused =
+    record { stands = err L stands; unrefused = unrefused }

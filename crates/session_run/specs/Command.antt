@@ -3,7 +3,7 @@ use Rattle.std.specs.Prelude.{ℕ, ◌≡◌, ◌≤◌, List, [], ◌∷◌, Op
 use Rattle.session_run.specs.declared.command.TheConstants.{MOST_CAPACITY, MOST_COUNT, MOST_ENTRIES, MOST_ROUNDS, MOST_SEED, MOST_SENDERS}
 use Rattle.session_run.specs.declared.command.Command.{Command}
 use Rattle.session_run.specs.declared.command.Command.TheVariants.{Run, Generate, Wake, Copy}
-use Rattle.event_text.specs.TextEvent.{AreBytes}
+use Rattle.event_text.specs.TextWords.{AreBytes}
 use Rattle.event_text.specs.TextReads.{bytes_of}
 use Rattle.event_text.specs.TextWords.{bytes_word}
 

@@ -1,5 +1,6 @@
 pub mod Token
 pub mod Session
+pub mod Submission
 pub mod Executed
 pub mod Command
 pub mod Generated

@@ -1,5 +1,5 @@
 -- When a session stands for a ledger, and what its steps answer. Cited by `Session` and by the top call.
-use Rattle.std.specs.Prelude.{ℕ, ◌≡◌, ◌≤◌, ◌↔◌, List, [], length, Option, Some, None, Result, Ok, Err}
+use Rattle.std.specs.Prelude.{ℕ, ◌≡◌, ◌≤◌, ◌↔◌, List, [], length, map, Option, Some, None, Result, Ok, Err}
 use Rattle.rent_buf.specs.Buf.{built}
 use Rattle.rent_buf.specs.declared.fault.OutOfMemory.{OutOfMemory}
 use Rattle.ring_core.specs.declared.ledger.Event.{Event}
@@ -18,7 +18,7 @@ use Rattle.uring_driver.specs.Op.{Holds, number_of}
 use Rattle.uring_driver.specs.Stands.{Stands}
 use Rattle.session_run.specs.declared.session.Session.{Session}
 use Rattle.session_run.specs.declared.tokens.Tokens.{Tokens}
-use Rattle.session_run.specs.Token.{token_at, by_number}
+use Rattle.session_run.specs.Token.{token_at, by_number, cancellers_in, handles_in}
 
 -- The tokens are those that the driver holds, each under its number.
 abbrev pub AreHeld : List (Option Op) → IoUringDriver RingView Buf → Type 0
@@ -36,14 +36,20 @@ tokens_in session = session.tokens
 abbrev pub AreSingle : IoUringDriver RingView Buf → Type 0
 AreSingle driver = (h : ℕ) → user_count (holding_in driver) h ≤ 1
 
--- A driver and tokens stand for a ledger: the driver does, nothing is due in it, and its user holds each handle once at most; and there is
--- a place for each operation that was given, with its token where the driver holds it.
+-- The cancellers and cancel handles are those of a ledger, each under its number and of its group there.
+pub record HasGroups (kept : Tokens) (L : Ledger) : Type 0 where
+  pub cancellers : cancellers_in kept ≡ map Some L.cancellers
+  pub handles : handles_in kept ≡ L.cancel_handles
+
+-- A driver and tokens stand for a ledger: the driver does, nothing is due in it, and its user holds each handle once at most; there is a
+-- place for each operation that was given, with its token where the driver holds it; and cancellers and cancel handles are the ledger's.
 pub record PartsStand (engine : IoUringDriver RingView Buf) (kept : Tokens) (L : Ledger) : Type 0 where
   pub driver : Stands (λ r. r) built engine L
   pub none_due : due_in engine ≡ []
   pub single : AreSingle engine
   pub numbered : length (by_number kept) ≡ given_by engine
   pub tokens : AreHeld (by_number kept) engine
+  pub groups : HasGroups kept L
 
 -- A driver and tokens are the parts of a session: they stand for some ledger.
 pub record AreParts (engine : IoUringDriver RingView Buf) (kept : Tokens) : Type 0 where

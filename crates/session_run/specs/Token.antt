@@ -1,5 +1,5 @@
--- Tokens by the numbers of their operations.
-use Rattle.std.specs.Prelude.{ℕ, List, Option, Some, None, slice_get}
+-- What a session keeps by number: tokens of operations, cancellers and cancel handles.
+use Rattle.std.specs.Prelude.{ℕ, ◌≡◌, List, Option, Some, None, slice_get}
 use Rattle.driver_core.specs.declared.op.Op.{Op}
 use Rattle.session_run.specs.declared.tokens.Tokens.{Tokens}
 
@@ -7,11 +7,24 @@ use Rattle.session_run.specs.declared.tokens.Tokens.{Tokens}
 abbrev pub by_number : Tokens → List (Option Op)
 by_number tokens = tokens.ops.items
 
+-- The group of each canceller, by its number; None while its group is being canceled.
+abbrev pub cancellers_in : Tokens → List (Option ℕ)
+cancellers_in tokens = tokens.cancellers.items
+
+-- The group of each cancel handle, by its number.
+abbrev pub handles_in : Tokens → List ℕ
+handles_in tokens = tokens.handles.items
+
+-- The cancellers and cancel handles stay.
+pub record KeepsGroups (old new : Tokens) : Type 0 where
+  pub cancellers : cancellers_in new ≡ cancellers_in old
+  pub handles : handles_in new ≡ handles_in old
+
 -- What was looked up, where it is there and isn't empty.
 abbrev pub flat : {A : Type 0} → Option (Option A) → Option A
 flat None = None
 flat (Some found) = found
 
--- The token of a number.
-abbrev pub token_at : List (Option Op) → ℕ → Option Op
+-- What is kept at a number.
+abbrev pub token_at : {A : Type 0} → List (Option A) → ℕ → Option A
 token_at tokens n = flat (slice_get tokens n)

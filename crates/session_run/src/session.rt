@@ -1,28 +1,34 @@
-//! A session: a driver over the ring in memory, and the tokens of its operations.
-ghost use Rattle.std.specs.Prelude.{◌≡◌, ◌<◌, length, IfOk, IfNone, OnErr, None, Some, IsTrue, IsOk, vec_len, vec_capacity};
+//! A session: a driver over the ring in memory, and what it keeps by number: tokens of operations, cancellers and cancel handles.
+ghost use Rattle.std.specs.Prelude.{◌≡◌, ◌<◌, length, IfOk, IsOk};
 ghost use Rattle.rent_buf.specs.Buf.{built};
-ghost use Rattle.ring_core.specs.Request.{named, held_of, plain_request};
+ghost use Rattle.ring_core.specs.Request.{held_of, plain_request};
 ghost use Rattle.ring_core.specs.Ledger.{Ledger, empty};
-ghost use Rattle.ring_core.specs.Refusal.{cause};
 ghost use Rattle.ring_core.specs.Run.{ledger, replies};
-ghost use Rattle.run_laws.specs.Closes.{ClosedOnce, ClosedWhenReleased, ClosedWhenOver, UnheldCloses};
+ghost use Rattle.ring_core.specs.Step as machine;
+ghost use Rattle.run_laws.specs.Closes.{ClosedOnce, ClosedWhenReleased, ClosedWhenOver, ClosedWhenMakerOver, UnheldCloses};
+ghost use Rattle.run_laws.specs.Closes.{CreatedOnce, MadeOnce, UsedWhenReturned};
+ghost use Rattle.run_laws.specs.Bytes.{InputInOrder, MessagesInOrder, FilesHoldLast, OutputInOrder, SentInOrder};
+ghost use Rattle.run_laws.specs.Bytes.{MovesOwn, ReadsTakeOwn, ReceivesTakeOwn, SplicesPassOn};
 ghost use Rattle.run_laws.specs.Headline.{OneReplyEach, RefusedExactly, PendingUntilReaped, HandsBackOwn, FirstPollHands, HandedOnce};
-ghost use Rattle.run_laws.specs.Headline.{DroppedOnce, ReapNames, CanceledWhereAsked};
-ghost use Rattle.ring_core.specs.declared.ledger.Event.TheVariants.{Give, Feed, End, Submit, Poll, Drop, Cancel, Turn, Exec};
-ghost use Rattle.uring_driver.specs.Uring.{holds_all, given_by};
+ghost use Rattle.run_laws.specs.Headline.{DroppedOnce, ReapNames, CanceledWhereAsked, GivenInOrder};
+ghost use Rattle.run_laws.specs.Groups.{CancelsMembers, CanceledAtOnceExactly, NoCancellerExactly};
+ghost use Rattle.run_laws.specs.Groups.{CancellersInOrder, HandlesInOrder};
+ghost use Rattle.ring_core.specs.declared.ledger.Event.TheVariants.{Give, Feed, FeedMessage, End, Poll, Drop, Cancel, Turn, Exec};
 ghost use Rattle.session_run.specs.Session.{AreParts, PartsStand, SessionStands, SessionAnswers, StepsFor, TakesNoMemory, driver_in};
 ghost use Rattle.session_run.specs.Executed.{reply_to, AnswersRefusal};
 
 use crate::tokens::Tokens;
-use op_slots::slab::MAX_LIVE;
-use rent_buf::{Buf, BufSpec, ByteList, Held, HeldBuf, OutOfMemory, PartsSpec, VecBuf};
+use rent_buf::{Buf, Held, HeldBuf, OutOfMemory, VecBuf};
 use ring_core::{
     Event, ExecRefusal, HandleKind, Look, MOST_HANDLES, MemRing, Refusal, Reply, Request, SharedFd,
     Told, WorldError,
 };
 use std::alloc::{AllocError, Global};
 use thiserror::Error;
-use uring_driver::{Driver, Executed, IoUringDriver, MOST_GIVEN, Op, PollOp, Submitted};
+use uring_driver::{Driver, Executed, IoUringDriver, MOST_GIVEN, PollOp};
+
+mod groups;
+mod submission;
 
 /// Why a run gave no replies. (not in monoio)
 #[derive(Clone, Copy, Debug, PartialEq, Eq, Error)]
@@ -44,8 +50,8 @@ impl From<AllocError> for RunError {
     }
 }
 
-/// A driver over the ring in memory, which events step. It keeps the token of each operation that isn't returned, by the
-/// operation's number. (not in monoio)
+/// A driver over the ring in memory, which events step. It keeps the token of each operation that isn't returned, each canceller and
+/// each cancel handle, by number. (not in monoio)
 pub struct Session {
     driver: IoUringDriver<MemRing, Buf>,
     tokens: Tokens,
@@ -109,13 +115,17 @@ impl Session {
         match event {
             Event::Give(kind) => self.give(*kind),
             Event::Feed(h, bytes) => self.feed(*h, bytes.as_slice()),
+            Event::FeedMessage(h, addr, bytes) => self.feed_message(*h, *addr, bytes.as_slice()),
             Event::End(h) => Ok(self.end(*h)),
             Event::Look(h) => self.look(*h),
             Event::Close(h) => Ok(self.close(*h)),
-            Event::Submit(request) => self.submit_copy(request),
+            Event::Submit(request, under) => self.submit_copy(request, *under),
             Event::Poll(n, task) => Ok(self.poll(*n, *task)),
             Event::Drop(n) => Ok(self.give_up(*n)),
             Event::Cancel(n) => self.cancel(*n),
+            Event::NewCanceller => self.new_canceller(),
+            Event::NewHandle(c) => self.new_handle(*c),
+            Event::CancelAll(c) => self.cancel_all(*c),
             Event::Turn => self.turn(),
             Event::Exec(place, told) => self.execute(*place, *told),
         }
@@ -127,7 +137,7 @@ impl Session {
         ensures memory { TakesNoMemory event → IsOk result }
     {
         match event {
-            Event::Submit(request) => self.submit(request),
+            Event::Submit(request, under) => self.submit(request, under),
             event => self.step(&event),
         }
     }
@@ -145,9 +155,11 @@ impl Session {
         ensures replies { IfOk result (λ run. run.0.items ≡ replies (empty capacity) events.now) }
         ensures stands { IfOk result (λ run. SessionStands run.1 (ledger capacity events.now)) }
 
-        // There is one reply for each event, and it is Refused exactly when the machine refuses the event, with that name.
+        // There is one reply for each event, and it is Refused exactly when the machine refuses the event, with that name. Operations
+        // are numbered in order.
         ensures one_each { IfOk result (λ run. OneReplyEach events.now run.0.items) }
         ensures refused { IfOk result (λ run. RefusedExactly capacity events.now run.0.items) }
+        ensures in_order { IfOk result (λ run. GivenInOrder run.0.items) }
 
         // An unrefused poll is Pending exactly until its operation's reap. Else it returns that operation's own buffer, with its
         // own outcome; the first poll after the reap does so if the operation wasn't dropped.
@@ -160,16 +172,48 @@ impl Session {
         ensures dropped { IfOk result (λ run. DroppedOnce events.now run.0.items) }
 
         // The turn that reaps an operation names it, also where it was dropped. It ends as canceled only where its cancel was
-        // asked for, or it was dropped, before.
+        // asked for, or it was dropped, or a cancel of its group named it, before.
         ensures names { IfOk result (λ run. ReapNames capacity events.now run.0.items) }
         ensures canceled { IfOk result (λ run. CanceledWhereAsked capacity events.now run.0.items) }
 
-        // A turn names the close of a handle once at most: after its user gave the handle up, and after each operation on it was
-        // returned, or dropped and reaped. A handle that nobody holds has its close in the lists, or a turn named it.
+        // A turn names the close of a handle once at most: after its user gave the handle up, or the operation that made it was dropped
+        // and reaped; and after each operation on it, and the one that made it, was returned, or dropped and reaped. A handle that nobody
+        // holds has its close in the lists, or a turn named it.
         ensures closed_once { IfOk result (λ run. ClosedOnce run.0.items) }
-        ensures closed_released { IfOk result (λ run. ClosedWhenReleased events.now run.0.items) }
+        ensures closed_released { IfOk result (λ run. ClosedWhenReleased capacity events.now run.0.items) }
         ensures closed_over { IfOk result (λ run. ClosedWhenOver capacity events.now run.0.items) }
+        ensures closed_made { IfOk result (λ run. ClosedWhenMakerOver capacity events.now run.0.items) }
         ensures closed_unheld { IfOk result (λ run. UnheldCloses capacity events.now run.0.items) }
+
+        // A handle is created once, by a Give or by one operation, and then each event about it is refused until a poll returned that
+        // operation.
+        ensures created_once { IfOk result (λ run. CreatedOnce capacity events.now run.0.items) }
+        ensures made_once { IfOk result (λ run. MadeOnce capacity events.now) }
+        ensures made_used { IfOk result (λ run. UsedWhenReturned capacity events.now run.0.items) }
+
+        // The bytes that came to the input of a handle that is no file are, in order, those that its executed reads and splices took, and
+        // then those that wait; so are the messages of a datagram. A file has the bytes of its last writes and feeds, and the output of a
+        // handle what was sent to it, in order. What an execution moves is its own operation's.
+        ensures input { IfOk result (λ run. InputInOrder capacity events.now) }
+        ensures messages { IfOk result (λ run. MessagesInOrder capacity events.now) }
+        ensures files { IfOk result (λ run. FilesHoldLast capacity events.now) }
+        ensures output { IfOk result (λ run. OutputInOrder capacity events.now) }
+        ensures sent { IfOk result (λ run. SentInOrder capacity events.now) }
+        ensures moves { IfOk result (λ run. MovesOwn capacity events.now) }
+        ensures reads { IfOk result (λ run. ReadsTakeOwn capacity events.now) }
+        ensures receives { IfOk result (λ run. ReceivesTakeOwn capacity events.now) }
+        ensures splices { IfOk result (λ run. SplicesPassOn capacity events.now) }
+
+        // A cancel of a canceller's group names, ascending, exactly the operations that were submitted under that group and were neither
+        // returned nor dropped. A submission under a group that was canceled is answered with its own buffer, and no other event is.
+        ensures cancels { IfOk result (λ run. CancelsMembers capacity events.now run.0.items) }
+        ensures at_once { IfOk result (λ run. CanceledAtOnceExactly capacity events.now run.0.items) }
+
+        // An event is refused as NoCanceller exactly when it names a canceller, or a cancel handle, that no reply before it created. Both
+        // are numbered in order.
+        ensures no_canceller { IfOk result (λ run. NoCancellerExactly events.now run.0.items) }
+        ensures cancellers { IfOk result (λ run. CancellersInOrder run.0.items) }
+        ensures cancel_handles { IfOk result (λ run. HandlesInOrder run.0.items) }
     {
         let mut replies = Vec::with_capacity(alloc, events.len())?;
         let mut session = Session::new(alloc, capacity)?;
@@ -209,6 +253,20 @@ impl Session {
         }
     }
 
+    // A message arrives at a handle.
+    fn feed_message(&mut self, h: u64, addr: u64, bytes: &[u8]) -> Result<Reply, OutOfMemory>
+        ensures { (L : Ledger) → SessionStands self.old L → StepsFor L (FeedMessage h addr bytes.now) self.new result }
+    {
+        if !self.driver.has_handle(h) {
+            return Ok(Reply::Refused(Refusal::NoHandle));
+        }
+        match self.driver.feed_message(h, addr, bytes) {
+            Ok(()) => Ok(Reply::Fed),
+            Err(WorldError::BadHandleEvent) => Ok(Reply::Refused(Refusal::BadHandleEvent)),
+            Err(WorldError::OutOfMemory) => Err(OutOfMemory),
+        }
+    }
+
     // What arrives at a handle ends.
     fn end(&mut self, h: u64) -> Reply
         ensures { (L : Ledger) → SessionStands self.old L → SessionAnswers L (End h) result self.new }
@@ -222,7 +280,7 @@ impl Session {
         }
     }
 
-    // What was sent to a handle is looked at.
+    // A handle is looked at.
     fn look(&self, h: u64) -> Result<Reply, OutOfMemory>
         ensures { (L : Ledger) → SessionStands self.now L → StepsFor L (Event.Look h) self.now result }
     {
@@ -230,7 +288,7 @@ impl Session {
             return Ok(Reply::Refused(Refusal::NoHandle));
         }
         match self.driver.look(h) {
-            Ok(look) => Ok(Reply::Output(shown_by(look))),
+            Ok(look) => Ok(look_reply(look)),
             Err(_) => Err(OutOfMemory),
         }
     }
@@ -244,86 +302,6 @@ impl Session {
         }
         self.driver.close(SharedFd::new(h));
         Reply::Released
-    }
-
-    // A copy of a request is submitted.
-    fn submit_copy(&mut self, request: &Request<BufSpec, PartsSpec>) -> Result<Reply, OutOfMemory>
-        ensures { (L : Ledger) → SessionStands self.old L → StepsFor L (Submit request.now) self.new result }
-    {
-        match self.refusal_of(request) {
-            Some(refusal) => Ok(Reply::Refused(refusal)),
-            None => match copy_request(request) {
-                Ok(request) => self.submit(request),
-                Err(_) => Err(OutOfMemory),
-            },
-        }
-    }
-
-    // A request is submitted; what it holds is moved into its buffer, or its parts.
-    fn submit(&mut self, request: Request<BufSpec, PartsSpec>) -> Result<Reply, OutOfMemory>
-        ensures { (L : Ledger) → SessionStands self.old L → StepsFor L (Submit request) self.new result }
-    {
-        match self.refusal_of(&request) {
-            Some(refusal) => return Ok(Reply::Refused(refusal)),
-            None => {}
-        }
-        if self.driver.given() >= MOST_GIVEN {
-            return Err(OutOfMemory);
-        }
-        if self.tokens.reserve_one().is_err() {
-            return Err(OutOfMemory);
-        }
-        match build_request(request) {
-            Ok(request) => self.submit_built(request),
-            Err(_) => Err(OutOfMemory),
-        }
-    }
-
-    // Why a submission is refused, if it is.
-    fn refusal_of(&self, request: &Request<BufSpec, PartsSpec>) -> Option<Refusal>
-        ensures named { (L : Ledger) → SessionStands self.now L → cause L (Submit request.now) ≡ result }
-        ensures held { IfNone result (IsTrue (holds_all self.now.driver (named request.now))) }
-    {
-        if !self.holds_named(request) {
-            return Some(Refusal::NoHandle);
-        }
-        if self.driver.num_operations() >= MAX_LIVE {
-            return Some(Refusal::Full);
-        }
-        None
-    }
-
-    // The user holds each handle that a request names.
-    #[tactic(auto, using(crate::proofs::NamedHandles::holds_next, crate::proofs::NamedHandles::holds_none))]
-    fn holds_named(&self, request: &Request<BufSpec, PartsSpec>) -> bool
-        ensures { result ≡ holds_all self.now.driver (named request.now) }
-    {
-        for i in 0..request.named_len() {
-            if !self.driver.user_holds(request.named_at(i)) {
-                return false;
-            }
-        }
-        true
-    }
-
-    // A request of handles that the user holds is submitted, and its token kept.
-    fn submit_built(&mut self, request: Request<Buf, VecBuf>) -> Result<Reply, OutOfMemory>
-        requires held { IsTrue (holds_all self.old.driver (named request)) }
-        requires counter { given_by self.old.driver < MOST_GIVEN }
-        requires room { vec_len self.old.tokens.ops < vec_capacity self.old.tokens.ops }
-        ensures ok { IfOk result (λ reply. (L : Ledger) → SessionStands self.old L →
-            SessionAnswers L (Submit (plain_request built request)) reply self.new) }
-        ensures err { OnErr result ((L : Ledger) → SessionStands self.old L → SessionStands self.new L) }
-    {
-        match self.driver.submit_with(request) {
-            Ok(submitted) => {
-                let op = token_of(submitted);
-                let n = op.number();
-                self.tokens.add(op);
-                Ok(Reply::Submitted(n))
-            }
-            Err(_) => Err(OutOfMemory),
-        }
     }
 
     // An operation is polled for a task.
@@ -405,12 +383,13 @@ impl Session {
     }
 }
 
-// The bytes that a look shows.
-fn shown_by(look: Look) -> ByteList
-    ensures { look ≡ Look.Bytes result }
+// The reply to a look.
+fn look_reply(look: Look) -> Reply
+    ensures { result ≡ machine.look_reply look }
 {
     match look {
-        Look::Bytes(bytes) => bytes,
+        Look::Bytes(bytes) => Reply::Output(bytes),
+        Look::Messages(messages) => Reply::Messages(messages),
     }
 }
 
@@ -435,34 +414,6 @@ fn refused_execution(why: ExecRefusal) -> Result<Reply, OutOfMemory>
     }
 }
 
-// A copy of a request.
-fn copy_request(
-    request: &Request<BufSpec, PartsSpec>,
-) -> Result<Request<BufSpec, PartsSpec>, OutOfMemory>
-    ensures { IfOk result (λ copy. copy ≡ request.now) }
-{
-    request
-        .as_ref()
-        .try_map(|buf| buf.try_clone(), |parts| parts.try_clone())
-}
-
-// A request of an event, with its buffer, or its parts, built.
-fn build_request(request: Request<BufSpec, PartsSpec>) -> Result<Request<Buf, VecBuf>, OutOfMemory>
-    ensures plain { IfOk result (λ own. plain_request built own ≡ request) }
-    ensures names { IfOk result (λ own. named own ≡ named request) }
-{
-    request.try_map(|buf| buf.build(), |parts| parts.build())
-}
-
-// The token that a submission gave.
-fn token_of(submitted: Submitted) -> Op
-    ensures { submitted ≡ Submitted.Op result }
-{
-    match submitted {
-        Submitted::Op(op) => op,
-    }
-}
-
 // What a request holds, as plain data.
 fn plain_held(request: Request<Buf, VecBuf>) -> HeldBuf
     ensures { result ≡ held_of (plain_request built request) }
@@ -470,6 +421,7 @@ fn plain_held(request: Request<Buf, VecBuf>) -> HeldBuf
     match request.into_held() {
         Held::One(buf) => Held::One(buf.into_spec()),
         Held::Parts(parts) => Held::Parts(parts.into_spec()),
+        Held::Nothing => Held::Nothing,
     }
 }
 

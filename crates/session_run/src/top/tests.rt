@@ -6,7 +6,7 @@ use std::test::Fail;
 
 // Runs of the program: a name, the capacity's word, the lines, the status, and the replies, separated by `;`.
 #[rattlefmt::skip]
-const ROWS: [(&str, &str, &str, Status, &str); 23] = [
+const ROWS: [(&str, &str, &str, Status, &str); 24] = [
     ("one read", "1",
      "give stream;submit recv 0 v 4 0 4 -;poll 0 7;feed 0 6162;turn;exec 0 ok 2;poll 0 7;turn;poll 0 7;poll 0 7", Status::Done,
      "handle 0;op 0;pending;fed;turned - - -;executed op 0;pending;turned 0 - 7;ready ok 2 v 4 0 4 6162;refused NoOp;"),
@@ -44,8 +44,8 @@ const ROWS: [(&str, &str, &str, Status, &str); 23] = [
     ("a short send of parts", "4",
      "give stream;submit writev 0 p 3 2 6162 0 - 4 636465;turn;exec 0 ok 6;exec 0 ok 4;turn;poll 0 1;look 0", Status::Done,
      "handle 0;op 0;turned - - -;refused BadOutcome;executed op 0;turned 0 - -;ready ok 4 p 3 2 6162 0 - 4 636465;output 61626364;"),
-    ("nothing is there", "4", "submit recv 9 v 1 0 1 -;exec 0 ok 0;poll 0 1", Status::Done,
-     "refused NoHandle;refused NotFlying;refused NoOp;"),
+    ("nothing is there", "4", "submit recv 9 v 1 0 1 -;exec 0 ok 0;poll 0 1;newhandle 3", Status::Done,
+     "refused NoHandle;refused NotFlying;refused NoOp;refused NoCanceller;"),
     ("outcomes that aren't allowed", "4",
      "give stream;submit recv 0 v 2 0 2 -;turn;feed 0 61;exec 0 ok 2;exec 0 ok 0;exec 0 ok 1", Status::Done,
      "handle 0;op 0;turned - - -;fed;refused BadOutcome;refused BadOutcome;executed op 0;"),
@@ -68,7 +68,85 @@ const ROWS: [(&str, &str, &str, Status, &str); 23] = [
      "give stream;submit recv 0 v 1 0 1 -;turn;close 0;exec 0 err 104;turn;poll 0 5;look 0;turn;exec 0 ok 0;turn;close 0", Status::Done,
      "handle 0;op 0;turned - - -;released;executed op 0;turned 0 - -;ready err 104 v 1 0 1 -;refused NoHandle;turned - - -;\
       executed close 0;turned - 0 -;refused NoHandle;"),
+    ("two closes over a full queue", "1",
+     "give stream;give stream;submit recv 0 v 1 0 1 -;submit recv 1 v 1 0 1 -;turn;close 0;close 1;drop 0;drop 1;turn;exec 0 err 125;\
+      exec 0 err 125;turn;exec 0 ok 0;turn;exec 0 ok 0;turn", Status::Done,
+     "handle 0;handle 1;op 0;op 1;turned - - -;released;released;dropped;dropped;turned - - -;executed op 0;executed op 1;\
+      turned 0,1 - -;executed close 0;turned - 0 -;executed close 1;turned - 1 -;"),
     ("an empty line", "4", "give stream;;", Status::BadLine, "line 2;"),
+];
+
+// Runs of groups, messages, files, pipes and plain requests, as above.
+#[rattlefmt::skip]
+const REQUESTS: [(&str, &str, &str, Status, &str); 13] = [
+    ("a group is canceled, and a submission under it comes back at once", "8",
+     "give stream;canceller;newhandle 0;under 0 recv 0 v 1 0 1 -;under 0 recv 0 v 1 0 1 -;cancelall 0;under 0 recv 0 v 1 0 1 -;turn;\
+      exec 0 err 125;exec 0 err 125;turn;poll 0 3;newhandle 0;under 1 recv 0 v 1 0 1 -",
+     Status::Done,
+     "handle 0;canceller 0;cancelhandle 0;op 0;op 1;cancels 0,1;canceled v 1 0 1 -;turned - - -;executed op 0;executed op 1;\
+      turned 0,1 - -;ready err 125 v 1 0 1 -;cancelhandle 1;op 2;"),
+    ("a group is canceled over a full queue", "1",
+     "give stream;canceller;newhandle 0;under 0 recv 0 v 1 0 1 -;under 0 recv 0 v 1 0 1 -;cancelall 0;turn;exec 0 err 125;\
+      exec 0 err 125;turn",
+     Status::Done,
+     "handle 0;canceller 0;cancelhandle 0;op 0;op 1;cancels 0,1;turned - - -;executed op 0;executed op 1;turned 0,1 - -;"),
+    ("a cancel of a group names neither what was returned or dropped nor what is in another group", "8",
+     "give stream;canceller;canceller;newhandle 0;newhandle 1;under 0 writev 0 p 1 2 6162;under 0 recv 0 v 1 0 1 -;\
+      under 1 recv 0 v 1 0 1 -;under 0 recv 0 v 1 0 1 -;drop 1;turn;exec 0 ok 2;turn;poll 0 1;cancelall 0;turn;exec 1 err 125;\
+      exec 2 err 125;cancelall 0;under 0 writev 0 p 1 2 6162",
+     Status::Done,
+     "handle 0;canceller 0;canceller 1;cancelhandle 0;cancelhandle 1;op 0;op 1;op 2;op 3;dropped;turned - - -;executed op 0;\
+      turned 0 - -;ready ok 2 p 1 2 6162;cancels 3;turned - - -;refused BadOutcome;executed op 3;cancels -;canceled p 1 2 6162;"),
+    ("no canceller", "4",
+     "newhandle 3;cancelall 0;under 0 recv 9 v 1 0 1 -;canceller;newhandle 0;under 0 recv 9 v 1 0 1 -;under 1 recv 9 v 1 0 1 -;\
+      newhandle 1;cancelall 18446744073709551615",
+     Status::Done,
+     "refused NoCanceller;refused NoCanceller;refused NoCanceller;canceller 0;cancelhandle 0;refused NoHandle;refused NoCanceller;\
+      refused NoCanceller;refused NoCanceller;"),
+    ("messages", "8",
+     "give datagram;message 0 5 616263;submit recvmsg 0 v 2 0 2 -;turn;exec 0 ok 3;exec 0 ok 2;turn;poll 0 1;\
+      submit sendmsg 0 - v 1 0 1 78;turn;exec 0 ok 1;look 0",
+     Status::Done,
+     "handle 0;fed;op 0;turned - - -;refused BadOutcome;executed op 0;turned 0 - -;ready from 2 5 v 2 0 2 6162;op 1;turned - - -;\
+      executed op 1;messages 1 - 78;"),
+    ("positions of a file", "8",
+     "give file;feed 0 6162;submit write 0 3 v 1 0 1 78;turn;exec 0 ok 1;look 0;submit read 0 4 v 2 0 2 -;turn;exec 0 ok 0;\
+      submit write 0 16777216 v 1 0 1 78;turn;exec 0 ok 1;exec 0 err 27",
+     Status::Done,
+     "handle 0;fed;op 0;turned - - -;executed op 0;output 61620078;op 1;turned 0 - -;executed op 1;op 2;turned 1 - -;\
+      refused BadOutcome;executed op 2;"),
+    ("splices to and from a pipe", "8",
+     "give stream;give pipe;feed 0 616263;submit spliceto 0 1 2;turn;exec 0 ok 2;look 1;submit splicefrom 1 1 2;turn;exec 0 ok 2;\
+      exec 0 err 22",
+     Status::Done,
+     "handle 0;handle 1;fed;op 0;turned - - -;executed op 0;output 6162;op 1;turned 0 - -;refused BadOutcome;executed op 1;"),
+    ("a splice holds both its handles, over a full queue", "1",
+     "give pipe;give stream;feed 1 61;submit spliceto 1 0 1;close 0;close 1;turn;exec 0 ok 1;turn;poll 0 1;turn;exec 0 ok 0;exec 0 ok 0;\
+      turn;submit spliceto 1 0 1",
+     Status::Done,
+     "handle 0;handle 1;fed;op 0;released;released;turned - - -;executed op 0;turned 0 - -;ready ok 1 -;turned - - -;\
+      executed close 0;executed close 1;turned - 0,1 -;refused NoHandle;"),
+    ("plain requests", "8",
+     "submit mkdir 62 511;turn;exec 0 ok 1;exec 0 ok 0;turn;poll 0 9;give file;submit fsync 0 data;submit connect 0 7;turn;exec 1 ok 0;\
+      exec 0 ok 0",
+     Status::Done,
+     "op 0;turned - - -;refused BadOutcome;executed op 0;turned 0 - -;ready ok 0 -;handle 0;op 1;op 2;turned - - -;\
+      refused BadOutcome;executed op 1;"),
+    ("the stream that an abandoned accept made is closed", "4",
+     "give listener;submit accept 0;turn;drop 0;exec 0 ok 0;turn;turn;exec 0 ok 0;turn", Status::Done,
+     "handle 0;op 0;turned - - -;dropped;executed op 0;turned 0 - -;turned - - -;executed close 1;turned - 1 -;"),
+    ("an accepted stream is read, answered in two sends and closed", "1024",
+     "give listener;submit accept 0;turn;exec 0 ok 0;feed 1 6869;turn;poll 0 1;feed 1 6869;submit recv 1 v 8192 0 8192 -;turn;exec 0 ok 2;\
+      turn;poll 1 1;submit send 1 v 8192 0 2 6869;turn;exec 0 ok 1;turn;poll 2 1;submit send 1 v 8192 1 2 6869;turn;exec 0 ok 1;turn;\
+      poll 3 1;look 1;close 1;turn;exec 0 ok 0;turn",
+     Status::Done,
+     "handle 0;op 0;turned - - -;executed op 0;refused NoHandle;turned 0 - -;ready made 1 -;fed;op 1;turned - - -;executed op 1;\
+      turned 1 - -;ready ok 2 v 8192 0 8192 6869;op 2;turned - - -;executed op 2;turned 2 - -;ready ok 1 v 8192 0 2 6869;op 3;\
+      turned - - -;executed op 3;turned 3 - -;ready ok 1 v 8192 1 2 6869;output 6869;released;turned - - -;executed close 1;turned - 1 -;"),
+    ("a file that is opened has no end", "8", "submit open 2f61 0 0;turn;exec 0 ok 0;turn;poll 0 9;end 0", Status::Done,
+     "op 0;turned - - -;executed op 0;turned 0 - -;ready made 0 -;refused BadHandleEvent;"),
+    ("what a kind of handle doesn't take", "8", "give datagram;give file;feed 0 61;message 1 5 61;end 0;end 1;look 0;look 1", Status::Done,
+     "handle 0;handle 1;refused BadHandleEvent;refused BadHandleEvent;refused BadHandleEvent;refused BadHandleEvent;messages 0;output -;"),
 ];
 
 // The words `run` and another.
@@ -112,12 +190,34 @@ fn run_top<R: Threads + Wait + Clock + Sync>(
     Ok((status, sink))
 }
 
+// Runs lines over a queue of this capacity, and gives the status and what was written.
+fn run_lines<R: Threads + Wait + Clock + Sync>(
+    rt: &R,
+    alloc: Global,
+    capacity: &str,
+    input: &str,
+) -> Result<(Status, MemSink), Fail> {
+    let words = run_words(alloc, capacity)?;
+    let source = MemSource::new(lines_of(alloc, input)?, failing(alloc, None)?);
+    let ran = run_top(rt, alloc, words.as_slice(), source, None)?;
+    Ok(ran)
+}
+
 #[test]
 fn rows(rt: HostRuntime) -> Result<(), Fail> {
     for (name, capacity, input, status, output) in ROWS {
-        let words = run_words(rt.alloc(), capacity)?;
-        let source = MemSource::new(lines_of(rt.alloc(), input)?, failing(rt.alloc(), None)?);
-        let (ended, sink) = run_top(&rt, rt.alloc(), words.as_slice(), source, None)?;
+        let (ended, sink) = run_lines(&rt, rt.alloc(), capacity, input)?;
+        let wanted = lines_of(rt.alloc(), output)?;
+        assert_eq!(rt; ended, status, "in the row {name:?}");
+        assert_eq!(rt; sink.taken(), wanted.as_slice(), "in the row {name:?}");
+    }
+    Ok(())
+}
+
+#[test]
+fn rows_of_requests(rt: HostRuntime) -> Result<(), Fail> {
+    for (name, capacity, input, status, output) in REQUESTS {
+        let (ended, sink) = run_lines(&rt, rt.alloc(), capacity, input)?;
         let wanted = lines_of(rt.alloc(), output)?;
         assert_eq!(rt; ended, status, "in the row {name:?}");
         assert_eq!(rt; sink.taken(), wanted.as_slice(), "in the row {name:?}");

@@ -15,7 +15,7 @@ returns-in-None c = λ L stands.
     let items = by_number c.args.self.now.tokens in
     let none : token_at items c.args.n ≡ None = sym c.in-None.ensures.value in
     answers-refused c.args.self.now _ L _ _ stands (cause-drop L c.args.n (no_token-lacks c.args.self.now L c.args.n stands none _ refl))
-    refl (c.in-None.ensures.rest ∙ emptied-none items c.args.n none)
+    refl (record { ops = c.in-None.ensures.rest ∙ emptied-none items c.args.n none; groups = c.in-None.ensures.groups })
 
 pub drop_op-requires : goal.drop_op-requires
 drop_op-requires c = c.holds.ensures.0 c.if-not-holds.false
@@ -23,7 +23,8 @@ drop_op-requires c = c.holds.ensures.0 c.if-not-holds.false
 pub returns-else-not-holds : goal.returns-else-not-holds
 returns-else-not-holds c = λ L stands.
     let there = sym c.in-Some.ensures.value in
-    answers-taken c.args.self.now _ L c.args.n c.in-Some.op _ _ stands there c.in-Some.ensures.rest c.drop_op.ensures.tokens
+    answers-taken c.args.self.now _ L c.args.n c.in-Some.op _ _ stands there c.in-Some.ensures.rest c.in-Some.ensures.groups refl
+    c.drop_op.ensures.tokens
     (c.drop_op.ensures.none_due refl)
     (single-dropped c.args.self.now.driver c.drop_op.new.self c.in-Some.op
     (c.holds.ensures.0 c.if-not-holds.false) c.drop_op.ensures.drops) c.drop_op.ensures.given

@@ -1,30 +1,14 @@
-use Rattle.std.proofs.Common.{refl, ◌∙◌, ap}
-use Rattle.uring_driver.specs.Uring.{holds_all}
-use Rattle.session_run.proofs.Steps.{answers-refused, stands-same, steps-built}
+use Rattle.std.proofs.Common.{Some, refl, sym, ◌∙◌, ap}
+use Rattle.session_run.proofs.KeptGroups.{tokens-same}
+use Rattle.session_run.proofs.Steps.{answers-refused}
+use Rattle.session_run.proofs.Submitting.{cause-submit_unmade}
 use Rattle.session_run.proofs.session.Session.submit.Goals as goal
 
-pub returns-in-Some : goal.returns-in-Some
-returns-in-Some c = λ L stands. answers-refused c.args.self.now _ L _ _ stands (c.in-Some.ensures.named L stands) refl refl
-
-pub returns-then-given-ge-MOST_GIVEN : goal.returns-then-given-ge-MOST_GIVEN
-returns-then-given-ge-MOST_GIVEN c = λ L stands. record { stands = stands; unrefused = c.refusal_of.ensures.named L stands ∙ c.in-None.is }
-
-pub returns-then-is_err : goal.returns-then-is_err
-returns-then-is_err c = λ L stands. record {
-  stands = stands-same c.args.self.now _ L stands refl c.reserve_one.ensures.items;
-  unrefused = c.refusal_of.ensures.named L stands ∙ c.in-None.is;
-}
-
-pub submit_built-requires-clause-held : goal.submit_built-requires-clause-held
-submit_built-requires-clause-held c = ap (holds_all c.args.self.now.driver) c.in-Ok.ensures.names ∙ c.in-None.ensures.held
-
 pub returns-in-Ok : goal.returns-in-Ok
-returns-in-Ok c = λ L stands. steps-built _ c.submit_built.new.self L _ _ c.submit_built.result c.submit_built.ensures.ok
-    c.submit_built.ensures.err c.in-Ok.ensures.plain
-    (stands-same c.args.self.now _ L stands refl c.reserve_one.ensures.items) (c.refusal_of.ensures.named L stands ∙ c.in-None.is)
+returns-in-Ok c = λ L stands. c.submit_to.ensures L c.args.under stands (c.in-Ok.ensures.finds L stands)
 
 pub returns-in-Err : goal.returns-in-Err
-returns-in-Err c = λ L stands. record {
-  stands = stands-same c.args.self.now _ L stands refl c.reserve_one.ensures.items;
-  unrefused = c.refusal_of.ensures.named L stands ∙ c.in-None.is;
-}
+returns-in-Err c = λ L stands.
+    let finds = c.in-Err.ensures.finds L stands in
+    answers-refused c.args.self.now _ L _ _ stands (cause-submit_unmade L c.args.request c.args.under finds.1 ∙ ap Some (sym finds.0)) refl
+    (tokens-same _)

@@ -1,15 +1,14 @@
-use Rattle.std.proofs.Common.{refl, subst}
-use Rattle.ring_core.specs.declared.ledger.Event.TheVariants.{Submit}
-use Rattle.session_run.specs.Session.{StepsFor}
+use Rattle.std.proofs.Common.{Some, refl, sym, ◌∙◌, ap}
+use Rattle.session_run.proofs.KeptGroups.{tokens-same}
 use Rattle.session_run.proofs.Steps.{answers-refused}
+use Rattle.session_run.proofs.Submitting.{cause-submit_unmade}
 use Rattle.session_run.proofs.session.Session.submit_copy.Goals as goal
 
-pub returns-in-Some : goal.returns-in-Some
-returns-in-Some c = λ L stands. answers-refused c.args.self.now _ L _ _ stands (c.in-Some.ensures.named L stands) refl refl
-
 pub returns-in-Ok : goal.returns-in-Ok
-returns-in-Ok c = λ L stands.
-    subst (λ request. StepsFor L (Submit request) c.submit.new.self c.submit.result) c.in-Ok.ensures (c.submit.ensures L stands)
+returns-in-Ok c = λ L stands. c.submit_copy_to.ensures L c.args.under stands (c.in-Ok.ensures.finds L stands)
 
 pub returns-in-Err : goal.returns-in-Err
-returns-in-Err c = λ L stands. record { stands = stands; unrefused = c.in-None.ensures.named L stands }
+returns-in-Err c = λ L stands.
+    let finds = c.in-Err.ensures.finds L stands in
+    answers-refused c.args.self.now _ L _ _ stands
+    (cause-submit_unmade L c.args.request.now c.args.under finds.1 ∙ ap Some (sym finds.0)) refl (tokens-same _)

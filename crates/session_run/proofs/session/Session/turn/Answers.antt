@@ -2,6 +2,7 @@ use Rattle.std.proofs.Common.{true, inl, refl, subst}
 use Rattle.rent_buf.specs.Buf.{built}
 use Rattle.uring_driver.specs.Turned.{TurnsFor, TreatsFor}
 use Rattle.session_run.proofs.Single.{single-turned}
+use Rattle.session_run.proofs.KeptGroups.{tokens-same}
 use Rattle.session_run.proofs.Steps.{answers-kept, stands-same, stopped-same}
 use Rattle.session_run.proofs.session.Session.turn.Goals as goal
 
@@ -14,7 +15,7 @@ returns-in-None c = λ L stands.
     let turns = subst (λ stop. TurnsFor (λ r. r) built true L old new turned meets.queued stop) c.in-None.is
     (meets.turns refl L stands.driver) in
     let treats = subst (λ stop. TreatsFor (λ r. r) true old new turned meets.queued stop) c.in-None.is meets.treats in
-    answers-kept c.args.self.now _ L _ _ stands refl (turns.1 (inl refl)) (meets.none_due refl)
+    answers-kept c.args.self.now _ L _ _ stands (tokens-same _) refl (turns.1 (inl refl)) (meets.none_due refl)
     (single-turned old new turned meets.queued _ treats) meets.tokens meets.given
 
 pub returns-in-Some : goal.returns-in-Some
@@ -27,5 +28,5 @@ returns-in-Some c = λ L stands.
     (meets.turns refl L stands.driver) in
     record {
       unrefused = refl;
-      stands = stands-same c.args.self.now _ L stands (stopped-same L old new turned meets.queued c.in-Some.field-0 turns) refl;
+      stands = stands-same c.args.self.now _ L stands (stopped-same L old new turned meets.queued c.in-Some.field-0 turns) (tokens-same _);
     }

@@ -2,8 +2,9 @@ use Rattle.std.proofs.Common.{arith}
 use Rattle.ring_core.proofs.Amended.{amended-at, amended-past}
 use Rattle.session_run.proofs.tokens.Tokens.put.Goals as goal
 
-pub returns-in-None : goal.returns-in-None
-returns-in-None c = λ empty. amended-at _ _ _ c.index_mut.result.now _ (omega arith) c.index_mut.ensures.value c.replace.ensures.after
+pub returns-in-None-clause-items : goal.returns-in-None-clause-items
+returns-in-None-clause-items c = λ empty. amended-at _ _ _ c.index_mut.result.now _ (omega arith) c.index_mut.ensures.value
+    c.replace.ensures.after
 
-pub returns-else-n-len : goal.returns-else-n-len
-returns-else-n-len c = λ empty. amended-past _ _ _ (omega arith)
+pub returns-else-n-len-clause-items : goal.returns-else-n-len-clause-items
+returns-else-n-len-clause-items c = λ empty. amended-past _ _ _ (omega arith)
