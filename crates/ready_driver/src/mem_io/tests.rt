@@ -5,6 +5,7 @@ use crate::ready::Ready;
 use driver_core::{CallAnswer, Calls};
 use rent_buf::Rent;
 use ring_core::{HandleKind, Outcome, Request, SharedFd};
+use std::process::Abort;
 use std::test::Fail;
 
 // What a read of two bytes answers.
@@ -23,13 +24,25 @@ fn reported<I: NonBlock>(rt: &HostRuntime, io: &mut I) -> Result<Reports, Fail> 
     Ok(reports)
 }
 
+// Bytes arrive at a handle.
+fn feed(rt: &impl Abort, io: &mut MemIo, h: u64, bytes: &[u8]) {
+    assert!(rt; h < io.count());
+    assert!(rt; io.feed(h, bytes).is_ok());
+}
+
+// The end of what arrives at a handle is marked.
+fn end(rt: &impl Abort, io: &mut MemIo, h: u64) {
+    assert!(rt; h < io.count());
+    assert!(rt; io.end(h).is_ok());
+}
+
 #[test]
 fn a_read_blocks_until_bytes_are_there(rt: HostRuntime) -> Result<(), Fail> {
     let mut io = MemIo::new(rt.alloc());
     let h = io.give(HandleKind::Stream)?;
     let fd = SharedFd::new(h);
     assert_eq!(rt; read(&rt, &mut io, fd)?, CallAnswer::WouldBlock);
-    io.feed(h, b"abc")?;
+    feed(&rt, &mut io, h, b"abc");
     assert_eq!(rt;
         read(&rt, &mut io, fd)?,
         CallAnswer::Done(Outcome::Count(2))
@@ -38,7 +51,7 @@ fn a_read_blocks_until_bytes_are_there(rt: HostRuntime) -> Result<(), Fail> {
         read(&rt, &mut io, fd)?,
         CallAnswer::Done(Outcome::Count(1))
     );
-    io.end(h)?;
+    end(&rt, &mut io, h);
     assert_eq!(rt;
         read(&rt, &mut io, fd)?,
         CallAnswer::Done(Outcome::Count(0))
@@ -60,7 +73,7 @@ fn what_is_registered_is_reported(rt: HostRuntime) -> Result<(), Fail> {
     io.register(first, 9)?;
     assert_eq!(rt; reported(&rt, &mut io)?.len(), 2);
     io.deregister(first)?;
-    io.feed(second, b"a")?;
+    feed(&rt, &mut io, second, b"a");
     assert!(rt; !io.is_file(second));
     let reports = reported(&rt, &mut io)?;
     let both = Report {

@@ -14,6 +14,12 @@ fn read(rt: &HostRuntime, fd: SharedFd) -> Result<Request<Rent, VecBuf>, Fail> {
     Ok(Request::Recv { fd, buf })
 }
 
+// Bytes arrive at a handle.
+fn feed(rt: &impl Abort, io: &mut MemIo, h: u64, bytes: &[u8]) {
+    assert!(rt; h < io.count());
+    assert!(rt; io.feed(h, bytes).is_ok());
+}
+
 // A new operation.
 fn submitted(rt: &impl Abort, ops: &mut Operations<Rent>, request: Request<Rent, VecBuf>) -> Op {
     assert!(rt; ops.reserve_one().is_ok());
@@ -55,7 +61,7 @@ fn reads_over_handles_in_memory(rt: HostRuntime) -> Result<(), Fail> {
 
     let op = submitted(&rt, &mut ops, read(&rt, fd)?);
     let op = waiting(&rt, &mut ops, &mut io, op);
-    assert!(rt; io.feed(h, b"abc").is_ok());
+    feed(&rt, &mut io, h, b"abc");
     let done = returned(&rt, &mut ops, &mut io, op);
     assert_eq!(rt; done.outcome, Outcome::Count(2));
     match &done.request {
