@@ -13,6 +13,3 @@ pub fn turn_twice<D: Driver>(driver: &mut D) -> bool
     }
     driver.submit().stop.is_none()
 }
-
-#[cfg(test)]
-mod tests;

@@ -1,9 +1,6 @@
-//! A program over any driver, and what the calls of the completion driver do where memory is at hand.
+//! A program over any driver.
 #![tactic(auto)]
 
 mod example;
 
 pub use example::turn_twice;
-
-#[cfg(test)]
-mod tests;
