@@ -14,6 +14,8 @@ use Rattle.ring_core.specs.Ledger.{user_holds, with_made}
 use Rattle.ring_core.specs.Queue.{at_place, with_gone, is_unheld, became_unheld}
 use Rattle.ring_core.specs.Step.{with_user}
 use Rattle.ring_core.specs.Closes.{AreKnown, MadeAlone, made_at}
+use Rattle.ring_core.proofs.Alone.{fails-by}
+use Rattle.ring_core.proofs.Owning.{same-tests}
 use Rattle.ring_core.proofs.Numbers.{same-or-not, and-left, and-right}
 use Rattle.ring_core.proofs.Amended.{changed-cases, there-before}
 use Rattle.ring_core.proofs.Where.{none-where}
@@ -50,17 +52,6 @@ seen-made false (InDone outcome) None h is = (let f : ⊥ = cc in absurd f)
 seen-made false (InDone outcome) (Some t) h is = (let f : ⊥ = cc in absurd f)
 seen-made false (Reaped outcome) task h is = is
 seen-made false Gone task h is = (let f : ⊥ = cc in absurd f)
-
--- A test fails where passing leads nowhere.
-fails-by : (b : Bool) → (b ≡ true → ⊥) → b ≡ false
-fails-by true none = absurd (none refl)
-fails-by false none = refl
-
--- Tests that pass for each other are equal.
-same-tests : (a b : Bool) → (a ≡ true → b ≡ true) → (b ≡ true → a ≡ true) → a ≡ b
-same-tests true b to from = sym (to refl)
-same-tests false true to from = from refl
-same-tests false false to from = refl
 
 module _ (L : Ledger) (alone : MadeAlone L) where
   -- An operation that is seen to hold a handle holds it.

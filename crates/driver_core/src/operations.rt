@@ -226,6 +226,14 @@ impl<B: IoBufMut + Drop> Payloads for Operations<B> {
         }
     }
 
+    /// Copies the first bytes that the request in the slot of this key shows. (not in monoio)
+    fn copy_to(&self, word: u64, target: &mut [u8]) -> usize {
+        match self.slots.peek(word as usize) {
+            Some(slot) => slot.request.copy_shown(target),
+            None => 0,
+        }
+    }
+
     /// Stores bytes in what the request in the slot of this key holds, when they fit. It takes no memory. (not in monoio)
     fn store(&mut self, word: u64, bytes: &[u8]) -> Result<(), OutOfMemory> {
         store_in(&mut self.slots, word as usize, bytes);

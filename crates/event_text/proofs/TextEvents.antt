@@ -24,7 +24,7 @@ use Rattle.event_text.specs.TextWords.{AreBytes, spaced, bytes_word}
 use Rattle.event_text.proofs.TextFields.{at_end-Some, value_of-Some}
 use Rattle.event_text.proofs.TextForms.{IsWord, IsForm, IsRow, AreRows, number_word, below_word, bytes_form, last_form, with_first_form}
 use Rattle.event_text.proofs.TextForms.{row_form, by_name-Some}
-use Rattle.event_text.proofs.TextRequests.{number_behind, request_of-words, request_read, solid_request}
+use Rattle.event_text.proofs.TextRequests.{alone_behind, number_behind, request_of-words, request_read, solid_request}
 use Rattle.event_text.proofs.TextSpaces.{AreSolid, is_solid, words-spaced, spaced-words}
 
 -- The word of a handle's kind.
@@ -78,11 +78,7 @@ told_form = record { solid = solid; reads = reads; spelt = spelt }
     spelt (name ∷ words) told is =
         by_name-Some told_words IsTold told_rows rows None name words told (λ none. absurd (cc)) is
 
--- The shapes of what is behind an event's first word: a number,
-one_behind : IsForm (last_of number_of) (λ n. decimal n ∷ []) (λ n. n < 2 ^ 64)
-one_behind = last_form number_word
-
--- .. or a number and bytes,
+-- The shapes of what is behind an event's first word, where it isn't one number: a number and bytes,
 bytes_behind : IsForm (with_first number_of bytes_end) (λ x. decimal x.0 ∷ bytes_word x.1 ∷ []) (λ x. (x.0 < 2 ^ 64) × AreBytes x.1)
 bytes_behind = with_first_form number_word bytes_form
 
@@ -114,19 +110,19 @@ event_of-event_words (Give kind) h = ap (λ o. option_map Give o) (kind_behind.r
 event_of-event_words (Feed n bytes) h = ap (λ o. option_map (λ x. Feed x.0 x.1) o) (bytes_behind.reads (n, bytes) h)
 event_of-event_words (FeedMessage n address bytes) h =
     ap (λ o. option_map (λ x. FeedMessage x.0 x.1.0 x.1.1) o) (message_behind.reads (n, (address, bytes)) (h.0, (h.1, h.2)))
-event_of-event_words (End n) h = ap (λ o. option_map End o) (one_behind.reads n h)
-event_of-event_words (Look n) h = ap (λ o. option_map Look o) (one_behind.reads n h)
-event_of-event_words (Close n) h = ap (λ o. option_map Close o) (one_behind.reads n h)
+event_of-event_words (End n) h = ap (λ o. option_map End o) (alone_behind.reads n h)
+event_of-event_words (Look n) h = ap (λ o. option_map Look o) (alone_behind.reads n h)
+event_of-event_words (Close n) h = ap (λ o. option_map Close o) (alone_behind.reads n h)
 event_of-event_words (Submit request None) h =
     ap (λ (o : Option (Request Buffer Parts)). option_map (λ r. Submit r None) o) (request_of-words request h)
 event_of-event_words (Submit request (Some handle)) h =
     ap (λ o. option_map (λ x. Submit x.1 (Some x.0)) o) (under_behind.reads (handle, request) h)
 event_of-event_words (Poll n task) h = ap (λ o. option_map (λ x. Poll x.0 x.1) o) (number_behind.reads (n, task) h)
-event_of-event_words (Drop n) h = ap (λ o. option_map Drop o) (one_behind.reads n h)
-event_of-event_words (Cancel n) h = ap (λ o. option_map Cancel o) (one_behind.reads n h)
+event_of-event_words (Drop n) h = ap (λ o. option_map Drop o) (alone_behind.reads n h)
+event_of-event_words (Cancel n) h = ap (λ o. option_map Cancel o) (alone_behind.reads n h)
 event_of-event_words NewCanceller h = refl
-event_of-event_words (NewHandle c) h = ap (λ o. option_map NewHandle o) (one_behind.reads c h)
-event_of-event_words (CancelAll c) h = ap (λ o. option_map CancelAll o) (one_behind.reads c h)
+event_of-event_words (NewHandle c) h = ap (λ o. option_map NewHandle o) (alone_behind.reads c h)
+event_of-event_words (CancelAll c) h = ap (λ o. option_map CancelAll o) (alone_behind.reads c h)
 event_of-event_words Turn h = refl
 event_of-event_words (Exec place told) h = ap (λ o. option_map (λ x. Exec x.0 x.1) o) (told_behind.reads (place, told) h)
 
@@ -135,17 +131,17 @@ solid_event : (event : Event) → IsEvent event → AreSolid (event_words event)
 solid_event (Give kind) h = (refl, kind_behind.solid kind tt)
 solid_event (Feed n bytes) h = (refl, bytes_behind.solid (n, bytes) h)
 solid_event (FeedMessage n address bytes) h = (refl, message_behind.solid (n, (address, bytes)) (h.0, (h.1, h.2)))
-solid_event (End n) h = (refl, one_behind.solid n h)
-solid_event (Look n) h = (refl, one_behind.solid n h)
-solid_event (Close n) h = (refl, one_behind.solid n h)
+solid_event (End n) h = (refl, alone_behind.solid n h)
+solid_event (Look n) h = (refl, alone_behind.solid n h)
+solid_event (Close n) h = (refl, alone_behind.solid n h)
 solid_event (Submit request None) h = (refl, solid_request request h)
 solid_event (Submit request (Some handle)) h = (refl, under_behind.solid (handle, request) h)
 solid_event (Poll n task) h = (refl, number_behind.solid (n, task) h)
-solid_event (Drop n) h = (refl, one_behind.solid n h)
-solid_event (Cancel n) h = (refl, one_behind.solid n h)
+solid_event (Drop n) h = (refl, alone_behind.solid n h)
+solid_event (Cancel n) h = (refl, alone_behind.solid n h)
 solid_event NewCanceller h = (refl, tt)
-solid_event (NewHandle c) h = (refl, one_behind.solid c h)
-solid_event (CancelAll c) h = (refl, one_behind.solid c h)
+solid_event (NewHandle c) h = (refl, alone_behind.solid c h)
+solid_event (CancelAll c) h = (refl, alone_behind.solid c h)
 solid_event Turn h = (refl, tt)
 solid_event (Exec place told) h = (refl, told_behind.solid (place, told) h)
 
@@ -161,18 +157,18 @@ alone name event is typed = record {
 -- Each row of one number reads its event's words,
 numbered_rows-are : AreRows event_words IsEvent numbered_rows
 numbered_rows-are = (
-  row_form event_words IsEvent (codes "drop") Drop one_behind (λ n h. (refl, h)),
+  row_form event_words IsEvent (codes "drop") Drop alone_behind (λ n h. (refl, h)),
   (
-    row_form event_words IsEvent (codes "cancel") Cancel one_behind (λ n h. (refl, h)),
+    row_form event_words IsEvent (codes "cancel") Cancel alone_behind (λ n h. (refl, h)),
     (
-      row_form event_words IsEvent (codes "end") End one_behind (λ n h. (refl, h)),
+      row_form event_words IsEvent (codes "end") End alone_behind (λ n h. (refl, h)),
       (
-        row_form event_words IsEvent (codes "look") Look one_behind (λ n h. (refl, h)),
+        row_form event_words IsEvent (codes "look") Look alone_behind (λ n h. (refl, h)),
         (
-          row_form event_words IsEvent (codes "close") Close one_behind (λ n h. (refl, h)),
+          row_form event_words IsEvent (codes "close") Close alone_behind (λ n h. (refl, h)),
           (
-            row_form event_words IsEvent (codes "newhandle") NewHandle one_behind (λ n h. (refl, h)),
-            (row_form event_words IsEvent (codes "cancelall") CancelAll one_behind (λ n h. (refl, h)), tt),
+            row_form event_words IsEvent (codes "newhandle") NewHandle alone_behind (λ n h. (refl, h)),
+            (row_form event_words IsEvent (codes "cancelall") CancelAll alone_behind (λ n h. (refl, h)), tt),
           ),
         ),
       ),

@@ -67,7 +67,7 @@ length_behind : IsForm (with_first number_of (with_first number_of (last_of (num
 length_behind = with_first_form number_word (with_first_form number_word (last_form (below_word (2 ^ 32) (omega arith))))
 
 -- .. or nothing more,
-alone_behind : IsForm (last_of number_of) (λ n. decimal n ∷ []) (λ n. n < 2 ^ 64)
+pub alone_behind : IsForm (last_of number_of) (λ n. decimal n ∷ []) (λ n. n < 2 ^ 64)
 alone_behind = last_form number_word
 
 -- .. or a number,

@@ -19,7 +19,7 @@ use Rattle.ring_core.specs.World.{gives_bytes, takes_bytes, takes_if, is_datagra
 use Rattle.ring_core.specs.Outcome.{is_allowed, may_count, may_read, may_send, may_take, may_receive, may_write}
 use Rattle.ring_core.specs.Attempt.{readable_by_kind, reads_at_once, is_early, awaited, fits, receiver, is_shut, is_broken}
 use Rattle.ring_core.specs.Attempt.{is_dry, is_too_far, first_length, greatest, answer_if, attempt}
-use Rattle.ring_core.proofs.Numbers.{and-left, and-right}
+use Rattle.ring_core.proofs.Numbers.{equal-self, and-left, and-right}
 
 -- The bytes that wait on a handle that was looked up.
 abbrev bytes_of : Option HandleState → List ℕ
@@ -37,10 +37,6 @@ not-fails false h = cc
 -- Two tests that pass pass together.
 and-both : (a b : Bool) → a ≡ true → b ≡ true → (a && b) ≡ true
 and-both a b p q = ap (λ x. x && b) p ∙ q
-
--- A number equals itself.
-equal-own : (n : ℕ) → (n == n) ≡ true
-equal-own n = grind (arith, eqb_tells)
 
 -- Of three tests the two last ones are exchanged for ones that they imply.
 and-three : (a b c d e : Bool) → (a && b && c) ≡ true → (b ≡ true → d ≡ true) → (c ≡ true → e ≡ true) → (a && d && e) ≡ true
@@ -76,7 +72,7 @@ receives-kind : (kind : HandleKind) (t : HandleState) (want : ℕ) (messages : L
     is_datagram kind ≡ true → (is_file kind || readable_by_kind kind t) ≡ true →
     (is_datagram kind && may_receive want (min want (first_length messages)) (slice_get messages 0)) ≡ true
 receives-kind Datagram t want [] is datagram once = absurd (false≢true (ap (λ m. not (is_empty m)) (sym is) ∙ once))
-receives-kind Datagram t want (message ∷ messages) is datagram once = equal-own (min want (length message.1))
+receives-kind Datagram t want (message ∷ messages) is datagram once = equal-self (min want (length message.1))
 receives-kind Stream t want messages is datagram once = cc
 receives-kind File t want messages is datagram once = cc
 receives-kind Pipe t want messages is datagram once = cc
@@ -170,7 +166,7 @@ greatest-allowed world (Out h offered) p =
     sends-there offered (slice_get world h) (takes-there (slice_get world h) p.fitting p.whole)
 greatest-allowed world (MessageIn h want) p = receives-there want (slice_get world h) p.fitting (not-fails _ p.ready)
 greatest-allowed world (MessageOut h addr offered) p =
-    passes-with (λ handle. is_datagram handle.kind) (λ handle. offered == offered) (slice_get world h) (λ t. equal-own offered) p.fitting
+    passes-with (λ handle. is_datagram handle.kind) (λ handle. offered == offered) (slice_get world h) (λ t. equal-self offered) p.fitting
 greatest-allowed world (ReadAt h pos want) p = reads-file want pos (slice_get world h) p.fitting
 greatest-allowed world (WriteAt h pos offered) p =
     passes-with (λ handle. is_file handle.kind) (λ handle. may_write pos offered (min offered (MOST_FILE - pos))) (slice_get world h)

@@ -1,5 +1,5 @@
 -- A call that is made at once, from the execution of an entry that asks for it.
-use Rattle.std.proofs.Common.{◌≡◌, ℕ, Bool, true, false, List, Some, sym, ◌∙◌, ap, subst, true≢false}
+use Rattle.std.proofs.Common.{◌≡◌, ℕ, Bool, true, false, List, Some, Result, Err, sym, ◌∙◌, ap, subst, true≢false}
 use Rattle.rent_buf.specs.Buffer.{Buffer}
 use Rattle.rent_buf.specs.Parts.{Parts}
 use Rattle.ring_core.specs.declared.entry.Body.TheVariants.{Call as Calls}
@@ -11,11 +11,14 @@ use Rattle.ring_core.specs.declared.request.Outcome.{Outcome}
 use Rattle.ring_core.specs.declared.world.HandleState.{HandleState}
 use Rattle.ring_core.specs.Request.{call_of, sent_of, shown_by, held, held_of, plain_request, IsHolding}
 use Rattle.ring_core.specs.Surroundings.{Surroundings, request_around}
-use Rattle.ring_core.specs.Payloads.{comes, body_comes, StoresIf}
+use Rattle.ring_core.specs.Lists.{passes}
+use Rattle.ring_core.specs.Payloads.{comes, body_comes, StoresIf, may_run_out, body_may_run_out}
 use Rattle.ring_core.specs.Effect.{Effect, effect}
-use Rattle.ring_core.specs.Called.{IsRun, body_effect, is_allowed_body}
+use Rattle.ring_core.specs.Called.{IsRun, RunsFor, body_effect, is_allowed_body}
+use Rattle.ring_core.specs.declared.world.RunError.{RunError}
+use Rattle.ring_core.specs.declared.world.RunError.TheVariants.{OutOfMemory}
 use Rattle.ring_core.specs.Attempt.{attempt}
-use Rattle.ring_core.specs.WorldCall.{StoresFitting, call_effect, IsCalled}
+use Rattle.ring_core.specs.WorldCall.{StoresFitting, call_effect, IsCalled, call_may_run_out}
 use Rattle.ring_core.proofs.Requests.{holding-own, got-fits, effect-shown, held-comes, held-stays}
 use Rattle.ring_core.proofs.Attempting.{attempt_allowed}
 
@@ -77,6 +80,21 @@ module _ {B : Type 0} (buffer : B → Buffer) (around : B → Surroundings) (old
     -- What surrounds its buffer stays.
     pub ran-around : request_around around now ≡ request_around around request
     ran-around = ran-held.1
+
+  -- An entry that asks for the call ran out of memory: the call may, and nothing has changed.
+  pub ran-out : (flight : Flight) → flight.entry.body ≡ Calls (call_of plain) → (new : List HandleState) (now : Request B Parts)
+      (result : Result Outcome RunError) → result ≡ Err OutOfMemory →
+      RunsFor storing (λ count. false) flight told (shown_by plain) old new request now result →
+      (call_may_run_out old plain ≡ true) × (new ≡ old) × (plain_request buffer now ≡ plain)
+  ran-out flight asks new now result is ran = (
+    ap (passes (may_run_out (λ count. false) (call_of plain))) made
+        ∙ sym (ap (λ body. body_may_run_out (λ count. false) body told) asks) ∙ out.1,
+    out.2,
+    ap (plain_request buffer) out.3,
+  )
+    where
+      out : RunsFor storing (λ count. false) flight told (shown_by plain) old new request now (Err OutOfMemory)
+      out = subst (RunsFor storing (λ count. false) flight told (shown_by plain) old new request now) is ran
 
 -- An entry that asks for a call that is made at once isn't refused.
 pub ran_allowed : (world : List HandleState) (call : Call) (told : Told) (flight : Flight) → attempt world call ≡ Some told →

@@ -12,7 +12,7 @@ use Rattle.ring_core.specs.Step.{with_new_op}
 use Rattle.ring_core.proofs.Numbers.{and-left, and-right, not-passes}
 use Rattle.ring_core.proofs.Amended.{changed-cases, joined-cases, there-before}
 use Rattle.ring_core.proofs.Taken.{queue-take_each}
-use Rattle.ring_core.proofs.Where.{empty-is, empty-length, where-kept, where-left, where-joined, where-none, none-where}
+use Rattle.ring_core.proofs.Where.{empty-is, empty-length, where-kept, where-joined, where-none, none-where}
 
 -- Two operations hold the same: they have one request, they made the same handle, or none, and both are gone, or neither is.
 pub record HoldsSame (o p : Operation) : Type 0 where
@@ -246,12 +246,7 @@ holders-push_closes L (k ∷ handles) h =
     holders-then (holders-push L (Queued.Close k) h)
     (holders-push_closes (push L (Queued.Close k)) handles (live-push_close L k h))
 
--- An operation that held a handle and is gone leaves its holders, one fewer.
-pub holding-gone : (L : Ledger) (n h : ℕ) (o : Operation) → slice_get L.ops n ≡ Some o → is_holding h o ≡ true →
-    length (holding_ops (with_gone L n) h) + 1 ≡ length (holding_ops L h)
-holding-gone L n h o there holds = where-left (is_holding h) (at_place Gone) L.ops n 0 o there holds refl
-
--- One that didn't leaves them as they are.
+-- An operation that didn't hold a handle, and is gone, leaves its holders as they are.
 pub holding-gone-other : (L : Ledger) (n h : ℕ) → ((o : Operation) → slice_get L.ops n ≡ Some o → is_holding h o ≡ false) →
     holding_ops (with_gone L n) h ≡ holding_ops L h
 holding-gone-other L n h other = where-kept (is_holding h) (at_place Gone) L.ops n 0 (λ o there. sym (other o there))

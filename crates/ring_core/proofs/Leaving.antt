@@ -1,9 +1,9 @@
 -- Which handles' holders became none, as the test says it, and as the request of the operation that left does.
 use Rattle.std.proofs.Common.{◌≡◌, ◌≢◌, ◌⊎◌, inl, inr, ℕ, zero, suc, ◌+◌, ◌≤◌, ◌<◌, Bool, true, false, cond, not, ◌&&◌, ◌||◌}
 use Rattle.std.proofs.Common.{Option, None, List, [], ◌∷◌, ◌++◌, length, Some, slice_get, refl, sym, ◌∙◌, ap, subst, arith}
-use Rattle.std.specs.Prelude.{filter, ◌==◌, nat_lt, if◌then◌else◌}
+use Rattle.std.specs.Prelude.{filter, nat_lt, if◌then◌else◌}
 use Rattle.std.proofs.Math.Bool.{and-false}
-use Rattle.std.proofs.lemmas.Bool.Decides.{eqb_tells, nat_tests}
+use Rattle.std.proofs.lemmas.Bool.Decides.{nat_tests}
 use Rattle.ring_core.specs.declared.request.Request.{Request}
 use Rattle.ring_core.specs.declared.request.Request.TheVariants.{Recv, ReadVec, Send, WriteVec, RecvMsg, SendMsg, Read, Write}
 use Rattle.ring_core.specs.declared.request.Request.TheVariants.{SpliceTo, SpliceFrom, Accept, Open, Connect, Fsync, PollAdd, MkDir, Rename}
@@ -13,7 +13,7 @@ use Rattle.ring_core.specs.Request.{named, both}
 use Rattle.ring_core.specs.Ledger.{Ledger, Operation, with_made, holds, is_live, is_holding}
 use Rattle.ring_core.specs.Queue.{is_unheld, became_unheld, with_gone}
 use Rattle.ring_core.specs.Closes.{AreKnown}
-use Rattle.ring_core.proofs.Numbers.{same-or-not, equal-other, and-left, and-right, not-passes}
+use Rattle.ring_core.proofs.Numbers.{equal-self, same-or-not, equal-other, and-left, and-right, not-passes}
 use Rattle.ring_core.proofs.Holders.{held-by_op, holding-gone-other, unheld-at}
 
 -- Numbers rise, and the first is at least k.
@@ -53,10 +53,6 @@ named-ascends (PollAdd fd read) = (omega arith, tt)
 named-ascends (MkDir path mode) = tt
 named-ascends (Rename from to) = tt
 named-ascends (Unlink path remove_dir) = tt
-
--- A number is equal to itself, by the test.
-equal-self : (n : ℕ) → (n == n) ≡ true
-equal-self n = elim (eqb_tells n n) [ inl e ↦ e.0 | inr e ↦ absurd (e.1 refl) ]
 
 -- The first number of a list is in it.
 pub has-first : (x : ℕ) (xs : List ℕ) → has_number x (x ∷ xs) ≡ true

@@ -6,6 +6,7 @@ pub mod Targets
 pub mod Taken
 pub mod Moving
 pub mod Written
+pub mod Laid
 pub mod Counting
 pub mod Keeping
 pub mod Executed

@@ -3,6 +3,10 @@ use Rattle.std.proofs.Common.{◌≡◌, ◌≢◌, ◌⊎◌, inl, inr, ℕ, ze
 use Rattle.std.specs.Prelude.{◌==◌, ◌&&◌, not, nat_le, is_some}
 use Rattle.std.proofs.lemmas.Bool.Decides.{eqb_tells, nat_tests}
 
+-- A number is equal to itself, by the test.
+pub equal-self : (n : ℕ) → (n == n) ≡ true
+equal-self n = elim (eqb_tells n n) [ inl e ↦ e.0 | inr e ↦ absurd (e.1 refl) ]
+
 -- Two numbers are the same, or they aren't.
 pub same-or-not : (n m : ℕ) → (n ≡ m) ⊎ (n ≢ m)
 same-or-not n m = elim (eqb_tells n m) [ inl e ↦ inl e.1 | inr e ↦ inr e.1 ]

@@ -16,7 +16,7 @@ use Rattle.ring_core.proofs.Numbers.{same-or-not, below-or-above, equal-other, a
 use Rattle.ring_core.proofs.Stepping.{OwnedAt}
 
 -- Two tests are the same where each passes when the other does.
-same-tests : (a b : Bool) → (a ≡ true → b ≡ true) → (b ≡ true → a ≡ true) → a ≡ b
+pub same-tests : (a b : Bool) → (a ≡ true → b ≡ true) → (b ≡ true → a ≡ true) → a ≡ b
 same-tests true true f g = refl
 same-tests true false f g = sym (f refl)
 same-tests false true f g = g refl

@@ -1,76 +1,20 @@
--- Bytes that are written over others, and a change of two elements of a list, one after the other.
-use Rattle.std.proofs.Common.{◌≡◌, ◌≢◌, inl, inr, ℕ, zero, suc, ◌+◌, ◌-◌, ◌≤◌, ◌<◌, List, [], ◌∷◌, ◌++◌, length, take, drop, max}
-use Rattle.std.proofs.Common.{get_or, set, refl, sym, ◌∙◌, ap, arith, length-append, length-drop, unwrap_or, option_map}
-use Rattle.std.proofs.Math.Seq.{paste, take-append-add, take-append_seam, drop-append_seam}
-use Rattle.std.proofs.lemmas.List.{append-nil, append_assoc, length-take-le, take-append-le, take-append-drop, drop-take, drop_all}
-use Rattle.std.proofs.lemmas.List.Edits.{paste_all, length-paste}
+-- Bytes that are written within others, and a change of two elements of a list, one after the other.
+use Rattle.std.proofs.Common.{◌≡◌, ◌≢◌, ℕ, zero, suc, ◌+◌, ◌≤◌, ◌<◌, List, [], ◌∷◌, ◌++◌, length, take, drop}
+use Rattle.std.proofs.Common.{get_or, set, refl, sym, ◌∙◌, ap, arith, unwrap_or, option_map}
+use Rattle.std.proofs.lemmas.List.{append-nil, take-append-le, take-append-drop}
 use Rattle.std.proofs.lemmas.Option.{slice_get_read}
 use Rattle.ring_core.specs.declared.world.HandleState.{HandleState}
 use Rattle.ring_core.specs.Lists.{amended}
 use Rattle.ring_core.specs.World.{input_at}
 use Rattle.ring_core.specs.Effect.{overwritten, without_front, with_sent}
-use Rattle.ring_core.proofs.Numbers.{below-or-not}
 use Rattle.ring_core.proofs.Amended.{amended-at}
 
--- What is left behind a place, up to another one.
-cut-behind : (d : List ℕ) (from p : ℕ) → from ≤ length d → take (max from p - p) (drop p d) ≡ drop p (take from d)
-cut-behind d from p le = elim (below-or-not p from) [
-  | inl lt ↦ sym (drop-take p (max from p - p) d)
-      ∙ ap (λ n. drop p (take n d)) (let e : p + (max from p - p) ≡ from = omega (arith, lt) in e)
-  | inr ge ↦ ap (λ n. take n (drop p d)) (let e : max from p - p ≡ 0 = omega (arith, ge) in e)
-      ∙ sym (drop_all p (take from d) (let l = length-take-le from d le in omega (arith, l, ge)))
-]
-
--- Bytes that were moved back, with what was behind the first of them.
-moved-cut : (d : List ℕ) (from to : ℕ) → to ≤ from → from ≤ length d →
-    take (max from (to + (length d - from))) (paste d to (drop from d) (length d - from))
-    ≡ take to d ++ drop from d ++ drop (to + (length d - from)) (take from d)
-moved-cut d from to le within =
-    let count : ℕ = length d - from in
-    let p : ℕ = to + count in
-    let front : List ℕ = take to d ++ drop from d in
-    let moved : length (drop from d) ≡ count = length-drop from d in
-    let long : length front ≡ p = (let a = length-append (take to d) (drop from d) in
-    let b = length-take-le to d (omega (arith, le, within)) in
-    omega (arith, a, b, moved)) in
-    ap (take (max from p)) (paste_all d to (drop from d) count (sym moved) ∙ sym (append_assoc (take to d) (drop from d) (drop p d)))
-    ∙ ap (λ n. take n (front ++ drop p d)) (let e : max from p ≡ length front + (max from p - p) = omega (arith, long) in e)
-    ∙ take-append-add front (drop p d) (max from p - p)
-    ∙ ap (λ xs. front ++ xs) (cut-behind d from p within)
-
--- The same of a vector: it is cut to its length, and to the bytes that are left.
-pub moved-back : (d moved rest : List ℕ) (from to n most : ℕ) → to ≤ from → from ≤ length d → n ≡ length d →
-    moved ≡ paste d to (drop from d) (length d - from) → most ≡ max from (to + (n - from)) →
-    take most (take n (moved ++ rest)) ≡ take to d ++ drop from d ++ drop (to + (n - from)) (take from d)
-moved-back d moved rest from to n most le within n_is moved_is most_is =
-    let count = length-drop from d in
-    let long : n ≡ length moved =
-    n_is ∙ sym (ap length moved_is ∙ length-paste d to (drop from d) (length d - from) (omega arith) (omega arith)) in
-    ap (λ k. take most (take k (moved ++ rest))) long
-    ∙ ap (take most) (take-append_seam moved rest ∙ moved_is)
-    ∙ ap (λ k. take k (paste d to (drop from d) (length d - from))) (most_is ∙ ap (λ k. max from (to + (k - from))) n_is)
-    ∙ moved-cut d from to le within
-    ∙ ap (λ k. take to d ++ drop from d ++ drop (to + (k - from)) (take from d)) (sym n_is)
-
 -- Bytes that are written within others are between those before them and those behind them.
-overwritten-within : (d w : List ℕ) (pos : ℕ) → pos ≤ length d → overwritten d pos w ≡ take pos d ++ w ++ drop (pos + length w) d
+pub overwritten-within : (d w : List ℕ) (pos : ℕ) → pos ≤ length d → overwritten d pos w ≡ take pos d ++ w ++ drop (pos + length w) d
 overwritten-within d [] pos le =
     sym (take-append-drop pos d) ∙ ap (λ xs. xs ++ drop pos d) (sym (append-nil (take pos d)))
     ∙ ap (λ n. (take pos d ++ []) ++ drop n d) (let e : pos ≡ pos + 0 = omega arith in e)
 overwritten-within d (b ∷ w) pos le = ap (λ xs. xs ++ (b ∷ w) ++ drop (pos + length (b ∷ w)) d) (take-append-le pos d _ le)
-
--- Bytes that were appended and moved back were written.
-pub written-over : (d w e : List ℕ) (pos end count : ℕ) → pos ≤ length d → e ≡ d ++ w → end ≡ length d → count ≡ length e →
-    take pos e ++ drop end e ++ drop (pos + (count - end)) (take end e) ≡ overwritten d pos w
-written-over d w e pos end count le joined end_is count_is =
-    let long : count ≡ length d + length w = count_is ∙ ap length joined ∙ length-append d w in
-    ap (λ xs. take pos xs ++ drop end xs ++ drop (pos + (count - end)) (take end xs)) joined
-    ∙ ap (λ xs. xs ++ drop end (d ++ w) ++ drop (pos + (count - end)) (take end (d ++ w))) (take-append-le pos d w le)
-    ∙ ap (λ n. take pos d ++ drop n (d ++ w) ++ drop (pos + (count - n)) (take n (d ++ w))) end_is
-    ∙ ap (λ xs. take pos d ++ xs ++ drop (pos + (count - length d)) (take (length d) (d ++ w))) (drop-append_seam d w)
-    ∙ ap (λ xs. take pos d ++ w ++ drop (pos + (count - length d)) xs) (take-append_seam d w)
-    ∙ ap (λ n. take pos d ++ w ++ drop (pos + n) d) (let e : count - length d ≡ length w = omega (arith, long) in e)
-    ∙ sym (overwritten-within d w pos le)
 
 -- What was written at a place is there.
 got-set : {A : Type 0} (xs : List A) (n : ℕ) (a z : A) → n < length xs → get_or (set xs n a) n z ≡ a

@@ -1,5 +1,5 @@
 -- What becomes of the payloads when a call is executed, and when that may run out of memory. Cited by `World` and `MemRing`.
-use Rattle.std.specs.Prelude.{ℕ, ◌≡◌, Bool, true, false, nat_le, List}
+use Rattle.std.specs.Prelude.{ℕ, ◌≡◌, Bool, true, false, nat_le, List, length, take, drop, ◌++◌}
 use Rattle.ring_core.specs.declared.request.Call.{Call}
 use Rattle.ring_core.specs.declared.request.Call.TheVariants.{In, Out, MessageIn, MessageOut, ReadAt, WriteAt, ToPipe, FromPipe, Accept}
 use Rattle.ring_core.specs.declared.request.Call.TheVariants.{Open}
@@ -7,6 +7,10 @@ use Rattle.ring_core.specs.declared.request.Told.{Told}
 use Rattle.ring_core.specs.declared.request.Told.TheVariants.{Count, Fail}
 use Rattle.ring_core.specs.declared.entry.Body.{Body}
 use Rattle.ring_core.specs.declared.entry.Body.TheVariants.{Call as Calls, Cancel as Cancels, Close as Closes}
+
+-- Bytes over the front of others: as many as there is place for, and behind them what they leave.
+abbrev pub laid_over : List ℕ → List ℕ → List ℕ
+laid_over bytes old = take (length old) bytes ++ drop (length bytes) old
 
 -- A count of bytes comes from the handle of a call to what its request holds: the call reads.
 abbrev pub count_comes : Call → Bool

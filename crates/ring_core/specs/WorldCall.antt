@@ -1,5 +1,5 @@
 -- What a call of a request on handles in memory answers and leaves. Cited by `World::call`.
-use Rattle.std.specs.Prelude.{ℕ, ◌≡◌, ◌≤◌, true, List, length, Some, None, is_some}
+use Rattle.std.specs.Prelude.{ℕ, ◌≡◌, ◌≤◌, Bool, true, false, List, length, Some, None}
 use Rattle.rent_buf.specs.Buffer.{Buffer}
 use Rattle.rent_buf.specs.Parts.{Parts}
 use Rattle.ring_core.specs.declared.world.call.WorldCall.{WorldCall}
@@ -11,6 +11,8 @@ use Rattle.ring_core.specs.declared.world.HandleState.{HandleState}
 use Rattle.ring_core.specs.Request.{call_of, sent_of, room_of, held, held_after, plain_request, IsHolding}
 use Rattle.ring_core.specs.Surroundings.{Surroundings, request_around}
 use Rattle.ring_core.specs.Attempt.{attempt}
+use Rattle.ring_core.specs.Lists.{passes}
+use Rattle.ring_core.specs.Payloads.{may_run_out}
 use Rattle.ring_core.specs.Effect.{Effect, effect}
 
 -- A request has bytes that came stored in what it holds, and nothing else of it changed.
@@ -37,9 +39,13 @@ pub record IsCalled (old : List HandleState) (request : Request Buffer Parts) (n
   pub world : new ≡ (call_effect old request told).world
   pub holds : IsHolding request (held request told (call_effect old request told).got) now
 
--- What the call of a request answers and leaves: one case for each answer. It would block exactly when it isn't made at once; and if it
--- would block, or memory runs out, nothing changes.
+-- Making a request's call may run out of memory: it is made at once, and what it does takes memory. Storing what comes never does.
+abbrev pub call_may_run_out : List HandleState → Request Buffer Parts → Bool
+call_may_run_out world request = passes (may_run_out (λ count. false) (call_of request)) (attempt world (call_of request))
+
+-- What the call of a request answers and leaves: one case for each answer. It would block exactly when it isn't made at once; memory runs
+-- out only where it may; and in both cases nothing changes.
 abbrev pub CallsFor : List HandleState → Request Buffer Parts → List HandleState → Request Buffer Parts → WorldCall → Type 0
 CallsFor old request new now (Done outcome) = IsCalled old request new now outcome
 CallsFor old request new now WouldBlock = (attempt old (call_of request) ≡ None) × (new ≡ old) × (now ≡ request)
-CallsFor old request new now OutOfMemory = (is_some (attempt old (call_of request)) ≡ true) × (new ≡ old) × (now ≡ request)
+CallsFor old request new now OutOfMemory = (call_may_run_out old request ≡ true) × (new ≡ old) × (now ≡ request)

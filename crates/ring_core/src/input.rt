@@ -1,5 +1,5 @@
 //! Bytes that wait on a handle, or stand in a file.
-ghost use Rattle.std.specs.Prelude.{◌≡◌, ◌≤◌, ◌<◌, ◌+◌, ◌-◌, ◌==◌, [], ◌++◌, length, take, drop, OnOk, OnErr, vec_len};
+ghost use Rattle.std.specs.Prelude.{◌≡◌, ◌≤◌, ◌<◌, ◌+◌, ◌-◌, ◌==◌, [], ◌++◌, length, replicate, take, drop, OnOk, OnErr, vec_len};
 ghost use Rattle.ring_core.specs.Effect.{overwritten};
 
 use crate::payloads::Payloads;
@@ -177,8 +177,10 @@ fn write_over<P: Payloads>(
     ensures err { OnErr result (bytes.new.items ≡ bytes.old.items) }
 {
     let end = bytes.len();
-    append_from(bytes, payloads, word, count)?;
-    move_back(bytes, end, pos);
+    let last = pos + count as usize;
+    grow_to(bytes, last)?;
+    let written = payloads.copy_to(word, &mut bytes.as_mut_slice()[pos..last]);
+    bytes.truncate(end.max(pos + written));
     Ok(())
 }
 
@@ -204,15 +206,15 @@ fn write_behind<P: Payloads>(
     answer
 }
 
-// The bytes from one place on are moved to an earlier one, in place of those that stood there.
-fn move_back(bytes: &mut Vec<u8>, from: usize, to: usize)
-    requires { (to ≤ from) × (from ≤ vec_len bytes.old) }
-    ensures { bytes.new.items ≡ take to bytes.old.items ++ drop from bytes.old.items
-        ++ drop (to + (vec_len bytes.old - from)) (take from bytes.old.items) }
+// Zeros join the bytes, up to a length; a length that they have changes nothing.
+fn grow_to(bytes: &mut Vec<u8>, len: usize) -> Result<(), OutOfMemory>
+    ensures ok { OnOk result (bytes.new.items ≡ bytes.old.items ++ replicate (len - length bytes.old.items) 0) }
+    ensures err { OnErr result (bytes.new.items ≡ bytes.old.items) }
 {
-    let count = bytes.len() - from;
-    bytes.as_mut_slice().copy_within(from.., to);
-    bytes.truncate(from.max(to + count));
+    if len > bytes.len() {
+        bytes.resize(len, 0)?;
+    }
+    Ok(())
 }
 
 // The first bytes go.

@@ -23,7 +23,7 @@ pub use input::Input;
 pub use ledger::{Event, Refusal, Reply};
 pub use mem_ring::{ExecRefusal, MemRing};
 pub use messages::Messages;
-pub use payloads::{Payloads, append_first, append_first_parts};
+pub use payloads::{Payloads, append_first, append_first_parts, copy_first, copy_first_parts};
 pub use request::{CANCELED, Call, LAST_ERROR, MOST_ASKED, Names, Outcome, Request, Told, Way};
 pub use ring::{EnterError, Push, Ring};
 pub use world::{

@@ -9,7 +9,7 @@ ghost use Rattle.ring_core.specs.FaultRing.{with_completion};
 
 use crate::entry::{Body, Completion, Entry, MOST_HANDLES};
 use crate::flights::Flights;
-use crate::payloads::{Payloads, append_first};
+use crate::payloads::{Payloads, append_first, copy_first};
 use crate::request::{Outcome, Told};
 use crate::ring::{EnterError, Push, Ring};
 use crate::world::{RunError, World};
@@ -198,6 +198,10 @@ impl Payloads for SentAndGot<'_> {
 
     fn append_to(&self, _word: u64, count: u32, output: &mut ByteList) -> Result<(), OutOfMemory> {
         append_first(output, count as usize, self.sent)
+    }
+
+    fn copy_to(&self, _word: u64, target: &mut [u8]) -> usize {
+        copy_first(target, self.sent)
     }
 
     fn store(&mut self, _word: u64, bytes: &[u8]) -> Result<(), OutOfMemory> {

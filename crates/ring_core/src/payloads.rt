@@ -1,6 +1,7 @@
 //! What holds the bytes of what is in flight.
-ghost use Rattle.std.specs.Prelude.{◌≡◌, ◌++◌, Bool, List, ℕ, length, take, IsTrue, OnOk, OnErr};
+ghost use Rattle.std.specs.Prelude.{◌≡◌, ◌++◌, Bool, List, ℕ, length, min, take, IsTrue, OnOk, OnErr};
 ghost use Rattle.std.specs.List.{concat};
+ghost use Rattle.ring_core.specs.Payloads.{laid_over};
 
 use rent_buf::{ByteList, IoVecBuf, OutOfMemory};
 
@@ -21,6 +22,12 @@ pub trait Payloads {
     fn append_to(&self, word: u64, count: u32, output: &mut ByteList) -> Result<(), OutOfMemory>
         ensures ok { OnOk result (output.new ≡ output.old ++ take count (offered self.now word)) }
         ensures err { OnErr result (output.new ≡ output.old) };
+
+    /// Copies the first bytes that a data word offers over the front of a target, as many as fit it, and answers how many. They are
+    /// copied once. It takes no memory.
+    fn copy_to(&self, word: u64, target: &mut [u8]) -> usize
+        ensures count { result ≡ min (length target.old) (length (offered self.now word)) }
+        ensures bytes { target.new ≡ laid_over (offered self.now word) target.old };
 
     /// Stores the bytes that came for a data word. If memory runs out, nothing has changed.
     fn store(&mut self, word: u64, bytes: &[u8]) -> Result<(), OutOfMemory>
@@ -64,6 +71,32 @@ pub fn append_first_parts<V: IoVecBuf>(
         }
     }
     Ok(())
+}
+
+/// Copies the first bytes over the front of a target, as many as fit it, and answers how many. (not in monoio)
+pub fn copy_first(target: &mut [u8], bytes: &[u8]) -> usize
+    ensures count { result ≡ min (length target.old) (length bytes.now) }
+    ensures bytes { target.new ≡ laid_over bytes.now target.old }
+{
+    let count = bytes.len().min(target.len());
+    target[..count].copy_from_slice(&bytes[..count]);
+    count
+}
+
+/// As `copy_first`, of the bytes of parts, one part after the other. It looks at no part behind the last byte that fits. (not in
+/// monoio)
+pub fn copy_first_parts<V: IoVecBuf>(target: &mut [u8], parts: &V) -> usize
+    ensures count { result ≡ min (length target.old) (length (concat (V.parts parts.now))) }
+    ensures bytes { target.new ≡ laid_over (concat (V.parts parts.now)) target.old }
+{
+    let mut at = 0;
+    for i in 0..parts.parts_len() {
+        if at == target.len() {
+            return at;
+        }
+        at += copy_first(&mut target[at..], parts.part(i));
+    }
+    at
 }
 
 // The first `count` bytes, or all where there are fewer.

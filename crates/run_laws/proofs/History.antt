@@ -13,6 +13,7 @@ use Rattle.ring_core.specs.declared.ledger.Reply.TheVariants.{ExecutedOp}
 use Rattle.ring_core.specs.Ledger.{Operation, Place, InQueue, InFlight, InDone, Reaped, Gone, empty, is_kept}
 use Rattle.ring_core.specs.Run.{replies, IsGiven}
 use Rattle.run_laws.specs.Moments.{IsReapedBefore, IsHandedBefore, IsDroppedBefore}
+use Rattle.ring_core.proofs.Making.{kept-taken}
 use Rattle.ring_core.proofs.Numbers.{same-or-not, below-or-not}
 use Rattle.ring_core.proofs.Taking.{taken_place, with_take, Took}
 use Rattle.ring_core.proofs.Reaping.{place_after, ended_place, with_end}
@@ -188,14 +189,6 @@ placed-taken capacity events k n buffer InFlight h = h
 placed-taken capacity events k n buffer (InDone outcome) h = h
 placed-taken capacity events k n buffer (Reaped outcome) h = h
 placed-taken capacity events k n buffer Gone h = h
-
--- Taking an operation keeps it.
-kept-taken : (p : Place) → is_kept (taken_place p) ≡ is_kept p
-kept-taken InQueue = refl
-kept-taken InFlight = refl
-kept-taken (InDone outcome) = refl
-kept-taken (Reaped outcome) = refl
-kept-taken Gone = refl
 
 -- Taking an operation keeps its history.
 taken-history : (capacity : ℕ) (events : List Event) (k n : ℕ) (canceled : Bool) (x : Option Operation) → History capacity events k n x →

@@ -1,6 +1,6 @@
 use super::*;
 use crate::entry::CANCEL_WORD;
-use crate::payloads::append_first_parts;
+use crate::payloads::{append_first_parts, copy_first_parts};
 use crate::request::Call;
 use crate::world::{HandleKind, Look, World, WorldError};
 use handle_core::SharedFd;
@@ -66,6 +66,19 @@ fn submit<R: Ring>(ring: &mut R, entry: Entry) -> Result<bool, Fail> {
     Ok(ring.enter()? == 1 && ring.queued() == 0 && ring.capacity() > 0)
 }
 
+// What an execution with these bytes to send answers, and the bytes that came.
+fn finish(
+    alloc: Global,
+    ring: &mut MemRing,
+    place: usize,
+    told: Told,
+    sent: &str,
+) -> (Result<Completion, ExecRefusal>, ByteList) {
+    let mut got = ByteList::new(alloc);
+    let done = ring.finish_at(place, told, sent.as_bytes(), &mut got);
+    (done, got)
+}
+
 #[test]
 fn an_entry_is_queued_entered_finished_and_taken_off(rt: HostRuntime) -> Result<(), Fail> {
     let mut ring = MemRing::new(rt.alloc(), 1);
@@ -76,26 +89,18 @@ fn an_entry_is_queued_entered_finished_and_taken_off(rt: HostRuntime) -> Result<
     assert_eq!(rt; ring.flying_at(0), Some(read_entry(5, 7, 2)));
     assert_eq!(rt; ring.flying_at(1), None);
 
-    let mut got = ByteList::from_vec(Vec::new(rt.alloc()));
-    assert_eq!(rt;
-        ring.finish_at(1, Told::Count(1), &[], &mut got),
-        Err(ExecRefusal::NotFlying)
-    );
-    let mut got = ByteList::from_vec(Vec::new(rt.alloc()));
-    assert_eq!(rt;
-        ring.finish_at(0, Told::Count(3), &[], &mut got),
-        Err(ExecRefusal::BadOutcome)
-    );
-    let mut got = ByteList::from_vec(Vec::new(rt.alloc()));
+    let alloc = rt.alloc();
+    let (past, _) = finish(alloc, &mut ring, 1, Told::Count(1), "");
+    assert_eq!(rt; past, Err(ExecRefusal::NotFlying));
+    let (more, _) = finish(alloc, &mut ring, 0, Told::Count(3), "");
+    assert_eq!(rt; more, Err(ExecRefusal::BadOutcome));
     let completion = Completion {
         word: 5,
         serial: 7,
         outcome: Outcome::Count(2),
     };
-    assert_eq!(rt;
-        ring.finish_at(0, Told::Count(2), &[], &mut got),
-        Ok(completion)
-    );
+    let (done, got) = finish(alloc, &mut ring, 0, Told::Count(2), "");
+    assert_eq!(rt; done, Ok(completion));
     assert_eq!(rt; got.as_slice(), b"ab".as_slice());
     assert_eq!(rt; ring.standing(), 1);
     assert_eq!(rt; ring.next(), Some(completion));
@@ -110,14 +115,10 @@ fn a_send_moves_what_is_counted(rt: HostRuntime) -> Result<(), Fail> {
     assert!(rt; submit(&mut ring, send_entry(5, 7, 5))?);
 
     for refused in [6, 0] {
-        let mut got = ByteList::new(rt.alloc());
-        assert_eq!(rt;
-            ring.finish_at(0, Told::Count(refused), b"hello", &mut got),
-            Err(ExecRefusal::BadOutcome)
-        );
+        let (none, _) = finish(rt.alloc(), &mut ring, 0, Told::Count(refused), "hello");
+        assert_eq!(rt; none, Err(ExecRefusal::BadOutcome));
     }
-    let mut got = ByteList::new(rt.alloc());
-    let sent = ring.finish_at(0, Told::Count(3), b"hello", &mut got);
+    let (sent, got) = finish(rt.alloc(), &mut ring, 0, Told::Count(3), "hello");
     assert_eq!(rt; sent.is_ok(), true);
     assert_eq!(rt; got.len(), 0);
     assert_eq!(rt; shown(&rt, ring.world(), 0)?.as_slice(), b"hel".as_slice());
@@ -154,18 +155,39 @@ fn calling_ring(alloc: Global, kind: HandleKind, fed: &str, call: Call) -> Resul
     Ok(ring)
 }
 
+// What became of one execution: its answer, the bytes that came, and what a look at the handle 0 and at the pipe 1 shows.
+#[derive(Drop)]
+struct Moved {
+    told: Result<Outcome, ExecRefusal>,
+    came: ByteList,
+    first: ByteList,
+    pipe: ByteList,
+}
+
+// The execution of the call in flight with a count and these bytes to send.
+fn executed_row(rt: &HostRuntime, mut ring: MemRing, k: u32, sent: &str) -> Result<Moved, Fail> {
+    let (done, came) = finish(rt.alloc(), &mut ring, 0, Told::Count(k), sent);
+    let first = shown(rt, ring.world(), 0)?;
+    let pipe = shown(rt, ring.world(), 1)?;
+    let told = done.map(|completion| completion.outcome);
+    Ok(Moved {
+        told,
+        came,
+        first,
+        pipe,
+    })
+}
+
 #[test]
 fn what_moves_is_that_of_the_call(rt: HostRuntime) -> Result<(), Fail> {
     for (name, kind, fed, call, k, sent, came, outcome, first, pipe) in MOVED {
-        let mut ring = calling_ring(rt.alloc(), kind, fed, call)?;
-        let mut got = ByteList::new(rt.alloc());
-        let done = ring.finish_at(0, Told::Count(k), sent.as_bytes(), &mut got);
-        let told = done.map(|completion| completion.outcome);
-        assert_eq!(rt; told, Ok(outcome), "in the row {name}");
-        assert_eq!(rt; got.as_slice(), came.as_bytes(), "in the row {name}");
-        let (one, two) = (shown(&rt, ring.world(), 0)?, shown(&rt, ring.world(), 1)?);
-        assert_eq!(rt; one.as_slice(), first.as_bytes(), "in the row {name}");
-        assert_eq!(rt; two.as_slice(), pipe.as_bytes(), "in the row {name}");
+        let ring = calling_ring(rt.alloc(), kind, fed, call)?;
+        let row = executed_row(&rt, ring, k, sent)?;
+        assert_eq!(rt; row.told, Ok(outcome), "in the row {name}");
+        let like = row.came.as_slice() == came.as_bytes()
+            && row.first.as_slice() == first.as_bytes()
+            && row.pipe.as_slice() == pipe.as_bytes();
+        assert!(rt; like, "in the row {name}");
     }
     Ok(())
 }
@@ -204,9 +226,26 @@ impl Payloads for Parts {
         append_first_parts(output, count as usize, &self.parts)
     }
 
+    fn copy_to(&self, _word: u64, target: &mut [u8]) -> usize {
+        copy_first_parts(target, &self.parts)
+    }
+
     fn store(&mut self, _word: u64, bytes: &[u8]) -> Result<(), OutOfMemory> {
         self.came.append(bytes)
     }
+}
+
+// The executions of that test, in order: the place of each, what is told of it, and whether it is done.
+const EXECUTED: [(usize, Told, bool); 4] = [
+    (1, Told::Count(2), true),
+    (0, Told::Count(2), true),
+    (0, Told::Fail(5), true),
+    (0, Told::Fail(5), false),
+];
+
+// An execution is done.
+fn execute(ring: &mut MemRing, place: usize, told: Told, payloads: &mut Parts) -> bool {
+    ring.execute(place, told, payloads).is_ok()
 }
 
 #[test]
@@ -228,16 +267,13 @@ fn an_execution_sends_from_its_payload_and_stores_into_it(rt: HostRuntime) -> Re
     ];
     let mut ring = entered_ring(&rt, entries)?;
 
-    let sent = ring.execute(1, Told::Count(2), &mut payloads);
-    assert_eq!(rt; sent.is_ok(), true);
-    let read = ring.execute(0, Told::Count(2), &mut payloads);
-    assert_eq!(rt; read.is_ok(), true);
-    let failed = ring.execute(0, Told::Fail(5), &mut payloads);
-    assert_eq!(rt; failed.is_ok(), true);
-    assert_eq!(rt;
-        ring.execute(0, Told::Fail(5), &mut payloads),
-        Err(ExecRefusal::NotFlying)
-    );
+    for (place, told, is_done) in EXECUTED {
+        assert_eq!(rt;
+            execute(&mut ring, place, told, &mut payloads),
+            is_done,
+            "at {place}"
+        );
+    }
 
     assert_eq!(rt; payloads.came.as_slice(), b"ab".as_slice());
     assert_eq!(rt; shown(&rt, ring.world(), 0)?.as_slice(), b"xy".as_slice());
@@ -312,22 +348,28 @@ const CANCELS: [(&str, [Entry; 3], bool, bool); 5] = [
     ("what was taken before it", [FIVE, CANCEL_FIVE, FIVE], true, false),
 ];
 
+// Whether the execution at a place with the error of a cancel is allowed.
+fn is_marked(alloc: Global, ring: &mut MemRing, place: usize) -> bool {
+    finish(alloc, ring, place, Told::Fail(125), "").0.is_ok()
+}
+
 #[test]
 fn a_cancel_marks_what_has_its_word_and_is_done(rt: HostRuntime) -> Result<(), Fail> {
+    let done = Completion {
+        word: CANCEL_WORD,
+        serial: 9,
+        outcome: Outcome::Count(0),
+    };
     for (name, entries, first, second) in CANCELS {
         let mut ring = entered_ring(&rt, entries)?;
-        let done = Completion {
-            word: CANCEL_WORD,
-            serial: 9,
-            outcome: Outcome::Count(0),
-        };
-        assert_eq!(rt; ring.next(), Some(done), "in the row {name:?}");
-        assert_eq!(rt; ring.next(), None, "in the row {name:?}");
-        for (place, marked) in [(1, second), (0, first)] {
-            let mut got = ByteList::from_vec(Vec::new(rt.alloc()));
-            let finished = ring.finish_at(place, Told::Fail(125), &[], &mut got);
-            assert_eq!(rt; finished.is_ok(), marked, "at {place} in the row {name:?}");
-        }
+        assert_eq!(rt;
+            (ring.next(), ring.next()),
+            (Some(done), None),
+            "in the row {name:?}"
+        );
+        let behind = is_marked(rt.alloc(), &mut ring, 1);
+        let front = is_marked(rt.alloc(), &mut ring, 0);
+        assert_eq!(rt; (front, behind), (first, second), "in the row {name:?}");
     }
     Ok(())
 }
@@ -346,26 +388,33 @@ const ERRORS: [(bool, u16, bool); 9] = [
     (true, 4096, false),
 ];
 
+// The execution of the first read with an error: its answer, and whether no bytes came and none were sent.
+fn failed(
+    rt: &HostRuntime,
+    mut ring: MemRing,
+    e: u16,
+) -> Result<(Result<Completion, ExecRefusal>, bool), Fail> {
+    let (done, got) = finish(rt.alloc(), &mut ring, 0, Told::Fail(e), "");
+    let sent = shown(rt, ring.world(), 0)?;
+    Ok((done, got.is_empty() && sent.is_empty()))
+}
+
 #[test]
 fn an_error_is_allowed_by_its_number_and_moves_nothing(rt: HostRuntime) -> Result<(), Fail> {
     for (canceled, e, allowed) in ERRORS {
         let cancel = if canceled { CANCEL_FIVE } else { CANCEL_SEVEN };
-        let entries = [read_entry(5, 0, 3), SIX, cancel];
-        let mut ring = entered_ring(&rt, entries)?;
-        let mut got = ByteList::from_vec(Vec::new(rt.alloc()));
-        let finished = ring.finish_at(0, Told::Fail(e), &[], &mut got);
+        let ring = entered_ring(&rt, [read_entry(5, 0, 3), SIX, cancel])?;
+        let completion = Completion {
+            word: 5,
+            serial: 0,
+            outcome: Outcome::Fail(e),
+        };
         let want = if allowed {
-            Ok(Completion {
-                word: 5,
-                serial: 0,
-                outcome: Outcome::Fail(e),
-            })
+            Ok(completion)
         } else {
             Err(ExecRefusal::BadOutcome)
         };
-        assert_eq!(rt; finished, want, "the error {e}");
-        assert!(rt; got.as_slice().is_empty(), "the error {e}");
-        assert!(rt; shown(&rt, ring.world(), 0)?.is_empty(), "the error {e}");
+        assert_eq!(rt; failed(&rt, ring, e)?, (want, true), "the error {e}");
     }
     Ok(())
 }
@@ -388,9 +437,9 @@ fn what_is_in_flight_keeps_its_order(rt: HostRuntime) -> Result<(), Fail> {
                 continue;
             }
             let gone = serials.remove(place);
-            let mut got = ByteList::new(rt.alloc());
-            let finished = ring.finish_at(place, Told::Fail(5), &[], &mut got);
-            let serial = finished.map(|completion| completion.serial);
+            let serial = finish(rt.alloc(), &mut ring, place, Told::Fail(5), "")
+                .0
+                .map(|done| done.serial);
             assert_eq!(rt; serial, Ok(gone), "{name}, at {place}");
             let _ = ring.next();
         }

@@ -4,9 +4,10 @@ ghost use Rattle.std.specs.List.{concat};
 ghost use Rattle.rent_buf.specs.Buffer.{shown, room as range_room};
 ghost use Rattle.rent_buf.specs.Parts.{bytes_of};
 ghost use Rattle.ring_core.specs.Request.{held_of, shape_of, call_of, plain_request, room_of, shown_by, held_after};
+ghost use Rattle.ring_core.specs.Payloads.{laid_over};
 ghost use Rattle.ring_core.specs.Surroundings.{around, request_around};
 
-use crate::payloads::{append_first, append_first_parts};
+use crate::payloads::{append_first, append_first_parts, copy_first, copy_first_parts};
 use crate::request::{Call, MOST_ASKED, Request, Way};
 use rent_buf::{ByteList, Held, IoBufMut, IoVecBuf, IoVecBufMut, OutOfMemory, VecBuf};
 
@@ -121,6 +122,25 @@ impl<B: IoBufMut> Request<B, VecBuf> {
                 }
                 Held::Parts(parts) => append_first_parts(list, count, parts),
                 Held::Nothing => Ok(()),
+            },
+        }
+    }
+
+    /// Copies the first bytes that it shows over the front of a target, as many as fit it, and answers how many; one that doesn't send
+    /// shows none. They are copied once. (not in monoio)
+    pub fn copy_shown(&self, target: &mut [u8]) -> usize
+        ensures count { result ≡ min (length target.old) (length (shown_by (plain_request B.buffer self.now))) }
+        ensures bytes { target.new ≡ laid_over (shown_by (plain_request B.buffer self.now)) target.old }
+    {
+        match self.way() {
+            Way::Reads | Way::Neither => 0,
+            Way::Sends => match self.held() {
+                Held::One(buf) => {
+                    buf.keeps_bounds();
+                    copy_first(target, buf.bytes())
+                }
+                Held::Parts(parts) => copy_first_parts(target, parts),
+                Held::Nothing => 0,
             },
         }
     }

@@ -102,6 +102,11 @@ impl<B: IoBufMut> Payloads for Request<B, VecBuf> {
         self.append_shown(count as usize, output)
     }
 
+    /// Copies the first bytes that it shows. (not in monoio)
+    fn copy_to(&self, word: u64, target: &mut [u8]) -> usize {
+        self.copy_shown(target)
+    }
+
     /// Stores bytes in what it holds, when they fit. It takes no memory. (not in monoio)
     fn store(&mut self, word: u64, bytes: &[u8]) -> Result<(), OutOfMemory> {
         if bytes.len() <= self.room() {

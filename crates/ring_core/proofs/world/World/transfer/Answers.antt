@@ -31,8 +31,9 @@ returns-clause-few g c = elim c.match-call.branch [
       ∙ ap length c.self.view_is))
   | in-MessageOut w ↦ (
       as_many (ap (λ s. length (the_view s)) w.self-inside-is
-      ∙ length-moved g.P.Payloads.stores g.P.Payloads.takes_memory (Call.MessageOut w.in-MessageOut.h w.in-MessageOut.addr w.in-MessageOut.ask)
-      c.args.k c.args.word _ _ _ _ _ _ w.send_message_at.ensures refl
+      ∙ length-moved g.P.Payloads.stores g.P.Payloads.takes_memory
+      (Call.MessageOut w.in-MessageOut.h w.in-MessageOut.addr w.in-MessageOut.ask) c.args.k c.args.word _ _ _ _ _ _
+      w.send_message_at.ensures refl
       ∙ ap length c.self.view_is))
   | in-ReadAt w ↦ (
       as_many (ap (λ s. length (the_view s)) w.self-inside-is
