@@ -60,11 +60,6 @@ use Rattle.ring_core.proofs.Holders.{AreLive, live-changed}
 use Rattle.ring_core.proofs.Requests.{named-holding, named-mapped}
 use Rattle.driver_core.proofs.Polling.{ignored-left}
 
--- A slot that waits is left.
-wait-left : (t : Option ℕ) → after_drop (waiting t) ≡ Left
-wait-left None = refl
-wait-left (Some t) = refl
-
 -- An operation whose slot is left isn't reaped.
 left-waits : (p : Place) (t : Option ℕ) → is_kept p ≡ true → after_drop (owned_life p t) ≡ Left → is_waiting p ≡ true
 left-waits InQueue t h e = refl

@@ -38,7 +38,7 @@ use Rattle.uring_driver.specs.Pending.{Pending}
 use Rattle.uring_driver.specs.Submissions.{pending_ring, PostsEach}
 use Rattle.uring_driver.proofs.Means.{Means}
 use Rattle.uring_driver.proofs.Posting.{posts-closes}
-use Rattle.uring_driver.proofs.TakingCancels.{equal-test}
+use Rattle.driver_core.proofs.Distinct.{equal-is}
 use Rattle.uring_driver.specs.Reaps.{FitsQueue}
 use Rattle.uring_driver.specs.Holding.{Holding, closes, with_added, HandlesStand}
 
@@ -53,7 +53,7 @@ closing-one : (closing : Table) (h k spare : ℕ) →
 closing-one closing h k spare = elim (same-or-not k h) [
   | inl e ↦ (
       ap (λ x. is_some (get (insert closing.holders h by_operation) x)) e ∙ ap is_some (put-same closing.holders h by_operation)
-      ∙ sym (or-right (is_some (get closing.holders k)) (k == h) (equal-test k h e)))
+      ∙ sym (or-right (is_some (get closing.holders k)) (k == h) (equal-is k h e)))
   | inr e ↦ (
       ap is_some (put-other closing.holders h by_operation k e)
       ∙ sym (or-left (is_some (get closing.holders k)) (k == h) (equal-other k h e)))
@@ -207,6 +207,7 @@ pub early-left : (L : Ledger) (n : ℕ) (o : Operation) → Lawful L → slice_g
     AreEarly (with_gone L n).ops L.queue
 early-left L n o lawful there out = early-gone L.ops L.queue n (listed-unasked L n o lawful.lists there out) (listed-early L lawful.lists)
 
+-- What it leaves of the queue means operations that aren't gone, or closes and cancels.
 pub live-left : (L : Ledger) (n : ℕ) (o : Operation) → Lawful L → slice_get L.ops n ≡ Some o → in_queue o.place ≡ 0 →
     AreLive (with_gone L n).ops L.queue
 live-left L n o lawful there out = live-gone L.ops L.queue n (listed-unasked L n o lawful.lists there out) (listed-live L lawful.lists)

@@ -1,6 +1,6 @@
 -- What the leaving of an operation that named several handles comes to: that of one, and then of the rest.
 use Rattle.std.proofs.Common.{◌≡◌, ◌≢◌, ℕ, ◌-◌, ◌<◌, Bool, true, false, List, [], ◌∷◌, ◌++◌, map, refl, sym, ◌∙◌, ap}
-use Rattle.std.proofs.Common.{subst, arith, append-nil, length, IsTrue, ◌≤◌}
+use Rattle.std.proofs.Common.{subst, arith, length, IsTrue, ◌≤◌}
 use Rattle.std.specs.Prelude.{◌||◌}
 use Rattle.std.proofs.lemmas.List.{map-append}
 use Rattle.handle_core.specs.Table.{Table, holders_at, with_holders, by_operation}
@@ -13,7 +13,7 @@ use Rattle.ring_core.proofs.Numbers.{equal-other}
 use Rattle.driver_core.specs.Holds.{is_nobody, left_holders, settled, front_if, without_ops, unheld_by, CanLeave}
 use Rattle.driver_core.proofs.Holds.{nobody-is, settled-other}
 use Rattle.uring_driver.specs.Holding.{Holding, closes, with_added, ops_left}
-use Rattle.uring_driver.specs.Making.{maker_ended, op_closes, op_ended, is_old}
+use Rattle.uring_driver.specs.Making.{is_old}
 use Rattle.uring_driver.specs.Pending.{Pending}
 use Rattle.uring_driver.specs.Submissions.{PostsEach, PendingMovesEach, pending_ring}
 use Rattle.uring_driver.proofs.Ended.{not-old, is-new}
@@ -101,27 +101,6 @@ left-both holding xs ys =
     ap (λ t. record holding { table = t; closing = with_added (with_added holding.closing us) vs }) (without-both holding.table xs ys)
     ∙ ap (λ c. record holding { table = without_ops holding.table (xs ++ ys); closing = c })
     (added-both holding.closing us vs ∙ ap (with_added holding.closing) (unheld-both holding.table xs ys))
-
--- An operation that was left alone and ended leaves what one that ended leaves.
-pub ended-left : (holding : Holding) (names kept lost : List ℕ) → maker_ended (ops_left holding names) kept lost
-    ≡ op_ended holding names true kept lost
-ended-left holding names kept lost =
-    ap (λ c. record {
-      table = with_added (without_ops holding.table names) kept;
-      closing = c;
-      makers = holding.makers - 1;
-    }) (added-both holding.closing (unheld_by holding.table names) lost)
-
--- One that makes no handle leaves what one leaves that is gone.
-pub ended-none : (holding : Holding) (names : List ℕ) → ops_left holding names ≡ op_ended holding names false [] []
-ended-none holding names =
-    ap (λ c. record { table = without_ops holding.table names; closing = c; makers = holding.makers })
-    (ap (with_added holding.closing) (sym (append-nil (unheld_by holding.table names))))
-    ∙ ap (λ n. record {
-      table = without_ops holding.table names;
-      closing = with_added holding.closing (op_closes holding.table names []);
-      makers = n;
-    }) (let e : holding.makers ≡ holding.makers - 0 = omega arith in e)
 
 -- A handle that can be new still can be once an operation left that didn't hold it.
 pub new-left : (holding : Holding) (names : List ℕ) (h : ℕ) → CanLeave holding.table names → is_old holding h ≡ false →

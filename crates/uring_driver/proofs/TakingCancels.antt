@@ -1,11 +1,10 @@
 -- What taking a cancel off the queue does to a ring and slots that mean a ledger.
 use Rattle.std.proofs.Common.{◌≡◌, ◌<◌, inl, inr, ℕ, suc, true, false, List, [], ◌∷◌, ◌++◌, map, Option, Some, None, refl, sym, ◌∙◌}
 use Rattle.std.proofs.Common.{ap, subst, arith}
-use Rattle.std.specs.Prelude.{slice_get, ◌==◌, ◌||◌}
+use Rattle.std.specs.Prelude.{slice_get, ◌||◌}
 use Rattle.std.specs.Ordering.{nat_cmp}
 use Rattle.std.specs.FinMap.{FinMap}
 use Rattle.std.proofs.Math.Bool.{or-true, or-false}
-use Rattle.std.proofs.lemmas.Bool.Decides.{nat_tests}
 use Rattle.rent_buf.specs.Buffer.{Buffer}
 use Rattle.ring_core.specs.Ring.{RingView, marked_by}
 use Rattle.ring_core.specs.Lists.{amended}
@@ -26,14 +25,11 @@ use Rattle.driver_core.specs.Slots.{SlotFor, SlotsStand}
 use Rattle.uring_driver.specs.Lists.{IsAt, IsFlown, FlightFor, DoneFor, Meets, ListsStand, is_call, names_slot, queued_of, item_of}
 use Rattle.uring_driver.proofs.Means.{Means}
 use Rattle.ring_core.proofs.Numbers.{equal-other, same-or-not}
+use Rattle.driver_core.proofs.Distinct.{equal-is}
 use Rattle.driver_core.proofs.Lists.{map-get, get-pushed, amended-absent}
 use Rattle.uring_driver.proofs.Kept.{cancel-queued, close-flown, queued-kept, flight-kept, done-kept, done-reserved}
 use Rattle.driver_core.proofs.Slots.{slots-amended}
 use Rattle.uring_driver.proofs.Heads.{at-head, behind-head, cancels-left}
-
--- The test of two numbers that are equal.
-pub equal-test : (a b : ℕ) → a ≡ b → (a == b) ≡ true
-equal-test a b h = grind (arith, nat_tests)
 
 -- The taking of a cancel changes whether it was taken, and nothing else.
 cancel-same : (p : Place) (o : Operation) → canceled_at p o ≡ record o { canceled = (canceled_at p o).canceled }
@@ -104,7 +100,7 @@ module _ {B : Type 0} (buffer : B → Buffer) (v : RingView) (slots : FinMap nat
           there = ap (slice_get marked_ops) q
               ∙ get-amended-same with_cancel L.ops e.serial a.operation (ap (slice_get L.ops) (sym q) ∙ a.there);
           stays = ap (λ x. x.place) (cancel-same a.operation.place a.operation) ∙ a.stays;
-          marked = ap (λ b. f.marked || b) (equal-test f.entry.word key (meets.by_serial q)) ∙ or-true f.marked
+          marked = ap (λ b. f.marked || b) (equal-is f.entry.word key (meets.by_serial q)) ∙ or-true f.marked
               ∙ sym (ap (λ p. (canceled_at p a.operation).canceled) a.stays);
         }
         | inr q ↦ record {

@@ -1,13 +1,10 @@
 -- What treating one completion does to slots, to who holds each handle, and to what holds of every driver.
-use Rattle.std.proofs.Common.{◌≡◌, ℕ, ◌+◌, ◌-◌, ◌≤◌, Bool, true, false, [], ◌∷◌, ◌++◌, Option, Some, None, refl, sym, ◌∙◌, ap}
+use Rattle.std.proofs.Common.{◌≡◌, ℕ, ◌+◌, ◌≤◌, Bool, true, false, [], ◌∷◌, ◌++◌, Option, Some, None, refl, sym, ◌∙◌, ap}
 use Rattle.std.proofs.Common.{subst, arith}
-use Rattle.std.specs.Prelude.{nat_lt, option_to_list, vec_len, vec_capacity, if◌then◌else◌}
+use Rattle.std.specs.Prelude.{option_to_list}
 use Rattle.std.specs.Ordering.{nat_cmp}
 use Rattle.std.specs.FinMap.{FinMap, get}
 use Rattle.ring_core.specs.declared.entry.Completion.{Completion}
-use Rattle.ring_core.specs.declared.entry.Target.TheVariants.{Slot as Keyed, Handle, Reserved}
-use Rattle.ring_core.specs.declared.entry.TheConstants.{FIRST_CLOSE, FIRST_RESERVED}
-use Rattle.ring_core.specs.Entry.{target}
 use Rattle.ring_core.specs.Ring.{RingView}
 use Rattle.driver_core.specs.declared.slot.Slot.{Slot}
 use Rattle.driver_core.specs.Slot.{CompletesSlot, KeepsNumbers, is_flying, named_by, named_if, slots_if, slots_after}
@@ -18,31 +15,6 @@ use Rattle.uring_driver.specs.State.{IsSound}
 use Rattle.uring_driver.specs.Reap.{HasRoom, is_refused, holding_after, closes_after, named_unless, names_in, treats_slot}
 use Rattle.uring_driver.specs.Reaps.{Treats, PostsAll}
 use Rattle.uring_driver.proofs.Sound.{sound-keeps}
-
--- A word that names a slot is that slot's key.
-pub target-key : (word key : ℕ) → target word ≡ Keyed key → key ≡ word
-target-key word key h = below (nat_lt word FIRST_CLOSE) h
-  where
-    above : (b : Bool) → (if b then Handle (word - FIRST_CLOSE) else Reserved word) ≡ Keyed key → key ≡ word
-    above true e = (let f : ⊥ = cc in absurd f)
-    above false e = (let f : ⊥ = cc in absurd f)
-
-    below : (b : Bool) → (if b then Keyed word else if nat_lt word FIRST_RESERVED then Handle (word - FIRST_CLOSE) else Reserved word)
-        ≡ Keyed key → key ≡ word
-    below true e = cc
-    below false e = above (nat_lt word FIRST_RESERVED) e
-
--- Room for one number was used.
-pub room-used : (before after : Named) (count : ℕ) →
-    (vec_len after.reaped ≤ vec_len before.reaped + 1) × (vec_capacity after.reaped ≡ vec_capacity before.reaped) →
-    after.closed ≡ before.closed →
-    (vec_len after.woken ≤ vec_len before.woken + 1) × (vec_capacity after.woken ≡ vec_capacity before.woken) →
-    HasRoom before (count + 1) → HasRoom after count
-room-used before after count reaped closed woken room = record {
-  reaped = (let a = room.reaped in let b = reaped.0 in let c = reaped.1 in omega (arith, a, b, c));
-  closed = (let a = room.closed in let b = ap vec_len closed in let c = ap vec_capacity closed in omega (arith, a, b, c));
-  woken = (let a = room.woken in let b = woken.0 in let c = woken.1 in omega (arith, a, b, c));
-}
 
 -- The room that is left once closes were posted is enough for the rest, where no more handles are held or may be made.
 pub sound-treated : {B : Type 0} (room room' handles handles' used : ℕ) (slots slots' : FinMap nat_cmp (Slot B)) →
@@ -71,31 +43,6 @@ pub treats-flying : {B : Type 0} (slots : FinMap nat_cmp (Slot B)) (holding : Ho
 treats-flying slots holding c who takes flies =
     ap (λ b. treats_slot (named_unless b (named_by (get slots c.word))) slots holding c) takes
     ∙ ap (λ x. treats_slot x slots holding c) flies
-
--- One that is refused is stray.
-pub treats-refused : {B : Type 0} (slots : FinMap nat_cmp (Slot B)) (holding : Holding) (c : Completion) (before : Named) →
-    is_refused holding c.outcome (get slots c.word) ≡ true → before.reaped.items ≡ before.reaped.items ++ [] →
-    before.closed.items ≡ before.closed.items ++ [] → before.woken.items ≡ before.woken.items ++ [] →
-    Treats (treats_slot (names_in holding c.outcome (get slots c.word)) slots holding c) slots holding before before (Some c.word)
-treats-refused slots holding c before refused reaped closed woken =
-    subst (λ b. Treats (treats_slot (named_unless b (named_by (get slots c.word))) slots holding c) slots holding before before
-    (Some c.word))
-    (sym refused) (record {
-      slots = refl;
-      holding = refl;
-      reaped = reaped;
-      closed = closed;
-      woken = woken;
-      bad = refl;
-      left = refl;
-    })
-
--- It queues nothing.
-pub refused-none : {B : Type 0} (slots : FinMap nat_cmp (Slot B)) (holding : Holding) (c : Completion) →
-    is_refused holding c.outcome (get slots c.word) ≡ true →
-    (treats_slot (names_in holding c.outcome (get slots c.word)) slots holding c).queued ≡ []
-refused-none slots holding c refused =
-    ap (λ b. (treats_slot (named_unless b (named_by (get slots c.word))) slots holding c).queued) refused
 
 -- So it was treated, by what the slot's completion told.
 pub treats-completed : {B : Type 0} (slots slots' : FinMap nat_cmp (Slot B)) (holding holding' : Holding) (c : Completion) (number : ℕ)

@@ -1,11 +1,13 @@
 -- A whole turn, and one that can't begin.
-use Rattle.std.proofs.Common.{◌≡◌, inl, ℕ, Bool, true, false, [], ◌++◌, Option, Some, None, refl, sym, ◌∙◌, ap, subst}
-use Rattle.std.proofs.Common.{append-nil}
-use Rattle.std.specs.Prelude.{IsTrue, IfNone, take}
-use Rattle.std.proofs.lemmas.List.{take-append-drop}
+use Rattle.std.proofs.Common.{◌≡◌, ◌≤◌, inl, ℕ, Bool, true, false, List, [], ◌∷◌, ◌++◌, length, Option, Some, None, refl, sym, ◌∙◌}
+use Rattle.std.proofs.Common.{ap, subst, append-nil, arith, length-append}
+use Rattle.std.specs.Prelude.{IsTrue, IfNone, take, drop}
+use Rattle.std.proofs.lemmas.List.{take-append-drop, length-map}
 use Rattle.rent_buf.specs.Buffer.{Buffer}
 use Rattle.ring_core.specs.declared.ledger.Event.TheVariants.{Turn}
 use Rattle.ring_core.specs.Ledger.{Ledger}
+use Rattle.ring_core.specs.declared.entry.Entry.{Entry}
+use Rattle.ring_core.specs.Entry.{close_entry}
 use Rattle.ring_core.specs.Ring.{RingView}
 use Rattle.ring_core.specs.Step.{step}
 use Rattle.driver_core.specs.declared.op.Stop.{Stop}
@@ -21,13 +23,32 @@ use Rattle.uring_driver.specs.Stands.{Stands, StandsIfSteady}
 use Rattle.uring_driver.specs.Uring.{due_in, pending}
 use Rattle.uring_driver.specs.Submitted.{SameSlots}
 use Rattle.uring_driver.specs.Reap.{treat_each}
-use Rattle.uring_driver.specs.Reaps.{ReapsAll, midway_of}
+use Rattle.uring_driver.specs.Reaps.{ReapsAll, PendingJoins, EndsWith, closes_of, waiting_in, midway_of}
 use Rattle.uring_driver.specs.Turned.{TreatsNone, StopsFor, TreatsFor, TurnsFor, TurnMeets}
 use Rattle.uring_driver.specs.Begun.{EnteredFor, HasBegun, CannotBegin, why_stopped}
 use Rattle.uring_driver.proofs.Ending.{ends-of, moves, stops, treats}
 use Rattle.uring_driver.proofs.Turning.{turns}
 
+-- Where no more is left than joined, what is left are the last that joined.
+left-last : (old joined entered new : List Entry) → old ++ joined ≡ entered ++ new → length new ≤ length joined → EndsWith joined new
+left-last [] joined entered new moved few = record { front = entered; ends = moved }
+left-last (x ∷ old) joined [] new moved few =
+    let a = ap length moved in
+    let b = length-append (x ∷ old) joined in
+    absurd (omega (arith, a, b, few))
+left-last (x ∷ old) joined (y ∷ entered) new moved few = left-last old joined entered new (ap (drop 1) moved) few
+
 module _ {R B : Type 0} (view : R → RingView) (buffer : B → Buffer) (tells steady : Bool) where
+  -- A turn that doesn't stop entered all that was pending.
+  all-entered : (old new : IoUringDriver R B) (turned : Turned) (queued : List ℕ) → StopsFor view old new turned queued turned.stop →
+      PendingJoins (pending view old) (closes_of queued) (pending view new) → turned.stop ≡ None →
+      EndsWith (closes_of queued) (pending view new)
+  all-entered old new turned queued stops moves none =
+      let few : waiting_in view new.ring ≤ length queued = subst (StopsFor view old new turned queued) none stops in
+      let ready = length-append (view new.ring.ring).queue new.ring.due in
+      let closes = length-map queued close_entry in
+      left-last (pending view old) (closes_of queued) moves.entered (pending view new) moves.moved (omega (arith, few, ready, closes))
+
   -- What was begun, and then treated, is a whole turn.
   pub whole : (old mid new : IoUringDriver R B) (begun : Begun) (turned : Turned) (named : Named) (bad : Option ℕ) →
       HasBegun view tells steady old mid begun → ReapsAll view tells steady (midway_of mid) (midway_of new) begun.named named bad →
@@ -39,16 +60,19 @@ module _ {R B : Type 0} (view : R → RingView) (buffer : B → Buffer) (tells s
   whole old mid new begun turned named bad has reaps making due numbers given members reaped closed woken stop =
       let ends = ends-of view tells steady mid new begun.named named bad reaps in
       let queued = (treat_each mid.slots.values mid.holding ends.reaps.taken).queued in
+      let stopped_by = subst (λ s. StopsFor view old new turned queued s) (sym stop)
+      (stops view tells steady old mid new begun turned named bad has ends reaped closed woken) in
+      let moved = moves view tells steady old mid new begun turned named bad has ends reaped closed woken in
       record {
         queued = queued;
         turns = λ shows L stands. subst (λ s. TurnsFor view buffer steady L old new turned queued s) (sym stop)
             (turns view buffer tells steady old mid new begun turned named bad has ends reaped closed woken given members numbers
             shows L stands making);
-        stops = subst (λ s. StopsFor view old new turned queued s) (sym stop)
-            (stops view tells steady old mid new begun turned named bad has ends reaped closed woken);
+        stops = stopped_by;
         treats = subst (λ s. TreatsFor view tells old new turned queued s) (sym stop)
             (treats view tells steady old mid new begun turned named bad has ends reaped closed woken);
-        moves = moves view tells steady old mid new begun turned named bad has ends reaped closed woken;
+        moves = moved;
+        entered = λ shows none. all-entered old new turned queued stopped_by (moved shows) none;
         none_due = λ always none. due always (none-due old mid begun.busy has.entered always);
         tokens = tokens-kept old.slots.values new.slots.values
             (subst (λ slots. KeepsNumbers slots new.slots.values) has.same.slots numbers);
@@ -80,6 +104,7 @@ module _ {R B : Type 0} (view : R → RingView) (buffer : B → Buffer) (tells s
               moved = append-nil (pending view old) ∙ sym (take-append-drop front.count (pending view old))
                   ∙ ap (λ xs. head ++ xs) (sym front.took.queue);
             });
+        entered = λ shows none. (let w = sym none ∙ stop in let f : ⊥ = cc in absurd f);
         none_due = λ always none. absurd (cannot.3 always);
         tokens = tokens-kept old.slots.values new.slots.values (λ key. ap (λ m. number_at m key) cannot.1.slots);
         given = cannot.1.given;
@@ -102,6 +127,7 @@ module _ {R B : Type 0} (view : R → RingView) (buffer : B → Buffer) (tells s
         stops = subst (λ s. StopsFor view old new turned [] s) (sym stop) (cannot, none);
         treats = subst (λ s. TreatsFor view tells old new turned [] s) (sym stop) tt;
         moves = λ shows. record { entered = []; moved = append-nil (pending view old) ∙ sym (ap (pending view) cannot) };
+        entered = λ shows none. (let w = sym none ∙ stop in let f : ⊥ = cc in absurd f);
         none_due = λ always none. ap due_in cannot ∙ none;
         tokens = tokens-kept old.slots.values new.slots.values (λ key. ap (λ m. number_at m key) same.slots);
         given = same.given;

@@ -41,6 +41,11 @@ pub record PendingJoins (old joined new : List Entry) : Type 0 where
   pub entered : List Entry
   pub moved : old ++ joined ≡ entered ++ new
 
+-- Entries end with these others.
+pub record EndsWith (all last : List Entry) : Type 0 where
+  pub front : List Entry
+  pub ends : all ≡ front ++ last
+
 -- The closes that were queued went to the ring as the machine pushes them: the ring is steady, or there were none.
 abbrev pub KeepsUp : Bool → List ℕ → Type 0
 KeepsUp steady queued = IsTrue steady ⊎ (queued ≡ [])

@@ -20,7 +20,7 @@ use Rattle.uring_driver.specs.Op.{KeepsTokens, ops_in as operations_in}
 use Rattle.uring_driver.specs.Submissions.{TakesFront, Enters}
 use Rattle.uring_driver.specs.Stands.{RingStands, Stands, Answers}
 use Rattle.uring_driver.specs.Reap.{HasStray, treat_each}
-use Rattle.uring_driver.specs.Reaps.{waiting_in, closes_of, PendingJoins, KeepsUp}
+use Rattle.uring_driver.specs.Reaps.{waiting_in, closes_of, PendingJoins, EndsWith, KeepsUp}
 use Rattle.uring_driver.specs.Submitted.{SameSlots}
 
 -- Nothing was treated, and no close was queued.
@@ -134,6 +134,8 @@ pub record TurnMeets {R B : Type 0} (view : R → RingView) (buffer : B → Buff
   pub treats : TreatsFor view tells old new turned queued turned.stop
   -- Only these closes join what is pending, in order, and only its first entries are entered. Over a steady ring nothing becomes due.
   pub moves : IsTrue tells → PendingJoins (pending view old) (closes_of queued) (pending view new)
+  -- A turn that doesn't stop entered all that was pending: what is pending now are the last of these closes, or none.
+  pub entered : IsTrue tells → turned.stop ≡ None → EndsWith (closes_of queued) (pending view new)
   pub none_due : IsTrue steady → due_in old ≡ [] → due_in new ≡ []
   pub tokens : KeepsTokens old new
   pub given : given_by new ≡ given_by old

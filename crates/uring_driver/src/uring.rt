@@ -9,7 +9,7 @@ ghost use Rattle.ring_core.specs.declared.ledger.Event.TheVariants.{Drop, Cancel
 ghost use Rattle.ring_core.specs.declared.ledger.Reply.TheVariants.{Dropped, Asked};
 ghost use Rattle.uring_driver.specs.Op.{number_of, cancel_for, Holds, HoldsNone, KeepsTokens, DropsToken, KeepsRequests};
 ghost use Rattle.uring_driver.specs.Submissions.{IsIdle, TakesFront, PendingMoves, PendingMovesEach, with_spare, room_made, pending_ring};
-ghost use Rattle.uring_driver.specs.Uring.{ring_in, due_in, pending, whole_ring, live_slots, given_by, holding_in, holds_all, members_in};
+ghost use Rattle.uring_driver.specs.Uring.{ring_in, due_in, pending, whole_ring, live_slots, given_by, holds_all, members_in};
 ghost use Rattle.uring_driver.specs.Uring.{group_count};
 ghost use Rattle.driver_core.specs.Answers.{IsUnder};
 ghost use Rattle.driver_core.specs.Groups.{is_under_canceled, joins_if, AreInSlots};
@@ -167,8 +167,9 @@ impl<R: Ring, B: IoBufMut + Drop> IoUringDriver<R, B> {
         ensures full { IsFullError result ↔ ((is_under_canceled (members_in self.old) under ≡ false) × (live_slots self.old ≡ MAX_LIVE)) }
         ensures err { IfErr result (SubmitRefused R.view B.buffer R.steady request self.old self.new) }
         ensures memory { IfErr result (λ refused. refused.why ≡ SubmitFault.OutOfMemory → IsSameRing R.view self.old self.new) }
-        // A refused one only enters what is pending: no completion is lost.
+        // A refused one only enters what is pending. No completion is lost, over every ring.
         ensures takes { OnErr result (IsTrue R.tells → TakesFront (whole_ring R.view self.old) (whole_ring R.view self.new)) }
+        ensures kept { length (R.view (ring_in self.old)).done ≤ length (R.view (ring_in self.new)).done }
     {
         if is_canceled(&self.members, &under) {
             return Ok(Submitted::Canceled(request));
@@ -234,8 +235,8 @@ impl<R: Ring, B: IoBufMut + Drop> IoUringDriver<R, B> {
     /// Drops an operation of this driver. It takes no memory. (monoio: `drop_op`)
     ///
     /// One that isn't reaped keeps its slot, with its buffer and its handles, until its reap, which names it; its cancel joins what is
-    /// pending. One that was reaped holds its handles no more, and that is the close of one that it made; the close of one that nobody
-    /// holds joins what is pending. It is no member of its group from now on.
+    /// pending. One that was reaped lets go of its handles, and of the one that it made; the close of each handle that nobody holds then
+    /// joins what is pending. It is no member of its group from now on.
     pub fn drop_op(&mut self, op: Op)
         requires { Holds self.old op }
         ensures answers { IsTrue R.steady → (L : Ledger) → Stands R.view B.buffer self.old L →
@@ -320,6 +321,7 @@ fn enter_group<R: Ring, B: Drop>(
         length (R.view ring.old.ring).queue + length ring.old.due ≤ (R.view ring.old.ring).capacity →
         pending_ring R.view ring.new ≡ with_spare (room_made (pending_ring R.view ring.old)) (R.view ring.new.ring).spare) }
     ensures takes { IsTrue R.tells → TakesFront (pending_ring R.view ring.old) (pending_ring R.view ring.new) }
+    ensures kept { length (R.view ring.old.ring).done ≤ length (R.view ring.new.ring).done }
     ensures same { OnErr result (members.new ≡ members.old) }
     ensures err { IfErr result (CannotSubmit R.view R.steady ring.old ring.new ops.old.slots ops.new.slots) }
 {
@@ -358,6 +360,7 @@ fn prepare<R: Ring, B: Drop>(
         length (R.view ring.old.ring).queue + length ring.old.due ≤ (R.view ring.old.ring).capacity →
         pending_ring R.view ring.new ≡ with_spare (room_made (pending_ring R.view ring.old)) (R.view ring.new.ring).spare) }
     ensures takes { IsTrue R.tells → TakesFront (pending_ring R.view ring.old) (pending_ring R.view ring.new) }
+    ensures kept { length (R.view ring.old.ring).done ≤ length (R.view ring.new.ring).done }
     ensures err { IfErr result (Unprepared R.view R.steady ring.old ring.new) }
 {
     // Beside what is owed: its own entry, and the cancel that it will owe.
