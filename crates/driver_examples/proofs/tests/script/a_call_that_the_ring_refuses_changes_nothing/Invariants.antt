@@ -1,0 +1,7 @@
+use Rattle.driver_examples.proofs.tests.script.a_call_that_the_ring_refuses_changes_nothing.Given as goal
+
+abbrev pub ghosts-run_all-P-Ledger : goal.ghosts-run_all-P-Ledger
+ghosts-run_all-P-Ledger g a = record { name = a.pushes.name; parts = a.pushes.parts }
+
+abbrev pub ghosts-run_all-D-Ledger : goal.ghosts-run_all-D-Ledger
+ghosts-run_all-D-Ledger g a = record { name = a.drains.name; parts = a.drains.parts }
