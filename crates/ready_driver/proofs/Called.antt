@@ -12,6 +12,7 @@ use Rattle.ring_core.specs.declared.request.Request.TheVariants.{Unlink}
 use Rattle.ring_core.specs.declared.request.Told.{Told}
 use Rattle.ring_core.specs.declared.request.Told.TheVariants.{Count, Fail}
 use Rattle.ring_core.specs.declared.request.Outcome.{Outcome}
+use Rattle.ring_core.specs.declared.request.Outcome.TheVariants.{Count as Counted, From, Made, Fail as Failed}
 use Rattle.ring_core.specs.declared.world.HandleState.{HandleState}
 use Rattle.ring_core.specs.Request.{call_of, makes, held_of, held_want, held_after, held, sent_of, IsHolding}
 use Rattle.ring_core.specs.Outcome.{may_count}
@@ -26,7 +27,7 @@ use Rattle.ring_core.proofs.Amended.{length-amended}
 use Rattle.ring_core.proofs.Turning.{grows-effect}
 use Rattle.ring_core.proofs.Attempting.{attempt_allowed}
 use Rattle.ring_core.proofs.Greatest.{greatest_count}
-use Rattle.ready_driver.specs.Io.{FailRose, IsFilled, EndsFor, MayEnd, IsMoved, IsMade}
+use Rattle.ready_driver.specs.Io.{FailRose, made_after, IsFilled, EndsFor, MayEnd, IsMoved, IsMade}
 use Rattle.ready_driver.specs.MemIo.{Memory, memory_view}
 use Rattle.ready_driver.specs.Reports.{with_made_key}
 
@@ -121,6 +122,19 @@ module _ (old : List HandleState) (request : Request Buffer Parts) (new : List H
           let l = length-append keys (None ∷ []) in
           omega (arith, same, count, n, w, l)
 
+  -- It has one handle more where one was made, and else as many.
+  pub called-made : length new ≡ made_after outcome (length old)
+  called-made =
+      by outcome (ap length called.world ∙ (grows-effect old (call_of request) (sent_of request) called.told).count
+      ∙ ap (λ o. length old + length (option_to_list (made_by o))) (sym called.outcome_is))
+    where
+      by : (outcome : Outcome) → length new ≡ length old + length (option_to_list (made_by outcome)) →
+          length new ≡ made_after outcome (length old)
+      by (Counted k) count = omega (arith, count)
+      by (From k addr) count = omega (arith, count)
+      by (Made h) count = omega (arith, count)
+      by (Failed e) count = omega (arith, count)
+
 -- A world in memory made a call.
 pub memory-called : (old new : Memory) (request now : Request Buffer Parts) (outcome : Outcome) →
     IsCalled old.world request new.world now outcome → new.keys ≡ with_made_key (made_by outcome) old.keys → new.blocks ≡ old.blocks →
@@ -129,6 +143,7 @@ pub memory-called : (old new : Memory) (request now : Request Buffer Parts) (out
 memory-called old new request now outcome called keys blocks later fails = record {
   later = record { faults = omega arith; blocks = omega (arith, blocks); fails = later };
   fails = fails;
+  made = called-made old.world request new.world now outcome called;
   ends = called-ends old.world request new.world now outcome called;
   moved = λ told. called-moved old.world request new.world now outcome called;
   called = λ told. (called, keys);

@@ -80,13 +80,13 @@ completed-asked false Ignored outcome for is = absurd for
 completed-asked false (Completed other) outcome for is = absurd for
 
 -- What is in flight didn't.
-flying-unasked : (is_asked : Bool) (life : Lifecycle Outcome) → LifeFor is_asked life → is_flying life ≡ true → is_asked ≡ false
+pub flying-unasked : (is_asked : Bool) (life : Lifecycle Outcome) → LifeFor is_asked life → is_flying life ≡ true → is_asked ≡ false
 flying-unasked false life for flies = refl
 flying-unasked true life for flies =
     (let e : false ≡ true = sym (ap is_flying for) ∙ flies in let f : ⊥ = cc in absurd f)
 
 -- What is polled in flight is in flight.
-polled-flies : (life : Lifecycle Outcome) (task : ℕ) → is_flying life ≡ true → is_flying (polled life task) ≡ true
+pub polled-flies : (life : Lifecycle Outcome) (task : ℕ) → is_flying life ≡ true → is_flying (polled life task) ≡ true
 polled-flies Submitted task flies = refl
 polled-flies (Waiting earlier) task flies = refl
 polled-flies Ignored task flies = refl

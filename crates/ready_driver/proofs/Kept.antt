@@ -1,11 +1,11 @@
 -- The map of a hash map's entries, which are the records of handles, after the entries changed at one handle.
-use Rattle.std.proofs.Common.{◌≡◌, ◌∙◌, ℕ, Option, Some, None, nat_eq, refl, sym, ap, subst, arith}
-use Rattle.std.specs.Prelude.{◌+◌, ◌-◌, ◌≤◌, IsSome}
-use Rattle.std.specs.FinMap.{get}
-use Rattle.std.specs.HashMap.{HashMap, get_by, spare, Updates, WritesThrough}
+use Rattle.std.proofs.Common.{◌≡◌, ◌∙◌, ℕ, Some, None, nat_eq, refl, sym, ap, subst}
+use Rattle.std.specs.Prelude.{IsSome}
+use Rattle.std.specs.HashMap.{HashMap, get_by, Updates, WritesThrough}
+use Rattle.driver_core.proofs.Maps.{put-self}
 use Rattle.handle_core.proofs.Tables.{get-lookup, same-entries, inserted-entries, removed-entries}
 use Rattle.ready_driver.specs.declared.records.Record.{Record}
-use Rattle.ready_driver.specs.Records.{Kept, kept_of, record_at, with_record, changed_if, changed, without_record, IsRoomy}
+use Rattle.ready_driver.specs.Records.{Kept, kept_of, record_at, with_record, changed_if, changed, without_record}
 
 -- A hash map, and the records that it shows.
 module _ {S : Type 0} (m : HashMap ℕ Record S) (room : ℕ) (kept : Kept) (is : kept_of m.entries room ≡ kept) where
@@ -39,6 +39,14 @@ module _ {S : Type 0} (m : HashMap ℕ Record S) (room : ℕ) (kept : Kept) (is 
       put-record n h now (writes.3 (subst IsSome there refl))
       ∙ ap (with_record kept h) same
       ∙ sym (ap (λ x. changed_if x kept h change) (found-at h was there))
+
+  -- Entries in which a find was written again make the same records.
+  pub same-record : (n : HashMap ℕ Record S) (h : ℕ) (was now : Record) → Some was ≡ get_by (nat_eq h) m → now ≡ was →
+      WritesThrough nat_eq (nat_eq h) m now n → kept_of n.entries room ≡ kept
+  same-record n h was now there same writes =
+      put-record n h now (writes.3 (subst IsSome there refl))
+      ∙ ap (with_record kept h) same
+      ∙ ap (λ hs. record kept { handles = hs }) (put-self kept.handles h was (found-at h was there))
 
   -- Where there is no find there is nothing to change.
   pub unchanged-record : (h : ℕ) (change : Record → Record) → None ≡ get_by (nat_eq h) m → kept ≡ changed kept h change

@@ -1,5 +1,5 @@
 -- An object whose calls don't wait, as its callers see it, and what its calls do. Cited by `NonBlock`.
-use Rattle.std.specs.Prelude.{ℕ, ◌≡◌, ◌≤◌, Bool, true, IsTrue, List, [], length, min, Option, None, Result, Ok, Err}
+use Rattle.std.specs.Prelude.{ℕ, suc, ◌≡◌, ◌≤◌, Bool, true, IsTrue, List, [], length, min, Option, None, Result, Ok, Err}
 use Rattle.rent_buf.specs.Buffer.{Buffer}
 use Rattle.rent_buf.specs.Parts.{Parts}
 use Rattle.rent_buf.specs.Counts.{Rose}
@@ -25,13 +25,14 @@ use Rattle.ready_driver.specs.declared.non_block.NonBlockError.{NonBlockError}
 use Rattle.ready_driver.specs.declared.non_block.NonBlockError.TheVariants.{Fault, OutOfMemory as NoMemory}
 use Rattle.ready_driver.specs.Reports.{with_key, with_made_key}
 
--- An object: how often a call of it failed as a whole, would have blocked, and ended with an error; its handles; by handle, the key that it
--- is registered with, if it is; and what a wait reports. Every object shows its counts. The rest means something only where the object
--- shows it.
+-- An object: how often a call of it failed as a whole, would have blocked, and ended with an error; how many handles it made; its handles;
+-- by handle, the key that it is registered with, if it is; and what a wait reports. Every object shows its counts. The rest means something
+-- only where the object shows it.
 pub record IoView : Type 0 where
   pub faults : ℕ
   pub blocks : ℕ
   pub fails : ℕ
+  pub made : ℕ
   pub world : List HandleState
   pub keys : List (Option ℕ)
   pub reports : List Report
@@ -48,6 +49,13 @@ FailRose (Count k) before now = Unit {0}
 FailRose (From k addr) before now = Unit {0}
 FailRose (Made h) before now = Unit {0}
 FailRose (Fail e) before now = Rose before now
+
+-- How many handles an object made, after a call that ended so: one more where it made one.
+abbrev pub made_after : Outcome → ℕ → ℕ
+made_after (Count k) made = made
+made_after (From k addr) made = made
+made_after (Made h) made = suc made
+made_after (Fail e) made = made
 
 -- A request has k bytes that came stored in what it holds; it asked for as many at least.
 pub record IsFilled (request : Request Buffer Parts) (now : Request Buffer Parts) (k : ℕ) : Type 0 where
@@ -95,6 +103,7 @@ pub record IsMade (tells memory : Bool) (old : IoView) (request : Request Buffer
     (outcome : Outcome) : Type 0 where
   pub later : IsLater old new
   pub fails : FailRose outcome old.fails new.fails
+  pub made : new.made ≡ made_after outcome old.made
   pub ends : EndsFor request now outcome
   pub moved : IsTrue tells → IsMoved old.world request new.world now outcome
   pub called : IsTrue memory → IsCalled old.world request new.world now outcome × (new.keys ≡ with_made_key (made_by outcome) old.keys)
@@ -104,6 +113,7 @@ pub record IsUnmade (tells memory : Bool) (old : IoView) (request : Request Buff
     Type 0 where
   pub later : IsLater old new
   pub same : now ≡ request
+  pub made : new.made ≡ old.made
   pub world : IsTrue tells → new.world ≡ old.world
   pub keys : IsTrue memory → new.keys ≡ old.keys
 
@@ -116,9 +126,10 @@ CallsFor tells memory old request new now WouldBlock =
     × (IsTrue memory → attempt old.world (call_of request) ≡ None)
 CallsFor tells memory old request new now OutOfMemory = IsUnmade tells memory old request new now
 
--- A call that moves nothing: the handles are as they were, and these keys are registered.
+-- A call that moves nothing: it made no handle, the handles are as they were, and these keys are registered.
 pub record IsStill (tells memory : Bool) (old new : IoView) (keys : List (Option ℕ)) : Type 0 where
   pub later : IsLater old new
+  pub made : new.made ≡ old.made
   pub world : IsTrue tells → new.world ≡ old.world
   pub keys_are : IsTrue memory → new.keys ≡ keys
 

@@ -1,5 +1,5 @@
 -- Handles in memory as an object whose calls don't wait. Cited by `MemIo`.
-use Rattle.std.specs.Prelude.{ℕ, List, [], Option}
+use Rattle.std.specs.Prelude.{ℕ, List, [], length, Option}
 use Rattle.ring_core.specs.declared.world.HandleState.{HandleState}
 use Rattle.ready_driver.specs.Io.{IoView}
 use Rattle.ready_driver.specs.Reports.{reports_in}
@@ -12,12 +12,13 @@ pub record Memory : Type 0 where
   pub blocks : ℕ
   pub fails : ℕ
 
--- As an object it never fails, and reports each handle that is registered.
+-- As an object it never fails, made each of its handles, and reports each handle that is registered.
 abbrev pub memory_view : Memory → IoView
 memory_view memory = record {
   faults = 0;
   blocks = memory.blocks;
   fails = memory.fails;
+  made = length memory.world;
   world = memory.world;
   keys = memory.keys;
   reports = reports_in memory.world memory.keys;

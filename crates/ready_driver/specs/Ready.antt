@@ -2,7 +2,7 @@
 use Rattle.std.specs.Prelude.{ℕ, ◌-◌, ◌==◌, Bool, not, Option, Some, None, bit_and, if◌then◌else◌}
 use Rattle.ready_driver.specs.declared.ready.Direction.{Direction}
 use Rattle.ready_driver.specs.declared.ready.Direction.TheVariants.{Read, Write}
-use Rattle.ready_driver.specs.declared.ready.TheConstants.{READ_ALL, WRITE_ALL}
+use Rattle.ready_driver.specs.declared.ready.TheConstants.{READABLE, WRITABLE, READ_CLOSED, WRITE_CLOSED, READ_ALL, WRITE_ALL}
 
 -- Two sets have a bit in common.
 abbrev pub meets : ℕ → ℕ → Bool
@@ -24,3 +24,16 @@ mask_of Write = WRITE_ALL
 -- The bits that a direction waits for and a set has, if there is one.
 abbrev pub bits_for : ℕ → Direction → Option ℕ
 bits_for ready dir = if meets ready (mask_of dir) then Some (bit_and ready (mask_of dir)) else None
+
+-- The bits that a report may have: what may be read, or written, and which of both is closed.
+abbrev pub readable_bit : ℕ
+readable_bit = READABLE
+
+abbrev pub writable_bit : ℕ
+writable_bit = WRITABLE
+
+abbrev pub read_closed_bit : ℕ
+read_closed_bit = READ_CLOSED
+
+abbrev pub write_closed_bit : ℕ
+write_closed_bit = WRITE_CLOSED

@@ -1,6 +1,6 @@
 -- The records of handles as contracts see them: what each handle is ready for, what waits for it, and whether it is registered. Cited by
 -- `Records`.
-use Rattle.std.specs.Prelude.{ℕ, ◌≤◌, Bool, false, List, [], length, Option, Some, None, unwrap_or, option_map, refl}
+use Rattle.std.specs.Prelude.{ℕ, ◌≤◌, Bool, false, List, [], Option, Some, None, unwrap_or, option_map, refl}
 use Rattle.std.specs.Ordering.{nat_cmp}
 use Rattle.std.specs.FinMap as map
 use Rattle.std.specs.HashMap.{HashMap, spare}

@@ -1,11 +1,17 @@
 //! The poll of an operation whose call is made at once.
-ghost use Rattle.std.specs.Prelude.{◌≡◌, ◌<◌, ℕ, Option, IsTrue, true, false, length};
+ghost use Rattle.std.specs.Prelude.{◌≡◌, ◌<◌, ℕ, Option, Some, None, IsTrue, true, false, length};
 ghost use Rattle.std.specs.FinMap as map;
 ghost use Rattle.driver_core.specs.Op.{Holds, AddsToken, KeepsTokens, DropsToken, number_of, key_of};
-ghost use Rattle.driver_core.specs.Slot.{flies_in};
+ghost use Rattle.driver_core.specs.Holds.{made_in};
+ghost use Rattle.driver_core.specs.Operations.{Submits};
+ghost use Rattle.driver_core.specs.Requests.{KeepsRequests};
+ghost use Rattle.driver_core.specs.Slot.{flies_in, number_at};
 ghost use Rattle.ring_core.specs.Request.{plain_request};
 ghost use Rattle.ready_driver.specs.Legacy.{Legacy};
 ghost use Rattle.ready_driver.specs.LegacyStep.{freed};
+ghost use Rattle.ready_driver.specs.Awaits.{KeysFor, TokensFor};
+ghost use Rattle.ready_driver.specs.Io.{IsLater};
+ghost use Rattle.ready_driver.specs.Named.{PollsSlotFor, task_of, canceled_slots};
 ghost use Rattle.ready_driver.specs.Polling.{OpsStand, PartsStand, PollsFor, BlocksFor, EndsSlot, asked_at, joined_at};
 
 use crate::non_block::NonBlock;
@@ -26,6 +32,8 @@ pub fn submit<B: IoBufMut + Drop>(ops: &mut Operations<B>, request: Request<B, V
         OpsStand B.buffer ops.new (joined_at D (plain_request B.buffer request) group) }
     ensures number { (D : Legacy) → OpsStand B.buffer ops.old D → number_of result ≡ length D.slots }
     ensures token { AddsToken ops.old ops.new result }
+    ensures slots { Submits ops.old ops.new request result }
+    ensures requests { KeepsRequests ops.old ops.new }
 {
     ops.submit(request)
 }
@@ -44,6 +52,12 @@ pub fn poll<I: NonBlock, B: IoBufMut + Drop>(
     ensures polls { IsTrue I.memory → (D : Legacy) → PartsStand B.buffer ops.old (I.view io.old).world D →
         PollsFor B.buffer D op ops.new (I.view io.new).world result }
     ensures blocks { BlocksFor (I.view io.old) (I.view io.new) result }
+    // Over every object the slots of all other operations stay.
+    ensures slots { PollsSlotFor ops.old ops.new op result }
+    ensures tokens { TokensFor ops.old ops.new op result }
+    ensures later { IsLater (I.view io.old) (I.view io.new) }
+    ensures keys { IsTrue I.memory → made_in (map.get ops.old.slots.values (key_of op)) ≡ None →
+        KeysFor (I.view io.old).keys (I.view io.new).keys result }
     ensures given { ops.new.given ≡ ops.old.given }
 {
     let op = match ops.poll(op, task) {
@@ -62,14 +76,35 @@ pub fn poll<I: NonBlock, B: IoBufMut + Drop>(
 pub fn cancel<B: IoBufMut + Drop>(ops: &mut Operations<B>, op: &Op) -> Option<u64>
     requires { Holds ops.old op.now }
     ensures cancels { (D : Legacy) → OpsStand B.buffer ops.old D → OpsStand B.buffer ops.new (asked_at D (number_of op.now)) }
-    // Its slot isn't in flight any more.
+    ensures task { result ≡ task_of (map.get ops.old.slots.values (key_of op.now)) }
+    // Its slot isn't in flight any more, and each other one stays.
     ensures landed { flies_in (map.get ops.new.slots.values (key_of op.now)) ≡ false }
+    ensures slots { ops.new.slots.values ≡ canceled_slots ops.old.slots.values (key_of op.now) }
     ensures tokens { KeepsTokens ops.old ops.new }
+    ensures requests { KeepsRequests ops.old ops.new }
+    ensures given { ops.new.given ≡ ops.old.given }
+{
+    cancel_at(ops, op.key(), op.number())
+}
+
+/// The same, of the operation of a number whose slot is at a key. (not in monoio)
+pub fn cancel_at<B: IoBufMut + Drop>(
+    ops: &mut Operations<B>,
+    key: usize,
+    number: u64,
+) -> Option<u64>
+    requires { number_at ops.old.slots.values key ≡ Some number }
+    ensures cancels { (D : Legacy) → OpsStand B.buffer ops.old D → OpsStand B.buffer ops.new (asked_at D number) }
+    ensures task { result ≡ task_of (map.get ops.old.slots.values key) }
+    ensures landed { flies_in (map.get ops.new.slots.values key) ≡ false }
+    ensures slots { ops.new.slots.values ≡ canceled_slots ops.old.slots.values key }
+    ensures tokens { KeepsTokens ops.old ops.new }
+    ensures requests { KeepsRequests ops.old ops.new }
     ensures given { ops.new.given ≡ ops.old.given }
 {
     let completion = Completion {
-        word: op.key() as u64,
-        serial: op.number(),
+        word: key as u64,
+        serial: number,
         outcome: Outcome::Fail(CANCELED),
     };
     match ops.complete(&completion) {
@@ -82,7 +117,9 @@ pub fn cancel<B: IoBufMut + Drop>(ops: &mut Operations<B>, op: &Op) -> Option<u6
 pub fn drop_op<B: IoBufMut + Drop>(ops: &mut Operations<B>, op: Op)
     requires { Holds ops.old op }
     ensures drops { (D : Legacy) → OpsStand B.buffer ops.old D → OpsStand B.buffer ops.new (freed D (number_of op)) }
+    ensures slots { ops.new.slots.values ≡ map.remove ops.old.slots.values (key_of op) }
     ensures tokens { DropsToken ops.old ops.new op }
+    ensures requests { KeepsRequests ops.old ops.new }
     ensures given { ops.new.given ≡ ops.old.given }
 {
     let _ = cancel(ops, &op);
@@ -97,6 +134,7 @@ fn end<B: IoBufMut + Drop>(ops: &mut Operations<B>, op: Op, outcome: Outcome, ta
     requires holds { Holds ops.old op }
     requires flies { flies_in (map.get ops.old.slots.values (key_of op)) ≡ true }
     ensures ends { EndsSlot ops.old.slots.values (key_of op) outcome ops.new.slots.values result }
+    ensures token { DropsToken ops.old ops.new op }
     ensures given { ops.new.given ≡ ops.old.given }
 {
     let _ = ops.complete(&Completion {

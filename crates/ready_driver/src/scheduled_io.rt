@@ -79,6 +79,13 @@ impl ScheduledIo {
         self.readiness
     }
 
+    /// How many operations wait (not in monoio).
+    pub fn waiting(&self) -> usize
+        ensures { result ≡ length self.now.waiting }
+    {
+        self.waiting.len()
+    }
+
     /// What an operation waits with, if it waits (not in monoio).
     pub fn waiter(&self, serial: u64) -> Option<Waiter>
         ensures value { result ≡ waiter_of self.now.waiting serial }

@@ -1,9 +1,11 @@
-use Rattle.std.proofs.Common.{sym, ◌∙◌, subst}
+use Rattle.std.proofs.Common.{sym, ◌∙◌, ap, subst}
+use Rattle.std.specs.FinMap.{remove}
 use Rattle.ring_core.proofs.Amended.{length-amended}
 use Rattle.driver_core.proofs.Numbers.{owner}
 use Rattle.ready_driver.specs.LegacyStep.{freed}
 use Rattle.ready_driver.specs.Polling.{SlotsStand, asked_at}
 use Rattle.ready_driver.proofs.Ended.{freed-asked, dropped-stand}
+use Rattle.ready_driver.proofs.Named.{gone-canceled}
 use Rattle.ready_driver.proofs.polling.drop_op.Goals as goal
 
 pub returns-clause-drops : goal.returns-clause-drops
@@ -18,3 +20,10 @@ returns-clause-drops g c = λ D stand. (
           (dropped-stand g.B.IoBufMut.buffer (asked_at D c.args.op.number) c.cancel.new.ops.slots.values c.args.op.key c.args.op.number
           mid.slots holds));
     })
+
+pub returns-clause-slots : goal.returns-clause-slots
+returns-clause-slots g c =
+    let holds = (c.cancel.ensures.tokens c.args.op).0 c.requires in
+    let own = owner c.cancel.new.ops.slots.values c.args.op.key c.args.op.number holds in
+    (c.in-Free.ensures.drops own.slot own.there).1 ∙ ap (λ m. remove m c.args.op.key) c.cancel.ensures.slots
+    ∙ gone-canceled c.args.ops.now.slots.values c.args.op.key

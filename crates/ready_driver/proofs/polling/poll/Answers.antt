@@ -9,6 +9,7 @@ use Rattle.ready_driver.specs.Io.{IsMade, CallsFor}
 use Rattle.ready_driver.specs.Polling.{EndsSlot}
 use Rattle.ready_driver.proofs.Ended.{ready-reply, ready-stand, ready-rest, unmade-stand, blocks-driven, made-reply, made-stand, made-rest}
 use Rattle.ready_driver.proofs.Ended.{called-flies}
+use Rattle.ready_driver.proofs.Named.{ready-slots, unmade-slots, made-slots}
 use Rattle.ready_driver.proofs.polling.poll.Goals as goal
 
 pub returns-in-Ready-clause-polls : goal.returns-in-Ready-clause-polls
@@ -129,3 +130,59 @@ returns-in-OutOfMemory-clause-polls g c = λ memory D stand. (
         handles = unmade.world (g.met.I.NonBlock.memory_tells memory) ∙ stand.handles;
       },
     ))
+
+pub returns-in-Ready-clause-slots : goal.returns-in-Ready-clause-slots
+returns-in-Ready-clause-slots g c =
+    ready-slots c.args.ops.now.slots.values c.args.op.key c.args.op.number c.requires c.args.task c.poll.new.self.slots.values
+    c.in-Ready.done
+    c.in-Ready.ensures.polls
+
+pub returns-in-Done-clause-slots : goal.returns-in-Done-clause-slots
+returns-in-Done-clause-slots g c = (
+    let same = ap key_of c.in-Pending.ensures.tokens.0 in
+    let calls : CallsSlot g.B.IoBufMut.buffer g.I.Calls.called c.poll.new.self.slots.values c.args.op.key c.args.io.now
+    c.call.new.self.slots.values c.call.new.caller (Done c.in-Done.outcome) =
+    subst (λ key. CallsSlot g.B.IoBufMut.buffer g.I.Calls.called c.poll.new.self.slots.values key c.args.io.now
+    c.call.new.self.slots.values c.call.new.caller (Done c.in-Done.outcome)) same c.in-Done.ensures.calls in
+    let moved : IsMade g.I.NonBlock.tells g.I.NonBlock.memory (g.I.NonBlock.view c.args.io.now)
+    (plain_request g.B.IoBufMut.buffer calls.slot.request) (g.I.NonBlock.view c.call.new.caller)
+    (plain_request g.B.IoBufMut.buffer calls.now.request) c.in-Done.outcome =
+    g.met.I.NonBlock.calls c.args.io.now (plain_request g.B.IoBufMut.buffer calls.slot.request) c.call.new.caller
+    (plain_request g.B.IoBufMut.buffer calls.now.request) (Done c.in-Done.outcome) calls.calls in
+    let ends = subst (λ key. EndsSlot c.call.new.self.slots.values key c.in-Done.outcome c.end.new.ops.slots.values c.end.result) same
+    c.end.ensures.ends in
+    made-slots c.args.ops.now.slots.values c.args.op.key c.args.op.number c.requires g.B.IoBufMut.buffer g.I.Calls.called c.args.task
+    c.poll.new.self.slots.values c.call.new.self.slots.values c.args.io.now c.call.new.caller (Done c.in-Done.outcome)
+    c.in-Pending.ensures.polls calls c.in-Done.outcome c.end.result c.end.new.ops.slots.values moved.ends ends)
+
+pub returns-in-WouldBlock-clause-slots : goal.returns-in-WouldBlock-clause-slots
+returns-in-WouldBlock-clause-slots g c = (
+    let same = ap key_of c.in-Pending.ensures.tokens.0 in
+    let calls : CallsSlot g.B.IoBufMut.buffer g.I.Calls.called c.poll.new.self.slots.values c.args.op.key c.args.io.now
+    c.call.new.self.slots.values c.call.new.caller WouldBlock =
+    subst (λ key. CallsSlot g.B.IoBufMut.buffer g.I.Calls.called c.poll.new.self.slots.values key c.args.io.now
+    c.call.new.self.slots.values c.call.new.caller WouldBlock) same c.in-WouldBlock.ensures.calls in
+    let unmade : CallsFor g.I.NonBlock.tells g.I.NonBlock.memory (g.I.NonBlock.view c.args.io.now)
+    (plain_request g.B.IoBufMut.buffer calls.slot.request) (g.I.NonBlock.view c.call.new.caller)
+    (plain_request g.B.IoBufMut.buffer calls.now.request) WouldBlock =
+    g.met.I.NonBlock.calls c.args.io.now (plain_request g.B.IoBufMut.buffer calls.slot.request) c.call.new.caller
+    (plain_request g.B.IoBufMut.buffer calls.now.request) WouldBlock calls.calls in
+    unmade-slots c.args.ops.now.slots.values c.args.op.key c.args.op.number c.requires g.B.IoBufMut.buffer g.I.Calls.called c.args.task
+    c.poll.new.self.slots.values c.call.new.self.slots.values c.args.io.now c.call.new.caller WouldBlock c.in-Pending.ensures.polls calls
+    unmade.0.same)
+
+pub returns-in-OutOfMemory-clause-slots : goal.returns-in-OutOfMemory-clause-slots
+returns-in-OutOfMemory-clause-slots g c = (
+    let same = ap key_of c.in-Pending.ensures.tokens.0 in
+    let calls : CallsSlot g.B.IoBufMut.buffer g.I.Calls.called c.poll.new.self.slots.values c.args.op.key c.args.io.now
+    c.call.new.self.slots.values c.call.new.caller OutOfMemory =
+    subst (λ key. CallsSlot g.B.IoBufMut.buffer g.I.Calls.called c.poll.new.self.slots.values key c.args.io.now
+    c.call.new.self.slots.values c.call.new.caller OutOfMemory) same c.in-OutOfMemory.ensures.calls in
+    let unmade : CallsFor g.I.NonBlock.tells g.I.NonBlock.memory (g.I.NonBlock.view c.args.io.now)
+    (plain_request g.B.IoBufMut.buffer calls.slot.request) (g.I.NonBlock.view c.call.new.caller)
+    (plain_request g.B.IoBufMut.buffer calls.now.request) OutOfMemory =
+    g.met.I.NonBlock.calls c.args.io.now (plain_request g.B.IoBufMut.buffer calls.slot.request) c.call.new.caller
+    (plain_request g.B.IoBufMut.buffer calls.now.request) OutOfMemory calls.calls in
+    unmade-slots c.args.ops.now.slots.values c.args.op.key c.args.op.number c.requires g.B.IoBufMut.buffer g.I.Calls.called c.args.task
+    c.poll.new.self.slots.values c.call.new.self.slots.values c.args.io.now c.call.new.caller OutOfMemory c.in-Pending.ensures.polls calls
+    unmade.same)

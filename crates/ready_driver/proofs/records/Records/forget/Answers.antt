@@ -1,4 +1,4 @@
-use Rattle.std.proofs.Common.{option_map, unwrap_or, sym, ◌∙◌, ap, refl}
+use Rattle.std.proofs.Common.{option_map, unwrap_or, sym, ◌∙◌, ap}
 use Rattle.ready_driver.specs.ScheduledIo.{waiter_of, forgotten}
 use Rattle.ready_driver.specs.Records.{quiet, with_io, kept_of}
 use Rattle.ready_driver.proofs.Kept.{found-at, unfound-at, written-record, unchanged-record}

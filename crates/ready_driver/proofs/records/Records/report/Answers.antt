@@ -1,4 +1,4 @@
-use Rattle.std.proofs.Common.{option_map, unwrap_or, sym, ◌∙◌, ap, refl}
+use Rattle.std.proofs.Common.{option_map, unwrap_or, sym, ◌∙◌, ap}
 use Rattle.std.specs.Prelude.{bit_or}
 use Rattle.ready_driver.specs.ScheduledIo.{Scheduled, taken, left, tasks_of}
 use Rattle.ready_driver.specs.Records.{quiet, with_io, kept_of}

@@ -1,0 +1,172 @@
+-- What a table of holders and records keep true: just the handles that somebody holds have records, through each change of both.
+use Rattle.std.proofs.Common.{◌≡◌, ◌∙◌, inl, inr, ℕ, ◌+◌, ◌<◌, Bool, true, false, Option, Some, None, option_map, refl, sym}
+use Rattle.std.proofs.Common.{ap, subst, arith}
+use Rattle.std.specs.Prelude.{is_some, unwrap_or, nat_lt, Result, Ok, Err}
+use Rattle.std.proofs.lemmas.Bool.Decides.{nat_tests}
+use Rattle.std.specs.Ordering.{nat_cmp}
+use Rattle.std.specs.FinMap.{FinMap, get, empty, insert, remove, get-empty}
+use Rattle.handle_core.specs.declared.table.Holders.{Holders}
+use Rattle.handle_core.specs.Table.{Table, holders_at, with_holders, without_handle, nobody, by_operation, by_user, handed}
+use Rattle.ring_core.proofs.Numbers.{same-or-not}
+use Rattle.driver_core.proofs.Maps.{put-same, put-other, gone-same, gone-other, put-self}
+use Rattle.driver_core.proofs.Holds.{with-same}
+use Rattle.rent_buf.specs.declared.fault.OutOfMemory.{OutOfMemory}
+use Rattle.driver_core.specs.declared.op.Op.{Op}
+use Rattle.driver_core.specs.declared.op.PollOp.{PollOp}
+use Rattle.driver_core.specs.declared.op.PollOp.TheVariants.{Pending, Ready}
+use Rattle.ready_driver.specs.declared.records.Record.{Record}
+use Rattle.ready_driver.specs.declared.scheduled_io.Waiter.{Waiter}
+use Rattle.ready_driver.specs.Awaits.{LeavesIf}
+use Rattle.ready_driver.specs.Records.{Kept, record_at, is_registered, with_record, without_record, changed, changed_if, with_registered}
+use Rattle.ready_driver.specs.Registry.{is_known, is_users, AreRecorded}
+use Rattle.ready_driver.proofs.Recorded.{put-twice, there-changed}
+
+-- Two maps have the same keys, after each got one more, or wrote one that it had.
+keys-put : {X Y : Type 0} (a : FinMap nat_cmp X) (b : FinMap nat_cmp Y) (h : ℕ) (x : X) (y : Y) →
+    ((k : ℕ) → is_some (get a k) ≡ is_some (get b k)) → (k : ℕ) → is_some (get (insert a h x) k) ≡ is_some (get (insert b h y) k)
+keys-put a b h x y alike k = elim (same-or-not k h) [
+  | inl e ↦ (
+      ap (λ q. is_some (get (insert a h x) q)) e ∙ ap is_some (put-same a h x) ∙ sym (ap is_some (put-same b h y))
+      ∙ ap (λ q. is_some (get (insert b h y) q)) (sym e))
+  | inr e ↦ ap is_some (put-other a h x k e) ∙ alike k ∙ sym (ap is_some (put-other b h y k e))
+]
+
+-- And after each lost the same one.
+keys-gone : {X Y : Type 0} (a : FinMap nat_cmp X) (b : FinMap nat_cmp Y) (h : ℕ) →
+    ((k : ℕ) → is_some (get a k) ≡ is_some (get b k)) → (k : ℕ) → is_some (get (remove a h) k) ≡ is_some (get (remove b h) k)
+keys-gone a b h alike k = elim (same-or-not k h) [
+  | inl e ↦ (
+      ap (λ q. is_some (get (remove a h) q)) e ∙ ap is_some (gone-same a h) ∙ sym (ap is_some (gone-same b h))
+      ∙ ap (λ q. is_some (get (remove b h) q)) (sym e))
+  | inr e ↦ ap is_some (gone-other a h k e) ∙ alike k ∙ sym (ap is_some (gone-other b h k e))
+]
+
+-- A map that wrote one of its keys has the keys that it had.
+pub keys-kept : {X : Type 0} (a : FinMap nat_cmp X) (h : ℕ) (x : X) → is_some (get a h) ≡ true → (k : ℕ) →
+    is_some (get (insert a h x) k) ≡ is_some (get a k)
+keys-kept a h x there k = elim (same-or-not k h) [
+  | inl e ↦ ap (λ q. is_some (get (insert a h x) q)) e ∙ ap is_some (put-same a h x) ∙ sym (ap (λ q. is_some (get a q)) e ∙ there)
+  | inr e ↦ ap is_some (put-other a h x k e)
+]
+
+-- No handle is held, and none has a record.
+pub recorded-none : (table : Table) (records : Kept) → table.holders ≡ empty → records.handles ≡ empty → AreRecorded table records
+recorded-none table records none no_records = λ h.
+    ap (λ m. is_some (get m h)) no_records ∙ ap is_some (get-empty {X = Record} nat_cmp h)
+    ∙ sym (ap (λ m. is_some (get m h)) none ∙ ap is_some (get-empty {X = Holders} nat_cmp h))
+
+-- Reserved memory doesn't matter.
+pub recorded-like : (table new : Table) (records now : Kept) → AreRecorded table records → new.holders ≡ table.holders →
+    now.handles ≡ records.handles → AreRecorded new now
+recorded-like table new records now all same alike = λ h.
+    ap (λ m. is_some (get m h)) alike ∙ all h ∙ sym (ap (λ m. is_some (get m h)) same)
+
+module _ (table : Table) (records : Kept) (all : AreRecorded table records) where
+  -- A handle gets holders and a record.
+  pub recorded-given : (h : ℕ) (held : Holders) (one : Record) → AreRecorded (with_holders table h held) (with_record records h one)
+  recorded-given h held one = keys-put records.handles table.holders h one held all
+
+  -- A handle that somebody holds has other holders.
+  pub recorded-written : (h : ℕ) (held : Holders) → is_known table h ≡ true → AreRecorded (with_holders table h held) records
+  recorded-written h held there = λ k. all k ∙ sym (keys-kept table.holders h held there k)
+
+  -- A handle leaves the table, with its record.
+  pub recorded-gone : (h : ℕ) → AreRecorded (without_handle table h) (without_record records h)
+  recorded-gone h = keys-gone records.handles table.holders h all
+
+  -- The record of a handle changes.
+  pub recorded-changed : (h : ℕ) (change : Record → Record) → AreRecorded table (changed records h change)
+  recorded-changed h change = λ k. there-changed records h change k ∙ all k
+
+-- A handle that somebody holds is known.
+pub known-some : (table : Table) (h : ℕ) → 0 < (holders_at table h).user + (holders_at table h).operations → is_known table h ≡ true
+known-some table h some = by (get table.holders h) some where
+  by : (o : Option Holders) → 0 < (unwrap_or o nobody).user + (unwrap_or o nobody).operations → is_some o ≡ true
+  by None h = absurd (omega arith)
+  by (Some x) h = refl
+
+-- A handle that an operation holds is known.
+pub known-op : (table : Table) (h : ℕ) → 0 < (holders_at table h).operations → is_known table h ≡ true
+known-op table h some = known-some table h (omega (arith, some))
+
+-- A number that is found above 0 is.
+pub lt-found : (k : ℕ) → nat_lt 0 k ≡ true → 0 < k
+lt-found k h = grind (arith, nat_tests)
+
+-- A handle that its user holds is known.
+pub known-user : (table : Table) (h : ℕ) → is_users table h ≡ true → is_known table h ≡ true
+known-user table h users = (let a = lt-found (holders_at table h).user users in known-some table h (omega (arith, a)))
+
+-- A new handle is held, and has a record.
+pub recorded-new : (table : Table) (records : Kept) → AreRecorded table records → (h : ℕ) (new : Table) (now : Kept) (one : Record) →
+    new.holders ≡ insert table.holders h by_user → now.handles ≡ insert records.handles h one → AreRecorded new now
+recorded-new table records all h new now one held kept =
+    recorded-like (with_holders table h by_user) new (with_record records h one) now
+    (recorded-given table records all h by_user one) held kept
+
+-- An operation's only hold of a handle that was new became the user's: the user holds it, once.
+pub given-user : (table : Table) (h : ℕ) →
+    insert (insert table.holders h by_operation) h (handed (holders_at (with_holders table h by_operation) h)) ≡
+    insert table.holders h by_user
+given-user table h =
+    ap (λ held. insert (insert table.holders h by_operation) h (handed held)) (with-same table h by_operation)
+    ∙ put-twice table.holders h by_operation by_user
+
+-- A handle that is registered has a record.
+pub registered-record : (records : Kept) (h : ℕ) → is_registered records h ≡ true →
+    (one : Record) × (record_at records h ≡ Some one) × (one.registered ≡ true)
+registered-record records h is = by (record_at records h) refl is
+  where
+    by : (x : Option Record) → record_at records h ≡ x → unwrap_or (option_map (λ r. r.registered) x) false ≡ true →
+        (one : Record) × (record_at records h ≡ Some one) × (one.registered ≡ true)
+    by None there is = (let f : ⊥ = cc in absurd f)
+    by (Some one) there is = (one, there, is)
+
+-- One that is registered is registered again: nothing changes.
+pub registered-again : (records : Kept) (h : ℕ) → is_registered records h ≡ true → changed records h (with_registered true) ≡ records
+registered-again records h is = by (registered-record records h is)
+  where
+    by : (r : (one : Record) × (record_at records h ≡ Some one) × (one.registered ≡ true)) →
+        changed records h (with_registered true) ≡ records
+    by (one, there, registered) =
+        ap (λ x. changed_if x records h (with_registered true)) there
+        ∙ ap (λ b. with_record records h (record one { registered = b })) (sym registered)
+        ∙ ap (λ m. record records { handles = m }) (put-self records.handles h one there)
+
+-- A new handle of the user, by its table: an operation's only hold of it became the user's.
+pub given-holders : (table mid new : Table) (h spare : ℕ) → mid ≡ record (with_holders table h by_operation) { spare = spare } →
+    new ≡ with_holders mid h (handed (holders_at mid h)) → new.holders ≡ insert table.holders h by_user
+given-holders table mid new h spare is now =
+    ap (λ t. t.holders) now ∙ ap (λ (t : Table). insert t.holders h (handed (holders_at t h))) is ∙ given-user table h
+
+-- An operation holds a handle that it got.
+pub got-held : (table mid : Table) (h spare : ℕ) → mid ≡ record (with_holders table h by_operation) { spare = spare } →
+    0 < (holders_at mid h).operations
+got-held table mid h spare is =
+    subst (λ (t : Table). 0 < (holders_at t h).operations) (sym is)
+    (subst (λ (held : Holders). 0 < held.operations) (sym (with-same table h by_operation)) (omega arith))
+
+-- Its record, which it just got, once it changed.
+pub changed-given : (records mid new : Kept) (h spare : ℕ) (one : Record) (change : Record → Record) →
+    mid ≡ record (with_record records h one) { spare = spare } → new ≡ changed mid h change →
+    new.handles ≡ insert records.handles h (change one)
+changed-given records mid new h spare one change is now =
+    ap (λ k. k.handles) now ∙ ap (λ (k : Kept). (changed k h change).handles) is
+    ∙ ap (λ x. (changed_if x (record (with_record records h one) { spare = spare }) h change).handles) (put-same records.handles h one)
+    ∙ put-twice records.handles h one (change one)
+
+-- What is left of the records by a poll by the bits has just the records that there were.
+pub recorded-left : {B : Type 0} (table : Table) (met : Bool) (old : Kept) (h : ℕ) (entry : Waiter) (new : Kept)
+    (result : Result (PollOp B) (OutOfMemory × Op)) → AreRecorded table old → LeavesIf met old h entry new result → AreRecorded table new
+recorded-left table false old h entry new (Ok (Pending back)) all left =
+    subst (AreRecorded table) (sym left) (recorded-changed table old all h _)
+recorded-left table false old h entry new (Ok (Ready done)) all left = absurd left
+recorded-left table false old h entry new (Err error) all left = subst (AreRecorded table) (sym left) all
+recorded-left table true old h entry new (Ok (Pending back)) all left =
+    subst (AreRecorded table) (sym left) (recorded-changed table old all h _)
+recorded-left table true old h entry new (Ok (Ready done)) all left =
+    subst (AreRecorded table) (sym left) (recorded-changed table old all h _)
+recorded-left table true old h entry new (Err error) all left = elim left [
+  | inl same ↦ subst (AreRecorded table) (sym same) all
+  | inr cleared ↦ subst (AreRecorded table) (sym cleared) (recorded-changed table old all h _)
+]

@@ -1,0 +1,299 @@
+use Rattle.std.proofs.Common.{◌≡◌, Some, inl, ◌⊎◌, refl, sym, ap, subst, ◌∙◌}
+use Rattle.std.specs.Prelude.{Ok}
+use Rattle.std.specs.FinMap.{get}
+use Rattle.ring_core.specs.Request.{named, listed, plain_request, held_of}
+use Rattle.ring_core.specs.Effect.{made_by}
+use Rattle.ring_core.specs.declared.ledger.Reply.TheVariants.{Pending as Waits, Handed}
+use Rattle.driver_core.specs.Groups.{AreInSlots}
+use Rattle.driver_core.specs.declared.op.PollOp.TheVariants.{Ready}
+use Rattle.driver_core.specs.Holds.{named_in, without_ops, unheld_by, CanLeave}
+use Rattle.driver_core.specs.Members.{leaves, leaves as leaves_of}
+use Rattle.driver_core.specs.Op.{KeepsTokens, DropsToken}
+use Rattle.driver_core.specs.Slot.{number_at}
+use Rattle.driver_core.proofs.Placing.{in-slots-left}
+use Rattle.ready_driver.specs.Awaits.{IsWorldUnmet, LeavesByBits, PollsUnless, KeysFor, TokensFor}
+use Rattle.ready_driver.specs.LegacyState.{LegacyState, Holds}
+use Rattle.ready_driver.specs.LegacyStep.{poll_slot}
+use Rattle.ready_driver.specs.Legacy.{slot_at}
+use Rattle.ready_driver.specs.Named.{AreNaming, PollsSlotFor, KeepsSlot, ReturnsSlot}
+use Rattle.ready_driver.specs.HandlesStand.{HandlesStand}
+use Rattle.ready_driver.specs.Polling.{PartsStand, PollsFor}
+use Rattle.ready_driver.specs.Turns.{AreReported}
+use Rattle.ready_driver.specs.Registry.{LetsGo}
+use Rattle.ready_driver.specs.Reports.{with_made_key}
+use Rattle.ready_driver.proofs.Driven.{by_parts}
+use Rattle.ready_driver.proofs.Naming.{naming-room, naming-kept, naming-leave, naming-left, in-slots-tokens}
+use Rattle.ready_driver.proofs.Polled.{naming-handed, parts-room, room-handles, reported-room, stands-waiting, step-waits}
+use Rattle.ready_driver.proofs.Polled.{answers-waits, stands-ended}
+use Rattle.ready_driver.proofs.legacy.LegacyDriver.poll_op.Goals as goal
+
+pub invariant_of-self : goal.invariant_of-self
+invariant_of-self g c = (
+  naming-room c.self.inside.registry.table c.reserve.new.registry.table c.self.inside.ops.slots.values c.self.inside.ops.given
+      c.self.invariant.0 c.reserve.ensures.same.table,
+  c.self.invariant.1,
+)
+
+pub invariant_of-self-in-Ok-Pending : goal.invariant_of-self-in-Ok-Pending
+invariant_of-self-in-Ok-Pending g c =
+    let d : LegacyState g.row.I.Denot g.row.B.Denot =
+    by_parts c.self.inside.registry c.self.inside.ops c.self.inside.members c.self.inside.asked.items in
+    let room = naming-room d.handling.table c.reserve.new.registry.table d.slots.values d.given c.self.invariant.0
+    c.reserve.ensures.same.table in
+    let polled = subst (λ t. AreNaming t d.slots.values d.given) (sym c.poll_op.ensures.table) room in
+    let slots : KeepsSlot d.slots.values c.args.op.key c.poll_op.new.ops.slots.values =
+    subst (λ x. PollsSlotFor c.self.inside.ops c.poll_op.new.ops c.args.op (Ok x)) c.in-Ok-Pending.field-0-is
+    c.in-Ok-Pending.ensures.slots in
+    let tokens : (c.in-Ok-Pending.op ≡ c.args.op) × KeepsTokens c.self.inside.ops c.poll_op.new.ops =
+    subst (λ x. TokensFor c.self.inside.ops c.poll_op.new.ops c.args.op (Ok x)) c.in-Ok-Pending.field-0-is c.in-Ok-Pending.ensures.tokens in
+    let kept = naming-kept c.poll_op.new.self.table d.slots.values c.poll_op.new.ops.slots.values d.given c.args.op.key polled slots in (
+      subst (λ n. AreNaming c.poll_op.new.self.table c.poll_op.new.ops.slots.values n) (sym c.poll_op.ensures.given) kept,
+      in-slots-tokens d.members c.self.inside.ops c.poll_op.new.ops tokens.1 c.self.invariant.1,
+    )
+
+pub invariant_of-self-in-Err-poll_op : goal.invariant_of-self-in-Err-poll_op
+invariant_of-self-in-Err-poll_op g c =
+    let d : LegacyState g.row.I.Denot g.row.B.Denot =
+    by_parts c.self.inside.registry c.self.inside.ops c.self.inside.members c.self.inside.asked.items in
+    let room = naming-room d.handling.table c.reserve.new.registry.table d.slots.values d.given c.self.invariant.0
+    c.reserve.ensures.same.table in
+    let polled = subst (λ t. AreNaming t d.slots.values d.given) (sym c.poll_op.ensures.table) room in
+    let kept = naming-kept c.poll_op.new.self.table d.slots.values c.poll_op.new.ops.slots.values d.given c.args.op.key polled
+    c.in-Err-poll_op.ensures.slots in (
+      subst (λ n. AreNaming c.poll_op.new.self.table c.poll_op.new.ops.slots.values n) (sym c.poll_op.ensures.given) kept,
+      in-slots-tokens d.members c.self.inside.ops c.poll_op.new.ops c.in-Err-poll_op.ensures.tokens.1 c.self.invariant.1,
+    )
+
+pub let_go-requires : goal.let_go-requires
+let_go-requires g c =
+    let d : LegacyState g.row.I.Denot g.row.B.Denot =
+    by_parts c.self.inside.registry c.self.inside.ops c.self.inside.members c.self.inside.asked.items in
+    let room = naming-room d.handling.table c.reserve.new.registry.table d.slots.values d.given c.self.invariant.0
+    c.reserve.ensures.same.table in
+    let polled = subst (λ t. AreNaming t d.slots.values d.given) (sym c.poll_op.ensures.table) room in
+    let handed = naming-handed g.I.NonBlock.view g.I.NonBlock.tells g.I.NonBlock.memory c.poll_op.new.self c.hand_over-done.new.registry
+    (made_by c.hand_over-done.result.outcome) d.slots.values d.given c.hand_over-done.ensures.hands polled in
+    subst (CanLeave c.hand_over-done.new.registry.table) (sym c.names_at-names.ensures)
+    (naming-leave c.hand_over-done.new.registry.table d.slots.values d.given c.key-key.result handed)
+
+pub invariant_of-self-in-Ok-Ready : goal.invariant_of-self-in-Ok-Ready
+invariant_of-self-in-Ok-Ready g c =
+    let d : LegacyState g.row.I.Denot g.row.B.Denot =
+    by_parts c.self.inside.registry c.self.inside.ops c.self.inside.members c.self.inside.asked.items in
+    let key = c.args.op.key in
+    let room = naming-room d.handling.table c.reserve.new.registry.table d.slots.values d.given c.self.invariant.0
+    c.reserve.ensures.same.table in
+    let polled = subst (λ t. AreNaming t d.slots.values d.given) (sym c.poll_op.ensures.table) room in
+    let handed = naming-handed g.I.NonBlock.view g.I.NonBlock.tells g.I.NonBlock.memory c.poll_op.new.self c.hand_over-done.new.registry
+    (made_by c.hand_over-done.result.outcome) d.slots.values d.given c.hand_over-done.ensures.hands polled in
+    let returns : ReturnsSlot d.slots.values key c.poll_op.new.ops.slots.values c.in-Ok-Ready.done =
+    subst (λ x. PollsSlotFor c.self.inside.ops c.poll_op.new.ops c.args.op (Ok x)) c.in-Ok-Ready.field-0-is c.in-Ok-Ready.ensures.slots in
+    let tokens : DropsToken c.self.inside.ops c.poll_op.new.ops c.args.op =
+    subst (λ x. TokensFor c.self.inside.ops c.poll_op.new.ops c.args.op (Ok x)) c.in-Ok-Ready.field-0-is c.in-Ok-Ready.ensures.tokens in
+    let left = naming-left c.hand_over-done.new.registry.table d.slots.values d.given key handed c.poll_op.new.ops.slots.values
+    returns.others
+    returns.free in
+    let table = c.let_go.ensures.holders ∙ ap (without_ops c.hand_over-done.new.registry.table)
+    (c.names_at-names.ensures ∙ ap (λ k. named_in (get d.slots.values k)) c.key-key.ensures) in (
+      subst (λ t. AreNaming t c.poll_op.new.ops.slots.values c.poll_op.new.ops.given) (sym table)
+          (subst (λ n. AreNaming (without_ops c.hand_over-done.new.registry.table (named_in (get d.slots.values key)))
+          c.poll_op.new.ops.slots.values n) (sym c.poll_op.ensures.given) left),
+      subst (λ m. AreInSlots m c.poll_op.new.ops.slots.values)
+          (sym (c.leave.ensures.left ∙ ap (leaves d.members) c.number-number.ensures))
+          (in-slots-left d.members c.self.inside.ops c.poll_op.new.ops c.args.op tokens c.self.invariant.1),
+    )
+
+pub returns-in-Ok-Pending-clause-answers : goal.returns-in-Ok-Pending-clause-answers
+returns-in-Ok-Pending-clause-answers g c =
+    let d : LegacyState g.row.I.Denot g.row.B.Denot =
+    by_parts c.self.inside.registry c.self.inside.ops c.self.inside.members c.self.inside.asked.items in
+    let new : LegacyState g.row.I.Denot g.row.B.Denot =
+    by_parts c.poll_op.new.self c.poll_op.new.ops c.self.inside.members c.self.inside.asked.items in
+    let view = g.I.NonBlock.view in
+    let buffer = g.B.IoBufMut.buffer in
+    let op = c.args.op in
+    let room = c.reserve.new.registry in
+    let slot = get d.slots.values op.key in
+    let holds : number_at d.slots.values op.key ≡ Some op.number = subst (λ x. Holds x op) (sym c.self.view_is) c.requires in
+    let slots : KeepsSlot d.slots.values op.key c.poll_op.new.ops.slots.values =
+    subst (λ x. PollsSlotFor c.self.inside.ops c.poll_op.new.ops op (Ok x)) c.in-Ok-Pending.field-0-is c.in-Ok-Pending.ensures.slots in
+    let tokens : (c.in-Ok-Pending.op ≡ op) × KeepsTokens c.self.inside.ops c.poll_op.new.ops =
+    subst (λ x. TokensFor c.self.inside.ops c.poll_op.new.ops op (Ok x)) c.in-Ok-Pending.field-0-is c.in-Ok-Pending.ensures.tokens in
+    rw (← c.self.view_is) (λ memory D stands.
+    let polls : (c.in-Ok-Pending.op ≡ op) × (IsWorldUnmet room.records (view room.io).world slot
+    ⊎ (poll_slot D op.number (slot_at D op.number) ≡ (D, Waits)))
+    × PartsStand buffer c.poll_op.new.ops (view c.poll_op.new.self.io).world D =
+    subst (λ x. PollsUnless (IsWorldUnmet room.records (view room.io).world slot) buffer D op c.poll_op.new.ops
+    (view c.poll_op.new.self.io).world (Ok x)) c.in-Ok-Pending.field-0-is
+    (c.in-Ok-Pending.ensures.polls memory D (parts-room view buffer d D stands room c.reserve.ensures.same)) in
+    let keys : (view c.poll_op.new.self.io).keys ≡ (view room.io).keys =
+    subst (λ x. KeysFor (view room.io).keys (view c.poll_op.new.self.io).keys (Ok x)) c.in-Ok-Pending.field-0-is
+    (c.in-Ok-Pending.ensures.keys memory (c.self.invariant.0.unmade op.key)) in (
+      step-waits view buffer d D stands op.key op.number holds c.args.task room c.reserve.ensures.same polls.1,
+      stands-waiting view buffer d D stands op.key op.number holds room new c.reserve.ensures.same c.poll_op.ensures.table keys polls.2
+          slots tokens.1 refl,
+    ))
+
+pub returns-in-Ok-Pending-clause-exact : goal.returns-in-Ok-Pending-clause-exact
+returns-in-Ok-Pending-clause-exact g c =
+    let d : LegacyState g.row.I.Denot g.row.B.Denot =
+    by_parts c.self.inside.registry c.self.inside.ops c.self.inside.members c.self.inside.asked.items in
+    let new : LegacyState g.row.I.Denot g.row.B.Denot =
+    by_parts c.poll_op.new.self c.poll_op.new.ops c.self.inside.members c.self.inside.asked.items in
+    let view = g.I.NonBlock.view in
+    let buffer = g.B.IoBufMut.buffer in
+    let op = c.args.op in
+    let room = c.reserve.new.registry in
+    let slot = get d.slots.values op.key in
+    let holds : number_at d.slots.values op.key ≡ Some op.number = subst (λ x. Holds x op) (sym c.self.view_is) c.requires in
+    let slots : KeepsSlot d.slots.values op.key c.poll_op.new.ops.slots.values =
+    subst (λ x. PollsSlotFor c.self.inside.ops c.poll_op.new.ops op (Ok x)) c.in-Ok-Pending.field-0-is c.in-Ok-Pending.ensures.slots in
+    let tokens : (c.in-Ok-Pending.op ≡ op) × KeepsTokens c.self.inside.ops c.poll_op.new.ops =
+    subst (λ x. TokensFor c.self.inside.ops c.poll_op.new.ops op (Ok x)) c.in-Ok-Pending.field-0-is c.in-Ok-Pending.ensures.tokens in
+    rw (← c.self.view_is) (λ memory reported D stands.
+    let same = c.reserve.ensures.same in
+    let parts = parts-room view buffer d D stands room same in
+    let here : AreReported room.table room.records (view room.io).world =
+    subst (λ i. AreReported room.table room.records (view i).world) (sym same.io)
+    (reported-room d.handling room (view d.handling.io).world same reported) in
+    let handles : HandlesStand room.table (view room.io).keys D =
+    subst (λ i. HandlesStand room.table (view i).keys D) (sym same.io) (room-handles view buffer d D stands room room same refl) in
+    let polls : (c.in-Ok-Pending.op ≡ op) × (poll_slot D op.number (slot_at D op.number) ≡ (D, Waits))
+    × PartsStand buffer c.poll_op.new.ops (view c.poll_op.new.self.io).world D =
+    subst (λ x. PollsFor buffer D op c.poll_op.new.ops (view c.poll_op.new.self.io).world (Ok x)) c.in-Ok-Pending.field-0-is
+    (c.in-Ok-Pending.ensures.exact memory here D handles parts) in
+    let keys : (view c.poll_op.new.self.io).keys ≡ (view room.io).keys =
+    subst (λ x. KeysFor (view room.io).keys (view c.poll_op.new.self.io).keys (Ok x)) c.in-Ok-Pending.field-0-is
+    (c.in-Ok-Pending.ensures.keys memory (c.self.invariant.0.unmade op.key)) in
+    answers-waits view buffer d D stands op.key op.number holds c.args.task new polls.1
+    (stands-waiting view buffer d D stands op.key op.number holds room new same c.poll_op.ensures.table keys polls.2 slots tokens.1 refl))
+
+pub returns-in-Err-poll_op-clause-answers : goal.returns-in-Err-poll_op-clause-answers
+returns-in-Err-poll_op-clause-answers g c =
+    let d : LegacyState g.row.I.Denot g.row.B.Denot =
+    by_parts c.self.inside.registry c.self.inside.ops c.self.inside.members c.self.inside.asked.items in
+    let new : LegacyState g.row.I.Denot g.row.B.Denot =
+    by_parts c.poll_op.new.self c.poll_op.new.ops c.self.inside.members c.self.inside.asked.items in
+    let view = g.I.NonBlock.view in
+    let buffer = g.B.IoBufMut.buffer in
+    let op = c.args.op in
+    let holds : number_at d.slots.values op.key ≡ Some op.number = subst (λ x. Holds x op) (sym c.self.view_is) c.requires in
+    rw (← c.self.view_is) (λ memory D stands.
+    let polls = c.in-Err-poll_op.ensures.polls memory D (parts-room view buffer d D stands c.reserve.new.registry c.reserve.ensures.same) in
+    stands-waiting view buffer d D stands op.key op.number holds c.reserve.new.registry new c.reserve.ensures.same
+    c.poll_op.ensures.table (c.in-Err-poll_op.ensures.keys memory (c.self.invariant.0.unmade op.key)) polls.1
+    c.in-Err-poll_op.ensures.slots c.in-Err-poll_op.ensures.tokens.1 refl)
+
+pub returns-in-Ok-Ready-clause-answers : goal.returns-in-Ok-Ready-clause-answers
+returns-in-Ok-Ready-clause-answers g c =
+    let d : LegacyState g.row.I.Denot g.row.B.Denot =
+    by_parts c.self.inside.registry c.self.inside.ops c.self.inside.members c.self.inside.asked.items in
+    let new : LegacyState g.row.I.Denot g.row.B.Denot =
+    by_parts c.let_go.new.self c.poll_op.new.ops c.leave.new.self c.self.inside.asked.items in
+    let view = g.I.NonBlock.view in
+    let buffer = g.B.IoBufMut.buffer in
+    let op = c.args.op in
+    let done = c.in-Ok-Ready.done in
+    let room = c.reserve.new.registry in
+    let slot = get d.slots.values op.key in
+    let holds : number_at d.slots.values op.key ≡ Some op.number = subst (λ x. Holds x op) (sym c.self.view_is) c.requires in
+    let slots : ReturnsSlot d.slots.values op.key c.poll_op.new.ops.slots.values done =
+    subst (λ x. PollsSlotFor c.self.inside.ops c.poll_op.new.ops op (Ok x)) c.in-Ok-Ready.field-0-is c.in-Ok-Ready.ensures.slots in
+    rw (← c.self.view_is) (λ memory D stands few.
+    let polls : ((poll_slot D op.number (slot_at D op.number)).1 ≡ Handed done.outcome (held_of (plain_request buffer done.request)))
+    × PartsStand buffer c.poll_op.new.ops (view c.poll_op.new.self.io).world (poll_slot D op.number (slot_at D op.number)).0 =
+    subst (λ x. PollsUnless (IsWorldUnmet room.records (view room.io).world slot) buffer D op c.poll_op.new.ops
+    (view c.poll_op.new.self.io).world (Ok x)) c.in-Ok-Ready.field-0-is
+    (c.in-Ok-Ready.ensures.polls memory D (parts-room view buffer d D stands room c.reserve.ensures.same)) in
+    let keys : (view c.poll_op.new.self.io).keys ≡ with_made_key (made_by done.outcome) (view room.io).keys =
+    subst (λ x. KeysFor (view room.io).keys (view c.poll_op.new.self.io).keys (Ok x)) c.in-Ok-Ready.field-0-is
+    (c.in-Ok-Ready.ensures.keys memory (c.self.invariant.0.unmade op.key)) in
+    stands-ended view buffer d D stands op.key op.number holds g.I.NonBlock.tells g.I.NonBlock.memory c.args.task memory
+    (g.met.I.NonBlock.memory_tells memory) few room c.poll_op.new.self c.hand_over-done.new.registry new
+    done c.hand_over-done.result (listed c.names_at-names.result) c.reserve.ensures.same c.poll_op.ensures.table
+    keys polls slots c.hand_over-done.ensures.outcome c.hand_over-done.ensures.request c.hand_over-done.ensures.hands
+    (c.names_at-names.ensures ∙ ap (λ k. named_in (get d.slots.values k)) c.key-key.ensures) c.let_go.ensures c.leave.ensures.placed
+    (c.leave.ensures.left ∙ ap (leaves d.members) c.number-number.ensures))
+
+pub returns-in-Err-clause-ends : goal.returns-in-Err-clause-ends
+returns-in-Err-clause-ends g c =
+    let same = c.reserve.ensures.same in
+    rw (← c.self.view_is) (
+      record { table = same.table; records = c.reserve.new.registry.records; room = same.records; leaves = inl refl },
+      refl,
+    )
+
+pub returns-in-Ok-Pending-clause-ends : goal.returns-in-Ok-Pending-clause-ends
+returns-in-Ok-Pending-clause-ends g c =
+    let d : LegacyState g.row.I.Denot g.row.B.Denot =
+    by_parts c.self.inside.registry c.self.inside.ops c.self.inside.members c.self.inside.asked.items in
+    let same = c.reserve.ensures.same in
+    let room = c.reserve.new.registry in
+    let slot = get d.slots.values c.args.op.key in
+    rw (← c.self.view_is) (
+      record {
+        table = ap (λ t. t.holders) c.poll_op.ensures.table ∙ same.table;
+        records = room.records;
+        room = same.records;
+        leaves = subst (λ x. (c.poll_op.new.self.records ≡ room.records)
+            ⊎ LeavesByBits slot room.records c.args.op.number c.args.task c.poll_op.new.self.records (Ok x)) c.in-Ok-Pending.field-0-is
+            c.in-Ok-Pending.ensures.leaves;
+      },
+      refl,
+    )
+
+pub returns-in-Err-poll_op-clause-ends : goal.returns-in-Err-poll_op-clause-ends
+returns-in-Err-poll_op-clause-ends g c =
+    let same = c.reserve.ensures.same in
+    rw (← c.self.view_is) (
+      record {
+        table = ap (λ t. t.holders) c.poll_op.ensures.table ∙ same.table;
+        records = c.reserve.new.registry.records;
+        room = same.records;
+        leaves = c.in-Err-poll_op.ensures.leaves;
+      },
+      refl,
+    )
+
+pub returns-in-Ok-Ready-clause-ends : goal.returns-in-Ok-Ready-clause-ends
+returns-in-Ok-Ready-clause-ends g c =
+    let d : LegacyState g.row.I.Denot g.row.B.Denot =
+    by_parts c.self.inside.registry c.self.inside.ops c.self.inside.members c.self.inside.asked.items in
+    let same = c.reserve.ensures.same in
+    let room = c.reserve.new.registry in
+    let op = c.args.op in
+    let slot = get d.slots.values op.key in
+    let done = c.in-Ok-Ready.done in
+    let result = c.hand_over-done.result in
+    let handed = c.hand_over-done.new.registry in
+    let view = g.I.NonBlock.view in
+    let tells = g.I.NonBlock.tells in
+    let memory = g.I.NonBlock.memory in
+    let returns : ReturnsSlot d.slots.values op.key c.poll_op.new.ops.slots.values done =
+    subst (λ x. PollsSlotFor c.self.inside.ops c.poll_op.new.ops op (Ok x)) c.in-Ok-Ready.field-0-is c.in-Ok-Ready.ensures.slots in
+    let names : listed c.names_at-names.result ≡ named result.request =
+    c.names_at-names.ensures ∙ ap (λ k. named_in (get d.slots.values k)) c.key-key.ensures ∙ sym returns.names
+    ∙ ap named (sym c.hand_over-done.ensures.request) in
+    let leaves : (c.poll_op.new.self.records ≡ room.records)
+    ⊎ LeavesByBits slot room.records op.number c.args.task c.poll_op.new.self.records (Ok (Ready done)) =
+    subst (λ x. (c.poll_op.new.self.records ≡ room.records)
+    ⊎ LeavesByBits slot room.records op.number c.args.task c.poll_op.new.self.records (Ok x)) c.in-Ok-Ready.field-0-is
+    c.in-Ok-Ready.ensures.leaves in
+    rw (← c.self.view_is) (record {
+      mid = c.poll_op.new.self;
+      call = done.outcome;
+      polls = record {
+        table = ap (λ t. t.holders) c.poll_op.ensures.table ∙ same.table;
+        records = room.records;
+        room = same.records;
+        leaves = subst (λ r. (c.poll_op.new.self.records ≡ room.records)
+            ⊎ LeavesByBits slot room.records op.number c.args.task c.poll_op.new.self.records
+            (Ok (Ready (record { outcome = done.outcome; request = r })))) (sym c.hand_over-done.ensures.request) leaves;
+      };
+      outcome = c.hand_over-done.ensures.outcome;
+      handed = handed;
+      hands = c.hand_over-done.ensures.hands;
+      lets = subst (λ hs. LetsGo view tells memory handed (without_ops handed.table hs) (unheld_by handed.table hs) c.let_go.new.self) names
+          c.let_go.ensures;
+      members = c.leave.ensures.left ∙ ap (leaves_of d.members) c.number-number.ensures;
+    })

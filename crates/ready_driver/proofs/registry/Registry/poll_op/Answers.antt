@@ -1,0 +1,30 @@
+use Rattle.std.proofs.Common.{inl, inr, sym, subst}
+use Rattle.ready_driver.specs.Registry.{Handling, AreRecorded}
+use Rattle.std.specs.FinMap.{get}
+use Rattle.ready_driver.specs.Awaits.{IsWorldUnmet, PollsUnless}
+use Rattle.ready_driver.specs.Polling.{PartsStand}
+use Rattle.ready_driver.proofs.Registering.{recorded-left}
+use Rattle.ready_driver.proofs.Exact.{unmet-waits, exact-unless}
+use Rattle.ready_driver.proofs.registry.Registry.poll_op.Goals as goal
+
+pub invariant_of-self : goal.invariant_of-self
+invariant_of-self g c = elim c.poll_op.ensures.leaves [
+  | inl same ↦ subst (λ r. AreRecorded c.self.inside.table r) (sym same) c.self.invariant
+  | inr left ↦ recorded-left c.self.inside.table _ c.self.inside.records left.handle _ c.poll_op.new.records c.poll_op.result
+      c.self.invariant left.leaves
+]
+
+pub returns-clause-exact : goal.returns-clause-exact
+returns-clause-exact g c = λ memory reported D handles parts.
+    let buffer = g.B.IoBufMut.buffer in
+    let view = g.I.NonBlock.view in
+    let old = c.args.self.now in
+    let ops = c.args.ops.now in
+    let slot = get ops.slots.values c.args.op.key in
+    let polls = subst (λ (x : Handling g.row.I.Denot). PartsStand buffer ops (view x.io).world D →
+    PollsUnless (IsWorldUnmet x.records (view x.io).world slot) buffer D c.args.op c.poll_op.new.ops (view c.poll_op.new.io).world
+    c.poll_op.result) c.self.view_is (c.poll_op.ensures.polls memory D) parts in
+    exact-unless (IsWorldUnmet old.records (view old.io).world slot) buffer D c.args.op c.poll_op.new.ops (view c.poll_op.new.io).world
+    c.poll_op.result
+    (unmet-waits buffer old.table old.records (view old.io).world (view old.io).keys D ops reported handles parts c.args.op.key
+    c.args.op.number c.requires) polls

@@ -1,0 +1,135 @@
+//! The poll of an operation that makes its call only once a report meets its direction.
+ghost use Rattle.std.specs.Prelude.{◌≡◌, ◌⊎◌, None, IsTrue, option_copied};
+ghost use Rattle.std.specs.FinMap as map;
+ghost use Rattle.driver_core.specs.Holds.{made_in};
+ghost use Rattle.driver_core.specs.Op.{Holds, number_of, key_of};
+ghost use Rattle.ready_driver.specs.ScheduledIo.{entry_of};
+ghost use Rattle.ready_driver.specs.Legacy.{Legacy};
+ghost use Rattle.ready_driver.specs.Io.{IsLater};
+ghost use Rattle.ready_driver.specs.Named.{PollsSlotFor};
+ghost use Rattle.ready_driver.specs.Polling.{PartsStand};
+ghost use Rattle.ready_driver.specs.Awaits.{awaits, slot_awaits, IsUnmet, IsSlotUnmet, IsWorldUnmet, PollsUnless, BlocksUnless, Leaves};
+ghost use Rattle.ready_driver.specs.Awaits.{LeavesByBits, LeavesFor, unless_file, KeysFor, TokensFor};
+
+use crate::non_block::NonBlock;
+use crate::polling;
+use crate::ready::Direction;
+use crate::records::Records;
+use driver_core::{Op, Operations, PollOp, Slot};
+use op_slots::Lifecycle;
+use rent_buf::{IoBufMut, OutOfMemory};
+use ring_core::Request;
+
+/// The handle that a request waits for, and the direction; None for one that waits for none. (monoio: `OpAble::legacy_interest`)
+pub fn direction_of<B, V>(request: &Request<B, V>) -> Option<(u64, Direction)>
+    ensures { result ≡ awaits request.now }
+{
+    match request {
+        Request::Recv { fd, .. } => Some((fd.number(), Direction::Read)),
+        Request::ReadVec { fd, .. } => Some((fd.number(), Direction::Read)),
+        Request::RecvMsg { fd, .. } => Some((fd.number(), Direction::Read)),
+        Request::Read { fd, .. } => Some((fd.number(), Direction::Read)),
+        Request::SpliceTo { fd, .. } => Some((fd.number(), Direction::Read)),
+        Request::Accept { fd } => Some((fd.number(), Direction::Read)),
+        Request::PollAdd { fd, read: true } => Some((fd.number(), Direction::Read)),
+        Request::PollAdd { fd, read: false } => Some((fd.number(), Direction::Write)),
+        Request::Send { fd, .. } => Some((fd.number(), Direction::Write)),
+        Request::WriteVec { fd, .. } => Some((fd.number(), Direction::Write)),
+        Request::SendMsg { fd, .. } => Some((fd.number(), Direction::Write)),
+        Request::Write { fd, .. } => Some((fd.number(), Direction::Write)),
+        Request::SpliceFrom { fd, .. } => Some((fd.number(), Direction::Write)),
+        _ => None,
+    }
+}
+
+/// What the operation of the slot that was looked up waits for: nothing where it isn't in flight. (not in monoio)
+pub fn awaited<B>(slot: Option<&Slot<B>>) -> Option<(u64, Direction)>
+    ensures { result ≡ slot_awaits (option_copied slot.entry) }
+{
+    match slot {
+        Some(slot) => match &slot.life {
+            Lifecycle::Completed(_) => None,
+            _ => direction_of(&slot.request),
+        },
+        None => None,
+    }
+}
+
+/// Polls an operation that waits for a direction of a handle. Where no bit meets the direction it is `Pending`, and no call is made; else
+/// its call is made (`polling::poll`). A call that would block clears the direction's bits. An operation that is `Pending` waits with this
+/// task from then on, and one that is returned waits no more. If memory runs out, its token comes back. (monoio: `poll_op` of the legacy
+/// driver)
+pub fn poll_at<I: NonBlock, B: IoBufMut + Drop>(
+    ops: &mut Operations<B>,
+    io: &mut I,
+    records: &mut Records,
+    op: Op,
+    task: u64,
+    h: u64,
+    dir: Direction,
+) -> Result<PollOp<B>, (OutOfMemory, Op)>
+    requires { Holds ops.old op }
+    ensures polls { IsTrue I.memory → (D : Legacy) → PartsStand B.buffer ops.old (I.view io.old).world D →
+        PollsUnless (IsUnmet records.old h dir) B.buffer D op ops.new (I.view io.new).world result }
+    ensures blocks { BlocksUnless (IsUnmet records.old h dir) (I.view io.old) (I.view io.new) result }
+    ensures leaves { Leaves records.old h (entry_of (number_of op) task dir) records.new result }
+    ensures keys { IsTrue I.memory → made_in (map.get ops.old.slots.values (key_of op)) ≡ None →
+        KeysFor (I.view io.old).keys (I.view io.new).keys result }
+    ensures later { IsLater (I.view io.old) (I.view io.new) }
+    ensures slots { PollsSlotFor ops.old ops.new op result }
+    ensures tokens { TokensFor ops.old ops.new op result }
+    ensures given { ops.new.given ≡ ops.old.given }
+{
+    let serial = op.number();
+    match records.poll_readiness(h, serial, task, dir) {
+        Ok(Some(_)) => {}
+        Ok(None) => return Ok(PollOp::Pending(op)),
+        Err(why) => return Err((why, op)),
+    }
+    match polling::poll(ops, io, op, task) {
+        Ok(PollOp::Ready(done)) => {
+            records.forget(h, serial);
+            Ok(PollOp::Ready(done))
+        }
+        Ok(PollOp::Pending(op)) => {
+            records.clear_readiness(h, dir.mask());
+            match records.poll_readiness(h, serial, task, dir) {
+                Ok(_) => Ok(PollOp::Pending(op)),
+                Err(why) => Err((why, op)),
+            }
+        }
+        Err(refused) => Err(refused),
+    }
+}
+
+/// Polls an operation: where it waits for a direction of a handle that is no file, by the bits of that handle (`poll_at`); else its call is
+/// made at once (`polling::poll`). (monoio: `poll_op` of the legacy driver)
+pub fn poll_op<I: NonBlock, B: IoBufMut + Drop>(
+    ops: &mut Operations<B>,
+    io: &mut I,
+    records: &mut Records,
+    op: Op,
+    task: u64,
+) -> Result<PollOp<B>, (OutOfMemory, Op)>
+    requires { Holds ops.old op }
+    ensures polls { IsTrue I.memory → (D : Legacy) → PartsStand B.buffer ops.old (I.view io.old).world D →
+        PollsUnless (IsWorldUnmet records.old (I.view io.old).world (map.get ops.old.slots.values (key_of op)))
+        B.buffer D op ops.new (I.view io.new).world result }
+    ensures blocks { BlocksUnless (IsSlotUnmet records.old (map.get ops.old.slots.values (key_of op)))
+        (I.view io.old) (I.view io.new) result }
+    ensures leaves { (records.new ≡ records.old) ⊎
+        LeavesByBits (map.get ops.old.slots.values (key_of op)) records.old (number_of op) task records.new result }
+    ensures bits { IsTrue I.memory → LeavesFor (unless_file (I.view io.old).world (slot_awaits (map.get ops.old.slots.values (key_of op))))
+        records.old (number_of op) task records.new result }
+    ensures keys { IsTrue I.memory → made_in (map.get ops.old.slots.values (key_of op)) ≡ None →
+        KeysFor (I.view io.old).keys (I.view io.new).keys result }
+    ensures later { IsLater (I.view io.old) (I.view io.new) }
+    ensures slots { PollsSlotFor ops.old ops.new op result }
+    ensures tokens { TokensFor ops.old ops.new op result }
+    ensures given { ops.new.given ≡ ops.old.given }
+{
+    match awaited(ops.peek(op.key())) {
+        Some((h, dir)) if !io.is_file(h) => poll_at(ops, io, records, op, task, h, dir),
+        _ => polling::poll(ops, io, op, task),
+    }
+}
