@@ -1,0 +1,8 @@
+use Rattle.socket_io.specs.SocketTable.{is_stream}
+use Rattle.socket_io.proofs.Opened.{found, unfit-found}
+use Rattle.socket_io.proofs.mio_io.table.Table.read.Goals as goal
+
+pub returns-in-Some-clause-unfit : goal.returns-in-Some-clause-unfit
+returns-in-Some-clause-unfit c =
+    unfit-found is_stream _ _ c.read.result
+    (found c.self.inside.open _ _ _ c.self.view_is c.args.h c.in-Some.socket.now c.in-Some.ensures.value) c.read.ensures.unfit

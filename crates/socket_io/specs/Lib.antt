@@ -1,0 +1,5 @@
+pub mod System
+pub mod Counted
+pub mod SocketTable
+pub mod Waits
+pub mod MioIo

@@ -1,0 +1,325 @@
+//! Sockets of the system on this machine, whose calls are made at once.
+ghost use Rattle.std.specs.Prelude.{◌≡◌, ◌≤◌, [], false, length, Some, None, is_some, IsSome, IfOk, OnOk, vec_len};
+ghost use Rattle.std.specs.FinMap as finite;
+ghost use Rattle.ring_core.specs.declared.world.HandleKind.TheVariants.{Listener, Stream};
+ghost use Rattle.ring_core.specs.Request.{plain_request, room_of, sent_of};
+ghost use Rattle.ring_core.specs.Surroundings.{around, request_around};
+ghost use Rattle.ready_driver.specs.Io.{RegistersFor, IsClosed, WaitsFor};
+ghost use Rattle.ready_driver.specs.Sockets.{GivesFor};
+ghost use Rattle.socket_io.specs.MioIo.{no_sockets, host_view, AcceptsFor, MovesFor, ReceivesFor, IsInvalid, HostCalls};
+ghost use Rattle.socket_io.specs.MioIo.{closed_as, kinds_given};
+ghost use Rattle.socket_io.specs.Counted.{IsCounted, ResultCounted};
+ghost use Rattle.socket_io.specs.SocketTable.{is_listener, is_stream, RefusesUnfit};
+ghost use Rattle.ready_driver.specs.SocketLaws.{no-memory};
+
+use crate::mio_io::counts::Counts;
+use crate::mio_io::poller::Poller;
+use crate::mio_io::socket::{Refusal, Socket};
+use crate::mio_io::table::Table;
+use driver_core::{CallAnswer, Calls};
+use ready_driver::{NonBlock, NonBlockError, Reports, Sockets};
+use rent_buf::{ByteList, IoBufMut, OutOfMemory, VecBuf};
+use ring_core::{Call, INVALID, Outcome, Request};
+use std::alloc::Global;
+use std::marker::Model;
+use std::net::Net;
+
+mod counts;
+mod poller;
+mod socket;
+mod table;
+
+pub use poller::MOST_EVENTS;
+pub use socket::NO_NUMBER;
+
+/// The most bytes that one call moves. (not in monoio)
+pub const MOST_MOVED: usize = 65536;
+
+/// The error of a request that isn't made on sockets. (Linux: `EOPNOTSUPP`)
+pub const UNSUPPORTED: u16 = 95;
+
+/// Sockets of the system on this machine (127.0.0.1), through `mio`, as an object whose calls don't wait. It keeps the handle of the
+/// network. (monoio: the sockets of its legacy driver)
+///
+/// It makes `Accept`, `Recv`, `ReadVec`, `Send`, `WriteVec` and `PollAdd`. Each other request ends with `UNSUPPORTED`. A call on a handle
+/// that isn't open, or is of another kind, ends with `INVALID`. One that the system refuses ends with the system's error number, or with
+/// `NO_NUMBER` where it tells none, unless it would block.
+///
+/// A call moves at most `MOST_MOVED` bytes, and copies them once. It finds its socket by a hash, however many there are. A count saturates.
+#[derive(Drop)]
+pub struct MioIo<R> {
+    rt: R,
+    table: Table,
+    poller: Poller,
+    // Where bytes are read.
+    room: Vec<u8>,
+    // The bytes that are sent.
+    sent: ByteList,
+    counts: Counts,
+}
+
+impl<R> Model for MioIo<R> {
+    ghost use Rattle.std.specs.Coded.{codes};
+    ghost use Rattle.socket_io.specs.MioIo.{Host, host_code, host_of};
+
+    ghost Value = { Host };
+
+    ghost coded = { host_code (Prim.hlevel codes) (Prim.hlevel codes) };
+
+    ghost view = { λ m. host_of m.table m.counts };
+}
+
+impl<R: Net> MioIo<R> {
+    /// No handles. It takes no memory, and asks nothing of the system: the poll is made by the first call that needs it.
+    /// (monoio: `LegacyDriver::new`, which makes it)
+    pub fn new(rt: R, alloc: Global) -> MioIo<R>
+        ensures { result ≡ no_sockets }
+    {
+        MioIo {
+            rt,
+            table: Table::new(alloc),
+            poller: Poller::new(alloc),
+            room: Vec::new(alloc),
+            sent: ByteList::new(alloc),
+            counts: Counts::new(),
+        }
+    }
+
+    // Accepts a connection on a listener, as a new handle.
+    fn accept(&mut self, h: u64) -> CallAnswer
+        ensures accepts { AcceptsFor self.old self.new result }
+        ensures unfit { is_listener (finite.get self.old.kinds h) ≡ false → IsInvalid result }
+    {
+        if self.table.reserve_one().is_err() {
+            return CallAnswer::OutOfMemory;
+        }
+        match self.table.accept(h) {
+            Ok(socket) => CallAnswer::Done(Outcome::Made(self.table.add(socket))),
+            Err(refusal) => self.counts.refuse(refusal),
+        }
+    }
+
+    // Reads at most so many bytes of a stream into what a request holds.
+    fn receive<B: IoBufMut>(
+        &mut self,
+        h: u64,
+        ask: u32,
+        request: &mut Request<B, VecBuf>,
+    ) -> CallAnswer
+        requires { ask ≤ room_of (plain_request B.buffer request.old) }
+        ensures receives { ReceivesFor ask self.old (plain_request B.buffer request.old) self.new
+            (plain_request B.buffer request.new) result }
+        ensures unfit { is_stream (finite.get self.old.kinds h) ≡ false → IsInvalid result }
+        ensures surroundings { request_around (around B.under B.beside) request.new ≡
+            request_around (around B.under B.beside) request.old }
+    {
+        if prepare(&mut self.room).is_err() {
+            return CallAnswer::OutOfMemory;
+        }
+        match read_into(&self.table, h, &mut self.room, ask) {
+            Ok(count) => {
+                request.store(&self.room[..count as usize]);
+                CallAnswer::Done(Outcome::Count(count))
+            }
+            Err(refusal) => self.counts.refuse(refusal),
+        }
+    }
+
+    // Sends bytes that a request shows on a stream.
+    fn send<B: IoBufMut>(&mut self, h: u64, request: &Request<B, VecBuf>) -> CallAnswer
+        ensures sends { MovesFor (length (sent_of (plain_request B.buffer request.now))) self.old self.new result }
+        ensures unfit { is_stream (finite.get self.old.kinds h) ≡ false → IsInvalid result }
+    {
+        self.sent.truncate(0);
+        if request.append_shown(MOST_MOVED, &mut self.sent).is_err() {
+            return CallAnswer::OutOfMemory;
+        }
+        match self.table.write(h, self.sent.as_slice()) {
+            Ok(count) => CallAnswer::Done(Outcome::Count(count as u32)),
+            Err(refusal) => self.counts.refuse(refusal),
+        }
+    }
+
+    // A wait for readiness is over once it is asked for: the driver asks when the handle is reported.
+    fn look(&mut self, h: u64) -> CallAnswer
+        ensures looks { MovesFor 0 self.old self.new result }
+        ensures unfit { is_some (finite.get self.old.kinds h) ≡ false → IsInvalid result }
+    {
+        if self.table.is_open(h) {
+            CallAnswer::Done(Outcome::Count(0))
+        } else {
+            CallAnswer::Done(self.counts.fail(INVALID))
+        }
+    }
+}
+
+// Takes the memory of the bytes that a call reads at most.
+fn prepare(room: &mut Vec<u8>) -> Result<(), OutOfMemory>
+    ensures { OnOk result (vec_len room.new ≡ MOST_MOVED) }
+{
+    if room.len() != MOST_MOVED {
+        room.resize(MOST_MOVED, 0)?;
+    }
+    Ok(())
+}
+
+// Puts at most so many bytes of a stream at the start of the room, and answers how many.
+fn read_into(table: &Table, h: u64, room: &mut [u8], most: u32) -> Result<u32, Refusal>
+    requires { length room.old ≡ MOST_MOVED }
+    ensures within { IfOk result (λ n. (n ≤ most) × (n ≤ length room.new)) }
+    ensures unfit { RefusesUnfit (is_stream (finite.get table.now.kinds h)) result }
+{
+    let most = room.len().min(most as usize);
+    match table.read(h, &mut room[..most]) {
+        Ok(count) => Ok(count as u32),
+        Err(refusal) => Err(refusal),
+    }
+}
+
+impl<R: Net + Drop> Calls for MioIo<R> {
+    ghost called = { HostCalls };
+
+    /// Makes the call of a request, where it doesn't block. A handle that it makes isn't registered. A `PollAdd` of an open handle answers
+    /// the count 0 at once: a driver asks for it when a wait reported the handle. (monoio: `legacy_call`, of a relaxed `PollAdd`)
+    fn call<B: IoBufMut>(&mut self, request: &mut Request<B, VecBuf>) -> CallAnswer {
+        match request.call() {
+            Call::Accept { h } => self.accept(h),
+            Call::In { h, ask } => self.receive(h, ask, request),
+            Call::Out { h, .. } => self.send(h, request),
+            Call::PollAdd { h, .. } => self.look(h),
+            _ => CallAnswer::Done(self.counts.fail(UNSUPPORTED)),
+        }
+    }
+}
+
+/// What isn't open, or what the system refuses, is a fault.
+impl<R: Net + Drop> NonBlock for MioIo<R> {
+    ghost view = { host_view };
+
+    ghost tells = { false };
+
+    ghost reporting = { false };
+
+    ghost memory = { false };
+
+    ghost memory_tells = { λ told. told };
+
+    ghost memory_reports = { no-memory };
+
+    ghost calls = { λ old request new now answer called. called.calls };
+
+    /// From now on the handle's reports have this key, in place of the one that it had, if it had one. It makes the poll, where there is
+    /// none yet.
+    fn register(&mut self, h: u64, key: usize) -> Result<(), NonBlockError>
+        ensures registers { RegistersFor false false h (Some key) (host_view self.old) (host_view self.new) result }
+        ensures counted { ResultCounted self.old.counts self.new.counts result }
+        ensures kinds { self.new.kinds ≡ self.old.kinds }
+        ensures there { OnOk result (IsSome (finite.get self.old.kinds h)) }
+    {
+        if let Err(why) = self.poller.make(&self.rt) {
+            return Err(self.counts.fault(why));
+        }
+        let Some(registry) = self.poller.registry() else {
+            return Err(self.counts.fault(NonBlockError::Fault));
+        };
+        match self.table.register(h, registry, key) {
+            Ok(()) => Ok(()),
+            Err(why) => Err(self.counts.fault(why)),
+        }
+    }
+
+    /// A handle that isn't registered is a fault.
+    fn deregister(&mut self, h: u64) -> Result<(), NonBlockError>
+        ensures registers { RegistersFor false false h None (host_view self.old) (host_view self.new) result }
+        ensures counted { ResultCounted self.old.counts self.new.counts result }
+        ensures kinds { self.new.kinds ≡ self.old.kinds }
+        ensures there { OnOk result (IsSome (finite.get self.old.kinds h)) }
+    {
+        let Some(registry) = self.poller.registry() else {
+            return Err(self.counts.fault(NonBlockError::Fault));
+        };
+        match self.table.deregister(h, registry) {
+            Ok(()) => Ok(()),
+            Err(why) => Err(self.counts.fault(why)),
+        }
+    }
+
+    /// The count 0, and `INVALID` where the handle isn't open. How the system closed it isn't told.
+    fn close(&mut self, h: u64) -> Outcome
+        ensures closes { IsClosed false false (host_view self.old) (host_view self.new) result }
+        ensures counted { IsCounted self.old.counts self.new.counts (CallAnswer.Done result) }
+        ensures outcome { result ≡ closed_as (finite.get self.old.kinds h) }
+        ensures kinds { self.new.kinds ≡ finite.remove self.old.kinds h }
+    {
+        if self.table.close(h) {
+            Outcome::Count(0)
+        } else {
+            self.counts.fail(INVALID)
+        }
+    }
+
+    /// No handle is.
+    fn is_file(&self, h: u64) -> bool
+        ensures { result ≡ false }
+    {
+        false
+    }
+
+    /// It reports at most `MOST_EVENTS` handles, and none where it was interrupted. Where memory runs out, the next wait reports them. It
+    /// makes the poll, where there is none yet.
+    fn wait(&mut self, limit: Option<u64>, reports: &mut Reports) -> Result<(), NonBlockError>
+        requires { reports.old ≡ [] }
+        ensures waits { WaitsFor false false false (host_view self.old) (host_view self.new) reports.new result }
+        ensures few { length reports.new ≤ MOST_EVENTS }
+        ensures counted { ResultCounted self.old.counts self.new.counts result }
+        ensures kinds { self.new.kinds ≡ self.old.kinds }
+    {
+        match self.poller.wait(&self.rt, limit, reports) {
+            Ok(()) => Ok(()),
+            Err(why) => {
+                reports.clear();
+                Err(self.counts.fault(why))
+            }
+        }
+    }
+}
+
+/// What the system refuses is a fault. Memory runs out also where `MOST_HANDLES` handles were made.
+impl<R: Net + Drop> Sockets for MioIo<R> {
+    ghost numbered = { λ old request new now h called. called.numbered };
+
+    fn count(&self) -> u64 {
+        self.table.made()
+    }
+
+    fn listen(&mut self, port: u16) -> Result<u64, NonBlockError>
+        ensures gives { GivesFor false false Listener (host_view self.old) (host_view self.new) result }
+        ensures counted { ResultCounted self.old.counts self.new.counts result }
+        ensures kinds { self.new.kinds ≡ kinds_given Listener result self.old.kinds }
+    {
+        if self.table.reserve_one().is_err() {
+            return Err(NonBlockError::OutOfMemory);
+        }
+        match Socket::listen(&self.rt, port) {
+            Ok(socket) => Ok(self.table.add(socket)),
+            Err(_) => Err(self.counts.fault(NonBlockError::Fault)),
+        }
+    }
+
+    fn dial(&mut self, port: u16) -> Result<u64, NonBlockError>
+        ensures gives { GivesFor false false Stream (host_view self.old) (host_view self.new) result }
+        ensures counted { ResultCounted self.old.counts self.new.counts result }
+        ensures kinds { self.new.kinds ≡ kinds_given Stream result self.old.kinds }
+    {
+        if self.table.reserve_one().is_err() {
+            return Err(NonBlockError::OutOfMemory);
+        }
+        match Socket::dial(&self.rt, port) {
+            Ok(socket) => Ok(self.table.add(socket)),
+            Err(_) => Err(self.counts.fault(NonBlockError::Fault)),
+        }
+    }
+}
+
+#[cfg(test)]
+mod tests;

@@ -1,0 +1,170 @@
+//! Sockets of the system, and how it ends a call on one.
+ghost use Rattle.std.specs.Prelude.{◌≡◌, ◌≤◌, length, Some, IfOk};
+ghost use Rattle.std.specs.IoError.{error_kind, raw_os_error};
+ghost use Rattle.ring_core.specs.declared.world.HandleKind.{HandleKind};
+ghost use Rattle.socket_io.specs.System.{error_number, refusal_of};
+ghost use Rattle.socket_io.specs.SocketTable.{kind_of, is_listener, is_stream, RefusesUnfit};
+
+use mio::event::Source;
+use mio::net::{TcpListener, TcpStream};
+use mio::{Interest, Registry, Token};
+use ready_driver::NonBlockError;
+use ring_core::{INVALID, LAST_ERROR};
+use std::io;
+use std::io::{ErrorKind, Read, Write};
+use std::net::{Ipv4Addr, Net, SocketAddr};
+
+/// The error of a call for which the system tells no number. (Linux: `EIO`)
+pub const NO_NUMBER: u16 = 5;
+
+/// Why a call of the system moved nothing. (not in monoio)
+#[derive(Clone, Copy, Debug, PartialEq, Eq)]
+pub enum Refusal {
+    /// It would block.
+    WouldBlock,
+    /// It failed with this error.
+    Error(u16),
+}
+
+/// A socket that is open. (monoio: a file descriptor)
+#[derive(Drop)]
+pub enum Socket {
+    /// It accepts connections.
+    Listener(TcpListener),
+    /// It is a connection, or becomes one.
+    Stream(TcpStream),
+}
+
+impl Socket {
+    /// A socket that listens on a port of this machine. (monoio: `TcpListener::bind`)
+    pub fn listen<R: Net>(rt: &R, port: u16) -> io::Result<Socket>
+        ensures { IfOk result (λ socket. kind_of socket ≡ HandleKind.Listener) }
+    {
+        Ok(Socket::Listener(TcpListener::bind(rt, local(port))?))
+    }
+
+    /// A socket that connects to a port of this machine. It doesn't wait until it is connected. (monoio: `TcpStream::connect`)
+    pub fn dial<R: Net>(rt: &R, port: u16) -> io::Result<Socket>
+        ensures { IfOk result (λ socket. kind_of socket ≡ HandleKind.Stream) }
+    {
+        Ok(Socket::Stream(TcpStream::connect(rt, local(port))?))
+    }
+
+    /// The next connection of a listener. (libc: `accept`)
+    pub fn accept(&self) -> Result<Socket, Refusal>
+        ensures stream { IfOk result (λ socket. kind_of socket ≡ HandleKind.Stream) }
+        ensures unfit { RefusesUnfit (is_listener (Some (kind_of self.now))) result }
+    {
+        match self {
+            Socket::Listener(listener) => match listener.accept() {
+                Ok((stream, _)) => Ok(Socket::Stream(stream)),
+                Err(error) => Err(refused_by(&error)),
+            },
+            Socket::Stream(_) => Err(Refusal::Error(INVALID)),
+        }
+    }
+
+    /// Puts the next bytes of a stream at the start of the room, and answers how many. (libc: `recv`)
+    pub fn read(&self, room: &mut [u8]) -> Result<usize, Refusal>
+        ensures within { IfOk result (λ n. n ≤ length room.new) }
+        ensures unfit { RefusesUnfit (is_stream (Some (kind_of self.now))) result }
+    {
+        match self {
+            Socket::Stream(stream) => read_from(stream, room),
+            Socket::Listener(_) => Err(Refusal::Error(INVALID)),
+        }
+    }
+
+    /// Sends a prefix of the bytes on a stream, and answers how many. (libc: `send`)
+    pub fn write(&self, bytes: &[u8]) -> Result<usize, Refusal>
+        ensures within { IfOk result (λ n. n ≤ length bytes.now) }
+        ensures unfit { RefusesUnfit (is_stream (Some (kind_of self.now))) result }
+    {
+        match self {
+            Socket::Stream(stream) => write_to(stream, bytes),
+            Socket::Listener(_) => Err(Refusal::Error(INVALID)),
+        }
+    }
+
+    /// Registers it with a key, in place of the one that it had, if it had one. (monoio: `Registry::register`)
+    pub fn register(&mut self, registry: &Registry, key: usize) -> Result<(), NonBlockError>
+        ensures { kind_of self.new ≡ kind_of self.old }
+    {
+        match self {
+            Socket::Listener(listener) => register_source(registry, listener, key),
+            Socket::Stream(stream) => register_source(registry, stream, key),
+        }
+    }
+
+    /// It isn't registered any more. (monoio: `Registry::deregister`)
+    pub fn deregister(&mut self, registry: &Registry) -> Result<(), NonBlockError>
+        ensures { kind_of self.new ≡ kind_of self.old }
+    {
+        let done = match self {
+            Socket::Listener(listener) => registry.deregister(listener),
+            Socket::Stream(stream) => registry.deregister(stream),
+        };
+        done.map_err(|_| NonBlockError::Fault)
+    }
+}
+
+// Puts the next bytes of a stream at the start of the room, and answers how many.
+fn read_from(mut stream: &TcpStream, room: &mut [u8]) -> Result<usize, Refusal>
+    ensures { IfOk result (λ n. n ≤ length room.new) }
+{
+    match stream.read(room) {
+        Ok(count) => Ok(count),
+        Err(error) => Err(refused_by(&error)),
+    }
+}
+
+// Sends a prefix of the bytes on a stream, and answers how many.
+fn write_to(mut stream: &TcpStream, bytes: &[u8]) -> Result<usize, Refusal>
+    ensures { IfOk result (λ n. n ≤ length bytes.now) }
+{
+    match stream.write(bytes) {
+        Ok(count) => Ok(count),
+        Err(error) => Err(refused_by(&error)),
+    }
+}
+
+// Has what becomes of a socket reported with a key, also where it was reported with another one before.
+fn register_source<S: Source>(
+    registry: &Registry,
+    source: &mut S,
+    key: usize,
+) -> Result<(), NonBlockError> {
+    let both = Interest::READABLE | Interest::WRITABLE;
+    let done = match registry.register(source, Token(key), both) {
+        Err(error) if error.kind() == ErrorKind::AlreadyExists => {
+            registry.reregister(source, Token(key), both)
+        }
+        done => done,
+    };
+    done.map_err(|_| NonBlockError::Fault)
+}
+
+// A port of this machine.
+fn local(port: u16) -> SocketAddr {
+    SocketAddr::from((Ipv4Addr::LOCALHOST, port))
+}
+
+// What an error of the system says of the call: that it would block, or its number.
+fn refused_by(error: &io::Error) -> Refusal
+    ensures { result ≡ refusal_of (error_kind error.now) (raw_os_error error.now) }
+{
+    match error.kind() {
+        ErrorKind::WouldBlock => Refusal::WouldBlock,
+        _ => Refusal::Error(number(error.raw_os_error())),
+    }
+}
+
+// The number of an error: that of the system where it is one, and else `NO_NUMBER`.
+fn number(code: Option<i32>) -> u16
+    ensures { result ≡ error_number code }
+{
+    match code {
+        Some(code) if 1 <= code && code <= LAST_ERROR as i32 => code as u16,
+        _ => NO_NUMBER,
+    }
+}

@@ -1,0 +1,153 @@
+//! Open sockets by their handles' numbers, which are given in order.
+ghost use Rattle.std.specs.Prelude.{◌≡◌, ◌≤◌, suc, length, is_some, IsSome, IfOk, OnOk};
+ghost use Rattle.std.specs.FinMap as finite;
+ghost use Rattle.ring_core.specs.declared.world.HandleKind.TheVariants.{Stream};
+ghost use Rattle.socket_io.specs.SocketTable.{IsRoomy, kind_of, is_listener, is_stream, RefusesUnfit};
+
+use crate::mio_io::socket::{Refusal, Socket};
+use mio::Registry;
+use ready_driver::NonBlockError;
+use rent_buf::OutOfMemory;
+use ring_core::{INVALID, MOST_HANDLES};
+use std::alloc::Global;
+use std::collections::HashMap;
+use std::marker::Model;
+
+/// The sockets that are open, and how many handles were made. A contract sees the kind of each. A call finds its socket by a hash, however
+/// many there are. (monoio: the process's file descriptors)
+#[derive(Drop)]
+pub struct Table {
+    open: HashMap<u64, Socket>,
+    made: u64,
+}
+
+impl Model for Table {
+    ghost use Rattle.std.specs.HashMap.{spare};
+    ghost use Rattle.std.specs.Coded.{codes};
+    ghost use Rattle.socket_io.specs.SocketTable.{OpenSockets, table_code, table_of};
+
+    ghost Value = { OpenSockets };
+
+    ghost coded = { table_code (Prim.hlevel codes) };
+
+    ghost view = { λ t. table_of t.open.entries t.made (spare t.open) };
+}
+
+impl Table {
+    /// No socket. It takes no memory. (not in monoio)
+    pub fn new(alloc: Global) -> Table
+        ensures made { result.made ≡ 0 }
+        ensures open { result.kinds ≡ finite.empty }
+    {
+        Table {
+            open: HashMap::new(alloc),
+            made: 0,
+        }
+    }
+
+    /// How many handles were made. (not in monoio)
+    pub fn made(&self) -> u64
+        ensures { result ≡ self.now.made }
+    {
+        self.made
+    }
+
+    /// Takes the memory of one more socket. It runs out also where `MOST_HANDLES` handles were made. (not in monoio)
+    pub fn reserve_one(&mut self) -> Result<(), OutOfMemory>
+        ensures made { self.new.made ≡ self.old.made }
+        ensures open { self.new.kinds ≡ self.old.kinds }
+        ensures ok { OnOk result (IsRoomy self.new) }
+    {
+        if self.made >= MOST_HANDLES || self.open.reserve(1).is_err() {
+            return Err(OutOfMemory);
+        }
+        Ok(())
+    }
+
+    /// A socket gets the next number, in memory that was taken before. (not in monoio)
+    pub fn add(&mut self, socket: Socket) -> u64
+        requires { IsRoomy self.old }
+        ensures number { result ≡ self.old.made }
+        ensures made { self.new.made ≡ suc self.old.made }
+        ensures open { self.new.kinds ≡ finite.insert self.old.kinds self.old.made (kind_of socket) }
+    {
+        let h = self.made;
+        let _ = self.open.insert(h, socket);
+        self.made += 1;
+        h
+    }
+
+    /// The socket of a handle is open. (not in monoio)
+    pub fn is_open(&self, h: u64) -> bool
+        ensures { result ≡ is_some (finite.get self.now.kinds h) }
+    {
+        self.open.contains_key(&h)
+    }
+
+    /// Closes the socket of a handle, and answers whether there was one. (libc: `close`)
+    pub fn close(&mut self, h: u64) -> bool
+        ensures there { result ≡ is_some (finite.get self.old.kinds h) }
+        ensures open { self.new.kinds ≡ finite.remove self.old.kinds h }
+        ensures made { self.new.made ≡ self.old.made }
+    {
+        self.open.remove(&h).is_some()
+    }
+
+    /// Accepts a connection on the listener of a handle. (libc: `accept`)
+    pub fn accept(&self, h: u64) -> Result<Socket, Refusal>
+        ensures stream { IfOk result (λ socket. kind_of socket ≡ Stream) }
+        ensures unfit { RefusesUnfit (is_listener (finite.get self.now.kinds h)) result }
+    {
+        match self.open.get(&h) {
+            Some(socket) => socket.accept(),
+            None => Err(Refusal::Error(INVALID)),
+        }
+    }
+
+    /// Puts the next bytes of the stream of a handle at the start of the room, and answers how many. (libc: `recv`)
+    pub fn read(&self, h: u64, room: &mut [u8]) -> Result<usize, Refusal>
+        ensures within { IfOk result (λ n. n ≤ length room.new) }
+        ensures unfit { RefusesUnfit (is_stream (finite.get self.now.kinds h)) result }
+    {
+        match self.open.get(&h) {
+            Some(socket) => socket.read(room),
+            None => Err(Refusal::Error(INVALID)),
+        }
+    }
+
+    /// Sends a prefix of the bytes on the stream of a handle, and answers how many. (libc: `send`)
+    pub fn write(&self, h: u64, bytes: &[u8]) -> Result<usize, Refusal>
+        ensures within { IfOk result (λ n. n ≤ length bytes.now) }
+        ensures unfit { RefusesUnfit (is_stream (finite.get self.now.kinds h)) result }
+    {
+        match self.open.get(&h) {
+            Some(socket) => socket.write(bytes),
+            None => Err(Refusal::Error(INVALID)),
+        }
+    }
+
+    /// Registers the socket of a handle with a key, in place of the one that it had, if it had one. One that isn't open is a fault.
+    /// (monoio: `Registry::register`)
+    pub fn register(&mut self, h: u64, registry: &Registry, key: usize) -> Result<(), NonBlockError>
+        ensures made { self.new.made ≡ self.old.made }
+        ensures open { self.new.kinds ≡ self.old.kinds }
+        ensures there { OnOk result (IsSome (finite.get self.old.kinds h)) }
+    {
+        let Some(socket) = self.open.get_mut(&h) else {
+            return Err(NonBlockError::Fault);
+        };
+        socket.register(registry, key)
+    }
+
+    /// The socket of a handle isn't registered any more. One that wasn't, or isn't open, is a fault. (monoio: `Registry::deregister`)
+    pub fn deregister(&mut self, h: u64, registry: &Registry) -> Result<(), NonBlockError>
+        ensures made { self.new.made ≡ self.old.made }
+        ensures open { self.new.kinds ≡ self.old.kinds }
+        ensures there { OnOk result (IsSome (finite.get self.old.kinds h)) }
+    {
+        let Some(socket) = self.open.get_mut(&h) else {
+            return Err(NonBlockError::Fault);
+        };
+        socket.deregister(registry)
+    }
+}

@@ -1,0 +1,210 @@
+// Sockets of this machine, through the bound alone. Each test takes the first port that is free from one of its own on.
+use super::{MioIo, UNSUPPORTED};
+use driver_core::{CallAnswer, Calls};
+use ready_driver::{NonBlock, Report, Reports, Sockets};
+use rent_buf::{IoBuf, IoBufMut, Rent, VecBuf};
+use ring_core::{INVALID, Outcome, Request, SharedFd};
+use std::test::Fail;
+
+// How many waits at most come before a call is made, and how many ports at most are tried.
+const TRIES: u16 = 100;
+
+// The error of a connection that its peer reset. (Linux: `ECONNRESET`)
+const RESET: u16 = 104;
+
+// What a wait of at most 50 milliseconds reports.
+fn reported<I: NonBlock>(rt: &HostRuntime, io: &mut I) -> Result<Reports, Fail> {
+    let mut reports = Reports::new(rt.alloc());
+    io.wait(Some(50), &mut reports)?;
+    Ok(reports)
+}
+
+// A report says that a handle with this key may be read.
+fn is_readable(report: Option<Report>, key: usize) -> bool {
+    match report {
+        Some(report) => report.key == key && report.ready.is_readable(),
+        None => false,
+    }
+}
+
+// A wait reports that a handle with this key may be read.
+fn becomes_readable<I: NonBlock>(rt: &HostRuntime, io: &mut I, key: usize) -> Result<bool, Fail> {
+    for _ in 0..TRIES {
+        let reports = reported(rt, io)?;
+        for at in 0..reports.len() {
+            if is_readable(reports.get(at), key) {
+                return Ok(true);
+            }
+        }
+    }
+    Ok(false)
+}
+
+// What a call answers, once it doesn't block.
+fn made<I: NonBlock>(
+    rt: &HostRuntime,
+    io: &mut I,
+    request: &mut Request<Rent, VecBuf>,
+) -> Result<CallAnswer, Fail> {
+    for _ in 0..TRIES {
+        match io.call(request) {
+            CallAnswer::WouldBlock => {
+                reported(rt, io)?;
+            }
+            answer => return Ok(answer),
+        }
+    }
+    Ok(CallAnswer::WouldBlock)
+}
+
+// An answer is this count.
+fn is_count(answer: CallAnswer, count: u32) -> bool {
+    matches!(answer, CallAnswer::Done(Outcome::Count(k)) if k == count)
+}
+
+// An answer is this error.
+fn is_error(answer: CallAnswer, error: u16) -> bool {
+    matches!(answer, CallAnswer::Done(Outcome::Fail(e)) if e == error)
+}
+
+// A read of at most 8 bytes.
+fn read(rt: &HostRuntime, h: u64) -> Result<Request<Rent, VecBuf>, Fail> {
+    let fd = SharedFd::new(h);
+    let buf = Rent::with_total(rt.alloc(), 8)?;
+    Ok(Request::Recv { fd, buf })
+}
+
+// A request holds these bytes.
+fn holds(request: &Request<Rent, VecBuf>, text: &[u8]) -> bool {
+    match request {
+        Request::Recv { buf, .. } => buf.bytes() == text,
+        _ => false,
+    }
+}
+
+// A read would block.
+fn has_none<I: NonBlock>(rt: &HostRuntime, io: &mut I, h: u64) -> Result<bool, Fail> {
+    let answer = io.call(&mut read(rt, h)?);
+    Ok(matches!(answer, CallAnswer::WouldBlock))
+}
+
+// A read gets these 5 bytes.
+fn gets<I: NonBlock>(rt: &HostRuntime, io: &mut I, h: u64, text: &[u8]) -> Result<bool, Fail> {
+    let mut request = read(rt, h)?;
+    let answer = made(rt, io, &mut request)?;
+    Ok(is_count(answer, 5) && holds(&request, text))
+}
+
+// A read ends.
+fn ends<I: NonBlock>(rt: &HostRuntime, io: &mut I, h: u64) -> Result<bool, Fail> {
+    let answer = made(rt, io, &mut read(rt, h)?)?;
+    Ok(is_count(answer, 0))
+}
+
+// A read fails with this error.
+fn fails<I: NonBlock>(rt: &HostRuntime, io: &mut I, h: u64, error: u16) -> Result<bool, Fail> {
+    let answer = made(rt, io, &mut read(rt, h)?)?;
+    Ok(is_error(answer, error))
+}
+
+// A text of 5 bytes is sent whole.
+fn sends<I: NonBlock>(rt: &HostRuntime, io: &mut I, h: u64, text: &[u8]) -> Result<bool, Fail> {
+    let fd = SharedFd::new(h);
+    let mut buf = Rent::with_total(rt.alloc(), 8)?;
+    if text.len() <= 8 {
+        buf.store(0, text);
+    }
+    let answer = made(rt, io, &mut Request::Send { fd, buf })?;
+    Ok(is_count(answer, 5))
+}
+
+// The first port that is free from this one on: the handle 0 listens there.
+fn listen<I: Sockets>(io: &mut I, first: u16) -> u16 {
+    for port in first..first.saturating_add(TRIES) {
+        if io.listen(port).is_ok() {
+            return port;
+        }
+    }
+    first
+}
+
+// An accept on the handle 0 makes the handle 2.
+fn accepts<I: NonBlock>(rt: &HostRuntime, io: &mut I) -> Result<bool, Fail> {
+    let fd = SharedFd::new(0);
+    let answer = made(rt, io, &mut Request::Accept { fd })?;
+    Ok(matches!(answer, CallAnswer::Done(Outcome::Made(2))))
+}
+
+// The handle 0 listens, 1 dials it, and 2 is the one that an accept makes. Each is registered with its number.
+fn connects<I: Sockets>(rt: &HostRuntime, io: &mut I, first: u16) -> Result<bool, Fail> {
+    let port = listen(io, first);
+    io.register(0, 0)?;
+    io.dial(port)?;
+    io.register(1, 1)?;
+    let accepted = accepts(rt, io)?;
+    io.register(2, 2)?;
+    Ok(accepted)
+}
+
+// A handle is closed.
+fn closes<I: NonBlock>(io: &mut I, h: u64) -> bool {
+    matches!(io.close(h), Outcome::Count(0))
+}
+
+// A request ends with this error.
+fn refuses<I: NonBlock>(io: &mut I, mut request: Request<Rent, VecBuf>, error: u16) -> bool {
+    is_error(io.call(&mut request), error)
+}
+
+// An accept would block.
+fn accepts_none<I: NonBlock>(io: &mut I, fd: SharedFd) -> bool {
+    let mut request: Request<Rent, VecBuf> = Request::Accept { fd };
+    matches!(io.call(&mut request), CallAnswer::WouldBlock)
+}
+
+#[test]
+fn bytes_arrive(rt: HostRuntime) -> Result<(), Fail> {
+    let mut io = MioIo::new(&rt, rt.alloc());
+    assert!(rt; connects(&rt, &mut io, 40017)?);
+    assert!(rt; has_none(&rt, &mut io, 2)?);
+    assert!(rt; sends(&rt, &mut io, 1, b"hello")?);
+    assert!(rt; becomes_readable(&rt, &mut io, 2)?);
+    assert!(rt; gets(&rt, &mut io, 2, b"hello")?);
+    Ok(())
+}
+
+#[test]
+fn a_peer_closes(rt: HostRuntime) -> Result<(), Fail> {
+    let mut io = MioIo::new(&rt, rt.alloc());
+    assert!(rt; connects(&rt, &mut io, 40117)?);
+    assert!(rt; closes(&mut io, 1));
+    assert!(rt; ends(&rt, &mut io, 2)?);
+    assert!(rt; !closes(&mut io, 1) && io.register(1, 1).is_err());
+    assert!(rt; io.count() == 3);
+    Ok(())
+}
+
+// A peer that closes with bytes unread resets the connection.
+#[test]
+fn a_peer_resets(rt: HostRuntime) -> Result<(), Fail> {
+    let mut io = MioIo::new(&rt, rt.alloc());
+    assert!(rt; connects(&rt, &mut io, 40217)?);
+    assert!(rt; sends(&rt, &mut io, 2, b"hello")?);
+    assert!(rt; becomes_readable(&rt, &mut io, 1)?);
+    assert!(rt; closes(&mut io, 1));
+    assert!(rt; fails(&rt, &mut io, 2, RESET)?);
+    Ok(())
+}
+
+#[test]
+fn nothing_is_there(rt: HostRuntime) -> Result<(), Fail> {
+    let mut io = MioIo::new(&rt, rt.alloc());
+    let port = listen(&mut io, 40317);
+    let fd = SharedFd::new(0);
+    assert!(rt; io.listen(port).is_err());
+    assert!(rt; accepts_none(&mut io, fd));
+    assert!(rt; refuses(&mut io, read(&rt, 7)?, INVALID));
+    assert!(rt; refuses(&mut io, Request::Connect { fd, addr: 0 }, UNSUPPORTED));
+    assert!(rt; !io.is_file(0));
+    Ok(())
+}
