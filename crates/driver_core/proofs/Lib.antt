@@ -23,3 +23,4 @@ pub mod Joining
 pub mod Membership
 pub mod Placing
 pub mod Grouping
+pub mod KeptTokens

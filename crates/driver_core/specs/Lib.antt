@@ -9,3 +9,4 @@ pub mod Answers
 pub mod Members
 pub mod Calls
 pub mod Groups
+pub mod Tokens

@@ -25,6 +25,7 @@ use Rattle.ready_driver.specs.HandlesStand.{HandlesStand}
 use Rattle.ready_driver.specs.Io.{IoView}
 use Rattle.ready_driver.specs.Legacy.{Legacy, seen, slot_in, is_on}
 use Rattle.ready_driver.specs.LegacyStands.{GroupsStand, LegacyStands, LegacyAnswers, CancellerFor, HandleFor}
+use Rattle.ready_driver.specs.declared.non_block.Report.{Report}
 use Rattle.ready_driver.specs.LegacyState.{LegacyState}
 use Rattle.ready_driver.specs.LegacyStep.{legacy_cause, legacy_row, legacy_answered, legacy_step}
 use Rattle.ready_driver.specs.Registry.{Handling}
@@ -32,9 +33,15 @@ use Rattle.ready_driver.specs.Polling.{SlotsStand}
 use Rattle.ready_driver.proofs.Grouped.{groups-fresh}
 
 -- A driver as contracts see it, by what its parts are.
-abbrev pub by_parts : {I B : Type 0} → Handling I → Ops B → Membership → List ℕ → LegacyState I B
-by_parts handling ops members asked =
-    record { handling = handling; slots = ops.slots; given = ops.given; members = members; asked = asked }
+abbrev pub by_parts : {I B : Type 0} → Handling I → Ops B → Membership → List ℕ → List Report → LegacyState I B
+by_parts handling ops members asked untreated = record {
+  handling = handling;
+  slots = ops.slots;
+  given = ops.given;
+  members = members;
+  asked = asked;
+  untreated = untreated;
+}
 
 -- Slots are those of a driver with the same operations.
 pub slots-like : {B : Type 0} (buffer : B → Buffer) (slots : FinMap nat_cmp (Slot B)) (D E : Legacy) → E.slots ≡ D.slots →

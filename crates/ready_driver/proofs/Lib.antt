@@ -36,4 +36,5 @@ pub mod Still
 pub mod Reporting
 pub mod Standing
 pub mod Reported
+pub mod Turning
 pub mod Exact

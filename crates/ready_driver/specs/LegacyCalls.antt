@@ -49,6 +49,7 @@ pub record JoinsOp {I B : Type 0} (view : I → IoView) (tells memory : Bool) (o
   pub slots : new.slots.values ≡ map.insert old.slots.values op.key (new_slot (ops_in old) request)
   pub members : new.members ≡ joins_if old.members under op.number op.key
   pub asked : new.asked ≡ old.asked
+  pub untreated : new.untreated ≡ old.untreated
 
 -- So it is after a submission. Under a canceled group nothing changes.
 abbrev pub JoinsFor : {I B : Type 0} → (I → IoView) → Bool → Bool → LegacyState I B → LegacyState I B → Request B Parts → Option ℕ →

@@ -12,24 +12,28 @@ use Rattle.driver_core.specs.Members.{Membership, membership_code}
 use Rattle.driver_core.specs.Op.{Holds as HoldsIn, HoldsNone as HoldsNoneIn, KeepsTokens as KeepsTokensIn, DropsToken as DropsTokenIn}
 use Rattle.driver_core.specs.Ops.{Ops}
 use Rattle.driver_core.specs.Requests.{request_at, KeepsRequests as KeepsRequestsIn}
+use Rattle.ready_driver.specs.declared.non_block.Report.{Report}
 use Rattle.ready_driver.specs.declared.records.Record.{Record}
 use Rattle.ready_driver.specs.Registry.{Handling, handling_code, is_users}
 
--- A driver: its handles with their object, its slots, how many operations were submitted, its cancel groups, and the tasks of canceled
--- operations that the next turn names.
+-- A driver: its handles with their object, its slots, how many operations were submitted, its cancel groups, the tasks that the next turn
+-- names, and the reports that came in a turn and that none has treated yet.
 pub record LegacyState (I B : Type 0) : Type 0 where
   pub handling : Handling I
   pub slots : Slots (Slot B)
   pub given : ℕ
   pub members : Membership
   pub asked : List ℕ
+  pub untreated : List Report
 
 -- It is stored as the tuple of its fields.
-abbrev pub legacy_code : {I B : Type 0} → Coded I → Coded Record → Coded (Slot B) → Coded (LegacyState I B)
-legacy_code object one slot = code_by (Handling _ × (Slots (Slot _) × (ℕ × (Membership × List ℕ))))
-    (coded× (handling_code object one) (coded× (slots_code slot) (coded× coded_ℕ (coded× membership_code (coded_list coded_ℕ)))))
-    (λ s. (s.handling, (s.slots, (s.given, (s.members, s.asked)))))
-    (λ t. record { handling = t.0; slots = t.1.0; given = t.1.1.0; members = t.1.1.1.0; asked = t.1.1.1.1 }) (λ _. refl)
+abbrev pub legacy_code : {I B : Type 0} → Coded I → Coded Record → Coded Report → Coded (Slot B) → Coded (LegacyState I B)
+legacy_code object one report slot = code_by (Handling _ × (Slots (Slot _) × (ℕ × (Membership × (List ℕ × List Report)))))
+    (coded× (handling_code object one) (coded× (slots_code slot) (coded× coded_ℕ
+    (coded× membership_code (coded× (coded_list coded_ℕ) (coded_list report))))))
+    (λ s. (s.handling, (s.slots, (s.given, (s.members, (s.asked, s.untreated))))))
+    (λ t. record { handling = t.0; slots = t.1.0; given = t.1.1.0; members = t.1.1.1.0; asked = t.1.1.1.1.0; untreated = t.1.1.1.1.1 })
+    (λ _. refl)
 
 -- The user holds each of these handles.
 abbrev pub holds_all : Table → List ℕ → Bool
@@ -72,9 +76,10 @@ HasRequest driver op request = request_at (ops_in driver) op ≡ Some request
 abbrev pub KeepsRequests : {I B : Type 0} → LegacyState I B → LegacyState I B → Type 0
 KeepsRequests old new = KeepsRequestsIn (ops_in old) (ops_in new)
 
--- The slots, the number of operations, the cancel groups and the tasks of canceled operations are as before.
+-- The slots, the number of operations, the cancel groups, the tasks that the next turn names and the untreated reports are as before.
 pub record SameOps {I B : Type 0} (old new : LegacyState I B) : Type 0 where
   pub slots : new.slots.values ≡ old.slots.values
   pub given : new.given ≡ old.given
   pub members : new.members ≡ old.members
   pub asked : new.asked ≡ old.asked
+  pub untreated : new.untreated ≡ old.untreated

@@ -17,37 +17,57 @@ use Rattle.ready_driver.specs.Readiness.{Shows}
 use Rattle.ready_driver.specs.Registry.{Handling, AreKeyed}
 use Rattle.ready_driver.specs.Turns.{reported_each, woken_each, AreReported}
 
--- A turn treated reports, which are those that the object shows, where it shows them: each one's bits are added to its handle. It named the
--- tasks of operations that were canceled since the turn before, in the order of their cancels, and then, report by report, those that a
--- report woke. The holders of handles stay. Over a world in memory each handle that is held has its bits then.
-pub record ReportsTurn {I : Type 0} (view : I → IoView) (tells reporting memory : Bool) (old new : Handling I) (asked woken : List ℕ)
-    : Type 0 where
-  pub reports : List Report
-  pub reported : IsTrue reporting → reports ≡ (view old.io).reports
-  pub object : IsStill tells memory (view old.io) (view new.io) (view old.io).keys
-  pub names : woken ≡ asked ++ woken_each old.records reports
-  pub handling : new ≡ record { io = new.io; table = old.table; records = reported_each old.records reports }
-  pub shows : IsTrue memory → AreKeyed old.table (view old.io).keys → AreReported new.table new.records (view new.io).world
+-- What a turn changes: the handles, the untreated reports, and the tasks that are to be named.
+pub record Turning (I : Type 0) : Type 0 where
+  pub handling : Handling I
+  pub untreated : List Report
+  pub tasks : List ℕ
 
--- A turn treated no report: no handle changed.
-pub record TreatsNone {I : Type 0} (view : I → IoView) (tells memory : Bool) (old new : Handling I) : Type 0 where
-  pub object : IsStill tells memory (view old.io) (view new.io) (view old.io).keys
-  pub handling : new ≡ record old { io = new.io }
+-- What a turn changes of a driver, with these tasks that are to be named.
+abbrev pub turning_in : {I B : Type 0} → LegacyState I B → List ℕ → Turning I
+turning_in driver tasks = record { handling = driver.handling; untreated = driver.untreated; tasks = tasks }
 
--- What a turn does to the handles, and whom it names, by why it stopped: a fault comes only where the object's count of faults rose. It is
--- never busy, and has no completions.
-abbrev pub TurnsBy : {I : Type 0} → (I → IoView) → Bool → Bool → Bool → Handling I → Handling I → List ℕ → List ℕ → Option Stop → Type 0
-TurnsBy view tells reporting memory old new asked woken None = ReportsTurn view tells reporting memory old new asked woken
-TurnsBy view tells reporting memory old new asked woken (Some RingFault) =
-    TreatsNone view tells memory old new × Rose (view old.io).faults (view new.io).faults × (IsTrue memory → ⊥)
-TurnsBy view tells reporting memory old new asked woken (Some Busy) = ⊥
-TurnsBy view tells reporting memory old new asked woken (Some (BadCompletion word)) = ⊥
-TurnsBy view tells reporting memory old new asked woken (Some OutOfMemory) = TreatsNone view tells memory old new
+-- Reports were treated, in order: each one's bits were added to its handle, and the tasks that it woke joined those that are to be named.
+-- The holders of handles stay.
+pub record Treats {I : Type 0} (old : Turning I) (reports : List Report) (new : Turning I) : Type 0 where
+  pub tasks : new.tasks ≡ old.tasks ++ woken_each old.handling.records reports
+  pub handling : new.handling ≡
+      record { io = new.handling.io; table = old.handling.table; records = reported_each old.handling.records reports }
 
--- Which tasks of canceled operations the next turn names: none, but where this one stopped those that it was to name itself.
-abbrev pub LeavesAsked : Option Stop → List ℕ → List ℕ → List ℕ → Type 0
-LeavesAsked None asked woken left = left ≡ []
-LeavesAsked (Some stop) asked woken left = (woken ≡ []) × (left ≡ asked)
+-- A turn that didn't stop treated the reports that were untreated before it, and then those that came, which are those that the object
+-- shows, where it shows them. None is untreated then, and over a world in memory each handle that is held has its bits.
+pub record ReportsTurn {I : Type 0} (view : I → IoView) (tells reporting memory : Bool) (old new : Turning I) : Type 0 where
+  pub came : List Report
+  pub reported : IsTrue reporting → came ≡ (view old.handling.io).reports
+  pub object : IsStill tells memory (view old.handling.io) (view new.handling.io) (view old.handling.io).keys
+  pub treats : Treats old (old.untreated ++ came) new
+  pub untreated : new.untreated ≡ []
+  pub shows : IsTrue memory → AreKeyed old.handling.table (view old.handling.io).keys →
+      AreReported new.handling.table new.handling.records (view new.handling.io).world
+
+-- A turn stopped once it had treated the reports that were untreated before it.
+pub record StopsTurn {I : Type 0} (view : I → IoView) (tells memory : Bool) (old new : Turning I) : Type 0 where
+  pub object : IsStill tells memory (view old.handling.io) (view new.handling.io) (view old.handling.io).keys
+  pub treats : Treats old old.untreated new
+
+-- What a turn does, by why it stopped. A fault comes only where the object's count of faults rose, and no report came then. Where memory
+-- ran out, nothing changed, or what came is untreated: nothing, or what the object shows, where it shows its reports. A turn is never busy,
+-- and has no completions.
+abbrev pub TurnsBy : {I : Type 0} → (I → IoView) → Bool → Bool → Bool → Turning I → Turning I → Option Stop → Type 0
+TurnsBy view tells reporting memory old new None = ReportsTurn view tells reporting memory old new
+TurnsBy view tells reporting memory old new (Some RingFault) =
+    StopsTurn view tells memory old new × (new.untreated ≡ [])
+    × Rose (view old.handling.io).faults (view new.handling.io).faults × (IsTrue memory → ⊥)
+TurnsBy view tells reporting memory old new (Some Busy) = ⊥
+TurnsBy view tells reporting memory old new (Some (BadCompletion word)) = ⊥
+TurnsBy view tells reporting memory old new (Some OutOfMemory) =
+    (new ≡ old) ⊎ (StopsTurn view tells memory old new
+    × ((new.untreated ≡ []) ⊎ (IsTrue reporting → new.untreated ≡ (view old.handling.io).reports)))
+
+-- Whom a turn names, and whom it leaves to the next one: all tasks that are to be named, or none where it stopped.
+abbrev pub NamesFor : Option Stop → List ℕ → List ℕ → List ℕ → Type 0
+NamesFor None tasks woken asked = (woken ≡ tasks) × (asked ≡ [])
+NamesFor (Some stop) tasks woken asked = (woken ≡ []) × (asked ≡ tasks)
 
 -- What a turn does. It reaps no operation and closes no handle: these are gone in their last poll, their drop, or the step in which the
 -- last holder leaves. Operations and groups stay.
@@ -55,8 +75,9 @@ pub record LegacyTurns {I B : Type 0} (view : I → IoView) (tells reporting mem
     : Type 0 where
   pub reaped : turned.reaped ≡ []
   pub closed : turned.closed ≡ []
-  pub does : TurnsBy view tells reporting memory old.handling new.handling old.asked turned.woken turned.stop
-  pub asked : LeavesAsked turned.stop old.asked turned.woken new.asked
+  pub tasks : List ℕ
+  pub does : TurnsBy view tells reporting memory (turning_in old old.asked) (turning_in new tasks) turned.stop
+  pub names : NamesFor turned.stop tasks turned.woken new.asked
   pub slots : new.slots ≡ old.slots
   pub given : new.given ≡ old.given
   pub members : new.members ≡ old.members

@@ -55,10 +55,10 @@ pub struct LegacyDriver<I: NonBlock, B: IoBufMut> {
     registry: Registry<I>,
     ops: Operations<B>,
     members: Members,
-    // The tasks of canceled operations, which the next turn names.
+    // The tasks that the next turn names: those of canceled operations, and those that a turn which stopped has woken.
     asked: Vec<u64>,
-    // The reports of the last turn: their memory is used again.
-    reports: Reports,
+    // The reports that came in a turn and that none has treated yet. Their memory is used again.
+    untreated: Reports,
     alloc: Global,
 }
 
@@ -70,7 +70,7 @@ impl<I: NonBlock, B: IoBufMut> Model for LegacyDriver<I, B> {
 
     ghost Value = { LegacyState I B };
 
-    ghost coded = { legacy_code I.code (Prim.hlevel codes) (Prim.hlevel (codes, B.code)) };
+    ghost coded = { legacy_code I.code (Prim.hlevel codes) (Prim.hlevel codes) (Prim.hlevel (codes, B.code)) };
 
     ghost view = { λ d. record {
       handling = d.registry;
@@ -78,6 +78,7 @@ impl<I: NonBlock, B: IoBufMut> Model for LegacyDriver<I, B> {
       given = d.ops.given;
       members = d.members;
       asked = d.asked.items;
+      untreated = d.untreated;
     } };
 
     ghost invariant = { λ d. AreNaming d.registry.table d.ops.slots.values d.ops.given × AreInSlots d.members d.ops.slots.values };
@@ -90,6 +91,7 @@ impl<I: NonBlock, B: IoBufMut + Drop> LegacyDriver<I, B> {
         ensures none { (live_slots result ≡ 0) × (result.given ≡ 0) × HoldsNone result }
         ensures groups { result.members ≡ none }
         ensures asked { result.asked ≡ [] }
+        ensures untreated { result.untreated ≡ [] }
         // Over a world in memory with no handles it is a new driver as plain data.
         ensures stands { (I.view io).world ≡ [] → (I.view io).keys ≡ [] → LegacyStands I.view B.buffer result idle }
     {
@@ -98,7 +100,7 @@ impl<I: NonBlock, B: IoBufMut + Drop> LegacyDriver<I, B> {
             ops: Operations::new(alloc),
             members: Members::new(alloc),
             asked: Vec::new(alloc),
-            reports: Reports::new(alloc),
+            untreated: Reports::new(alloc),
             alloc,
         }
     }
@@ -118,7 +120,7 @@ impl<I: NonBlock, B: IoBufMut + Drop> LegacyDriver<I, B> {
             ops: _ops,
             members: _members,
             asked: _asked,
-            reports: _reports,
+            untreated: _untreated,
             alloc: _alloc,
         } = self;
         Ok(registry.into_io())
@@ -222,6 +224,7 @@ impl<I: NonBlock, B: IoBufMut + Drop> LegacyDriver<I, B> {
         ensures ends { EndsFor I.view I.tells I.memory self.old self.new op task result }
         ensures given { self.new.given ≡ self.old.given }
         ensures asked { self.new.asked ≡ self.old.asked }
+        ensures untreated { self.new.untreated ≡ self.old.untreated }
     {
         let key = op.key();
         let number = op.number();
@@ -259,6 +262,7 @@ impl<I: NonBlock, B: IoBufMut + Drop> LegacyDriver<I, B> {
         ensures given { self.new.given ≡ self.old.given }
         ensures members { self.new.members ≡ leaves self.old.members (number_of op) }
         ensures asked { self.new.asked ≡ self.old.asked }
+        ensures untreated { self.new.untreated ≡ self.old.untreated }
     {
         let key = op.key();
         let number = op.number();
@@ -277,6 +281,7 @@ impl<I: NonBlock, B: IoBufMut + Drop> LegacyDriver<I, B> {
             LegacyAnswers I.view B.buffer D (Cancel (number_of op.now)) Asked self.new) }
         ensures asked { OnOk result (self.new.asked ≡ self.old.asked ++ option_to_list
             (waiting_task self.old.handling.records (number_of op.now) (map.get self.old.slots.values (key_of op.now)))) }
+        ensures untreated { self.new.untreated ≡ self.old.untreated }
         ensures waits { OnOk result (self.new.handling ≡
             unwaited self.old.handling (number_of op.now) (map.get self.old.slots.values (key_of op.now))) }
         ensures slots { OnOk result (self.new.slots.values ≡ canceled_slots self.old.slots.values (key_of op.now)) }

@@ -19,8 +19,8 @@ use Rattle.uring_driver.specs.Op.{KeepsTokens}
 use Rattle.uring_driver.specs.Stands.{Stands}
 use Rattle.uring_driver.specs.Uring.{due_in, given_by, group_count}
 use Rattle.session_run.specs.declared.session.Session.{Session}
-use Rattle.session_run.specs.declared.tokens.Tokens.{Tokens}
-use Rattle.session_run.specs.Token.{token_at, by_number, cancellers_in, handles_in}
+use Rattle.driver_core.specs.declared.tokens.Tokens.{Tokens}
+use Rattle.driver_core.specs.Tokens.{token_at, by_number, cancellers_in, handles_in}
 use Rattle.session_run.specs.Session.{AreSingle, HasGroups, SessionStands, SessionAnswers}
 use Rattle.session_run.specs.Submission.{IsUnmade}
 use Rattle.session_run.proofs.KeptGroups.{canceller-there, canceller-past, canceller-renewed}

@@ -1,5 +1,4 @@
 mod Commands
-mod KeptTokens
 mod KeptGroups
 mod Refusals
 mod Submitting

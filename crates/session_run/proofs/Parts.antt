@@ -16,14 +16,14 @@ use Rattle.driver_core.specs.declared.op.Executed.TheVariants.{Op as ExecutedNum
 use Rattle.driver_core.specs.declared.op.Turned.{Turned}
 use Rattle.driver_core.specs.declared.op.Stop.{Stop}
 use Rattle.uring_driver.specs.Uring.{due_in, given_by, holding_in}
-use Rattle.uring_driver.specs.Op.{KeepsTokens}
+use Rattle.uring_driver.specs.Op.{KeepsTokens, ops_in}
 use Rattle.uring_driver.specs.Executed.{ExecutesFor}
 use Rattle.uring_driver.specs.Turned.{TurnsFor, TreatsFor, TurnMeets}
 use Rattle.uring_driver.specs.Stands.{Stands}
-use Rattle.session_run.specs.declared.tokens.Tokens.{Tokens}
-use Rattle.session_run.specs.Token.{by_number}
+use Rattle.driver_core.specs.declared.tokens.Tokens.{Tokens}
+use Rattle.driver_core.specs.Tokens.{by_number}
 use Rattle.session_run.specs.Session.{PartsStand, AreParts, AreSingle}
-use Rattle.session_run.proofs.KeptTokens.{are_held-kept}
+use Rattle.driver_core.proofs.KeptTokens.{are_held-kept}
 use Rattle.session_run.proofs.KeptGroups.{groups-same, groups-kept, groups-step}
 use Rattle.session_run.proofs.Single.{single-same, single-turned}
 use Rattle.session_run.proofs.Steps.{stopped-same}
@@ -44,7 +44,7 @@ parts-moved old new kept L M stand driver same due single tokens given = record 
     none_due = due stand.none_due;
     single = single stand.single;
     numbered = stand.numbered ∙ sym given;
-    tokens = are_held-kept (by_number kept) old new stand.tokens tokens;
+    tokens = are_held-kept (by_number kept) (ops_in old) (ops_in new) stand.tokens tokens;
     groups = groups-kept kept kept L M stand.groups (groups-same kept) same;
   };
 }

@@ -23,7 +23,7 @@ use Rattle.driver_core.proofs.Owned.{owned-slot}
 use Rattle.driver_core.proofs.Tokens.{held-slot}
 use Rattle.uring_driver.proofs.Steps.{below-test, past-test}
 use Rattle.session_run.specs.declared.session.Session.{Session}
-use Rattle.session_run.specs.Token.{token_at, by_number}
+use Rattle.driver_core.specs.Tokens.{token_at, by_number}
 use Rattle.session_run.specs.Session.{SessionStands}
 use Rattle.event_text.proofs.TextFields.{and-true}
 use Rattle.event_text.proofs.TextHex.{false-from}

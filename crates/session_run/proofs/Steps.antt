@@ -34,7 +34,7 @@ use Rattle.driver_core.specs.declared.op.Op.{Op}
 use Rattle.driver_core.specs.Answers.{IsUnder}
 use Rattle.uring_driver.specs.declared.uring.IoUringDriver.{IoUringDriver}
 use Rattle.uring_driver.specs.Uring.{due_in, given_by}
-use Rattle.uring_driver.specs.Op.{number_of, KeepsTokens, DropsToken}
+use Rattle.uring_driver.specs.Op.{number_of, KeepsTokens, DropsToken, ops_in}
 use Rattle.driver_core.specs.Slot.{number_at}
 use Rattle.ring_core.specs.Step.{step, look_reply}
 use Rattle.uring_driver.specs.Submitted.{AddsTo, WhyRefused, SubmitRefused}
@@ -47,9 +47,9 @@ use Rattle.driver_core.specs.declared.op.SubmitFault.{SubmitFault}
 use Rattle.ring_core.specs.declared.request.Request.{Request}
 use Rattle.uring_driver.specs.Stands.{Stands, Answers}
 use Rattle.session_run.specs.declared.session.Session.{Session}
-use Rattle.session_run.specs.Token.{token_at, by_number, KeepsGroups}
+use Rattle.driver_core.specs.Tokens.{token_at, by_number, KeepsGroups}
 use Rattle.session_run.specs.Session.{AreHeld, AreSingle, HasGroups, SessionStands, SessionAnswers, StepsFor}
-use Rattle.session_run.proofs.KeptTokens.{are_held-kept, are_held-taken, are_held-added}
+use Rattle.driver_core.proofs.KeptTokens.{are_held-kept, are_held-taken, are_held-added}
 use Rattle.session_run.proofs.KeptGroups.{SameTokens, groups-kept, groups-step, groups-submitted}
 use Rattle.session_run.proofs.Single.{single-kept}
 
@@ -65,7 +65,7 @@ stands-beside old new L M stands tokens groups driver due single kept given = re
   single = single stands.single;
   numbered = ap (λ items. length items) tokens ∙ stands.numbered ∙ sym given;
   tokens = subst (λ items. AreHeld items new.driver) (sym tokens)
-      (are_held-kept (by_number old.tokens) old.driver new.driver stands.tokens kept);
+      (are_held-kept (by_number old.tokens) (ops_in old.driver) (ops_in new.driver) stands.tokens kept);
   groups = groups;
 }
 
@@ -174,7 +174,7 @@ answers-taken old new L n op event reply stands there tokens groups plain taken 
     single = single stands.single;
     numbered = ap (λ items. length items) tokens ∙ length-amended (λ token. None) (by_number old.tokens) n ∙ stands.numbered ∙ sym given;
     tokens = subst (λ items. AreHeld items new.driver) (sym tokens)
-        (are_held-taken (by_number old.tokens) old.driver new.driver n op there stands.tokens taken);
+        (are_held-taken (by_number old.tokens) (ops_in old.driver) (ops_in new.driver) n op there stands.tokens taken);
     groups = groups-kept old.tokens new.tokens L (step L event).0 stands.groups groups (groups-step L event plain);
   };
 }
@@ -197,7 +197,7 @@ answers-added old new L op request under reply stands tokens groups adds due sin
     numbered = ap (λ items. length items) tokens ∙ length-added (by_number old.tokens) (Some op)
         ∙ ap (λ k. k + 1) stands.numbered ∙ sym adds.next;
     tokens = subst (λ items. AreHeld items new.driver) (sym tokens)
-        (are_held-added (by_number old.tokens) old.driver new.driver op stands.numbered stands.tokens adds);
+        (are_held-added (by_number old.tokens) (ops_in old.driver) (ops_in new.driver) op stands.numbered stands.tokens adds);
     groups = groups-kept old.tokens new.tokens L (step L (Submit request under)).0 stands.groups groups (groups-submitted L request under);
   };
 }

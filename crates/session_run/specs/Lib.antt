@@ -1,4 +1,3 @@
-pub mod Token
 pub mod Session
 pub mod Submission
 pub mod Executed

@@ -14,15 +14,15 @@ use Rattle.driver_core.specs.declared.op.Op.{Op}
 use Rattle.uring_driver.specs.declared.uring.IoUringDriver.{IoUringDriver}
 use Rattle.uring_driver.specs.Holding.{user_count}
 use Rattle.uring_driver.specs.Uring.{given_by, due_in, holding_in}
-use Rattle.uring_driver.specs.Op.{Holds, number_of}
+use Rattle.uring_driver.specs.Op.{ops_in}
 use Rattle.uring_driver.specs.Stands.{Stands}
 use Rattle.session_run.specs.declared.session.Session.{Session}
-use Rattle.session_run.specs.declared.tokens.Tokens.{Tokens}
-use Rattle.session_run.specs.Token.{token_at, by_number, cancellers_in, handles_in}
+use Rattle.driver_core.specs.declared.tokens.Tokens.{Tokens}
+use Rattle.driver_core.specs.Tokens.{by_number, cancellers_in, handles_in, AreHeld as AreHeldIn}
 
 -- The tokens are those that the driver holds, each under its number.
 abbrev pub AreHeld : List (Option Op) → IoUringDriver RingView Buf → Type 0
-AreHeld tokens driver = (n : ℕ) (op : Op) → (token_at tokens n ≡ Some op) ↔ (Holds driver op × (number_of op ≡ n))
+AreHeld tokens driver = AreHeldIn tokens (ops_in driver)
 
 -- The driver of a session.
 abbrev pub driver_in : Session → IoUringDriver RingView Buf

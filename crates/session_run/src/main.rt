@@ -7,7 +7,6 @@ pub mod generated;
 mod input;
 mod output;
 pub mod session;
-pub mod tokens;
 pub mod top;
 mod usage;
 pub mod wake;

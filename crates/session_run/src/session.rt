@@ -17,38 +17,17 @@ ghost use Rattle.ring_core.specs.declared.ledger.Event.TheVariants.{Give, Feed, 
 ghost use Rattle.session_run.specs.Session.{AreParts, PartsStand, SessionStands, SessionAnswers, StepsFor, TakesNoMemory, driver_in};
 ghost use Rattle.session_run.specs.Executed.{reply_to, AnswersRefusal};
 
-use crate::tokens::Tokens;
+use driver_core::{RunError, Tokens};
 use rent_buf::{Buf, Held, HeldBuf, OutOfMemory, VecBuf};
 use ring_core::{
     Event, ExecRefusal, HandleKind, Look, MOST_HANDLES, MemRing, Refusal, Reply, Request, SharedFd,
     Told, WorldError,
 };
-use std::alloc::{AllocError, Global};
-use thiserror::Error;
+use std::alloc::Global;
 use uring_driver::{Driver, Executed, IoUringDriver, MOST_GIVEN, PollOp};
 
 mod groups;
 mod submission;
-
-/// Why a run gave no replies. (not in monoio)
-#[derive(Clone, Copy, Debug, PartialEq, Eq, Error)]
-pub enum RunError {
-    /// Memory ran out.
-    #[error("OutOfMemory")]
-    OutOfMemory,
-}
-
-impl From<OutOfMemory> for RunError {
-    fn from(_: OutOfMemory) -> RunError {
-        RunError::OutOfMemory
-    }
-}
-
-impl From<AllocError> for RunError {
-    fn from(_: AllocError) -> RunError {
-        RunError::OutOfMemory
-    }
-}
 
 /// A driver over the ring in memory, which events step. It keeps the token of each operation that isn't returned, each canceller and
 /// each cancel handle, by number. (not in monoio)

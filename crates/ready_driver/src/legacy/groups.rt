@@ -76,6 +76,7 @@ impl<I: NonBlock, B: IoBufMut + Drop> LegacyDriver<I, B> {
         ensures marked { OnOk result (self.new.members ≡ cancels self.old.members c) }
         ensures asks { IfOk result (λ canceling.
             asking_in self.new ≡ asks_each self.old.members (asking_in self.old) canceling.1) }
+        ensures untreated { self.new.untreated ≡ self.old.untreated }
         ensures tokens { KeepsTokens self.old self.new }
         ensures requests { KeepsRequests self.old self.new }
         ensures given { self.new.given ≡ self.old.given }

@@ -1,13 +1,16 @@
 //! Turns and parks of the readiness driver.
-ghost use Rattle.std.specs.Prelude.{◌≡◌, ◌+◌, [], true, None, IfSome};
+ghost use Rattle.std.specs.Prelude.{◌≡◌, ◌+◌, [], true, None, OnOk, OnErr};
 ghost use Rattle.ready_driver.specs.LegacyState.{KeepsRequests};
-ghost use Rattle.ready_driver.specs.LegacyTurns.{LegacyTurns, TurnsBy, ShowsLedger, DrainsFor};
+ghost use Rattle.ready_driver.specs.LegacyTurns.{LegacyTurns, TurnsBy, Treats, ShowsLedger, DrainsFor};
+ghost use Rattle.ready_driver.specs.Registry.{AreKeyed};
+ghost use Rattle.ready_driver.specs.Reports.{reports_in};
+ghost use Rattle.ready_driver.specs.Turns.{AreReported};
 
 use crate::legacy::LegacyDriver;
 use crate::non_block::{NonBlock, NonBlockError, Reports};
 use crate::registry::Registry;
 use driver_core::{Driver, Parked, Stop, Turned};
-use rent_buf::{IoBufMut, NumList};
+use rent_buf::{IoBufMut, NumList, OutOfMemory};
 use std::mem;
 use std::sync::Wait;
 use std::sync::ledger::Ledger;
@@ -30,10 +33,11 @@ impl<I: NonBlock, B: IoBufMut + Drop> Driver for LegacyDriver<I, B> {
 
     ghost legacy = { true };
 
-    /// It asks the object for reports and doesn't wait. It reaps and closes nothing. Where the object fails, or memory runs out, no report
-    /// is treated, and the tasks of canceled operations are named by the next turn. (monoio: `submit`)
+    /// It treats the reports that are untreated, asks the object for reports without a wait, and treats those that came. It reaps and
+    /// closes nothing. Where the object fails, or memory runs out, it stops and names nobody: the next turn names those tasks that it woke
+    /// and those of canceled operations, and treats the reports that it didn't treat, so that none is lost. (monoio: `submit`)
     fn submit(&mut self) -> Turned {
-        let stop = collect(&mut self.registry, &mut self.reports, &mut self.asked);
+        let stop = collect(&mut self.registry, &mut self.untreated, &mut self.asked);
         let mut woken = Vec::new(self.alloc);
         if stop.is_none() {
             mem::swap(&mut woken, &mut self.asked);
@@ -47,7 +51,7 @@ impl<I: NonBlock, B: IoBufMut + Drop> Driver for LegacyDriver<I, B> {
     }
 
     /// The sleeper makes its steps first, whatever the turn behind them does, and waits a millisecond at most. It does not wait where a
-    /// canceled operation is to be named. (monoio: `park`)
+    /// task is to be named. (monoio: `park`)
     fn park<P: Ledger, D: Ledger, T: Wait + Clock>(
         &mut self,
         rt: &T,
@@ -75,24 +79,50 @@ impl<I: NonBlock, B: IoBufMut + Drop> Driver for LegacyDriver<I, B> {
     }
 }
 
-// Asks the object for reports, and treats them: the tasks that they wake join those of canceled operations. It answers why it can't, and
-// then nothing joined.
+// Treats the reports that are untreated, asks the object for reports, and treats those that came: the tasks that they wake join those that
+// are to be named. It answers why it stopped, if it did: what it didn't treat stays untreated.
 fn collect<I: NonBlock>(
     registry: &mut Registry<I>,
-    reports: &mut Reports,
-    asked: &mut Vec<u64>,
+    untreated: &mut Reports,
+    tasks: &mut Vec<u64>,
 ) -> Option<Stop>
-    ensures does { TurnsBy I.view I.tells I.reporting I.memory registry.old registry.new asked.old.items asked.new.items result }
-    ensures same { IfSome result (λ stop. asked.new.items ≡ asked.old.items) }
+    ensures does { TurnsBy I.view I.tells I.reporting I.memory
+        (record { handling = registry.old; untreated = untreated.old; tasks = tasks.old.items })
+        (record { handling = registry.new; untreated = untreated.new; tasks = tasks.new.items }) result }
+    ensures table { registry.new.table ≡ registry.old.table }
 {
-    reports.clear();
-    match registry.wait(Some(0), reports) {
+    match treat(registry, untreated, tasks) {
+        Ok(()) => {}
+        Err(_) => return Some(Stop::OutOfMemory),
+    }
+    match registry.wait(Some(0), untreated) {
         Ok(()) => {}
         Err(NonBlockError::Fault) => return Some(Stop::RingFault),
         Err(NonBlockError::OutOfMemory) => return Some(Stop::OutOfMemory),
     }
-    match registry.report(reports, asked) {
+    match treat(registry, untreated, tasks) {
         Ok(()) => None,
         Err(_) => Some(Stop::OutOfMemory),
     }
+}
+
+// Treats the reports that are untreated: none is from then on. If memory runs out, nothing changes.
+fn treat<I: NonBlock>(
+    registry: &mut Registry<I>,
+    untreated: &mut Reports,
+    tasks: &mut Vec<u64>,
+) -> Result<(), OutOfMemory>
+    ensures ok { OnOk result (Treats
+        (record { handling = registry.old; untreated = untreated.old; tasks = tasks.old.items }) untreated.old
+        (record { handling = registry.new; untreated = untreated.new; tasks = tasks.new.items })) }
+    ensures io { OnOk result (registry.new.io ≡ registry.old.io) }
+    ensures none { OnOk result (untreated.new ≡ []) }
+    ensures shows { OnOk result (untreated.old ≡ reports_in (I.view registry.old.io).world (I.view registry.old.io).keys →
+        AreKeyed registry.old.table (I.view registry.old.io).keys →
+        AreReported registry.old.table registry.new.records (I.view registry.old.io).world) }
+    ensures err { OnErr result ((registry.new ≡ registry.old) × (untreated.new ≡ untreated.old) × (tasks.new.items ≡ tasks.old.items)) }
+{
+    registry.report(untreated, tasks)?;
+    untreated.clear();
+    Ok(())
 }

@@ -1,5 +1,5 @@
 //! The submission of a request, under a cancel handle or none.
-ghost use Rattle.std.specs.Prelude.{ℕ, Option, ◌≡◌, ◌<◌, IfSome, IfNone, IfOk, OnErr, IsTrue, vec_len, vec_capacity};
+ghost use Rattle.std.specs.Prelude.{ℕ, Option, ◌≡◌, ◌<◌, IfSome, IfNone, IfOk, OnErr, IsTrue};
 ghost use Rattle.rent_buf.specs.Buf.{built};
 ghost use Rattle.ring_core.specs.Request.{named, plain_request};
 ghost use Rattle.ring_core.specs.Ledger.{Ledger, is_under_marked};
@@ -8,6 +8,7 @@ ghost use Rattle.ring_core.specs.declared.ledger.Event.TheVariants.{Submit};
 ghost use Rattle.uring_driver.specs.Uring.{holds_all, given_by, group_count};
 ghost use Rattle.session_run.specs.Session.{SessionStands, SessionAnswers, StepsFor};
 ghost use Rattle.driver_core.specs.Answers.{IsUnder};
+ghost use Rattle.driver_core.specs.Tokens.{HasRoom};
 ghost use Rattle.session_run.specs.Submission.{FindsFor};
 
 use super::{Session, plain_held};
@@ -159,7 +160,7 @@ impl Session {
         requires held { IsTrue (holds_all self.old.driver (named request)) }
         requires made { IfSome group (λ g. g < group_count self.old.driver) }
         requires counter { given_by self.old.driver < MOST_GIVEN }
-        requires room { vec_len self.old.tokens.ops < vec_capacity self.old.tokens.ops }
+        requires room { HasRoom self.old.tokens }
         ensures ok { IfOk result (λ reply. (L : Ledger) (under : Option ℕ) → SessionStands self.old L → IsUnder L group under →
             SessionAnswers L (Submit (plain_request built request) under) reply self.new) }
         ensures err { OnErr result ((L : Ledger) → SessionStands self.old L → SessionStands self.new L) }

@@ -1,6 +1,6 @@
 // What the program tells a person, and the number with which it ends.
 use super::*;
-use crate::session::RunError;
+use driver_core::RunError;
 use rent_io::Failed;
 use std::alloc::{AllocError, Global};
 use std::cell::Cell;

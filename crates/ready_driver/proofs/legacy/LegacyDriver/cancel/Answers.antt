@@ -13,7 +13,7 @@ use Rattle.ready_driver.proofs.legacy.LegacyDriver.cancel.Goals as goal
 pub invariant_of-self-2 : goal.invariant_of-self-2
 invariant_of-self-2 g c =
     let d : LegacyState g.row.I.Denot g.row.B.Denot =
-    by_parts c.self.inside.registry c.self.inside.ops c.self.inside.members c.self.inside.asked.items in
+    by_parts c.self.inside.registry c.self.inside.ops c.self.inside.members c.self.inside.asked.items c.self.inside.untreated in
     let start : Asking g.row.I.Denot g.row.B.Denot =
     record { handling = d.handling; slots = d.slots.values; asked = c.reserve.new.self.items } in (
       subst (λ (a : Asking g.row.I.Denot g.row.B.Denot). AreNaming a.handling.table a.slots c.ask_each.new.ops.given)
@@ -27,9 +27,9 @@ invariant_of-self-2 g c =
 pub returns-clause-answers : goal.returns-clause-answers
 returns-clause-answers g c =
     let d : LegacyState g.row.I.Denot g.row.B.Denot =
-    by_parts c.self.inside.registry c.self.inside.ops c.self.inside.members c.self.inside.asked.items in
+    by_parts c.self.inside.registry c.self.inside.ops c.self.inside.members c.self.inside.asked.items c.self.inside.untreated in
     let new : LegacyState g.row.I.Denot g.row.B.Denot =
-    by_parts c.ask_each.new.registry c.ask_each.new.ops c.cancel.new.self c.ask_each.new.asked.items in
+    by_parts c.ask_each.new.registry c.ask_each.new.ops c.cancel.new.self c.ask_each.new.asked.items c.self.inside.untreated in
     let start : Asking g.row.I.Denot g.row.B.Denot =
     record { handling = d.handling; slots = d.slots.values; asked = c.reserve.new.self.items } in
     let within = subst (λ (x : LegacyState g.row.I.Denot g.row.B.Denot). c.args.c < group_count x) (sym c.self.view_is) c.requires in

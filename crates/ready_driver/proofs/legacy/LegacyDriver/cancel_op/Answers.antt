@@ -12,7 +12,7 @@ use Rattle.ready_driver.proofs.legacy.LegacyDriver.cancel_op.Goals as goal
 pub invariant_of-self-2 : goal.invariant_of-self-2
 invariant_of-self-2 g c =
     let d : LegacyState g.row.I.Denot g.row.B.Denot =
-    by_parts c.self.inside.registry c.self.inside.ops c.self.inside.members c.self.inside.asked.items in (
+    by_parts c.self.inside.registry c.self.inside.ops c.self.inside.members c.self.inside.asked.items c.self.inside.untreated in (
       subst (λ (x : Handling g.row.I.Denot). AreNaming x.table c.ask-task.new.ops.slots.values c.ask-task.new.ops.given)
           (sym c.ask-task.ensures.waits)
           (subst (λ m. AreNaming d.handling.table m c.ask-task.new.ops.given) (sym c.ask-task.ensures.slots)
@@ -24,9 +24,9 @@ invariant_of-self-2 g c =
 pub returns-clause-answers : goal.returns-clause-answers
 returns-clause-answers g c =
     let d : LegacyState g.row.I.Denot g.row.B.Denot =
-    by_parts c.self.inside.registry c.self.inside.ops c.self.inside.members c.self.inside.asked.items in
+    by_parts c.self.inside.registry c.self.inside.ops c.self.inside.members c.self.inside.asked.items c.self.inside.untreated in
     let new : LegacyState g.row.I.Denot g.row.B.Denot =
-    by_parts c.ask-task.new.registry c.ask-task.new.ops c.self.inside.members c.note.new.asked.items in
+    by_parts c.ask-task.new.registry c.ask-task.new.ops c.self.inside.members c.note.new.asked.items c.self.inside.untreated in
     let op = c.args.op.now in
     let holds : number_at d.slots.values op.key ≡ Some op.number = subst (λ x. Holds x op) (sym c.self.view_is) c.requires in
     rw (← c.self.view_is) (λ memory D stands. stands-asked g.I.NonBlock.view g.B.IoBufMut.buffer d D stands op.key op.number holds new

@@ -19,7 +19,7 @@ use Rattle.ready_driver.proofs.legacy.LegacyDriver.drop_op.Goals as goal
 pub let_go-requires : goal.let_go-requires
 let_go-requires g c =
     let d : LegacyState g.row.I.Denot g.row.B.Denot =
-    by_parts c.self.inside.registry c.self.inside.ops c.self.inside.members c.self.inside.asked.items in
+    by_parts c.self.inside.registry c.self.inside.ops c.self.inside.members c.self.inside.asked.items c.self.inside.untreated in
     subst (λ (x : Handling g.row.I.Denot). CanLeave x.table (listed c.names_at-names.result)) (sym c.unwait.ensures)
     (subst (CanLeave d.handling.table) (sym c.names_at-names.ensures)
     (naming-leave d.handling.table d.slots.values d.given c.key-key.result c.self.invariant.0))
@@ -27,7 +27,7 @@ let_go-requires g c =
 pub invariant_of-self : goal.invariant_of-self
 invariant_of-self g c =
     let d : LegacyState g.row.I.Denot g.row.B.Denot =
-    by_parts c.self.inside.registry c.self.inside.ops c.self.inside.members c.self.inside.asked.items in
+    by_parts c.self.inside.registry c.self.inside.ops c.self.inside.members c.self.inside.asked.items c.self.inside.untreated in
     let key = c.args.op.key in
     let table = c.let_go.ensures.holders
     ∙ ap (λ (x : Handling g.row.I.Denot). without_ops x.table (listed c.names_at-names.result)) c.unwait.ensures
@@ -46,9 +46,9 @@ invariant_of-self g c =
 pub returns-clause-answers : goal.returns-clause-answers
 returns-clause-answers g c =
     let d : LegacyState g.row.I.Denot g.row.B.Denot =
-    by_parts c.self.inside.registry c.self.inside.ops c.self.inside.members c.self.inside.asked.items in
+    by_parts c.self.inside.registry c.self.inside.ops c.self.inside.members c.self.inside.asked.items c.self.inside.untreated in
     let new : LegacyState g.row.I.Denot g.row.B.Denot =
-    by_parts c.let_go.new.self c.drop_op.new.ops c.leave.new.self c.self.inside.asked.items in
+    by_parts c.let_go.new.self c.drop_op.new.ops c.leave.new.self c.self.inside.asked.items c.self.inside.untreated in
     let op = c.args.op in
     let view = g.I.NonBlock.view in
     let buffer = g.B.IoBufMut.buffer in

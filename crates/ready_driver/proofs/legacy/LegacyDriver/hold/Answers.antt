@@ -21,7 +21,7 @@ invariant_of-self g c =
 pub returns-clause-stands : goal.returns-clause-stands
 returns-clause-stands g c =
     let d : LegacyState g.row.I.Denot g.row.B.Denot =
-    by_parts c.self.inside.registry c.self.inside.ops c.self.inside.members c.self.inside.asked.items in
+    by_parts c.self.inside.registry c.self.inside.ops c.self.inside.members c.self.inside.asked.items c.self.inside.untreated in
     let held = subst (λ k. is_users c.args.self.now.handling.table k ≡ true) (sym c.number.ensures) c.requires.held in
     let view = g.I.NonBlock.view in
     rw (← c.self.view_is) (λ D stands. stands-handling view g.B.IoBufMut.buffer d D stands c.hold.new.self

@@ -37,7 +37,7 @@ invariant_of-self g c = (
 pub invariant_of-self-in-Ok-Pending : goal.invariant_of-self-in-Ok-Pending
 invariant_of-self-in-Ok-Pending g c =
     let d : LegacyState g.row.I.Denot g.row.B.Denot =
-    by_parts c.self.inside.registry c.self.inside.ops c.self.inside.members c.self.inside.asked.items in
+    by_parts c.self.inside.registry c.self.inside.ops c.self.inside.members c.self.inside.asked.items c.self.inside.untreated in
     let room = naming-room d.handling.table c.reserve.new.registry.table d.slots.values d.given c.self.invariant.0
     c.reserve.ensures.same.table in
     let polled = subst (λ t. AreNaming t d.slots.values d.given) (sym c.poll_op.ensures.table) room in
@@ -54,7 +54,7 @@ invariant_of-self-in-Ok-Pending g c =
 pub invariant_of-self-in-Err-poll_op : goal.invariant_of-self-in-Err-poll_op
 invariant_of-self-in-Err-poll_op g c =
     let d : LegacyState g.row.I.Denot g.row.B.Denot =
-    by_parts c.self.inside.registry c.self.inside.ops c.self.inside.members c.self.inside.asked.items in
+    by_parts c.self.inside.registry c.self.inside.ops c.self.inside.members c.self.inside.asked.items c.self.inside.untreated in
     let room = naming-room d.handling.table c.reserve.new.registry.table d.slots.values d.given c.self.invariant.0
     c.reserve.ensures.same.table in
     let polled = subst (λ t. AreNaming t d.slots.values d.given) (sym c.poll_op.ensures.table) room in
@@ -67,7 +67,7 @@ invariant_of-self-in-Err-poll_op g c =
 pub let_go-requires : goal.let_go-requires
 let_go-requires g c =
     let d : LegacyState g.row.I.Denot g.row.B.Denot =
-    by_parts c.self.inside.registry c.self.inside.ops c.self.inside.members c.self.inside.asked.items in
+    by_parts c.self.inside.registry c.self.inside.ops c.self.inside.members c.self.inside.asked.items c.self.inside.untreated in
     let room = naming-room d.handling.table c.reserve.new.registry.table d.slots.values d.given c.self.invariant.0
     c.reserve.ensures.same.table in
     let polled = subst (λ t. AreNaming t d.slots.values d.given) (sym c.poll_op.ensures.table) room in
@@ -79,7 +79,7 @@ let_go-requires g c =
 pub invariant_of-self-in-Ok-Ready : goal.invariant_of-self-in-Ok-Ready
 invariant_of-self-in-Ok-Ready g c =
     let d : LegacyState g.row.I.Denot g.row.B.Denot =
-    by_parts c.self.inside.registry c.self.inside.ops c.self.inside.members c.self.inside.asked.items in
+    by_parts c.self.inside.registry c.self.inside.ops c.self.inside.members c.self.inside.asked.items c.self.inside.untreated in
     let key = c.args.op.key in
     let room = naming-room d.handling.table c.reserve.new.registry.table d.slots.values d.given c.self.invariant.0
     c.reserve.ensures.same.table in
@@ -106,9 +106,9 @@ invariant_of-self-in-Ok-Ready g c =
 pub returns-in-Ok-Pending-clause-answers : goal.returns-in-Ok-Pending-clause-answers
 returns-in-Ok-Pending-clause-answers g c =
     let d : LegacyState g.row.I.Denot g.row.B.Denot =
-    by_parts c.self.inside.registry c.self.inside.ops c.self.inside.members c.self.inside.asked.items in
+    by_parts c.self.inside.registry c.self.inside.ops c.self.inside.members c.self.inside.asked.items c.self.inside.untreated in
     let new : LegacyState g.row.I.Denot g.row.B.Denot =
-    by_parts c.poll_op.new.self c.poll_op.new.ops c.self.inside.members c.self.inside.asked.items in
+    by_parts c.poll_op.new.self c.poll_op.new.ops c.self.inside.members c.self.inside.asked.items c.self.inside.untreated in
     let view = g.I.NonBlock.view in
     let buffer = g.B.IoBufMut.buffer in
     let op = c.args.op in
@@ -137,9 +137,9 @@ returns-in-Ok-Pending-clause-answers g c =
 pub returns-in-Ok-Pending-clause-exact : goal.returns-in-Ok-Pending-clause-exact
 returns-in-Ok-Pending-clause-exact g c =
     let d : LegacyState g.row.I.Denot g.row.B.Denot =
-    by_parts c.self.inside.registry c.self.inside.ops c.self.inside.members c.self.inside.asked.items in
+    by_parts c.self.inside.registry c.self.inside.ops c.self.inside.members c.self.inside.asked.items c.self.inside.untreated in
     let new : LegacyState g.row.I.Denot g.row.B.Denot =
-    by_parts c.poll_op.new.self c.poll_op.new.ops c.self.inside.members c.self.inside.asked.items in
+    by_parts c.poll_op.new.self c.poll_op.new.ops c.self.inside.members c.self.inside.asked.items c.self.inside.untreated in
     let view = g.I.NonBlock.view in
     let buffer = g.B.IoBufMut.buffer in
     let op = c.args.op in
@@ -171,9 +171,9 @@ returns-in-Ok-Pending-clause-exact g c =
 pub returns-in-Err-poll_op-clause-answers : goal.returns-in-Err-poll_op-clause-answers
 returns-in-Err-poll_op-clause-answers g c =
     let d : LegacyState g.row.I.Denot g.row.B.Denot =
-    by_parts c.self.inside.registry c.self.inside.ops c.self.inside.members c.self.inside.asked.items in
+    by_parts c.self.inside.registry c.self.inside.ops c.self.inside.members c.self.inside.asked.items c.self.inside.untreated in
     let new : LegacyState g.row.I.Denot g.row.B.Denot =
-    by_parts c.poll_op.new.self c.poll_op.new.ops c.self.inside.members c.self.inside.asked.items in
+    by_parts c.poll_op.new.self c.poll_op.new.ops c.self.inside.members c.self.inside.asked.items c.self.inside.untreated in
     let view = g.I.NonBlock.view in
     let buffer = g.B.IoBufMut.buffer in
     let op = c.args.op in
@@ -187,9 +187,9 @@ returns-in-Err-poll_op-clause-answers g c =
 pub returns-in-Ok-Ready-clause-answers : goal.returns-in-Ok-Ready-clause-answers
 returns-in-Ok-Ready-clause-answers g c =
     let d : LegacyState g.row.I.Denot g.row.B.Denot =
-    by_parts c.self.inside.registry c.self.inside.ops c.self.inside.members c.self.inside.asked.items in
+    by_parts c.self.inside.registry c.self.inside.ops c.self.inside.members c.self.inside.asked.items c.self.inside.untreated in
     let new : LegacyState g.row.I.Denot g.row.B.Denot =
-    by_parts c.let_go.new.self c.poll_op.new.ops c.leave.new.self c.self.inside.asked.items in
+    by_parts c.let_go.new.self c.poll_op.new.ops c.leave.new.self c.self.inside.asked.items c.self.inside.untreated in
     let view = g.I.NonBlock.view in
     let buffer = g.B.IoBufMut.buffer in
     let op = c.args.op in
@@ -226,7 +226,7 @@ returns-in-Err-clause-ends g c =
 pub returns-in-Ok-Pending-clause-ends : goal.returns-in-Ok-Pending-clause-ends
 returns-in-Ok-Pending-clause-ends g c =
     let d : LegacyState g.row.I.Denot g.row.B.Denot =
-    by_parts c.self.inside.registry c.self.inside.ops c.self.inside.members c.self.inside.asked.items in
+    by_parts c.self.inside.registry c.self.inside.ops c.self.inside.members c.self.inside.asked.items c.self.inside.untreated in
     let same = c.reserve.ensures.same in
     let room = c.reserve.new.registry in
     let slot = get d.slots.values c.args.op.key in
@@ -258,7 +258,7 @@ returns-in-Err-poll_op-clause-ends g c =
 pub returns-in-Ok-Ready-clause-ends : goal.returns-in-Ok-Ready-clause-ends
 returns-in-Ok-Ready-clause-ends g c =
     let d : LegacyState g.row.I.Denot g.row.B.Denot =
-    by_parts c.self.inside.registry c.self.inside.ops c.self.inside.members c.self.inside.asked.items in
+    by_parts c.self.inside.registry c.self.inside.ops c.self.inside.members c.self.inside.asked.items c.self.inside.untreated in
     let same = c.reserve.ensures.same in
     let room = c.reserve.new.registry in
     let op = c.args.op in

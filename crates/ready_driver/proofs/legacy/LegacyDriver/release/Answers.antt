@@ -20,7 +20,7 @@ invariant_of-self g c =
 pub returns-clause-answers : goal.returns-clause-answers
 returns-clause-answers g c =
     let d : LegacyState g.row.I.Denot g.row.B.Denot =
-    by_parts c.self.inside.registry c.self.inside.ops c.self.inside.members c.self.inside.asked.items in
+    by_parts c.self.inside.registry c.self.inside.ops c.self.inside.members c.self.inside.asked.items c.self.inside.untreated in
     let held = subst (λ k. is_users c.args.self.now.handling.table k ≡ true) (sym c.number.ensures) c.requires in
     rw (← c.number.ensures) (
     rw (← c.self.view_is) (λ memory D stands. stands-releases g.I.NonBlock.view g.B.IoBufMut.buffer g.I.NonBlock.tells

@@ -21,7 +21,7 @@ use Rattle.ready_driver.proofs.legacy.LegacyDriver.submit_with.Goals as goal
 pub returns-then-is_canceled-clause-answers : goal.returns-then-is_canceled-clause-answers
 returns-then-is_canceled-clause-answers g c =
     let d : LegacyState g.row.I.Denot g.row.B.Denot =
-    by_parts c.self.inside.registry c.self.inside.ops c.self.inside.members c.self.inside.asked.items in
+    by_parts c.self.inside.registry c.self.inside.ops c.self.inside.members c.self.inside.asked.items c.self.inside.untreated in
     let user = subst (λ (x : LegacyState g.row.I.Denot g.row.B.Denot). holds_all x.handling.table (named c.args.request) ≡ true)
     (sym c.self.view_is) c.requires.held in
     let within = subst (λ (x : LegacyState g.row.I.Denot g.row.B.Denot). IfSome c.args.under (λ n. n < group_count x)) (sym c.self.view_is)
@@ -32,11 +32,11 @@ returns-then-is_canceled-clause-answers g c =
 pub returns-in-Err-clause-stands : goal.returns-in-Err-clause-stands
 returns-in-Err-clause-stands g c =
     let d : LegacyState g.row.I.Denot g.row.B.Denot =
-    by_parts c.self.inside.registry c.self.inside.ops c.self.inside.members c.self.inside.asked.items in
+    by_parts c.self.inside.registry c.self.inside.ops c.self.inside.members c.self.inside.asked.items c.self.inside.untreated in
     let user = subst (λ (x : LegacyState g.row.I.Denot g.row.B.Denot). holds_all x.handling.table (named c.args.request) ≡ true)
     (sym c.self.view_is) c.requires.held in
     let new : LegacyState g.row.I.Denot g.row.B.Denot =
-    by_parts c.prepare.new.registry c.prepare.new.ops c.prepare.new.members c.self.inside.asked.items in
+    by_parts c.prepare.new.registry c.prepare.new.ops c.prepare.new.members c.self.inside.asked.items c.self.inside.untreated in
     let view = g.I.NonBlock.view in
     rw (← c.self.view_is) (λ memory D stands. stands-unready view g.B.IoBufMut.buffer g.I.NonBlock.tells g.I.NonBlock.memory d D stands
     memory
@@ -48,7 +48,7 @@ returns-in-Err-clause-stands g c =
 pub join-requires : goal.join-requires
 join-requires g c =
     let d : LegacyState g.row.I.Denot g.row.B.Denot =
-    by_parts c.self.inside.registry c.self.inside.ops c.self.inside.members c.self.inside.asked.items in
+    by_parts c.self.inside.registry c.self.inside.ops c.self.inside.members c.self.inside.asked.items c.self.inside.untreated in
     let user = subst (λ (x : LegacyState g.row.I.Denot g.row.B.Denot). holds_all x.handling.table (named c.args.request) ≡ true)
     (sym c.self.view_is) c.requires.held in
     let may = naming-join d.handling.table c.prepare.new.registry.table d.slots.values d.given c.args.request c.self.invariant.0 user
@@ -59,7 +59,7 @@ join-requires g c =
 pub invariant_of-self-2 : goal.invariant_of-self-2
 invariant_of-self-2 g c =
     let d : LegacyState g.row.I.Denot g.row.B.Denot =
-    by_parts c.self.inside.registry c.self.inside.ops c.self.inside.members c.self.inside.asked.items in
+    by_parts c.self.inside.registry c.self.inside.ops c.self.inside.members c.self.inside.asked.items c.self.inside.untreated in
     let prep = c.prepare.new.ops in
     let op = c.submit-op.result in
     let ready : MakesReady g.I.NonBlock.view g.I.NonBlock.tells g.I.NonBlock.memory d.handling (named c.args.request)
@@ -92,7 +92,7 @@ invariant_of-self-2 g c =
 pub returns-clause-answers : goal.returns-clause-answers
 returns-clause-answers g c =
     let d : LegacyState g.row.I.Denot g.row.B.Denot =
-    by_parts c.self.inside.registry c.self.inside.ops c.self.inside.members c.self.inside.asked.items in
+    by_parts c.self.inside.registry c.self.inside.ops c.self.inside.members c.self.inside.asked.items c.self.inside.untreated in
     let user = subst (λ (x : LegacyState g.row.I.Denot g.row.B.Denot). holds_all x.handling.table (named c.args.request) ≡ true)
     (sym c.self.view_is) c.requires.held in
     let within = subst (λ (x : LegacyState g.row.I.Denot g.row.B.Denot). IfSome c.args.under (λ n. n < group_count x)) (sym c.self.view_is)
@@ -118,7 +118,7 @@ returns-clause-answers g c =
     let buffer = g.B.IoBufMut.buffer in
     let puts = c.submit-op.ensures.slots in
     let new : LegacyState g.row.I.Denot g.row.B.Denot =
-    by_parts c.join.new.self c.submit-op.new.ops c.set_key.new.self c.self.inside.asked.items in
+    by_parts c.join.new.self c.submit-op.new.ops c.set_key.new.self c.self.inside.asked.items c.self.inside.untreated in
     rw (← c.self.view_is) (λ memory D stands handle is.
     let shows = g.met.I.NonBlock.memory_tells memory in
     let ops : OpsStand buffer prep D = record {
@@ -143,7 +143,7 @@ returns-clause-request g c =
 pub returns-clause-joins : goal.returns-clause-joins
 returns-clause-joins g c =
     let d : LegacyState g.row.I.Denot g.row.B.Denot =
-    by_parts c.self.inside.registry c.self.inside.ops c.self.inside.members c.self.inside.asked.items in
+    by_parts c.self.inside.registry c.self.inside.ops c.self.inside.members c.self.inside.asked.items c.self.inside.untreated in
     let prep = c.prepare.new.ops in
     let op = c.submit-op.result in
     let ready : MakesReady g.I.NonBlock.view g.I.NonBlock.tells g.I.NonBlock.memory d.handling (named c.args.request)
@@ -167,4 +167,5 @@ returns-clause-joins g c =
           ∙ ap (λ n. insert d.slots.values op.key (record (new_slot prep c.args.request) { serial = n })) c.in-Ok.ensures.given;
       members = members;
       asked = refl;
+      untreated = refl;
     })

@@ -2,9 +2,9 @@ use Rattle.std.proofs.Common.{◌≡◌, Some, None, refl, sym, ◌∙◌, ap, a
 use Rattle.std.proofs.lemmas.Option.{slice_get_within}
 use Rattle.ring_core.specs.Lists.{amended}
 use Rattle.uring_driver.specs.Uring.{given_by, holding_in}
-use Rattle.session_run.specs.Token.{token_at, cancellers_in}
+use Rattle.driver_core.specs.Tokens.{token_at, cancellers_in}
 use Rattle.session_run.proofs.Canceling.{answers-cancels, canceller-at, canceller-made, canceller-none}
-use Rattle.session_run.proofs.KeptTokens.{emptied-none, put-taken}
+use Rattle.driver_core.proofs.KeptTokens.{emptied-none, put-taken}
 use Rattle.session_run.proofs.Refusals.{cause-cancel_all, unrefused-cancel_all}
 use Rattle.session_run.proofs.Single.{single-same}
 use Rattle.session_run.proofs.Steps.{answers-refused, stands-kept}

@@ -3,8 +3,8 @@ use Rattle.rent_buf.specs.Buf.{built}
 use Rattle.ring_core.specs.declared.ledger.Event.TheVariants.{Drop}
 use Rattle.ring_core.specs.declared.ledger.Reply.TheVariants.{Dropped}
 use Rattle.uring_driver.specs.Stands.{Answers}
-use Rattle.session_run.specs.Token.{token_at, by_number}
-use Rattle.session_run.proofs.KeptTokens.{emptied-none}
+use Rattle.driver_core.specs.Tokens.{token_at, by_number}
+use Rattle.driver_core.proofs.KeptTokens.{emptied-none}
 use Rattle.session_run.proofs.Refusals.{cause-drop, no_token-lacks}
 use Rattle.session_run.proofs.Single.{single-dropped}
 use Rattle.session_run.proofs.Steps.{answers-refused, answers-taken}

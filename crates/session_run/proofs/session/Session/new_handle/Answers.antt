@@ -1,6 +1,6 @@
 use Rattle.std.proofs.Common.{◌++◌, [], ◌∷◌, refl, ◌∙◌, ap, arith}
 use Rattle.std.proofs.lemmas.Option.{slice_get_within}
-use Rattle.session_run.specs.Token.{handles_in}
+use Rattle.driver_core.specs.Tokens.{handles_in}
 use Rattle.session_run.proofs.Canceling.{answers-handle, canceller-at, canceller-made, canceller-none}
 use Rattle.session_run.proofs.KeptGroups.{tokens-same}
 use Rattle.session_run.proofs.Refusals.{cause-new_handle, unrefused-new_handle}

@@ -5,8 +5,8 @@ use Rattle.ring_core.specs.Request.{held_of, plain_request}
 use Rattle.ring_core.specs.declared.ledger.Event.TheVariants.{Poll}
 use Rattle.ring_core.specs.declared.ledger.Reply.TheVariants.{Pending, Handed}
 use Rattle.uring_driver.specs.Stands.{Answers}
-use Rattle.session_run.specs.Token.{token_at, by_number}
-use Rattle.session_run.proofs.KeptTokens.{emptied-none, token_at-emptied, put-taken}
+use Rattle.driver_core.specs.Tokens.{token_at, by_number}
+use Rattle.driver_core.proofs.KeptTokens.{emptied-none, token_at-emptied, put-taken}
 use Rattle.session_run.proofs.Refusals.{cause-poll, no_token-lacks}
 use Rattle.session_run.proofs.Single.{single-same, single-polled}
 use Rattle.session_run.proofs.KeptGroups.{groups-then}

@@ -9,7 +9,7 @@ use Rattle.ready_driver.proofs.legacy.memory.LegacyDriver+MemIo+B.end.Goals as g
 pub returns-clause-answers : goal.returns-clause-answers
 returns-clause-answers g c =
     let d : LegacyState Memory g.row.B.Denot =
-    by_parts c.self.inside.registry c.self.inside.ops c.self.inside.members c.self.inside.asked.items in
+    by_parts c.self.inside.registry c.self.inside.ops c.self.inside.members c.self.inside.asked.items c.self.inside.untreated in
     let held = subst (λ (x : LegacyState Memory g.row.B.Denot). is_users x.handling.table c.args.h ≡ true) (sym c.self.view_is)
     c.requires.held in
     rw (← c.self.view_is) (λ D stands. stands-ends g.B.IoBufMut.buffer d D stands c.args.h held c.end.new.self

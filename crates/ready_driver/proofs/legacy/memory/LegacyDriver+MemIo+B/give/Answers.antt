@@ -10,7 +10,7 @@ use Rattle.ready_driver.proofs.legacy.memory.LegacyDriver+MemIo+B.give.Goals as 
 pub invariant_of-self : goal.invariant_of-self
 invariant_of-self g c =
     let d : LegacyState Memory g.row.B.Denot =
-    by_parts c.self.inside.registry c.self.inside.ops c.self.inside.members c.self.inside.asked.items in (
+    by_parts c.self.inside.registry c.self.inside.ops c.self.inside.members c.self.inside.asked.items c.self.inside.untreated in (
       naming-adopted c.give.result memory_view true true d.handling c.give.new.self (with_created d.handling c.args.kind)
           (length d.handling.io.world) d.slots.values d.given
           (subst (λ (x : LegacyState Memory g.row.B.Denot). is_known x.handling.table (length x.handling.io.world) ≡ false)
@@ -22,7 +22,7 @@ invariant_of-self g c =
 pub returns-clause-answers : goal.returns-clause-answers
 returns-clause-answers g c =
     let d : LegacyState Memory g.row.B.Denot =
-    by_parts c.self.inside.registry c.self.inside.ops c.self.inside.members c.self.inside.asked.items in
+    by_parts c.self.inside.registry c.self.inside.ops c.self.inside.members c.self.inside.asked.items c.self.inside.untreated in
     let counter = subst (λ (x : LegacyState Memory g.row.B.Denot). length x.handling.io.world < MOST_HANDLES) (sym c.self.view_is)
     c.requires.counter in
     rw (← c.self.view_is) (gives-all g.B.IoBufMut.buffer c.give.result d c.args.kind c.give.new.self counter c.give.ensures.number

@@ -1,20 +1,15 @@
--- Which tokens a session keeps after each call of its driver.
+-- Which tokens are kept by number after each call of a driver.
 use Rattle.std.proofs.Common.{◌≡◌, ◌≢◌, ◌≤◌, ℕ, zero, suc, List, [], ◌∷◌, ◌++◌, length, Option, None, Some, ◌⊎◌, inl, inr, refl, sym, ◌∙◌}
 use Rattle.std.proofs.Common.{ap, subst, arith}
-use Rattle.rent_buf.specs.declared.plain.Buf.{Buf}
-use Rattle.ring_core.specs.Ring.{RingView}
 use Rattle.ring_core.specs.Lists.{amended}
 use Rattle.driver_core.specs.declared.op.Op.{Op}
-use Rattle.uring_driver.specs.declared.uring.IoUringDriver.{IoUringDriver}
 use Rattle.ring_core.proofs.Numbers.{same-or-not}
-use Rattle.uring_driver.specs.Uring.{given_by}
-use Rattle.uring_driver.specs.Op.{Holds, number_of, KeepsTokens, DropsToken}
-use Rattle.uring_driver.specs.Submitted.{AddsTo}
-use Rattle.session_run.specs.Token.{token_at}
-use Rattle.session_run.specs.Session.{AreHeld}
+use Rattle.driver_core.specs.Op.{Holds, number_of, KeepsTokens, DropsToken, AddsToken}
+use Rattle.driver_core.specs.Ops.{Ops}
+use Rattle.driver_core.specs.Tokens.{token_at, AreHeld}
 
 -- A token under its number stays where the driver keeps all tokens.
-pub are_held-kept : (tokens : List (Option Op)) (old new : IoUringDriver RingView Buf) → AreHeld tokens old → KeepsTokens old new
+pub are_held-kept : {B : Type 0} (tokens : List (Option Op)) (old new : Ops B) → AreHeld tokens old → KeepsTokens old new
     → AreHeld tokens new
 are_held-kept tokens old new held kept n op = (
   λ there. let h = (held n op).0 there in ((kept op).0 h.0, h.1),
@@ -71,7 +66,7 @@ token_at-cases (token ∷ tokens) op other (suc n) there =
     elim (token_at-cases tokens op other n there) [ inl before ↦ inl before | inr last ↦ inr (ap suc last.0, last.1) ]
 
 -- The tokens after one was handed over: its place is empty, and the driver holds the others.
-pub are_held-taken : (tokens : List (Option Op)) (old new : IoUringDriver RingView Buf) (n : ℕ) (op : Op) → token_at tokens n ≡ Some op
+pub are_held-taken : {B : Type 0} (tokens : List (Option Op)) (old new : Ops B) (n : ℕ) (op : Op) → token_at tokens n ≡ Some op
     → AreHeld tokens old → DropsToken old new op → AreHeld (amended tokens n (λ token. None)) new
 are_held-taken tokens old new n op there held taken m other = elim (same-or-not m n) [
   | inl same ↦ (
@@ -89,8 +84,8 @@ are_held-taken tokens old new n op there held taken m other = elim (same-or-not 
 ]
 
 -- The tokens after a submission: the new one stands at their end.
-pub are_held-added : (tokens : List (Option Op)) (old new : IoUringDriver RingView Buf) (op : Op) → length tokens ≡ given_by old
-    → AreHeld tokens old → AddsTo old new op → AreHeld (tokens ++ Some op ∷ []) new
+pub are_held-added : {B : Type 0} (tokens : List (Option Op)) (old new : Ops B) (op : Op) → length tokens ≡ old.given
+    → AreHeld tokens old → AddsToken old new op → AreHeld (tokens ++ Some op ∷ []) new
 are_held-added tokens old new op count held adds n other = (
   λ found. elim (token_at-cases tokens op other n found) [
     | inl before ↦ (let was = (held n other).0 before in (adds.kept other was.0, was.1))

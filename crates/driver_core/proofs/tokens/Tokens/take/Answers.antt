@@ -1,7 +1,7 @@
 use Rattle.std.proofs.Common.{arith, sym}
 use Rattle.ring_core.proofs.Amended.{amended-at, amended-past}
-use Rattle.session_run.proofs.KeptTokens.{token_at-past}
-use Rattle.session_run.proofs.tokens.Tokens.take.Goals as goal
+use Rattle.driver_core.proofs.KeptTokens.{token_at-past}
+use Rattle.driver_core.proofs.tokens.Tokens.take.Goals as goal
 
 pub returns-then-n-len-clause-rest : goal.returns-then-n-len-clause-rest
 returns-then-n-len-clause-rest c = amended-at _ _ _ c.index_mut.result.now _ (omega arith) c.index_mut.ensures.value c.take.ensures.after

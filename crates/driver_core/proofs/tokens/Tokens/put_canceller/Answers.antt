@@ -1,6 +1,6 @@
 use Rattle.std.proofs.Common.{arith}
 use Rattle.ring_core.proofs.Amended.{amended-at, amended-past}
-use Rattle.session_run.proofs.tokens.Tokens.put_canceller.Goals as goal
+use Rattle.driver_core.proofs.tokens.Tokens.put_canceller.Goals as goal
 
 pub returns-then-c-len-clause-put : goal.returns-then-c-len-clause-put
 returns-then-c-len-clause-put c = amended-at _ _ _ c.index_mut.result.now _ (omega arith) c.index_mut.ensures.value c.replace.ensures.after

@@ -1,6 +1,6 @@
 use Rattle.std.proofs.Common.{arith}
 use Rattle.ring_core.proofs.Amended.{amended-at, amended-past}
-use Rattle.session_run.proofs.tokens.Tokens.put.Goals as goal
+use Rattle.driver_core.proofs.tokens.Tokens.put.Goals as goal
 
 pub returns-in-None-clause-items : goal.returns-in-None-clause-items
 returns-in-None-clause-items c = λ empty. amended-at _ _ _ c.index_mut.result.now _ (omega arith) c.index_mut.ensures.value

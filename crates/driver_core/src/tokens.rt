@@ -1,15 +1,16 @@
-//! What a session keeps by number: the tokens of its operations, its cancellers and its cancel handles.
-ghost use Rattle.std.specs.Prelude.{◌≡◌, ◌<◌, ◌++◌, [], ◌∷◌, None, Some, MatchOption, OnOk, OnErr, IfOk};
-ghost use Rattle.std.specs.Prelude.{length, slice_get, vec_len, vec_capacity};
+//! What the user of a driver keeps by number: the tokens of its operations, its cancellers and its cancel handles.
+ghost use Rattle.std.specs.Prelude.{◌≡◌, ◌++◌, [], ◌∷◌, None, Some, MatchOption, OnOk, OnErr, IfOk};
+ghost use Rattle.std.specs.Prelude.{length, slice_get};
 ghost use Rattle.ring_core.specs.Lists.{amended};
-ghost use Rattle.session_run.specs.Token.{token_at, by_number, cancellers_in, handles_in, KeepsGroups};
+ghost use Rattle.driver_core.specs.Tokens.{token_at, by_number, cancellers_in, handles_in, KeepsGroups, HasRoom, HasCancellerRoom};
 
+use crate::members::{CancelHandle, Canceller};
+use crate::op::Op;
 use rent_buf::OutOfMemory;
 use std::alloc::Global;
-use uring_driver::{CancelHandle, Canceller, Op};
 
-/// What a session that was taken apart keeps: the tokens of its operations, its cancellers and its cancel handles, each under its number.
-/// They can't be made, copied or dropped outside: `Session::from_parts` spends them. (not in monoio)
+/// The tokens of a driver's operations, its cancellers and its cancel handles, each under its number, as whoever answers events about
+/// numbers keeps them. They can't be copied, and `forget` spends them. (not in monoio)
 pub struct Tokens {
     // A place for each operation that was submitted, by its number: with its token, if it was neither returned nor dropped.
     ops: Vec<Option<Op>>,
@@ -20,8 +21,8 @@ pub struct Tokens {
 }
 
 impl Tokens {
-    // No tokens, no cancellers and no cancel handles. It takes no memory.
-    pub(crate) fn new(alloc: Global) -> Tokens
+    /// No tokens, no cancellers and no cancel handles. It takes no memory. (not in monoio)
+    pub fn new(alloc: Global) -> Tokens
         ensures ops { by_number result ≡ [] }
         ensures cancellers { cancellers_in result ≡ [] }
         ensures handles { handles_in result ≡ [] }
@@ -33,9 +34,9 @@ impl Tokens {
         }
     }
 
-    // Memory for one token more.
-    pub(crate) fn reserve_one(&mut self) -> Result<(), OutOfMemory>
-        ensures room { OnOk result (vec_len self.new.ops < vec_capacity self.new.ops) }
+    /// Memory for one token more. (not in monoio)
+    pub fn reserve_one(&mut self) -> Result<(), OutOfMemory>
+        ensures room { OnOk result (HasRoom self.new) }
         ensures items { by_number self.new ≡ by_number self.old }
         ensures groups { KeepsGroups self.old self.new }
     {
@@ -43,17 +44,17 @@ impl Tokens {
         Ok(())
     }
 
-    // The token of the next number.
-    pub(crate) fn add(&mut self, op: Op)
-        requires { vec_len self.old.ops < vec_capacity self.old.ops }
+    /// The token of the next number. (not in monoio)
+    pub fn add(&mut self, op: Op)
+        requires { HasRoom self.old }
         ensures items { by_number self.new ≡ by_number self.old ++ Some op ∷ [] }
         ensures groups { KeepsGroups self.old self.new }
     {
         self.ops.push_reserved(Some(op));
     }
 
-    // The token of a number, where there is one.
-    pub(crate) fn of_number(&self, n: usize) -> Option<&Op>
+    /// The token of a number, where there is one. (not in monoio)
+    pub fn of_number(&self, n: usize) -> Option<&Op>
         ensures { MatchOption result (token_at (by_number self.now) n ≡ None) (λ op. token_at (by_number self.now) n ≡ Some op.now) }
     {
         if n < self.ops.len() {
@@ -63,8 +64,8 @@ impl Tokens {
         }
     }
 
-    // Takes the token of a number, where there is one.
-    pub(crate) fn take(&mut self, n: usize) -> Option<Op>
+    /// Takes the token of a number, where there is one. (not in monoio)
+    pub fn take(&mut self, n: usize) -> Option<Op>
         ensures value { result ≡ token_at (by_number self.old) n }
         ensures rest { by_number self.new ≡ amended (by_number self.old) n (λ token. None) }
         ensures groups { KeepsGroups self.old self.new }
@@ -76,8 +77,8 @@ impl Tokens {
         }
     }
 
-    // Puts a token back under its number.
-    pub(crate) fn put(&mut self, n: usize, op: Op)
+    /// Puts a token back under its number. (not in monoio)
+    pub fn put(&mut self, n: usize, op: Op)
         ensures items { token_at (by_number self.old) n ≡ None → by_number self.new ≡ amended (by_number self.old) n (λ token. Some op) }
         ensures groups { KeepsGroups self.old self.new }
     {
@@ -91,9 +92,9 @@ impl Tokens {
         }
     }
 
-    // Memory for one canceller more.
-    pub(crate) fn reserve_canceller(&mut self) -> Result<(), OutOfMemory>
-        ensures room { OnOk result (vec_len self.new.cancellers < vec_capacity self.new.cancellers) }
+    /// Memory for one canceller more. (not in monoio)
+    pub fn reserve_canceller(&mut self) -> Result<(), OutOfMemory>
+        ensures room { OnOk result (HasCancellerRoom self.new) }
         ensures ops { by_number self.new ≡ by_number self.old }
         ensures groups { KeepsGroups self.old self.new }
     {
@@ -101,9 +102,9 @@ impl Tokens {
         Ok(())
     }
 
-    // The canceller of the next number, and that number.
-    pub(crate) fn add_canceller(&mut self, canceller: Canceller) -> u64
-        requires { vec_len self.old.cancellers < vec_capacity self.old.cancellers }
+    /// The canceller of the next number, and that number. (not in monoio)
+    pub fn add_canceller(&mut self, canceller: Canceller) -> u64
+        requires { HasCancellerRoom self.old }
         ensures number { result ≡ length (cancellers_in self.old) }
         ensures added { cancellers_in self.new ≡ cancellers_in self.old ++ Some canceller ∷ [] }
         ensures ops { by_number self.new ≡ by_number self.old }
@@ -114,8 +115,8 @@ impl Tokens {
         number
     }
 
-    // The canceller of a number, where there is one.
-    pub(crate) fn canceller(&self, c: usize) -> Option<&Canceller>
+    /// The canceller of a number, where there is one. (not in monoio)
+    pub fn canceller(&self, c: usize) -> Option<&Canceller>
         ensures { MatchOption result (token_at (cancellers_in self.now) c ≡ None)
             (λ canceller. token_at (cancellers_in self.now) c ≡ Some canceller.now) }
     {
@@ -126,8 +127,8 @@ impl Tokens {
         }
     }
 
-    // Takes the canceller of a number, where there is one.
-    pub(crate) fn take_canceller(&mut self, c: usize) -> Option<Canceller>
+    /// Takes the canceller of a number, where there is one. (not in monoio)
+    pub fn take_canceller(&mut self, c: usize) -> Option<Canceller>
         ensures value { result ≡ token_at (cancellers_in self.old) c }
         ensures rest { cancellers_in self.new ≡ amended (cancellers_in self.old) c (λ canceller. None) }
         ensures ops { by_number self.new ≡ by_number self.old }
@@ -140,8 +141,8 @@ impl Tokens {
         }
     }
 
-    // Puts a canceller under a number that there is.
-    pub(crate) fn put_canceller(&mut self, c: usize, canceller: Canceller)
+    /// Puts a canceller under a number that there is. (not in monoio)
+    pub fn put_canceller(&mut self, c: usize, canceller: Canceller)
         ensures put { cancellers_in self.new ≡ amended (cancellers_in self.old) c (λ place. Some canceller) }
         ensures ops { by_number self.new ≡ by_number self.old }
         ensures handles { handles_in self.new ≡ handles_in self.old }
@@ -151,8 +152,8 @@ impl Tokens {
         }
     }
 
-    // The cancel handle of the next number, and that number.
-    pub(crate) fn add_handle(&mut self, handle: CancelHandle) -> Result<u64, OutOfMemory>
+    /// The cancel handle of the next number, and that number. (not in monoio)
+    pub fn add_handle(&mut self, handle: CancelHandle) -> Result<u64, OutOfMemory>
         ensures number { IfOk result (λ number. number ≡ length (handles_in self.old)) }
         ensures added { OnOk result (handles_in self.new ≡ handles_in self.old ++ handle ∷ []) }
         ensures ops { by_number self.new ≡ by_number self.old }
@@ -164,15 +165,15 @@ impl Tokens {
         Ok(number)
     }
 
-    // The cancel handle of a number, where there is one.
-    pub(crate) fn handle(&self, n: usize) -> Option<CancelHandle>
+    /// The cancel handle of a number, where there is one. (not in monoio)
+    pub fn handle(&self, n: usize) -> Option<CancelHandle>
         ensures { result ≡ slice_get (handles_in self.now) n }
     {
         self.handles.get(n).copied()
     }
 
-    // Spends all tokens. Their operations stay as they are until their driver goes.
-    pub(crate) fn forget(self) {
+    /// Spends all tokens. Their operations stay as they are until their driver goes. (not in monoio)
+    pub fn forget(self) {
         let Tokens {
             mut ops,
             cancellers: _,
