@@ -17,7 +17,7 @@ pub mod Owned
 pub mod Filling
 pub mod Polling
 pub mod Requests
-pub mod Tokens
+pub mod SlotTokens
 pub mod Trees
 pub mod Joining
 pub mod Membership

@@ -20,7 +20,7 @@ use Rattle.driver_core.specs.declared.slot.Slot.{Slot}
 use Rattle.driver_core.specs.Slot.{is_owned_life, number_if, serial_of}
 use Rattle.driver_core.specs.Slots.{waiting, life_of, life_at}
 use Rattle.driver_core.proofs.Owned.{owned-slot}
-use Rattle.driver_core.proofs.Tokens.{held-slot}
+use Rattle.driver_core.proofs.SlotTokens.{held-slot}
 use Rattle.uring_driver.proofs.Steps.{below-test, past-test}
 use Rattle.session_run.specs.declared.session.Session.{Session}
 use Rattle.driver_core.specs.Tokens.{token_at, by_number}

@@ -44,7 +44,7 @@ use Rattle.uring_driver.specs.Dropped.{DropsOp, DropsSlotOf}
 use Rattle.uring_driver.specs.Op.{Holds}
 use Rattle.driver_core.specs.declared.op.Op.{Op}
 use Rattle.driver_core.specs.Slot.{is_flying}
-use Rattle.driver_core.proofs.Tokens.{held-slot}
+use Rattle.driver_core.proofs.SlotTokens.{held-slot}
 use Rattle.session_run.specs.Session.{AreSingle}
 
 -- A driver that keeps who holds its handles.

@@ -32,7 +32,7 @@ use Rattle.driver_core.proofs.Maps.{put-same, put-other}
 use Rattle.driver_core.proofs.Numbers.{Owner}
 use Rattle.uring_driver.proofs.Entering.{moves-join}
 use Rattle.uring_driver.proofs.Starting.{stands-same}
-use Rattle.driver_core.proofs.Tokens.{held-slot}
+use Rattle.driver_core.proofs.SlotTokens.{held-slot}
 use Rattle.driver_core.proofs.Polling.{ignored-left}
 use Rattle.uring_driver.proofs.Dropping.{stands-leaves, stands-frees, stands-asks}
 use Rattle.uring_driver.proofs.Answering.{LeavesGroup, owned-few}

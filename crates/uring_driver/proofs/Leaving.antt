@@ -30,7 +30,7 @@ use Rattle.driver_core.proofs.Distinct.{apart-by, one-more}
 use Rattle.driver_core.proofs.Holds.{with-other, can-leave, ops-left, ops-handed, len-left, len-handed}
 use Rattle.driver_core.proofs.Maps.{gone-same, gone-other}
 use Rattle.driver_core.proofs.Numbers.{Owner}
-use Rattle.driver_core.proofs.Tokens.{held-slot}
+use Rattle.driver_core.proofs.SlotTokens.{held-slot}
 use Rattle.uring_driver.specs.Holding.{Holding, places, ops_left}
 use Rattle.uring_driver.specs.Making.{made_handed, handed_if}
 use Rattle.uring_driver.specs.Op.{Holds}

@@ -40,7 +40,7 @@ use Rattle.driver_core.specs.declared.op.PollOp.TheVariants as Answer
 use Rattle.driver_core.specs.Slot.{PollsAt}
 use Rattle.driver_core.specs.Answers.{IsOwnRequest}
 use Rattle.driver_core.proofs.Numbers.{Owner, slot-number}
-use Rattle.driver_core.proofs.Tokens.{held-slot, poll-keeps}
+use Rattle.driver_core.proofs.SlotTokens.{held-slot, poll-keeps}
 use Rattle.uring_driver.specs.Op.{Holds, number_of}
 use Rattle.uring_driver.specs.PollOp.{PollsFor, PollsOp, handed_by, IsPending, IsUnreaped, IsUnreapedOp, IsUnreapedPlace}
 use Rattle.uring_driver.specs.Reaps.{FitsQueue}

@@ -15,7 +15,7 @@ use Rattle.driver_core.specs.declared.op.Stop.TheVariants.{RingFault, Busy, BadC
 use Rattle.driver_core.specs.declared.op.Turned.{Turned}
 use Rattle.driver_core.specs.Holds.{AreMaking}
 use Rattle.driver_core.specs.Slot.{KeepsNumbers, number_at}
-use Rattle.driver_core.proofs.Tokens.{tokens-kept}
+use Rattle.driver_core.proofs.SlotTokens.{tokens-kept}
 use Rattle.uring_driver.specs.declared.uring.IoUringDriver.{IoUringDriver}
 use Rattle.uring_driver.specs.declared.uring.turn.Begun.{Begun}
 use Rattle.uring_driver.specs.declared.uring.turn.Named.{Named}

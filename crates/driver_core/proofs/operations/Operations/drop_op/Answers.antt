@@ -3,7 +3,7 @@ use Rattle.driver_core.specs.Op.{Holds}
 use Rattle.driver_core.specs.Slot.{DropsAt}
 use Rattle.driver_core.specs.Ops.{Ops}
 use Rattle.driver_core.proofs.Requests.{drop-requests}
-use Rattle.driver_core.proofs.Tokens.{drop-spends, numbered-spent}
+use Rattle.driver_core.proofs.SlotTokens.{drop-spends, numbered-spent}
 use Rattle.driver_core.proofs.operations.Operations.drop_op.Goals as goal
 
 pub invariant_of-self : goal.invariant_of-self

@@ -1,5 +1,5 @@
 use Rattle.driver_core.specs.Op.{number_of}
-use Rattle.driver_core.proofs.Tokens.{none-held}
+use Rattle.driver_core.proofs.SlotTokens.{none-held}
 use Rattle.driver_core.proofs.operations.Operations.new.Goals as goal
 
 pub invariant_of-result : goal.invariant_of-result

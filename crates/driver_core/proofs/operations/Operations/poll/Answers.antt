@@ -5,7 +5,7 @@ use Rattle.driver_core.specs.Slot.{PollsAt}
 use Rattle.driver_core.specs.Ops.{Ops}
 use Rattle.driver_core.specs.Requests.{ReturnsRequest}
 use Rattle.driver_core.proofs.Requests.{poll-requests, poll-returns}
-use Rattle.driver_core.proofs.Tokens.{tokens-kept, poll-keeps, poll-spends, numbered-kept, numbered-spent}
+use Rattle.driver_core.proofs.SlotTokens.{tokens-kept, poll-keeps, poll-spends, numbered-kept, numbered-spent}
 use Rattle.driver_core.proofs.operations.Operations.poll.Goals.{in-None, in-Some}
 use Rattle.driver_core.proofs.operations.Operations.poll.Goals as goal
 

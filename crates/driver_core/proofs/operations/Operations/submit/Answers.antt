@@ -3,7 +3,7 @@ use Rattle.op_slots.specs.declared.lifecycle.Lifecycle.TheVariants.{Submitted}
 use Rattle.driver_core.specs.declared.slot.Slot.{Slot}
 use Rattle.driver_core.specs.Requests.{request_in, StaysHeld}
 use Rattle.driver_core.proofs.Requests.{request-added, stays-added}
-use Rattle.driver_core.proofs.Tokens.{adds-this, adds-kept, adds-only, numbered-more}
+use Rattle.driver_core.proofs.SlotTokens.{adds-this, adds-kept, adds-only, numbered-more}
 use Rattle.driver_core.proofs.operations.Operations.submit.Goals as goal
 
 pub invariant_of-self : goal.invariant_of-self

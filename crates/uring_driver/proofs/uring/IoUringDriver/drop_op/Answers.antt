@@ -4,7 +4,7 @@ use Rattle.ring_core.specs.Ledger.{with_made}
 use Rattle.uring_driver.specs.Holding.{places}
 use Rattle.uring_driver.proofs.Leaving.{drop-names}
 use Rattle.driver_core.specs.Slot.{DropsAt}
-use Rattle.driver_core.proofs.Tokens.{held-slot}
+use Rattle.driver_core.proofs.SlotTokens.{held-slot}
 use Rattle.uring_driver.specs.Op.{Holds}
 use Rattle.uring_driver.specs.State.{State, IsSound, AreHolding}
 use Rattle.uring_driver.proofs.Means.{by_parts}

@@ -6,7 +6,7 @@ use Rattle.uring_driver.specs.Holding.{places}
 use Rattle.uring_driver.specs.Making.{handed_if}
 use Rattle.uring_driver.specs.PollOp.{handed_by}
 use Rattle.driver_core.proofs.Placing.{in-slots-kept}
-use Rattle.driver_core.proofs.Tokens.{held-slot, poll-keeps}
+use Rattle.driver_core.proofs.SlotTokens.{held-slot, poll-keeps}
 use Rattle.uring_driver.proofs.Answering.{leaves-group, left-in-slots}
 use Rattle.uring_driver.specs.Op.{Holds}
 use Rattle.uring_driver.specs.State.{State, IsSound, AreHolding}
