@@ -20,11 +20,12 @@ use Rattle.uring_driver.specs.declared.uring.IoUringDriver.{IoUringDriver}
 use Rattle.uring_driver.specs.declared.uring.turn.Begun.{Begun}
 use Rattle.uring_driver.specs.declared.uring.turn.Named.{Named}
 use Rattle.uring_driver.specs.Stands.{Stands, StandsIfSteady}
-use Rattle.uring_driver.specs.Uring.{due_in, pending}
+use Rattle.uring_driver.specs.Uring.{ring_in, due_in, pending}
 use Rattle.uring_driver.specs.Submitted.{SameSlots}
 use Rattle.uring_driver.specs.Reap.{treat_each}
 use Rattle.uring_driver.specs.Reaps.{ReapsAll, PendingJoins, EndsWith, closes_of, waiting_in, midway_of}
 use Rattle.uring_driver.specs.Turned.{TreatsNone, StopsFor, TreatsFor, TurnsFor, TurnMeets}
+use Rattle.uring_driver.specs.Turned.{IsCalm, GivesNoStray, GoesOn}
 use Rattle.uring_driver.specs.Begun.{EnteredFor, HasBegun, CannotBegin, why_stopped}
 use Rattle.uring_driver.proofs.Ending.{ends-of, moves, stops, treats}
 use Rattle.uring_driver.proofs.Turning.{turns}
@@ -49,6 +50,20 @@ module _ {R B : Type 0} (view : R → RingView) (buffer : B → Buffer) (tells s
       let closes = length-map queued close_entry in
       left-last (pending view old) (closes_of queued) moves.entered (pending view new) moves.moved (omega (arith, few, ready, closes))
 
+  -- A turn stops only where a count rose, a completion is stray or memory runs out.
+  goes-on : (old new : IoUringDriver R B) (turned : Turned) (queued : List ℕ) (stop : Option Stop) → StopsFor view old new turned queued stop →
+      TreatsFor view tells old new turned queued stop → IsTrue tells → IsCalm (view (ring_in old)) (view (ring_in new)) →
+      GivesNoStray view old → GoesOn stop
+  goes-on old new turned queued None stops treats shows calm none = tt
+  goes-on old new turned queued (Some RingFault) stops treats shows calm none = calm.never_faulty stops.0
+  goes-on old new turned queued (Some Busy) stops treats shows calm none = calm.never_busy stops.0
+  goes-on old new turned queued (Some (BadCompletion word)) stops treats shows calm none =
+      let ready = treats.shown shows in
+      let good = none ready.mid treats.taken ready.rest ready.front ready.ready in
+      let same : ◌≡◌ {A = Option ℕ} None (Some word) = sym good ∙ ap (λ t. t.bad) treats.treated in
+      let f : ⊥ = cc in f
+  goes-on old new turned queued (Some OutOfMemory) stops treats shows calm none = tt
+
   -- What was begun, and then treated, is a whole turn.
   pub whole : (old mid new : IoUringDriver R B) (begun : Begun) (turned : Turned) (named : Named) (bad : Option ℕ) →
       HasBegun view tells steady old mid begun → ReapsAll view tells steady (midway_of mid) (midway_of new) begun.named named bad →
@@ -62,6 +77,8 @@ module _ {R B : Type 0} (view : R → RingView) (buffer : B → Buffer) (tells s
       let queued = (treat_each mid.slots.values mid.holding ends.reaps.taken).queued in
       let stopped_by = subst (λ s. StopsFor view old new turned queued s) (sym stop)
       (stops view tells steady old mid new begun turned named bad has ends reaped closed woken) in
+      let treated_by = subst (λ s. TreatsFor view tells old new turned queued s) (sym stop)
+      (treats view tells steady old mid new begun turned named bad has ends reaped closed woken) in
       let moved = moves view tells steady old mid new begun turned named bad has ends reaped closed woken in
       record {
         queued = queued;
@@ -69,11 +86,11 @@ module _ {R B : Type 0} (view : R → RingView) (buffer : B → Buffer) (tells s
             (turns view buffer tells steady old mid new begun turned named bad has ends reaped closed woken given members numbers
             shows L stands making);
         stops = stopped_by;
-        treats = subst (λ s. TreatsFor view tells old new turned queued s) (sym stop)
-            (treats view tells steady old mid new begun turned named bad has ends reaped closed woken);
+        treats = treated_by;
         moves = moved;
         entered = λ shows none. all-entered old new turned queued stopped_by (moved shows) none;
         none_due = λ always none. due always (none-due old mid begun.busy has.entered always);
+        complete = goes-on old new turned queued turned.stop stopped_by treated_by;
         tokens = tokens-kept old.slots.values new.slots.values
             (subst (λ slots. KeepsNumbers slots new.slots.values) has.same.slots numbers);
         given = given ∙ has.same.given;
@@ -106,6 +123,7 @@ module _ {R B : Type 0} (view : R → RingView) (buffer : B → Buffer) (tells s
             });
         entered = λ shows none. (let w = sym none ∙ stop in let f : ⊥ = cc in absurd f);
         none_due = λ always none. absurd (cannot.3 always);
+        complete = λ shows calm none. absurd (calm.never_faulty cannot.0);
         tokens = tokens-kept old.slots.values new.slots.values (λ key. ap (λ m. number_at m key) cannot.1.slots);
         given = cannot.1.given;
         members = cannot.1.members;
@@ -129,6 +147,7 @@ module _ {R B : Type 0} (view : R → RingView) (buffer : B → Buffer) (tells s
         moves = λ shows. record { entered = []; moved = append-nil (pending view old) ∙ sym (ap (pending view) cannot) };
         entered = λ shows none. (let w = sym none ∙ stop in let f : ⊥ = cc in absurd f);
         none_due = λ always none. ap due_in cannot ∙ none;
+        complete = λ shows calm none. subst GoesOn (sym stop) tt;
         tokens = tokens-kept old.slots.values new.slots.values (λ key. ap (λ m. number_at m key) same.slots);
         given = same.given;
         members = same.members;

@@ -123,6 +123,24 @@ TurnsFor view buffer steady L old new turned queued (Some Busy) = (IsTrue steady
 TurnsFor view buffer steady L old new turned queued (Some (BadCompletion word)) = ⊥
 TurnsFor view buffer steady L old new turned queued (Some OutOfMemory) = new ≡ old
 
+-- Neither count of a ring's faults rose.
+pub record IsCalm (old new : RingView) : Type 0 where
+  pub never_faulty : Rose old.faults new.faults → ⊥
+  pub never_busy : Rose old.busies new.busies → ⊥
+
+-- A ring that shows its lists gives no stray completion: whichever prefix of what is pending is taken, none of what is ready then is stray.
+abbrev pub GivesNoStray : {R B : Type 0} → (R → RingView) → IoUringDriver R B → Type 0
+GivesNoStray view old = (mid : RingView) (first rest : List Completion) → TakesFront (whole_ring view old) mid → mid.done ≡ first ++ rest →
+    (treat_each old.slots.values old.holding first).bad ≡ None
+
+-- A turn goes on to its end, unless memory runs out.
+abbrev pub GoesOn : Option Stop → Type 0
+GoesOn None = ⊤
+GoesOn (Some RingFault) = ⊥
+GoesOn (Some Busy) = ⊥
+GoesOn (Some (BadCompletion word)) = ⊥
+GoesOn (Some OutOfMemory) = ⊤
+
 -- What every turn of the completion driver does, a park's too.
 pub record TurnMeets {R B : Type 0} (view : R → RingView) (buffer : B → Buffer) (tells steady : Bool) (old new : IoUringDriver R B)
     (turned : Turned) : Type 0 where
@@ -137,6 +155,8 @@ pub record TurnMeets {R B : Type 0} (view : R → RingView) (buffer : B → Buff
   -- A turn that doesn't stop entered all that was pending: what is pending now are the last of these closes, or none.
   pub entered : IsTrue tells → turned.stop ≡ None → EndsWith (closes_of queued) (pending view new)
   pub none_due : IsTrue steady → due_in old ≡ [] → due_in new ≡ []
+  -- Over a ring that neither fails nor is busy, and gives no stray completion, it doesn't stop unless memory runs out.
+  pub complete : IsTrue tells → IsCalm (view (ring_in old)) (view (ring_in new)) → GivesNoStray view old → GoesOn turned.stop
   pub tokens : KeepsTokens old new
   pub given : given_by new ≡ given_by old
   pub members : members_in new ≡ members_in old
