@@ -1,3 +1,4 @@
+pub mod Completeness
 pub mod ExactRuns
 pub mod FirstParts
 pub mod Fronts

@@ -1,15 +1,17 @@
 -- Places in parts before which all is full.
-use Rattle.std.proofs.Common.{◌≡◌, ◌∙◌, ℕ, zero, suc, ◌+◌, ◌<◌, ◌≤◌, ◌≢◌, Bool, List, [], ◌∷◌, ◌++◌, length, take, refl, sym, ap}
+use Rattle.std.proofs.Common.{◌≡◌, ◌∙◌, ℕ, zero, suc, ◌+◌, ◌<◌, ◌≤◌, ◌≢◌, Bool, List, [], ◌∷◌, ◌++◌, length, take, refl, sym, ap, subst}
 use Rattle.std.proofs.Common.{arith, add-one, append-nil, append_assoc, length-append}
-use Rattle.std.specs.Prelude.{All}
+use Rattle.std.specs.Prelude.{All, IsTrue}
 use Rattle.std.specs.List.{concat}
-use Rattle.std.proofs.lemmas.List.{take_all, length-take}
+use Rattle.std.proofs.lemmas.List.{take_all, length-take, nil_from_length}
 use Rattle.std.proofs.lemmas.List.Sums.{sum_by-cons}
 use Rattle.std.proofs.lemmas.List.Elements.{All-nil, All-cons}
 use Rattle.rent_buf.specs.Rent.{Rented}
+use Rattle.rent_buf.specs.declared.fault.IoFault.TheVariants.{UnexpectedEof}
 use Rattle.rent_buf.specs.Parts.{Parts, IsParts, bytes_of, rooms_of, part_at, part_put}
 use Rattle.rent_io.specs.PartRoom.{PartTaken}
-use Rattle.rent_io.specs.ReadVectoredExact.{Scattering, has_read, read_of, AreFullBefore, rooms, IsScattered, ScatterGoesOn}
+use Rattle.rent_io.specs.ReadVectoredExact.{Scattering, has_read, read_of, AreFullBefore, rooms}
+use Rattle.rent_io.specs.ReadVectoredExact.{IsScattered, ScatterGoesOn, ScatterEndsEarly}
 use Rattle.rent_io.specs.Reader.{WasFront}
 
 -- Behind a part whose bytes are all filled the same bytes were read.
@@ -108,6 +110,28 @@ ends_full tells left rest got s parts back part filled k n total is read behind 
   total = ap (λ x. x.total) is;
   front = front;
 }
+
+-- A read of no byte into a part that has room at a place is the stream's end.
+pub ends_early : (tells : Bool) (left rest : List ℕ) (s : Scattering) (parts back : Parts) (part filled k n m total : ℕ)
+    → scatter_at parts part filled total ≡ s → k < length parts → AreFullBefore parts k → n < (part_at parts k).total
+    → read_of parts k n ≡ read_of parts part filled → PartTaken tells left rest parts back k n m → m ≡ 0
+    → (IsTrue tells → left ≡ rest) × ScatterEndsEarly tells left s back UnexpectedEof
+ends_early tells left rest s parts back part filled k n m total is there full less same taken none =
+    let nothing : taken.got ≡ [] = nil_from_length taken.got (taken.count ∙ none) in
+    let held = ap (λ x. x.parts) is in
+    let read : read_of parts k n ≡ has_read s = same ∙ ap has_read is in (
+      λ t. taken.front t ∙ ap (λ l. l ++ rest) nothing,
+      record {
+        into = k;
+        at = n;
+        is_eof = refl;
+        more = subst (λ l. n < (part_at l k).total) held less;
+        lacks = subst (λ l. length (has_read s) < rooms_of l) held (omega (arith, read_less parts k n there full less, ap length read));
+        same_read = subst (λ l. read_of l k n ≡ has_read s) held read;
+        none_left = λ t. taken.at_end t none;
+        nothing = taken.is_put ∙ ap (part_put parts k n) nothing ∙ ap (λ l. part_put l k n []) held;
+      },
+    )
 
 -- A read of n bytes into the part at a place, and the next place.
 pub record Stepped (tells : Bool) (left rest : List ℕ) (s : Scattering) (parts back : Parts) (part filled total into at n k m : ℕ) : Type 0

@@ -1,5 +1,6 @@
 pub mod BufReader
 pub mod Call
+pub mod Completeness
 pub mod Counts
 pub mod FileAt
 pub mod ItemSink

@@ -1,5 +1,5 @@
 -- A read that fills all parts of a vector: what each poll of it does.
-use Rattle.std.specs.Prelude.{ℕ, zero, suc, ◌≡◌, ◌<◌, ◌⊎◌, Bool, IsTrue, List, [], ◌∷◌, ◌++◌, All, map, length, take, Result, Ok, Err}
+use Rattle.std.specs.Prelude.{ℕ, zero, suc, ◌≡◌, ◌-◌, ◌<◌, ◌⊎◌, Bool, IsTrue, List, [], ◌∷◌, ◌++◌, All, map, length, take, Result, Ok, Err}
 use Rattle.std.specs.List.{concat}
 use Rattle.rent_buf.specs.Parts.{Parts, bytes_of, rooms_of, part_at, part_put}
 use Rattle.rent_buf.specs.declared.fault.IoFault.{IoFault}
@@ -30,6 +30,10 @@ read_of (part ∷ parts) (suc k) n = part.bytes ++ read_of parts k n
 -- The bytes that such a read has read.
 abbrev pub has_read : Scattering → List ℕ
 has_read s = read_of s.parts s.part s.filled
+
+-- How many bytes are to come.
+abbrev pub wanted : Scattering → ℕ
+wanted s = rooms_of s.parts - length (has_read s)
 
 -- All parts before one are full.
 abbrev pub AreFullBefore : Parts → ℕ → Type 0
@@ -69,6 +73,7 @@ pub record ScatterEndsEarly (tells : Bool) (left : List ℕ) (s : Scattering) (b
   pub at : ℕ
   pub is_eof : fault ≡ UnexpectedEof
   pub more : at < (part_at s.parts into).total
+  pub lacks : length (has_read s) < rooms_of s.parts
   pub same_read : read_of s.parts into at ≡ has_read s
   pub none_left : IsTrue tells → left ≡ []
   pub nothing : back ≡ part_put s.parts into at []

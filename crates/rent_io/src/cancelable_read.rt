@@ -1,9 +1,10 @@
 // Reads whose calls are put under a cancel group.
-ghost use Rattle.std.specs.Prelude.{◌≡◌, IfOk, IsOk};
+ghost use Rattle.std.specs.Prelude.{◌≡◌, ◌-◌, ◌<◌, length, IfOk, IsOk};
+ghost use Rattle.rent_io.specs.Completeness.{Completes, IsShort};
 ghost use Rattle.rent_io.specs.Counts.{AfterCall};
-ghost use Rattle.rent_io.specs.ReadExact.{ReadsExact, filling};
+ghost use Rattle.rent_io.specs.ReadExact.{ReadsExact, filling, lacks};
 ghost use Rattle.rent_io.specs.ReadNumber.{number_of, ReadsNumber};
-ghost use Rattle.rent_io.specs.ReadVectoredExact.{ReadsScattered, scattering};
+ghost use Rattle.rent_io.specs.ReadVectoredExact.{ReadsScattered, has_read, scattering, wanted};
 
 use crate::async_rent_cancelable::CancelableAsyncReadRent;
 use crate::number::Number;
@@ -45,6 +46,7 @@ impl<T: IoBufMut> CancelableReadExact<T> {
     }
 
     /// As `ReadExact::poll`, by a cancelable read.
+    #[tactic(auto, using(crate::proofs::Completeness::exact_completes))]
     pub fn poll<A: CancelableAsyncReadRent>(
         self,
         io: &mut A,
@@ -52,6 +54,8 @@ impl<T: IoBufMut> CancelableReadExact<T> {
     ) -> Step<CancelableReadExact<T>, BufResult<usize, T>>
         ensures answer { ReadsExact A.tells (A.reader io.old) (A.reader io.new) T.buffer T.under T.beside self result }
         ensures counts { AfterCall (A.reader io.old).counts (A.reader io.new).counts }
+        ensures complete { Completes (A.reader io.old).counts (A.reader io.new).counts result (λ end. end.0)
+            (IsShort A.tells (A.reader io.old).left (lacks self)) (λ next. self.filled < next.filled) }
     {
         let CancelableReadExact { state, handle } = self;
         match state.poll_by(io, &handle, task) {
@@ -91,6 +95,7 @@ impl<T: IoVecBufMut> CancelableReadVectoredExact<T> {
     }
 
     /// As `ReadVectoredExact::poll`, by a cancelable read.
+    #[tactic(auto, using(crate::proofs::Completeness::scatter_completes))]
     pub fn poll<A: CancelableAsyncReadRent>(
         self,
         io: &mut A,
@@ -98,6 +103,8 @@ impl<T: IoVecBufMut> CancelableReadVectoredExact<T> {
     ) -> Step<CancelableReadVectoredExact<T>, BufResult<usize, T>>
         ensures answer { ReadsScattered A.tells (A.reader io.old) (A.reader io.new) T.held self result }
         ensures counts { AfterCall (A.reader io.old).counts (A.reader io.new).counts }
+        ensures complete { Completes (A.reader io.old).counts (A.reader io.new).counts result (λ end. end.0)
+            (IsShort A.tells (A.reader io.old).left (wanted self)) (λ next. length (has_read self) < length (has_read next)) }
     {
         let CancelableReadVectoredExact { state, handle } = self;
         match state.poll_by(io, &handle, task) {
@@ -141,6 +148,7 @@ impl<N: Number> CancelableReadNumber<N> {
     }
 
     /// As `ReadNumber::poll`, by a cancelable read.
+    #[tactic(auto, using(crate::proofs::Completeness::number_completes))]
     pub fn poll<A: CancelableAsyncReadRent>(
         self,
         io: &mut A,
@@ -148,6 +156,8 @@ impl<N: Number> CancelableReadNumber<N> {
     ) -> Step<CancelableReadNumber<N>, Result<N, IoFault>>
         ensures answer { ReadsNumber A.tells (A.reader io.old) (A.reader io.new) N.value self result }
         ensures counts { AfterCall (A.reader io.old).counts (A.reader io.new).counts }
+        ensures complete { Completes (A.reader io.old).counts (A.reader io.new).counts result (λ end. end)
+            (IsShort A.tells (A.reader io.old).left (self.size - length self.bytes)) (λ next. length self.bytes < length next.bytes) }
     {
         let CancelableReadNumber { state, handle } = self;
         match state.poll_by(io, &handle, task) {

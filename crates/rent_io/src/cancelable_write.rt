@@ -1,5 +1,6 @@
 // Writes whose calls are put under a cancel group.
 ghost use Rattle.std.specs.Prelude.{◌≡◌, ◌^◌, ◌<◌, length, sum_by, IsOk, IfOk};
+ghost use Rattle.rent_io.specs.Completeness.{Completes, TookNone};
 ghost use Rattle.rent_io.specs.Counts.{AfterCall};
 ghost use Rattle.rent_io.specs.WriteAll.{WritesAll, sending, sending_parts};
 ghost use Rattle.rent_io.specs.Writer.{EndsStay};
@@ -41,6 +42,7 @@ impl<T: IoBuf> CancelableWriteAll<T> {
     }
 
     /// As `WriteAll::poll`, by a cancelable write.
+    #[tactic(auto, using(crate::proofs::Completeness::all_completes))]
     pub fn poll<A: CancelableAsyncWriteRent>(
         self,
         io: &mut A,
@@ -49,6 +51,9 @@ impl<T: IoBuf> CancelableWriteAll<T> {
         ensures answer { WritesAll A.tells (A.writer io.old) (A.writer io.new) self result }
         ensures ends { EndsStay (A.writer io.old) (A.writer io.new) }
         ensures counts { AfterCall (A.writer io.old).counts (A.writer io.new).counts }
+        ensures complete { Completes (A.writer io.old).counts (A.writer io.new).counts result (λ end. end.0)
+            (TookNone A.tells (A.writer io.old).delivered (A.writer io.new).delivered self.rest)
+            (λ next. length next.rest < length self.rest) }
     {
         let CancelableWriteAll { state, handle } = self;
         match state.poll_by(io, &handle, task) {
@@ -89,6 +94,7 @@ impl<T: IoVecBuf> CancelableWriteVectoredAll<T> {
     }
 
     /// As `WriteVectoredAll::poll`, by a cancelable write.
+    #[tactic(auto, using(crate::proofs::Completeness::all_completes))]
     pub fn poll<A: CancelableAsyncWriteRent>(
         self,
         io: &mut A,
@@ -97,6 +103,9 @@ impl<T: IoVecBuf> CancelableWriteVectoredAll<T> {
         ensures answer { WritesAll A.tells (A.writer io.old) (A.writer io.new) self result }
         ensures ends { EndsStay (A.writer io.old) (A.writer io.new) }
         ensures counts { AfterCall (A.writer io.old).counts (A.writer io.new).counts }
+        ensures complete { Completes (A.writer io.old).counts (A.writer io.new).counts result (λ end. end.0)
+            (TookNone A.tells (A.writer io.old).delivered (A.writer io.new).delivered self.rest)
+            (λ next. length next.rest < length self.rest) }
     {
         let CancelableWriteVectoredAll { state, handle } = self;
         match state.poll_by(io, &handle, task) {

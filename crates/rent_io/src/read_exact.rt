@@ -1,7 +1,8 @@
 // A read that fills its buffer.
-ghost use Rattle.std.specs.Prelude.{◌≡◌, ◌+◌, ◌≤◌, length};
+ghost use Rattle.std.specs.Prelude.{◌≡◌, ◌+◌, ◌<◌, ◌≤◌, length};
+ghost use Rattle.rent_io.specs.Completeness.{Completes, IsShort};
 ghost use Rattle.rent_io.specs.Counts.{AfterCall};
-ghost use Rattle.rent_io.specs.ReadExact.{ReadsExact, filling};
+ghost use Rattle.rent_io.specs.ReadExact.{ReadsExact, filling, lacks};
 ghost use Rattle.rent_io.specs.Runs.{AfterCalls, AreUsed, IfGoesOn, RunsExact};
 
 use crate::async_read_rent::AsyncReadRent;
@@ -42,6 +43,7 @@ impl<T: IoBufMut> ReadExact<T> {
     /// Makes one read at most. It is done with the number of the bytes that the range has room for, once it is full;
     /// with `UnexpectedEof`, where a read gave no byte though there is room; or with the stream's fault. At `Pending`
     /// nothing was read, and at `Again` the stream paused too, or some bytes were read and more are to come.
+    #[tactic(auto, using(crate::proofs::Completeness::exact_completes))]
     pub fn poll<A: AsyncReadRent>(
         self,
         io: &mut A,
@@ -49,6 +51,8 @@ impl<T: IoBufMut> ReadExact<T> {
     ) -> Step<ReadExact<T>, BufResult<usize, T>>
         ensures answer { ReadsExact A.tells (A.reader io.old) (A.reader io.new) T.buffer T.under T.beside self result }
         ensures counts { AfterCall (A.reader io.old).counts (A.reader io.new).counts }
+        ensures complete { Completes (A.reader io.old).counts (A.reader io.new).counts result (λ end. end.0)
+            (IsShort A.tells (A.reader io.old).left (lacks self)) (λ next. self.filled < next.filled) }
     {
         self.poll_by(io, &Plain, task)
     }

@@ -1,5 +1,6 @@
 // A read of a line.
-ghost use Rattle.std.specs.Prelude.{◌≡◌, ◌≤◌, [], IsUtf8, MatchBool, length, take, drop, string_bytes};
+ghost use Rattle.std.specs.Prelude.{◌≡◌, ◌<◌, ◌≤◌, [], IsUtf8, MatchBool, length, take, drop, string_bytes};
+ghost use Rattle.rent_io.specs.Completeness.{Completes, IsNoLine};
 ghost use Rattle.rent_io.specs.Counts.{AfterCall};
 ghost use Rattle.rent_io.specs.LineRuns.{RunsLine};
 ghost use Rattle.rent_io.specs.Runs.{AfterCalls, AreUsed, IfGoesOn};
@@ -85,6 +86,7 @@ impl ReadLine {
     /// the bytes that were added, once the newline came or the stream ended; with `InvalidData`, where they aren't
     /// UTF-8; with `OutOfMemory`; or with the stream's fault. Bytes that aren't UTF-8 are taken back. At `Pending`
     /// nothing was added, and at `Again` the stream paused too, or bytes were added that aren't a newline.
+    #[tactic(auto, using(crate::proofs::Completeness::line_completes))]
     pub fn poll<A: AsyncBufRead>(
         self,
         io: &mut A,
@@ -92,6 +94,8 @@ impl ReadLine {
     ) -> Step<ReadLine, BufResult<usize, String>>
         ensures answer { ReadsLine A.tells (A.reader io.old) (A.reader io.new) string_bytes self result }
         ensures counts { AfterCall (A.reader io.old).counts (A.reader io.new).counts }
+        ensures complete { Completes (A.reader io.old).counts (A.reader io.new).counts result (λ end. end.0)
+            (IsNoLine A.tells self.added (A.reader io.old).left) (λ next. length self.added < length next.added) }
     {
         let ReadLine { until, start } = self;
         match until.poll(io, task) {

@@ -1,5 +1,6 @@
 // A read of a number.
-ghost use Rattle.std.specs.Prelude.{◌≡◌, length, IfOk};
+ghost use Rattle.std.specs.Prelude.{◌≡◌, ◌-◌, ◌<◌, length, IfOk};
+ghost use Rattle.rent_io.specs.Completeness.{Completes, IsShort};
 ghost use Rattle.rent_io.specs.Counts.{AfterCall};
 ghost use Rattle.rent_io.specs.LineRuns.{RunsNumber};
 ghost use Rattle.rent_io.specs.Runs.{AfterCalls, AreUsed, IfGoesOn};
@@ -51,6 +52,7 @@ impl<N: Number> ReadNumber<N> {
     /// Makes one read at most. It is done with the number, once all its bytes are there; with `UnexpectedEof`, where
     /// the stream ended before; or with the stream's fault. At `Pending` nothing was read, and at `Again` the stream
     /// paused too, or some bytes were read and more are to come.
+    #[tactic(auto, using(crate::proofs::Completeness::number_completes))]
     pub fn poll<A: AsyncReadRent>(
         self,
         io: &mut A,
@@ -58,6 +60,8 @@ impl<N: Number> ReadNumber<N> {
     ) -> Step<ReadNumber<N>, Result<N, IoFault>>
         ensures answer { ReadsNumber A.tells (A.reader io.old) (A.reader io.new) N.value self result }
         ensures counts { AfterCall (A.reader io.old).counts (A.reader io.new).counts }
+        ensures complete { Completes (A.reader io.old).counts (A.reader io.new).counts result (λ end. end)
+            (IsShort A.tells (A.reader io.old).left (self.size - length self.bytes)) (λ next. length self.bytes < length next.bytes) }
     {
         self.poll_by(io, &Plain, task)
     }

@@ -1,5 +1,7 @@
 // A read up to a delimiter.
 ghost use Rattle.std.specs.Prelude.{◌≡◌, ◌+◌, ◌<◌, ◌≤◌, length, take, MatchBool};
+ghost use Rattle.rent_buf.specs.declared.fault.IoFault.TheVariants.{OutOfMemory};
+ghost use Rattle.rent_io.specs.Completeness.{Completes};
 ghost use Rattle.rent_io.specs.Counts.{AfterCall};
 ghost use Rattle.rent_io.specs.LineRuns.{RunsUntil};
 ghost use Rattle.rent_io.specs.Runs.{AfterCalls, AreUsed, IfGoesOn};
@@ -72,6 +74,7 @@ impl ReadUntil {
     /// of the bytes that were added, once the delimiter came or the stream ended; with `OutOfMemory`; or with the
     /// stream's fault: what was added stays. At `Pending` nothing was added, and at `Again` the stream paused too, or
     /// bytes were added that aren't the delimiter.
+    #[tactic(auto, using(crate::proofs::Completeness::until_completes))]
     pub fn poll<A: AsyncBufRead>(
         self,
         io: &mut A,
@@ -79,6 +82,8 @@ impl ReadUntil {
     ) -> Step<ReadUntil, BufResult<usize, ByteList>>
         ensures answer { ReadsUntil A.tells (A.reader io.old) (A.reader io.new) self result }
         ensures counts { AfterCall (A.reader io.old).counts (A.reader io.new).counts }
+        ensures complete { Completes (A.reader io.old).counts (A.reader io.new).counts result (λ end. end.0)
+            (λ fault. fault ≡ OutOfMemory) (λ next. self.added < next.added) }
     {
         let ReadUntil {
             delim,

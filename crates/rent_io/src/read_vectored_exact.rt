@@ -1,8 +1,9 @@
 // A read that fills all parts of a vector of buffers.
 ghost use Rattle.std.specs.Prelude.{◌≡◌, ◌<◌, ◌≤◌, length, IsOk, IfOk};
 ghost use Rattle.rent_buf.specs.Parts.{part_at};
+ghost use Rattle.rent_io.specs.Completeness.{Completes, IsShort};
 ghost use Rattle.rent_io.specs.Counts.{AfterCall};
-ghost use Rattle.rent_io.specs.ReadVectoredExact.{AreFullBefore, ReadsScattered, has_read, read_of, scattering};
+ghost use Rattle.rent_io.specs.ReadVectoredExact.{AreFullBefore, ReadsScattered, has_read, read_of, scattering, wanted};
 ghost use Rattle.rent_io.specs.Runs.{AfterCalls, AreUsed, IfGoesOn};
 ghost use Rattle.rent_io.specs.ScatterRuns.{RunsScattered};
 
@@ -58,6 +59,7 @@ impl<T: IoVecBufMut> ReadVectoredExact<T> {
     /// part is full; with `UnexpectedEof`, where a read gave no byte though there is room; or with the stream's
     /// fault. At `Pending` nothing was read, and at `Again` the stream paused too, or some bytes were read and more
     /// are to come.
+    #[tactic(auto, using(crate::proofs::Completeness::scatter_completes))]
     pub fn poll<A: AsyncReadRent>(
         self,
         io: &mut A,
@@ -65,6 +67,8 @@ impl<T: IoVecBufMut> ReadVectoredExact<T> {
     ) -> Step<ReadVectoredExact<T>, BufResult<usize, T>>
         ensures answer { ReadsScattered A.tells (A.reader io.old) (A.reader io.new) T.held self result }
         ensures counts { AfterCall (A.reader io.old).counts (A.reader io.new).counts }
+        ensures complete { Completes (A.reader io.old).counts (A.reader io.new).counts result (λ end. end.0)
+            (IsShort A.tells (A.reader io.old).left (wanted self)) (λ next. length (has_read self) < length (has_read next)) }
     {
         self.poll_by(io, &Plain, task)
     }

@@ -1,5 +1,6 @@
 // Sinks of items, and a send that is flushed.
-ghost use Rattle.std.specs.Prelude.{◌≡◌, Some};
+ghost use Rattle.std.specs.Prelude.{◌≡◌, None, Some, IsSome};
+ghost use Rattle.rent_io.specs.Completeness.{Completes};
 ghost use Rattle.rent_io.specs.Counts.{AfterCall};
 ghost use Rattle.rent_io.specs.ItemSink.{ItemSink, IsSent, IsDone, CausesDone, SendsAndFlushes, RunsSend, unsent};
 ghost use Rattle.rent_io.specs.Runs.{AfterCalls, AreUsed, IfGoesOn};
@@ -99,6 +100,7 @@ impl<I> SendAndFlush<I> {
 
     /// Makes one send or one flush. A poll that the item is taken in answers `Again`; it is done once a later poll
     /// flushed, or with the sink's error.
+    #[tactic(auto, using(crate::proofs::Completeness::send_completes))]
     pub fn poll<S: Sink<I>>(
         self,
         sink: &mut S,
@@ -106,6 +108,8 @@ impl<I> SendAndFlush<I> {
     ) -> Step<SendAndFlush<I>, Result<(), S::Error>>
         ensures answer { SendsAndFlushes (S.sink sink.old) (S.sink sink.new) self result }
         ensures counts { AfterCall (S.sink sink.old).counts (S.sink sink.new).counts }
+        ensures complete { Completes (S.sink sink.old).counts (S.sink sink.new).counts result (λ end. end) (λ error. ⊥)
+            (λ next. IsSome self × (next ≡ None)) }
     {
         let SendAndFlush { item } = self;
         match item {

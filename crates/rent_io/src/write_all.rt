@@ -1,5 +1,6 @@
 // A write of all bytes of a buffer.
 ghost use Rattle.std.specs.Prelude.{◌≡◌, ◌+◌, ◌<◌, ◌≤◌, length, drop};
+ghost use Rattle.rent_io.specs.Completeness.{Completes, TookNone};
 ghost use Rattle.rent_io.specs.Counts.{AfterCall};
 ghost use Rattle.rent_io.specs.Runs.{AfterCalls, AreUsed, IfGoesOn, RunsAll};
 ghost use Rattle.rent_io.specs.WriteAll.{WritesAll, sending};
@@ -42,6 +43,7 @@ impl<T: IoBuf> WriteAll<T> {
     /// Makes one write at most. It is done with the number of the buffer's bytes, once all are delivered; with
     /// `WriteZero`, where a write took none of some bytes; or with the stream's fault. At `Pending` nothing was
     /// written, and at `Again` the stream paused too, or some bytes were written and more are to be.
+    #[tactic(auto, using(crate::proofs::Completeness::all_completes))]
     pub fn poll<A: AsyncWriteRent>(
         self,
         io: &mut A,
@@ -50,6 +52,9 @@ impl<T: IoBuf> WriteAll<T> {
         ensures answer { WritesAll A.tells (A.writer io.old) (A.writer io.new) self result }
         ensures ends { EndsStay (A.writer io.old) (A.writer io.new) }
         ensures counts { AfterCall (A.writer io.old).counts (A.writer io.new).counts }
+        ensures complete { Completes (A.writer io.old).counts (A.writer io.new).counts result (λ end. end.0)
+            (TookNone A.tells (A.writer io.old).delivered (A.writer io.new).delivered self.rest)
+            (λ next. length next.rest < length self.rest) }
     {
         self.poll_by(io, &Plain, task)
     }

@@ -2,6 +2,8 @@ use Rattle.std.proofs.Common.{◌⊎◌, subst}
 use Rattle.std.specs.Prelude.{string_bytes}
 use Rattle.rent_io.specs.ReadExact.{Paused}
 use Rattle.rent_io.specs.ReadLine.{Lining, HasLine, LineFails, LineGoesOn}
+use Rattle.rent_io.specs.declared.poll.Step.TheVariants.{Ready}
+use Rattle.rent_io.proofs.Completeness.{line_completes}
 use Rattle.rent_io.proofs.Texts.{lining, line_again, line_ends}
 use Rattle.rent_io.proofs.read_line.ReadLine.poll.Goals as goal
 
@@ -16,6 +18,12 @@ returns-in-Ready-clause-answer g c =
     subst (λ (l : Lining). HasLine tells before.left now.left l back end ⊎ LineFails tells before now l back end) c.self.view_is
     (line_ends tells before now i.until i.start c.in-Ready.bytes back c.in-Ready.outcome end c.self.invariant c.in-Ready.ensures.answer
     c.into_text.ensures)
+
+pub returns-in-Ready-clause-complete : goal.returns-in-Ready-clause-complete
+returns-in-Ready-clause-complete g c =
+    let reader = g.A.AsyncReadRent.reader in
+    line_completes g.A.AsyncReadRent.tells (reader c.args.io.now) (reader c.poll.new.io) string_bytes c.args.self (Ready c.into_text.result)
+    (returns-in-Ready-clause-answer g c)
 
 pub returns-in-Again-clause-answer : goal.returns-in-Again-clause-answer
 returns-in-Again-clause-answer g c =

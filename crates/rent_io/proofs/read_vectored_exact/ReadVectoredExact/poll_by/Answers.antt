@@ -1,7 +1,7 @@
 use Rattle.std.proofs.Common.{◌<◌, ◌≤◌, ◌∙◌, [], length, refl, sym, ap, subst, arith, inr, append-nil}
 use Rattle.rent_io.specs.PartRoom.{PartTaken}
 use Rattle.rent_io.specs.ReadVectoredExact.{AreFullBefore, read_of}
-use Rattle.rent_io.proofs.Scatters.{Stepped, ends_full, step_ends, step_goes_on, put_full}
+use Rattle.rent_io.proofs.Scatters.{Stepped, ends_early, ends_full, step_ends, step_goes_on, put_full}
 use Rattle.rent_io.proofs.SingleParts.{length_bytes}
 use Rattle.rent_io.proofs.read_vectored_exact.ReadVectoredExact.poll_by.Goals as goal
 
@@ -15,6 +15,22 @@ returns-then-into-parts_len-clause-answer g c =
     (arith, c.if-into-parts_len.true, c.parts_len.ensures, length_bytes parts, ap length c.keeps_bounds.ensures.parts) in
     ends_full g.A.AsyncReadRent.tells left left [] c.args.self parts parts i.part i.filled here.result.0 here.result.1 i.total
     c.self.view_is (here.ensures.same ∙ sym (append-nil (read_of parts i.part i.filled))) behind here.ensures.full refl (λ t. refl)
+
+pub returns-then-n-eq0-clause-answer : goal.returns-then-n-eq0-clause-answer
+returns-then-n-eq0-clause-answer g c =
+    let held = g.T.IoVecBufMut.held in
+    let i = c.self.inside in
+    let parts = held i.buf in
+    let here = c.next_room-into in
+    let a = c.in-Ready-Ok-default in
+    let left = (g.A.AsyncReadRent.reader c.args.io.now).left in
+    let rest = (g.A.AsyncReadRent.reader c.read_part.new.io).left in
+    let there : here.result.0 < length parts = omega
+    (arith, c.if-into-parts_len.false, c.parts_len.ensures, length_bytes parts, ap length c.keeps_bounds.ensures.parts) in
+    let early = ends_early g.A.AsyncReadRent.tells left rest c.args.self parts (held a.buf) i.part i.filled here.result.0 here.result.1 a.n
+    i.total c.self.view_is there here.ensures.full (here.ensures.room there) here.ensures.same (rw a.field-0-is at a.ensures.reads)
+    c.if-n-eq0.true in
+    (early.0, inr early.1)
 
 pub next_room-part-requires-clause-full : goal.next_room-part-requires-clause-full
 next_room-part-requires-clause-full g c =

@@ -1,0 +1,47 @@
+-- What a poll answers while its stream neither fails nor pauses: it doesn't wait, and each fault that is left has a reason. The clause
+-- `complete` of each state's `poll` cites `Completes`, with the faults that its state may still end with.
+use Rattle.std.specs.Prelude.{ℕ, ◌≡◌, ◌<◌, ◌⊎◌, Bool, true, IsTrue, List, [], ◌++◌, length, IsUtf8, Result, IfErr}
+use Rattle.rent_buf.specs.declared.fault.IoFault.{IoFault}
+use Rattle.rent_buf.specs.declared.fault.IoFault.TheVariants.{UnexpectedEof, WriteZero, OutOfMemory, InvalidData}
+use Rattle.rent_io.specs.declared.poll.Step.{Step}
+use Rattle.rent_io.specs.declared.poll.Step.TheVariants.{Ready, Pending, Again}
+use Rattle.rent_io.specs.declared.poll.PollCount.{PollCount}
+use Rattle.rent_io.specs.declared.poll.PollCount.TheVariants.{Ready as CountReady, Pending as CountPending, Again as CountAgain}
+use Rattle.rent_io.specs.Counts.{Counts, Rose}
+use Rattle.rent_io.specs.LineRuns.{IsWholeLine}
+
+-- Neither the count of faults nor the count of pauses rose.
+abbrev pub IsQuiet : Counts → Counts → Type 0
+IsQuiet before now = (¬ Rose before.faults now.faults) × (¬ Rose before.pauses now.pauses)
+
+-- A poll got on: it ended, with Ok or with one of these faults; or it answers Again, with a state that is further. It didn't wait.
+abbrev pub GetsOn : {S R N E : Type 0} → Step S R → (R → Result N E) → (E → Type 0) → (S → Type 0) → Type 0
+GetsOn (Ready end) outcome faults further = IfErr (outcome end) faults
+GetsOn (Pending next) outcome faults further = ⊥
+GetsOn (Again next) outcome faults further = further next
+
+-- A poll of a flush or a shutdown got on: it is done, or ended with one of these faults; or it answers Again, and this is so.
+abbrev pub CountGetsOn : PollCount → (IoFault → Type 0) → Type 0 → Type 0
+CountGetsOn (CountReady end) faults further = IfErr end faults
+CountGetsOn CountPending faults further = ⊥
+CountGetsOn CountAgain faults further = further
+
+-- A poll in which neither count rose got on.
+abbrev pub Completes : {S R N E : Type 0} → Counts → Counts → Step S R → (R → Result N E) → (E → Type 0) → (S → Type 0) → Type 0
+Completes before now step outcome faults further = IsQuiet before now → GetsOn step outcome faults further
+
+-- Reading: the stream ended, and a stream that tells its bytes had fewer left than were wanted.
+abbrev pub IsShort : Bool → List ℕ → ℕ → IoFault → Type 0
+IsShort tells left wanted fault = (fault ≡ UnexpectedEof) × (IsTrue tells → length left < wanted)
+
+-- Writing: a write took none of some bytes, and a stream that tells its bytes was delivered none.
+abbrev pub TookNone : Bool → List ℕ → List ℕ → List ℕ → IoFault → Type 0
+TookNone tells before now bytes fault = (fault ≡ WriteZero) × (0 < length bytes) × (IsTrue tells → now ≡ before)
+
+-- The line that these bytes begin is UTF-8: they, and those that are left, up to and with the first newline, or all where there is none.
+abbrev pub BeginText : List ℕ → List ℕ → Type 0
+BeginText bytes left = (line rest : List ℕ) → left ≡ line ++ rest → IsWholeLine true 10 line rest → IsUtf8 (bytes ++ line)
+
+-- Reading a line: memory ran out; or a stream that tells its bytes has a line that isn't UTF-8.
+abbrev pub IsNoLine : Bool → List ℕ → List ℕ → IoFault → Type 0
+IsNoLine tells bytes left fault = (fault ≡ OutOfMemory) ⊎ ((fault ≡ InvalidData) × (IsTrue tells → ¬ BeginText bytes left))
