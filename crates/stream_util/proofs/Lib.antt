@@ -1,4 +1,5 @@
 pub mod Buffered
+pub mod Completeness
 pub mod Copies
 pub mod Filled
 pub mod Prefixes

@@ -1,5 +1,7 @@
 -- A writer with a buffer: what a write, a flush and a shutdown of it do.
-use Rattle.std.specs.Prelude.{ℕ, ◌≡◌, ◌+◌, ◌<◌, ◌≤◌, Bool, IsTrue, List, [], ◌++◌, length, Ok, Err}
+use Rattle.std.specs.Prelude.{ℕ, ◌≡◌, ◌+◌, ◌<◌, ◌≤◌, Bool, IsTrue, List, [], ◌++◌, length, Ok, Err, IfErr}
+use Rattle.rent_buf.specs.declared.fault.IoFault.{IoFault}
+use Rattle.rent_io.specs.Completeness.{IsQuiet, CountGetsOn, TookNone}
 use Rattle.rent_io.specs.Counts.{Counts, Rose}
 use Rattle.rent_io.specs.Writer.{Writer}
 use Rattle.rent_io.specs.declared.poll.PollBuf.{PollBuf}
@@ -44,6 +46,23 @@ IsPushCaused before now (CountReady (Err fault)) = Rose before.faults now.faults
 IsPushCaused before now CountPending = Rose before.pauses now.pauses
 IsPushCaused before now CountAgain = Rose before.pauses now.pauses
 
+-- A poll of a flush or a shutdown in which no count of the stream inside rose got on: it is done, or less is buffered, or it ended since a
+-- write took none of what is buffered.
+abbrev pub FlushCompletes : Bool → Writer → Writer → List ℕ → List ℕ → PollCount → Type 0
+FlushCompletes tells before now held later result = IsQuiet before.counts now.counts
+    → CountGetsOn result (TookNone tells before.delivered now.delivered held) (length later < length held)
+
+-- A poll of a write got on: it took bytes, or ended with one of these faults; or it answers Again, and this is so.
+abbrev pub WriteGetsOn : {T : Type 0} → PollBuf T → (IoFault → Type 0) → Type 0 → Type 0
+WriteGetsOn (Ready end back) faults further = IfErr end faults
+WriteGetsOn (BufPending back) faults further = ⊥
+WriteGetsOn (BufAgain back) faults further = further
+
+-- The same of a write.
+abbrev pub WriteCompletes : {T : Type 0} → Bool → Writer → Writer → List ℕ → List ℕ → PollBuf T → Type 0
+WriteCompletes tells before now held later result = IsQuiet before.counts now.counts
+    → WriteGetsOn result (TookNone tells before.delivered now.delivered held) (length later < length held)
+
 -- Bytes don't fit behind some that are buffered.
 abbrev pub IsFull : {W : Type 0} → Writing W → List ℕ → Type 0
 IsFull w bytes = (w.capacity < length w.held + length bytes) × (0 < length w.held)
@@ -66,6 +85,15 @@ IfPushed PassOn P = Unit {0}
 IfPushed Pending P = P
 IfPushed Again P = P
 IfPushed (Fault fault) P = P
+
+-- The same of an offer: it was taken or is to be passed on, or less is buffered, or a write took none of what is.
+abbrev pub OfferCompletes : Bool → Writer → Writer → List ℕ → List ℕ → Offered → Type 0
+OfferCompletes tells before now held later Taken = Unit {0}
+OfferCompletes tells before now held later PassOn = Unit {0}
+OfferCompletes tells before now held later Pending = IsQuiet before.counts now.counts → ⊥
+OfferCompletes tells before now held later Again = IsQuiet before.counts now.counts → length later < length held
+OfferCompletes tells before now held later (Fault fault) =
+    IsQuiet before.counts now.counts → TookNone tells before.delivered now.delivered held fault
 
 -- A poll of a write took the bytes of a buffer whole.
 abbrev pub TakesWhole : {T : Type 0} → List ℕ → PollBuf T → Type 0

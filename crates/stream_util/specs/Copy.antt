@@ -4,6 +4,7 @@ use Rattle.rent_buf.specs.declared.fault.IoFault.{IoFault}
 use Rattle.rent_buf.specs.declared.fault.IoFault.TheVariants.{WriteZero}
 use Rattle.rent_io.specs.declared.poll.Step.{Step}
 use Rattle.rent_io.specs.declared.poll.Step.TheVariants.{Ready, Pending, Again}
+use Rattle.rent_io.specs.Completeness.{IsQuiet, GetsOn}
 use Rattle.rent_io.specs.Counts.{AfterCall, Rose}
 use Rattle.rent_io.specs.Reader.{Reader, WasFront}
 use Rattle.rent_io.specs.Writer.{Writer}
@@ -67,6 +68,12 @@ Copies reads writes before now copy (Ready copied) =
 Copies reads writes before now copy (Pending next) = Waits reads writes before now copy next
 Copies reads writes before now copy (Again next) =
     Waits reads writes before now copy next ⊎ MovesSome reads writes before now copy next
+
+-- A poll in which no count of the reader and of the writer rose got on: it is done, or ended with one of these faults, or bytes moved.
+abbrev pub CopyCompletes : Bool → Bool → Ends → Ends → Copying → Step Copying Copied → (IoFault → Type 0) → Type 0
+CopyCompletes reads writes before now copy step faults = IsQuiet before.reader.counts now.reader.counts
+    → IsQuiet before.writer.counts now.writer.counts
+    → GetsOn step (λ copied. copied.result) faults (λ next. MovesSome reads writes before now copy next)
 
 -- What an answer holds: what was read and not delivered.
 abbrev pub held_in : Step Copying Copied → List ℕ

@@ -4,6 +4,7 @@ use Rattle.rent_buf.specs.declared.fault.IoFault.{IoFault}
 use Rattle.rent_buf.specs.declared.fault.IoFault.TheVariants.{OutOfMemory, WriteZero}
 use Rattle.rent_io.specs.declared.poll.Step.{Step}
 use Rattle.rent_io.specs.declared.poll.Step.TheVariants.{Ready, Pending, Again}
+use Rattle.rent_io.specs.Completeness.{TookNone}
 use Rattle.rent_io.specs.Counts.{Rose}
 use Rattle.stream_util.specs.Copy.{Copying, Ends, NothingMoved, Waits, MovesSome}
 use Rattle.stream_util.specs.declared.copy.Copied.{Copied}
@@ -14,6 +15,12 @@ IsZeroCopyEnd reads before now copy (Ok n) = (n ≡ copy.count) × (copy.held �
 IsZeroCopyEnd reads before now copy (Err fault) = Rose before.reader.counts.faults now.reader.counts.faults
     ⊎ Rose before.writer.counts.faults now.writer.counts.faults
     ⊎ (fault ≡ OutOfMemory) × (copy.held ≡ []) ⊎ (fault ≡ WriteZero) × (0 < length copy.held)
+
+-- The faults that such a copy may end with while nothing fails or pauses: a write took none of what it holds, or there was no memory for
+-- the pipe, which is empty.
+abbrev pub SplicesNone : Bool → Ends → Ends → Copying → IoFault → Type 0
+SplicesNone writes before now copy fault = TookNone writes before.writer.delivered now.writer.delivered copy.held fault
+    ⊎ (fault ≡ OutOfMemory) × (copy.held ≡ [])
 
 -- A poll of it.
 abbrev pub ZeroCopies : Bool → Bool → Ends → Ends → Copying → Step Copying Copied → Type 0

@@ -4,6 +4,7 @@ ghost use Rattle.rent_io.specs.Counts.{AfterCall};
 ghost use Rattle.rent_io.specs.Polls.{IsCaused, IsCountCaused};
 ghost use Rattle.rent_io.specs.Writer.{EndsStay, Writes, CountsDone, IfDone};
 ghost use Rattle.stream_util.specs.BufWriter.{Writing, Pushes, IsPushCaused, Offers, IfPushed, WriteRule};
+ghost use Rattle.stream_util.specs.BufWriter.{FlushCompletes, OfferCompletes, WriteCompletes};
 ghost use Rattle.stream_util.specs.BufWriter.{fresh_writer, counts_over, writer_over};
 
 use rent_buf::{IoBuf, IoBufMut, IoFault, IoVecBuf, IoVecBufMut, OutOfMemory, Slice};
@@ -158,6 +159,7 @@ impl<W: AsyncWriteRent> BufWriter<W> {
         ensures ends { EndsStay (W.writer self.old.inner) (W.writer self.new.inner) }
         ensures counts { AfterCall (counts_over (W.writer self.old.inner).counts self.old)
             (counts_over (W.writer self.new.inner).counts self.new) }
+        ensures complete { OfferCompletes W.tells (W.writer self.old.inner) (W.writer self.new.inner) self.old.held self.new.held result }
     {
         let held = self.buf.len() - self.sent;
         if bytes.len() <= self.capacity - held {
@@ -184,6 +186,7 @@ impl<W: AsyncWriteRent> BufWriter<W> {
             (counts_over (W.writer self.new.inner).counts self.new) result }
         ensures counts { AfterCall (counts_over (W.writer self.old.inner).counts self.old)
             (counts_over (W.writer self.new.inner).counts self.new) }
+        ensures complete { FlushCompletes W.tells (W.writer self.old.inner) (W.writer self.new.inner) self.old.held self.new.held result }
     {
         let alloc = *self.buf.allocator();
         let buf = mem::replace(&mut self.buf, Vec::new(alloc));
@@ -222,6 +225,7 @@ impl<W: AsyncWriteRent> AsyncWriteRent for BufWriter<W> {
 
     /// Buffers the bytes if they fit. If they don't and some are buffered, it writes the buffer once, and takes none; else
     /// it passes them on. A write of the buffer that takes no byte is a fault, `WriteZero`.
+    #[tactic(auto, using(crate::proofs::Completeness::write_gets_on))]
     fn poll_write<T: IoBuf>(&mut self, buf: T, task: u64) -> PollBuf<T>
         ensures writes { Writes W.tells (writer_over (W.writer self.old.inner) self.old).delivered
             (writer_over (W.writer self.new.inner) self.new).delivered (T.content buf) buf result }
@@ -231,6 +235,7 @@ impl<W: AsyncWriteRent> AsyncWriteRent for BufWriter<W> {
         ensures counts { AfterCall (counts_over (W.writer self.old.inner).counts self.old)
             (counts_over (W.writer self.new.inner).counts self.new) }
         ensures rule { WriteRule W.writer W.tells self.old self.new (T.content buf) result }
+        ensures complete { WriteCompletes W.tells (W.writer self.old.inner) (W.writer self.new.inner) self.old.held self.new.held result }
     {
         let count = buf.bytes_init();
         match self.offer(buf.bytes(), task) {
@@ -256,6 +261,7 @@ impl<W: AsyncWriteRent> AsyncWriteRent for BufWriter<W> {
 
     /// Writes the buffer, one write a poll, and then flushes the stream inside. When it is done nothing is buffered.
     /// At a fault just what was written has left the buffer.
+    #[tactic(auto, using(crate::proofs::Completeness::count_gets_on))]
     fn poll_flush(&mut self, task: u64) -> PollCount
         ensures delivered { IsTrue W.tells → (writer_over (W.writer self.new.inner) self.new).delivered
             ≡ (writer_over (W.writer self.old.inner) self.old).delivered }
@@ -267,6 +273,7 @@ impl<W: AsyncWriteRent> AsyncWriteRent for BufWriter<W> {
             (counts_over (W.writer self.new.inner).counts self.new) }
         ensures pushes { Pushes W.tells (W.writer self.old.inner) (W.writer self.new.inner) self.old.held self.new.held }
         ensures empty { IfDone result (self.new.held ≡ []) }
+        ensures complete { FlushCompletes W.tells (W.writer self.old.inner) (W.writer self.new.inner) self.old.held self.new.held result }
     {
         if self.buf.len() == self.sent {
             return self.inner.poll_flush(task);
@@ -276,6 +283,7 @@ impl<W: AsyncWriteRent> AsyncWriteRent for BufWriter<W> {
 
     /// Writes the buffer, one write a poll, and then shuts the stream inside down. When it is done nothing is buffered.
     /// At a fault just what was written has left the buffer.
+    #[tactic(auto, using(crate::proofs::Completeness::count_gets_on))]
     fn poll_shutdown(&mut self, task: u64) -> PollCount
         ensures delivered { IsTrue W.tells → (writer_over (W.writer self.new.inner) self.new).delivered
             ≡ (writer_over (W.writer self.old.inner) self.old).delivered }
@@ -287,6 +295,7 @@ impl<W: AsyncWriteRent> AsyncWriteRent for BufWriter<W> {
             (counts_over (W.writer self.new.inner).counts self.new) }
         ensures pushes { Pushes W.tells (W.writer self.old.inner) (W.writer self.new.inner) self.old.held self.new.held }
         ensures empty { IfDone result (self.new.held ≡ []) }
+        ensures complete { FlushCompletes W.tells (W.writer self.old.inner) (W.writer self.new.inner) self.old.held self.new.held result }
     {
         if self.buf.len() == self.sent {
             return self.inner.poll_shutdown(task);

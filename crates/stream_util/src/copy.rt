@@ -1,8 +1,9 @@
 // A copy of all that a stream has left to another stream.
 ghost use Rattle.std.specs.Prelude.{◌≡◌, ◌≤◌, [], length, drop, IfOk, IfErr};
 ghost use Rattle.rent_io.specs.declared.poll.Step.TheVariants.{Ready};
+ghost use Rattle.rent_io.specs.Completeness.{TookNone};
 ghost use Rattle.rent_io.specs.Writer.{EndsStay};
-ghost use Rattle.stream_util.specs.Copy.{Copies, Runs, CopiesAll, OneCall, IsSameJoined, held_in};
+ghost use Rattle.stream_util.specs.Copy.{Copies, CopyCompletes, Runs, CopiesAll, OneCall, IsSameJoined, held_in};
 
 use rent_buf::{ByteList, IoBufMut, IoFault, OutOfMemory, Rent, Slice};
 use rent_io::{AsyncReadRent, AsyncWriteRent, PollBuf, Step};
@@ -126,6 +127,7 @@ impl Copy {
     /// of the bytes that it delivered, once a read gives none; with `WriteZero`, where a write took none of some bytes;
     /// or with the reader's or the writer's fault. What it then held is the rest. At `Pending` nothing moved, and at
     /// `Again` a stream paused too, or some bytes moved. It never flushes.
+    #[tactic(auto, using(crate::proofs::Completeness::copy_completes))]
     pub fn poll<R: AsyncReadRent, W: AsyncWriteRent>(
         self,
         reader: &mut R,
@@ -140,6 +142,9 @@ impl Copy {
         ensures joined { IsSameJoined R.tells W.tells (record { reader = R.reader reader.old; writer = W.writer writer.old })
             (record { reader = R.reader reader.new; writer = W.writer writer.new }) self.held (held_in result) }
         ensures within { length (held_in result) ≤ MOST_HELD }
+        ensures complete { CopyCompletes R.tells W.tells (record { reader = R.reader reader.old; writer = W.writer writer.old })
+            (record { reader = R.reader reader.new; writer = W.writer writer.new }) self result
+            (TookNone W.tells (W.writer writer.old).delivered (W.writer writer.new).delivered self.held) }
     {
         let Copy { buf, sent, count } = self;
         let len = buf.len();

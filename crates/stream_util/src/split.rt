@@ -1,5 +1,6 @@
 // Streams that are split into a half that is read and a half that is written.
 ghost use Rattle.std.specs.Prelude.{◌≡◌, ◌↔◌, IsOk, IfOk, IfErr};
+ghost use Rattle.rent_io.specs.Completeness.{Completes};
 ghost use Rattle.rent_io.specs.Counts.{AfterCall};
 ghost use Rattle.stream_util.specs.Split.{Half, one_more, ShutsDown, part_in};
 
@@ -203,9 +204,12 @@ impl<T: Split> Model for Shutdown<T> {
 
 impl<T: Split> Shutdown<T> {
     /// Makes one shutdown of the part. It is done, with the part, once that is done, or with the part's fault.
+    #[tactic(auto, using(crate::proofs::Completeness::shutdown_completes))]
     pub fn poll(self, task: u64) -> Step<Shutdown<T>, (Result<u64, IoFault>, T::Write)>
         ensures answer { ShutsDown T.Write.writer T.Write.tells self result }
         ensures counts { AfterCall (T.Write.writer self).counts (T.Write.writer (part_in result)).counts }
+        ensures complete { Completes (T.Write.writer self).counts (T.Write.writer (part_in result)).counts result (λ end. end.0)
+            (λ fault. ⊥) (λ next. ⊥) }
     {
         let Shutdown { mut part } = self;
         match part.poll_shutdown(task) {

@@ -11,6 +11,8 @@ use rent_io::{
 use std::alloc::{AllocError, Global};
 use std::test::Fail;
 
+mod chain;
+
 // A stream of these bytes with this script.
 fn stream(alloc: Global, bytes: &[u8], script: &[Turned1]) -> Result<ScriptedStream, AllocError> {
     let input = ByteList::from_vec(bytes.to_vec(alloc)?);

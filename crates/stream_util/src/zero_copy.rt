@@ -2,8 +2,8 @@
 ghost use Rattle.std.specs.Prelude.{◌≡◌, ◌≤◌, [], length};
 ghost use Rattle.rent_io.specs.declared.poll.Step.TheVariants.{Ready};
 ghost use Rattle.rent_io.specs.Writer.{EndsStay};
-ghost use Rattle.stream_util.specs.Copy.{OneCall, IsSameJoined, held_in};
-ghost use Rattle.stream_util.specs.ZeroCopy.{ZeroCopies};
+ghost use Rattle.stream_util.specs.Copy.{CopyCompletes, OneCall, IsSameJoined, held_in};
+ghost use Rattle.stream_util.specs.ZeroCopy.{ZeroCopies, SplicesNone};
 
 use crate::copy::Copied;
 use crate::splice::{MemPipe, SpliceDestination, SpliceSource};
@@ -60,6 +60,7 @@ impl ZeroCopy {
     /// with the number of the bytes that it delivered, once a splice in gives none; with `WriteZero`, where a splice out
     /// took none of some bytes; with `OutOfMemory`, where the pipe couldn't grow; or with a stream's fault. What it then held
     /// is the rest.
+    #[tactic(auto, using(crate::proofs::Completeness::zero_copy_completes))]
     pub fn poll<S: SpliceSource, D: SpliceDestination>(
         self,
         reader: &mut S,
@@ -73,6 +74,10 @@ impl ZeroCopy {
         ensures ends { EndsStay (D.destination writer.old) (D.destination writer.new) }
         ensures joined { IsSameJoined S.tells D.tells (record { reader = S.source reader.old; writer = D.destination writer.old })
             (record { reader = S.source reader.new; writer = D.destination writer.new }) self.held (held_in result) }
+        ensures complete { CopyCompletes S.tells D.tells (record { reader = S.source reader.old; writer = D.destination writer.old })
+            (record { reader = S.source reader.new; writer = D.destination writer.new }) self result
+            (SplicesNone D.tells (record { reader = S.source reader.old; writer = D.destination writer.old })
+            (record { reader = S.source reader.new; writer = D.destination writer.new }) self) }
     {
         let ZeroCopy { mut pipe, count } = self;
         if pipe.bytes().is_empty() {

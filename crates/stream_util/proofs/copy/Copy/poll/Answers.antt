@@ -1,6 +1,8 @@
 use Rattle.std.proofs.Common.{◌≡◌, ◌<◌, ◌∙◌, length, drop, [], sym, ap, arith, inr, refl, append-nil}
 use Rattle.std.proofs.lemmas.List.{length-drop}
 use Rattle.std.proofs.Math.ListN.{drop_of_length-le}
+use Rattle.rent_io.specs.declared.poll.Step.TheVariants.{Again}
+use Rattle.stream_util.proofs.Completeness.{copy_completes}
 use Rattle.stream_util.proofs.Copies.{fetched, delivered, same_joined}
 use Rattle.stream_util.proofs.copy.Copy.poll.Goals as goal
 
@@ -17,6 +19,13 @@ returns-else-n-eq0-clause-answer g c =
     inr
     (rw count (fetched g.R.AsyncReadRent.tells g.W.AsyncWriteRent.tells (reader c.args.reader.now) (reader c.poll_read.new.self) writer
     c.args.self i.buf a.buf a.n none (omega (arith, count, c.self.invariant.2)) c.if-n-eq0.false reads.0))
+
+pub returns-else-n-eq0-clause-complete : goal.returns-else-n-eq0-clause-complete
+returns-else-n-eq0-clause-complete g c =
+    let reader = g.R.AsyncReadRent.reader in
+    let writer = g.W.AsyncWriteRent.writer c.args.writer.now in
+    copy_completes g.R.AsyncReadRent.tells g.W.AsyncWriteRent.tells (record { reader = reader c.args.reader.now; writer = writer })
+    (record { reader = reader c.poll_read.new.self; writer = writer }) c.args.self (Again _) (returns-else-n-eq0-clause-answer g c)
 
 pub returns-then-n-eq0-2-clause-answer : goal.returns-then-n-eq0-2-clause-answer
 returns-then-n-eq0-2-clause-answer g c =
@@ -49,6 +58,21 @@ returns-else-n-eq0-2-clause-answer g c =
     (writer c.poll_write.new.self) c.args.self i.buf c.into_inner-buf.result i.sent a.n i.count c.len-len.result c.new.result a.part
     c.self.view_is c.new.ensures (record { same = writes.0; within = writes.1; joined = writes.2 }) c.into_inner-buf.ensures
     c.len-len.ensures c.if-n-eq0-2.false))
+
+pub returns-then-n-eq0-2-clause-complete : goal.returns-then-n-eq0-2-clause-complete
+returns-then-n-eq0-2-clause-complete g c =
+    let reader = g.R.AsyncReadRent.reader c.args.reader.now in
+    let writer = g.W.AsyncWriteRent.writer in
+    copy_completes g.R.AsyncReadRent.tells g.W.AsyncWriteRent.tells (record { reader = reader; writer = writer c.args.writer.now })
+    (record { reader = reader; writer = writer c.poll_write.new.self }) c.args.self c.ended-then-n-eq0-2.result
+    (returns-then-n-eq0-2-clause-answer g c)
+
+pub returns-else-n-eq0-2-clause-complete : goal.returns-else-n-eq0-2-clause-complete
+returns-else-n-eq0-2-clause-complete g c =
+    let reader = g.R.AsyncReadRent.reader c.args.reader.now in
+    let writer = g.W.AsyncWriteRent.writer in
+    copy_completes g.R.AsyncReadRent.tells g.W.AsyncWriteRent.tells (record { reader = reader; writer = writer c.args.writer.now })
+    (record { reader = reader; writer = writer c.poll_write.new.self }) c.args.self (Again _) (returns-else-n-eq0-2-clause-answer g c)
 
 pub returns-else-n-eq0-2-clause-joined : goal.returns-else-n-eq0-2-clause-joined
 returns-else-n-eq0-2-clause-joined g c =

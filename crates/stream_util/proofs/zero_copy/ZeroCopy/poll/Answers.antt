@@ -1,5 +1,7 @@
 use Rattle.std.proofs.Common.{inr}
 use Rattle.stream_util.specs.declared.zero_copy.TheConstants.{MOST_SPLICED}
+use Rattle.rent_io.specs.declared.poll.Step.TheVariants.{Again}
+use Rattle.stream_util.proofs.Completeness.{zero_copy_completes}
 use Rattle.stream_util.proofs.Splices.{splice_fetched, splice_delivered}
 use Rattle.stream_util.proofs.zero_copy.ZeroCopy.poll.Goals as goal
 
@@ -24,3 +26,21 @@ returns-else-n-eq0-2-clause-answer g c =
     (inr (splice_delivered g.S.SpliceSource.tells g.D.SpliceDestination.tells (g.S.SpliceSource.source c.args.reader.now)
     (destination c.args.writer.now) (destination c.poll_splice_from.new.self) c.args.self i.pipe c.poll_splice_from.new.pipe MOST_SPLICED
     a.n i.count c.self.view_is c.if-n-eq0-2.false splices))
+
+pub returns-else-n-eq0-clause-complete : goal.returns-else-n-eq0-clause-complete
+returns-else-n-eq0-clause-complete g c =
+    let source = g.S.SpliceSource.source in
+    let destination = g.D.SpliceDestination.destination c.args.writer.now in
+    zero_copy_completes g.S.SpliceSource.tells g.D.SpliceDestination.tells
+    (record { reader = source c.args.reader.now; writer = destination })
+    (record { reader = source c.poll_splice_to.new.self; writer = destination }) c.args.self (Again _)
+    (returns-else-n-eq0-clause-answer g c)
+
+pub returns-else-n-eq0-2-clause-complete : goal.returns-else-n-eq0-2-clause-complete
+returns-else-n-eq0-2-clause-complete g c =
+    let source = g.S.SpliceSource.source c.args.reader.now in
+    let destination = g.D.SpliceDestination.destination in
+    zero_copy_completes g.S.SpliceSource.tells g.D.SpliceDestination.tells
+    (record { reader = source; writer = destination c.args.writer.now })
+    (record { reader = source; writer = destination c.poll_splice_from.new.self }) c.args.self (Again _)
+    (returns-else-n-eq0-2-clause-answer g c)
