@@ -30,11 +30,13 @@ CountGetsOn CountAgain faults further = further
 abbrev pub Completes : {S R N E : Type 0} → Counts → Counts → Step S R → (R → Result N E) → (E → Type 0) → (S → Type 0) → Type 0
 Completes before now step outcome faults further = IsQuiet before now → GetsOn step outcome faults further
 
--- Reading: the stream ended, and a stream that tells its bytes had fewer left than were wanted.
+-- Reading: the stream ended, and a stream that tells its bytes had fewer left than were wanted. So one that has enough left never ends a
+-- read with a fault.
 abbrev pub IsShort : Bool → List ℕ → ℕ → IoFault → Type 0
 IsShort tells left wanted fault = (fault ≡ UnexpectedEof) × (IsTrue tells → length left < wanted)
 
--- Writing: a write took none of some bytes, and a stream that tells its bytes was delivered none.
+-- Writing: a write took none of some bytes, and a stream that tells its bytes was delivered none. So one that takes a byte of each write
+-- never ends a write with a fault.
 abbrev pub TookNone : Bool → List ℕ → List ℕ → List ℕ → IoFault → Type 0
 TookNone tells before now bytes fault = (fault ≡ WriteZero) × (0 < length bytes) × (IsTrue tells → now ≡ before)
 
@@ -42,6 +44,6 @@ TookNone tells before now bytes fault = (fault ≡ WriteZero) × (0 < length byt
 abbrev pub BeginText : List ℕ → List ℕ → Type 0
 BeginText bytes left = (line rest : List ℕ) → left ≡ line ++ rest → IsWholeLine true 10 line rest → IsUtf8 (bytes ++ line)
 
--- Reading a line: memory ran out; or a stream that tells its bytes has a line that isn't UTF-8.
+-- Reading a line: memory ran out; or the line isn't UTF-8, where the stream tells its bytes. An end before a newline is no fault.
 abbrev pub IsNoLine : Bool → List ℕ → List ℕ → IoFault → Type 0
 IsNoLine tells bytes left fault = (fault ≡ OutOfMemory) ⊎ ((fault ≡ InvalidData) × (IsTrue tells → ¬ BeginText bytes left))

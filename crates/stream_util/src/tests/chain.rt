@@ -18,18 +18,18 @@ const TURNS: [(&str, Turned1, u64, u64); 3] = [
 // How many calls of each stream are disturbed, one in each run.
 const CALLS: usize = 20;
 
-// How many bytes the first reads give at most, and each one behind them gives one: twice more than a copy takes at once, so that
-// some stay in the reader's buffer.
-const READS: [usize; 8] = [4100, 1, 1, 2, 1, 1, 4100, 3];
+// How many bytes the first reads give at most, and each one behind them gives one: the first gives more than a copy takes at
+// once, so that some stay in the reader's buffer.
+const READS: [usize; 7] = [4100, 1, 1, 2, 1, 1, 3];
 
-// How many bytes the first writes take at most, and each one behind them takes one: the prefix and then a long write, each in
-// pieces, and then few of those that are buffered.
-const WRITES: [usize; 8] = [1, 1, 1, 4000, 90, 6, 1, 2];
+// How many bytes the first writes take at most, and each one behind them takes one: a long write in pieces, what is buffered in
+// pieces, and both again.
+const WRITES: [usize; 9] = [4000, 90, 6, 1, 1, 1, 4000, 90, 6];
 
-// How many bytes are copied, and how many of them are the prefix.
-const ALL: usize = 8233;
+// How many bytes are copied, and how many of them are the prefix: more than one read of it gives.
+const ALL: usize = 8240;
 
-const PREFIX: usize = 3;
+const PREFIX: usize = 4099;
 
 // A run: what is copied, and how often a fault came and a poll had to wait.
 #[derive(Drop)]
