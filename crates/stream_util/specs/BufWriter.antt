@@ -58,7 +58,8 @@ WriteGetsOn (Ready end back) faults further = IfErr end faults
 WriteGetsOn (BufPending back) faults further = ⊥
 WriteGetsOn (BufAgain back) faults further = further
 
--- The same of a write.
+-- A poll of a write in which no count of the stream inside rose got on: it took bytes, or less is buffered, or it ended since a write took
+-- none of what is buffered.
 abbrev pub WriteCompletes : {T : Type 0} → Bool → Writer → Writer → List ℕ → List ℕ → PollBuf T → Type 0
 WriteCompletes tells before now held later result = IsQuiet before.counts now.counts
     → WriteGetsOn result (TookNone tells before.delivered now.delivered held) (length later < length held)
@@ -86,7 +87,8 @@ IfPushed Pending P = P
 IfPushed Again P = P
 IfPushed (Fault fault) P = P
 
--- The same of an offer: it was taken or is to be passed on, or less is buffered, or a write took none of what is.
+-- An offer at which no count of the stream inside rose: it was taken or is to be passed on, or less is buffered, or a write took none of
+-- what is buffered.
 abbrev pub OfferCompletes : Bool → Writer → Writer → List ℕ → List ℕ → Offered → Type 0
 OfferCompletes tells before now held later Taken = Unit {0}
 OfferCompletes tells before now held later PassOn = Unit {0}
