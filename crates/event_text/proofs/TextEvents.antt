@@ -1,6 +1,6 @@
 -- A line is read as an event exactly when it is its text.
 use Rattle.std.proofs.Common.{◌≡◌, ◌∙◌, ℕ, ◌^◌, ◌<◌, List, [], ◌∷◌, refl, ap, sym, subst, arith}
-use Rattle.std.specs.Prelude.{true, Option, Some, None, option_map, codes, decimal}
+use Rattle.std.specs.Prelude.{Bool, true, false, Option, Some, None, option_map, codes, decimal}
 use Rattle.std.proofs.lemmas.Option.{same_Some}
 use Rattle.rent_buf.specs.Buffer.{Buffer}
 use Rattle.rent_buf.specs.Parts.{Parts}
@@ -12,14 +12,15 @@ use Rattle.ring_core.specs.declared.request.Told.{Told}
 use Rattle.ring_core.specs.declared.request.Told.TheVariants.{Count, Fail}
 use Rattle.ring_core.specs.declared.world.HandleKind.{HandleKind}
 use Rattle.ring_core.specs.declared.world.HandleKind.TheVariants.{Stream, Datagram, File, Pipe, Listener}
-use Rattle.event_text.specs.TextEvent.{IsEvent, IsTold, StandsFor, event_text, event_words, handle_kind_word, told_words}
+use Rattle.event_text.specs.TextEvent.{IsEvent, IsExternal, IsTold, StandsFor, event_text, event_words, handle_kind_word}
+use Rattle.event_text.specs.TextEvent.{stands_for, told_words}
 use Rattle.event_text.specs.TextLines.{IsWrong}
 use Rattle.event_text.specs.TextReaders.{with_first, at_end, last_of}
 use Rattle.event_text.specs.TextReads.{words, number_of, number_below, bytes_end, handle_kind_of}
 use Rattle.event_text.specs.TextRequest.{IsRequest, request_words}
 use Rattle.event_text.specs.TextRequestReads.{request_of}
-use Rattle.event_text.specs.TextEventReads.{told_rows, told_of, event_rows, created_rows, numbered_rows, numbered_by, created_by, event_by}
-use Rattle.event_text.specs.TextEventReads.{event_of}
+use Rattle.event_text.specs.TextEventReads.{told_rows, told_of, engine_rows, arrived_rows, created_rows, numbered_rows, numbered_by}
+use Rattle.event_text.specs.TextEventReads.{created_by, external_by, event_of}
 use Rattle.event_text.specs.TextWords.{AreBytes, spaced, bytes_word}
 use Rattle.event_text.proofs.TextFields.{at_end-Some, value_of-Some}
 use Rattle.event_text.proofs.TextForms.{IsWord, IsForm, IsRow, AreRows, number_word, below_word, bytes_form, last_form, with_first_form}
@@ -104,8 +105,8 @@ told_behind : IsForm (with_first number_of told_of) (λ x. decimal x.0 ∷ told_
 told_behind = with_first_form number_word told_form
 
 -- What an event's words are read as.
-pub event_of-event_words : (event : Event) → IsEvent event → event_of (event_words event) ≡ Some event
-unfolding event_by created_by numbered_by
+pub event_of-event_words : (event : Event) → IsEvent event → event_of false (event_words event) ≡ Some event
+unfolding external_by created_by numbered_by
 event_of-event_words (Give kind) h = ap (λ o. option_map Give o) (kind_behind.reads kind tt)
 event_of-event_words (Feed n bytes) h = ap (λ o. option_map (λ x. Feed x.0 x.1) o) (bytes_behind.reads (n, bytes) h)
 event_of-event_words (FeedMessage n address bytes) h =
@@ -189,38 +190,64 @@ created_rows-are = (
   ),
 )
 
--- .. and each other row.
-event_rows-are : AreRows event_words IsEvent event_rows
-event_rows-are = (
-  alone (codes "turn") Turn refl tt,
+-- .. each of a poll and of what arrives,
+arrived_rows-are : AreRows event_words IsEvent arrived_rows
+arrived_rows-are = (
+  row_form event_words IsEvent (codes "poll") (λ x. Poll x.0 x.1) number_behind (λ x h. (refl, h)),
   (
-    row_form event_words IsEvent (codes "exec") (λ x. Exec x.0 x.1) told_behind (λ x h. (refl, h)),
+    row_form event_words IsEvent (codes "feed") (λ x. Feed x.0 x.1) bytes_behind (λ x h. (refl, h)),
     (
-      row_form event_words IsEvent (codes "poll") (λ x. Poll x.0 x.1) number_behind (λ x h. (refl, h)),
-      (
-        row_form event_words IsEvent (codes "feed") (λ x. Feed x.0 x.1) bytes_behind (λ x h. (refl, h)),
-        (
-          row_form event_words IsEvent (codes "message") (λ x. FeedMessage x.0 x.1.0 x.1.1) message_behind
-              (λ x h. (refl, (h.0, h.1.0, h.1.1))),
-          tt,
-        ),
-      ),
+      row_form event_words IsEvent (codes "message") (λ x. FeedMessage x.0 x.1.0 x.1.1) message_behind
+          (λ x h. (refl, (h.0, h.1.0, h.1.1))),
+      tt,
     ),
   ),
 )
 
--- Words that are read as an event are that event's.
-event_of-Some : (all : List (List ℕ)) (event : Event) → event_of all ≡ Some event → (all ≡ event_words event) × IsEvent event
-unfolding event_by created_by numbered_by
-event_of-Some [] event is = absurd (cc)
-event_of-Some (name ∷ words) event is =
-    by_name-Some event_words IsEvent event_rows event_rows-are (created_by name words) name words event (λ created.
+-- .. and each of a turn and an execution.
+engine_rows-are : AreRows event_words IsEvent engine_rows
+engine_rows-are = (
+  alone (codes "turn") Turn refl tt,
+  (row_form event_words IsEvent (codes "exec") (λ x. Exec x.0 x.1) told_behind (λ x h. (refl, h)), tt),
+)
+
+-- Words that are read as an event are that event's: where only external ones are taken,
+external_by-Some : (name : List ℕ) (words : List (List ℕ)) (event : Event) → external_by name words ≡ Some event
+    → (name ∷ words ≡ event_words event) × IsEvent event
+unfolding external_by created_by numbered_by
+external_by-Some name words event is =
+    by_name-Some event_words IsEvent arrived_rows arrived_rows-are (created_by name words) name words event (λ created.
     by_name-Some event_words IsEvent created_rows created_rows-are (numbered_by name words) name words event (λ numbered.
     by_name-Some event_words IsEvent numbered_rows numbered_rows-are None name words event (λ none. absurd (cc)) numbered) created) is
+
+-- .. and where any is.
+event_of-Some : (external : Bool) (all : List (List ℕ)) (event : Event) → event_of external all ≡ Some event
+    → (all ≡ event_words event) × IsEvent event
+event_of-Some external [] event is = absurd (cc)
+event_of-Some true (name ∷ words) event is = external_by-Some name words event is
+event_of-Some false (name ∷ words) event is =
+    by_name-Some event_words IsEvent engine_rows engine_rows-are (external_by name words) name words event
+    (external_by-Some name words event) is
 
 -- Nothing is no event.
 none_isnt_some : (event : Event) → None ≡ Some event → ⊥
 none_isnt_some event is = cc
+
+-- The words of an external event are read as the same, whichever are taken.
+external_of-event_words : (event : Event) → IsExternal event → event_of true (event_words event) ≡ event_of false (event_words event)
+unfolding external_by created_by numbered_by
+external_of-event_words Turn external = absurd external
+external_of-event_words (Exec place told) external = absurd external
+external_of-event_words (Submit request None) external = refl
+external_of-event_words (Submit request (Some handle)) external = refl
+external_of-event_words event external = refl
+
+-- Words that are read as an event, where only external ones are taken, aren't those of a turn or an execution.
+is_external : (event : Event) → event_of true (event_words event) ≡ Some event → IsExternal event
+unfolding external_by created_by numbered_by
+is_external Turn is = absurd (none_isnt_some Turn is)
+is_external (Exec place told) is = absurd (none_isnt_some (Exec place told) is)
+is_external event is = tt
 
 -- Words that have no space in them, and are some, are those that their line is cut into.
 words-solid : (all : List (List ℕ)) → (all ≡ [] → ⊥) → AreSolid all → words (spaced all) ≡ all
@@ -230,23 +257,41 @@ words-solid (word ∷ more) some solid = words-spaced word more solid
 -- The words of an event's text.
 words-event_text : (event : Event) → IsEvent event → words (event_text event) ≡ event_words event
 words-event_text event typed =
-    words-solid (event_words event) (λ empty. none_isnt_some event (sym (ap event_of empty) ∙ event_of-event_words event typed))
+    words-solid (event_words event) (λ empty. none_isnt_some event (sym (ap (event_of false) empty) ∙ event_of-event_words event typed))
     (solid_event event typed)
 
--- A line that is read as an event stands for it, and a line that stands for an event is read as it.
-pub event_of-stands : (line : List ℕ) (event : Event) → event_of (words line) ≡ Some event → StandsFor line event
-event_of-stands line event is =
-    let read = event_of-Some (words line) event is in
+-- A line that is read as an event stands for it,
+pub event_of-stands : (external : Bool) (line : List ℕ) (event : Event) → event_of external (words line) ≡ Some event
+    → StandsFor line event
+event_of-stands external line event is =
+    let read = event_of-Some external (words line) event is in
     record { typed = read.1; text = sym (spaced-words line) ∙ ap spaced read.0 }
 
--- A line that stands for an event is read as it.
-pub stands-event_of : (line : List ℕ) (event : Event) → StandsFor line event → event_of (words line) ≡ Some event
-stands-event_of line event stands =
-    ap event_of (ap words stands.text ∙ words-event_text event stands.typed) ∙ event_of-event_words event stands.typed
+-- .. and for one that is taken.
+pub read-stands : (external : Bool) (line : List ℕ) (event : Event) → event_of external (words line) ≡ Some event
+    → stands_for external line event
+read-stands false line event is = event_of-stands false line event is
+read-stands true line event is = record {
+  stands = event_of-stands true line event is;
+  external = is_external event (ap (event_of true) (sym (event_of-Some true (words line) event is).0) ∙ is);
+}
 
--- A line that is read as none stands for no event.
-pub event_of-wrong : (line : List ℕ) → event_of (words line) ≡ None → IsWrong line
-event_of-wrong line none event stands = none_isnt_some event (sym none ∙ stands-event_of line event stands)
+-- A line that stands for an event is read as it,
+pub stands-event_of : (line : List ℕ) (event : Event) → StandsFor line event → event_of false (words line) ≡ Some event
+stands-event_of line event stands =
+    ap (event_of false) (ap words stands.text ∙ words-event_text event stands.typed) ∙ event_of-event_words event stands.typed
+
+-- .. also where only external events are taken.
+pub stands-read : (external : Bool) (line : List ℕ) (event : Event) → stands_for external line event
+    → event_of external (words line) ≡ Some event
+stands-read false line event stands = stands-event_of line event stands
+stands-read true line event stands =
+    let words_are = ap words stands.stands.text ∙ words-event_text event stands.stands.typed in
+    ap (event_of true) words_are ∙ external_of-event_words event stands.external ∙ event_of-event_words event stands.stands.typed
+
+-- A line that is read as none stands for no event that is taken.
+pub read-wrong : (external : Bool) (line : List ℕ) → event_of external (words line) ≡ None → IsWrong (stands_for external) line
+read-wrong external line none event stands = none_isnt_some event (sym none ∙ stands-read external line event stands)
 
 -- A line stands for one event at most.
 pub stands_once : (line : List ℕ) (a b : Event) → StandsFor line a → StandsFor line b → a ≡ b

@@ -1,7 +1,7 @@
 -- Lines and their words looked through without keeping what they write.
 use Rattle.std.proofs.Common.{◌≡◌, ◌∙◌, ℕ, zero, suc, ◌+◌, ◌*◌, ◌/◌, ◌^◌, ◌<◌, ◌≤◌, List, [], ◌∷◌, ◌++◌, length, drop, get_or, refl, ap}
 use Rattle.std.proofs.Common.{sym, arith, length-append}
-use Rattle.std.specs.Prelude.{true, false, ◌==◌, ◌⊎◌, All, Option, Some, None, option_and_then, option_map}
+use Rattle.std.specs.Prelude.{Bool, true, false, ◌==◌, ◌⊎◌, All, Option, Some, None, option_and_then, option_map}
 use Rattle.std.specs.Option.{is_some}
 use Rattle.std.proofs.lemmas.Bool.{ne_eqb}
 use Rattle.std.proofs.lemmas.List.Elements.{All-append, All-cons}
@@ -10,40 +10,41 @@ use Rattle.rent_buf.specs.Parts.{Parts, IsParts, rooms_of}
 use Rattle.rent_buf.specs.Rent.{Rented}
 use Rattle.ring_core.specs.declared.ledger.Event.{Event}
 use Rattle.ring_core.proofs.Numbers.{some-of, none-of}
-use Rattle.event_text.specs.TextLines.{lines, IsFirstWrong}
+use Rattle.event_text.specs.TextEvent.{stands_for}
+use Rattle.event_text.specs.TextLines.{lines, IsFirstWrongFor, Standing}
 use Rattle.event_text.specs.TextReads.{words, digit_value_of, pairs_of, number_of, bytes_of, part_onto, parts_end, counted}
 use Rattle.event_text.specs.TextEventReads.{event_of}
 use Rattle.event_text.specs.TextValid.{AddsPart, NoPart}
-use Rattle.event_text.proofs.TextEvents.{event_of-stands, event_of-wrong}
+use Rattle.event_text.proofs.TextEvents.{read-stands, read-wrong}
 use Rattle.event_text.proofs.TextHex.{onto, pairs_of-more, pairs_of-stop, pairs_of-end}
 use Rattle.event_text.proofs.TextLinesRead.{HaveRead, have_read-more, have_read-wrong}
 use Rattle.event_text.proofs.TextParts.{counted-bounds, counted-None, rooms-more, rooms-alone, rooms-done}
 
 -- So many lines in front of the rest stand for events.
-pub record HaveSeen (text rest : List ℕ) (n : ℕ) : Type 0 where
+pub record HaveSeen (Stands : Standing) (text rest : List ℕ) (n : ℕ) : Type 0 where
   pub events : List Event
-  pub read : HaveRead text rest events
+  pub read : HaveRead Stands text rest events
   pub count : length events ≡ n
 
 -- One line more was seen.
-pub have_seen-more : (text rest line behind : List ℕ) (n : ℕ) → HaveSeen text rest n → lines rest ≡ line ∷ lines behind
-    → is_some (event_of (words line)) ≡ true → HaveSeen text behind (n + 1)
-have_seen-more text rest line behind n seen first right =
-    let event = some-of (event_of (words line)) right in
+pub have_seen-more : (x : Bool) (text rest line behind : List ℕ) (n : ℕ) → HaveSeen (stands_for x) text rest n
+    → lines rest ≡ line ∷ lines behind → is_some (event_of x (words line)) ≡ true → HaveSeen (stands_for x) text behind (n + 1)
+have_seen-more x text rest line behind n seen first right =
+    let event = some-of (event_of x (words line)) right in
     let count = seen.count in
     record {
       events = seen.events ++ event.0 ∷ [];
-      read = have_read-more text rest line behind seen.events (seen.events ++ event.0 ∷ []) event.0 seen.read first
-          (event_of-stands line event.0 event.1) refl;
+      read = have_read-more (stands_for x) text rest line behind seen.events (seen.events ++ event.0 ∷ []) event.0 seen.read first
+          (read-stands x line event.0 event.1) refl;
       count = (let lengths = length-append seen.events (event.0 ∷ []) in omega (arith, lengths, count));
     }
 
 -- The next line is wrong.
-pub have_seen-wrong : (text rest line behind : List ℕ) (n : ℕ) → HaveSeen text rest n → lines rest ≡ line ∷ lines behind
-    → is_some (event_of (words line)) ≡ false → IsFirstWrong (lines text) (n + 1)
-have_seen-wrong text rest line behind n seen first wrong =
-    have_read-wrong text rest line behind seen.events n seen.read first (event_of-wrong line (none-of (event_of (words line)) wrong))
-    (sym seen.count)
+pub have_seen-wrong : (x : Bool) (text rest line behind : List ℕ) (n : ℕ) → HaveSeen (stands_for x) text rest n
+    → lines rest ≡ line ∷ lines behind → is_some (event_of x (words line)) ≡ false → IsFirstWrongFor (stands_for x) (lines text) (n + 1)
+have_seen-wrong x text rest line behind n seen first wrong =
+    have_read-wrong (stands_for x) text rest line behind seen.events n seen.read first
+    (read-wrong x line (none-of (event_of x (words line)) wrong)) (sym seen.count)
 
 -- The digits so far are pairs of digits.
 pub record PairsSeen (word : List ℕ) (at : ℕ) : Type 0 where

@@ -1,5 +1,5 @@
 -- The texts of events, and the events that a line stands for.
-use Rattle.std.specs.Prelude.{◌≡◌, ℕ, ◌^◌, ◌<◌, List, [], ◌∷◌, codes, decimal, Some, None}
+use Rattle.std.specs.Prelude.{◌≡◌, ℕ, ◌^◌, ◌<◌, Bool, true, false, List, [], ◌∷◌, codes, decimal, Some, None}
 use Rattle.ring_core.specs.declared.ledger.Event.{Event}
 use Rattle.ring_core.specs.declared.ledger.Event.TheVariants.{Give, Feed, FeedMessage, End, Look, Close, Submit, Poll, Drop, Cancel}
 use Rattle.ring_core.specs.declared.ledger.Event.TheVariants.{NewCanceller, NewHandle, CancelAll, Turn, Exec}
@@ -74,3 +74,24 @@ IsEvent (Exec place told) = (place < 2 ^ 64) × IsTold told
 pub record StandsFor (line : List ℕ) (event : Event) : Type 0 where
   pub typed : IsEvent event
   pub text : line ≡ event_text event
+
+-- An event from outside the engine: a call of its user, or what arrives at a handle. A turn and an execution aren't.
+abbrev pub IsExternal : Event → Type 0
+IsExternal Turn = ⊥
+IsExternal (Exec place told) = ⊥
+IsExternal event = Unit {0}
+
+-- Events from outside the engine.
+abbrev pub AreExternal : List Event → Type 0
+AreExternal [] = Unit {0}
+AreExternal (event ∷ events) = IsExternal event × AreExternal events
+
+-- A line stands for an external event exactly when it is its text.
+pub record StandsForExternal (line : List ℕ) (event : Event) : Type 0 where
+  pub stands : StandsFor line event
+  pub external : IsExternal event
+
+-- What a line stands for: an external event, or any.
+abbrev pub stands_for : Bool → List ℕ → Event → Type 0
+stands_for true = StandsForExternal
+stands_for false = StandsFor

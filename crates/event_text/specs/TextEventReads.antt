@@ -1,7 +1,7 @@
 -- What the readers of a line's events answer: tables of first words, each with what is read behind it. Only contracts of private functions
--- cite these: `event_of-stands` and `stands-event_of` (proofs/TextEvents.antt) prove that a line is read as an event exactly when it
--- stands for it.
-use Rattle.std.specs.Prelude.{ℕ, ◌^◌, List, [], ◌∷◌, codes, Option, Some, None, option_map}
+-- cite these: `read-stands` and `stands-read` (proofs/TextEvents.antt) prove that a line is read as an event exactly when it stands for
+-- it, where any event is taken and where only external ones are.
+use Rattle.std.specs.Prelude.{ℕ, ◌^◌, Bool, true, false, List, [], ◌∷◌, codes, Option, Some, None, option_map}
 use Rattle.ring_core.specs.declared.ledger.Event.{Event}
 use Rattle.ring_core.specs.declared.ledger.Event.TheVariants.{Give, Feed, FeedMessage, End, Look, Close, Submit, Poll, Drop, Cancel}
 use Rattle.ring_core.specs.declared.ledger.Event.TheVariants.{NewCanceller, NewHandle, CancelAll, Turn, Exec}
@@ -78,15 +78,13 @@ created_rows =
     ∷ (codes "canceller", canceller_of)
     ∷ []
 
--- Events of a turn, an execution, a poll, and of what arrives.
-abbrev pub event_rows : List (List ℕ × (List (List ℕ) → Option Event))
-event_rows =
-    (codes "turn", turn_of)
-    ∷ (codes "exec", exec_of)
-    ∷ (codes "poll", poll_of)
-    ∷ (codes "feed", feed_of)
-    ∷ (codes "message", message_of)
-    ∷ []
+-- Events of a poll, and of what arrives.
+abbrev pub arrived_rows : List (List ℕ × (List (List ℕ) → Option Event))
+arrived_rows = (codes "poll", poll_of) ∷ (codes "feed", feed_of) ∷ (codes "message", message_of) ∷ []
+
+-- Events of a turn and an execution.
+abbrev pub engine_rows : List (List ℕ × (List (List ℕ) → Option Event))
+engine_rows = (codes "turn", turn_of) ∷ (codes "exec", exec_of) ∷ []
 
 -- The event by its first word and those behind it, by the tables from one of them on.
 unfoldable pub numbered_by : List ℕ → List (List ℕ) → Option Event
@@ -96,11 +94,16 @@ numbered_by name words = by_name numbered_rows None name words
 unfoldable pub created_by : List ℕ → List (List ℕ) → Option Event
 created_by name words = by_name created_rows (numbered_by name words) name words
 
--- .. by all of them.
-unfoldable pub event_by : List ℕ → List (List ℕ) → Option Event
-event_by name words = by_name event_rows (created_by name words) name words
+-- .. from that of polls and of what arrives on,
+unfoldable pub external_by : List ℕ → List (List ℕ) → Option Event
+external_by name words = by_name arrived_rows (created_by name words) name words
 
--- The event that words write.
-abbrev pub event_of : List (List ℕ) → Option Event
-event_of [] = None
-event_of (name ∷ words) = event_by name words
+-- .. by all of them, or by all but that of a turn and an execution.
+abbrev pub event_by : Bool → List ℕ → List (List ℕ) → Option Event
+event_by true name words = external_by name words
+event_by false name words = by_name engine_rows (external_by name words) name words
+
+-- The event that words write, if only external ones are taken, or any.
+abbrev pub event_of : Bool → List (List ℕ) → Option Event
+event_of external [] = None
+event_of external (name ∷ words) = event_by external name words

@@ -1,4 +1,4 @@
--- The lines of a text, and the first of them that stands for no event.
+-- The lines of a text, and the first of them that stands for no event, or for none of a smaller set of events.
 use Rattle.std.specs.Prelude.{◌≡◌, ℕ, ◌+◌, ◌==◌, List, [], ◌∷◌, ◌++◌, length, if◌then◌else◌}
 use Rattle.std.specs.List.{AllZip}
 use Rattle.ring_core.specs.declared.ledger.Event.{Event}
@@ -16,25 +16,37 @@ abbrev pub lines : List ℕ → List (List ℕ)
 lines [] = []
 lines (byte ∷ bytes) = if byte == 10 then [] ∷ lines bytes else onto_first byte (lines bytes)
 
--- A line stands for no event.
-abbrev pub IsWrong : List ℕ → Type 0
-IsWrong line = (event : Event) → StandsFor line event → ⊥
+-- What lines may stand for: any events, or those of a smaller set.
+abbrev pub Standing : Type 1
+Standing = List ℕ → Event → Type 0
 
--- The line of this number, counted from 1, stands for no event, and each line before it stands for one.
-pub record IsFirstWrong (all : List (List ℕ)) (n : ℕ) : Type 0 where
+-- A line stands for no such event.
+abbrev pub IsWrong : Standing → List ℕ → Type 0
+IsWrong Stands line = (event : Event) → Stands line event → ⊥
+
+-- The line of this number, counted from 1, stands for no such event, and each line before it stands for one.
+pub record IsFirstWrongFor (Stands : Standing) (all : List (List ℕ)) (n : ℕ) : Type 0 where
   pub before : List (List ℕ)
   pub events : List Event
   pub line : List ℕ
   pub behind : List (List ℕ)
   pub split : all ≡ before ++ line ∷ behind
   pub number : n ≡ length before + 1
-  pub right : AllZip StandsFor before events
-  pub wrong : IsWrong line
+  pub right : AllZip Stands before events
+  pub wrong : IsWrong Stands line
 
--- Each line stands for an event.
-pub record AreEvents (all : List (List ℕ)) : Type 0 where
+-- Each line stands for such an event.
+pub record AreEventsFor (Stands : Standing) (all : List (List ℕ)) : Type 0 where
   pub events : List Event
-  pub stand : AllZip StandsFor all events
+  pub stand : AllZip Stands all events
+
+-- The same where lines may stand for any event: the first of them that stands for none,
+abbrev pub IsFirstWrong : List (List ℕ) → ℕ → Type 0
+IsFirstWrong = IsFirstWrongFor StandsFor
+
+-- .. and each stands for one.
+abbrev pub AreEvents : List (List ℕ) → Type 0
+AreEvents = AreEventsFor StandsFor
 
 -- A fact of the number of a bad line.
 abbrev pub IfBadLine : (ℕ → Type 0) → LinesError → Type 0

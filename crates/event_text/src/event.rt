@@ -4,7 +4,7 @@ ghost use Rattle.event_text.specs.TextWrites.{Starts};
 ghost use Rattle.event_text.specs.TextEvent.{event_text};
 ghost use Rattle.event_text.specs.TextReads.{words, words_behind, handle_kind_of};
 ghost use Rattle.event_text.specs.TextEventReads.{event_of, feed_of, message_of, submit_of, under_of, poll_of, exec_of, give_of};
-ghost use Rattle.event_text.specs.TextEventReads.{turn_of, canceller_of, created_by, numbered_by, told_of};
+ghost use Rattle.event_text.specs.TextEventReads.{turn_of, canceller_of, external_by, created_by, numbered_by, told_of};
 
 use crate::request::put::put_request;
 use crate::request::read_request;
@@ -16,18 +16,31 @@ use rent_buf::{BufSpec, OutOfMemory, PartsSpec};
 use ring_core::{Event, HandleKind, Request, Told};
 use std::alloc::Global;
 
-/// The event that a line stands for.
-#[tactic(auto, unfolding(crate::specs::TextEventReads::event_by))]
-pub(crate) fn event_of_line(alloc: Global, line: &[u8]) -> Result<Option<Event>, OutOfMemory>
-    ensures { IfOk result (λ event. event ≡ event_of (words line.now)) }
+/// The event that a line stands for, if only external events are taken, or any.
+pub(crate) fn event_of_line<const EXTERNAL: bool>(
+    alloc: Global,
+    line: &[u8],
+) -> Result<Option<Event>, OutOfMemory>
+    ensures { IfOk result (λ event. event ≡ event_of EXTERNAL (words line.now)) }
 {
     let (word, rest) = first_word(line);
+    if EXTERNAL {
+        return external_event(alloc, word, rest);
+    }
     if is_word(word, b"turn") {
         return Ok(turn_event(rest));
     }
     if is_word(word, b"exec") {
         return Ok(exec_event(rest));
     }
+    external_event(alloc, word, rest)
+}
+
+// A poll, or what arrives, or what `created_event` reads.
+#[tactic(auto, unfolding(crate::specs::TextEventReads::external_by))]
+fn external_event(alloc: Global, word: &[u8], rest: &[u8]) -> Result<Option<Event>, OutOfMemory>
+    ensures { IfOk result (λ event. event ≡ external_by word.now (words_behind rest.now)) }
+{
     if is_word(word, b"poll") {
         return Ok(poll_event(rest));
     }

@@ -2,8 +2,8 @@
 ghost use Rattle.std.specs.Prelude.{◌≡◌, ◌+◌, List, ℕ, IfOk, IfErr};
 ghost use Rattle.std.specs.List.{AllZip};
 ghost use Rattle.ring_core.specs.declared.ledger.Event.{Event};
-ghost use Rattle.event_text.specs.TextEvent.{IsEvent, StandsFor, event_text};
-ghost use Rattle.event_text.specs.TextLines.{lines, AreEvents, IfBadLine, IfShort, IsFirstWrong};
+ghost use Rattle.event_text.specs.TextEvent.{AreExternal, IsEvent, StandsFor, StandsForExternal, event_text, stands_for};
+ghost use Rattle.event_text.specs.TextLines.{lines, AreEvents, AreEventsFor, IfBadLine, IfShort, IsFirstWrong, IsFirstWrongFor};
 ghost use Rattle.event_text.specs.declared.text.LinesError.TheVariants.{OutOfMemory};
 
 use crate::event::event_of_line;
@@ -57,34 +57,54 @@ pub fn read_events(alloc: Global, text: &[u8]) -> Result<Vec<Event>, LinesError>
     ensures bad_line { IfErr result (IfBadLine (IsFirstWrong (lines text.now))) }
     ensures memory { IfErr result (IfShort (AreEvents (lines text.now))) }
 {
-    match read_lines(alloc, text) {
+    read_lines::<false>(alloc, text)
+}
+
+/// As `read_events`, where only external events are taken: those of a command in which no line is a turn or an execution. The line of
+/// one of these is wrong. (not in monoio)
+pub fn read_external_events(alloc: Global, text: &[u8]) -> Result<Vec<Event>, LinesError>
+    ensures events { IfOk result (λ events. AllZip StandsForExternal (lines text.now) events.items) }
+    ensures external { IfOk result (λ events. AreExternal events.items) }
+    ensures bad_line { IfErr result (IfBadLine (IsFirstWrongFor StandsForExternal (lines text.now))) }
+    ensures memory { IfErr result (IfShort (AreEventsFor StandsForExternal (lines text.now))) }
+{
+    read_lines::<true>(alloc, text)
+}
+
+// What both give: the events that are taken, and if memory runs out, why there are none.
+fn read_lines<const EXTERNAL: bool>(alloc: Global, text: &[u8]) -> Result<Vec<Event>, LinesError>
+    ensures events { IfOk result (λ events. AllZip (stands_for EXTERNAL) (lines text.now) events.items) }
+    ensures bad_line { IfErr result (IfBadLine (IsFirstWrongFor (stands_for EXTERNAL) (lines text.now))) }
+    ensures memory { IfErr result (IfShort (AreEventsFor (stands_for EXTERNAL) (lines text.now))) }
+{
+    match try_read::<EXTERNAL>(alloc, text) {
         Ok(events) => Ok(events),
         Err(LinesError::BadLine(line)) => Err(LinesError::BadLine(line)),
-        Err(LinesError::OutOfMemory) => Err(why_short(text)),
+        Err(LinesError::OutOfMemory) => Err(why_short::<EXTERNAL>(text)),
     }
 }
 
 // Why lines gave no events, if memory ran out: a wrong line, or memory alone.
-fn why_short(text: &[u8]) -> LinesError
-    ensures bad_line { IfBadLine (IsFirstWrong (lines text.now)) result }
-    ensures memory { IfShort (AreEvents (lines text.now)) result }
+fn why_short<const EXTERNAL: bool>(text: &[u8]) -> LinesError
+    ensures bad_line { IfBadLine (IsFirstWrongFor (stands_for EXTERNAL) (lines text.now)) result }
+    ensures memory { IfShort (AreEventsFor (stands_for EXTERNAL) (lines text.now)) result }
 {
-    match first_wrong(text) {
+    match first_wrong::<EXTERNAL>(text) {
         Some(line) => LinesError::BadLine(line),
         None => LinesError::OutOfMemory,
     }
 }
 
 // The events that the lines of a text stand for, up to the first wrong line, or to where memory runs out.
-fn read_lines(alloc: Global, text: &[u8]) -> Result<Vec<Event>, LinesError>
-    ensures events { IfOk result (λ events. AllZip StandsFor (lines text.now) events.items) }
-    ensures bad_line { IfErr result (IfBadLine (IsFirstWrong (lines text.now))) }
+fn try_read<const EXTERNAL: bool>(alloc: Global, text: &[u8]) -> Result<Vec<Event>, LinesError>
+    ensures events { IfOk result (λ events. AllZip (stands_for EXTERNAL) (lines text.now) events.items) }
+    ensures bad_line { IfErr result (IfBadLine (IsFirstWrongFor (stands_for EXTERNAL) (lines text.now))) }
 {
     let mut events = Vec::new(alloc);
     let mut rest = text;
     while !rest.is_empty() {
         let (line, behind) = first_line(rest);
-        match event_of_line(alloc, line)? {
+        match event_of_line::<EXTERNAL>(alloc, line)? {
             Some(event) => events.push(event)?,
             None => return Err(LinesError::BadLine(events.len() as u64 + 1)),
         }

@@ -1,12 +1,13 @@
 //! Whether lines are events' texts, found with no memory taken.
 ghost use Rattle.std.specs.Prelude.{◌≡◌, ◌&&◌, ◌^◌, nat_le, option_and_then, MatchOption};
 ghost use Rattle.std.specs.Option.{is_some};
-ghost use Rattle.event_text.specs.TextLines.{lines, AreEvents, IsFirstWrong};
+ghost use Rattle.event_text.specs.TextEvent.{stands_for};
+ghost use Rattle.event_text.specs.TextLines.{lines, AreEventsFor, IsFirstWrongFor};
 ghost use Rattle.event_text.specs.TextReaders.{with_first, last_of};
 ghost use Rattle.event_text.specs.TextReads.{words, words_behind, number_of, number_below, bytes_of, address_of, flag_of, bytes_end};
 ghost use Rattle.event_text.specs.TextReads.{buffer_of, parts_of, counted, counted_of, parts_end, is_full};
 ghost use Rattle.event_text.specs.TextRequestReads.{request_of, request_by, place_request_by, path_request_by};
-ghost use Rattle.event_text.specs.TextEventReads.{event_of, created_by, feed_of, message_of, submit_of, under_of};
+ghost use Rattle.event_text.specs.TextEventReads.{event_of, external_by, created_by, feed_of, message_of, submit_of, under_of};
 ghost use Rattle.event_text.specs.TextValid.{AddsPart, NoPart};
 
 use crate::buffer::next_buffer_kind;
@@ -22,16 +23,18 @@ use crate::word::{
 };
 use rent_buf::Kind;
 
-/// The number of the first line that is no event's text, counted from 1; none if each line is one. It takes no memory.
-pub(crate) fn first_wrong(text: &[u8]) -> Option<u64>
-    ensures { MatchOption result (AreEvents (lines text.now)) (IsFirstWrong (lines text.now)) }
+/// The number of the first line that is no event's text, or no external one's, counted from 1; none if each line is one. It takes
+/// no memory.
+pub(crate) fn first_wrong<const EXTERNAL: bool>(text: &[u8]) -> Option<u64>
+    ensures { MatchOption result (AreEventsFor (stands_for EXTERNAL) (lines text.now))
+        (IsFirstWrongFor (stands_for EXTERNAL) (lines text.now)) }
 {
     let mut number: u64 = 0;
     let mut rest = text;
     while !rest.is_empty() {
         let (line, behind) = first_line(rest);
         number += 1;
-        if !is_event_line(line) {
+        if !is_event_line::<EXTERNAL>(line) {
             return Some(number);
         }
         rest = behind;
@@ -39,18 +42,28 @@ pub(crate) fn first_wrong(text: &[u8]) -> Option<u64>
     None
 }
 
-/// Whether a line is some event's text.
-#[tactic(auto, unfolding(crate::specs::TextEventReads::event_by))]
-pub(crate) fn is_event_line(line: &[u8]) -> bool
-    ensures { result ≡ is_some (event_of (words line.now)) }
+/// Whether a line is some event's text, if only external events are taken, or any.
+pub(crate) fn is_event_line<const EXTERNAL: bool>(line: &[u8]) -> bool
+    ensures { result ≡ is_some (event_of EXTERNAL (words line.now)) }
 {
     let (word, rest) = first_word(line);
+    if EXTERNAL {
+        return is_external(word, rest);
+    }
     if is_word(word, b"turn") {
         return turn_event(rest).is_some();
     }
     if is_word(word, b"exec") {
         return exec_event(rest).is_some();
     }
+    is_external(word, rest)
+}
+
+// Whether the words are an external event's.
+#[tactic(auto, unfolding(crate::specs::TextEventReads::external_by))]
+fn is_external(word: &[u8], rest: &[u8]) -> bool
+    ensures { result ≡ is_some (external_by word.now (words_behind rest.now)) }
+{
     if is_word(word, b"poll") {
         return poll_event(rest).is_some();
     }

@@ -1,11 +1,16 @@
 //! Lines, read and written again.
-use crate::{LinesError, read_events, write_event};
+use crate::{LinesError, read_events, read_external_events, write_event};
+use ring_core::Event;
 use std::alloc::Global;
 use std::test::Fail;
 
 // How many events the lines of a text give, and the first wrong line, or 0.
 fn counted(alloc: Global, text: &[u8]) -> (usize, u64) {
-    match read_events(alloc, text) {
+    counts_of(read_events(alloc, text))
+}
+
+fn counts_of(read: Result<Vec<Event>, LinesError>) -> (usize, u64) {
+    match read {
         Ok(events) => (events.len(), 0),
         Err(LinesError::BadLine(line)) => (0, line),
         Err(LinesError::OutOfMemory) => (0, 0),
@@ -290,6 +295,24 @@ const TEXTS: [(&[u8], usize, u64); 10] = [
 fn lines_are_counted(rt: HostRuntime) -> Result<(), Fail> {
     for (text, count, bad) in TEXTS {
         assert_eq!(rt; counted(rt.alloc(), text), (count, bad), "at {text:?}");
+    }
+    Ok(())
+}
+
+// Lines of which some are no external event's, how many events they give, and the first wrong line, or 0.
+#[rattlefmt::skip]
+const EXTERNAL: [(&str, usize, u64); 4] = [
+    ("give stream\npoll 0 7\ndrop 0", 3, 0),
+    ("give stream\nturn\nno event", 0, 2),
+    ("exec 0 ok 1", 0, 1),
+    ("end 0\nno event\nturn", 0, 2),
+];
+
+#[test]
+fn turns_and_executions_are_no_external_events(rt: HostRuntime) -> Result<(), Fail> {
+    for (text, count, bad) in EXTERNAL {
+        let read = read_external_events(rt.alloc(), text.as_bytes());
+        assert_eq!(rt; counts_of(read), (count, bad), "at {text:?}");
     }
     Ok(())
 }
