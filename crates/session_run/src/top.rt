@@ -315,4 +315,6 @@ fn run_copy<R: Wait, S: ByteSource, K: ByteSink>(
 }
 
 #[cfg(test)]
+mod failing;
+#[cfg(test)]
 mod tests;

@@ -158,7 +158,7 @@ fn run_words(alloc: Global, capacity: &str) -> Result<Vec<String>, AllocError> {
 }
 
 // Lines from text in which `;` stands for a newline.
-fn lines_of(alloc: Global, text: &str) -> Result<ByteList, AllocError> {
+pub(super) fn lines_of(alloc: Global, text: &str) -> Result<ByteList, AllocError> {
     let mut bytes = Vec::new(alloc);
     for byte in text.as_bytes() {
         bytes.push(if *byte == b';' { b'\n' } else { *byte })?;
@@ -167,7 +167,7 @@ fn lines_of(alloc: Global, text: &str) -> Result<ByteList, AllocError> {
 }
 
 // The numbers of the calls that fail: one, or none.
-fn failing(alloc: Global, call: Option<u64>) -> Result<NumList, AllocError> {
+pub(super) fn failing(alloc: Global, call: Option<u64>) -> Result<NumList, AllocError> {
     let mut calls = Vec::new(alloc);
     if let Some(call) = call {
         calls.push(call)?;
@@ -176,7 +176,7 @@ fn failing(alloc: Global, call: Option<u64>) -> Result<NumList, AllocError> {
 }
 
 // Runs the top call over memory, and gives its status and what was written.
-fn run_top<R: Threads + Wait + Clock + Sync>(
+pub(super) fn run_top<R: Threads + Wait + Clock + Sync>(
     rt: &R,
     alloc: Global,
     words: &[String],
@@ -309,7 +309,7 @@ fn copies(rt: HostRuntime) -> Result<(), Fail> {
 }
 
 // Words with one space between them.
-fn split_words(alloc: Global, text: &str) -> Result<Vec<String>, AllocError> {
+pub(super) fn split_words(alloc: Global, text: &str) -> Result<Vec<String>, AllocError> {
     let mut words = Vec::new(alloc);
     for word in text.split(' ') {
         words.push(String::from_str(alloc, word)?)?;
@@ -327,75 +327,5 @@ fn commands_that_read_nothing(rt: HostRuntime) -> Result<(), Fail> {
         assert_eq!(rt; ended, status, "for {text:?}");
         assert_eq!(rt; sink.taken(), wanted.as_slice(), "for {text:?}");
     }
-    Ok(())
-}
-
-#[test]
-fn an_input_that_is_too_long_is_refused(rt: HostRuntime) -> Result<(), Fail> {
-    for text in ["run 4", "copy 16777216 -"] {
-        let bytes = ByteList::from_vec(vec![in rt.alloc(); b'\n'; 16777217]?);
-        let source = MemSource::new(bytes, failing(rt.alloc(), None)?);
-        let words = split_words(rt.alloc(), text)?;
-        let (ended, sink) = run_top(&rt, rt.alloc(), words.as_slice(), source, None)?;
-        assert_eq!(rt; ended, Status::TooLong, "for {text:?}");
-        assert_eq!(rt; sink.taken().len(), 0, "for {text:?}");
-    }
-    Ok(())
-}
-
-// A run that is cut behind so many bytes: from the first to the last such number it is Done, or its line of this number is wrong.
-#[rattlefmt::skip]
-const CUTS: [(usize, usize, u64); 13] = [
-    (0, 0, 0),
-    (1, 10, 1),
-    (11, 12, 0),
-    (13, 20, 2),
-    (21, 22, 0),
-    (23, 44, 3),
-    (45, 46, 0),
-    (47, 49, 4),
-    (50, 51, 0),
-    (52, 61, 5),
-    (62, 63, 0),
-    (64, 70, 6),
-    (71, 71, 0),
-];
-
-#[test]
-fn an_input_that_is_cut_ends_well_or_has_a_wrong_line(rt: HostRuntime) -> Result<(), Fail> {
-    let alloc = rt.alloc();
-    let input = lines_of(
-        alloc,
-        "give stream;feed 0 61;submit recv 0 v 1 0 1 -;turn;exec 0 ok 1;poll 0 2",
-    )?;
-    for (first, last, line) in CUTS {
-        for count in first..=last {
-            let mut bytes = Vec::new(alloc);
-            for byte in input.as_slice().iter().take(count) {
-                bytes.push(*byte)?;
-            }
-            let source = MemSource::new(ByteList::from_vec(bytes), failing(alloc, None)?);
-            let words = run_words(alloc, "4")?;
-            let (ended, sink) = run_top(&rt, alloc, words.as_slice(), source, None)?;
-            if line == 0 {
-                assert_eq!(rt; ended, Status::Done, "cut behind {count}");
-            } else {
-                let wanted = format!(in alloc; "line {line}\n")?;
-                assert_eq!(rt; ended, Status::BadLine, "cut behind {count}");
-                assert_eq!(rt; sink.taken(), wanted.as_bytes(), "cut behind {count}");
-            }
-        }
-    }
-    Ok(())
-}
-
-#[test]
-fn newlines_alone_are_a_wrong_line_at_once(rt: HostRuntime) -> Result<(), Fail> {
-    let bytes = ByteList::from_vec(vec![in rt.alloc(); b'\n'; 16777216]?);
-    let source = MemSource::new(bytes, failing(rt.alloc(), None)?);
-    let words = run_words(rt.alloc(), "4")?;
-    let (ended, sink) = run_top(&rt, rt.alloc(), words.as_slice(), source, None)?;
-    assert_eq!(rt; ended, Status::BadLine);
-    assert_eq!(rt; sink.taken(), b"line 1\n".as_slice());
     Ok(())
 }
