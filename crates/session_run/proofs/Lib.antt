@@ -12,3 +12,4 @@ mod Replying
 mod Generating
 mod Endings
 mod Parts
+mod Completing

@@ -5,3 +5,4 @@ pub mod Command
 pub mod Generated
 pub mod Top
 pub mod Ends
+pub mod Complete

@@ -9,6 +9,7 @@ ghost use Rattle.session_run.specs.Top.{LineRefused, SumsFor, TookTooMany, Wakes
 ghost use Rattle.event_text.specs.TextReads.{bytes_of};
 ghost use Rattle.session_run.specs.Ends.{CommandEnds, CopiesFor, RanShort, RefusesFor, RunEnds, RunsEvents, SinkEnds, StatusFor};
 ghost use Rattle.session_run.specs.Ends.{reading, writing};
+ghost use Rattle.session_run.specs.Complete.{IsDoneOrShort, NoneRose, TakesInput};
 
 use crate::command::{Command, MOST_SENDERS, command_of};
 use crate::generated::{ENTRIES, generated, run_counted};
@@ -128,6 +129,11 @@ pub fn top<R: Threads + Wait + Clock + Sync, S: ByteSource, K: ByteSink>(
         (result ≡ Status.TooLong) ⊎ (result ≡ Status.ReadFault) → IsTrue K.tells → K.taken sink.new ≡ K.taken sink.old }
     ensures memory { result ≡ Status.OutOfMemory →
         RanShort S.tells K.tells (reading S.left S.faults source.old source.new) (writing K.taken K.faults K.is_flushed sink.old sink.new) }
+
+    // A command that takes its input is done, or runs out of memory, where neither count of faults rose.
+    ensures complete { TakesInput S.tells (map string_bytes words.now) (S.left source.old) →
+        NoneRose (reading S.left S.faults source.old source.new) (writing K.taken K.faults K.is_flushed sink.old sink.new) →
+        IsDoneOrShort result }
 {
     match command_of(words) {
         Some(command) => run_command(rt, alloc, command, source, sink, kept),

@@ -1,5 +1,6 @@
 use Rattle.session_run.proofs.Commands.{reads-nothing, generate-nothing, wake-keeps, copy-keeps}
 use Rattle.session_run.proofs.Endings.{run-ends, sum-ends, wake-ends, copy-ends, written-late}
+use Rattle.session_run.proofs.Completing.{command-complete, input-taken}
 use Rattle.session_run.proofs.top.top.Goals as goal
 
 pub returns-in-Some-clause-runs : goal.returns-in-Some-clause-runs
@@ -38,3 +39,11 @@ returns-in-Some-clause-unkept_copies g c = λ capacity prefix copy.
 pub returns-in-Some-clause-unwritten : goal.returns-in-Some-clause-unwritten
 returns-in-Some-clause-unwritten g c = λ other why.
     written-late g.S.ByteSource.tells g.K.ByteSink.tells _ c.in-Some.command _ _ _ _ c.in-Some.ensures c.run_command.ensures.ends other why
+
+pub returns-in-Some-clause-complete : goal.returns-in-Some-clause-complete
+returns-in-Some-clause-complete g c = λ takes calm.
+    command-complete g.S.ByteSource.tells g.K.ByteSink.tells _ c.in-Some.command _ _ _ _ c.in-Some.ensures c.run_command.ensures.ends
+    c.run_command.ensures.status takes calm
+
+pub returns-in-None-clause-complete : goal.returns-in-None-clause-complete
+returns-in-None-clause-complete g c = λ takes calm. absurd (input-taken g.S.ByteSource.tells _ _ takes c.in-None.ensures)
