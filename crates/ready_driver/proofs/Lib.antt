@@ -38,3 +38,4 @@ pub mod Standing
 pub mod Reported
 pub mod Turning
 pub mod Exact
+pub mod Errors

@@ -1,11 +1,12 @@
 -- What calls of operations leave of the slots of all operations, and of their tokens.
-use Rattle.std.proofs.Common.{◌≡◌, ◌≢◌, ℕ, ◌&&◌, Bool, true, false, Option, Some, None, refl, sym, ◌∙◌, ap}
+use Rattle.std.proofs.Common.{◌≡◌, ◌≢◌, ℕ, ◌&&◌, Bool, true, false, Option, Some, None, refl, sym, ◌∙◌, ap, subst}
 use Rattle.std.specs.Ordering.{nat_cmp}
 use Rattle.std.specs.FinMap.{FinMap, get, insert, remove}
 use Rattle.rent_buf.specs.Buffer.{Buffer}
 use Rattle.rent_buf.specs.Parts.{Parts}
 use Rattle.op_slots.specs.Lifecycle.{polled}
-use Rattle.op_slots.specs.declared.lifecycle.Lifecycle.TheVariants.{Completed}
+use Rattle.op_slots.specs.declared.lifecycle.Lifecycle.{Lifecycle}
+use Rattle.op_slots.specs.declared.lifecycle.Lifecycle.TheVariants.{Submitted, Waiting, Ignored, Completed}
 use Rattle.ring_core.specs.declared.request.TheConstants.{CANCELED}
 use Rattle.ring_core.specs.declared.request.Outcome.{Outcome}
 use Rattle.ring_core.specs.declared.request.Outcome.TheVariants.{Count, From, Made, Fail}
@@ -25,8 +26,9 @@ use Rattle.driver_core.proofs.Counted.{flying-made}
 use Rattle.driver_core.proofs.Lists.{some}
 use Rattle.driver_core.proofs.Maps.{put-same, put-other, gone-same, gone-other, remove-put}
 use Rattle.driver_core.proofs.Numbers.{Owner, owner}
+use Rattle.ready_driver.specs.Errors.{IsCompleted}
 use Rattle.ready_driver.specs.Io.{CountsFor, EndsFor}
-use Rattle.ready_driver.specs.Named.{KeepsSlot, ReturnsSlot, canceled_if, canceled_in, canceled_slots}
+use Rattle.ready_driver.specs.Named.{IsOnlyCanceledLife, IsOnlyCanceled, KeepsSlot, ReturnsSlot, canceled_if, canceled_in, canceled_slots}
 use Rattle.ready_driver.specs.Polling.{EndsSlot}
 use Rattle.ready_driver.proofs.Ended.{polled-flies}
 
@@ -42,6 +44,13 @@ ends-names r now (Count k) is = counts-names (way_of r) r now k is
 ends-names r now (From k addr) is = counts-names (way_of r) r now k is
 ends-names r now (Made h) is = ap named is.1
 ends-names r now (Fail e) is = ap named is
+
+-- What is in flight isn't completed.
+flying-canceled : (life : Lifecycle Outcome) → is_flying life ≡ true → IsOnlyCanceledLife life
+flying-canceled Submitted flies = tt
+flying-canceled (Waiting task) flies = tt
+flying-canceled Ignored flies = tt
+flying-canceled (Completed outcome) flies = (let f : ⊥ = cc in absurd f)
 
 -- Only a request that makes handles made one.
 pub ends-makes : (r now : Request Buffer Parts) (outcome : Outcome) (h : ℕ) → EndsFor r now outcome → made_by outcome ≡ Some h →
@@ -72,6 +81,12 @@ module _ {B : Type 0} (old : FinMap nat_cmp (Slot B)) (key number : ℕ) (holds 
             let g : ⊥ = cc in
             g);
       }
+
+  -- It returns what was completed.
+  pub ready-outcome : (task : ℕ) (new : FinMap nat_cmp (Slot B)) (done : Done B) → PollsAt old key task new (Some done) →
+      IsCompleted (get old key) done.outcome
+  ready-outcome task new done polls =
+      subst (λ s. IsCompleted s done.outcome) (sym mine.there) (polls mine.slot mine.there).0
 
   -- A poll that waits, and the call behind it.
   module _ {C : Type 0} (buffer : B → Buffer) (called : C → Request Buffer Parts → C → Request Buffer Parts → CallAnswer → Type 0)
@@ -116,6 +131,9 @@ module _ {B : Type 0} (old : FinMap nat_cmp (Slot B)) (key number : ℕ) (holds 
       names = ap named_in called-here ∙ called-names (ap named same);
       unmade = λ none. ap made_in called-here ∙ ap made_life (calls.life ∙ ap (λ s. s.life) slot-at)
           ∙ flying-made (polled mine.slot.life task) (polled-flies mine.slot.life task (polls mine.slot mine.there).0);
+      canceled = λ was. subst IsOnlyCanceled (sym called-here) (subst IsOnlyCanceledLife
+          (sym (calls.life ∙ ap (λ s. s.life) slot-at))
+          (flying-canceled (polled mine.slot.life task) (polled-flies mine.slot.life task (polls mine.slot mine.there).0)));
     }
 
     -- A call that was made, and the end of its operation.
@@ -134,6 +152,11 @@ module _ {B : Type 0} (old : FinMap nat_cmp (Slot B)) (key number : ℕ) (holds 
               ∙ ends-makes (plain_request buffer calls.slot.request) (plain_request buffer calls.now.request) outcome h is
               (ap made_by (sym e.0) ∙ made);
         }
+
+    -- Its outcome is how the call ended.
+    pub made-outcome : (outcome : Outcome) (done : Done B) (behind : FinMap nat_cmp (Slot B)) → EndsSlot new key outcome behind done →
+        done.outcome ≡ outcome
+    made-outcome outcome done behind ends = (ends calls.now called-here).0
 
 -- A slot goes, whether its cancel was asked for or not.
 pub gone-canceled : {B : Type 0} (slots : FinMap nat_cmp (Slot B)) (key : ℕ) → remove (canceled_slots slots key) key ≡ remove slots key

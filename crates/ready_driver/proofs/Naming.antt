@@ -33,7 +33,7 @@ use Rattle.driver_core.proofs.Maps.{put-same, put-other}
 use Rattle.driver_core.proofs.Placing.{moved-joined}
 use Rattle.driver_core.proofs.Passing.{number-none, number-some, number-kept, number-changed}
 use Rattle.ready_driver.specs.LegacyState.{holds_all}
-use Rattle.ready_driver.specs.Named.{KeepsSlot, canceled_if, canceled_in, canceled_slots, AreNaming}
+use Rattle.ready_driver.specs.Named.{IsOnlyCanceledLife, IsOnlyCanceled, KeepsSlot, canceled_if, canceled_in, canceled_slots, AreNaming}
 use Rattle.ready_driver.specs.Registry.{is_known, is_users}
 
 -- The test of a slot for a handle that its operation names.
@@ -47,6 +47,7 @@ naming-none {B} table slots given none is = record {
   counted = λ h. number-none (names_it {B = B} h) slots (holders_at table h).operations refl is (nobody-there h);
   few = λ h. (let a = nobody-there h in omega (arith, a));
   unmade = λ key. ap (λ m. made_in (get m key)) is ∙ ap made_in (get-empty {X = Slot B} nat_cmp key);
+  canceled = λ key. subst IsOnlyCanceled (sym (ap (λ m. get m key) is ∙ get-empty {X = Slot B} nat_cmp key)) tt;
 }
   where
     nobody-there : (h : ℕ) → (holders_at table h).operations ≡ 0
@@ -64,6 +65,7 @@ naming-table {B} table table' slots given are same = record {
   };
   few = λ h. (let a = are.few h in let b = same h in omega (arith, a, b));
   unmade = are.unmade;
+  canceled = are.canceled;
 }
 
 -- A table with the same holders.
@@ -117,6 +119,10 @@ naming-kept {B} table slots slots' given key are keeps = record {
     | inl e ↦ ap (λ x. made_in (get slots' x)) e ∙ keeps.unmade (are.unmade key)
     | inr e ↦ ap made_in (keeps.others k e) ∙ are.unmade k
   ];
+  canceled = λ k. elim (same-or-not k key) [
+    | inl e ↦ subst (λ x. IsOnlyCanceled (get slots' x)) (sym e) (keeps.canceled (are.canceled key))
+    | inr e ↦ subst IsOnlyCanceled (sym (keeps.others k e)) (are.canceled k)
+  ];
 }
   where
     same : (k : ℕ) → named_in (get slots' k) ≡ named_in (get slots k)
@@ -136,11 +142,12 @@ canceled-keeps {B} slots key = by (get slots key) refl
           others = λ k e. put-other slots key t k e;
           names = ap named_in (put-same slots key t) ∙ sym (ap named_in there);
           unmade = λ none. ap made_in (put-same slots key t);
+          canceled = λ was. subst IsOnlyCanceled (sym (put-same slots key t)) refl;
         }
-    flies false s there = record { others = λ k e. refl; names = refl; unmade = λ none. none }
+    flies false s there = record { others = λ k e. refl; names = refl; unmade = λ none. none; canceled = λ was. was }
 
     by : (x : Option (Slot B)) → get slots key ≡ x → KeepsSlot slots key (canceled_in slots key x)
-    by None there = record { others = λ k e. refl; names = refl; unmade = λ none. none }
+    by None there = record { others = λ k e. refl; names = refl; unmade = λ none. none; canceled = λ was. was }
     by (Some s) there = flies (is_flying s.life) s there
 
 -- The cancel of an operation is asked for.
@@ -173,6 +180,10 @@ naming-joined {B} table slots slots' given key s are free is life =
         | inl e ↦ ap (λ x. made_in (get slots' x)) e ∙ ap made_in now ∙ made-none s.life life
         | inr e ↦ ap (λ m. made_in (get m k)) is ∙ ap made_in (put-other slots key s k e) ∙ are.unmade k
       ];
+      canceled = λ k. elim (same-or-not k key) [
+        | inl e ↦ subst IsOnlyCanceled (sym (ap (get slots') e ∙ now)) (subst IsOnlyCanceledLife (sym life) tt)
+        | inr e ↦ subst IsOnlyCanceled (sym (ap (λ m. get m k) is ∙ put-other slots key s k e)) (are.canceled k)
+      ];
     }
   where
     made-none : (l : Lifecycle Outcome) → l ≡ Submitted → made_in (Some (record s { life = l })) ≡ None
@@ -201,6 +212,10 @@ module _ {B : Type 0} (table : Table) (slots : FinMap nat_cmp (Slot B)) (given k
         unmade = λ k. elim (same-or-not k key) [
           | inl e ↦ ap (λ x. made_in (get slots' x)) e ∙ ap made_in free
           | inr e ↦ ap made_in (others k e) ∙ are.unmade k
+        ];
+        canceled = λ k. elim (same-or-not k key) [
+          | inl e ↦ subst IsOnlyCanceled (sym (ap (get slots') e ∙ free)) tt
+          | inr e ↦ subst IsOnlyCanceled (sym (others k e)) (are.canceled k)
         ];
       }
 

@@ -1,5 +1,6 @@
 pub mod Awaits
 pub mod CallRows
+pub mod Errors
 pub mod HandlesStand
 pub mod Io
 pub mod Legacy

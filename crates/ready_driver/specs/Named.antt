@@ -4,8 +4,10 @@ use Rattle.std.specs.Ordering.{nat_cmp}
 use Rattle.std.specs.FinMap as map
 use Rattle.rent_buf.specs.declared.fault.OutOfMemory.{OutOfMemory}
 use Rattle.handle_core.specs.Table.{Table, holders_at}
-use Rattle.op_slots.specs.declared.lifecycle.Lifecycle.TheVariants.{Completed}
+use Rattle.op_slots.specs.declared.lifecycle.Lifecycle.{Lifecycle}
+use Rattle.op_slots.specs.declared.lifecycle.Lifecycle.TheVariants.{Submitted, Waiting, Ignored, Completed}
 use Rattle.ring_core.specs.declared.request.TheConstants.{CANCELED}
+use Rattle.ring_core.specs.declared.request.Outcome.{Outcome}
 use Rattle.ring_core.specs.declared.request.Outcome.TheVariants.{Fail}
 use Rattle.ring_core.specs.Effect.{made_by}
 use Rattle.ring_core.specs.Lists.{has_number}
@@ -19,11 +21,25 @@ use Rattle.driver_core.specs.Holds.{Number, named_in, made_in, is_maker}
 use Rattle.driver_core.specs.Ops.{Ops}
 use Rattle.driver_core.specs.Slot.{task_in, is_flying, with_life}
 
--- An operation that is polled names the handles that it named, and made none if it had made none. All other slots stay.
+-- An operation of this life is in flight, or is completed with the error of a cancel.
+abbrev pub IsOnlyCanceledLife : Lifecycle Outcome → Type 0
+IsOnlyCanceledLife Submitted = Unit {0}
+IsOnlyCanceledLife (Waiting task) = Unit {0}
+IsOnlyCanceledLife Ignored = Unit {0}
+IsOnlyCanceledLife (Completed outcome) = outcome ≡ Fail CANCELED
+
+-- The same of the slot that was looked up, if there is one.
+abbrev pub IsOnlyCanceled : {B : Type 0} → Option (Slot B) → Type 0
+IsOnlyCanceled None = Unit {0}
+IsOnlyCanceled (Some slot) = IsOnlyCanceledLife slot.life
+
+-- An operation that is polled names the handles that it named, made none if it had made none, and is completed with nothing but the error
+-- of a cancel if it was. All other slots stay.
 pub record KeepsSlot {B : Type 0} (old : map.FinMap nat_cmp (Slot B)) (key : ℕ) (new : map.FinMap nat_cmp (Slot B)) : Type 0 where
   pub others : (k : ℕ) → k ≢ key → map.get new k ≡ map.get old k
   pub names : named_in (map.get new key) ≡ named_in (map.get old key)
   pub unmade : made_in (map.get old key) ≡ None → made_in (map.get new key) ≡ None
+  pub canceled : IsOnlyCanceled (map.get old key) → IsOnlyCanceled (map.get new key)
 
 -- An operation is returned: its slot is free, and its request names the handles that it named. It made a handle only if it was in flight
 -- and its request may make one. All other slots stay.
@@ -59,8 +75,9 @@ abbrev pub canceled_slots : {B : Type 0} → map.FinMap nat_cmp (Slot B) → ℕ
 canceled_slots slots key = canceled_in slots key (map.get slots key)
 
 -- A table counts the operations: as many hold a handle as slots name it, and no more than were submitted. No operation in a slot made a
--- handle.
+-- handle, and one that is completed is so with the error of a cancel.
 pub record AreNaming {B : Type 0} (table : Table) (slots : map.FinMap nat_cmp (Slot B)) (given : ℕ) : Type 0 where
   pub counted : (h : ℕ) → Number (λ slot. has_number h (named_in slot)) slots (holders_at table h).operations
   pub few : (h : ℕ) → (holders_at table h).operations ≤ given
   pub unmade : (key : ℕ) → made_in (map.get slots key) ≡ None
+  pub canceled : (key : ℕ) → IsOnlyCanceled (map.get slots key)

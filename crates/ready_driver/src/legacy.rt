@@ -16,6 +16,7 @@ ghost use Rattle.driver_core.specs.Op.{number_of, key_of, KeepsTokens as KeepsTo
 ghost use Rattle.driver_core.specs.Requests.{KeepsRequests as KeepsRequestsIn};
 ghost use Rattle.driver_core.specs.Slot.{number_at};
 ghost use Rattle.ready_driver.specs.Awaits.{BlocksUnless, IsSlotUnmet, TokensFor};
+ghost use Rattle.ready_driver.specs.Errors.{FailsFor};
 ghost use Rattle.ready_driver.specs.Legacy.{Legacy, idle, seen};
 ghost use Rattle.ready_driver.specs.LegacyCalls.{AddsToken, GivesRequest, JoinsFor, IsCanceled, IsFullError, SubmitRefused};
 ghost use Rattle.ready_driver.specs.LegacyCalls.{waiting_task, unwaited, Unready, WhyRefused};
@@ -59,6 +60,8 @@ pub struct LegacyDriver<I: NonBlock, B: IoBufMut> {
     asked: Vec<u64>,
     // The reports that came in a turn and that none has treated yet. Their memory is used again.
     untreated: Reports,
+    // The last look at the object brought a report, or a poll since then returned another outcome than an error. No contract sees it.
+    lively: bool,
     alloc: Global,
 }
 
@@ -101,6 +104,7 @@ impl<I: NonBlock, B: IoBufMut + Drop> LegacyDriver<I, B> {
             members: Members::new(alloc),
             asked: Vec::new(alloc),
             untreated: Reports::new(alloc),
+            lively: false,
             alloc,
         }
     }
@@ -121,6 +125,7 @@ impl<I: NonBlock, B: IoBufMut + Drop> LegacyDriver<I, B> {
             members: _members,
             asked: _asked,
             untreated: _untreated,
+            lively: _lively,
             alloc: _alloc,
         } = self;
         Ok(registry.into_io())
@@ -219,6 +224,9 @@ impl<I: NonBlock, B: IoBufMut + Drop> LegacyDriver<I, B> {
         // Over every object it is Pending only where no bit meets its direction, or the count of calls that would have blocked rose.
         ensures blocks { BlocksUnless (IsSlotUnmet self.old.handling.records (map.get self.old.slots.values (key_of op)))
             (I.view self.old.handling.io) (I.view self.new.handling.io) result }
+        // So it is an error only where the count of calls that ended with one rose, its own cancel was asked for, or its call made a handle
+        // that can't be new.
+        ensures fails { FailsFor I.view self.old self.new op result }
         ensures slots { PollsSlotFor (ops_in self.old) (ops_in self.new) op result }
         ensures tokens { TokensFor (ops_in self.old) (ops_in self.new) op result }
         ensures ends { EndsFor I.view I.tells I.memory self.old self.new op task result }
@@ -239,6 +247,7 @@ impl<I: NonBlock, B: IoBufMut + Drop> LegacyDriver<I, B> {
                 let done = hand_over(&mut self.registry, done);
                 self.registry.let_go(names);
                 self.members.leave(number);
+                self.lively = self.lively | park::moves(done.outcome);
                 Ok(PollOp::Ready(done))
             }
             Err(refused) => Err(refused),

@@ -10,6 +10,7 @@ ghost use Rattle.ring_core.specs.Request.{plain_request};
 ghost use Rattle.ready_driver.specs.Legacy.{Legacy};
 ghost use Rattle.ready_driver.specs.LegacyStep.{freed};
 ghost use Rattle.ready_driver.specs.Awaits.{KeysFor, TokensFor};
+ghost use Rattle.ready_driver.specs.Errors.{ReturnsFor};
 ghost use Rattle.ready_driver.specs.Io.{IsLater};
 ghost use Rattle.ready_driver.specs.Named.{PollsSlotFor, task_of, canceled_slots};
 ghost use Rattle.ready_driver.specs.Polling.{OpsStand, PartsStand, PollsFor, BlocksFor, EndsSlot, asked_at, joined_at};
@@ -52,6 +53,7 @@ pub fn poll<I: NonBlock, B: IoBufMut + Drop>(
     ensures polls { IsTrue I.memory → (D : Legacy) → PartsStand B.buffer ops.old (I.view io.old).world D →
         PollsFor B.buffer D op ops.new (I.view io.new).world result }
     ensures blocks { BlocksFor (I.view io.old) (I.view io.new) result }
+    ensures returns { ReturnsFor (map.get ops.old.slots.values (key_of op)) (I.view io.old) (I.view io.new) result }
     // Over every object the slots of all other operations stay.
     ensures slots { PollsSlotFor ops.old ops.new op result }
     ensures tokens { TokensFor ops.old ops.new op result }

@@ -11,6 +11,7 @@ use crate::non_block::{NonBlock, NonBlockError, Reports};
 use crate::registry::Registry;
 use driver_core::{Driver, Parked, Stop, Turned};
 use rent_buf::{IoBufMut, NumList, OutOfMemory};
+use ring_core::Outcome;
 use std::mem;
 use std::sync::Wait;
 use std::sync::ledger::Ledger;
@@ -37,7 +38,12 @@ impl<I: NonBlock, B: IoBufMut + Drop> Driver for LegacyDriver<I, B> {
     /// closes nothing. Where the object fails, or memory runs out, it stops and names nobody: the next turn names those tasks that it woke
     /// and those of canceled operations, and treats the reports that it didn't treat, so that none is lost. (monoio: `submit`)
     fn submit(&mut self) -> Turned {
-        let stop = collect(&mut self.registry, &mut self.untreated, &mut self.asked);
+        let stop = collect(
+            &mut self.registry,
+            &mut self.untreated,
+            &mut self.asked,
+            &mut self.lively,
+        );
         let mut woken = Vec::new(self.alloc);
         if stop.is_none() {
             mem::swap(&mut woken, &mut self.asked);
@@ -51,13 +57,15 @@ impl<I: NonBlock, B: IoBufMut + Drop> Driver for LegacyDriver<I, B> {
     }
 
     /// The sleeper makes its steps first, whatever the turn behind them does, and waits a millisecond at most. It does not wait where a
-    /// task is to be named. (monoio: `park`)
+    /// task is to be named, where the last look at the object brought a report, or where a poll since then returned a count or a handle that
+    /// its call made: then more is likely to come at once. (monoio: `park`)
     fn park<P: Ledger, D: Ledger, T: Wait + Clock>(
         &mut self,
         rt: &T,
         sleeper: &mut Sleeper<P, D>,
     ) -> Parked {
-        let remote = sleeper.park(rt, Some(MOST_MILLIS), !self.asked.is_empty());
+        let ready = self.lively | !self.asked.is_empty();
+        let remote = sleeper.park(rt, Some(MOST_MILLIS), ready);
         let turned = self.submit();
         Parked { remote, turned }
     }
@@ -69,7 +77,8 @@ impl<I: NonBlock, B: IoBufMut + Drop> Driver for LegacyDriver<I, B> {
         sleeper: &mut Sleeper<P, D>,
         millis: u64,
     ) -> Parked {
-        let remote = sleeper.park(rt, Some(millis.min(MOST_MILLIS)), !self.asked.is_empty());
+        let ready = self.lively | !self.asked.is_empty();
+        let remote = sleeper.park(rt, Some(millis.min(MOST_MILLIS)), ready);
         let turned = self.submit();
         Parked { remote, turned }
     }
@@ -80,17 +89,19 @@ impl<I: NonBlock, B: IoBufMut + Drop> Driver for LegacyDriver<I, B> {
 }
 
 // Treats the reports that are untreated, asks the object for reports, and treats those that came: the tasks that they wake join those that
-// are to be named. It answers why it stopped, if it did: what it didn't treat stays untreated.
+// are to be named. It answers why it stopped, if it did: what it didn't treat stays untreated. It notes whether a report came.
 fn collect<I: NonBlock>(
     registry: &mut Registry<I>,
     untreated: &mut Reports,
     tasks: &mut Vec<u64>,
+    lively: &mut bool,
 ) -> Option<Stop>
     ensures does { TurnsBy I.view I.tells I.reporting I.memory
         (record { handling = registry.old; untreated = untreated.old; tasks = tasks.old.items })
         (record { handling = registry.new; untreated = untreated.new; tasks = tasks.new.items }) result }
     ensures table { registry.new.table ≡ registry.old.table }
 {
+    *lively = false;
     match treat(registry, untreated, tasks) {
         Ok(()) => {}
         Err(_) => return Some(Stop::OutOfMemory),
@@ -100,9 +111,18 @@ fn collect<I: NonBlock>(
         Err(NonBlockError::Fault) => return Some(Stop::RingFault),
         Err(NonBlockError::OutOfMemory) => return Some(Stop::OutOfMemory),
     }
+    *lively = untreated.len() > 0;
     match treat(registry, untreated, tasks) {
         Ok(()) => None,
         Err(_) => Some(Stop::OutOfMemory),
+    }
+}
+
+// A call that ended so moved something or made a handle, which may soon be reported: it ended without an error.
+pub(super) fn moves(outcome: Outcome) -> bool {
+    match outcome {
+        Outcome::Count(_) | Outcome::From(_, _) | Outcome::Made(_) => true,
+        Outcome::Fail(_) => false,
     }
 }
 

@@ -6,6 +6,7 @@ ghost use Rattle.driver_core.specs.Op.{Holds, number_of, key_of};
 ghost use Rattle.ready_driver.specs.ScheduledIo.{waiter_of};
 ghost use Rattle.ready_driver.specs.Records.{io_at, changed, with_io};
 ghost use Rattle.ready_driver.specs.Legacy.{Legacy};
+ghost use Rattle.ready_driver.specs.Errors.{ReturnsFor};
 ghost use Rattle.ready_driver.specs.Io.{IsLater};
 ghost use Rattle.ready_driver.specs.Named.{PollsSlotFor};
 ghost use Rattle.ready_driver.specs.Polling.{PartsStand, PollsFor};
@@ -40,6 +41,7 @@ impl<I: NonBlock> Registry<I> {
             PollsFor B.buffer D op ops.new (I.view self.new.io).world result }
         ensures blocks { BlocksUnless (IsSlotUnmet self.old.records (map.get ops.old.slots.values (key_of op)))
             (I.view self.old.io) (I.view self.new.io) result }
+        ensures returns { ReturnsFor (map.get ops.old.slots.values (key_of op)) (I.view self.old.io) (I.view self.new.io) result }
         ensures leaves { (self.new.records ≡ self.old.records) ⊎ LeavesByBits (map.get ops.old.slots.values (key_of op))
             self.old.records (number_of op) task self.new.records result }
         ensures bits { IsTrue I.memory →

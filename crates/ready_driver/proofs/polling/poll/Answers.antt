@@ -1,15 +1,16 @@
-use Rattle.std.proofs.Common.{◌≡◌, true, sym, ◌∙◌, ap, subst}
+use Rattle.std.proofs.Common.{◌≡◌, inl, inr, true, sym, ◌∙◌, ap, subst}
 use Rattle.std.specs.FinMap.{get}
 use Rattle.driver_core.specs.Op.{key_of}
 use Rattle.driver_core.specs.Slot.{flies_in}
 use Rattle.driver_core.specs.Calls.{CallsSlot}
 use Rattle.driver_core.specs.declared.operations.calls.CallAnswer.TheVariants.{Done, WouldBlock, OutOfMemory}
 use Rattle.ring_core.specs.Request.{plain_request}
+use Rattle.ready_driver.specs.Errors.{IsCounted}
 use Rattle.ready_driver.specs.Io.{IsMade, CallsFor}
 use Rattle.ready_driver.specs.Polling.{EndsSlot}
 use Rattle.ready_driver.proofs.Ended.{ready-reply, ready-stand, ready-rest, unmade-stand, blocks-driven, made-reply, made-stand, made-rest}
 use Rattle.ready_driver.proofs.Ended.{called-flies}
-use Rattle.ready_driver.proofs.Named.{ready-slots, unmade-slots, made-slots}
+use Rattle.ready_driver.proofs.Named.{ready-slots, ready-outcome, unmade-slots, made-slots, made-outcome}
 use Rattle.ready_driver.proofs.polling.poll.Goals as goal
 
 pub returns-in-Ready-clause-polls : goal.returns-in-Ready-clause-polls
@@ -186,3 +187,28 @@ returns-in-OutOfMemory-clause-slots g c = (
     unmade-slots c.args.ops.now.slots.values c.args.op.key c.args.op.number c.requires g.B.IoBufMut.buffer g.I.Calls.called c.args.task
     c.poll.new.self.slots.values c.call.new.self.slots.values c.args.io.now c.call.new.caller OutOfMemory c.in-Pending.ensures.polls calls
     unmade.same)
+
+pub returns-in-Ready-clause-returns : goal.returns-in-Ready-clause-returns
+returns-in-Ready-clause-returns g c =
+    inl (ready-outcome c.args.ops.now.slots.values c.args.op.key c.args.op.number c.requires c.args.task c.poll.new.self.slots.values
+    c.in-Ready.done c.in-Ready.ensures.polls)
+
+pub returns-in-Done-clause-returns : goal.returns-in-Done-clause-returns
+returns-in-Done-clause-returns g c =
+    let view = g.I.NonBlock.view in
+    let same = ap key_of c.in-Pending.ensures.tokens.0 in
+    let calls : CallsSlot g.B.IoBufMut.buffer g.I.Calls.called c.poll.new.self.slots.values c.args.op.key c.args.io.now
+    c.call.new.self.slots.values c.call.new.caller (Done c.in-Done.outcome) =
+    subst (λ key. CallsSlot g.B.IoBufMut.buffer g.I.Calls.called c.poll.new.self.slots.values key c.args.io.now
+    c.call.new.self.slots.values c.call.new.caller (Done c.in-Done.outcome)) same c.in-Done.ensures.calls in
+    let moved : IsMade g.I.NonBlock.tells g.I.NonBlock.memory (view c.args.io.now) (plain_request g.B.IoBufMut.buffer calls.slot.request)
+    (view c.call.new.caller) (plain_request g.B.IoBufMut.buffer calls.now.request) c.in-Done.outcome =
+    g.met.I.NonBlock.calls c.args.io.now (plain_request g.B.IoBufMut.buffer calls.slot.request) c.call.new.caller
+    (plain_request g.B.IoBufMut.buffer calls.now.request) (Done c.in-Done.outcome) calls.calls in
+    let ends = subst (λ key. EndsSlot c.call.new.self.slots.values key c.in-Done.outcome c.end.new.ops.slots.values c.end.result) same
+    c.end.ensures.ends in
+    inr (subst (λ o. IsCounted o (view c.args.io.now) (view c.call.new.caller))
+    (sym (made-outcome c.args.ops.now.slots.values c.args.op.key c.args.op.number c.requires g.B.IoBufMut.buffer g.I.Calls.called
+    c.args.task c.poll.new.self.slots.values c.call.new.self.slots.values c.args.io.now c.call.new.caller (Done c.in-Done.outcome)
+    c.in-Pending.ensures.polls calls c.in-Done.outcome c.end.result c.end.new.ops.slots.values ends))
+    (record { fails = moved.fails; made = moved.made }))

@@ -12,6 +12,7 @@ use Rattle.driver_core.specs.Op.{KeepsTokens, DropsToken}
 use Rattle.driver_core.specs.Slot.{number_at}
 use Rattle.driver_core.proofs.Placing.{in-slots-left}
 use Rattle.ready_driver.specs.Awaits.{IsWorldUnmet, LeavesByBits, PollsUnless, KeysFor, TokensFor}
+use Rattle.ready_driver.specs.Errors.{IsCompleted, IsCounted, ReturnsFor}
 use Rattle.ready_driver.specs.LegacyState.{LegacyState, Holds}
 use Rattle.ready_driver.specs.LegacyStep.{poll_slot}
 use Rattle.ready_driver.specs.Legacy.{slot_at}
@@ -22,6 +23,7 @@ use Rattle.ready_driver.specs.Turns.{AreReported}
 use Rattle.ready_driver.specs.Registry.{LetsGo}
 use Rattle.ready_driver.specs.Reports.{with_made_key}
 use Rattle.ready_driver.proofs.Driven.{by_parts}
+use Rattle.ready_driver.proofs.Errors.{error-caused}
 use Rattle.ready_driver.proofs.Naming.{naming-room, naming-kept, naming-leave, naming-left, in-slots-tokens}
 use Rattle.ready_driver.proofs.Polled.{naming-handed, parts-room, room-handles, reported-room, stands-waiting, step-waits}
 use Rattle.ready_driver.proofs.Polled.{answers-waits, stands-ended}
@@ -297,3 +299,20 @@ returns-in-Ok-Ready-clause-ends g c =
           c.let_go.ensures;
       members = c.leave.ensures.left ∙ ap (leaves_of d.members) c.number-number.ensures;
     })
+
+pub returns-in-Ok-Ready-clause-fails : goal.returns-in-Ok-Ready-clause-fails
+returns-in-Ok-Ready-clause-fails g c =
+    let d : LegacyState g.row.I.Denot g.row.B.Denot =
+    by_parts c.self.inside.registry c.self.inside.ops c.self.inside.members c.self.inside.asked.items c.self.inside.untreated in
+    let view = g.I.NonBlock.view in
+    let room = c.reserve.new.registry in
+    let mid = c.poll_op.new.self in
+    let key = c.args.op.key in
+    let slot = get d.slots.values key in
+    let done = c.in-Ok-Ready.done in
+    let returned : IsCompleted slot done.outcome ⊎ IsCounted done.outcome (view room.io) (view mid.io) =
+    subst (λ x. ReturnsFor slot (view room.io) (view mid.io) (Ok x)) c.in-Ok-Ready.field-0-is c.in-Ok-Ready.ensures.returns in
+    rw (← c.self.view_is) (
+    error-caused view g.I.NonBlock.tells g.I.NonBlock.memory d.handling room mid c.hand_over-done.new.registry c.let_go.new.self slot
+    c.reserve.ensures.same c.poll_op.ensures.table (c.self.invariant.0.canceled key) _ _ c.let_go.ensures done.outcome
+    c.hand_over-done.result.outcome returned c.hand_over-done.ensures.outcome c.hand_over-done.ensures.hands)
