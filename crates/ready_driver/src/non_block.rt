@@ -142,3 +142,40 @@ pub trait NonBlock: Calls + Drop {
     ghost calls: { (old : Self) (request : Request Buffer Parts) (new : Self) (now : Request Buffer Parts) (answer : CallAnswer) →
         Self.Calls.called old request new now answer → CallsFor tells memory (view old) request (view new) now answer };
 }
+
+/// An object that is lent is what it is, with its counts. (not in monoio)
+impl<N: NonBlock> NonBlock for &mut N {
+    ghost view = { λ lent. N.view lent.now };
+
+    ghost tells = { N.tells };
+
+    ghost reporting = { N.reporting };
+
+    ghost memory = { N.memory };
+
+    ghost memory_tells = { N.memory_tells };
+
+    ghost memory_reports = { λ memory. ((N.memory_reports memory).0, λ lent. (N.memory_reports memory).1 lent.now) };
+
+    ghost calls = { λ old request new now answer called. N.calls old.now request new.now now answer called };
+
+    fn register(&mut self, h: u64, key: usize) -> Result<(), NonBlockError> {
+        (**self).register(h, key)
+    }
+
+    fn deregister(&mut self, h: u64) -> Result<(), NonBlockError> {
+        (**self).deregister(h)
+    }
+
+    fn close(&mut self, h: u64) -> Outcome {
+        (**self).close(h)
+    }
+
+    fn is_file(&self, h: u64) -> bool {
+        (**self).is_file(h)
+    }
+
+    fn wait(&mut self, limit: Option<u64>, reports: &mut Reports) -> Result<(), NonBlockError> {
+        (**self).wait(limit, reports)
+    }
+}

@@ -36,6 +36,23 @@ pub trait Sockets: NonBlock {
         Self.called old request new now (Done (Made h)) → h ≡ (Self.view old).made };
 }
 
+/// An object that is lent numbers its handles as it does. (not in monoio)
+impl<N: Sockets> Sockets for &mut N {
+    ghost numbered = { λ old request new now h called. N.numbered old.now request new.now now h called };
+
+    fn count(&self) -> u64 {
+        (**self).count()
+    }
+
+    fn listen(&mut self, port: u16) -> Result<u64, NonBlockError> {
+        (**self).listen(port)
+    }
+
+    fn dial(&mut self, port: u16) -> Result<u64, NonBlockError> {
+        (**self).dial(port)
+    }
+}
+
 /// The port doesn't matter. Only memory runs out.
 impl Sockets for MemIo {
     ghost numbered = { memory-numbered };
@@ -60,3 +77,6 @@ impl Sockets for MemIo {
         }
     }
 }
+
+#[cfg(test)]
+mod tests;

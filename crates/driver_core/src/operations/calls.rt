@@ -43,6 +43,15 @@ pub trait Calls {
             request_around (around B.under B.beside) request.old };
 }
 
+/// What is lent makes its calls. (not in monoio)
+impl<C: Calls> Calls for &mut C {
+    ghost called = { λ old request new now answer. C.called old.now request new.now now answer };
+
+    fn call<B: IoBufMut>(&mut self, request: &mut Request<B, VecBuf>) -> CallAnswer {
+        (**self).call(request)
+    }
+}
+
 impl<B: IoBufMut + Drop> Operations<B> {
     /// Makes the call of an operation's request. Its slot stays, with what the request holds after the call, and so does each other.
     pub fn call<C: Calls>(&mut self, op: &Op, caller: &mut C) -> CallAnswer
