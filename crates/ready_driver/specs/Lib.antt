@@ -1,6 +1,5 @@
 pub mod Awaits
 pub mod CallRows
-pub mod Errors
 pub mod HandlesStand
 pub mod Io
 pub mod Legacy
@@ -27,3 +26,4 @@ pub mod SocketLaws
 pub mod Spelled
 pub mod SpelledRows
 pub mod Turns
+pub mod Errors
