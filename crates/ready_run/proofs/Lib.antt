@@ -1,0 +1,11 @@
+pub mod Single
+pub mod Kept
+pub mod Refusals
+pub mod Steps
+pub mod Submitting
+pub mod Canceling
+pub mod Turning
+pub mod Polling
+pub mod Starting
+pub mod Following
+pub mod Runs

@@ -1,0 +1,31 @@
+use Rattle.std.proofs.Common.{◌++◌, [], ◌∷◌, refl, ◌∙◌, ap, arith}
+use Rattle.driver_core.specs.Tokens.{handles_in}
+use Rattle.ready_run.proofs.Canceling.{answers-handle, canceller-made, canceller-none}
+use Rattle.ready_run.proofs.Kept.{tokens-same}
+use Rattle.ready_run.proofs.Refusals.{cause-new_handle}
+use Rattle.ready_run.proofs.Steps.{answers-refused, stands-same}
+use Rattle.ready_run.proofs.session.ReadySession.new_handle.Goals as goal
+
+pub returns-in-None : goal.returns-in-None
+returns-in-None c = λ D stands. answers-refused c.args.self.now _ D _ _ stands
+    (cause-new_handle D c.args.c (canceller-none c.args.self.now D c.args.c stands c.in-None.ensures)) refl (tokens-same _)
+
+pub returns-then-group-groups : goal.returns-then-group-groups
+returns-then-group-groups c = λ D stands. absurd (
+    let made = canceller-made c.args.self.now D c.args.c c.in-Some.canceller.now stands c.in-Some.ensures in
+    omega (arith, made))
+
+pub returns-in-Ok : goal.returns-in-Ok
+returns-in-Ok c = λ D stands.
+    answers-handle c.args.self.now _ D c.args.c c.in-Some.canceller.now c.in-Ok.number stands refl c.add_handle.ensures.ops
+    c.add_handle.ensures.cancellers
+    (c.in-Ok.ensures.added ∙ ap (λ g. handles_in c.args.self.now.tokens ++ g ∷ []) c.cancel_handle-handle.ensures.group)
+    c.in-Ok.ensures.number
+    c.in-Some.ensures (c.cancel_handle-handle.ensures.answers D stands.driver)
+
+pub returns-in-Err : goal.returns-in-Err
+returns-in-Err c = λ D stands. stands-same c.args.self.now _ D stands refl
+    (record {
+      ops = c.add_handle.ensures.ops;
+      groups = record { cancellers = c.add_handle.ensures.cancellers; handles = c.in-Err.ensures.err };
+    })

@@ -1,0 +1,14 @@
+use Rattle.std.proofs.Common.{refl, subst}
+use Rattle.ring_core.specs.declared.ledger.Event.TheVariants.{Submit}
+use Rattle.ready_run.specs.ReadySession.{StepsFor}
+use Rattle.ready_run.proofs.Kept.{tokens-same}
+use Rattle.ready_run.proofs.Steps.{answers-refused}
+use Rattle.ready_run.proofs.session.ReadySession.submit_copy_to.Goals as goal
+
+pub returns-in-Some : goal.returns-in-Some
+returns-in-Some c = λ D under stands is.
+    answers-refused c.args.self.now _ D _ _ stands (c.in-Some.ensures.named D under stands is) refl (tokens-same _)
+
+pub returns-in-Ok : goal.returns-in-Ok
+returns-in-Ok c = λ D under stands is. subst (λ request. StepsFor D (Submit request under) c.submit_to.new.self c.submit_to.result)
+    c.in-Ok.ensures (c.submit_to.ensures D under stands is)

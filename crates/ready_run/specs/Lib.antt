@@ -1,0 +1,3 @@
+pub mod ReadySession
+pub mod Runs
+pub mod Submission
