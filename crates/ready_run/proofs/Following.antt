@@ -6,6 +6,7 @@ use Rattle.rent_buf.specs.declared.fault.OutOfMemory.{OutOfMemory}
 use Rattle.ring_core.specs.declared.ledger.Event.{Event}
 use Rattle.ring_core.specs.declared.ledger.Reply.{Reply}
 use Rattle.ring_core.specs.Ledger.{Ledger, empty}
+use Rattle.ring_core.specs.Refusal.{cause}
 use Rattle.ready_driver.specs.Legacy.{Legacy, idle}
 use Rattle.ready_driver.specs.LegacyStep.{legacy_step, legacy_after, legacy_replies}
 use Rattle.ready_driver.specs.LegacyTurns.{ShowsLedger}
@@ -14,6 +15,7 @@ use Rattle.ready_driver.specs.Readiness.{IsDriven, AreDriven, FollowsMachine, Sh
 use Rattle.ready_driver.specs.Spelled.{spelled, spelled_reply, spelled_replies, spelled_after, ledger_behind}
 use Rattle.ready_driver.proofs.Runs.{driver-follows}
 use Rattle.ready_run.specs.declared.session.ReadySession.{ReadySession}
+use Rattle.ready_run.proofs.Unrefused.{unrefused-alike}
 use Rattle.ready_run.specs.ReadySession.{driver_in, SessionStands, StepsFor, ReadyStands, ReadySteps}
 
 -- Events and one more that a driver answers.
@@ -72,13 +74,20 @@ steps-follow old new event (Ok reply) one steps L stands =
         stands = subst (SessionStands new) (sym (after-joined idle stands.events event)) answers.stands;
       };
     }
-steps-follow old new event (Err refused) one steps L stands = record {
-  capacity = stands.capacity;
-  events = stands.events;
-  driven = stands.driven;
-  reached = stands.reached;
-  stands = steps (legacy_after idle stands.events) stands.stands;
-}
+steps-follow old new event (Err refused) one steps L stands =
+    let ran = steps (legacy_after idle stands.events) stands.stands in
+    record {
+      stands = record {
+        capacity = stands.capacity;
+        events = stands.events;
+        driven = stands.driven;
+        reached = stands.reached;
+        stands = ran.stands;
+      };
+      unrefused = ap (λ M. cause M event) stands.reached
+          ∙ unrefused-alike (legacy_after idle stands.events) (spelled_after (empty stands.capacity) stands.events) event ran.unrefused
+          (reply-follows stands.capacity stands.events event stands.driven one);
+    }
 
 -- A session stands for the empty ledger of a capacity where it is the new driver as plain data.
 pub stands-idle : (session : ReadySession) (capacity : ℕ) → SessionStands session idle → ReadyStands session (empty capacity)

@@ -7,5 +7,6 @@ pub mod Canceling
 pub mod Turning
 pub mod Polling
 pub mod Starting
+pub mod Unrefused
 pub mod Following
 pub mod Runs

@@ -131,3 +131,15 @@ unrefused-new_handle D c within = ap (λ b. refused_if b NoCanceller None) (belo
 -- Nor is a cancel of its group.
 pub unrefused-cancel_all : (D : Legacy) (c : ℕ) → c < length D.cancellers → legacy_cause D (CancelAll c) ≡ None
 unrefused-cancel_all D c within = ap (λ b. refused_if b NoCanceller None) (below-test (length D.cancellers) c within)
+
+-- A look at a handle that the user holds isn't.
+pub unrefused-look : (D : Legacy) (h : ℕ) → holds_at D h ≡ true → legacy_cause D (Look h) ≡ None
+unrefused-look D h held = ap (λ holds. refused_if (not holds || false) NoHandle None) held
+
+-- Nor is a poll of an operation that isn't gone.
+pub unrefused-poll : (D : Legacy) (n task : ℕ) → is_live D n ≡ true → legacy_cause D (Poll n task) ≡ None
+unrefused-poll D n task live = ap (λ is. refused_if (not is) NoOp None) live
+
+-- Nor is its cancel.
+pub unrefused-cancel : (D : Legacy) (n : ℕ) → is_live D n ≡ true → legacy_cause D (Cancel n) ≡ None
+unrefused-cancel D n live = ap (λ is. refused_if (not is) NoOp None) live

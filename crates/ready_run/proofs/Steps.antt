@@ -173,10 +173,12 @@ pub steps-built : (new : ReadySession) (old : ReadySession) (D : Legacy) (own : 
     IfOk result (λ reply. (D : Legacy) (under : Option ℕ) → SessionStands old D → IsUnder (seen D) group under →
     SessionAnswers D (Submit (plain_request built own) under) reply new) →
     OnErr result ((D : Legacy) → SessionStands old D → SessionStands new D) →
-    plain_request built own ≡ request → SessionStands old D → IsUnder (seen D) group under → StepsFor D (Submit request under) new result
-steps-built new old D own request group under (Ok reply) ok err plain stands is =
+    plain_request built own ≡ request → SessionStands old D → IsUnder (seen D) group under → legacy_cause D (Submit request under) ≡ None →
+    StepsFor D (Submit request under) new result
+steps-built new old D own request group under (Ok reply) ok err plain stands is unrefused =
     subst (λ r. SessionAnswers D (Submit r under) reply new) plain (ok D under stands is)
-steps-built new old D own request group under (Err error) ok err plain stands is = err D stands
+steps-built new old D own request group under (Err error) ok err plain stands is unrefused =
+    record { stands = err D stands; unrefused = unrefused }
 
 -- A driver whose handles alone have changed.
 pub keeps-world : (old new : LegacyState Memory Buf) (world : List HandleState) →

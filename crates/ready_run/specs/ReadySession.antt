@@ -1,5 +1,5 @@
 -- When a readiness session stands for a ledger, and what its steps answer. Cited by `ReadySession`.
-use Rattle.std.specs.Prelude.{ℕ, ◌≡◌, ◌<◌, ◌≤◌, Bool, List, length, map, Some, is_some, Result, Ok, Err, slice_get}
+use Rattle.std.specs.Prelude.{ℕ, ◌≡◌, ◌<◌, ◌≤◌, Bool, List, length, map, Some, None, is_some, Result, Ok, Err, slice_get}
 use Rattle.rent_buf.specs.Buf.{built}
 use Rattle.rent_buf.specs.declared.fault.OutOfMemory.{OutOfMemory}
 use Rattle.rent_buf.specs.declared.plain.Buf.{Buf}
@@ -8,12 +8,13 @@ use Rattle.ring_core.specs.declared.ledger.Event.{Event}
 use Rattle.ring_core.specs.declared.ledger.Event.TheVariants.{End, Close, Drop}
 use Rattle.ring_core.specs.declared.ledger.Reply.{Reply}
 use Rattle.ring_core.specs.Ledger.{Ledger, empty}
+use Rattle.ring_core.specs.Refusal.{cause}
 use Rattle.driver_core.specs.declared.tokens.Tokens.{Tokens}
 use Rattle.driver_core.specs.Tokens.{by_number, cancellers_in, handles_in, AreHeld}
 use Rattle.ready_driver.specs.Legacy.{Legacy, idle, slot_at}
 use Rattle.ready_driver.specs.LegacyStands.{LegacyStands}
 use Rattle.ready_driver.specs.LegacyState.{LegacyState, ops_in}
-use Rattle.ready_driver.specs.LegacyStep.{legacy_step, legacy_after}
+use Rattle.ready_driver.specs.LegacyStep.{legacy_cause, legacy_step, legacy_after}
 use Rattle.ready_driver.specs.MemIo.{Memory, memory_view}
 use Rattle.ready_driver.specs.Readiness.{AreDriven}
 use Rattle.ready_driver.specs.Spelled.{spelled, spelled_reply, spelled_after, ledger_behind}
@@ -56,10 +57,15 @@ pub record SessionAnswers (D : Legacy) (event : Event) (reply : Reply) (new : Re
   pub reply_is : (legacy_step D event).1 ≡ reply
   pub stands : SessionStands new (legacy_step D event).0
 
--- What a step answers: as the driver as plain data does; or memory ran out, and the session is the same one as plain data.
+-- Memory ran out at an event: the session is the same driver as plain data, which doesn't refuse the event.
+pub record RanOut (D : Legacy) (event : Event) (new : ReadySession) : Type 0 where
+  pub stands : SessionStands new D
+  pub unrefused : legacy_cause D event ≡ None
+
+-- What a step answers: as the driver as plain data does, or that memory ran out.
 abbrev pub StepsFor : Legacy → Event → ReadySession → Result Reply OutOfMemory → Type 0
 StepsFor D event new (Ok reply) = SessionAnswers D event reply new
-StepsFor D event new (Err refused) = SessionStands new D
+StepsFor D event new (Err refused) = RanOut D event new
 
 -- A session stands for a ledger: there are events that lead to it, as they are spelled, from the empty ledger of a capacity, and the session
 -- is the driver as plain data that answered these events.
@@ -75,10 +81,15 @@ pub record ReadyAnswers (L : Ledger) (event : Event) (reply : Reply) (new : Read
   pub reply_is : spelled_reply L (spelled L event) ≡ reply
   pub stands : ReadyStands new (ledger_behind L event)
 
--- What a step answers: as the machine does; or memory ran out, and the session stands for the same ledger.
+-- Memory ran out at an event: the session stands for the same ledger, in which the machine doesn't refuse the event.
+pub record ReadyRanOut (L : Ledger) (event : Event) (new : ReadySession) : Type 0 where
+  pub stands : ReadyStands new L
+  pub unrefused : cause L event ≡ None
+
+-- What a step answers: as the machine does, or that memory ran out.
 abbrev pub ReadySteps : Ledger → Event → ReadySession → Result Reply OutOfMemory → Type 0
 ReadySteps L event new (Ok reply) = ReadyAnswers L event reply new
-ReadySteps L event new (Err refused) = ReadyStands new L
+ReadySteps L event new (Err refused) = ReadyRanOut L event new
 
 -- An operation isn't gone in a driver as plain data.
 abbrev pub is_live : Legacy → ℕ → Bool

@@ -62,8 +62,8 @@ impl ReadySession {
     }
 
     /// Does what an event says on the driver, and answers what the machine replies to the event as it is spelled. A poll makes a turn first.
-    /// `OutOfMemory` comes if memory runs out: the session stands for the same ledger. It never comes at a close, a drop or an end. The event
-    /// is any but Turn and Exec. (not in monoio)
+    /// `OutOfMemory` comes if memory runs out: the session stands for the same ledger. It comes only at an event that the machine doesn't
+    /// refuse, and never at a close, a drop or an end. The event is any but Turn and Exec. (not in monoio)
     pub fn step(&mut self, event: &Event) -> Result<Reply, OutOfMemory>
         requires { IsDriven event.now }
         ensures answers { (L : Ledger) → ReadyStands self.old L → ReadySteps L event.now self.new result }

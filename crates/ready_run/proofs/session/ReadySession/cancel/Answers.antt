@@ -6,7 +6,7 @@ use Rattle.ready_driver.specs.LegacyStands.{LegacyAnswers}
 use Rattle.ready_driver.specs.MemIo.{memory_view}
 use Rattle.ready_run.proofs.Kept.{tokens-same}
 use Rattle.ready_run.proofs.Polling.{single-as}
-use Rattle.ready_run.proofs.Refusals.{cause-cancel, no_token-gone}
+use Rattle.ready_run.proofs.Refusals.{cause-cancel, no_token-gone, token-live, unrefused-cancel}
 use Rattle.ready_run.proofs.Steps.{answers-kept, answers-refused, stands-same}
 use Rattle.ready_run.proofs.session.ReadySession.cancel.Goals as goal
 
@@ -28,4 +28,7 @@ returns-in-Ok c = λ D stands.
     (record { tokens = c.cancel_op.ensures.tokens; given = c.cancel_op.ensures.given })
 
 pub returns-in-Err : goal.returns-in-Err
-returns-in-Err c = λ D stands. stands-same c.args.self.now _ D stands c.in-Err.ensures.err (tokens-same _)
+returns-in-Err c = λ D stands. record {
+  stands = stands-same c.args.self.now _ D stands c.in-Err.ensures.err (tokens-same _);
+  unrefused = unrefused-cancel D c.args.n (token-live c.args.self.now D c.args.n c.in-Some.op.now stands c.in-Some.ensures);
+}

@@ -1,11 +1,12 @@
 use Rattle.std.proofs.Common.{◌≡◌, Some, None, refl, sym, ◌∙◌, ap, arith}
+use Rattle.std.proofs.lemmas.Option.{slice_get_within}
 use Rattle.ring_core.specs.Lists.{amended}
 use Rattle.driver_core.specs.Tokens.{token_at, cancellers_in}
 use Rattle.driver_core.proofs.KeptTokens.{emptied-none, put-taken}
 use Rattle.ready_driver.specs.LegacyCalls.{asking_in}
-use Rattle.ready_run.proofs.Canceling.{answers-cancels, canceller-made, canceller-none}
+use Rattle.ready_run.proofs.Canceling.{answers-cancels, canceller-at, canceller-made, canceller-none}
 use Rattle.ready_run.proofs.Polling.{single-as}
-use Rattle.ready_run.proofs.Refusals.{cause-cancel_all}
+use Rattle.ready_run.proofs.Refusals.{cause-cancel_all, unrefused-cancel_all}
 use Rattle.ready_run.proofs.Single.{asks-table}
 use Rattle.ready_run.proofs.Steps.{answers-refused, stands-same}
 use Rattle.ready_run.proofs.session.ReadySession.cancel_all.Goals as goal
@@ -45,15 +46,19 @@ returns-in-Ok c = λ D stands.
 pub returns-in-Err : goal.returns-in-Err
 returns-in-Err c = λ D stands.
     let there : token_at (cancellers_in c.args.self.now.tokens) c.args.c ≡ Some c.in-Some.canceller = sym c.in-Some.ensures.value in
-    stands-same c.args.self.now _ D stands c.in-Err.ensures.err
-    (record {
-      ops = c.put_canceller-in-Err.ensures.ops ∙ c.take_canceller.ensures.ops;
-      groups = record {
-        cancellers = c.put_canceller-in-Err.ensures.put
-            ∙ ap (λ xs. amended xs c.args.c (λ place. Some c.in-Err.same)) c.take_canceller.ensures.rest
-            ∙ ap (λ g. amended (amended (cancellers_in c.args.self.now.tokens) c.args.c (λ place. None)) c.args.c (λ place. Some g))
-            c.in-Err.ensures.back
-            ∙ put-taken (cancellers_in c.args.self.now.tokens) c.args.c c.in-Some.canceller there;
-        handles = c.put_canceller-in-Err.ensures.handles ∙ c.take_canceller.ensures.handles;
-      };
-    })
+    record {
+      stands = stands-same c.args.self.now _ D stands c.in-Err.ensures.err
+          (record {
+            ops = c.put_canceller-in-Err.ensures.ops ∙ c.take_canceller.ensures.ops;
+            groups = record {
+              cancellers = c.put_canceller-in-Err.ensures.put
+                  ∙ ap (λ xs. amended xs c.args.c (λ place. Some c.in-Err.same)) c.take_canceller.ensures.rest
+                  ∙ ap (λ g. amended (amended (cancellers_in c.args.self.now.tokens) c.args.c (λ place. None)) c.args.c (λ place. Some g))
+                  c.in-Err.ensures.back
+                  ∙ put-taken (cancellers_in c.args.self.now.tokens) c.args.c c.in-Some.canceller there;
+              handles = c.put_canceller-in-Err.ensures.handles ∙ c.take_canceller.ensures.handles;
+            };
+          });
+      unrefused = unrefused-cancel_all D c.args.c
+          (slice_get_within D.cancellers c.args.c _ (canceller-at c.args.self.now D c.args.c _ stands there));
+    }

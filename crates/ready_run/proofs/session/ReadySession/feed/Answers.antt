@@ -36,5 +36,8 @@ returns-in-Err-OutOfMemory c = λ D stands.
     let new = c.feed.new.self in
     let refused = subst (λ why. RefusedFor built D (Feed c.args.h c.args.bytes.now) new why) c.in-Err-OutOfMemory.field-0-is
     (c.in-Err-OutOfMemory.ensures.answers D stands.driver) in
-    stands-kept c.args.self.now _ D D stands (tokens-same _) refl refused.1
-    (single-as old.handling.table new.handling.table (ap (λ d. d.handling.table) c.feed.ensures.rest)) (keeps-world old new _ c.feed.ensures.rest)
+    record {
+      unrefused = refused.0;
+      stands = stands-kept c.args.self.now _ D D stands (tokens-same _) refl refused.1
+          (single-as old.handling.table new.handling.table (ap (λ d. d.handling.table) c.feed.ensures.rest)) (keeps-world old new _ c.feed.ensures.rest);
+    }

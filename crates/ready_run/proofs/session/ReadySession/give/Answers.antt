@@ -15,5 +15,8 @@ pub returns-in-Err : goal.returns-in-Err
 returns-in-Err c = λ D stands.
     let old = c.args.self.now.driver in
     let new = c.give.new.self in
-    stands-kept c.args.self.now _ D D stands (tokens-same _) refl (c.in-Err.ensures.stands D stands.driver)
-    (single-same old.handling.table new.handling.table c.in-Err.ensures.err.table) (same-ops old new c.give.ensures.rest)
+    record {
+      stands = stands-kept c.args.self.now _ D D stands (tokens-same _) refl (c.in-Err.ensures.stands D stands.driver)
+          (single-same old.handling.table new.handling.table c.in-Err.ensures.err.table) (same-ops old new c.give.ensures.rest);
+      unrefused = refl;
+    }

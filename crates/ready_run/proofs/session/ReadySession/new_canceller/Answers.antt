@@ -5,8 +5,11 @@ use Rattle.ready_run.proofs.Steps.{keeps-members, stands-same}
 use Rattle.ready_run.proofs.session.ReadySession.new_canceller.Goals as goal
 
 pub returns-then-is_err : goal.returns-then-is_err
-returns-then-is_err c = λ D stands. stands-same c.args.self.now _ D stands refl
-    (record { ops = c.reserve_canceller.ensures.ops; groups = c.reserve_canceller.ensures.groups })
+returns-then-is_err c = λ D stands. record {
+  stands = stands-same c.args.self.now _ D stands refl
+      (record { ops = c.reserve_canceller.ensures.ops; groups = c.reserve_canceller.ensures.groups });
+  unrefused = refl;
+}
 
 pub returns-in-Ok : goal.returns-in-Ok
 returns-in-Ok c = λ D stands.
@@ -23,5 +26,8 @@ returns-in-Ok c = λ D stands.
     (single-as old.handling.table new.handling.table (ap (λ d. d.handling.table) made)) (keeps-members old new _ made)
 
 pub returns-in-Err : goal.returns-in-Err
-returns-in-Err c = λ D stands. stands-same c.args.self.now _ D stands c.in-Err.ensures.err
-    (record { ops = c.reserve_canceller.ensures.ops; groups = c.reserve_canceller.ensures.groups })
+returns-in-Err c = λ D stands. record {
+  stands = stands-same c.args.self.now _ D stands c.in-Err.ensures.err
+      (record { ops = c.reserve_canceller.ensures.ops; groups = c.reserve_canceller.ensures.groups });
+  unrefused = refl;
+}

@@ -1,8 +1,9 @@
 use Rattle.std.proofs.Common.{◌++◌, [], ◌∷◌, refl, ◌∙◌, ap, arith}
+use Rattle.std.proofs.lemmas.Option.{slice_get_within}
 use Rattle.driver_core.specs.Tokens.{handles_in}
-use Rattle.ready_run.proofs.Canceling.{answers-handle, canceller-made, canceller-none}
+use Rattle.ready_run.proofs.Canceling.{answers-handle, canceller-at, canceller-made, canceller-none}
 use Rattle.ready_run.proofs.Kept.{tokens-same}
-use Rattle.ready_run.proofs.Refusals.{cause-new_handle}
+use Rattle.ready_run.proofs.Refusals.{cause-new_handle, unrefused-new_handle}
 use Rattle.ready_run.proofs.Steps.{answers-refused, stands-same}
 use Rattle.ready_run.proofs.session.ReadySession.new_handle.Goals as goal
 
@@ -24,8 +25,12 @@ returns-in-Ok c = λ D stands.
     c.in-Some.ensures (c.cancel_handle-handle.ensures.answers D stands.driver)
 
 pub returns-in-Err : goal.returns-in-Err
-returns-in-Err c = λ D stands. stands-same c.args.self.now _ D stands refl
-    (record {
-      ops = c.add_handle.ensures.ops;
-      groups = record { cancellers = c.add_handle.ensures.cancellers; handles = c.in-Err.ensures.err };
-    })
+returns-in-Err c = λ D stands. record {
+  stands = stands-same c.args.self.now _ D stands refl
+      (record {
+        ops = c.add_handle.ensures.ops;
+        groups = record { cancellers = c.add_handle.ensures.cancellers; handles = c.in-Err.ensures.err };
+      });
+  unrefused = unrefused-new_handle D c.args.c
+      (slice_get_within D.cancellers c.args.c _ (canceller-at c.args.self.now D c.args.c _ stands c.in-Some.ensures));
+}

@@ -15,7 +15,7 @@ use Rattle.ready_driver.specs.LegacyState.{ops_in}
 use Rattle.ready_driver.specs.MemIo.{memory_view}
 use Rattle.ready_run.proofs.Kept.{groups-then}
 use Rattle.ready_run.proofs.Polling.{single-ended}
-use Rattle.ready_run.proofs.Refusals.{cause-poll, no_token-gone}
+use Rattle.ready_run.proofs.Refusals.{cause-poll, no_token-gone, token-live, unrefused-poll}
 use Rattle.ready_run.proofs.Single.{single-same}
 use Rattle.ready_run.proofs.Steps.{answers-kept, answers-refused, answers-taken, stands-kept}
 use Rattle.ready_run.proofs.session.ReadySession.poll_reported.Goals as goal
@@ -84,12 +84,15 @@ returns-in-Err c = λ reported D stands.
     let there = sym c.in-Some.ensures.value in
     let emptied = ap (λ x. token_at x c.args.n) c.in-Some.ensures.rest ∙ token_at-emptied items c.args.n in
     let back = ap (λ o. amended (by_number c.take.new.self) c.args.n (λ token. Some o)) c.in-Err.ensures.tokens.0 in
-    stands-kept c.args.self.now _ D D stands
-    (record {
-      ops = c.put-in-Err.ensures.items emptied ∙ back ∙ ap (λ x. amended x c.args.n (λ token. Some c.in-Some.op)) c.in-Some.ensures.rest
-          ∙ put-taken items c.args.n c.in-Some.op there;
-      groups = groups-then c.args.self.now.tokens c.take.new.self c.put-in-Err.new.self c.in-Some.ensures.groups c.put-in-Err.ensures.groups;
-    }) refl
-    (c.in-Err.ensures.answers refl D stands.driver)
-    (single-same old.handling.table new.handling.table c.in-Err.ensures.ends.0.table)
-    (record { tokens = c.in-Err.ensures.tokens.1; given = c.poll_op.ensures.given })
+    record {
+      unrefused = unrefused-poll D c.args.n c.args.task (token-live c.args.self.now D c.args.n c.in-Some.op stands there);
+      stands = stands-kept c.args.self.now _ D D stands
+          (record {
+            ops = c.put-in-Err.ensures.items emptied ∙ back ∙ ap (λ x. amended x c.args.n (λ token. Some c.in-Some.op)) c.in-Some.ensures.rest
+                ∙ put-taken items c.args.n c.in-Some.op there;
+            groups = groups-then c.args.self.now.tokens c.take.new.self c.put-in-Err.new.self c.in-Some.ensures.groups c.put-in-Err.ensures.groups;
+          }) refl
+          (c.in-Err.ensures.answers refl D stands.driver)
+          (single-same old.handling.table new.handling.table c.in-Err.ensures.ends.0.table)
+          (record { tokens = c.in-Err.ensures.tokens.1; given = c.poll_op.ensures.given });
+    }

@@ -12,3 +12,6 @@ returns-in-Some c = λ D under stands is.
 pub returns-in-Ok : goal.returns-in-Ok
 returns-in-Ok c = λ D under stands is. subst (λ request. StepsFor D (Submit request under) c.submit_to.new.self c.submit_to.result)
     c.in-Ok.ensures (c.submit_to.ensures D under stands is)
+
+pub returns-in-Err : goal.returns-in-Err
+returns-in-Err c = λ D under stands is. record { stands = stands; unrefused = c.in-None.ensures.named D under stands is }

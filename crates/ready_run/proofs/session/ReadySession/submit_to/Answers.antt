@@ -8,9 +8,16 @@ pub returns-in-Some : goal.returns-in-Some
 returns-in-Some c = λ D under stands is.
     answers-refused c.args.self.now _ D _ _ stands (c.in-Some.ensures.named D under stands is) refl (tokens-same _)
 
+pub returns-then-given-ge-MOST_GIVEN : goal.returns-then-given-ge-MOST_GIVEN
+returns-then-given-ge-MOST_GIVEN c = λ D under stands is.
+    record { stands = stands; unrefused = c.refusal_of.ensures.named D under stands is ∙ c.in-None.is }
+
 pub returns-then-is_err : goal.returns-then-is_err
-returns-then-is_err c = λ D under stands is. stands-same c.args.self.now _ D stands refl
-    (record { ops = c.reserve_one.ensures.items; groups = c.reserve_one.ensures.groups })
+returns-then-is_err c = λ D under stands is. record {
+  stands = stands-same c.args.self.now _ D stands refl
+      (record { ops = c.reserve_one.ensures.items; groups = c.reserve_one.ensures.groups });
+  unrefused = c.refusal_of.ensures.named D under stands is ∙ c.in-None.is;
+}
 
 pub submit_built-requires-clause-held : goal.submit_built-requires-clause-held
 submit_built-requires-clause-held c =
@@ -21,7 +28,11 @@ returns-in-Ok c = λ D under stands is. steps-built c.submit_built.new.self _ D 
     c.submit_built.ensures.ok c.submit_built.ensures.err c.in-Ok.ensures.plain
     (stands-same c.args.self.now _ D stands refl
     (record { ops = c.reserve_one.ensures.items; groups = c.reserve_one.ensures.groups })) is
+    (c.refusal_of.ensures.named D under stands is ∙ c.in-None.is)
 
 pub returns-in-Err : goal.returns-in-Err
-returns-in-Err c = λ D under stands is. stands-same c.args.self.now _ D stands refl
-    (record { ops = c.reserve_one.ensures.items; groups = c.reserve_one.ensures.groups })
+returns-in-Err c = λ D under stands is. record {
+  stands = stands-same c.args.self.now _ D stands refl
+      (record { ops = c.reserve_one.ensures.items; groups = c.reserve_one.ensures.groups });
+  unrefused = c.refusal_of.ensures.named D under stands is ∙ c.in-None.is;
+}
