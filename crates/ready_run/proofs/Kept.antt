@@ -14,7 +14,9 @@ use Rattle.ring_core.specs.Ledger.{is_under_marked, group_under}
 use Rattle.ring_core.specs.Request.{call_of}
 use Rattle.ring_core.specs.Attempt.{attempt}
 use Rattle.ring_core.proofs.Staying.{Groups, groups_of}
+use Rattle.driver_core.specs.declared.op.Op.{Op}
 use Rattle.driver_core.specs.declared.tokens.Tokens.{Tokens}
+use Rattle.driver_core.proofs.KeptTokens.{token_at-emptied, put-taken}
 use Rattle.driver_core.specs.Tokens.{token_at, by_number, KeepsGroups}
 use Rattle.ready_driver.specs.Legacy.{LegacyOp, Legacy, seen, slot_at}
 use Rattle.ready_driver.specs.LegacyStep.{poll_op, poll_slot, submit_at, legacy_cause, legacy_answered, legacy_step}
@@ -40,6 +42,18 @@ pub record SameTokens (old new : Tokens) : Type 0 where
 -- Tokens are the same as they are.
 pub tokens-same : (t : Tokens) → SameTokens t t
 tokens-same t = record { ops = refl; groups = groups-same t }
+
+-- A token that was taken and put back is where it was.
+pub put-back : (old taken new : Tokens) (n : ℕ) (op back : Op) → token_at (by_number old) n ≡ Some op →
+    by_number taken ≡ amended (by_number old) n (λ token. None) →
+    (token_at (by_number taken) n ≡ None → by_number new ≡ amended (by_number taken) n (λ token. Some back)) → back ≡ op →
+    KeepsGroups old taken → KeepsGroups taken new → SameTokens old new
+put-back old taken new n op back there rest items same takes puts = record {
+  ops = items (ap (λ tokens. token_at tokens n) rest ∙ token_at-emptied (by_number old) n)
+      ∙ ap (λ o. amended (by_number taken) n (λ token. Some o)) same ∙ ap (λ tokens. amended tokens n (λ token. Some op)) rest
+      ∙ put-taken (by_number old) n op there;
+  groups = groups-then old taken new takes puts;
+}
 
 -- They are those of another driver whose groups are the same.
 pub groups-kept : (old new : Tokens) (D E : Legacy) → HasGroups old D → KeepsGroups old new → groups_in E ≡ groups_in D → HasGroups new E

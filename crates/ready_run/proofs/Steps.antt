@@ -185,6 +185,11 @@ pub keeps-world : (old new : LegacyState Memory Buf) (world : List HandleState) 
     new ≡ record old { handling = with_world old.handling world } → KeepsOps old new
 keeps-world old new world same = subst (λ d. KeepsOps old d) (sym same) (record { tokens = λ op. (λ h. h, λ h. h); given = refl })
 
+-- The user of one holds what it held.
+pub single-world : (old new : LegacyState Memory Buf) (world : List HandleState) →
+    new ≡ record old { handling = with_world old.handling world } → AreSingle old.handling.table → AreSingle new.handling.table
+single-world old new world same single = subst (λ d. AreSingle d.handling.table) (sym same) single
+
 -- A refused event that left the driver as it was as plain data.
 pub answers-left : (old new : ReadySession) (D : Legacy) (event : Event) (refusal : Refusal) → SessionStands old D →
     SameTokens old.tokens new.tokens → legacy_cause D event ≡ Some refusal → LegacyStands memory_view built new.driver D →

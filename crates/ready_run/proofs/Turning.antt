@@ -89,8 +89,9 @@ module _ (old new : LegacyState Memory Buf) (turned : Turned)
   pub reported-turned : turned.stop ≡ None → (D : Legacy) → LegacyStands memory_view built old D →
       AreReported new.handling.table new.handling.records new.handling.io.world
   reported-turned went D st =
-      (subst (λ stop. TurnsBy memory_view true true true (turning_in old old.asked) (turning_in new turns.tasks) stop) went turns.does).shows
-      refl st.handles.keyed
+      let does = subst (λ stop. TurnsBy memory_view true true true (turning_in old old.asked) (turning_in new turns.tasks) stop) went
+      turns.does in
+      does.shows refl st.handles.keyed
 
 -- A session whose driver made a turn is the same driver as plain data.
 pub stands-turned : (old new : ReadySession) (turned : Turned) (D : Legacy) → SessionStands old D → SameTokens old.tokens new.tokens →

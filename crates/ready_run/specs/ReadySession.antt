@@ -67,8 +67,8 @@ abbrev pub StepsFor : Legacy → Event → ReadySession → Result Reply OutOfMe
 StepsFor D event new (Ok reply) = SessionAnswers D event reply new
 StepsFor D event new (Err refused) = RanOut D event new
 
--- A session stands for a ledger: there are events that lead to it, as they are spelled, from the empty ledger of a capacity, and the session
--- is the driver as plain data that answered these events.
+-- A session stands for a ledger: some events lead to it, as they are spelled, from the empty ledger of a capacity, and the session is the
+-- driver as plain data that answered these events.
 pub record ReadyStands (session : ReadySession) (L : Ledger) : Type 0 where
   pub capacity : ℕ
   pub events : List Event

@@ -51,9 +51,9 @@ impl ReadySession {
         }
     }
 
-    /// Its driver. Where the session stands for a ledger, the driver holds just the operations that aren't gone there, each with its number,
-    /// its request with its buffer, its group, and whether its cancel was asked for; it holds the handles of that ledger with the same
-    /// holders, and its groups are those of that ledger, each with its mark and its members. (not in monoio)
+    /// Its driver. If the session stands for a ledger, the driver holds just the operations that aren't gone there, each with its number,
+    /// its request with its buffer, its group, and whether its cancel was asked for; its handles have what that ledger's have, with the
+    /// same holders, and its groups are those of that ledger, each with its mark and its members. (not in monoio)
     pub fn driver(&self) -> &LegacyDriver<MemIo, Buf>
         ensures same { result.now ≡ driver_in self.now }
         ensures shows { (L : Ledger) → ReadyStands self.now L → ShowsLedger memory_view built true result.now L }
@@ -61,9 +61,9 @@ impl ReadySession {
         &self.driver
     }
 
-    /// Does what an event says on the driver, and answers what the machine replies to the event as it is spelled. A poll makes a turn first.
-    /// `OutOfMemory` comes if memory runs out: the session stands for the same ledger. It comes only at an event that the machine doesn't
-    /// refuse, and never at a close, a drop or an end. The event is any but Turn and Exec. (not in monoio)
+    /// Does what an event says on the driver, and answers what the machine replies to the event as it is spelled. A poll makes a turn
+    /// first. The event is any but Turn and Exec. `OutOfMemory` comes if memory runs out: the session stands for the same ledger. It comes
+    /// only at an event that the machine doesn't refuse, and never at a close, a drop or an end. (not in monoio)
     pub fn step(&mut self, event: &Event) -> Result<Reply, OutOfMemory>
         requires { IsDriven event.now }
         ensures answers { (L : Ledger) → ReadyStands self.old L → ReadySteps L event.now self.new result }

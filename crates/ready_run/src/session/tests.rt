@@ -1,15 +1,15 @@
-// Reads of a stream over a session: one that waits, is fed and is returned, one that is canceled, and one that is dropped.
+// A run of reads: one waits, is fed and is returned, one is canceled, and one is dropped.
 use super::*;
-use rent_buf::{BufSpec, ByteList, Kind};
+use rent_buf::{BufSpec, ByteList, Kind, PartsSpec};
 use ring_core::{CANCELED, Outcome};
 use std::test::Fail;
 
-// A read of at most 4 bytes of the first handle, under no cancel handle.
-fn read(alloc: Global) -> Result<Event, Fail> {
+// A read of at most 4 bytes of the first handle.
+fn read(alloc: Global) -> Result<Request<BufSpec, PartsSpec>, Fail> {
     let none = ByteList::new(alloc);
     let buf = BufSpec::new(Kind::Vector, 4, 0, 4, none).ok_or("no buffer")?;
     let fd = SharedFd::new(0);
-    Ok(Event::Submit(Request::Recv { fd, buf }, None))
+    Ok(Request::Recv { fd, buf })
 }
 
 // Bytes, in memory of their own.
@@ -50,20 +50,25 @@ fn reads_wait_and_are_returned(rt: HostRuntime) -> Result<(), Fail> {
     let alloc = rt.alloc();
     let events = [
         Event::Give(HandleKind::Stream),
-        read(alloc)?,
+        Event::Submit(read(alloc)?, None),
         Event::Poll(0, 7),
         Event::Feed(0, list(alloc, b"ab")?),
         Event::Poll(0, 7),
         Event::Poll(0, 7),
+        Event::Submit(read(alloc)?, None),
+        Event::Cancel(1),
+        Event::Poll(1, 7),
+        Event::Submit(read(alloc)?, None),
+        Event::Drop(2),
+        Event::Cancel(2),
+        Event::Close(0),
+        Event::Close(0),
     ];
     let (replies, _) = ReadySession::run(alloc, &events)?;
-    let words: [&str; 6] = [
-        "handle 0",
-        "op 0",
-        "pending",
-        "fed",
-        "ready ok 2 ab",
-        "refused NoOp",
+    #[rattlefmt::skip]
+    let words: [&str; 14] = [
+        "handle 0", "op 0", "pending", "fed", "ready ok 2 ab", "refused NoOp", "op 1", "asked", "canceled", "op 2", "dropped",
+        "refused NoOp", "released", "refused NoHandle",
     ];
     for i in 0..words.len() {
         assert_eq!(rt; replies.get(i).map(word), Some(words[i]));

@@ -22,7 +22,8 @@ returns c = λ D stands.
     let new = c.close.new.self in
     let table = old.handling.table in
     let answers : ReleasesFor memory_view built D c.args.h (holders_at table c.args.h).user new =
-    subst (λ h. ReleasesFor memory_view built D h (holders_at table h).user new) c.new.ensures (c.close.ensures.answers refl D stands.driver) in
+    subst (λ h. ReleasesFor memory_view built D h (holders_at table h).user new) c.new.ensures
+    (c.close.ensures.answers refl D stands.driver) in
     answers-kept c.args.self.now _ D _ _ stands (tokens-same _) tt
     (subst (λ b. ReleasesIf memory_view built D c.args.h b new)
     (once-held table c.args.h stands.single (sym c.user_holds.ensures ∙ c.if-not-user_holds.false)) answers)

@@ -1,9 +1,8 @@
-use Rattle.std.proofs.Common.{refl, sym, ap, ◌∙◌}
+use Rattle.std.proofs.Common.{refl, sym, ◌∙◌}
 use Rattle.ready_run.proofs.Kept.{tokens-same}
-use Rattle.ready_run.proofs.Polling.{single-as}
 use Rattle.ready_run.proofs.Refusals.{cause-end}
 use Rattle.ready_run.proofs.Single.{has-held}
-use Rattle.ready_run.proofs.Steps.{answers-kept, answers-refused, answers-unended, keeps-world}
+use Rattle.ready_run.proofs.Steps.{answers-kept, answers-refused, answers-unended, keeps-world, single-world}
 use Rattle.ready_run.proofs.session.ReadySession.end.Goals as goal
 
 pub returns-then-not-has_handle : goal.returns-then-not-has_handle
@@ -16,7 +15,7 @@ returns-in-Ok c = λ D stands.
     let old = c.args.self.now.driver in
     let new = c.end.new.self in
     answers-kept c.args.self.now _ D _ _ stands (tokens-same _) tt (c.in-Ok.ensures.answers D stands.driver)
-    (single-as old.handling.table new.handling.table (ap (λ d. d.handling.table) c.end.ensures.rest)) (keeps-world old new _ c.end.ensures.rest)
+    (single-world old new _ c.end.ensures.rest) (keeps-world old new _ c.end.ensures.rest)
 
 pub returns-in-Err : goal.returns-in-Err
 returns-in-Err c = λ D stands.
@@ -24,4 +23,4 @@ returns-in-Err c = λ D stands.
     let new = c.end.new.self in
     answers-unended c.args.self.now _ D c.args.h c.in-Err.field-0 stands (tokens-same _) (c.in-Err.ensures.answers D stands.driver)
     c.in-Err.ensures.ends
-    (single-as old.handling.table new.handling.table (ap (λ d. d.handling.table) c.end.ensures.rest)) (keeps-world old new _ c.end.ensures.rest)
+    (single-world old new _ c.end.ensures.rest) (keeps-world old new _ c.end.ensures.rest)

@@ -1,12 +1,11 @@
-use Rattle.std.proofs.Common.{refl, sym, ap, subst, ◌∙◌}
+use Rattle.std.proofs.Common.{refl, sym, subst, ◌∙◌}
 use Rattle.rent_buf.specs.Buf.{built}
 use Rattle.ring_core.specs.declared.ledger.Event.TheVariants.{Feed}
 use Rattle.ready_driver.specs.LegacyHandles.{RefusedFor}
 use Rattle.ready_run.proofs.Kept.{tokens-same}
-use Rattle.ready_run.proofs.Polling.{single-as}
 use Rattle.ready_run.proofs.Refusals.{cause-feed}
 use Rattle.ready_run.proofs.Single.{has-held}
-use Rattle.ready_run.proofs.Steps.{answers-kept, answers-left, answers-refused, keeps-world, stands-kept}
+use Rattle.ready_run.proofs.Steps.{answers-kept, answers-left, answers-refused, keeps-world, single-world, stands-kept}
 use Rattle.ready_run.proofs.session.ReadySession.feed.Goals as goal
 
 pub returns-then-not-has_handle : goal.returns-then-not-has_handle
@@ -19,7 +18,7 @@ returns-in-Ok c = λ D stands.
     let old = c.args.self.now.driver in
     let new = c.feed.new.self in
     answers-kept c.args.self.now _ D _ _ stands (tokens-same _) tt (c.in-Ok.ensures.answers D stands.driver)
-    (single-as old.handling.table new.handling.table (ap (λ d. d.handling.table) c.feed.ensures.rest)) (keeps-world old new _ c.feed.ensures.rest)
+    (single-world old new _ c.feed.ensures.rest) (keeps-world old new _ c.feed.ensures.rest)
 
 pub returns-in-Err-BadHandleEvent : goal.returns-in-Err-BadHandleEvent
 returns-in-Err-BadHandleEvent c = λ D stands.
@@ -28,7 +27,7 @@ returns-in-Err-BadHandleEvent c = λ D stands.
     let refused = subst (λ why. RefusedFor built D (Feed c.args.h c.args.bytes.now) new why) c.in-Err-BadHandleEvent.field-0-is
     (c.in-Err-BadHandleEvent.ensures.answers D stands.driver) in
     answers-left c.args.self.now _ D _ _ stands (tokens-same _) refused.0 refused.1
-    (single-as old.handling.table new.handling.table (ap (λ d. d.handling.table) c.feed.ensures.rest)) (keeps-world old new _ c.feed.ensures.rest)
+    (single-world old new _ c.feed.ensures.rest) (keeps-world old new _ c.feed.ensures.rest)
 
 pub returns-in-Err-OutOfMemory : goal.returns-in-Err-OutOfMemory
 returns-in-Err-OutOfMemory c = λ D stands.
@@ -39,5 +38,5 @@ returns-in-Err-OutOfMemory c = λ D stands.
     record {
       unrefused = refused.0;
       stands = stands-kept c.args.self.now _ D D stands (tokens-same _) refl refused.1
-          (single-as old.handling.table new.handling.table (ap (λ d. d.handling.table) c.feed.ensures.rest)) (keeps-world old new _ c.feed.ensures.rest);
+          (single-world old new _ c.feed.ensures.rest) (keeps-world old new _ c.feed.ensures.rest);
     }

@@ -4,5 +4,7 @@ use Rattle.ready_run.proofs.Starting.{stands-new}
 use Rattle.ready_run.proofs.session.ReadySession.new.Goals as goal
 
 pub returns : goal.returns
-returns c = λ capacity. stands-idle _ capacity (stands-new _ (c.over.ensures.stands (ap (λ m. m.world) c.new.ensures) (ap (λ m. m.keys) c.new.ensures)) c.over.ensures.none.1 c.over.ensures.none.2
-    c.new-2.ensures.ops c.new-2.ensures.cancellers c.new-2.ensures.handles)
+returns c = λ capacity.
+    let driver = c.over.ensures.stands (ap (λ m. m.world) c.new.ensures) (ap (λ m. m.keys) c.new.ensures) in
+    stands-idle _ capacity (stands-new _ driver c.over.ensures.none.1 c.over.ensures.none.2 c.new-2.ensures.ops
+    c.new-2.ensures.cancellers c.new-2.ensures.handles)

@@ -1,19 +1,18 @@
-use Rattle.std.proofs.Common.{◌≡◌, ◌<◌, true, length, Some, None, ap, refl, sym, subst, ◌∙◌}
+use Rattle.std.proofs.Common.{◌≡◌, ◌<◌, true, length, None, refl, sym, subst, ◌∙◌}
 use Rattle.std.specs.Prelude.{Ok}
 use Rattle.rent_buf.specs.Buf.{built}
-use Rattle.ring_core.specs.Lists.{amended}
 use Rattle.ring_core.specs.Request.{held_of, plain_request}
 use Rattle.ring_core.specs.declared.entry.TheConstants.{MOST_HANDLES}
 use Rattle.ring_core.specs.declared.ledger.Event.TheVariants.{Poll}
 use Rattle.ring_core.specs.declared.ledger.Reply.TheVariants.{Pending, Handed}
 use Rattle.driver_core.specs.Op.{PollsTokens}
 use Rattle.driver_core.specs.Tokens.{token_at, by_number}
-use Rattle.driver_core.proofs.KeptTokens.{emptied-none, token_at-emptied, put-taken}
+use Rattle.driver_core.proofs.KeptTokens.{emptied-none}
 use Rattle.ready_driver.specs.LegacyPolls.{EndsFor}
 use Rattle.ready_driver.specs.LegacyStands.{LegacyAnswers, PollsFor, WaitsFor}
 use Rattle.ready_driver.specs.LegacyState.{ops_in}
 use Rattle.ready_driver.specs.MemIo.{memory_view}
-use Rattle.ready_run.proofs.Kept.{groups-then}
+use Rattle.ready_run.proofs.Kept.{put-back}
 use Rattle.ready_run.proofs.Polling.{single-ended}
 use Rattle.ready_run.proofs.Refusals.{cause-poll, no_token-gone, token-live, unrefused-poll}
 use Rattle.ready_run.proofs.Single.{single-same}
@@ -35,22 +34,16 @@ pub returns-in-Ok-Pending : goal.returns-in-Ok-Pending
 returns-in-Ok-Pending c = λ reported D stands.
     let old = c.args.self.now.driver in
     let new = c.poll_op.new.self in
-    let items = by_number c.args.self.now.tokens in
     let there = sym c.in-Some.ensures.value in
-    let emptied = ap (λ x. token_at x c.args.n) c.in-Some.ensures.rest ∙ token_at-emptied items c.args.n in
     let kept = subst (λ answer. PollsTokens (ops_in old) (ops_in new) c.in-Some.op answer) c.in-Ok-Pending.field-0-is
     c.in-Ok-Pending.ensures.tokens in
     let ends = subst (λ answer. EndsFor memory_view true true old new c.in-Some.op c.args.task (Ok answer)) c.in-Ok-Pending.field-0-is
     c.in-Ok-Pending.ensures.ends in
     let waits = subst (λ answer. WaitsFor memory_view built D c.in-Some.op c.args.task new (Ok answer)) c.in-Ok-Pending.field-0-is
     (c.in-Ok-Pending.ensures.exact refl reported D stands.driver) in
-    let back = ap (λ o. amended (by_number c.take.new.self) c.args.n (λ token. Some o)) kept.0 in
     answers-kept c.args.self.now _ D _ _ stands
-    (record {
-      ops = c.put.ensures.items emptied ∙ back ∙ ap (λ x. amended x c.args.n (λ token. Some c.in-Some.op)) c.in-Some.ensures.rest
-          ∙ put-taken items c.args.n c.in-Some.op there;
-      groups = groups-then c.args.self.now.tokens c.take.new.self c.put.new.self c.in-Some.ensures.groups c.put.ensures.groups;
-    }) tt
+    (put-back c.args.self.now.tokens c.take.new.self c.put.new.self c.args.n c.in-Some.op _ there c.in-Some.ensures.rest c.put.ensures.items
+    kept.0 c.in-Some.ensures.groups c.put.ensures.groups) tt
     (subst (λ n. LegacyAnswers memory_view built D (Poll n c.args.task) Pending new) ((stands.tokens c.args.n c.in-Some.op).0 there).1
     waits)
     (single-same old.handling.table new.handling.table ends.0.table)
@@ -80,18 +73,12 @@ pub returns-in-Err : goal.returns-in-Err
 returns-in-Err c = λ reported D stands.
     let old = c.args.self.now.driver in
     let new = c.poll_op.new.self in
-    let items = by_number c.args.self.now.tokens in
     let there = sym c.in-Some.ensures.value in
-    let emptied = ap (λ x. token_at x c.args.n) c.in-Some.ensures.rest ∙ token_at-emptied items c.args.n in
-    let back = ap (λ o. amended (by_number c.take.new.self) c.args.n (λ token. Some o)) c.in-Err.ensures.tokens.0 in
     record {
       unrefused = unrefused-poll D c.args.n c.args.task (token-live c.args.self.now D c.args.n c.in-Some.op stands there);
       stands = stands-kept c.args.self.now _ D D stands
-          (record {
-            ops = c.put-in-Err.ensures.items emptied ∙ back ∙ ap (λ x. amended x c.args.n (λ token. Some c.in-Some.op)) c.in-Some.ensures.rest
-                ∙ put-taken items c.args.n c.in-Some.op there;
-            groups = groups-then c.args.self.now.tokens c.take.new.self c.put-in-Err.new.self c.in-Some.ensures.groups c.put-in-Err.ensures.groups;
-          }) refl
+          (put-back c.args.self.now.tokens c.take.new.self c.put-in-Err.new.self c.args.n c.in-Some.op _ there c.in-Some.ensures.rest
+          c.put-in-Err.ensures.items c.in-Err.ensures.tokens.0 c.in-Some.ensures.groups c.put-in-Err.ensures.groups) refl
           (c.in-Err.ensures.answers refl D stands.driver)
           (single-same old.handling.table new.handling.table c.in-Err.ensures.ends.0.table)
           (record { tokens = c.in-Err.ensures.tokens.1; given = c.poll_op.ensures.given });
