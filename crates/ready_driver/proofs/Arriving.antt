@@ -42,52 +42,54 @@ module _ {B : Type 0} (buffer : B → Buffer) (d : LegacyState Memory B) (D : Le
       ∙ ap (λ x. refused_if x NotTaken None) (ap (λ w. passes refuses (slice_get w h)) (sym same) ∙ is)
 
   -- The handle changed, and nothing else.
-  stands-world : (change : HandleState → HandleState) (new : Handling Memory) (world : List HandleState) →
-      new ≡ with_world d.handling world → world ≡ amended d.handling.io.world h change →
+  stands-world : (change : HandleState → HandleState) (new : Handling Memory) → new ≡ with_world d.handling new.io →
+      new.io.world ≡ amended d.handling.io.world h change →
       LegacyStands memory_view buffer (record d { handling = new }) (record D { world = amended D.world h change })
-  stands-world change new world rest is =
+  stands-world change new rest is =
       let E : Legacy = record D { world = amended D.world h change } in
       subst (λ x. LegacyStands memory_view buffer (record d { handling = x }) E) (sym rest)
-      (stands-like memory_view buffer d D old (record d { handling = with_world d.handling world }) E refl refl refl
+      (stands-like memory_view buffer d D old (record d { handling = with_world d.handling new.io }) E refl refl refl
       (is ∙ ap (λ w. amended w h change) same)
       (handles-like d.handling.table d.handling.io.keys D E refl refl (length-amended change D.world h) old.handles)
       (record { marks = old.groups.marks; members = old.groups.members })
       (subst (λ n. n ≤ MOST_HANDLES) (sym (length-amended change D.world h)) old.few))
 
-  -- Nothing changed.
-  stands-same : (new : Handling Memory) (world : List HandleState) → new ≡ with_world d.handling world → world ≡ d.handling.io.world →
+  -- No handle changed.
+  stands-same : (new : Handling Memory) → new ≡ with_world d.handling new.io → new.io.world ≡ d.handling.io.world →
       LegacyStands memory_view buffer (record d { handling = new }) D
-  stands-same new world rest is =
-      subst (λ x. LegacyStands memory_view buffer (record d { handling = x }) D) (sym (rest ∙ ap (with_world d.handling) is)) old
+  stands-same new rest is =
+      subst (λ x. LegacyStands memory_view buffer (record d { handling = x }) D) (sym rest)
+      (stands-like memory_view buffer d D old (record d { handling = with_world d.handling new.io }) D refl refl refl (is ∙ same)
+      old.handles (record { marks = old.groups.marks; members = old.groups.members }) old.few)
 
   -- Bytes arrive.
   pub stands-feeds : (bytes : List ℕ) (new : Handling Memory) (result : Result Unit WorldError) →
-      WorldFeeds bytes d.handling.io.world h new.io.world result → new ≡ with_world d.handling new.io.world →
+      WorldFeeds bytes d.handling.io.world h new.io.world result → new ≡ with_world d.handling new.io →
       FeedsFor buffer D h bytes (record d { handling = new }) result
   stands-feeds bytes new (Ok done) feeds rest =
       answers-row memory_view buffer D (Feed h bytes) Fed (record d { handling = new }) (cause-is refuses_feed false feeds.0) refl
-      (stands-world (with_input bytes) new new.io.world rest feeds.1)
-  stands-feeds bytes new (Err BadHandleEvent) feeds rest = (cause-is refuses_feed true feeds.0, stands-same new new.io.world rest feeds.1)
-  stands-feeds bytes new (Err OutOfMemory) feeds rest = (cause-is refuses_feed false feeds.0, stands-same new new.io.world rest feeds.1)
+      (stands-world (with_input bytes) new rest feeds.1)
+  stands-feeds bytes new (Err BadHandleEvent) feeds rest = (cause-is refuses_feed true feeds.0, stands-same new rest feeds.1)
+  stands-feeds bytes new (Err OutOfMemory) feeds rest = (cause-is refuses_feed false feeds.0, stands-same new rest feeds.1)
 
   -- A message arrives.
   pub stands-feeds-message : (addr : ℕ) (bytes : List ℕ) (new : Handling Memory) (result : Result Unit WorldError) →
-      WorldFeedsMessage addr bytes d.handling.io.world h new.io.world result → new ≡ with_world d.handling new.io.world →
+      WorldFeedsMessage addr bytes d.handling.io.world h new.io.world result → new ≡ with_world d.handling new.io →
       FeedsMessageFor buffer D h addr bytes (record d { handling = new }) result
   stands-feeds-message addr bytes new (Ok done) feeds rest =
       answers-row memory_view buffer D (FeedMessage h addr bytes) Fed (record d { handling = new })
-      (cause-is refuses_message false feeds.0) refl (stands-world (with_message addr bytes) new new.io.world rest feeds.1)
+      (cause-is refuses_message false feeds.0) refl (stands-world (with_message addr bytes) new rest feeds.1)
   stands-feeds-message addr bytes new (Err BadHandleEvent) feeds rest =
-      (cause-is refuses_message true feeds.0, stands-same new new.io.world rest feeds.1)
+      (cause-is refuses_message true feeds.0, stands-same new rest feeds.1)
   stands-feeds-message addr bytes new (Err OutOfMemory) feeds rest =
-      (cause-is refuses_message false feeds.0, stands-same new new.io.world rest feeds.1)
+      (cause-is refuses_message false feeds.0, stands-same new rest feeds.1)
 
   -- The end of what arrives.
   pub stands-ends : (new : Handling Memory) (result : Result Unit WorldError) →
-      WorldEnds d.handling.io.world h new.io.world result → new ≡ with_world d.handling new.io.world →
+      WorldEnds d.handling.io.world h new.io.world result → new ≡ with_world d.handling new.io →
       EndsFor buffer D h (record d { handling = new }) result
   stands-ends new (Ok done) ends rest =
       answers-row memory_view buffer D (End h) Ended (record d { handling = new }) (cause-is refuses_end false ends.0) refl
-      (stands-world with_end new new.io.world rest ends.1)
-  stands-ends new (Err BadHandleEvent) ends rest = (cause-is refuses_end true ends.0, stands-same new new.io.world rest ends.1)
+      (stands-world with_end new rest ends.1)
+  stands-ends new (Err BadHandleEvent) ends rest = (cause-is refuses_end true ends.0, stands-same new rest ends.1)
   stands-ends new (Err OutOfMemory) ends rest = absurd ends

@@ -1,10 +1,11 @@
 -- A call that handles in memory made, as an object whose calls don't wait shows it.
-use Rattle.std.proofs.Common.{◌≡◌, ℕ, ◌+◌, ◌≤◌, Bool, true, false, List, [], ◌∷◌, length, take, drop, min, Option, Some, None}
+use Rattle.std.proofs.Common.{◌≡◌, ℕ, ◌+◌, ◌<◌, ◌≤◌, Bool, true, false, List, [], ◌∷◌, length, take, drop, min, Option, Some, None}
 use Rattle.std.proofs.Common.{slice_get, refl, sym, ◌∙◌, ap, subst, arith}
 use Rattle.std.specs.Prelude.{option_to_list, IfSome, OnOk, Result, Ok, Err, is_err}
 use Rattle.std.proofs.lemmas.List.{length-append, length-take-le}
 use Rattle.rent_buf.specs.Buffer.{Buffer}
 use Rattle.rent_buf.specs.Parts.{Parts}
+use Rattle.rent_buf.specs.Counts.{Rose}
 use Rattle.ring_core.specs.declared.request.Request.{Request}
 use Rattle.ring_core.specs.declared.request.Request.TheVariants.{Recv, ReadVec, Send, WriteVec, RecvMsg, SendMsg, Read, Write}
 use Rattle.ring_core.specs.declared.request.Request.TheVariants.{SpliceTo, SpliceFrom, Accept, Open, Connect, Fsync, PollAdd, MkDir, Rename}
@@ -14,7 +15,7 @@ use Rattle.ring_core.specs.declared.request.Told.TheVariants.{Count, Fail}
 use Rattle.ring_core.specs.declared.request.Outcome.{Outcome}
 use Rattle.ring_core.specs.declared.request.Outcome.TheVariants.{Count as Counted, From, Made, Fail as Failed}
 use Rattle.ring_core.specs.declared.world.HandleState.{HandleState}
-use Rattle.ring_core.specs.Request.{call_of, makes, held_of, held_want, held_after, held, sent_of, IsHolding}
+use Rattle.ring_core.specs.Request.{named, call_of, makes, held_of, held_want, held_after, held, sent_of, IsHolding}
 use Rattle.ring_core.specs.Outcome.{may_count}
 use Rattle.ring_core.specs.declared.world.WorldError.{WorldError}
 use Rattle.ring_core.specs.declared.world.WorldError.TheVariants.{BadHandleEvent, OutOfMemory}
@@ -27,7 +28,8 @@ use Rattle.ring_core.proofs.Amended.{length-amended}
 use Rattle.ring_core.proofs.Turning.{grows-effect}
 use Rattle.ring_core.proofs.Attempting.{attempt_allowed}
 use Rattle.ring_core.proofs.Greatest.{greatest_count}
-use Rattle.ready_driver.specs.Io.{FailRose, made_after, IsFilled, EndsFor, MayEnd, IsMoved, IsMade}
+use Rattle.ready_driver.specs.Io.{FailRose, made_after, IsFilled, EndsFor, MayEnd, IsMoved, IsMade, KeepsShown, AreDue, CallsFor}
+use Rattle.driver_core.specs.declared.operations.calls.CallAnswer.TheVariants.{WouldBlock}
 use Rattle.ready_driver.specs.MemIo.{Memory, memory_view}
 use Rattle.ready_driver.specs.Reports.{with_made_key}
 
@@ -138,16 +140,44 @@ module _ (old : List HandleState) (request : Request Buffer Parts) (new : List H
 -- A world in memory made a call.
 pub memory-called : (old new : Memory) (request now : Request Buffer Parts) (outcome : Outcome) →
     IsCalled old.world request new.world now outcome → new.keys ≡ with_made_key (made_by outcome) old.keys → new.blocks ≡ old.blocks →
-    old.fails ≤ new.fails → FailRose outcome old.fails new.fails →
+    old.fails ≤ new.fails → FailRose outcome old.fails new.fails → KeepsShown (memory_view old) (memory_view new) →
     IsMade true true (memory_view old) request (memory_view new) now outcome
-memory-called old new request now outcome called keys blocks later fails = record {
+memory-called old new request now outcome called keys blocks later fails shown = record {
   later = record { faults = omega arith; blocks = omega (arith, blocks); fails = later };
   fails = fails;
   made = called-made old.world request new.world now outcome called;
   ends = called-ends old.world request new.world now outcome called;
   moved = λ told. called-moved old.world request new.world now outcome called;
   called = λ told. (called, keys);
+  shown = λ told. shown;
 }
+
+-- A world in memory would have blocked.
+pub memory-blocked : (old new : Memory) (request now : Request Buffer Parts) →
+    (attempt old.world (call_of request) ≡ None) × (new.world ≡ old.world) × (now ≡ request) → new.keys ≡ old.keys →
+    new.fails ≡ old.fails → old.blocks ≤ new.blocks → Rose old.blocks new.blocks → KeepsShown (memory_view old) (memory_view new) →
+    AreDue (memory_view new) (named request) → CallsFor true true (memory_view old) request (memory_view new) now WouldBlock
+memory-blocked old new request now calls keys fails later rose shown due = (
+  record {
+    later = record { faults = omega arith; blocks = later; fails = omega (arith, fails) };
+    same = calls.2;
+    made = ap length calls.1;
+    world = λ told. calls.1;
+    keys = λ told. keys;
+    shown = λ told. shown;
+  },
+  rose,
+  λ told. (calls.0, due),
+)
+
+-- As many keys fit where one fits that may join them.
+pub made-fits : (made : Option ℕ) (keys : List (Option ℕ)) (most : ℕ) → length keys ≤ most →
+    ((h : ℕ) → made ≡ Some h → length keys < most) → length (with_made_key made keys) ≤ most
+made-fits None keys most fits one = fits
+made-fits (Some h) keys most fits one =
+    let more = one h refl in
+    let l = length-append keys (None ∷ []) in
+    omega (arith, more, l)
 
 -- What is so of each value that is there is so of one that may be.
 pub if-some : {P : Type 0} (x : Option ℕ) → ((h : ℕ) → x ≡ Some h → P) → IfSome x (λ h. P)

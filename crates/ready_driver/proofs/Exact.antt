@@ -37,13 +37,14 @@ use Rattle.ready_driver.specs.LegacyStep.{poll_op, poll_slot}
 use Rattle.ready_driver.specs.Polling.{SlotFor, PartsStand, PollsFor}
 use Rattle.ready_driver.specs.Ready.{meets, mask_of}
 use Rattle.ready_driver.specs.Records.{Kept, io_at}
-use Rattle.ready_driver.specs.Turns.{ShowsBits, AreReported}
+use Rattle.ready_driver.specs.Reports.{ShowsBits}
+use Rattle.ready_driver.specs.Turns.{AreReported}
 use Rattle.ready_driver.proofs.Ended.{flying-unasked}
 use Rattle.ready_driver.proofs.Parting.{named-held}
 use Rattle.ready_driver.proofs.Registering.{known-op}
 
 -- A pair of a handle and a direction: the handle.
-same-handle : (fd h : ℕ) (d e : Direction) → ◌≡◌ {A = Option (ℕ × Direction)} (Some (fd, d)) (Some (h, e)) → fd ≡ h
+pub same-handle : (fd h : ℕ) (d e : Direction) → ◌≡◌ {A = Option (ℕ × Direction)} (Some (fd, d)) (Some (h, e)) → fd ≡ h
 same-handle fd h d e is = ap (λ o. (unwrap_or {T = ℕ × Direction} o (fd, d)).0) is
 
 -- What waits to write doesn't wait to read.

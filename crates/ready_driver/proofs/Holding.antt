@@ -142,7 +142,7 @@ module _ {I B : Type 0} (view : I → IoView) (buffer : B → Buffer) (tells mem
 -- What trying to register a handle in memory left: it is registered.
 pub tries-memory : (tells memory : Bool) (h : ℕ) (old new : IoView) (taken : Bool) → IsTrue memory → IsTrue tells →
     TriesFor tells memory h old new taken → (new.world ≡ old.world) × (new.keys ≡ with_key old.keys h (Some h))
-tries-memory tells memory h old new true in_memory shows tries = (tries.world shows, tries.keys_are in_memory)
+tries-memory tells memory h old new true in_memory shows tries = (tries.0.world shows, tries.0.keys_are in_memory)
 tries-memory tells memory h old new false in_memory shows tries = absurd (tries.1 in_memory)
 
 -- A new handle in memory.

@@ -37,5 +37,10 @@ pub mod Reporting
 pub mod Standing
 pub mod Reported
 pub mod Turning
+pub mod Marking
+pub mod Unnamed
+pub mod Shown
+pub mod Bearing
+pub mod Showing
 pub mod Exact
 pub mod Errors

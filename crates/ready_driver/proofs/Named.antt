@@ -124,6 +124,10 @@ module _ {B : Type 0} (old : FinMap nat_cmp (Slot B)) (key number : ℕ) (holds 
         sym (named-mapped _ _ calls.now.request) ∙ same ∙ named-mapped _ _ calls.slot.request ∙ ap named asked-request
         ∙ sym (ap named_in mine.there)
 
+    -- The request that was called names what the operation names.
+    pub called-named : named (plain_request buffer calls.slot.request) ≡ named_in (get old key)
+    called-named = named-mapped _ _ calls.slot.request ∙ ap named asked-request ∙ sym (ap named_in mine.there)
+
     -- A call that wasn't made.
     pub unmade-slots : plain_request buffer calls.now.request ≡ plain_request buffer calls.slot.request → KeepsSlot old key new
     unmade-slots same = record {

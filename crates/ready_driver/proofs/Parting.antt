@@ -29,7 +29,7 @@ length-without [] keys = refl
 length-without (h ∷ handles) keys = length-without handles (with_key keys h None) ∙ length-amended (λ old. None) keys h
 
 -- A handle that is held once another settled was held before, and isn't one that left.
-settled-known : (table : Table) (h : ℕ) (held : Holders) (b : Bool) → is_known table h ≡ true → (k : ℕ) →
+pub settled-known : (table : Table) (h : ℕ) (held : Holders) (b : Bool) → is_known table h ≡ true → (k : ℕ) →
     is_known (settle_if b table h held) k ≡ true → (is_known table k ≡ true) × (b ≡ true → k ≢ h)
 settled-known table h held true there k known = elim (same-or-not k h) [
   | inl e ↦ (
@@ -51,7 +51,7 @@ left-front table h true rest keys k was same =
 left-front table h false rest keys k was same = (was.0, same keys)
 
 -- What is held once an operation left was held before, and its key stays.
-left-known : (handles : List ℕ) (table : Table) (keys : List (Option ℕ)) (k : ℕ) → CanLeave table handles →
+pub left-known : (handles : List ℕ) (table : Table) (keys : List (Option ℕ)) (k : ℕ) → CanLeave table handles →
     is_known (without_ops table handles) k ≡ true →
     (is_known table k ≡ true) × (slice_get (without_keys keys (unheld_by table handles)) k ≡ slice_get keys k)
 left-known [] table keys k may known = (known, refl)

@@ -45,8 +45,8 @@ use Rattle.ready_driver.specs.Polling.{PartsStand}
 use Rattle.ready_driver.specs.Ready.{meets, mask_of}
 use Rattle.ready_driver.specs.Records.{Kept, io_at}
 use Rattle.ready_driver.specs.Registry.{Handling, is_known, is_old, IsSameButRoom, LetsGo}
-use Rattle.ready_driver.specs.Reports.{with_key, with_made_key}
-use Rattle.ready_driver.specs.Turns.{ShowsBits, AreReported}
+use Rattle.ready_driver.specs.Reports.{with_key, with_made_key, ShowsBits}
+use Rattle.ready_driver.specs.Turns.{AreReported}
 use Rattle.ring_core.specs.Attempt.{is_readable_at}
 use Rattle.ready_driver.proofs.Events.{fits, driven, names-are, live-freed, left-handles}
 use Rattle.ready_driver.proofs.Grouped.{groups-freed}

@@ -73,7 +73,7 @@ length-one true n = refl
 length-one false n = refl
 
 -- A handle is held before an operation joins, where it is held then.
-joined-known : (table : Table) (handles : List ℕ) → CanJoin table handles → (k : ℕ) → is_known (with_ops table handles) k ≡ true →
+pub joined-known : (table : Table) (handles : List ℕ) → CanJoin table handles → (k : ℕ) → is_known (with_ops table handles) k ≡ true →
     is_known table k ≡ true
 joined-known table [] may k known = known
 joined-known table (h ∷ handles) may k known =

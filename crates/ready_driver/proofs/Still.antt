@@ -22,7 +22,7 @@ later-then a b c x y = record {
 module _ (tells memory : Bool) where
   -- No call.
   pub still-same : (v : IoView) → IsStill tells memory v v v.keys
-  still-same v = record { later = later-same v; made = refl; world = λ t. refl; keys_are = λ m. refl }
+  still-same v = record { later = later-same v; made = refl; world = λ t. refl; keys_are = λ m. refl; shown = λ m h ready s. s }
 
   -- Two calls: what the second makes of the keys it makes of those that the first left.
   pub still-then : (a b c : IoView) (keys : List (Option ℕ)) (f : List (Option ℕ) → List (Option ℕ)) → IsStill tells memory a b keys →
@@ -32,6 +32,7 @@ module _ (tells memory : Bool) where
     made = y.made ∙ x.made;
     world = λ t. y.world t ∙ x.world t;
     keys_are = λ m. y.keys_are m ∙ ap f (x.keys_are m);
+    shown = λ m h ready s. y.shown m h ready (x.shown m h ready s);
   }
 
   -- A fault behind other calls is one of all of them.

@@ -1,5 +1,5 @@
 -- An object whose calls don't wait, as its callers see it, and what its calls do. Cited by `NonBlock`.
-use Rattle.std.specs.Prelude.{ℕ, suc, ◌≡◌, ◌≤◌, Bool, true, IsTrue, List, [], length, min, Option, None, Result, Ok, Err}
+use Rattle.std.specs.Prelude.{ℕ, suc, ◌≡◌, ◌≤◌, ◌⊎◌, Bool, true, IsTrue, List, [], length, min, Option, None, Some, slice_get, Result, Ok, Err}
 use Rattle.rent_buf.specs.Buffer.{Buffer}
 use Rattle.rent_buf.specs.Parts.{Parts}
 use Rattle.rent_buf.specs.Counts.{Rose}
@@ -13,9 +13,10 @@ use Rattle.ring_core.specs.declared.request.Told.TheVariants.{Count as Counts, F
 use Rattle.ring_core.specs.declared.request.Outcome.{Outcome}
 use Rattle.ring_core.specs.declared.request.Outcome.TheVariants.{Count, From, Made, Fail}
 use Rattle.ring_core.specs.declared.world.HandleState.{HandleState}
-use Rattle.ring_core.specs.Request.{call_of, makes, way_of, held_of, held_want, held_after, held, sent_of, IsHolding}
+use Rattle.ring_core.specs.Lists.{has_number}
+use Rattle.ring_core.specs.Request.{named, call_of, makes, way_of, held_of, held_want, held_after, held, sent_of, IsHolding}
 use Rattle.ring_core.specs.Outcome.{may_count}
-use Rattle.ring_core.specs.Attempt.{attempt}
+use Rattle.ring_core.specs.Attempt.{attempt, is_readable_at}
 use Rattle.ring_core.specs.Effect.{made_by}
 use Rattle.ring_core.specs.WorldCall.{IsCalled, call_effect}
 use Rattle.driver_core.specs.declared.operations.calls.CallAnswer.{CallAnswer}
@@ -23,11 +24,11 @@ use Rattle.driver_core.specs.declared.operations.calls.CallAnswer.TheVariants.{D
 use Rattle.ready_driver.specs.declared.non_block.Report.{Report}
 use Rattle.ready_driver.specs.declared.non_block.NonBlockError.{NonBlockError}
 use Rattle.ready_driver.specs.declared.non_block.NonBlockError.TheVariants.{Fault, OutOfMemory as NoMemory}
-use Rattle.ready_driver.specs.Reports.{with_key, with_made_key}
+use Rattle.ready_driver.specs.Reports.{with_key, with_made_key, ShowsBits}
 
 -- An object: how often a call of it failed as a whole, would have blocked, and ended with an error; how many handles it made; its handles;
--- by handle, the key that it is registered with, if it is; and what a wait reports. Every object shows its counts. The rest means something
--- only where the object shows it.
+-- by handle, the key that it is registered with, if it is; which handles are due, as the next wait reports them; and what it reports. Every
+-- object shows its counts. The rest means something only where the object shows it.
 pub record IoView : Type 0 where
   pub faults : ℕ
   pub blocks : ℕ
@@ -35,7 +36,24 @@ pub record IoView : Type 0 where
   pub made : ℕ
   pub world : List HandleState
   pub keys : List (Option ℕ)
+  pub due : List ℕ
   pub reports : List Report
+
+-- A handle is due, if it is registered with its own number.
+abbrev pub IsDue : IoView → ℕ → Type 0
+IsDue io h = slice_get io.keys h ≡ Some (Some h) → has_number h io.due ≡ true
+
+-- A handle is due, or these bits show it, if it is registered with its own number.
+abbrev pub IsShown : IoView → ℕ → ℕ → Type 0
+IsShown io h ready = slice_get io.keys h ≡ Some (Some h) → (has_number h io.due ≡ true) ⊎ ShowsBits (is_readable_at io.world h) ready
+
+-- Bits that showed a handle show it still, or the handle is due.
+abbrev pub KeepsShown : IoView → IoView → Type 0
+KeepsShown old new = (h ready : ℕ) → IsShown old h ready → IsShown new h ready
+
+-- Each of these handles is due.
+abbrev pub AreDue : IoView → List ℕ → Type 0
+AreDue io handles = (h : ℕ) → has_number h handles ≡ true → IsDue io h
 
 -- The counts never fall.
 pub record IsLater (old new : IoView) : Type 0 where
@@ -107,6 +125,7 @@ pub record IsMade (tells memory : Bool) (old : IoView) (request : Request Buffer
   pub ends : EndsFor request now outcome
   pub moved : IsTrue tells → IsMoved old.world request new.world now outcome
   pub called : IsTrue memory → IsCalled old.world request new.world now outcome × (new.keys ≡ with_made_key (made_by outcome) old.keys)
+  pub shown : IsTrue memory → KeepsShown old new
 
 -- A call wasn't made: the request is as it was, and so are the handles and what is registered.
 pub record IsUnmade (tells memory : Bool) (old : IoView) (request : Request Buffer Parts) (new : IoView) (now : Request Buffer Parts) :
@@ -116,31 +135,43 @@ pub record IsUnmade (tells memory : Bool) (old : IoView) (request : Request Buff
   pub made : new.made ≡ old.made
   pub world : IsTrue tells → new.world ≡ old.world
   pub keys : IsTrue memory → new.keys ≡ old.keys
+  pub shown : IsTrue memory → KeepsShown old new
 
 -- What the call of a request answers and leaves. `WouldBlock` comes only where its count rose; of a world in memory, exactly where the call
--- isn't made at once.
+-- isn't made at once, and then each handle that the request names is due.
 abbrev pub CallsFor : Bool → Bool → IoView → Request Buffer Parts → IoView → Request Buffer Parts → CallAnswer → Type 0
 CallsFor tells memory old request new now (Done outcome) = IsMade tells memory old request new now outcome
 CallsFor tells memory old request new now WouldBlock =
     IsUnmade tells memory old request new now × Rose old.blocks new.blocks
-    × (IsTrue memory → attempt old.world (call_of request) ≡ None)
+    × (IsTrue memory → (attempt old.world (call_of request) ≡ None) × AreDue new (named request))
 CallsFor tells memory old request new now OutOfMemory = IsUnmade tells memory old request new now
 
--- A call that moves nothing: it made no handle, the handles are as they were, and these keys are registered.
+-- A call that moves nothing: it made no handle, the handles are as they were, and these keys are registered. Bits that showed a handle show
+-- it still, or the handle is due.
 pub record IsStill (tells memory : Bool) (old new : IoView) (keys : List (Option ℕ)) : Type 0 where
   pub later : IsLater old new
   pub made : new.made ≡ old.made
   pub world : IsTrue tells → new.world ≡ old.world
   pub keys_are : IsTrue memory → new.keys ≡ keys
+  pub shown : IsTrue memory → KeepsShown old new
+
+-- A wait moves nothing: it made no handle, and the handles and what is registered are as they were.
+pub record IsWaited (tells memory : Bool) (old new : IoView) : Type 0 where
+  pub later : IsLater old new
+  pub made : new.made ≡ old.made
+  pub world : IsTrue tells → new.world ≡ old.world
+  pub keys_are : IsTrue memory → new.keys ≡ old.keys
 
 -- Why a call failed: `Fault` comes only where its count rose, and never of a world in memory.
 abbrev pub FaultsFor : Bool → IoView → IoView → NonBlockError → Type 0
 FaultsFor memory old new Fault = Rose old.faults new.faults × (IsTrue memory → ⊥)
 FaultsFor memory old new NoMemory = Unit {0}
 
--- What registering a handle, or taking that back, answers and leaves. A world in memory always does it.
+-- What registering a handle, or taking that back, answers and leaves. A world in memory always does it, and a handle that it registered is
+-- due.
 abbrev pub RegistersFor : Bool → Bool → ℕ → Option ℕ → IoView → IoView → Result Unit NonBlockError → Type 0
-RegistersFor tells memory h key old new (Ok done) = IsStill tells memory old new (with_key old.keys h key)
+RegistersFor tells memory h key old new (Ok done) =
+    IsStill tells memory old new (with_key old.keys h key) × (IsTrue memory → IsDue new h)
 RegistersFor tells memory h key old new (Err why) =
     IsStill tells memory old new old.keys × FaultsFor memory old new why × (IsTrue memory → ⊥)
 
@@ -149,9 +180,10 @@ pub record IsClosed (tells memory : Bool) (old new : IoView) (outcome : Outcome)
   pub still : IsStill tells memory old new old.keys
   pub outcome_is : IsTrue memory → outcome ≡ Count 0
 
--- What a wait answers and leaves. An object that shows its reports puts just these into the list; after an error there is none.
+-- What a wait answers and leaves. An object that shows its reports puts just these into the list; after an error there is none. Of a world
+-- in memory no handle is due any more, and after an error just those that were.
 abbrev pub WaitsFor : Bool → Bool → Bool → IoView → IoView → List Report → Result Unit NonBlockError → Type 0
 WaitsFor tells reporting memory old new reports (Ok done) =
-    IsStill tells memory old new old.keys × (IsTrue reporting → reports ≡ old.reports)
+    IsWaited tells memory old new × (IsTrue reporting → reports ≡ old.reports) × (IsTrue memory → new.due ≡ [])
 WaitsFor tells reporting memory old new reports (Err why) =
-    IsStill tells memory old new old.keys × FaultsFor memory old new why × (reports ≡ [])
+    IsWaited tells memory old new × FaultsFor memory old new why × (reports ≡ []) × (IsTrue memory → new.due ≡ old.due)

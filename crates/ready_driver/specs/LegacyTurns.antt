@@ -9,7 +9,7 @@ use Rattle.driver_core.specs.declared.op.Stop.{Stop}
 use Rattle.driver_core.specs.declared.op.Stop.TheVariants.{RingFault, Busy, BadCompletion, OutOfMemory}
 use Rattle.driver_core.specs.declared.op.Turned.{Turned}
 use Rattle.ready_driver.specs.declared.non_block.Report.{Report}
-use Rattle.ready_driver.specs.Io.{IoView, IsStill}
+use Rattle.ready_driver.specs.Io.{IoView, IsWaited}
 use Rattle.ready_driver.specs.Legacy.{Legacy}
 use Rattle.ready_driver.specs.LegacyStands.{LegacyStands}
 use Rattle.ready_driver.specs.LegacyState.{LegacyState}
@@ -39,7 +39,7 @@ pub record Treats {I : Type 0} (old : Turning I) (reports : List Report) (new : 
 pub record ReportsTurn {I : Type 0} (view : I → IoView) (tells reporting memory : Bool) (old new : Turning I) : Type 0 where
   pub came : List Report
   pub reported : IsTrue reporting → came ≡ (view old.handling.io).reports
-  pub object : IsStill tells memory (view old.handling.io) (view new.handling.io) (view old.handling.io).keys
+  pub object : IsWaited tells memory (view old.handling.io) (view new.handling.io)
   pub treats : Treats old (old.untreated ++ came) new
   pub untreated : new.untreated ≡ []
   pub shows : IsTrue memory → AreKeyed old.handling.table (view old.handling.io).keys →
@@ -47,7 +47,7 @@ pub record ReportsTurn {I : Type 0} (view : I → IoView) (tells reporting memor
 
 -- A turn stopped once it had treated the reports that were untreated before it.
 pub record StopsTurn {I : Type 0} (view : I → IoView) (tells memory : Bool) (old new : Turning I) : Type 0 where
-  pub object : IsStill tells memory (view old.handling.io) (view new.handling.io) (view old.handling.io).keys
+  pub object : IsWaited tells memory (view old.handling.io) (view new.handling.io)
   pub treats : Treats old old.untreated new
 
 -- What a turn does, by why it stopped. A fault comes only where the object's count of faults rose, and no report came then. Where memory

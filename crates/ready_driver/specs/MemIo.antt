@@ -2,17 +2,18 @@
 use Rattle.std.specs.Prelude.{ℕ, List, [], length, Option}
 use Rattle.ring_core.specs.declared.world.HandleState.{HandleState}
 use Rattle.ready_driver.specs.Io.{IoView}
-use Rattle.ready_driver.specs.Reports.{reports_in}
+use Rattle.ready_driver.specs.Reports.{reports_of}
 
--- Handles in memory; by handle, the key with which it is registered, if it is; and how often a call would have blocked, and ended with an
--- error.
+-- Handles in memory; by handle, the key with which it is registered, if it is; which handles are due, in the order in which they became so;
+-- and how often a call would have blocked, and ended with an error.
 pub record Memory : Type 0 where
   pub world : List HandleState
   pub keys : List (Option ℕ)
+  pub due : List ℕ
   pub blocks : ℕ
   pub fails : ℕ
 
--- As an object it never fails, made each of its handles, and reports each handle that is registered.
+-- As an object it never fails, made each of its handles, and reports each handle that is due.
 abbrev pub memory_view : Memory → IoView
 memory_view memory = record {
   faults = 0;
@@ -21,9 +22,10 @@ memory_view memory = record {
   made = length memory.world;
   world = memory.world;
   keys = memory.keys;
-  reports = reports_in memory.world memory.keys;
+  due = memory.due;
+  reports = reports_of memory.world memory.keys memory.due;
 }
 
 -- No handles.
 abbrev pub no_handles : Memory
-no_handles = record { world = []; keys = []; blocks = 0; fails = 0 }
+no_handles = record { world = []; keys = []; due = []; blocks = 0; fails = 0 }

@@ -75,6 +75,12 @@ BlocksFor old new (Ok (Pending back)) = Rose old.blocks new.blocks
 BlocksFor old new (Ok (Ready done)) = Unit {0}
 BlocksFor old new (Err error) = Unit {0}
 
+-- A poll is Pending.
+abbrev pub IsPending : {B : Type 0} → Result (PollOp B) (OutOfMemory × Op) → Type 0
+IsPending (Ok (Pending back)) = Unit {0}
+IsPending (Ok (Ready done)) = ⊥
+IsPending (Err error) = ⊥
+
 -- What ending an operation in flight does: its request comes out with the outcome, and its slot goes.
 abbrev pub EndsSlot : {B : Type 0} → map.FinMap nat_cmp (Slot B) → ℕ → Outcome → map.FinMap nat_cmp (Slot B) → Done B → Type 0
 EndsSlot {B} old key outcome new done =

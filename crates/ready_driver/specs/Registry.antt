@@ -7,11 +7,10 @@ use Rattle.std.specs.Coded.{Coded, code_by, coded×}
 use Rattle.handle_core.specs.Table.{Table, table_code, holders_at, by_user}
 use Rattle.ring_core.specs.declared.entry.TheConstants.{MOST_HANDLES}
 use Rattle.ring_core.specs.declared.world.HandleKind.{HandleKind}
-use Rattle.ring_core.specs.declared.world.HandleState.{HandleState}
 use Rattle.ring_core.specs.World.{fresh}
 use Rattle.ready_driver.specs.declared.non_block.NonBlockError.{NonBlockError}
 use Rattle.ready_driver.specs.declared.records.Record.{Record}
-use Rattle.ready_driver.specs.Io.{IoView, IsStill, FaultsFor}
+use Rattle.ready_driver.specs.Io.{IoView, IsStill, IsDue, FaultsFor}
 use Rattle.ready_driver.specs.MemIo.{Memory}
 use Rattle.ready_driver.specs.Records.{Kept, kept_code, fresh_record, record_at, is_registered, changed, without_record, with_registered}
 use Rattle.ready_driver.specs.Reports.{with_key}
@@ -63,9 +62,9 @@ pub record IsSameButRoom {I : Type 0} (old new : Handling I) : Type 0 where
   pub table : new.table.holders ≡ old.table.holders
   pub records : new.records.handles ≡ old.records.handles
 
--- What trying to register a handle left, by whether the object took it. A world in memory takes each.
+-- What trying to register a handle left, by whether the object took it. A world in memory takes each, and the handle is due then.
 abbrev pub TriesFor : Bool → Bool → ℕ → IoView → IoView → Bool → Type 0
-TriesFor tells memory h old new true = IsStill tells memory old new (with_key old.keys h (Some h))
+TriesFor tells memory h old new true = IsStill tells memory old new (with_key old.keys h (Some h)) × (IsTrue memory → IsDue new h)
 TriesFor tells memory h old new false = IsStill tells memory old new old.keys × (IsTrue memory → ⊥)
 
 -- The user holds one handle more, once. Its record has no bits, nothing waits for it, and it is registered where the object took it. All
@@ -154,6 +153,6 @@ abbrev pub with_created : Handling Memory → HandleKind → Handling Memory
 with_created all kind =
     record all { io = record all.io { world = all.io.world ++ fresh kind ∷ []; keys = all.io.keys ++ None ∷ [] } }
 
--- Over handles in memory: what they have became this.
-abbrev pub with_world : Handling Memory → List HandleState → Handling Memory
-with_world all world = record all { io = record all.io { world = world } }
+-- Over handles in memory: what they have, and which are due, became this.
+abbrev pub with_world : Handling Memory → Memory → Handling Memory
+with_world all now = record all { io = record all.io { world = now.world; due = now.due } }

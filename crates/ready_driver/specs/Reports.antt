@@ -1,10 +1,13 @@
--- What a world in memory reports: each handle that is registered, with its key. Cited by `MemIo`.
-use Rattle.std.specs.Prelude.{ℕ, zero, suc, Bool, true, false, List, [], ◌∷◌, ◌++◌, length, Option, None, Some, slice_get, bit_or}
+-- What a world in memory reports: each handle that is due, with the key that it is registered with; and when bits show a handle. Cited by
+-- `NonBlock` and `MemIo`.
+use Rattle.std.specs.Prelude.{ℕ, ◌≡◌, Bool, true, false, List, [], ◌∷◌, ◌++◌, Option, None, Some, slice_get, bit_or}
 use Rattle.ring_core.specs.declared.world.HandleState.{HandleState}
 use Rattle.ring_core.specs.Lists.{amended}
 use Rattle.ring_core.specs.Attempt.{is_readable_at}
 use Rattle.ready_driver.specs.declared.ready.TheConstants.{READABLE, WRITABLE}
+use Rattle.ready_driver.specs.declared.ready.Direction.TheVariants.{Read, Write}
 use Rattle.ready_driver.specs.declared.non_block.Report.{Report}
+use Rattle.ready_driver.specs.Ready.{meets, mask_of}
 
 -- The keys with which handles are registered, by handle, after one is registered or isn't any more.
 abbrev pub with_key : List (Option ℕ) → ℕ → Option ℕ → List (Option ℕ)
@@ -25,11 +28,12 @@ abbrev pub report_of : Option (Option ℕ) → Bool → List Report
 report_of (Some (Some key)) readable = record { key = key; ready = bits_of readable } ∷ []
 report_of _ readable = []
 
--- The reports of the handles below a number, ascending.
-abbrev pub reports_below : List HandleState → List (Option ℕ) → ℕ → List Report
-reports_below world keys zero = []
-reports_below world keys (suc h) = reports_below world keys h ++ report_of (slice_get keys h) (is_readable_at world h)
+-- The reports of these handles, in order.
+abbrev pub reports_of : List HandleState → List (Option ℕ) → List ℕ → List Report
+reports_of world keys [] = []
+reports_of world keys (h ∷ handles) = report_of (slice_get keys h) (is_readable_at world h) ++ reports_of world keys handles
 
--- What a world in memory reports: each handle that is registered.
-abbrev pub reports_in : List HandleState → List (Option ℕ) → List Report
-reports_in world keys = reports_below world keys (length keys)
+-- Bits show that a handle is writable, and readable where it is.
+pub record ShowsBits (readable : Bool) (ready : ℕ) : Type 0 where
+  pub writes : meets ready (mask_of Write) ≡ true
+  pub reads : readable ≡ true → meets ready (mask_of Read) ≡ true

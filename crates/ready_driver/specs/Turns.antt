@@ -1,15 +1,15 @@
 -- What a list of reports does to the records of handles, and which tasks it wakes; and what the records show then. Cited by the turns of
 -- `Registry`, and by its polls.
-use Rattle.std.specs.Prelude.{ℕ, ◌≡◌, ◌+◌, Bool, true, List, [], ◌∷◌, ◌++◌, length, bit_or}
+use Rattle.std.specs.Prelude.{ℕ, ◌≡◌, ◌+◌, ◌==◌, if◌then◌else◌, true, List, [], ◌∷◌, ◌++◌, length, bit_or}
 use Rattle.handle_core.specs.Table.{Table}
 use Rattle.ring_core.specs.declared.world.HandleState.{HandleState}
 use Rattle.ring_core.specs.Attempt.{is_readable_at}
-use Rattle.ready_driver.specs.declared.ready.Direction.TheVariants.{Read, Write}
 use Rattle.ready_driver.specs.declared.non_block.Report.{Report}
+use Rattle.ready_driver.specs.Io.{IoView, IsShown}
+use Rattle.ready_driver.specs.Reports.{ShowsBits}
 use Rattle.ready_driver.specs.ScheduledIo.{Scheduled, taken, left, tasks_of}
-use Rattle.ready_driver.specs.Ready.{meets, mask_of}
 use Rattle.ready_driver.specs.Records.{Kept, io_at, changed, with_io}
-use Rattle.ready_driver.specs.Registry.{is_known}
+use Rattle.ready_driver.specs.Registry.{Handling, is_known}
 
 -- A handle once it is reported: it has these bits too, and what waited in a direction that they meet waits no more.
 abbrev pub with_report : ℕ → Scheduled → Scheduled
@@ -38,11 +38,20 @@ abbrev pub waiting_on : Kept → List Report → ℕ
 waiting_on kept [] = 0
 waiting_on kept (report ∷ reports) = length (io_at kept report.key).waiting + waiting_on kept reports
 
--- Bits show that a handle is writable, and readable where it is.
-pub record ShowsBits (readable : Bool) (ready : ℕ) : Type 0 where
-  pub writes : meets ready (mask_of Write) ≡ true
-  pub reads : readable ≡ true → meets ready (mask_of Read) ≡ true
-
 -- Each handle that somebody holds has the bits of what a world has for it.
 abbrev pub AreReported : Table → Kept → List HandleState → Type 0
 AreReported table records world = (h : ℕ) → is_known table h ≡ true → ShowsBits (is_readable_at world h) (io_at records h).ready
+
+-- The bits of a handle, once these reports are treated.
+abbrev pub bits_after : ℕ → ℕ → List Report → ℕ
+bits_after h ready [] = ready
+bits_after h ready (report ∷ reports) = bits_after h (if report.key == h then bit_or ready report.ready else ready) reports
+
+-- Each handle that somebody holds is due, or has the bits of what its object has for it, once these reports are treated.
+abbrev pub AreShown : {I : Type 0} → (I → IoView) → Handling I → List Report → Type 0
+AreShown view all reports = (h : ℕ) → is_known all.table h ≡ true → IsShown (view all.io) h (bits_after h (io_at all.records h).ready reports)
+
+-- What showed each handle shows it still, whatever is to be treated.
+abbrev pub KeepsBits : IoView → Kept → IoView → Kept → Type 0
+KeepsBits old before new after = (h : ℕ) (reports : List Report) →
+    IsShown old h (bits_after h (io_at before h).ready reports) → IsShown new h (bits_after h (io_at after h).ready reports)

@@ -67,9 +67,11 @@ pub struct LegacyDriver<I: NonBlock, B: IoBufMut> {
 
 impl<I: NonBlock, B: IoBufMut> Model for LegacyDriver<I, B> {
     ghost use Rattle.std.specs.Coded.{codes};
+    ghost use Rattle.std.specs.Prelude.{IsTrue};
     ghost use Rattle.driver_core.specs.Groups.{AreInSlots};
     ghost use Rattle.ready_driver.specs.LegacyState.{LegacyState, legacy_code};
     ghost use Rattle.ready_driver.specs.Named.{AreNaming};
+    ghost use Rattle.ready_driver.specs.Turns.{AreShown};
 
     ghost Value = { LegacyState I B };
 
@@ -84,7 +86,8 @@ impl<I: NonBlock, B: IoBufMut> Model for LegacyDriver<I, B> {
       untreated = d.untreated;
     } };
 
-    ghost invariant = { λ d. AreNaming d.registry.table d.ops.slots.values d.ops.given × AreInSlots d.members d.ops.slots.values };
+    ghost invariant = { λ d. AreNaming d.registry.table d.ops.slots.values d.ops.given × AreInSlots d.members d.ops.slots.values
+        × (IsTrue I.memory → AreShown I.view d.registry d.untreated) };
 }
 
 impl<I: NonBlock, B: IoBufMut + Drop> LegacyDriver<I, B> {

@@ -1,6 +1,7 @@
 //! The readiness driver: operations over an object whose calls don't wait, the bits of its handles, and who waits for them.
 #![tactic(auto)]
 
+pub mod due;
 pub mod legacy;
 pub mod mem_io;
 pub mod non_block;

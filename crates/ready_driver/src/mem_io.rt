@@ -1,13 +1,16 @@
 //! Handles in memory, whose calls are made at once.
 ghost use Rattle.std.specs.Prelude.{◌≡◌, ◌++◌, ◌<◌, ◌≤◌, [], ◌∷◌, true, None, length, slice_get, option_copied, refl, IsTrue, IfSome, IfOk};
 ghost use Rattle.std.specs.Prelude.{OnOk, OnErr};
+ghost use Rattle.rent_buf.specs.Counts.{Rose};
 ghost use Rattle.ring_core.specs.Attempt.{is_readable_at};
 ghost use Rattle.ring_core.specs.World.{fresh, look_at, WorldFeeds, WorldFeedsMessage, WorldEnds};
-ghost use Rattle.ready_driver.specs.Io.{CallsFor, FailRose};
+ghost use Rattle.ready_driver.specs.Due.{Duty};
+ghost use Rattle.ready_driver.specs.Io.{CallsFor, FailRose, IsDue, KeepsShown};
 ghost use Rattle.ready_driver.specs.MemIo.{memory_view, no_handles};
-ghost use Rattle.ready_driver.specs.Reports.{bits_of, report_of, reports_in, with_key, with_made_key};
+ghost use Rattle.ready_driver.specs.Reports.{bits_of, report_of, reports_of, with_key, with_made_key};
 ghost use Rattle.std.specs.Vec.{vec_len, vec_capacity};
 
+use crate::due::Due;
 use crate::non_block::{NonBlock, NonBlockError, Report, Reports};
 use crate::ready::Ready;
 use driver_core::{CallAnswer, Calls};
@@ -18,25 +21,28 @@ use std::marker::Model;
 
 /// A world of handles in memory, as an object whose calls don't wait: its faults never rise. (not in monoio)
 ///
-/// A `wait` looks at each handle that was created. Each other call costs the same however many there are.
+/// A handle is due from its registration on, from a call that names it, and from what arrives at it. A `wait` reports the handles that are
+/// due, and looks at no other: none is due then. Each other call costs the same however many handles there are.
 #[derive(Debug, Drop)]
 pub struct MemIo {
     world: World,
     // By handle, the key with which it is registered.
     keys: Vec<Option<usize>>,
+    // The handles that the next wait reports, if they are registered.
+    due: Due,
     blocks: u64,
     fails: u64,
 }
 
 impl Model for MemIo {
-    ghost use Rattle.std.specs.Prelude.{◌≡◌, length};
+    ghost use Rattle.std.specs.Prelude.{◌≡◌, ◌≤◌, length};
     ghost use Rattle.ready_driver.specs.MemIo.{Memory};
 
     ghost Value = { Memory };
 
-    ghost view = { λ m. record { world = m.world; keys = m.keys.items; blocks = m.blocks; fails = m.fails } };
+    ghost view = { λ m. record { world = m.world; keys = m.keys.items; due = m.due.handles; blocks = m.blocks; fails = m.fails } };
 
-    ghost invariant = { λ m. length m.keys.items ≡ length m.world };
+    ghost invariant = { λ m. (length m.keys.items ≡ length m.world) × (length m.keys.items ≤ m.due.count) };
 }
 
 impl MemIo {
@@ -47,6 +53,7 @@ impl MemIo {
         MemIo {
             world: World::new(alloc),
             keys: Vec::new(alloc),
+            due: Due::new(alloc),
             blocks: 0,
             fails: 0,
         }
@@ -64,9 +71,10 @@ impl MemIo {
         ensures number { IfOk result (λ h. h ≡ length self.old.world) }
         ensures ok { OnOk result (self.new ≡
             record self.old { world = self.old.world ++ fresh kind ∷ []; keys = self.old.keys ++ None ∷ [] }) }
+        ensures shown { OnOk result (KeepsShown (memory_view self.old) (memory_view self.new)) }
         ensures err { OnErr result (self.new ≡ self.old) }
     {
-        self.keys.reserve(1)?;
+        reserve_key(&mut self.keys, &mut self.due, true)?;
         let h = self.world.give(kind)?;
         self.keys.push_reserved(None);
         Ok(h)
@@ -77,9 +85,13 @@ impl MemIo {
     pub fn feed(&mut self, h: u64, bytes: &[u8]) -> Result<(), WorldError>
         requires { h < length self.old.world }
         ensures feeds { WorldFeeds bytes.now self.old.world h self.new.world result }
-        ensures rest { self.new ≡ record self.old { world = self.new.world } }
+        ensures rest { self.new ≡ record self.old { world = self.new.world; due = self.new.due } }
+        ensures shown { KeepsShown (memory_view self.old) (memory_view self.new) }
+        ensures err { OnErr result (self.new ≡ self.old) }
     {
-        self.world.feed(h, bytes)
+        self.world.feed(h, bytes)?;
+        self.due.add(h);
+        Ok(())
     }
 
     /// A message joins those that wait on a handle: its address, and a copy of its bytes. `BadHandleEvent` comes exactly when the
@@ -87,9 +99,13 @@ impl MemIo {
     pub fn feed_message(&mut self, h: u64, addr: u64, bytes: &[u8]) -> Result<(), WorldError>
         requires { h < length self.old.world }
         ensures feeds { WorldFeedsMessage addr bytes.now self.old.world h self.new.world result }
-        ensures rest { self.new ≡ record self.old { world = self.new.world } }
+        ensures rest { self.new ≡ record self.old { world = self.new.world; due = self.new.due } }
+        ensures shown { KeepsShown (memory_view self.old) (memory_view self.new) }
+        ensures err { OnErr result (self.new ≡ self.old) }
     {
-        self.world.feed_message(h, addr, bytes)
+        self.world.feed_message(h, addr, bytes)?;
+        self.due.add(h);
+        Ok(())
     }
 
     /// Marks a handle's end: no more bytes arrive. `BadHandleEvent` comes exactly when the handle is neither a stream nor a pipe, or
@@ -97,9 +113,13 @@ impl MemIo {
     pub fn end(&mut self, h: u64) -> Result<(), WorldError>
         requires { h < length self.old.world }
         ensures ends { WorldEnds self.old.world h self.new.world result }
-        ensures rest { self.new ≡ record self.old { world = self.new.world } }
+        ensures rest { self.new ≡ record self.old { world = self.new.world; due = self.new.due } }
+        ensures shown { KeepsShown (memory_view self.old) (memory_view self.new) }
+        ensures err { OnErr result (self.new ≡ self.old) }
     {
-        self.world.end(h)
+        self.world.end(h)?;
+        self.due.add(h);
+        Ok(())
     }
 
     /// The bytes that were sent to a stream, those of a pipe or a file, or the messages that a datagram sent, copied once.
@@ -112,20 +132,23 @@ impl MemIo {
     }
 
     // Puts the report of a handle behind the others, if it is registered.
-    fn report(&self, h: usize, reports: &mut Reports) -> Result<(), OutOfMemory>
+    fn report(&self, h: u64, reports: &mut Reports) -> Result<(), OutOfMemory>
         ensures ok { OnOk result (reports.new ≡ reports.old ++ report_of (slice_get self.now.keys h) (is_readable_at self.now.world h)) }
         ensures err { OnErr result (reports.new ≡ reports.old) }
     {
-        let readable = self.world.readable(h as u64);
-        push_report(self.keys.get(h), readable, reports)
+        let readable = self.world.readable(h);
+        push_report(self.keys.get(h as usize), readable, reports)
     }
 
-    // Puts the report of each handle that is registered into an empty list.
+    // Puts the report of each handle that is due into an empty list, if it is registered.
     fn report_all(&self, reports: &mut Reports) -> Result<(), OutOfMemory>
         requires { reports.old ≡ [] }
-        ensures { OnOk result (reports.new ≡ reports_in self.now.world self.now.keys) }
+        ensures { OnOk result (reports.new ≡ reports_of self.now.world self.now.keys self.now.due) }
     {
-        for h in 0..self.keys.len() {
+        for at in 0..self.due.len() {
+            let Some(h) = self.due.get(at) else {
+                unreachable!();
+            };
             self.report(h, reports)?;
         }
         Ok(())
@@ -172,13 +195,40 @@ fn count_fail(fails: u64, outcome: Outcome) -> u64
     }
 }
 
-// Takes the memory of one more key, where a handle may be made.
-fn reserve_key(keys: &mut Vec<Option<usize>>, makes: bool) -> Result<(), OutOfMemory>
-    ensures items { keys.new.items ≡ keys.old.items }
-    ensures room { OnOk result (IsTrue makes → vec_len keys.new < vec_capacity keys.new) }
+// The count of calls that would have blocked, after one that did. It saturates.
+fn count_block(blocks: u64) -> u64
+    ensures more { blocks ≤ result }
+    ensures rose { Rose blocks result }
 {
-    if makes {
-        keys.reserve(1)?;
+    blocks.saturating_add(1)
+}
+
+// Takes the memory of one more key, and that the handle can be due, where one may be made.
+fn reserve_key(keys: &mut Vec<Option<usize>>, due: &mut Due, makes: bool) -> Result<(), OutOfMemory>
+    requires { length keys.old.items ≤ due.old.count }
+    ensures items { keys.new.items ≡ keys.old.items }
+    ensures handles { due.new.handles ≡ due.old.handles }
+    ensures count { due.old.count ≤ due.new.count }
+    ensures room { OnOk result (IsTrue makes → vec_len keys.new < vec_capacity keys.new) }
+    ensures more { OnOk result (IsTrue makes → length keys.old.items < due.new.count) }
+{
+    if !makes {
+        return Ok(());
+    }
+    reserve_due(due, keys.len())?;
+    keys.reserve(1)?;
+    Ok(())
+}
+
+// The handle of a number can be due, as each below it can.
+fn reserve_due(due: &mut Due, h: usize) -> Result<(), OutOfMemory>
+    requires { h ≤ due.old.count }
+    ensures handles { due.new.handles ≡ due.old.handles }
+    ensures count { due.old.count ≤ due.new.count }
+    ensures more { OnOk result (h < due.new.count) }
+{
+    if due.count() <= h {
+        due.grow()?;
     }
     Ok(())
 }
@@ -205,19 +255,23 @@ fn set_key(keys: &mut Vec<Option<usize>>, h: usize, key: Option<usize>)
 impl Calls for MemIo {
     ghost called = { λ old request new now answer. CallsFor true true (memory_view old) request (memory_view new) now answer };
 
-    /// Makes the call of a request, where it doesn't block (`World::call`). A handle that it makes isn't registered.
+    /// Makes the call of a request, where it doesn't block (`World::call`). A handle that it makes isn't registered. Unless memory ran out,
+    /// each handle that the request names is due.
     fn call<B: IoBufMut>(&mut self, request: &mut Request<B, VecBuf>) -> CallAnswer {
-        if reserve_key(&mut self.keys, request.makes()).is_err() {
+        let names = request.names();
+        if reserve_key(&mut self.keys, &mut self.due, request.makes()).is_err() {
             return CallAnswer::OutOfMemory;
         }
         match self.world.call(request) {
             WorldCall::Done(outcome) => {
                 add_key(&mut self.keys, outcome.made());
+                self.due.add_names(names);
                 self.fails = count_fail(self.fails, outcome);
                 CallAnswer::Done(outcome)
             }
             WorldCall::WouldBlock => {
-                self.blocks = self.blocks.saturating_add(1);
+                self.due.add_names(names);
+                self.blocks = count_block(self.blocks);
                 CallAnswer::WouldBlock
             }
             WorldCall::OutOfMemory => CallAnswer::OutOfMemory,
@@ -243,6 +297,7 @@ impl NonBlock for MemIo {
     /// It takes no memory.
     fn register(&mut self, h: u64, key: usize) -> Result<(), NonBlockError> {
         set_key(&mut self.keys, h as usize, Some(key));
+        self.due.add(h);
         Ok(())
     }
 
@@ -264,7 +319,10 @@ impl NonBlock for MemIo {
     /// It doesn't wait.
     fn wait(&mut self, limit: Option<u64>, reports: &mut Reports) -> Result<(), NonBlockError> {
         match self.report_all(reports) {
-            Ok(()) => Ok(()),
+            Ok(()) => {
+                self.due.clear();
+                Ok(())
+            }
             Err(_) => {
                 reports.clear();
                 Err(NonBlockError::OutOfMemory)

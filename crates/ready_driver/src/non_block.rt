@@ -6,7 +6,7 @@ ghost use Rattle.ring_core.specs.declared.request.Request.{Request};
 ghost use Rattle.ring_core.specs.Attempt.{is_file_at};
 ghost use Rattle.driver_core.specs.declared.operations.calls.CallAnswer.{CallAnswer};
 ghost use Rattle.ready_driver.specs.Io.{IoView, CallsFor, RegistersFor, IsClosed, WaitsFor};
-ghost use Rattle.ready_driver.specs.Reports.{reports_in};
+ghost use Rattle.ready_driver.specs.Reports.{reports_of};
 
 use crate::ready::Ready;
 use driver_core::Calls;
@@ -96,7 +96,8 @@ impl Reports {
 /// became ready. (monoio: the non-blocking file descriptors, and `mio::Poll`)
 ///
 /// Every object shows three counts, which never fall: how often it failed, would have blocked, and ended a call with an error. Some show
-/// their handles too, as a world has them, and some what a wait reports; and some are a world in memory, which is known in all.
+/// their handles too, as a world has them, and some what a wait reports; and some are a world in memory, which is known in all: a wait
+/// reports each handle that is due, as it is from its registration on, from a call that would block on it, and from what arrives at it.
 pub trait NonBlock: Calls + Drop {
     // The object as a value.
     ghost view: { Self → IoView };
@@ -134,9 +135,9 @@ pub trait NonBlock: Calls + Drop {
     // A world in memory shows its handles.
     ghost memory_tells: { IsTrue memory → IsTrue tells };
 
-    // It shows its reports: each handle that is registered.
+    // It shows its reports: each handle that is due, if it is registered.
     ghost memory_reports: { IsTrue memory → IsTrue reporting ×
-        ((io : Self) → (view io).reports ≡ reports_in (view io).world (view io).keys) };
+        ((io : Self) → (view io).reports ≡ reports_of (view io).world (view io).keys (view io).due) };
 
     // What a call of a request answers and leaves.
     ghost calls: { (old : Self) (request : Request Buffer Parts) (new : Self) (now : Request Buffer Parts) (answer : CallAnswer) →

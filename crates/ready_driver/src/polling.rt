@@ -2,7 +2,7 @@
 ghost use Rattle.std.specs.Prelude.{◌≡◌, ◌<◌, ℕ, Option, Some, None, IsTrue, true, false, length};
 ghost use Rattle.std.specs.FinMap as map;
 ghost use Rattle.driver_core.specs.Op.{Holds, AddsToken, KeepsTokens, DropsToken, number_of, key_of};
-ghost use Rattle.driver_core.specs.Holds.{made_in};
+ghost use Rattle.driver_core.specs.Holds.{made_in, named_in};
 ghost use Rattle.driver_core.specs.Operations.{Submits};
 ghost use Rattle.driver_core.specs.Requests.{KeepsRequests};
 ghost use Rattle.driver_core.specs.Slot.{flies_in, number_at};
@@ -11,9 +11,9 @@ ghost use Rattle.ready_driver.specs.Errors.{ReturnsFor};
 ghost use Rattle.ready_driver.specs.Legacy.{Legacy};
 ghost use Rattle.ready_driver.specs.LegacyStep.{freed};
 ghost use Rattle.ready_driver.specs.Awaits.{KeysFor, TokensFor};
-ghost use Rattle.ready_driver.specs.Io.{IsLater};
+ghost use Rattle.ready_driver.specs.Io.{IsLater, KeepsShown, AreDue};
 ghost use Rattle.ready_driver.specs.Named.{PollsSlotFor, task_of, canceled_slots};
-ghost use Rattle.ready_driver.specs.Polling.{OpsStand, PartsStand, PollsFor, BlocksFor, EndsSlot, asked_at, joined_at};
+ghost use Rattle.ready_driver.specs.Polling.{OpsStand, PartsStand, PollsFor, BlocksFor, IsPending, EndsSlot, asked_at, joined_at};
 
 use crate::non_block::NonBlock;
 use driver_core::{CallAnswer, Done, MOST_GIVEN, Op, Operations, PollOp};
@@ -58,6 +58,9 @@ pub fn poll<I: NonBlock, B: IoBufMut + Drop>(
     ensures slots { PollsSlotFor ops.old ops.new op result }
     ensures tokens { TokensFor ops.old ops.new op result }
     ensures later { IsLater (I.view io.old) (I.view io.new) }
+    // Bits that showed a handle of a world in memory show it still, or it is due, as is each that the operation names where it is Pending.
+    ensures shown { IsTrue I.memory → KeepsShown (I.view io.old) (I.view io.new) }
+    ensures due { IsTrue I.memory → IsPending result → AreDue (I.view io.new) (named_in (map.get ops.old.slots.values (key_of op))) }
     ensures keys { IsTrue I.memory → made_in (map.get ops.old.slots.values (key_of op)) ≡ None →
         KeysFor (I.view io.old).keys (I.view io.new).keys result }
     ensures given { ops.new.given ≡ ops.old.given }

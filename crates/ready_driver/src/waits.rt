@@ -1,5 +1,5 @@
 //! The poll of an operation that makes its call only once a report meets its direction.
-ghost use Rattle.std.specs.Prelude.{◌≡◌, ◌⊎◌, None, IsTrue, option_copied};
+ghost use Rattle.std.specs.Prelude.{◌≡◌, ◌⊎◌, Some, None, IsTrue, option_copied};
 ghost use Rattle.std.specs.FinMap as map;
 ghost use Rattle.driver_core.specs.Holds.{made_in};
 ghost use Rattle.driver_core.specs.Op.{Holds, number_of, key_of};
@@ -11,6 +11,7 @@ ghost use Rattle.ready_driver.specs.Named.{PollsSlotFor};
 ghost use Rattle.ready_driver.specs.Polling.{PartsStand};
 ghost use Rattle.ready_driver.specs.Awaits.{awaits, slot_awaits, IsUnmet, IsSlotUnmet, IsWorldUnmet, PollsUnless, BlocksUnless, Leaves};
 ghost use Rattle.ready_driver.specs.Awaits.{LeavesByBits, LeavesFor, unless_file, KeysFor, TokensFor};
+ghost use Rattle.ready_driver.specs.Turns.{KeepsBits};
 
 use crate::non_block::NonBlock;
 use crate::polling;
@@ -78,6 +79,8 @@ pub fn poll_at<I: NonBlock, B: IoBufMut + Drop>(
     ensures keys { IsTrue I.memory → made_in (map.get ops.old.slots.values (key_of op)) ≡ None →
         KeysFor (I.view io.old).keys (I.view io.new).keys result }
     ensures later { IsLater (I.view io.old) (I.view io.new) }
+    ensures shown { IsTrue I.memory → slot_awaits (map.get ops.old.slots.values (key_of op)) ≡ Some (h, dir) →
+        KeepsBits (I.view io.old) records.old (I.view io.new) records.new }
     ensures slots { PollsSlotFor ops.old ops.new op result }
     ensures tokens { TokensFor ops.old ops.new op result }
     ensures given { ops.new.given ≡ ops.old.given }
@@ -127,6 +130,7 @@ pub fn poll_op<I: NonBlock, B: IoBufMut + Drop>(
     ensures keys { IsTrue I.memory → made_in (map.get ops.old.slots.values (key_of op)) ≡ None →
         KeysFor (I.view io.old).keys (I.view io.new).keys result }
     ensures later { IsLater (I.view io.old) (I.view io.new) }
+    ensures shown { IsTrue I.memory → KeepsBits (I.view io.old) records.old (I.view io.new) records.new }
     ensures slots { PollsSlotFor ops.old ops.new op result }
     ensures tokens { TokensFor ops.old ops.new op result }
     ensures given { ops.new.given ≡ ops.old.given }

@@ -54,6 +54,7 @@ host_view host = record {
   made = host.made;
   world = [];
   keys = [];
+  due = [];
   reports = [];
 }
 

@@ -56,7 +56,8 @@ impl<B: IoBufMut + Drop> LegacyDriver<MemIo, B> {
         requires here { h < length self.old.handling.io.world }
         ensures answers { (D : Legacy) → LegacyStands memory_view B.buffer self.old D → FeedsFor B.buffer D h bytes.now self.new result }
         ensures feeds { WorldFeeds bytes.now self.old.handling.io.world h self.new.handling.io.world result }
-        ensures rest { self.new ≡ record self.old { handling = with_world self.old.handling self.new.handling.io.world } }
+        ensures rest { self.new ≡ record self.old { handling = with_world self.old.handling self.new.handling.io } }
+        ensures err { OnErr result (self.new ≡ self.old) }
     {
         self.registry.feed(h, bytes)
     }
@@ -69,7 +70,8 @@ impl<B: IoBufMut + Drop> LegacyDriver<MemIo, B> {
         ensures answers { (D : Legacy) → LegacyStands memory_view B.buffer self.old D →
             FeedsMessageFor B.buffer D h addr bytes.now self.new result }
         ensures feeds { WorldFeedsMessage addr bytes.now self.old.handling.io.world h self.new.handling.io.world result }
-        ensures rest { self.new ≡ record self.old { handling = with_world self.old.handling self.new.handling.io.world } }
+        ensures rest { self.new ≡ record self.old { handling = with_world self.old.handling self.new.handling.io } }
+        ensures err { OnErr result (self.new ≡ self.old) }
     {
         self.registry.feed_message(h, addr, bytes)
     }
@@ -81,7 +83,8 @@ impl<B: IoBufMut + Drop> LegacyDriver<MemIo, B> {
         requires here { h < length self.old.handling.io.world }
         ensures answers { (D : Legacy) → LegacyStands memory_view B.buffer self.old D → EndsFor B.buffer D h self.new result }
         ensures ends { WorldEnds self.old.handling.io.world h self.new.handling.io.world result }
-        ensures rest { self.new ≡ record self.old { handling = with_world self.old.handling self.new.handling.io.world } }
+        ensures rest { self.new ≡ record self.old { handling = with_world self.old.handling self.new.handling.io } }
+        ensures err { OnErr result (self.new ≡ self.old) }
     {
         self.registry.end(h)
     }

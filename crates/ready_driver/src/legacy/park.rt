@@ -1,10 +1,8 @@
 //! Turns and parks of the readiness driver.
-ghost use Rattle.std.specs.Prelude.{◌≡◌, ◌+◌, [], true, None, OnOk, OnErr};
+ghost use Rattle.std.specs.Prelude.{◌≡◌, ◌+◌, [], true, None, IsTrue, OnOk, OnErr};
 ghost use Rattle.ready_driver.specs.LegacyState.{KeepsRequests};
 ghost use Rattle.ready_driver.specs.LegacyTurns.{LegacyTurns, TurnsBy, Treats, ShowsLedger, DrainsFor};
-ghost use Rattle.ready_driver.specs.Registry.{AreKeyed};
-ghost use Rattle.ready_driver.specs.Reports.{reports_in};
-ghost use Rattle.ready_driver.specs.Turns.{AreReported};
+ghost use Rattle.ready_driver.specs.Turns.{AreShown};
 
 use crate::legacy::LegacyDriver;
 use crate::non_block::{NonBlock, NonBlockError, Reports};
@@ -96,10 +94,12 @@ fn collect<I: NonBlock>(
     tasks: &mut Vec<u64>,
     lively: &mut bool,
 ) -> Option<Stop>
+    requires { IsTrue I.memory → AreShown I.view registry.old untreated.old }
     ensures does { TurnsBy I.view I.tells I.reporting I.memory
         (record { handling = registry.old; untreated = untreated.old; tasks = tasks.old.items })
         (record { handling = registry.new; untreated = untreated.new; tasks = tasks.new.items }) result }
     ensures table { registry.new.table ≡ registry.old.table }
+    ensures shown { IsTrue I.memory → AreShown I.view registry.new untreated.new }
 {
     *lively = false;
     match treat(registry, untreated, tasks) {
@@ -137,9 +137,7 @@ fn treat<I: NonBlock>(
         (record { handling = registry.new; untreated = untreated.new; tasks = tasks.new.items })) }
     ensures io { OnOk result (registry.new.io ≡ registry.old.io) }
     ensures none { OnOk result (untreated.new ≡ []) }
-    ensures shows { OnOk result (untreated.old ≡ reports_in (I.view registry.old.io).world (I.view registry.old.io).keys →
-        AreKeyed registry.old.table (I.view registry.old.io).keys →
-        AreReported registry.old.table registry.new.records (I.view registry.old.io).world) }
+    ensures shown { OnOk result (IsTrue I.memory → AreShown I.view registry.old untreated.old → AreShown I.view registry.new []) }
     ensures err { OnErr result ((registry.new ≡ registry.old) × (untreated.new ≡ untreated.old) × (tasks.new.items ≡ tasks.old.items)) }
 {
     registry.report(untreated, tasks)?;

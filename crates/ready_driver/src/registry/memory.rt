@@ -1,6 +1,7 @@
 // The calls of handles in memory.
 ghost use Rattle.std.specs.Prelude.{◌≡◌, ◌<◌, true, false, length, IfOk, OnOk, OnErr};
 ghost use Rattle.ring_core.specs.World.{look_at, WorldFeeds, WorldFeedsMessage, WorldEnds};
+ghost use Rattle.ready_driver.specs.Io.{KeepsShown};
 ghost use Rattle.ready_driver.specs.MemIo.{memory_view};
 ghost use Rattle.ready_driver.specs.Registry.{is_known, IsSameButRoom, GivesUser, with_created, with_world};
 
@@ -24,6 +25,7 @@ impl Registry<MemIo> {
         requires fresh { is_known self.old.table (length self.old.io.world) ≡ false }
         ensures number { IfOk result (λ fd. fd ≡ length self.old.io.world) }
         ensures ok { OnOk result (GivesUser memory_view true true (with_created self.old kind) (length self.old.io.world) self.new) }
+        ensures shown { OnOk result (KeepsShown (memory_view self.old.io) (memory_view (with_created self.old kind).io)) }
         ensures err { OnErr result (IsSameButRoom self.old self.new) }
     {
         self.reserve_made()?;
@@ -37,7 +39,9 @@ impl Registry<MemIo> {
     pub fn feed(&mut self, h: u64, bytes: &[u8]) -> Result<(), WorldError>
         requires { h < length self.old.io.world }
         ensures feeds { WorldFeeds bytes.now self.old.io.world h self.new.io.world result }
-        ensures rest { self.new ≡ with_world self.old self.new.io.world }
+        ensures rest { self.new ≡ with_world self.old self.new.io }
+        ensures shown { KeepsShown (memory_view self.old.io) (memory_view self.new.io) }
+        ensures err { OnErr result (self.new ≡ self.old) }
     {
         self.io.feed(h, bytes)
     }
@@ -47,7 +51,9 @@ impl Registry<MemIo> {
     pub fn feed_message(&mut self, h: u64, addr: u64, bytes: &[u8]) -> Result<(), WorldError>
         requires { h < length self.old.io.world }
         ensures feeds { WorldFeedsMessage addr bytes.now self.old.io.world h self.new.io.world result }
-        ensures rest { self.new ≡ with_world self.old self.new.io.world }
+        ensures rest { self.new ≡ with_world self.old self.new.io }
+        ensures shown { KeepsShown (memory_view self.old.io) (memory_view self.new.io) }
+        ensures err { OnErr result (self.new ≡ self.old) }
     {
         self.io.feed_message(h, addr, bytes)
     }
@@ -57,7 +63,9 @@ impl Registry<MemIo> {
     pub fn end(&mut self, h: u64) -> Result<(), WorldError>
         requires { h < length self.old.io.world }
         ensures ends { WorldEnds self.old.io.world h self.new.io.world result }
-        ensures rest { self.new ≡ with_world self.old self.new.io.world }
+        ensures rest { self.new ≡ with_world self.old self.new.io }
+        ensures shown { KeepsShown (memory_view self.old.io) (memory_view self.new.io) }
+        ensures err { OnErr result (self.new ≡ self.old) }
     {
         self.io.end(h)
     }

@@ -11,7 +11,7 @@ ghost use Rattle.ready_driver.specs.Io.{IsLater};
 ghost use Rattle.ready_driver.specs.Named.{PollsSlotFor};
 ghost use Rattle.ready_driver.specs.Polling.{PartsStand, PollsFor};
 ghost use Rattle.ready_driver.specs.HandlesStand.{HandlesStand};
-ghost use Rattle.ready_driver.specs.Turns.{AreReported};
+ghost use Rattle.ready_driver.specs.Turns.{AreReported, KeepsBits};
 ghost use Rattle.ready_driver.specs.Awaits.{slot_awaits, unless_file, IsSlotUnmet, IsWorldUnmet, PollsUnless, BlocksUnless, LeavesByBits};
 ghost use Rattle.ready_driver.specs.Awaits.{LeavesFor, KeysFor, TokensFor, without_waiter};
 
@@ -51,6 +51,8 @@ impl<I: NonBlock> Registry<I> {
         ensures keys { IsTrue I.memory → made_in (map.get ops.old.slots.values (key_of op)) ≡ None →
             KeysFor (I.view self.old.io).keys (I.view self.new.io).keys result }
         ensures later { IsLater (I.view self.old.io) (I.view self.new.io) }
+        // Bits that showed a handle of a world in memory show it still, or it is due.
+        ensures shown { IsTrue I.memory → KeepsBits (I.view self.old.io) self.old.records (I.view self.new.io) self.new.records }
         ensures slots { PollsSlotFor ops.old ops.new op result }
         ensures tokens { TokensFor ops.old ops.new op result }
         ensures given { ops.new.given ≡ ops.old.given }

@@ -1,11 +1,9 @@
 // What a turn does to handles: it waits for reports, and treats them.
-ghost use Rattle.std.specs.Prelude.{◌≡◌, ◌++◌, ◌+◌, ◌≤◌, ◌^◌, [], length, IsOk, OnOk, OnErr, IfSome, IfNone};
+ghost use Rattle.std.specs.Prelude.{◌≡◌, ◌++◌, ◌+◌, ◌≤◌, ◌^◌, [], length, IsOk, IsTrue, OnOk, OnErr, IfSome, IfNone};
 ghost use Rattle.std.specs.Vec.{vec_len, vec_capacity};
 ghost use Rattle.ready_driver.specs.Io.{WaitsFor};
 ghost use Rattle.ready_driver.specs.Records.{io_at};
-ghost use Rattle.ready_driver.specs.Registry.{AreKeyed};
-ghost use Rattle.ready_driver.specs.Reports.{reports_in};
-ghost use Rattle.ready_driver.specs.Turns.{reported, reported_each, woken_by, woken_each, waiting_on, AreReported};
+ghost use Rattle.ready_driver.specs.Turns.{reported, reported_each, woken_by, woken_each, waiting_on, AreShown};
 
 use crate::non_block::{NonBlock, NonBlockError, Report, Reports};
 use crate::records::Records;
@@ -31,9 +29,8 @@ impl<I: NonBlock> Registry<I> {
     pub fn report(&mut self, reports: &Reports, woken: &mut Vec<u64>) -> Result<(), OutOfMemory>
         ensures tasks { OnOk result (woken.new.items ≡ woken.old.items ++ woken_each self.old.records reports.now) }
         ensures rest { OnOk result (self.new ≡ record self.old { records = reported_each self.old.records reports.now }) }
-        // What a world in memory reports shows what it has: each held handle has its bits then.
-        ensures shows { OnOk result (reports.now ≡ reports_in (I.view self.old.io).world (I.view self.old.io).keys →
-            AreKeyed self.old.table (I.view self.old.io).keys → AreReported self.old.table self.new.records (I.view self.old.io).world) }
+        // Of a world in memory each held handle is due or has its bits then, where that was so with what is reported.
+        ensures shown { OnOk result (IsTrue I.memory → AreShown I.view self.old reports.now → AreShown I.view self.new []) }
         // It runs out of memory only where `woken` hasn't room for as many as wait for the handles that are reported.
         ensures there { vec_len woken.old + waiting_on self.old.records reports.now ≤ vec_capacity woken.old → IsOk result }
         ensures err { OnErr result ((woken.new.items ≡ woken.old.items) × (self.new ≡ self.old)) }

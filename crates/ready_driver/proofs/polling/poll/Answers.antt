@@ -6,11 +6,11 @@ use Rattle.driver_core.specs.Calls.{CallsSlot}
 use Rattle.driver_core.specs.declared.operations.calls.CallAnswer.TheVariants.{Done, WouldBlock, OutOfMemory}
 use Rattle.ring_core.specs.Request.{plain_request}
 use Rattle.ready_driver.specs.Errors.{IsCounted}
-use Rattle.ready_driver.specs.Io.{IsMade, CallsFor}
+use Rattle.ready_driver.specs.Io.{IsMade, CallsFor, AreDue}
 use Rattle.ready_driver.specs.Polling.{EndsSlot}
 use Rattle.ready_driver.proofs.Ended.{ready-reply, ready-stand, ready-rest, unmade-stand, blocks-driven, made-reply, made-stand, made-rest}
 use Rattle.ready_driver.proofs.Ended.{called-flies}
-use Rattle.ready_driver.proofs.Named.{ready-slots, ready-outcome, unmade-slots, made-slots, made-outcome}
+use Rattle.ready_driver.proofs.Named.{ready-slots, ready-outcome, called-named, unmade-slots, made-slots, made-outcome}
 use Rattle.ready_driver.proofs.polling.poll.Goals as goal
 
 pub returns-in-Ready-clause-polls : goal.returns-in-Ready-clause-polls
@@ -212,3 +212,62 @@ returns-in-Done-clause-returns g c =
     c.args.task c.poll.new.self.slots.values c.call.new.self.slots.values c.args.io.now c.call.new.caller (Done c.in-Done.outcome)
     c.in-Pending.ensures.polls calls c.in-Done.outcome c.end.result c.end.new.ops.slots.values ends))
     (record { fails = moved.fails; made = moved.made }))
+
+pub returns-in-Done-clause-shown : goal.returns-in-Done-clause-shown
+returns-in-Done-clause-shown g c = λ memory. (
+    let same = ap key_of c.in-Pending.ensures.tokens.0 in
+    let calls : CallsSlot g.B.IoBufMut.buffer g.I.Calls.called c.poll.new.self.slots.values c.args.op.key c.args.io.now
+    c.call.new.self.slots.values c.call.new.caller (Done c.in-Done.outcome) =
+    subst (λ key. CallsSlot g.B.IoBufMut.buffer g.I.Calls.called c.poll.new.self.slots.values key c.args.io.now
+    c.call.new.self.slots.values c.call.new.caller (Done c.in-Done.outcome)) same c.in-Done.ensures.calls in
+    let moved : IsMade g.I.NonBlock.tells g.I.NonBlock.memory (g.I.NonBlock.view c.args.io.now)
+    (plain_request g.B.IoBufMut.buffer calls.slot.request) (g.I.NonBlock.view c.call.new.caller)
+    (plain_request g.B.IoBufMut.buffer calls.now.request) c.in-Done.outcome =
+    g.met.I.NonBlock.calls c.args.io.now (plain_request g.B.IoBufMut.buffer calls.slot.request) c.call.new.caller
+    (plain_request g.B.IoBufMut.buffer calls.now.request) (Done c.in-Done.outcome) calls.calls in
+    moved.shown memory)
+
+pub returns-in-WouldBlock-clause-shown : goal.returns-in-WouldBlock-clause-shown
+returns-in-WouldBlock-clause-shown g c = λ memory. (
+    let same = ap key_of c.in-Pending.ensures.tokens.0 in
+    let calls : CallsSlot g.B.IoBufMut.buffer g.I.Calls.called c.poll.new.self.slots.values c.args.op.key c.args.io.now
+    c.call.new.self.slots.values c.call.new.caller WouldBlock =
+    subst (λ key. CallsSlot g.B.IoBufMut.buffer g.I.Calls.called c.poll.new.self.slots.values key c.args.io.now
+    c.call.new.self.slots.values c.call.new.caller WouldBlock) same c.in-WouldBlock.ensures.calls in
+    let unmade : CallsFor g.I.NonBlock.tells g.I.NonBlock.memory (g.I.NonBlock.view c.args.io.now)
+    (plain_request g.B.IoBufMut.buffer calls.slot.request) (g.I.NonBlock.view c.call.new.caller)
+    (plain_request g.B.IoBufMut.buffer calls.now.request) WouldBlock =
+    g.met.I.NonBlock.calls c.args.io.now (plain_request g.B.IoBufMut.buffer calls.slot.request) c.call.new.caller
+    (plain_request g.B.IoBufMut.buffer calls.now.request) WouldBlock calls.calls in
+    unmade.0.shown memory)
+
+pub returns-in-WouldBlock-clause-due : goal.returns-in-WouldBlock-clause-due
+returns-in-WouldBlock-clause-due g c = λ memory pending. (
+    let same = ap key_of c.in-Pending.ensures.tokens.0 in
+    let calls : CallsSlot g.B.IoBufMut.buffer g.I.Calls.called c.poll.new.self.slots.values c.args.op.key c.args.io.now
+    c.call.new.self.slots.values c.call.new.caller WouldBlock =
+    subst (λ key. CallsSlot g.B.IoBufMut.buffer g.I.Calls.called c.poll.new.self.slots.values key c.args.io.now
+    c.call.new.self.slots.values c.call.new.caller WouldBlock) same c.in-WouldBlock.ensures.calls in
+    let unmade : CallsFor g.I.NonBlock.tells g.I.NonBlock.memory (g.I.NonBlock.view c.args.io.now)
+    (plain_request g.B.IoBufMut.buffer calls.slot.request) (g.I.NonBlock.view c.call.new.caller)
+    (plain_request g.B.IoBufMut.buffer calls.now.request) WouldBlock =
+    g.met.I.NonBlock.calls c.args.io.now (plain_request g.B.IoBufMut.buffer calls.slot.request) c.call.new.caller
+    (plain_request g.B.IoBufMut.buffer calls.now.request) WouldBlock calls.calls in
+    subst (AreDue (g.I.NonBlock.view c.call.new.caller))
+    (called-named c.args.ops.now.slots.values c.args.op.key c.args.op.number c.requires g.B.IoBufMut.buffer g.I.Calls.called c.args.task
+    c.poll.new.self.slots.values c.call.new.self.slots.values c.args.io.now c.call.new.caller WouldBlock c.in-Pending.ensures.polls calls)
+    (unmade.2 memory).1)
+
+pub returns-in-OutOfMemory-clause-shown : goal.returns-in-OutOfMemory-clause-shown
+returns-in-OutOfMemory-clause-shown g c = λ memory. (
+    let same = ap key_of c.in-Pending.ensures.tokens.0 in
+    let calls : CallsSlot g.B.IoBufMut.buffer g.I.Calls.called c.poll.new.self.slots.values c.args.op.key c.args.io.now
+    c.call.new.self.slots.values c.call.new.caller OutOfMemory =
+    subst (λ key. CallsSlot g.B.IoBufMut.buffer g.I.Calls.called c.poll.new.self.slots.values key c.args.io.now
+    c.call.new.self.slots.values c.call.new.caller OutOfMemory) same c.in-OutOfMemory.ensures.calls in
+    let unmade : CallsFor g.I.NonBlock.tells g.I.NonBlock.memory (g.I.NonBlock.view c.args.io.now)
+    (plain_request g.B.IoBufMut.buffer calls.slot.request) (g.I.NonBlock.view c.call.new.caller)
+    (plain_request g.B.IoBufMut.buffer calls.now.request) OutOfMemory =
+    g.met.I.NonBlock.calls c.args.io.now (plain_request g.B.IoBufMut.buffer calls.slot.request) c.call.new.caller
+    (plain_request g.B.IoBufMut.buffer calls.now.request) OutOfMemory calls.calls in
+    unmade.shown memory)

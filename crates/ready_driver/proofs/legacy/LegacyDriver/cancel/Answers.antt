@@ -5,9 +5,11 @@ use Rattle.ready_driver.specs.LegacyState.{LegacyState, group_count}
 use Rattle.ready_driver.specs.LegacyStep.{ask_each}
 use Rattle.ready_driver.specs.Named.{AreNaming}
 use Rattle.ready_driver.specs.Polling.{OpsStand}
+use Rattle.ready_driver.specs.Turns.{AreShown}
 use Rattle.ready_driver.proofs.Asking.{asks-naming, asks-leave, AsksLeave, stands-cancels}
 use Rattle.ready_driver.proofs.Driven.{by_parts, count-groups}
 use Rattle.ready_driver.proofs.Naming.{in-slots-tokens}
+use Rattle.ready_driver.proofs.Showing.{shown-asked}
 use Rattle.ready_driver.proofs.legacy.LegacyDriver.cancel.Goals as goal
 
 pub invariant_of-self-2 : goal.invariant_of-self-2
@@ -22,6 +24,9 @@ invariant_of-self-2 g c =
           (subst (λ n. AreNaming d.handling.table d.slots.values n) (sym c.ask_each.ensures.given) c.self.invariant.0)),
       in-slots-tokens c.cancel.new.self c.self.inside.ops c.ask_each.new.ops c.ask_each.ensures.tokens
           (subst (λ m. AreInSlots m d.slots.values) (sym c.in-Ok.ensures.marked) c.self.invariant.1),
+      λ memory. subst (λ (a : Asking g.row.I.Denot g.row.B.Denot). AreShown g.I.NonBlock.view a.handling d.untreated)
+          (sym c.ask_each.ensures.asks)
+          (shown-asked g.I.NonBlock.view d.untreated c.cancel.new.self start c.as_slice.result.now (c.self.invariant.2 memory)),
     )
 
 pub returns-clause-answers : goal.returns-clause-answers

@@ -1,12 +1,15 @@
 use Rattle.std.proofs.Common.{◌≡◌, Some, refl, sym, ap, subst, ◌∙◌}
+use Rattle.std.specs.FinMap.{get}
 use Rattle.driver_core.specs.Slot.{number_at}
 use Rattle.ready_driver.specs.LegacyState.{LegacyState, Holds}
 use Rattle.ready_driver.specs.Named.{AreNaming, canceled_slots}
 use Rattle.ready_driver.specs.Polling.{OpsStand, asked_at}
 use Rattle.ready_driver.specs.Registry.{Handling}
+use Rattle.ready_driver.specs.Turns.{AreShown}
 use Rattle.ready_driver.proofs.Driven.{by_parts}
 use Rattle.ready_driver.proofs.Events.{stands-asked}
 use Rattle.ready_driver.proofs.Naming.{naming-canceled, in-slots-tokens}
+use Rattle.ready_driver.proofs.Showing.{shown-unwaited}
 use Rattle.ready_driver.proofs.legacy.LegacyDriver.cancel_op.Goals as goal
 
 pub invariant_of-self-2 : goal.invariant_of-self-2
@@ -19,6 +22,9 @@ invariant_of-self-2 g c =
           (subst (λ n. AreNaming d.handling.table (canceled_slots d.slots.values c.key.result) n) (sym c.ask-task.ensures.given)
           (naming-canceled d.handling.table d.slots.values d.given c.key.result c.self.invariant.0))),
       in-slots-tokens c.self.inside.members c.self.inside.ops c.ask-task.new.ops c.ask-task.ensures.tokens c.self.invariant.1,
+      λ memory. subst (λ x. AreShown g.I.NonBlock.view x d.untreated) (sym c.ask-task.ensures.waits)
+          (shown-unwaited g.I.NonBlock.view d.untreated d.handling c.number.result (get d.slots.values c.key.result)
+          (c.self.invariant.2 memory)),
     )
 
 pub returns-clause-answers : goal.returns-clause-answers

@@ -11,9 +11,11 @@ use Rattle.ready_driver.specs.LegacyCalls.{unwaited}
 use Rattle.ready_driver.specs.LegacyState.{LegacyState, Holds}
 use Rattle.ready_driver.specs.Named.{AreNaming}
 use Rattle.ready_driver.specs.Registry.{Handling, LetsGo}
+use Rattle.ready_driver.specs.Turns.{AreShown}
 use Rattle.ready_driver.proofs.Driven.{by_parts}
 use Rattle.ready_driver.proofs.Events.{fits, driven, names-are, stands-dropped, left-handles}
 use Rattle.ready_driver.proofs.Naming.{naming-leave, naming-left}
+use Rattle.ready_driver.proofs.Showing.{shown-unwaited, shown-left}
 use Rattle.ready_driver.proofs.legacy.LegacyDriver.drop_op.Goals as goal
 
 pub let_go-requires : goal.let_go-requires
@@ -34,13 +36,21 @@ invariant_of-self g c =
     ∙ ap (without_ops d.handling.table) (c.names_at-names.ensures ∙ ap (λ k. named_in (get d.slots.values k)) c.key-key.ensures) in
     let left = naming-left d.handling.table d.slots.values d.given key c.self.invariant.0 c.drop_op.new.ops.slots.values
     (λ k e. ap (λ m. get m k) c.drop_op.ensures.slots ∙ gone-other d.slots.values key k e)
-    (ap (λ m. get m key) c.drop_op.ensures.slots ∙ gone-same d.slots.values key) in (
+    (ap (λ m. get m key) c.drop_op.ensures.slots ∙ gone-same d.slots.values key) in
+    let may = subst (λ (x : Handling g.row.I.Denot). CanLeave x.table (listed c.names_at-names.result)) (sym c.unwait.ensures)
+    (subst (CanLeave d.handling.table) (sym c.names_at-names.ensures)
+    (naming-leave d.handling.table d.slots.values d.given c.key-key.result c.self.invariant.0)) in (
       subst (λ t. AreNaming t c.drop_op.new.ops.slots.values c.drop_op.new.ops.given) (sym table)
           (subst (λ n. AreNaming (without_ops d.handling.table (named_in (get d.slots.values key))) c.drop_op.new.ops.slots.values n)
           (sym c.drop_op.ensures.given) left),
       subst (λ m. AreInSlots m c.drop_op.new.ops.slots.values)
           (sym (c.leave.ensures.left ∙ ap (leaves d.members) c.number-number.ensures))
           (in-slots-left d.members c.self.inside.ops c.drop_op.new.ops c.args.op c.drop_op.ensures.tokens c.self.invariant.1),
+      λ memory. shown-left g.I.NonBlock.view d.untreated g.I.NonBlock.tells g.I.NonBlock.memory memory c.unwait.new.registry
+          c.let_go.new.self (listed c.names_at-names.result) may c.let_go.ensures
+          (subst (λ x. AreShown g.I.NonBlock.view x d.untreated) (sym c.unwait.ensures)
+          (shown-unwaited g.I.NonBlock.view d.untreated d.handling c.number-number.result (get d.slots.values c.key-key.result)
+          (c.self.invariant.2 memory))),
     )
 
 pub returns-clause-answers : goal.returns-clause-answers

@@ -6,6 +6,7 @@ use Rattle.driver_core.proofs.Placing.{in-slots-none}
 use Rattle.ready_driver.specs.Registry.{Handling}
 use Rattle.ready_driver.proofs.Naming.{naming-none}
 use Rattle.ready_driver.proofs.Starting.{stands-idle}
+use Rattle.ready_driver.proofs.Showing.{shown-none}
 use Rattle.ready_driver.proofs.legacy.LegacyDriver.over.Goals as goal
 
 pub invariant_of-result : goal.invariant_of-result
@@ -13,6 +14,7 @@ invariant_of-result g c = (
   naming-none c.over.result.table c.new.result.slots.values c.new.result.given
       (ap (λ (x : Handling g.row.I.Denot). x.table.holders) c.over.ensures) c.new.ensures.slots,
   in-slots-none c.new-2.result c.new.result.slots.values (ap (λ m. m.places) c.new-2.ensures),
+  λ memory. shown-none g.I.NonBlock.view c.over.result c.new-4.result (ap (λ (x : Handling g.row.I.Denot). x.table.holders) c.over.ensures),
 )
 
 pub returns-clause-none : goal.returns-clause-none

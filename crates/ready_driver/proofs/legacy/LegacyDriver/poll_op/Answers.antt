@@ -27,6 +27,7 @@ use Rattle.ready_driver.proofs.Errors.{error-caused}
 use Rattle.ready_driver.proofs.Naming.{naming-room, naming-kept, naming-leave, naming-left, in-slots-tokens}
 use Rattle.ready_driver.proofs.Polled.{naming-handed, parts-room, room-handles, reported-room, stands-waiting, step-waits}
 use Rattle.ready_driver.proofs.Polled.{answers-waits, stands-ended}
+use Rattle.ready_driver.proofs.Showing.{shown-room, shown-polled, shown-handed, shown-left}
 use Rattle.ready_driver.proofs.legacy.LegacyDriver.poll_op.Goals as goal
 
 pub invariant_of-self : goal.invariant_of-self
@@ -34,6 +35,8 @@ invariant_of-self g c = (
   naming-room c.self.inside.registry.table c.reserve.new.registry.table c.self.inside.ops.slots.values c.self.inside.ops.given
       c.self.invariant.0 c.reserve.ensures.same.table,
   c.self.invariant.1,
+  λ memory. shown-room g.I.NonBlock.view c.self.inside.untreated c.self.inside.registry c.reserve.new.registry c.reserve.ensures.same
+      (c.self.invariant.2 memory),
 )
 
 pub invariant_of-self-in-Ok-Pending : goal.invariant_of-self-in-Ok-Pending
@@ -51,6 +54,9 @@ invariant_of-self-in-Ok-Pending g c =
     let kept = naming-kept c.poll_op.new.self.table d.slots.values c.poll_op.new.ops.slots.values d.given c.args.op.key polled slots in (
       subst (λ n. AreNaming c.poll_op.new.self.table c.poll_op.new.ops.slots.values n) (sym c.poll_op.ensures.given) kept,
       in-slots-tokens d.members c.self.inside.ops c.poll_op.new.ops tokens.1 c.self.invariant.1,
+      λ memory. shown-polled g.I.NonBlock.view d.untreated c.reserve.new.registry c.poll_op.new.self c.poll_op.ensures.table
+          (c.poll_op.ensures.shown memory)
+          (shown-room g.I.NonBlock.view d.untreated d.handling c.reserve.new.registry c.reserve.ensures.same (c.self.invariant.2 memory)),
     )
 
 pub invariant_of-self-in-Err-poll_op : goal.invariant_of-self-in-Err-poll_op
@@ -64,6 +70,9 @@ invariant_of-self-in-Err-poll_op g c =
     c.in-Err-poll_op.ensures.slots in (
       subst (λ n. AreNaming c.poll_op.new.self.table c.poll_op.new.ops.slots.values n) (sym c.poll_op.ensures.given) kept,
       in-slots-tokens d.members c.self.inside.ops c.poll_op.new.ops c.in-Err-poll_op.ensures.tokens.1 c.self.invariant.1,
+      λ memory. shown-polled g.I.NonBlock.view d.untreated c.reserve.new.registry c.poll_op.new.self c.poll_op.ensures.table
+          (c.poll_op.ensures.shown memory)
+          (shown-room g.I.NonBlock.view d.untreated d.handling c.reserve.new.registry c.reserve.ensures.same (c.self.invariant.2 memory)),
     )
 
 pub let_go-requires : goal.let_go-requires
@@ -96,13 +105,22 @@ invariant_of-self-in-Ok-Ready g c =
     returns.others
     returns.free in
     let table = c.let_go.ensures.holders ∙ ap (without_ops c.hand_over-done.new.registry.table)
-    (c.names_at-names.ensures ∙ ap (λ k. named_in (get d.slots.values k)) c.key-key.ensures) in (
+    (c.names_at-names.ensures ∙ ap (λ k. named_in (get d.slots.values k)) c.key-key.ensures) in
+    let may = subst (CanLeave c.hand_over-done.new.registry.table) (sym c.names_at-names.ensures)
+    (naming-leave c.hand_over-done.new.registry.table d.slots.values d.given c.key-key.result handed) in (
       subst (λ t. AreNaming t c.poll_op.new.ops.slots.values c.poll_op.new.ops.given) (sym table)
           (subst (λ n. AreNaming (without_ops c.hand_over-done.new.registry.table (named_in (get d.slots.values key)))
           c.poll_op.new.ops.slots.values n) (sym c.poll_op.ensures.given) left),
       subst (λ m. AreInSlots m c.poll_op.new.ops.slots.values)
           (sym (c.leave.ensures.left ∙ ap (leaves d.members) c.number-number.ensures))
           (in-slots-left d.members c.self.inside.ops c.poll_op.new.ops c.args.op tokens c.self.invariant.1),
+      λ memory. shown-left g.I.NonBlock.view d.untreated g.I.NonBlock.tells g.I.NonBlock.memory memory c.hand_over-done.new.registry
+          c.let_go.new.self (listed c.names_at-names.result) may c.let_go.ensures
+          (shown-handed g.I.NonBlock.view d.untreated g.I.NonBlock.tells g.I.NonBlock.memory memory c.poll_op.new.self
+          c.hand_over-done.new.registry (made_by c.hand_over-done.result.outcome) c.hand_over-done.ensures.hands
+          (shown-polled g.I.NonBlock.view d.untreated c.reserve.new.registry c.poll_op.new.self c.poll_op.ensures.table
+          (c.poll_op.ensures.shown memory)
+          (shown-room g.I.NonBlock.view d.untreated d.handling c.reserve.new.registry c.reserve.ensures.same (c.self.invariant.2 memory)))),
     )
 
 pub returns-in-Ok-Pending-clause-answers : goal.returns-in-Ok-Pending-clause-answers

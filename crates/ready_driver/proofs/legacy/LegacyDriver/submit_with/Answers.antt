@@ -16,6 +16,7 @@ use Rattle.ready_driver.proofs.Driven.{by_parts}
 use Rattle.ready_driver.proofs.Events.{stands-canceled, stands-submits}
 use Rattle.ready_driver.proofs.Holding.{stands-unready, joins-handles}
 use Rattle.ready_driver.proofs.Naming.{naming-join, naming-joined, all-known, joined-at}
+use Rattle.ready_driver.proofs.Showing.{shown-ready, shown-joined}
 use Rattle.ready_driver.proofs.legacy.LegacyDriver.submit_with.Goals as goal
 
 pub returns-then-is_canceled-clause-answers : goal.returns-then-is_canceled-clause-answers
@@ -56,10 +57,27 @@ join-requires g c =
     c.in-Ok.ensures.ready.table in
     subst (CanJoin c.prepare.new.registry.table) (sym c.names-names.ensures) may
 
+pub invariant_of-self : goal.invariant_of-self
+invariant_of-self g c =
+    let d : LegacyState g.row.I.Denot g.row.B.Denot =
+    by_parts c.self.inside.registry c.self.inside.ops c.self.inside.members c.self.inside.asked.items c.self.inside.untreated in
+    let prep = c.prepare.new.ops in
+    let made = c.in-Err.ensures.unready.made in (
+      subst (λ t. AreNaming t prep.slots.values prep.given) (sym made.table)
+          (subst (λ m. AreNaming d.handling.table m prep.given) (sym c.in-Err.ensures.slots)
+          (subst (λ n. AreNaming d.handling.table d.slots.values n) (sym c.in-Err.ensures.given) c.self.invariant.0)),
+      subst (λ m. AreInSlots m prep.slots.values) (sym c.in-Err.ensures.same)
+          (subst (AreInSlots d.members) (sym c.in-Err.ensures.slots) c.self.invariant.1),
+      λ memory. shown-ready g.I.NonBlock.view d.untreated g.I.NonBlock.tells g.I.NonBlock.memory memory d.handling
+          c.prepare.new.registry c.in-Err.ensures.unready.front made (c.self.invariant.2 memory),
+    )
+
 pub invariant_of-self-2 : goal.invariant_of-self-2
 invariant_of-self-2 g c =
     let d : LegacyState g.row.I.Denot g.row.B.Denot =
     by_parts c.self.inside.registry c.self.inside.ops c.self.inside.members c.self.inside.asked.items c.self.inside.untreated in
+    let user = subst (λ (x : LegacyState g.row.I.Denot g.row.B.Denot). holds_all x.handling.table (named c.args.request) ≡ true)
+    (sym c.self.view_is) c.requires.held in
     let prep = c.prepare.new.ops in
     let op = c.submit-op.result in
     let ready : MakesReady g.I.NonBlock.view g.I.NonBlock.tells g.I.NonBlock.memory d.handling (named c.args.request)
@@ -87,6 +105,13 @@ invariant_of-self-2 g c =
       subst (λ m. AreInSlots m c.submit-op.new.ops.slots.values) (sym members)
           (in-slots-joined d.members prep c.submit-op.new.ops op c.args.under c.submit-op.ensures.token
           (subst (λ m. AreInSlots d.members m) (sym c.in-Ok.ensures.slots) c.self.invariant.1)),
+      λ memory. shown-joined g.I.NonBlock.view d.untreated c.prepare.new.registry c.join.new.self (named c.args.request)
+          (naming-join d.handling.table c.prepare.new.registry.table d.slots.values d.given c.args.request c.self.invariant.0 user
+          (subst (λ (x : LegacyState g.row.I.Denot g.row.B.Denot). x.given < MOST_GIVEN) (sym c.self.view_is) c.requires.counter)
+          c.in-Ok.ensures.ready.table)
+          joined
+          (shown-ready g.I.NonBlock.view d.untreated g.I.NonBlock.tells g.I.NonBlock.memory memory d.handling c.prepare.new.registry
+          (named c.args.request) ready (c.self.invariant.2 memory)),
     )
 
 pub returns-clause-answers : goal.returns-clause-answers

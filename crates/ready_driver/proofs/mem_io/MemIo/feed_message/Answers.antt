@@ -1,8 +1,29 @@
-use Rattle.std.proofs.Common.{sym, ◌∙◌}
+use Rattle.std.proofs.Common.{◌≤◌, length, refl, sym, ◌∙◌, ap, arith}
+use Rattle.ready_driver.specs.Due.{Duty}
+use Rattle.ready_driver.specs.MemIo.{Memory}
 use Rattle.ready_driver.proofs.Called.{length-arrives}
+use Rattle.ready_driver.proofs.Shown.{due-count, changed-shown}
 use Rattle.ready_driver.proofs.mem_io.MemIo.feed_message.Goals as goal
 
 pub invariant_of-self : goal.invariant_of-self
-invariant_of-self c =
-    c.self.invariant ∙ sym (length-arrives _ _ c.self.inside.world c.args.h c.feed_message.new.self c.feed_message.result
-    c.feed_message.ensures)
+invariant_of-self c = (c.self.invariant.0 ∙ sym (length-arrives _ _ c.self.inside.world c.args.h c.feed_message.new.self c.feed_message.result c.feed_message.ensures), c.self.invariant.1)
+
+pub invariant_of-self-2 : goal.invariant_of-self-2
+invariant_of-self-2 c =
+    let same = ap (λ (d : Duty). d.count) c.add.ensures ∙ due-count c.self.inside.due c.args.h in
+    let room = c.self.invariant.1 in
+    let now : length c.self.inside.keys.items ≤ c.add.new.self.count = omega (arith, same, room) in
+    (c.self.invariant.0 ∙ sym (length-arrives _ _ c.self.inside.world c.args.h c.feed_message.new.self c.feed_message.result c.feed_message.ensures), now)
+
+pub returns-clause-shown : goal.returns-clause-shown
+returns-clause-shown c =
+    let old : Memory = record {
+      world = c.self.inside.world;
+      keys = c.self.inside.keys.items;
+      due = c.self.inside.due.handles;
+      blocks = c.self.inside.blocks;
+      fails = c.self.inside.fails;
+    } in
+    let new : Memory = record old { world = c.feed_message.new.self; due = c.add.new.self.handles } in
+    rw (← c.self.view_is) (changed-shown old new c.self.inside.due c.args.h _ refl c.self.invariant.1 refl c.in_ok-feed_message.ensures.1
+    (ap (λ (d : Duty). d.handles) c.add.ensures))

@@ -1,6 +1,37 @@
-use Rattle.std.proofs.Common.{◌∙◌, length, ap}
+use Rattle.std.proofs.Common.{◌≤◌, length, refl, ◌∙◌, ap, arith}
 use Rattle.ring_core.proofs.Amended.{length-amended}
+use Rattle.ready_driver.specs.MemIo.{Memory}
+use Rattle.ready_driver.proofs.Shown.{unkeyed-shown}
 use Rattle.ready_driver.proofs.mem_io.MemIoNonBlock.deregister.Goals as goal
 
 pub invariant_of-self : goal.invariant_of-self
-invariant_of-self c = ap length c.set_key.ensures ∙ length-amended _ c.self.inside.keys.items c.args.h ∙ c.self.invariant
+invariant_of-self c =
+    let same = ap length c.set_key.ensures ∙ length-amended _ c.self.inside.keys.items c.args.h in
+    let room = c.self.invariant.1 in
+    let now : length c.set_key.new.keys.items ≤ c.self.inside.due.count = omega (arith, same, room) in
+    (same ∙ c.self.invariant.0, now)
+
+pub returns : goal.returns
+returns c =
+    let same = ap length c.set_key.ensures ∙ length-amended _ c.self.inside.keys.items c.args.h in
+    let room = c.self.invariant.1 in
+    let now : length c.set_key.new.keys.items ≤ c.self.inside.due.count = omega (arith, same, room) in
+    let old : Memory = record {
+      world = c.self.inside.world;
+      keys = c.self.inside.keys.items;
+      due = c.self.inside.due.handles;
+      blocks = c.self.inside.blocks;
+      fails = c.self.inside.fails;
+    } in
+    let new : Memory = record old { keys = c.set_key.new.keys.items } in
+    let shown = unkeyed-shown old new c.args.h c.set_key.ensures refl refl in
+    rw (← c.self.view_is) (
+      record {
+        later = record { faults = omega arith; blocks = omega arith; fails = omega arith };
+        made = refl;
+        world = λ told. refl;
+        keys_are = λ told. c.set_key.ensures;
+        shown = λ told. shown.0;
+      },
+      λ told. shown.1,
+    )

@@ -5,6 +5,7 @@ use Rattle.ready_driver.specs.MemIo.{Memory, memory_view}
 use Rattle.ready_driver.specs.Registry.{is_known, with_created}
 use Rattle.ready_driver.proofs.Driven.{by_parts}
 use Rattle.ready_driver.proofs.Holding.{naming-adopted, gives-all}
+use Rattle.ready_driver.proofs.Showing.{shown-gave}
 use Rattle.ready_driver.proofs.legacy.memory.LegacyDriver+MemIo+B.give.Goals as goal
 
 pub invariant_of-self : goal.invariant_of-self
@@ -17,6 +18,8 @@ invariant_of-self g c =
           (sym c.self.view_is) c.requires.fresh)
           refl c.give.ensures.ok c.give.ensures.err c.self.invariant.0,
       c.self.invariant.1,
+      λ memory. shown-gave d.untreated c.give.result d.handling c.give.new.self c.args.kind (c.self.invariant.2 memory) c.give.ensures.shown
+          c.give.ensures.ok c.give.ensures.err,
     )
 
 pub returns-clause-answers : goal.returns-clause-answers

@@ -1,0 +1,166 @@
+-- A call of handles in memory leaves each handle that its request doesn't name, and a request names the handle that it waits for.
+use Rattle.std.proofs.Common.{◌≡◌, ◌≢◌, ℕ, ◌<◌, Bool, true, false, ◌||◌, ◌==◌, if◌then◌else◌, List, [], ◌∷◌, length, Option, None}
+use Rattle.std.proofs.Common.{Some, slice_get, refl, sym, ◌∙◌, ap, subst, arith}
+use Rattle.std.specs.Prelude.{nat_lt}
+use Rattle.std.proofs.lemmas.Bool.Decides.{nat_tests}
+use Rattle.rent_buf.specs.Buffer.{Buffer}
+use Rattle.rent_buf.specs.Parts.{Parts}
+use Rattle.ring_core.specs.declared.request.Request.{Request}
+use Rattle.ring_core.specs.declared.request.Request.TheVariants.{Recv, ReadVec, Send, WriteVec, RecvMsg, SendMsg, Read, Write}
+use Rattle.ring_core.specs.declared.request.Request.TheVariants.{SpliceTo, SpliceFrom, Accept, Open, Connect, Fsync, PollAdd, MkDir, Rename}
+use Rattle.ring_core.specs.declared.request.Request.TheVariants.{Unlink}
+use Rattle.ring_core.specs.declared.request.Told.{Told}
+use Rattle.ring_core.specs.declared.request.Told.TheVariants.{Count, Fail}
+use Rattle.ring_core.specs.declared.world.HandleState.{HandleState}
+use Rattle.ring_core.specs.Lists.{amended, has_number}
+use Rattle.ring_core.specs.Request.{both, named}
+use Rattle.ring_core.specs.World.{messages_at}
+use Rattle.ring_core.specs.Effect.{without_front, without_message, message_effect}
+use Rattle.ring_core.specs.WorldCall.{call_effect}
+use Rattle.ring_core.proofs.Numbers.{equal-self}
+use Rattle.ring_core.proofs.Amended.{get-amended-other}
+use Rattle.ring_core.proofs.Appended.{get-append-within}
+use Rattle.driver_core.specs.declared.slot.Slot.{Slot}
+use Rattle.driver_core.specs.Holds.{named_in}
+use Rattle.driver_core.specs.Slot.{is_flying}
+use Rattle.ready_driver.specs.Awaits.{awaits, awaits_if, slot_awaits}
+use Rattle.ready_driver.specs.declared.ready.Direction.{Direction}
+use Rattle.ready_driver.proofs.Exact.{same-handle}
+
+-- A number that isn't the only one of a list is another one.
+other-one : (h n : ℕ) → has_number h (n ∷ []) ≡ false → h ≢ n
+other-one h n is same =
+    let met : has_number h (n ∷ []) ≡ true = ap (λ k. k == n || false) same ∙ ap (λ b. b || false) (equal-self n) in
+    let f : true ≡ false = sym met ∙ is in
+    let g : ⊥ = cc in
+    g
+
+-- A number that isn't among two is neither.
+other-both : (h a b : ℕ) → has_number h (both a b) ≡ false → (h ≢ a) × (h ≢ b)
+other-both h a b is = by (nat_lt a b) (nat_lt b a) refl refl is
+  where
+    first : (x y : Bool) → (x || (y || false)) ≡ false → x ≡ false
+    first false y none = refl
+    first true y none = none
+
+    second : (x y : Bool) → (x || (y || false)) ≡ false → y ≡ false
+    second false false none = refl
+    second false true none = none
+    second true y none = (let f : ⊥ = cc in absurd f)
+
+    apart : (n : ℕ) → (h == n) ≡ false → h ≢ n
+    apart n none same = (let f : true ≡ false = sym (ap (λ k. k == n) same ∙ equal-self n) ∙ none in let g : ⊥ = cc in g)
+
+    by : (x y : Bool) → nat_lt a b ≡ x → nat_lt b a ≡ y →
+        has_number h (if x then a ∷ b ∷ [] else if y then b ∷ a ∷ [] else a ∷ []) ≡ false → (h ≢ a) × (h ≢ b)
+    by true y lt gt none = (apart a (first (h == a) (h == b) none), apart b (second (h == a) (h == b) none))
+    by false true lt gt none = (apart a (second (h == b) (h == a) none), apart b (first (h == b) (h == a) none))
+    by false false lt gt none =
+        let same : a ≡ b = grind (arith, nat_tests) in
+        (other-one h a none, subst (λ n. h ≢ n) same (other-one h a none))
+
+-- A message that is taken leaves the handles as they are but for its own.
+message-world : (world : List HandleState) (k : ℕ) (message : Option (ℕ × List ℕ)) → (message_effect world k message).world ≡ world
+message-world world k None = refl
+message-world world k (Some message) = refl
+
+-- A call that a count ended leaves a handle that its request doesn't name.
+counted-other : (world : List HandleState) (request : Request Buffer Parts) (k h : ℕ) → has_number h (named request) ≡ false →
+    h < length world → slice_get (call_effect world request (Count k)).world h ≡ slice_get world h
+counted-other world (Recv fd buf) k h other within = get-amended-other _ world fd h (other-one h fd other)
+counted-other world (ReadVec fd parts) k h other within = get-amended-other _ world fd h (other-one h fd other)
+counted-other world (Send fd buf) k h other within = get-amended-other _ world fd h (other-one h fd other)
+counted-other world (WriteVec fd parts) k h other within = get-amended-other _ world fd h (other-one h fd other)
+counted-other world (RecvMsg fd buf) k h other within =
+    ap (λ w. slice_get w h) (message-world (amended world fd without_message) k (slice_get (messages_at world fd) 0))
+    ∙ get-amended-other _ world fd h (other-one h fd other)
+counted-other world (SendMsg fd addr buf) k h other within = get-amended-other _ world fd h (other-one h fd other)
+counted-other world (Read fd pos buf) k h other within = refl
+counted-other world (Write fd pos buf) k h other within = get-amended-other _ world fd h (other-one h fd other)
+counted-other world (SpliceTo fd pipe len) k h other within =
+    let apart = other-both h fd pipe other in
+    get-amended-other _ (amended world fd (without_front k)) pipe h apart.1 ∙ get-amended-other _ world fd h apart.0
+counted-other world (SpliceFrom pipe fd len) k h other within =
+    let apart = other-both h pipe fd other in
+    get-amended-other _ (amended world pipe (without_front k)) fd h apart.1 ∙ get-amended-other _ world pipe h apart.0
+counted-other world (Accept fd) k h other within = get-append-within world _ h within
+counted-other world (Open path flags mode) k h other within = get-append-within world _ h within
+counted-other world (Connect fd addr) k h other within = refl
+counted-other world (Fsync fd data_only) k h other within = refl
+counted-other world (PollAdd fd read) k h other within = refl
+counted-other world (MkDir path mode) k h other within = refl
+counted-other world (Rename from to) k h other within = refl
+counted-other world (Unlink path remove_dir) k h other within = refl
+
+-- A call leaves a handle that its request doesn't name.
+pub called-other : (world : List HandleState) (request : Request Buffer Parts) (told : Told) (h : ℕ) →
+    has_number h (named request) ≡ false → h < length world → slice_get (call_effect world request told).world h ≡ slice_get world h
+called-other world request (Count k) h other within = counted-other world request k h other within
+called-other world request (Fail e) h other within = refl
+
+-- Each of two numbers is among both.
+among-first : (a b : ℕ) → has_number a (both a b) ≡ true
+among-first a b = by (nat_lt a b) (nat_lt b a)
+  where
+    or-later : (x : Bool) → (x || true) ≡ true
+    or-later true = refl
+    or-later false = refl
+
+    by : (x y : Bool) → has_number a (if x then a ∷ b ∷ [] else if y then b ∷ a ∷ [] else a ∷ []) ≡ true
+    by true y = ap (λ c. c || (a == b || false)) (equal-self a)
+    by false true = ap (λ c. a == b || (c || false)) (equal-self a) ∙ or-later (a == b)
+    by false false = ap (λ c. c || false) (equal-self a)
+
+among-second : (a b : ℕ) → has_number b (both a b) ≡ true
+among-second a b = by (nat_lt a b) (nat_lt b a) refl refl
+  where
+    or-later : (x : Bool) → (x || true) ≡ true
+    or-later true = refl
+    or-later false = refl
+
+    by : (x y : Bool) → nat_lt a b ≡ x → nat_lt b a ≡ y →
+        has_number b (if x then a ∷ b ∷ [] else if y then b ∷ a ∷ [] else a ∷ []) ≡ true
+    by true y lt gt = ap (λ c. b == a || (c || false)) (equal-self b) ∙ or-later (b == a)
+    by false true lt gt = ap (λ c. c || (b == a || false)) (equal-self b)
+    by false false lt gt =
+        let same : b ≡ a = grind (arith, nat_tests) in
+        ap (λ n. n == a || false) same ∙ ap (λ c. c || false) (equal-self a)
+
+-- A handle that is one of a request's is one that it names.
+named-one : (fd h : ℕ) → fd ≡ h → has_number h (fd ∷ []) ≡ true
+named-one fd h same = subst (λ n. has_number n (fd ∷ []) ≡ true) same (ap (λ c. c || false) (equal-self fd))
+
+-- A request names the handle that it waits for.
+pub awaited-named : {B V : Type 0} (request : Request B V) (h : ℕ) (dir : Direction) → awaits request ≡ Some (h, dir) →
+    has_number h (named request) ≡ true
+awaited-named (Recv fd buf) h dir is = named-one fd h (same-handle fd h _ dir is)
+awaited-named (ReadVec fd parts) h dir is = named-one fd h (same-handle fd h _ dir is)
+awaited-named (RecvMsg fd buf) h dir is = named-one fd h (same-handle fd h _ dir is)
+awaited-named (Read fd pos buf) h dir is = named-one fd h (same-handle fd h _ dir is)
+awaited-named (SpliceTo fd pipe len) h dir is =
+    subst (λ n. has_number n (both fd pipe) ≡ true) (same-handle fd h _ dir is) (among-first fd pipe)
+awaited-named (Accept fd) h dir is = named-one fd h (same-handle fd h _ dir is)
+awaited-named (PollAdd fd true) h dir is = named-one fd h (same-handle fd h _ dir is)
+awaited-named (PollAdd fd false) h dir is = named-one fd h (same-handle fd h _ dir is)
+awaited-named (Send fd buf) h dir is = named-one fd h (same-handle fd h _ dir is)
+awaited-named (WriteVec fd parts) h dir is = named-one fd h (same-handle fd h _ dir is)
+awaited-named (SendMsg fd addr buf) h dir is = named-one fd h (same-handle fd h _ dir is)
+awaited-named (Write fd pos buf) h dir is = named-one fd h (same-handle fd h _ dir is)
+awaited-named (SpliceFrom pipe fd len) h dir is =
+    subst (λ n. has_number n (both pipe fd) ≡ true) (same-handle fd h _ dir is) (among-second pipe fd)
+awaited-named (Open path flags mode) h dir is = (let f : ⊥ = cc in absurd f)
+awaited-named (Connect fd addr) h dir is = (let f : ⊥ = cc in absurd f)
+awaited-named (Fsync fd data_only) h dir is = (let f : ⊥ = cc in absurd f)
+awaited-named (MkDir path mode) h dir is = (let f : ⊥ = cc in absurd f)
+awaited-named (Rename from to) h dir is = (let f : ⊥ = cc in absurd f)
+awaited-named (Unlink path remove_dir) h dir is = (let f : ⊥ = cc in absurd f)
+
+-- So does an operation that is in flight.
+pub slot-named : {B : Type 0} (slot : Option (Slot B)) (h : ℕ) (dir : Direction) → slot_awaits slot ≡ Some (h, dir) →
+    has_number h (named_in slot) ≡ true
+slot-named None h dir is = (let f : ⊥ = cc in absurd f)
+slot-named (Some s) h dir is = by (is_flying s.life) is
+  where
+    by : (b : Bool) → awaits_if b s.request ≡ Some (h, dir) → has_number h (named s.request) ≡ true
+    by true there = awaited-named s.request h dir there
+    by false there = (let f : ⊥ = cc in absurd f)
