@@ -186,17 +186,3 @@ shown-waited view tells memory old new came in_memory tell is waited reports sho
           (after-due (view old.io).world (view old.io).keys (view old.io).due h due before (io_at old.records h).ready)
       | inr bits ↦ after-more came h (is_readable_at (view old.io).world h) (io_at old.records h).ready bits
     ])))
-
--- A wait that failed left what was due.
-pub shown-failed : {I : Type 0} (view : I → IoView) (tells memory : Bool) (old new : Handling I) (came : List Report) → IsTrue memory →
-    IsTrue tells → new ≡ record old { io = new.io } → IsWaited tells memory (view old.io) (view new.io) →
-    (view new.io).due ≡ (view old.io).due → came ≡ [] → AreShown view old [] → AreShown view new came
-shown-failed view tells memory old new came in_memory tell is waited due none shown = subst (AreShown view new) (sym none) (λ h known keyed.
-    let before : slice_get (view old.io).keys h ≡ Some (Some h) = ap (λ ks. slice_get ks h) (sym (waited.keys_are in_memory)) ∙ keyed in
-    let held : is_known old.table h ≡ true = subst (λ t. is_known t h ≡ true) (ap (λ x. x.table) is) known in
-    elim (shown h held before) [
-      | inl was ↦ inl (ap (has_number h) due ∙ was)
-      | inr bits ↦
-          inr (subst (λ w. ShowsBits (is_readable_at w h) (io_at new.records h).ready) (sym (waited.world tell))
-          (subst (λ k. ShowsBits (is_readable_at (view old.io).world h) (io_at k h).ready) (sym (ap (λ x. x.records) is)) bits))
-    ])

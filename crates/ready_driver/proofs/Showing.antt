@@ -1,5 +1,6 @@
 -- Each handle that somebody holds is due or has its bits, through each change of a driver over a world in memory.
-use Rattle.std.proofs.Common.{◌≡◌, ◌≢◌, inl, inr, ℕ, Bool, true, false, List, [], ◌∷◌, length, Option, Some, None, refl, sym, ◌∙◌, ap, subst}
+use Rattle.std.proofs.Common.{◌≡◌, ◌≢◌, inl, inr, ℕ, Bool, true, false, List, [], ◌∷◌, length, Option, Some, None}
+use Rattle.std.proofs.Common.{refl, sym, ◌∙◌, ap, subst}
 use Rattle.std.specs.Prelude.{IsTrue, is_some, unwrap_or, option_map, OnOk, OnErr, Result, Ok, Err}
 use Rattle.std.specs.Ordering.{nat_cmp}
 use Rattle.std.specs.FinMap.{get, empty, get-empty}
@@ -51,7 +52,8 @@ left-record (h ∷ handles) table records k may known =
   where
     by : (b : Bool) → (b ≡ true → k ≢ h) →
         ((rs : Kept) → record_at (without_records rs (unheld_by (settled table h (left_holders table h)) handles)) k ≡ record_at rs k) →
-        record_at (without_records records (front_if b h (unheld_by (settled table h (left_holders table h)) handles))) k ≡ record_at records k
+        record_at (without_records records (front_if b h (unheld_by (settled table h (left_holders table h)) handles))) k
+        ≡ record_at records k
     by true apart same = same (without_record records h) ∙ gone-other records.handles h k (apart refl)
     by false apart same = same records
 
@@ -85,7 +87,8 @@ module _ {I : Type 0} (view : I → IoView) (reports : List Report) where
 
   -- Nothing but reserved memory has changed.
   pub shown-room : (old new : Handling I) → IsSameButRoom old new → AreShown view old reports → AreShown view new reports
-  shown-room old new same = shown-like old new (keeps-same old.io new.io same.io) (λ h held. ap (λ m. is_some (get m h)) (sym same.table) ∙ held)
+  shown-room old new same =
+      shown-like old new (keeps-same old.io new.io same.io) (λ h held. ap (λ m. is_some (get m h)) (sym same.table) ∙ held)
       (λ h held. ap (λ m. bits_in (get m h)) same.records)
 
   -- An operation waits no longer.

@@ -1,6 +1,6 @@
 -- Handles in memory that are due, or that bits show: what each call keeps of that.
-use Rattle.std.proofs.Common.{◌≡◌, ◌≢◌, ◌⊎◌, inl, inr, ℕ, ◌<◌, ◌≤◌, Bool, true, false, not, ◌&&◌, ◌||◌, ◌==◌, if◌then◌else◌, List, [], ◌∷◌, ◌++◌}
-use Rattle.std.proofs.Common.{length, Option, Some, None, option_map, slice_get, refl, sym, ◌∙◌, ap, subst, arith}
+use Rattle.std.proofs.Common.{◌≡◌, ◌≢◌, ◌⊎◌, inl, inr, ℕ, ◌<◌, ◌≤◌, Bool, true, false, not, ◌&&◌, ◌||◌, ◌==◌, List, [], ◌∷◌, ◌++◌}
+use Rattle.std.proofs.Common.{if◌then◌else◌, length, Option, Some, None, option_map, slice_get, refl, sym, ◌∙◌, ap, subst, arith}
 use Rattle.std.specs.Prelude.{nat_lt}
 use Rattle.std.proofs.lemmas.Bool.Decides.{nat_tests}
 use Rattle.std.proofs.lemmas.Option.{slice_get_within}
@@ -54,8 +54,8 @@ due-kept duty n h is = by (nat_lt n duty.count && not (has_number n duty.handles
 pub due-added : (duty : Duty) (h : ℕ) → h < duty.count → has_number h (with_due duty h).handles ≡ true
 due-added duty h within =
     let below : nat_lt h duty.count ≡ true = grind (arith, nat_tests) in
-    subst (λ b. has_number h (if b && not (has_number h duty.handles) then record duty { handles = duty.handles ++ h ∷ [] } else duty).handles
-    ≡ true) (sym below) (by (has_number h duty.handles) refl)
+    let more : Duty = record duty { handles = duty.handles ++ h ∷ [] } in
+    subst (λ b. has_number h (if b && not (has_number h duty.handles) then more else duty).handles ≡ true) (sym below) (by (has_number h duty.handles) refl)
   where
     by : (b : Bool) → has_number h duty.handles ≡ b →
         has_number h (if true && not b then record duty { handles = duty.handles ++ h ∷ [] } else duty).handles ≡ true
@@ -113,14 +113,6 @@ stays-shown old new stays = λ h ready shown keyed. elim (stays.each h keyed) [
     | inr bits ↦ inr (subst (λ x. ShowsBits (passes is_readable x) ready) (sym same.1) bits)
   ]
 ]
-
--- Nothing changed but the counts.
-pub same-shown : (old new : Memory) → new.world ≡ old.world → new.keys ≡ old.keys → new.due ≡ old.due →
-    KeepsShown (memory_view old) (memory_view new)
-same-shown old new world keys due = stays-shown old new (record {
-  due = λ h is. ap (has_number h) due ∙ is;
-  each = λ h keyed. inr (ap (λ ks. slice_get ks h) (sym keys) ∙ keyed, ap (λ w. slice_get w h) world);
-})
 
 -- A handle changed, and is due.
 pub changed-shown : (old new : Memory) (duty : Duty) (h : ℕ) (change : HandleState → HandleState) → duty.handles ≡ old.due →

@@ -1,5 +1,6 @@
 -- An object whose calls don't wait, as its callers see it, and what its calls do. Cited by `NonBlock`.
-use Rattle.std.specs.Prelude.{ℕ, suc, ◌≡◌, ◌≤◌, ◌⊎◌, Bool, true, IsTrue, List, [], length, min, Option, None, Some, slice_get, Result, Ok, Err}
+use Rattle.std.specs.Prelude.{ℕ, suc, ◌≡◌, ◌≤◌, ◌⊎◌, Bool, true, IsTrue, List, [], length, min, Option, None, Some}
+use Rattle.std.specs.Prelude.{slice_get, Result, Ok, Err}
 use Rattle.rent_buf.specs.Buffer.{Buffer}
 use Rattle.rent_buf.specs.Parts.{Parts}
 use Rattle.rent_buf.specs.Counts.{Rose}

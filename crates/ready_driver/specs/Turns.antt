@@ -49,7 +49,8 @@ bits_after h ready (report ∷ reports) = bits_after h (if report.key == h then 
 
 -- Each handle that somebody holds is due, or has the bits of what its object has for it, once these reports are treated.
 abbrev pub AreShown : {I : Type 0} → (I → IoView) → Handling I → List Report → Type 0
-AreShown view all reports = (h : ℕ) → is_known all.table h ≡ true → IsShown (view all.io) h (bits_after h (io_at all.records h).ready reports)
+AreShown view all reports = (h : ℕ) → is_known all.table h ≡ true →
+    IsShown (view all.io) h (bits_after h (io_at all.records h).ready reports)
 
 -- What showed each handle shows it still, whatever is to be treated.
 abbrev pub KeepsBits : IoView → Kept → IoView → Kept → Type 0

@@ -6,14 +6,19 @@ use Rattle.ready_driver.proofs.Shown.{due-count, changed-shown}
 use Rattle.ready_driver.proofs.mem_io.MemIo.feed.Goals as goal
 
 pub invariant_of-self : goal.invariant_of-self
-invariant_of-self c = (c.self.invariant.0 ∙ sym (length-arrives _ _ c.self.inside.world c.args.h c.feed.new.self c.feed.result c.feed.ensures), c.self.invariant.1)
+invariant_of-self c =
+    let count = length-arrives _ _ c.self.inside.world c.args.h
+    c.feed.new.self c.feed.result c.feed.ensures in
+    (c.self.invariant.0 ∙ sym count, c.self.invariant.1)
 
 pub invariant_of-self-2 : goal.invariant_of-self-2
 invariant_of-self-2 c =
     let same = ap (λ (d : Duty). d.count) c.add.ensures ∙ due-count c.self.inside.due c.args.h in
     let room = c.self.invariant.1 in
     let now : length c.self.inside.keys.items ≤ c.add.new.self.count = omega (arith, same, room) in
-    (c.self.invariant.0 ∙ sym (length-arrives _ _ c.self.inside.world c.args.h c.feed.new.self c.feed.result c.feed.ensures), now)
+    let count = length-arrives _ _ c.self.inside.world c.args.h
+    c.feed.new.self c.feed.result c.feed.ensures in
+    (c.self.invariant.0 ∙ sym count, now)
 
 pub returns-clause-shown : goal.returns-clause-shown
 returns-clause-shown c =

@@ -13,7 +13,8 @@ loop-at-preserved c =
     let there : slice_get m.due c.loop-at.at ≡ Some h =
     ap (λ (x : Memory). slice_get x.due c.loop-at.at) (sym c.self.view_is) ∙ sym c.get.ensures ∙ c.in-Some.is in
     let step : drop c.loop-at.at m.due ≡ h ∷ drop (c.loop-at.at + 1) m.due =
-    drop-suc m.due c.loop-at.at h there ∙ ap (λ n. h ∷ drop n m.due) (let next : suc c.loop-at.at ≡ c.loop-at.at + 1 = omega arith in next) in
+    drop-suc m.due c.loop-at.at h there
+    ∙ ap (λ n. h ∷ drop n m.due) (let next : suc c.loop-at.at ≡ c.loop-at.at + 1 = omega arith in next) in
     let rest = reports_of m.world m.keys (drop (c.loop-at.at + 1) m.due) in
     ap (λ xs. xs ++ rest) c.in_ok-report.ensures.ok
     ∙ append_assoc c.loop-at.reports (report_of (slice_get m.keys h) (is_readable_at m.world h)) rest

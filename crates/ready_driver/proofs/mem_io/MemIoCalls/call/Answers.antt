@@ -54,7 +54,8 @@ invariant_of-self-in-WouldBlock g c =
     let same = ap length c.reserve_key.ensures.items in
     let room = c.self.invariant.1 in
     let more = c.reserve_key.ensures.count in
-    let count = ap (λ (d : Duty). d.count) c.add_names-in-WouldBlock.ensures ∙ each-count c.reserve_key.new.due (listed c.names-names.result) in
+    let count = ap (λ (d : Duty). d.count) c.add_names-in-WouldBlock.ensures
+    ∙ each-count c.reserve_key.new.due (listed c.names-names.result) in
     let fits : length c.reserve_key.new.keys.items ≤ c.add_names-in-WouldBlock.new.self.count = omega (arith, same, room, more, count) in
     (same ∙ c.self.invariant.0 ∙ ap length (sym c.in-WouldBlock.ensures.calls.1), fits)
 
