@@ -1,5 +1,5 @@
 -- An error that a poll of a driver returns has one of its causes.
-use Rattle.std.proofs.Common.{◌≡◌, inl, inr, ◌⊎◌, ℕ, suc, ◌≤◌, Bool, true, false, List, Option, None, Some, refl, sym, ◌∙◌, ap, subst, arith}
+use Rattle.std.proofs.Common.{◌≡◌, inl, inr, ◌⊎◌, ℕ, suc, ◌≤◌, Bool, true, false, List, Option, refl, sym, ◌∙◌, ap, subst, arith}
 use Rattle.std.specs.Prelude.{is_some, nat_le, ◌||◌}
 use Rattle.std.specs.FinMap.{get}
 use Rattle.rent_buf.specs.Counts.{Rose}
@@ -11,17 +11,12 @@ use Rattle.ring_core.specs.declared.request.Outcome.TheVariants.{Count, From, Ma
 use Rattle.ring_core.specs.declared.world.call.TheConstants.{INVALID}
 use Rattle.ring_core.specs.Effect.{made_by}
 use Rattle.driver_core.specs.declared.slot.Slot.{Slot}
-use Rattle.ready_driver.specs.Errors.{IsCompleted, IsCounted, IsCanceledWith, ErrorFor}
+use Rattle.ready_driver.specs.Errors.{IsCounted, IsCanceledWith, ErrorFor}
 use Rattle.ready_driver.specs.Io.{IoView}
 use Rattle.ready_driver.specs.LegacyPolls.{HandsOver, outcome_if, outcome_for}
-use Rattle.ready_driver.specs.Named.{IsOnlyCanceledLife, IsOnlyCanceled}
+use Rattle.ready_driver.specs.Named.{IsCompleted, IsOnlyCanceled}
 use Rattle.ready_driver.specs.Registry.{Handling, is_old, IsSameButRoom, LetsGo}
-
--- What is only completed by a cancel is completed with the error of one.
-completed-only : {B : Type 0} (slot : Option (Slot B)) (outcome : Outcome) → IsOnlyCanceled slot → IsCompleted slot outcome →
-    outcome ≡ Fail CANCELED
-completed-only None outcome only is = absurd is
-completed-only (Some slot) outcome only is = subst IsOnlyCanceledLife is only
+use Rattle.ready_driver.proofs.Naming.{completed-only}
 
 -- A count that rose and doesn't fall has risen.
 rose-later : (a b c : ℕ) → Rose a b → b ≤ c → Rose a c

@@ -6,7 +6,7 @@ use Rattle.rent_buf.specs.Buffer.{Buffer}
 use Rattle.rent_buf.specs.Parts.{Parts}
 use Rattle.op_slots.specs.Lifecycle.{polled}
 use Rattle.op_slots.specs.declared.lifecycle.Lifecycle.{Lifecycle}
-use Rattle.op_slots.specs.declared.lifecycle.Lifecycle.TheVariants.{Submitted, Waiting, Ignored, Completed}
+use Rattle.op_slots.specs.declared.lifecycle.Lifecycle.TheVariants.{Completed}
 use Rattle.ring_core.specs.declared.request.TheConstants.{CANCELED}
 use Rattle.ring_core.specs.declared.request.Outcome.{Outcome}
 use Rattle.ring_core.specs.declared.request.Outcome.TheVariants.{Count, From, Made, Fail}
@@ -26,9 +26,8 @@ use Rattle.driver_core.proofs.Counted.{flying-made}
 use Rattle.driver_core.proofs.Lists.{some}
 use Rattle.driver_core.proofs.Maps.{put-same, put-other, gone-same, gone-other, remove-put}
 use Rattle.driver_core.proofs.Numbers.{Owner, owner}
-use Rattle.ready_driver.specs.Errors.{IsCompleted}
 use Rattle.ready_driver.specs.Io.{CountsFor, EndsFor}
-use Rattle.ready_driver.specs.Named.{IsOnlyCanceledLife, IsOnlyCanceled, KeepsSlot, ReturnsSlot, canceled_if, canceled_in, canceled_slots}
+use Rattle.ready_driver.specs.Named.{IsCompleted, KeepsSlot, ReturnsSlot, canceled_if, canceled_in, canceled_slots}
 use Rattle.ready_driver.specs.Polling.{EndsSlot}
 use Rattle.ready_driver.proofs.Ended.{polled-flies}
 
@@ -46,11 +45,11 @@ ends-names r now (Made h) is = ap named is.1
 ends-names r now (Fail e) is = ap named is
 
 -- What is in flight isn't completed.
-flying-canceled : (life : Lifecycle Outcome) → is_flying life ≡ true → IsOnlyCanceledLife life
-flying-canceled Submitted flies = tt
-flying-canceled (Waiting task) flies = tt
-flying-canceled Ignored flies = tt
-flying-canceled (Completed outcome) flies = (let f : ⊥ = cc in absurd f)
+flying-open : (life : Lifecycle Outcome) (outcome : Outcome) → is_flying life ≡ true → life ≡ Completed outcome → ⊥
+flying-open life outcome flies is =
+    let f : ◌≡◌ {A = Bool} true false = sym flies ∙ ap is_flying is in
+    let g : ⊥ = cc in
+    g
 
 -- Only a request that makes handles made one.
 pub ends-makes : (r now : Request Buffer Parts) (outcome : Outcome) (h : ℕ) → EndsFor r now outcome → made_by outcome ≡ Some h →
@@ -135,9 +134,13 @@ module _ {B : Type 0} (old : FinMap nat_cmp (Slot B)) (key number : ℕ) (holds 
       names = ap named_in called-here ∙ called-names (ap named same);
       unmade = λ none. ap made_in called-here ∙ ap made_life (calls.life ∙ ap (λ s. s.life) slot-at)
           ∙ flying-made (polled mine.slot.life task) (polled-flies mine.slot.life task (polls mine.slot mine.there).0);
-      canceled = λ was. subst IsOnlyCanceled (sym called-here) (subst IsOnlyCanceledLife
-          (sym (calls.life ∙ ap (λ s. s.life) slot-at))
-          (flying-canceled (polled mine.slot.life task) (polled-flies mine.slot.life task (polls mine.slot mine.there).0)));
+      completed = λ outcome. (
+        λ now. absurd (flying-open (polled mine.slot.life task) outcome
+            (polled-flies mine.slot.life task (polls mine.slot mine.there).0)
+            (sym (calls.life ∙ ap (λ s. s.life) slot-at) ∙ subst (λ s. IsCompleted s outcome) called-here now)),
+        λ was. absurd (flying-open mine.slot.life outcome (polls mine.slot mine.there).0
+            (subst (λ s. IsCompleted s outcome) mine.there was)),
+      );
     }
 
     -- A call that was made, and the end of its operation.

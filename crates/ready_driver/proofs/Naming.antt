@@ -7,7 +7,7 @@ use Rattle.std.specs.FinMap.{FinMap, get, insert, empty, get-empty}
 use Rattle.handle_core.specs.declared.table.Holders.{Holders}
 use Rattle.handle_core.specs.Table.{Table, IsHeld, holders_at, by_user, nobody, with_holders}
 use Rattle.op_slots.specs.declared.lifecycle.Lifecycle.{Lifecycle}
-use Rattle.op_slots.specs.declared.lifecycle.Lifecycle.TheVariants.{Submitted, Completed}
+use Rattle.op_slots.specs.declared.lifecycle.Lifecycle.TheVariants.{Submitted, Waiting, Ignored, Completed}
 use Rattle.ring_core.specs.declared.request.TheConstants.{CANCELED}
 use Rattle.ring_core.specs.declared.request.Outcome.{Outcome}
 use Rattle.ring_core.specs.declared.request.Request.{Request}
@@ -33,7 +33,8 @@ use Rattle.driver_core.proofs.Maps.{put-same, put-other}
 use Rattle.driver_core.proofs.Placing.{moved-joined}
 use Rattle.driver_core.proofs.Passing.{number-none, number-some, number-kept, number-changed}
 use Rattle.ready_driver.specs.LegacyState.{holds_all}
-use Rattle.ready_driver.specs.Named.{IsOnlyCanceledLife, IsOnlyCanceled, KeepsSlot, canceled_if, canceled_in, canceled_slots, AreNaming}
+use Rattle.ready_driver.specs.Named.{IsOnlyCanceledLife, IsOnlyCanceled, IsCompleted, KeepsSlot, canceled_if, canceled_in, canceled_slots}
+use Rattle.ready_driver.specs.Named.{AreNaming}
 use Rattle.ready_driver.specs.Registry.{is_known, is_users}
 
 -- The test of a slot for a handle that its operation names.
@@ -109,10 +110,35 @@ naming-given table table' slots given h are new is =
     naming-room (with_holders table h by_user) table' slots given
     (naming-written table slots given h by_user are (sym (ap (λ x. x.operations) (unknown-nobody table h new)))) is
 
+-- What is only completed by a cancel is completed with the error of one.
+pub completed-only : {B : Type 0} (slot : Option (Slot B)) (outcome : Outcome) → IsOnlyCanceled slot → IsCompleted slot outcome →
+    outcome ≡ Fail CANCELED
+completed-only None outcome only is = absurd is
+completed-only (Some slot) outcome only is = subst IsOnlyCanceledLife is only
+
+-- What is completed with nothing else is only completed by a cancel.
+only-completed : {B : Type 0} (slot : Option (Slot B)) → ((outcome : Outcome) → IsCompleted slot outcome → outcome ≡ Fail CANCELED) →
+    IsOnlyCanceled slot
+only-completed None only = tt
+only-completed (Some slot) only = by slot.life refl
+  where
+    by : (life : Lifecycle Outcome) → slot.life ≡ life → IsOnlyCanceledLife slot.life
+    by Submitted is = subst IsOnlyCanceledLife (sym is) tt
+    by (Waiting task) is = subst IsOnlyCanceledLife (sym is) tt
+    by Ignored is = subst IsOnlyCanceledLife (sym is) tt
+    by (Completed outcome) is = subst IsOnlyCanceledLife (sym is) (only outcome is)
+
+-- An operation names what it named, made none if it had made none, and is only completed by a cancel if it was. All other slots stay.
+record KeepsNames {B : Type 0} (old : FinMap nat_cmp (Slot B)) (key : ℕ) (new : FinMap nat_cmp (Slot B)) : Type 0 where
+  pub others : (k : ℕ) → k ≢ key → get new k ≡ get old k
+  pub names : named_in (get new key) ≡ named_in (get old key)
+  pub unmade : made_in (get old key) ≡ None → made_in (get new key) ≡ None
+  pub canceled : IsOnlyCanceled (get old key) → IsOnlyCanceled (get new key)
+
 -- The operation at a key stays, and names what it named.
-pub naming-kept : {B : Type 0} (table : Table) (slots slots' : FinMap nat_cmp (Slot B)) (given key : ℕ) → AreNaming table slots given →
-    KeepsSlot slots key slots' → AreNaming table slots' given
-naming-kept {B} table slots slots' given key are keeps = record {
+naming-named : {B : Type 0} (table : Table) (slots slots' : FinMap nat_cmp (Slot B)) (given key : ℕ) → AreNaming table slots given →
+    KeepsNames slots key slots' → AreNaming table slots' given
+naming-named {B} table slots slots' given key are keeps = record {
   counted = λ h. number-kept (names_it {B = B} h) (are.counted h) (λ k. ap (has_number h) (same k));
   few = are.few;
   unmade = λ k. elim (same-or-not k key) [
@@ -131,11 +157,23 @@ naming-kept {B} table slots slots' given key are keeps = record {
       | inr e ↦ ap named_in (keeps.others k e)
     ]
 
+-- An operation that is polled, and stays.
+pub naming-kept : {B : Type 0} (table : Table) (slots slots' : FinMap nat_cmp (Slot B)) (given key : ℕ) → AreNaming table slots given →
+    KeepsSlot slots key slots' → AreNaming table slots' given
+naming-kept table slots slots' given key are keeps =
+    naming-named table slots slots' given key are (record {
+      others = keeps.others;
+      names = keeps.names;
+      unmade = keeps.unmade;
+      canceled = λ was. only-completed (get slots' key) (λ outcome is. completed-only (get slots key) outcome was
+          ((keeps.completed outcome).0 is));
+    })
+
 -- A slot whose operation's cancel is asked for keeps its names.
-canceled-keeps : {B : Type 0} (slots : FinMap nat_cmp (Slot B)) (key : ℕ) → KeepsSlot slots key (canceled_slots slots key)
+canceled-keeps : {B : Type 0} (slots : FinMap nat_cmp (Slot B)) (key : ℕ) → KeepsNames slots key (canceled_slots slots key)
 canceled-keeps {B} slots key = by (get slots key) refl
   where
-    flies : (b : Bool) (s : Slot B) → get slots key ≡ Some s → KeepsSlot slots key (canceled_if b slots key s)
+    flies : (b : Bool) (s : Slot B) → get slots key ≡ Some s → KeepsNames slots key (canceled_if b slots key s)
     flies true s there =
         let t : Slot B = with_life s (Completed (Fail CANCELED)) in
         record {
@@ -146,14 +184,14 @@ canceled-keeps {B} slots key = by (get slots key) refl
         }
     flies false s there = record { others = λ k e. refl; names = refl; unmade = λ none. none; canceled = λ was. was }
 
-    by : (x : Option (Slot B)) → get slots key ≡ x → KeepsSlot slots key (canceled_in slots key x)
+    by : (x : Option (Slot B)) → get slots key ≡ x → KeepsNames slots key (canceled_in slots key x)
     by None there = record { others = λ k e. refl; names = refl; unmade = λ none. none; canceled = λ was. was }
     by (Some s) there = flies (is_flying s.life) s there
 
 -- The cancel of an operation is asked for.
 pub naming-canceled : {B : Type 0} (table : Table) (slots : FinMap nat_cmp (Slot B)) (given key : ℕ) → AreNaming table slots given →
     AreNaming table (canceled_slots slots key) given
-naming-canceled table slots given key are = naming-kept table slots (canceled_slots slots key) given key are (canceled-keeps slots key)
+naming-canceled table slots given key are = naming-named table slots (canceled_slots slots key) given key are (canceled-keeps slots key)
 
 -- An operation that joins adds one hold at most.
 one-more : (b : Bool) → one_if b ≤ 1

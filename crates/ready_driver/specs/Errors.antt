@@ -1,10 +1,9 @@
 -- Why a poll returns an error, over every object. Cited by the polls of `LegacyDriver`, and by those that it stands on.
-use Rattle.std.specs.Prelude.{ℕ, suc, ◌≡◌, ◌⊎◌, true, Option, None, Some, Result, Ok, Err}
+use Rattle.std.specs.Prelude.{ℕ, suc, ◌≡◌, ◌⊎◌, true, Option, Result, Ok, Err}
 use Rattle.std.specs.FinMap as map
 use Rattle.rent_buf.specs.Counts.{Rose}
 use Rattle.rent_buf.specs.declared.fault.OutOfMemory.{OutOfMemory}
 use Rattle.handle_core.specs.Table.{Table}
-use Rattle.op_slots.specs.declared.lifecycle.Lifecycle.TheVariants.{Completed}
 use Rattle.ring_core.specs.declared.request.TheConstants.{CANCELED}
 use Rattle.ring_core.specs.declared.request.Outcome.{Outcome}
 use Rattle.ring_core.specs.declared.request.Outcome.TheVariants.{Count, From, Made, Fail}
@@ -15,12 +14,8 @@ use Rattle.driver_core.specs.declared.op.PollOp.TheVariants.{Pending, Ready}
 use Rattle.driver_core.specs.declared.slot.Slot.{Slot}
 use Rattle.ready_driver.specs.Io.{IoView, FailRose, made_after}
 use Rattle.ready_driver.specs.LegacyState.{LegacyState}
+use Rattle.ready_driver.specs.Named.{IsCompleted}
 use Rattle.ready_driver.specs.Registry.{is_old}
-
--- The operation of the slot that was looked up is completed with this outcome.
-abbrev pub IsCompleted : {B : Type 0} → Option (Slot B) → Outcome → Type 0
-IsCompleted None outcome = ⊥
-IsCompleted (Some slot) outcome = slot.life ≡ Completed outcome
 
 -- The object counted how a call ended: that it failed, or that it made a handle.
 pub record IsCounted (outcome : Outcome) (old new : IoView) : Type 0 where

@@ -1,5 +1,5 @@
 -- What calls of operations leave of their slots, and of the handles that they name. Cited by `polling`, and by the calls of a driver.
-use Rattle.std.specs.Prelude.{ℕ, ◌≡◌, ◌≢◌, ◌≤◌, Bool, true, false, Option, None, Some, Result, Ok, Err}
+use Rattle.std.specs.Prelude.{ℕ, ◌≡◌, ◌≢◌, ◌≤◌, ◌↔◌, Bool, true, false, Option, None, Some, Result, Ok, Err}
 use Rattle.std.specs.Ordering.{nat_cmp}
 use Rattle.std.specs.FinMap as map
 use Rattle.rent_buf.specs.declared.fault.OutOfMemory.{OutOfMemory}
@@ -33,13 +33,18 @@ abbrev pub IsOnlyCanceled : {B : Type 0} → Option (Slot B) → Type 0
 IsOnlyCanceled None = Unit {0}
 IsOnlyCanceled (Some slot) = IsOnlyCanceledLife slot.life
 
--- An operation that is polled names the handles that it named, made none if it had made none, and is completed with nothing but the error
--- of a cancel if it was. All other slots stay.
+-- The operation of the slot that was looked up is completed with this outcome.
+abbrev pub IsCompleted : {B : Type 0} → Option (Slot B) → Outcome → Type 0
+IsCompleted None outcome = ⊥
+IsCompleted (Some slot) outcome = slot.life ≡ Completed outcome
+
+-- An operation that is polled names the handles that it named, made none if it had made none, and is completed with an outcome exactly if it
+-- was before. All other slots stay.
 pub record KeepsSlot {B : Type 0} (old : map.FinMap nat_cmp (Slot B)) (key : ℕ) (new : map.FinMap nat_cmp (Slot B)) : Type 0 where
   pub others : (k : ℕ) → k ≢ key → map.get new k ≡ map.get old k
   pub names : named_in (map.get new key) ≡ named_in (map.get old key)
   pub unmade : made_in (map.get old key) ≡ None → made_in (map.get new key) ≡ None
-  pub canceled : IsOnlyCanceled (map.get old key) → IsOnlyCanceled (map.get new key)
+  pub completed : (outcome : Outcome) → IsCompleted (map.get new key) outcome ↔ IsCompleted (map.get old key) outcome
 
 -- An operation is returned: its slot is free, and its request names the handles that it named. It made a handle only if it was in flight
 -- and its request may make one. All other slots stay.

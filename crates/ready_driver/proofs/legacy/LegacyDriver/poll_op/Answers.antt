@@ -12,11 +12,11 @@ use Rattle.driver_core.specs.Op.{KeepsTokens, DropsToken}
 use Rattle.driver_core.specs.Slot.{number_at}
 use Rattle.driver_core.proofs.Placing.{in-slots-left}
 use Rattle.ready_driver.specs.Awaits.{IsWorldUnmet, LeavesByBits, PollsUnless, KeysFor, TokensFor}
-use Rattle.ready_driver.specs.Errors.{IsCompleted, IsCounted, ReturnsFor}
+use Rattle.ready_driver.specs.Errors.{IsCounted, ReturnsFor}
 use Rattle.ready_driver.specs.LegacyState.{LegacyState, Holds}
 use Rattle.ready_driver.specs.LegacyStep.{poll_slot}
 use Rattle.ready_driver.specs.Legacy.{slot_at}
-use Rattle.ready_driver.specs.Named.{AreNaming, PollsSlotFor, KeepsSlot, ReturnsSlot}
+use Rattle.ready_driver.specs.Named.{AreNaming, IsCompleted, PollsSlotFor, KeepsSlot, ReturnsSlot}
 use Rattle.ready_driver.specs.HandlesStand.{HandlesStand}
 use Rattle.ready_driver.specs.Polling.{PartsStand, PollsFor}
 use Rattle.ready_driver.specs.Turns.{AreReported}
