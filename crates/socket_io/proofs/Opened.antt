@@ -2,11 +2,12 @@
 use Rattle.std.proofs.Common.{◌≡◌, ◌∙◌, List, [], ◌∷◌, Some, None, cond, nat_eq, refl, sym, ap, option_map, subst, arith}
 use Rattle.std.proofs.Common.{arith}
 use Rattle.std.proofs.lemmas.Bool.Decides.{nat_tests}
-use Rattle.std.specs.Prelude.{ℕ, Bool, true, false, Option, is_some, IsSome, OnOk, Result, Ok, Err}
-use Rattle.std.specs.FinMap.{get, insert, remove, from_entries}
-use Rattle.std.specs.Map.{lookup}
+use Rattle.std.specs.Prelude.{ℕ, suc, length, Bool, true, false, Option, is_some, IsSome, OnOk, Result, Ok, Err}
+use Rattle.std.specs.FinMap.{get, insert, remove, len, from_entries}
+use Rattle.std.specs.Map.{lookup, keys_of}
+use Rattle.std.specs.List.{IsDistinct}
 use Rattle.std.specs.HashMap.{HashMap, get_by, Updates, WritesThrough}
-use Rattle.handle_core.proofs.Tables.{get-lookup, same-entries, inserted-entries, removed-entries}
+use Rattle.handle_core.proofs.Tables.{get-lookup, len-from_entries, same-entries, inserted-entries, removed-entries}
 use Rattle.ring_core.specs.declared.world.HandleKind.{HandleKind}
 use Rattle.socket_io.specs.declared.mio_io.socket.Socket.{Socket}
 use Rattle.socket_io.specs.SocketTable.{OpenSockets, kind_of, kinds_in, table_of, RefusesUnfit}
@@ -32,6 +33,16 @@ same-choice false x y same = refl
 tested-equal : (a b : ℕ) → nat_eq a b ≡ true → a ≡ b
 tested-equal a b tested = grind (arith, nat_tests)
 
+-- The kinds have the handles of the sockets.
+keys-kinds : (es : List (ℕ × Socket)) → keys_of (kinds_in es) ≡ keys_of es
+keys-kinds [] = refl
+keys-kinds (entry ∷ es) = ap (λ ks. entry.0 ∷ ks) (keys-kinds es)
+
+-- There are as many.
+kinds-many : (es : List (ℕ × Socket)) → length (kinds_in es) ≡ length es
+kinds-many [] = refl
+kinds-many (entry ∷ es) = ap suc (kinds-many es)
+
 -- A hash map of sockets, and the table that it shows.
 module _ {S : Type 0} (m : HashMap ℕ Socket S) (made room : ℕ) (table : OpenSockets) (is : table_of m.entries made room ≡ table) where
   -- The table has at a handle the kind of what the map has.
@@ -49,6 +60,13 @@ module _ {S : Type 0} (m : HashMap ℕ Socket S) (made room : ℕ) (table : Open
       by : (x : Option Socket) → is_some x ≡ is_some (option_map kind_of x)
       by (Some x) = refl
       by None = refl
+
+  -- It has as many entries as handles are open.
+  pub counted : IsDistinct nat_eq (keys_of m.entries) → length m.entries ≡ len table.kinds
+  counted apart =
+      sym (kinds-many m.entries)
+      ∙ sym (len-from_entries (kinds_in m.entries) (subst (IsDistinct nat_eq) (sym (keys-kinds m.entries)) apart))
+      ∙ ap (λ t. len t.kinds) is
 
   -- Entries with one more socket make the table with its kind.
   pub added : (n : HashMap ℕ Socket S) (h : ℕ) (socket : Socket) → Updates nat_eq m n h (Some socket) →

@@ -4,3 +4,6 @@
 pub mod mio_io;
 
 pub use mio_io::MioIo;
+
+#[cfg(test)]
+mod tests;

@@ -85,6 +85,13 @@ impl<R: Net> MioIo<R> {
         }
     }
 
+    /// How many handles are open. (not in monoio)
+    pub fn open_handles(&self) -> usize
+        ensures { result ≡ finite.len self.now.kinds }
+    {
+        self.table.len()
+    }
+
     // Accepts a connection on a listener, as a new handle.
     fn accept(&mut self, h: u64) -> CallAnswer
         ensures accepts { AcceptsFor self.old self.new result }
@@ -322,4 +329,4 @@ impl<R: Net + Drop> Sockets for MioIo<R> {
 }
 
 #[cfg(test)]
-mod tests;
+pub(crate) mod tests;

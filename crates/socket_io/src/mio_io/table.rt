@@ -52,6 +52,13 @@ impl Table {
         self.made
     }
 
+    /// How many sockets are open. (not in monoio)
+    pub fn len(&self) -> usize
+        ensures { result ≡ finite.len self.now.kinds }
+    {
+        self.open.len()
+    }
+
     /// Takes the memory of one more socket. It runs out also where `MOST_HANDLES` handles were made. (not in monoio)
     pub fn reserve_one(&mut self) -> Result<(), OutOfMemory>
         ensures made { self.new.made ≡ self.old.made }

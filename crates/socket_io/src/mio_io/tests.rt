@@ -1,7 +1,7 @@
 // Sockets of this machine, through the bound alone. Each test takes the first port that is free from one of its own on.
 use super::{MioIo, UNSUPPORTED};
 use driver_core::{CallAnswer, Calls};
-use ready_driver::{NonBlock, Report, Reports, Sockets};
+use ready_driver::{NonBlock, NonBlockError, Report, Reports, Sockets};
 use rent_buf::{IoBuf, IoBufMut, Rent, VecBuf};
 use ring_core::{INVALID, Outcome, Request, SharedFd};
 use std::test::Fail;
@@ -11,6 +11,9 @@ const TRIES: u16 = 100;
 
 // The error of a connection that its peer reset. (Linux: `ECONNRESET`)
 const RESET: u16 = 104;
+
+// The error of a connection that nobody accepts. (Linux: `ECONNREFUSED`)
+const REFUSED: u16 = 111;
 
 // What a wait of at most 50 milliseconds reports.
 fn reported<I: NonBlock>(rt: &HostRuntime, io: &mut I) -> Result<Reports, Fail> {
@@ -119,7 +122,7 @@ fn sends<I: NonBlock>(rt: &HostRuntime, io: &mut I, h: u64, text: &[u8]) -> Resu
 }
 
 // The first port that is free from this one on: the handle 0 listens there.
-fn listen<I: Sockets>(io: &mut I, first: u16) -> u16 {
+pub(crate) fn listen<I: Sockets>(io: &mut I, first: u16) -> u16 {
     for port in first..first.saturating_add(TRIES) {
         if io.listen(port).is_ok() {
             return port;
@@ -136,7 +139,7 @@ fn accepts<I: NonBlock>(rt: &HostRuntime, io: &mut I) -> Result<bool, Fail> {
 }
 
 // The handle 0 listens, 1 dials it, and 2 is the one that an accept makes. Each is registered with its number.
-fn connects<I: Sockets>(rt: &HostRuntime, io: &mut I, first: u16) -> Result<bool, Fail> {
+pub(crate) fn connects<I: Sockets>(rt: &HostRuntime, io: &mut I, first: u16) -> Result<bool, Fail> {
     let port = listen(io, first);
     io.register(0, 0)?;
     io.dial(port)?;
@@ -144,6 +147,17 @@ fn connects<I: Sockets>(rt: &HostRuntime, io: &mut I, first: u16) -> Result<bool
     let accepted = accepts(rt, io)?;
     io.register(2, 2)?;
     Ok(accepted)
+}
+
+// A dial is refused: as a whole, or by the error of the first read.
+fn refuses_dial<I: Sockets>(rt: &HostRuntime, io: &mut I, port: u16) -> Result<bool, Fail> {
+    match io.dial(port) {
+        Ok(h) => {
+            io.register(h, 1)?;
+            fails(rt, io, h, REFUSED)
+        }
+        Err(why) => Ok(why == NonBlockError::Fault),
+    }
 }
 
 // A handle is closed.
@@ -160,6 +174,19 @@ fn refuses<I: NonBlock>(io: &mut I, mut request: Request<Rent, VecBuf>, error: u
 fn accepts_none<I: NonBlock>(io: &mut I, fd: SharedFd) -> bool {
     let mut request: Request<Rent, VecBuf> = Request::Accept { fd };
     matches!(io.call(&mut request), CallAnswer::WouldBlock)
+}
+
+// Opens so many sockets at once, each on a port that the system chooses, and closes them. It answers whether all were opened.
+pub(crate) fn opens<I: Sockets>(io: &mut I, count: u64) -> bool {
+    let first = io.count();
+    for _ in 0..count {
+        let _ = io.listen(0);
+    }
+    let end = io.count();
+    for h in first..end {
+        let _ = io.close(h);
+    }
+    end.saturating_sub(first) == count
 }
 
 #[test]
@@ -206,5 +233,26 @@ fn nothing_is_there(rt: HostRuntime) -> Result<(), Fail> {
     assert!(rt; refuses(&mut io, read(&rt, 7)?, INVALID));
     assert!(rt; refuses(&mut io, Request::Connect { fd, addr: 0 }, UNSUPPORTED));
     assert!(rt; !io.is_file(0));
+    Ok(())
+}
+
+// A dial of a port where nobody listens is a fault, or a read of its handle fails. The system chooses no such port for the handle itself.
+#[test]
+fn a_dial_is_refused(rt: HostRuntime) -> Result<(), Fail> {
+    let mut io = MioIo::new(&rt, rt.alloc());
+    let port = listen(&mut io, 20017);
+    assert!(rt; closes(&mut io, 0));
+    assert!(rt; refuses_dial(&rt, &mut io, port)?);
+    Ok(())
+}
+
+// More sockets are opened in all than a process may have open at once, where that is fewer than 25,000.
+#[test]
+fn closed_sockets_make_room(rt: HostRuntime) -> Result<(), Fail> {
+    let mut io = MioIo::new(&rt, rt.alloc());
+    for _ in 0..250 {
+        assert!(rt; opens(&mut io, 100));
+    }
+    assert!(rt; io.open_handles() == 0);
     Ok(())
 }

@@ -1,0 +1,204 @@
+// A driver over sockets, with the tokens of two operations.
+ghost use Rattle.std.specs.Prelude.{◌≡◌, IfOk};
+ghost use Rattle.ready_driver.specs.LegacyState.{Holds};
+
+use crate::mio_io::MioIo;
+use crate::tests::stage::{Asked, Stage, Why};
+use driver_core::{Done, Driver, MOST_GIVEN, Op, PollOp, Submitted};
+use handle_core::{Released, SharedFd};
+use ready_driver::{LegacyDriver, NonBlock};
+use rent_buf::Rent;
+use ring_core::MOST_HANDLES;
+use std::alloc::Global;
+use std::net::Net;
+use std::sync::Wait;
+use std::sync::ledger::Ledger;
+use std::time::Clock;
+use wake_core::Sleeper;
+
+/// An object that tells how many sockets are open.
+pub(crate) trait Opens {
+    /// How many sockets are open.
+    fn opened(&self) -> usize;
+}
+
+impl<R: Net> Opens for MioIo<R> {
+    fn opened(&self) -> usize {
+        self.open_handles()
+    }
+}
+
+/// A driver, the tokens of its operations by place, and the sleeper that its parks are lent.
+pub(crate) struct Bench<'a, I: NonBlock, P: Ledger, D: Ledger, T> {
+    driver: LegacyDriver<I, Rent>,
+    ops: Vec<Option<Op>>,
+    sleeper: &'a mut Sleeper<P, D>,
+    rt: &'a T,
+}
+
+// Drops a token alone.
+fn forget(token: Option<Op>) {
+    match token {
+        Some(op) => op.forget(),
+        None => {}
+    }
+}
+
+impl<'a, I: NonBlock, P: Ledger, D: Ledger, T> Drop for Bench<'a, I, P, D, T> {
+    fn drop(self) {
+        let Bench {
+            driver: _,
+            mut ops,
+            sleeper: _,
+            rt: _,
+        } = self;
+        while let Some(token) = ops.pop() {
+            forget(token);
+        }
+        ops.destroy_empty();
+    }
+}
+
+// The driver takes a request: its token, or nothing where it came back.
+fn submitted<I: NonBlock>(driver: &mut LegacyDriver<I, Rent>, request: Asked) -> Result<Op, Why> {
+    if !driver.holds_names(request.names()) || driver.given() >= MOST_GIVEN {
+        return Err(Why::Unmet);
+    }
+    match driver.submit_with(request, None) {
+        Ok(submitted) => token_of(submitted),
+        Err(_) => Err(Why::Unlike),
+    }
+}
+
+// The token of a submission.
+fn token_of(submitted: Submitted<Rent>) -> Result<Op, Why> {
+    match submitted {
+        Submitted::Op(op) => Ok(op),
+        Submitted::Canceled(_) => Err(Why::Unlike),
+    }
+}
+
+// What a poll gives back: the token, or how the operation ended.
+enum Polled {
+    Token(Op),
+    Done(Done<Rent>),
+}
+
+// A poll of an operation that the driver holds.
+fn poll_once<I: NonBlock>(driver: &mut LegacyDriver<I, Rent>, op: Op, task: u64) -> Polled
+    requires { Holds driver.old op }
+{
+    match driver.poll_op(op, task) {
+        Ok(PollOp::Ready(done)) => Polled::Done(done),
+        Ok(PollOp::Pending(op)) => Polled::Token(op),
+        Err((_, op)) => Polled::Token(op),
+    }
+}
+
+impl<'a, I: NonBlock, P: Ledger, D: Ledger, T> Bench<'a, I, P, D, T> {
+    /// A bench of a driver that has no operations.
+    pub(crate) fn new(
+        alloc: Global,
+        io: I,
+        sleeper: &'a mut Sleeper<P, D>,
+        rt: &'a T,
+    ) -> Result<Bench<'a, I, P, D, T>, Why> {
+        let mut ops = Vec::new(alloc);
+        if ops.reserve(2).is_err() {
+            ops.destroy_empty();
+            return Err(Why::OutOfMemory);
+        }
+        ops.push_reserved(None);
+        ops.push_reserved(None);
+        let driver = LegacyDriver::over(alloc, io);
+        Ok(Bench {
+            driver,
+            ops,
+            sleeper,
+            rt,
+        })
+    }
+
+    // Takes the token of an operation that the driver holds.
+    fn take(&mut self, place: usize) -> Result<Op, Why>
+        ensures { IfOk result (λ op. Holds self.new.driver op) }
+    {
+        if place >= self.ops.len() {
+            return Err(Why::Unmet);
+        }
+        let Some(op) = self.ops[place].take() else {
+            return Err(Why::Unmet);
+        };
+        if self.driver.holds(&op) {
+            return Ok(op);
+        }
+        op.forget();
+        Err(Why::Unmet)
+    }
+
+    // Puts the token of an operation at a place.
+    fn put(&mut self, place: usize, op: Op) {
+        if place >= self.ops.len() {
+            op.forget();
+            return;
+        }
+        forget(self.ops[place].replace(op));
+    }
+}
+
+impl<'a, I: NonBlock + Opens, P: Ledger, D: Ledger, T: Wait + Clock> Stage
+    for Bench<'a, I, P, D, T> {
+    fn adopt(&mut self, h: u64) -> Result<(), Why> {
+        if h >= MOST_HANDLES || self.driver.known(h) {
+            return Err(Why::Unmet);
+        }
+        self.driver.adopt(h)?;
+        Ok(())
+    }
+
+    fn submit(&mut self, place: usize, request: Asked) -> Result<(), Why> {
+        let op = submitted(&mut self.driver, request)?;
+        self.put(place, op);
+        Ok(())
+    }
+
+    fn poll(&mut self, place: usize) -> Result<Option<Done<Rent>>, Why> {
+        let op = self.take(place)?;
+        match poll_once(&mut self.driver, op, place as u64) {
+            Polled::Token(op) => {
+                self.put(place, op);
+                Ok(None)
+            }
+            Polled::Done(done) => Ok(Some(done)),
+        }
+    }
+
+    fn cancel(&mut self, place: usize) -> Result<(), Why> {
+        let op = self.take(place)?;
+        let asked = self.driver.cancel_op(&op);
+        self.put(place, op);
+        Ok(asked?)
+    }
+
+    fn release(&mut self, h: u64) -> Result<(), Why> {
+        if !self.driver.user_holds(h) {
+            return Err(Why::Unmet);
+        }
+        match self.driver.release(SharedFd::new(h)) {
+            Released::Last => Ok(()),
+            Released::Held => Err(Why::Unlike),
+        }
+    }
+
+    fn park(&mut self) -> Result<(), Why> {
+        let parked = self.driver.park_timeout(self.rt, self.sleeper, 1);
+        match parked.turned.stop {
+            None => Ok(()),
+            Some(_) => Err(Why::Unlike),
+        }
+    }
+
+    fn left(&self) -> (usize, usize) {
+        (self.driver.num_operations(), self.driver.io().opened())
+    }
+}

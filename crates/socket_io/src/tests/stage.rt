@@ -1,0 +1,115 @@
+// What tests do with a driver over sockets: each call here makes one call of the driver. An operation is named by its place, 0 or 1.
+use driver_core::Done;
+use rent_buf::{OutOfMemory, Rent, VecBuf};
+use ring_core::{Outcome, Request, SharedFd};
+use thiserror::Error;
+
+/// A request with a buffer of a stated total.
+pub(crate) type Asked = Request<Rent, VecBuf>;
+
+/// Why a test can't go on.
+#[derive(Clone, Copy, Debug, PartialEq, Eq, Error)]
+pub(crate) enum Why {
+    /// Memory ran out.
+    #[error("OutOfMemory")]
+    OutOfMemory,
+    /// The condition of a call isn't met.
+    #[error("Unmet")]
+    Unmet,
+    /// What a call answered isn't what it answers in a test.
+    #[error("Unlike")]
+    Unlike,
+}
+
+impl From<OutOfMemory> for Why {
+    fn from(_: OutOfMemory) -> Why {
+        Why::OutOfMemory
+    }
+}
+
+/// A driver over sockets, with the tokens of its operations.
+pub(crate) trait Stage {
+    /// The user holds a handle that isn't known.
+    fn adopt(&mut self, h: u64) -> Result<(), Why>;
+
+    /// Submits a request, whose token is kept at a place.
+    fn submit(&mut self, place: usize, request: Asked) -> Result<(), Why>;
+
+    /// Polls the operation at a place, for the task of that number. None: it is pending.
+    fn poll(&mut self, place: usize) -> Result<Option<Done<Rent>>, Why>;
+
+    /// Asks for the cancel of the operation at a place.
+    fn cancel(&mut self, place: usize) -> Result<(), Why>;
+
+    /// The user drops its only hold of a handle.
+    fn release(&mut self, h: u64) -> Result<(), Why>;
+
+    /// A park with a limit of a millisecond. Its turn doesn't stop.
+    fn park(&mut self) -> Result<(), Why>;
+
+    /// How many operations are live, and how many sockets are open.
+    fn left(&self) -> (usize, usize);
+}
+
+/// An answer is like the one that a test expects.
+pub(crate) fn is_like(like: bool) -> Result<(), Why> {
+    if like { Ok(()) } else { Err(Why::Unlike) }
+}
+
+// How many parks at most come before an operation is done.
+const TRIES: u32 = 20000;
+
+/// The operation at a place is done, after some parks.
+pub(crate) fn finish<S: Stage>(stage: &mut S, place: usize) -> Result<Done<Rent>, Why> {
+    for _ in 0..TRIES {
+        if let Some(done) = stage.poll(place)? {
+            return Ok(done);
+        }
+        stage.park()?;
+    }
+    Err(Why::Unlike)
+}
+
+/// A request is submitted and done, after some parks.
+pub(crate) fn run<S: Stage>(stage: &mut S, request: Asked) -> Result<Done<Rent>, Why> {
+    stage.submit(0, request)?;
+    finish(stage, 0)
+}
+
+/// A request is submitted at a place, and is pending.
+pub(crate) fn pends<S: Stage>(stage: &mut S, place: usize, request: Asked) -> Result<(), Why> {
+    stage.submit(place, request)?;
+    is_like(stage.poll(place)?.is_none())
+}
+
+/// A send of all bytes of a buffer.
+pub(crate) fn send(h: u64, buf: Rent) -> Asked {
+    let fd = SharedFd::new(h);
+    Request::Send { fd, buf }
+}
+
+/// A receive into a buffer, whose bytes are removed before.
+pub(crate) fn receive(h: u64, mut buf: Rent) -> Asked {
+    let fd = SharedFd::new(h);
+    buf.clear();
+    Request::Recv { fd, buf }
+}
+
+/// The buffer of an operation that moved so many bytes.
+pub(crate) fn moved(done: Done<Rent>, count: u32) -> Result<Rent, Why> {
+    is_like(done.outcome == Outcome::Count(count))?;
+    let Done {
+        outcome: _,
+        request,
+    } = done;
+    match request {
+        Request::Recv { fd: _, buf } => Ok(buf),
+        Request::Send { fd: _, buf } => Ok(buf),
+        _ => Err(Why::Unlike),
+    }
+}
+
+/// An operation ended with this error.
+pub(crate) fn failed(done: Done<Rent>, error: u16) -> Result<(), Why> {
+    is_like(done.outcome == Outcome::Fail(error))
+}
