@@ -1,6 +1,7 @@
 -- The replies and the session along a run.
 use Rattle.std.proofs.Common.{◌≡◌, ◌<◌, ◌≤◌, ℕ, zero, suc, List, [], ◌∷◌, ◌++◌, length, get_or, take, drop, Option, Some, None, refl, sym}
 use Rattle.std.proofs.Common.{◌∙◌, ap, append_assoc, subst, arith}
+use Rattle.std.proofs.lemmas.List.{append-nil, drop_all, take_all}
 use Rattle.std.specs.Prelude.{slice_get}
 use Rattle.ring_core.specs.declared.ledger.Event.{Event}
 use Rattle.ring_core.specs.declared.ledger.Event.TheVariants.{Poll}
@@ -58,36 +59,17 @@ replies-one_more L events k n event before now all reply next there is joined so
     ∙ ap (λ rest. before ++ spelled_replies M rest) (sym (drop-suc events k event there))
     ∙ so_far
 
--- Past the end nothing is left.
-drop-past : {A : Type 0} (xs : List A) (k : ℕ) → length xs ≤ k → drop k xs ≡ []
-drop-past [] zero past = refl
-drop-past [] (suc k) past = refl
-drop-past (x ∷ xs) zero past = absurd (omega arith)
-drop-past (x ∷ xs) (suc k) past = drop-past xs k (omega arith)
-
--- So all were taken.
-take-past : {A : Type 0} (xs : List A) (k : ℕ) → length xs ≤ k → take k xs ≡ xs
-take-past [] zero past = refl
-take-past [] (suc k) past = refl
-take-past (x ∷ xs) zero past = absurd (omega arith)
-take-past (x ∷ xs) (suc k) past = ap (λ ys. x ∷ ys) (take-past xs k (omega arith))
-
--- Nothing joined to a list is that list.
-append-none : {A : Type 0} (xs : List A) → xs ++ [] ≡ xs
-append-none [] = refl
-append-none (x ∷ xs) = ap (λ ys. x ∷ ys) (append-none xs)
-
 -- Where no event is left, the replies so far are the replies to all.
 pub replies-done : (L : Ledger) (events : List Event) (k : ℕ) (now all : List Reply) → length events ≤ k →
     now ++ spelled_replies (spelled_after L (take k events)) (drop k events) ≡ all → now ≡ all
 replies-done L events k now all past so_far =
-    sym (append-none now) ∙ ap (λ rest. now ++ spelled_replies (spelled_after L (take k events)) rest) (sym (drop-past events k past))
+    sym (append-nil now) ∙ ap (λ rest. now ++ spelled_replies (spelled_after L (take k events)) rest) (sym (drop_all k events past))
     ∙ so_far
 
 -- And the ledger is the one after all.
 pub ledger-done : (L : Ledger) (events : List Event) (k : ℕ) → length events ≤ k →
     spelled_after L (take k events) ≡ spelled_after L events
-ledger-done L events k past = ap (spelled_after L) (take-past events k past)
+ledger-done L events k past = ap (spelled_after L) (take_all k events past)
 
 -- There are as many replies as events.
 pub one-reply-each : (L : Ledger) (events : List Event) → length (spelled_replies L events) ≡ length events
