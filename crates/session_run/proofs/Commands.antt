@@ -3,9 +3,9 @@ use Rattle.std.proofs.Common.{◌≡◌, ◌≤◌, ◌<◌, ℕ, List, [], ◌�
 use Rattle.std.specs.Prelude.{◌^◌, codes, decimal, option_map}
 use Rattle.session_run.specs.declared.command.TheConstants.{MOST_CAPACITY, MOST_ENTRIES}
 use Rattle.session_run.specs.declared.command.Command.{Command}
-use Rattle.session_run.specs.declared.command.Command.TheVariants.{Run, Generate, Wake, Copy}
-use Rattle.session_run.specs.Command.{IsRun, IsWake, IsGenerate, IsCopy, IsCopyOf, IsCapacity, IsNoCommand, ReadsUpTo, ReadsCommand}
-use Rattle.session_run.specs.Command.{KeepsNothing, ReadsNothing}
+use Rattle.session_run.specs.declared.command.Command.TheVariants.{Run, Ready, Generate, Wake, Copy}
+use Rattle.session_run.specs.Command.{IsRun, IsReady, IsWake, IsGenerate, IsCopy, IsCopyOf, IsCapacity, IsNoCommand, ReadsUpTo}
+use Rattle.session_run.specs.Command.{KeepsNothing, ReadsCommand, ReadsNothing}
 use Rattle.event_text.specs.TextReads.{number_of, bytes_of}
 use Rattle.event_text.specs.TextWords.{bytes_word}
 use Rattle.event_text.proofs.TextHex.{bytes_of-Some, bytes_of-bytes_word}
@@ -77,6 +77,10 @@ copy-words : (name first second : List ℕ) (capacity : ℕ) (prefix : List ℕ)
 copy-words name first second capacity prefix is =
     let all : name ∷ first ∷ second ∷ [] ≡ codes "copy" ∷ decimal capacity ∷ bytes_word prefix ∷ [] = is.words_are in (cc, cc, cc)
 
+-- More words than one are no `ready`.
+pub many-no-ready : (name second : List ℕ) (more : List (List ℕ)) → IsReady (name ∷ second ∷ more) → ⊥
+many-no-ready name second more is = (let all : name ∷ second ∷ more ≡ codes "ready" ∷ [] = is in cc)
+
 -- The words `copy` and `wake` differ.
 copy-isnt-wake : codes "copy" ≡ codes "wake" → ⊥
 copy-isnt-wake same = (let first : ◌≡◌ {A = ℕ} 99 119 = ap (λ xs. get_or xs 0 0) same in absurd (omega arith))
@@ -87,6 +91,7 @@ copy-or-none : (first second : List ℕ) →
     IsNoCommand (codes "copy" ∷ first ∷ second ∷ [])
 copy-or-none first second none = record {
   no_run = three-no-run (codes "copy") first second;
+  no_ready = many-no-ready (codes "copy") first (second ∷ []);
   no_generate = λ seed rounds is. (let never : codes "copy" ≡ codes "gen" = generate-name (codes "copy") first second seed rounds is in cc);
   no_wake = λ senders count is. copy-isnt-wake (wake-name (codes "copy") first second senders count is);
   no_copy = none;
@@ -131,6 +136,12 @@ copy-read first second n count (Some bytes) reads some writes counted =
         words_are = ap (λ x. codes "copy" ∷ x ∷ second ∷ []) reads.1 ∙ ap (λ x. codes "copy" ∷ decimal n ∷ x ∷ []) word.0;
       };
     }
+
+-- A list of one is its element.
+pub one-word : {A : Type 0} (xs : List A) (x : A) → 1 ≤ length xs → length xs < 2 → x ≡ get_or xs 0 x → xs ≡ x ∷ []
+one-word [] x some few first = absurd (omega (arith, some))
+one-word (a ∷ []) x some few first = ap (λ z. z ∷ []) (sym first)
+one-word (a ∷ b ∷ xs) x some few first = absurd (omega (arith, few))
 
 -- A list of two is its two elements.
 pub two-words : {A : Type 0} (xs : List A) (x y : A) → 2 ≤ length xs → length xs < 3 → x ≡ get_or xs 0 x → y ≡ get_or xs 1 y →
@@ -183,6 +194,23 @@ not-wake-generate words senders count seed rounds wake gen =
     (let all : codes "wake" ∷ decimal senders ∷ decimal count ∷ [] ≡ codes "gen" ∷ decimal seed ∷ decimal rounds ∷ [] =
     sym wake.words_are ∙ gen.words_are in cc)
 
+-- Words don't ask for `ready` and another command.
+pub not-run-ready : (words : List (List ℕ)) (capacity : ℕ) → IsRun words capacity → IsReady words → ⊥
+not-run-ready words capacity run ready =
+    (let all : codes "run" ∷ decimal capacity ∷ [] ≡ codes "ready" ∷ [] = sym run.words_are ∙ ready in cc)
+
+pub not-generate-ready : (words : List (List ℕ)) (seed rounds : ℕ) → IsGenerate words seed rounds → IsReady words → ⊥
+not-generate-ready words seed rounds gen ready =
+    (let all : codes "gen" ∷ decimal seed ∷ decimal rounds ∷ [] ≡ codes "ready" ∷ [] = sym gen.words_are ∙ ready in cc)
+
+pub not-wake-ready : (words : List (List ℕ)) (senders count : ℕ) → IsWake words senders count → IsReady words → ⊥
+not-wake-ready words senders count wake ready =
+    (let all : codes "wake" ∷ decimal senders ∷ decimal count ∷ [] ≡ codes "ready" ∷ [] = sym wake.words_are ∙ ready in cc)
+
+pub not-copy-ready : (words : List (List ℕ)) (capacity : ℕ) (prefix : List ℕ) → IsCopy words capacity prefix → IsReady words → ⊥
+not-copy-ready words capacity prefix copy ready =
+    (let all : codes "copy" ∷ decimal capacity ∷ bytes_word prefix ∷ [] ≡ codes "ready" ∷ [] = sym copy.words_are ∙ ready in cc)
+
 -- Words don't ask for both `run` and `copy`.
 pub not-run-copy : (words : List (List ℕ)) (capacity other : ℕ) (prefix : List ℕ) → IsRun words capacity → IsCopy words other prefix → ⊥
 not-run-copy words capacity other prefix run copy =
@@ -219,6 +247,7 @@ same-prefix words capacity other word prefix of is =
 pub reads-nothing : (words : List (List ℕ)) (command : Command) (senders count : ℕ) → ReadsCommand words (Some command) →
     IsWake words senders count → ReadsNothing command
 reads-nothing words (Run capacity) senders count reads wake = absurd (not-both words capacity senders count reads wake)
+reads-nothing words Ready senders count reads wake = absurd (not-wake-ready words senders count wake reads)
 reads-nothing words (Generate seed rounds) senders count reads wake = tt
 reads-nothing words (Wake s c) senders count reads wake = tt
 reads-nothing words (Copy c word) senders count reads wake = absurd (not-wake-copy words senders count c reads.prefix wake reads.is_copy)
@@ -227,6 +256,7 @@ reads-nothing words (Copy c word) senders count reads wake = absurd (not-wake-co
 pub generate-nothing : (words : List (List ℕ)) (command : Command) (seed rounds : ℕ) → ReadsCommand words (Some command) →
     IsGenerate words seed rounds → ReadsNothing command
 generate-nothing words (Run capacity) seed rounds reads gen = absurd (not-run-generate words capacity seed rounds reads gen)
+generate-nothing words Ready seed rounds reads gen = absurd (not-generate-ready words seed rounds gen reads)
 generate-nothing words (Generate s c) seed rounds reads gen = tt
 generate-nothing words (Wake s c) seed rounds reads gen = tt
 generate-nothing words (Copy c word) seed rounds reads gen = absurd (not-generate-copy words seed rounds c reads.prefix gen reads.is_copy)
@@ -235,6 +265,7 @@ generate-nothing words (Copy c word) seed rounds reads gen = absurd (not-generat
 pub wake-keeps : (words : List (List ℕ)) (command : Command) (senders count : ℕ) → ReadsCommand words (Some command) →
     IsWake words senders count → KeepsNothing command
 wake-keeps words (Run capacity) senders count reads wake = absurd (not-both words capacity senders count reads wake)
+wake-keeps words Ready senders count reads wake = absurd (not-wake-ready words senders count wake reads)
 wake-keeps words (Generate seed rounds) senders count reads wake = absurd (not-wake-generate words senders count seed rounds wake reads)
 wake-keeps words (Wake s c) senders count reads wake = tt
 wake-keeps words (Copy c word) senders count reads wake = tt
@@ -243,6 +274,7 @@ wake-keeps words (Copy c word) senders count reads wake = tt
 pub copy-keeps : (words : List (List ℕ)) (command : Command) (capacity : ℕ) (prefix : List ℕ) → ReadsCommand words (Some command) →
     IsCopy words capacity prefix → KeepsNothing command
 copy-keeps words (Run c) capacity prefix reads copy = absurd (not-run-copy words c capacity prefix reads copy)
+copy-keeps words Ready capacity prefix reads copy = absurd (not-copy-ready words capacity prefix copy reads)
 copy-keeps words (Generate s r) capacity prefix reads copy = absurd (not-generate-copy words s r capacity prefix reads copy)
 copy-keeps words (Wake s c) capacity prefix reads copy = tt
 copy-keeps words (Copy c word) capacity prefix reads copy = tt

@@ -4,10 +4,15 @@ use Rattle.std.proofs.Common.{length-append, arith}
 use Rattle.std.specs.List.{AllZip}
 use Rattle.ring_core.specs.declared.ledger.Event.{Event}
 use Rattle.session_run.specs.declared.input.NoEvents.{NoEvents}
-use Rattle.event_text.specs.TextEvent.{StandsFor}
-use Rattle.event_text.specs.TextLines.{lines, AreEvents, IsFirstWrong}
-use Rattle.session_run.specs.Top.{TookFew, WasRead, IsBadLine, half_read, all_right}
-use Rattle.session_run.specs.Ends.{IsAll, ReadShort, Took, WhyStopped, WhyUnread}
+use Rattle.ring_core.specs.declared.ledger.Event.TheVariants.{Give, Feed, FeedMessage, End, Look, Close, Submit, Poll, Drop, Cancel}
+use Rattle.ring_core.specs.declared.ledger.Event.TheVariants.{NewCanceller, NewHandle, CancelAll, Turn, Exec}
+use Rattle.ready_driver.specs.Readiness.{IsDriven}
+use Rattle.event_text.specs.TextEvent.{IsExternal}
+use Rattle.event_text.specs.TextLines.{lines, AreEventsFor, IsFirstWrongFor}
+use Rattle.session_run.specs.DriverKind.{DriverKind, StandsOn, TakesAll, completion, readiness}
+use Rattle.session_run.specs.Top.{TookFew, WasRead, IsBadLine, NoLineWrong, unread, half_read, all_right}
+use Rattle.session_run.specs.Reads.{IsAll, ReadShort, WhyNoEvents, WhyStopped, WhyUnread}
+use Rattle.rent_io.specs.Call.{Took}
 use Rattle.event_text.proofs.TextCuts.{drop-whole}
 use Rattle.rent_io.proofs.Runs.{rose_later}
 
@@ -33,16 +38,17 @@ taken-behind text left rest all before n is took joined = (
 )
 
 -- Why a later read stopped is why not all was read.
-pub unread-later : (tells : Bool) (text left rest all : List ℕ) (before f g h : ℕ) (why : NoEvents) → before ≡ length text → f ≤ g →
+pub unread-later : (driver : DriverKind) (tells : Bool) (text left rest all : List ℕ) (before f g h : ℕ) (why : NoEvents) →
+    before ≡ length text → f ≤ g →
     (IsTrue tells → g ≡ f) → (IsTrue tells → text ++ left ≡ all) →
-    WhyStopped tells before left rest g h why → WhyUnread tells all rest f h why
-unread-later tells text left rest all before f g h (NoEvents.BadLine n) is order calm joined why = why
-unread-later tells text left rest all before f g h NoEvents.TooLong is order calm joined why = λ told.
+    WhyStopped tells before left rest g h why → WhyUnread driver tells all rest f h why
+unread-later driver tells text left rest all before f g h (NoEvents.BadLine n) is order calm joined why = why
+unread-later driver tells text left rest all before f g h NoEvents.TooLong is order calm joined why = λ told.
     let stopped = why told in
     let took = taken-behind text left rest all before stopped.0 is stopped.2 (joined told) in
     record { count = before + stopped.0; many = stopped.1; there = took.0; taken = took.1 }
-unread-later tells text left rest all before f g h NoEvents.Fault is order calm joined why = rose_later f g h order why
-unread-later tells text left rest all before f g h NoEvents.OutOfMemory is order calm joined why = λ told.
+unread-later driver tells text left rest all before f g h NoEvents.Fault is order calm joined why = rose_later f g h order why
+unread-later driver tells text left rest all before f g h NoEvents.OutOfMemory is order calm joined why = λ told.
     let stopped = why told in
     let took = taken-behind text left rest all before stopped.0 is stopped.3 (joined told) in
     record {
@@ -50,6 +56,14 @@ unread-later tells text left rest all before f g h NoEvents.OutOfMemory is order
       lines = half_read (record { count = before + stopped.0; many = stopped.2; there = took.0; taken = took.1 });
       calm = stopped.4 ∙ calm told;
     }
+
+-- Why a source gave no bytes is why it gave no events.
+pub unread-events : (driver : DriverKind) (tells : Bool) (left rest : List ℕ) (faults later : ℕ) (why : NoEvents) →
+    WhyUnread driver tells left rest faults later why → WhyNoEvents driver tells left rest faults later why
+unread-events driver tells left rest faults later (NoEvents.BadLine n) why = absurd why
+unread-events driver tells left rest faults later NoEvents.TooLong why = why
+unread-events driver tells left rest faults later NoEvents.Fault why = why
+unread-events driver tells left rest faults later NoEvents.OutOfMemory why = why
 
 -- What was read whole is no more than the input may have.
 pub few-all : (left rest text : List ℕ) → IsAll left rest text → TookFew left rest
@@ -60,33 +74,73 @@ few-all left rest text all = record {
 }
 
 -- So is what was read as events.
-pub few-read : (left rest : List ℕ) (events : List Event) → WasRead left rest events → TookFew left rest
-few-read left rest events read = record { count = length left; few = read.within; taken = read.to_its_end ∙ sym (drop-whole left) }
+pub few-read : (driver : DriverKind) (left rest : List ℕ) (events : List Event) → WasRead driver left rest events → TookFew left rest
+few-read driver left rest events read = record { count = length left; few = read.within; taken = read.to_its_end ∙ sym (drop-whole left) }
 
 -- An input whose lines stand for events was read as those.
-pub was-read : (left rest text seen : List ℕ) (events : List Event) → IsAll left rest text → seen ≡ text →
-    AllZip StandsFor (lines seen) events → WasRead left rest events
-was-read left rest text seen events all same stand = record {
+pub was-read : (driver : DriverKind) (left rest text seen : List ℕ) (events : List Event) → IsAll left rest text → seen ≡ text →
+    AllZip (StandsOn driver) (lines seen) events → WasRead driver left rest events
+was-read driver left rest text seen events all same stand = record {
   within = (let within = all.within in let lengths = ap length all.all in omega arith);
   to_its_end = all.to_its_end;
-  stand = subst (λ xs. AllZip StandsFor (lines xs) events) (same ∙ all.all) stand;
+  stand = subst (λ xs. AllZip (StandsOn driver) (lines xs) events) (same ∙ all.all) stand;
 }
 
 -- All was read, and no line is wrong.
-pub right-short : (left rest text seen : List ℕ) (faults later : ℕ) → IsAll left rest text → seen ≡ text → AreEvents (lines seen)
-    → later ≡ faults →
-    ReadShort left rest faults later
-right-short left rest text seen faults later all same right calm = record {
+pub right-short : (driver : DriverKind) (left rest text seen : List ℕ) (faults later : ℕ) → IsAll left rest text → seen ≡ text →
+    AreEventsFor (StandsOn driver) (lines seen) → later ≡ faults → ReadShort driver left rest faults later
+right-short driver left rest text seen faults later all same right calm = record {
   few = few-all left rest text all;
-  lines = all_right right.events (was-read left rest text seen right.events all same right.stand);
+  lines = all_right right.events (was-read driver left rest text seen right.events all same right.stand);
   calm = calm;
 }
 
 -- An input with a wrong line has that one.
-pub was-wrong : (left rest text seen : List ℕ) (n : ℕ) → IsAll left rest text → seen ≡ text → IsFirstWrong (lines seen) n →
-    IsBadLine left rest n
-was-wrong left rest text seen n all same wrong = record {
+pub was-wrong : (driver : DriverKind) (left rest text seen : List ℕ) (n : ℕ) → IsAll left rest text → seen ≡ text →
+    IsFirstWrongFor (StandsOn driver) (lines seen) n → IsBadLine driver left rest n
+was-wrong driver left rest text seen n all same wrong = record {
   within = (let within = all.within in let lengths = ap length all.all in omega arith);
   to_its_end = all.to_its_end;
-  first = subst (λ xs. IsFirstWrong (lines xs) n) (same ∙ all.all) wrong;
+  first = subst (λ xs. IsFirstWrongFor (StandsOn driver) (lines xs) n) (same ∙ all.all) wrong;
 }
+
+-- A driver takes the events that its lines stand for.
+pub all-taken : (driver : DriverKind) (all : List (List ℕ)) (events : List Event) → AllZip (StandsOn driver) all events →
+    TakesAll driver events
+all-taken driver all [] stand = tt
+all-taken driver [] (event ∷ events) stand = absurd stand
+all-taken completion (line ∷ all) (event ∷ events) stand = (tt, all-taken completion all events stand.1)
+all-taken readiness (line ∷ all) (event ∷ events) stand = (is-driven event stand.0.external, all-taken readiness all events stand.1)
+  where
+    is-driven : (event : Event) → IsExternal event → IsDriven event
+    is-driven (Give kind) external = tt
+    is-driven (Feed h bytes) external = tt
+    is-driven (FeedMessage h addr bytes) external = tt
+    is-driven (End h) external = tt
+    is-driven (Look h) external = tt
+    is-driven (Close h) external = tt
+    is-driven (Submit request under) external = tt
+    is-driven (Poll n task) external = tt
+    is-driven (Drop n) external = tt
+    is-driven (Cancel n) external = tt
+    is-driven NewCanceller external = tt
+    is-driven (NewHandle c) external = tt
+    is-driven (CancelAll c) external = tt
+    is-driven Turn external = absurd external
+    is-driven (Exec place told) external = absurd external
+
+-- Events of the readiness driver are events.
+some-zip : (all : List (List ℕ)) (events : List Event) → AllZip (StandsOn readiness) all events → AllZip (StandsOn completion) all events
+some-zip [] [] stand = tt
+some-zip [] (event ∷ events) stand = absurd stand
+some-zip (line ∷ all) [] stand = absurd stand
+some-zip (line ∷ all) (event ∷ events) stand = (stand.0.stands, some-zip all events stand.1)
+
+-- So where no line is wrong for a driver, none is wrong for the completion driver.
+pub never-wrong : (driver : DriverKind) (left rest : List ℕ) → NoLineWrong driver left rest → NoLineWrong completion left rest
+never-wrong driver left rest (unread is) = unread is
+never-wrong driver left rest (half_read took) = half_read took
+never-wrong completion left rest (all_right events read) = all_right events read
+never-wrong readiness left rest (all_right events read) =
+    all_right events
+    (record { within = read.within; to_its_end = read.to_its_end; stand = some-zip (lines left) events read.stand })

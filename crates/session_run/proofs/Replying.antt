@@ -1,15 +1,21 @@
 -- The reply to the next of some events.
-use Rattle.std.proofs.Common.{◌≡◌, ◌<◌, ◌≤◌, ℕ, suc, ◌+◌, List, [], ◌∷◌, zero, length, get_or, take, Some, refl, sym, ◌∙◌, ap, subst}
+use Rattle.std.proofs.Common.{◌≡◌, ◌<◌, ◌≤◌, ℕ, suc, ◌+◌, List, [], ◌∷◌, zero, length, get_or, take, Option, Some, None, refl, sym, ◌∙◌, ap}
+use Rattle.std.proofs.Common.{subst}
 use Rattle.std.proofs.Common.{add-one, arith}
-use Rattle.std.specs.Prelude.{Bool, true, false, if◌then◌else◌, slice_get}
+use Rattle.rent_buf.specs.declared.fault.OutOfMemory.{OutOfMemory}
+use Rattle.std.specs.Prelude.{Result, Ok, Err, IfOk, Bool, true, false, if◌then◌else◌, slice_get}
 use Rattle.std.specs.List.{count_by}
 use Rattle.std.proofs.lemmas.List.Sums.{count_by_more_yes, count_by_more_no, count_by-le-length}
 use Rattle.ring_core.specs.declared.ledger.Event.{Event}
 use Rattle.ring_core.specs.declared.ledger.Reply.{Reply}
 use Rattle.ring_core.specs.Ledger.{Ledger}
-use Rattle.ring_core.specs.Run.{after, replies}
 use Rattle.run_laws.proofs.Replies.{length-replies, reply-at}
+use Rattle.ready_driver.specs.Spelled.{spelled_replies, spelled_after, ledger_behind}
+use Rattle.ready_run.specs.declared.session.ReadySession.{ReadySession}
+use Rattle.ready_run.specs.ReadySession.{ReadyStands, ReadySteps}
 use Rattle.session_run.specs.declared.session.Session.{Session}
+use Rattle.session_run.specs.DriverKind.{AnswersOn, DriverKind, Takes, TakesAll, completion, readiness}
+use Rattle.session_run.specs.DriverKind.{after_on, next_on, replies_on, reply_on}
 use Rattle.session_run.specs.Session.{SessionStands, SessionAnswers}
 use Rattle.session_run.proofs.Runs.{get-there, after-one_more}
 
@@ -19,24 +25,70 @@ found-there [] k r is = absurd (cc)
 found-there (x ∷ rs) zero r is = (omega arith, (let same : x ≡ r = cc in sym same))
 found-there (x ∷ rs) (suc k) r is = let more = found-there rs k r is in (omega (arith, more.0), more.1)
 
+-- The ledger behind one spelled event more.
+spelled-next : (L : Ledger) (events : List Event) (k : ℕ) (event : Event) → slice_get events k ≡ Some event →
+    spelled_after L (take (suc k) events) ≡ ledger_behind (spelled_after L (take k events)) event
+spelled-next L [] k event there = absurd (let never : ◌≡◌ {A = Option Event} None (Some event) = there in cc)
+spelled-next L (x ∷ events) zero event there = (let same : x ≡ event = cc in ap (λ e. ledger_behind L e) same)
+spelled-next L (x ∷ events) (suc k) event there = spelled-next (ledger_behind L x) events k event there
+
+-- The reply to a spelled event is that from the ledger before it.
+spelled-at : (L : Ledger) (events : List Event) (k : ℕ) (event : Event) → slice_get events k ≡ Some event →
+    slice_get (spelled_replies L events) k ≡ Some (reply_on readiness (spelled_after L (take k events)) event)
+spelled-at L [] k event there = absurd (let never : ◌≡◌ {A = Option Event} None (Some event) = there in cc)
+spelled-at L (x ∷ events) zero event there = (let same : x ≡ event = cc in ap (λ e. Some (reply_on readiness L e)) same)
+spelled-at L (x ∷ events) (suc k) event there = spelled-at (ledger_behind L x) events k event there
+
+-- There is one reply for each spelled event.
+length-spelled : (L : Ledger) (events : List Event) → length (spelled_replies L events) ≡ length events
+length-spelled L [] = refl
+length-spelled L (x ∷ events) = ap suc (length-spelled (ledger_behind L x) events)
+
+-- The ledger behind one event more, on each driver.
+after-on_next : (driver : DriverKind) (L : Ledger) (events : List Event) (k : ℕ) (event : Event) → slice_get events k ≡ Some event →
+    after_on driver L (take (suc k) events) ≡ next_on driver (after_on driver L (take k events)) event
+after-on_next completion L events k event there = after-one_more L events k (suc k) event refl there
+after-on_next readiness L events k event there = spelled-next L events k event there
+
+-- The reply to an event is that from the ledger before it, on each driver.
+reply-on_at : (driver : DriverKind) (L : Ledger) (events : List Event) (k : ℕ) (event : Event) → slice_get events k ≡ Some event →
+    slice_get (replies_on driver L events) k ≡ Some (reply_on driver (after_on driver L (take k events)) event)
+reply-on_at completion L events k event there = reply-at L events k event there
+reply-on_at readiness L events k event there = spelled-at L events k event there
+
 -- The answer to the event at k is the reply at k, and the session stands for the ledger after it.
-pub record Answered (L : Ledger) (events : List Event) (k : ℕ) (reply : Reply) (new : Session) : Type 0 where
-  pub within : k < length (replies L events)
-  pub reply_is : reply ≡ get_or (replies L events) k reply
-  pub stands : SessionStands new (after L (take (k + 1) events))
+pub record Answered {S : Type 0} (standing : S → Ledger → Type 0) (driver : DriverKind) (L : Ledger) (events : List Event) (k : ℕ)
+    (reply : Reply) (new : S) : Type 0 where
+  pub within : k < length (replies_on driver L events)
+  pub reply_is : reply ≡ get_or (replies_on driver L events) k reply
+  pub stands : standing new (after_on driver L (take (k + 1) events))
 
 -- A step of the event at k answers it.
-pub answered-next : (L : Ledger) (events : List Event) (k : ℕ) (event : Event) (reply : Reply) (new : Session) → k < length events →
-    event ≡ get_or events k event →
-    SessionAnswers (after L (take k events)) event reply new → Answered L events k reply new
-answered-next L events k event reply new within is answers =
+pub answered-next : {S : Type 0} (standing : S → Ledger → Type 0) (driver : DriverKind) (L : Ledger) (events : List Event) (k : ℕ)
+    (event : Event) (reply : Reply) (new : S) → k < length events → event ≡ get_or events k event →
+    AnswersOn standing driver (after_on driver L (take k events)) event reply new → Answered standing driver L events k reply new
+answered-next standing driver L events k event reply new within is answers =
     let there = get-there events k event within is in
-    let found = found-there (replies L events) k reply (reply-at L events k event there ∙ ap Some answers.reply_is) in
+    let found = found-there (replies_on driver L events) k reply (reply-on_at driver L events k event there ∙ ap Some answers.reply_is) in
     record {
       within = found.0;
       reply_is = found.1;
-      stands = subst (λ M. SessionStands new M) (sym (after-one_more L events k (k + 1) event (add-one k) there)) answers.stands;
+      stands = subst (λ M. standing new M)
+          (sym (ap (λ m. after_on driver L (take m events)) (add-one k) ∙ after-on_next driver L events k event there)) answers.stands;
     }
+
+-- A step of a session over the completion driver is one on that driver.
+pub steps-on : (L : Ledger) (event : Event) (reply : Reply) (new : Session) → SessionAnswers L event reply new →
+    AnswersOn SessionStands completion L event reply new
+steps-on L event reply new answers = record { reply_is = answers.reply_is; stands = answers.stands }
+
+-- So is one of a session over the readiness driver.
+pub ready-stepped : (old new : ReadySession) (event : Event) (result : Result Reply OutOfMemory) →
+    ((L : Ledger) → ReadyStands old L → ReadySteps L event new result) →
+    IfOk result (λ reply. (L : Ledger) → ReadyStands old L → AnswersOn ReadyStands readiness L event reply new)
+ready-stepped old new event (Ok reply) steps =
+    λ L stands. record { reply_is = (steps L stands).reply_is; stands = (steps L stands).stands }
+ready-stepped old new event (Err refused) steps = tt
 
 -- All elements of a list.
 pub take-all : {A : Type 0} (xs : List A) (k : ℕ) → k ≡ length xs → take k xs ≡ xs
@@ -46,8 +98,17 @@ take-all (x ∷ xs) zero is = absurd (omega arith)
 take-all (x ∷ xs) (suc k) is = ap (λ ys. x ∷ ys) (take-all xs k (omega arith))
 
 -- There are as many replies as events.
-pub all-replied : (L : Ledger) (events : List Event) (k : ℕ) → k ≡ length events → k ≡ length (replies L events)
-all-replied L events k is = is ∙ sym (length-replies L events)
+pub all-replied : (driver : DriverKind) (L : Ledger) (events : List Event) (k : ℕ) → k ≡ length events →
+    k ≡ length (replies_on driver L events)
+all-replied completion L events k is = is ∙ sym (length-replies L events)
+all-replied readiness L events k is = is ∙ sym (length-spelled L events)
+
+-- A driver takes the event at a place of those that it takes.
+pub taken-there : (driver : DriverKind) (events : List Event) (k : ℕ) (event : Event) → TakesAll driver events → k < length events →
+    event ≡ get_or events k event → Takes driver event
+taken-there driver [] k event all within is = absurd (omega (arith, within))
+taken-there driver (x ∷ events) zero event all within is = subst (λ e. Takes driver e) (sym is) all.0
+taken-there driver (x ∷ events) (suc k) event all within is = taken-there driver events k event all.1 (omega (arith, within)) is
 
 -- One reply more is counted where it passes the test.
 pub count-next : (test : Reply → Bool) (rs : List Reply) (k old new : ℕ) (r : Reply) → k < length rs → r ≡ get_or rs k r →

@@ -9,7 +9,7 @@ use Rattle.session_run.specs.declared.output.Unwritten.{Unwritten}
 use Rattle.event_text.specs.TextReply.{reply_text}
 use Rattle.event_text.specs.TextWrites.{Starts}
 use Rattle.session_run.specs.Top.{ended, reply_lines, WrotePrefix}
-use Rattle.session_run.specs.Ends.{Sent, WhyUnwritten, Wrote, WritesAll}
+use Rattle.session_run.specs.Writes.{Sent, WhyUnwritten, Wrote, WritesAll}
 
 -- The texts of the first replies are a prefix of the texts of all.
 pub starts-lines : (k : ℕ) (rs : List Reply) → Starts (reply_lines (take k rs)) (reply_lines rs)

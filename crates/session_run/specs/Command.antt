@@ -2,16 +2,26 @@
 use Rattle.std.specs.Prelude.{ℕ, ◌≡◌, ◌≤◌, List, [], ◌∷◌, Option, Some, None, IsSome, ⊤, codes, decimal}
 use Rattle.session_run.specs.declared.command.TheConstants.{MOST_CAPACITY, MOST_COUNT, MOST_ENTRIES, MOST_ROUNDS, MOST_SEED, MOST_SENDERS}
 use Rattle.session_run.specs.declared.command.Command.{Command}
-use Rattle.session_run.specs.declared.command.Command.TheVariants.{Run, Generate, Wake, Copy}
+use Rattle.session_run.specs.declared.command.Command.TheVariants.{Run, Ready, Generate, Wake, Copy}
 use Rattle.event_text.specs.TextWords.{AreBytes}
 use Rattle.event_text.specs.TextReads.{bytes_of}
 use Rattle.event_text.specs.TextWords.{bytes_word}
+use Rattle.session_run.specs.DriverKind.{DriverKind, completion, readiness}
 
 -- The words are `run CAP`, with a capacity from 1 to 4294967295.
 pub record IsRun (words : List (List ℕ)) (capacity : ℕ) : Type 0 where
   pub positive : 1 ≤ capacity
   pub fits : capacity ≤ MOST_ENTRIES
   pub words_are : words ≡ codes "run" ∷ decimal capacity ∷ []
+
+-- The words are `ready`.
+abbrev pub IsReady : List (List ℕ) → Type 0
+IsReady words = words ≡ codes "ready" ∷ []
+
+-- The words are a command that reads events, and runs them on this driver.
+abbrev pub RunsOn : DriverKind → List (List ℕ) → Type 0
+RunsOn completion words = (capacity : ℕ) × IsRun words capacity
+RunsOn readiness words = IsReady words
 
 -- The words are `wake SENDERS COUNT`, with at most 64 senders and at most 100000 wakers of each.
 pub record IsWake (words : List (List ℕ)) (senders count : ℕ) : Type 0 where
@@ -35,6 +45,7 @@ pub record IsCopy (words : List (List ℕ)) (capacity : ℕ) (prefix : List ℕ)
 -- The words are no command's.
 pub record IsNoCommand (words : List (List ℕ)) : Type 0 where
   pub no_run : (capacity : ℕ) → IsRun words capacity → ⊥
+  pub no_ready : IsReady words → ⊥
   pub no_generate : (seed rounds : ℕ) → IsGenerate words seed rounds → ⊥
   pub no_wake : (senders count : ℕ) → IsWake words senders count → ⊥
   pub no_copy : (capacity : ℕ) (prefix : List ℕ) → IsCopy words capacity prefix → ⊥
@@ -92,6 +103,7 @@ pub record IsCopyOf (words : List (List ℕ)) (capacity : ℕ) (word : List ℕ)
 abbrev pub ReadsCommand : List (List ℕ) → Option Command → Type 0
 ReadsCommand words None = IsNoCommand words
 ReadsCommand words (Some (Run capacity)) = IsRun words capacity
+ReadsCommand words (Some Ready) = IsReady words
 ReadsCommand words (Some (Generate seed rounds)) = IsGenerate words seed rounds
 ReadsCommand words (Some (Wake senders count)) = IsWake words senders count
 ReadsCommand words (Some (Copy capacity word)) = IsCopyOf words capacity word.now
@@ -99,6 +111,7 @@ ReadsCommand words (Some (Copy capacity word)) = IsCopyOf words capacity word.no
 -- The numbers of a command are within its bounds, and the word of a prefix writes one.
 abbrev pub IsWithin : Command → Type 0
 IsWithin (Run capacity) = 1 ≤ capacity
+IsWithin Ready = ⊤
 IsWithin (Generate seed rounds) = rounds ≤ MOST_ROUNDS
 IsWithin (Wake senders count) = senders ≤ MOST_SENDERS
 IsWithin (Copy capacity word) = IsSome (bytes_of word.now)
@@ -106,6 +119,7 @@ IsWithin (Copy capacity word) = IsSome (bytes_of word.now)
 -- The command reads no input.
 abbrev pub ReadsNothing : Command → Type 0
 ReadsNothing (Run capacity) = ⊥
+ReadsNothing Ready = ⊥
 ReadsNothing (Generate seed rounds) = ⊤
 ReadsNothing (Wake senders count) = ⊤
 ReadsNothing (Copy capacity word) = ⊥
@@ -113,6 +127,7 @@ ReadsNothing (Copy capacity word) = ⊥
 -- The command keeps nothing.
 abbrev pub KeepsNothing : Command → Type 0
 KeepsNothing (Run capacity) = ⊥
+KeepsNothing Ready = ⊥
 KeepsNothing (Generate seed rounds) = ⊥
 KeepsNothing (Wake senders count) = ⊤
 KeepsNothing (Copy capacity word) = ⊤

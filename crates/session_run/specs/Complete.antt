@@ -2,24 +2,25 @@
 use Rattle.std.specs.Prelude.{ℕ, ◌≡◌, ◌≤◌, ◌⊎◌, Bool, IsTrue, List, length}
 use Rattle.ring_core.specs.Counts.{Rose}
 use Rattle.rent_io.specs.Call.{Reading, Writing}
-use Rattle.event_text.specs.TextLines.{lines, AreEvents}
+use Rattle.event_text.specs.TextLines.{lines, AreEventsFor}
 use Rattle.session_run.specs.declared.input.TheConstants.{MOST_INPUT}
 use Rattle.session_run.specs.declared.top.Status.{Status}
 use Rattle.session_run.specs.declared.top.Status.TheVariants.{Done, OutOfMemory}
-use Rattle.session_run.specs.Command.{IsRun, IsGenerate, IsWake, IsCopy}
+use Rattle.session_run.specs.Command.{RunsOn, IsGenerate, IsWake, IsCopy}
+use Rattle.session_run.specs.DriverKind.{DriverKind, StandsOn}
 
--- An input of no more bytes than it may have, each of whose lines stands for an event.
-pub record HoldsEvents (left : List ℕ) : Type 0 where
+-- An input of no more bytes than it may have, each of whose lines stands for an event that a driver takes.
+pub record HoldsEvents (driver : DriverKind) (left : List ℕ) : Type 0 where
   pub within : length left ≤ MOST_INPUT
-  pub right : AreEvents (lines left)
+  pub right : AreEventsFor (StandsOn driver) (lines left)
 
--- The words are a command, and the source tells an input that the command takes: `run` the lines of events, `copy` any bytes that aren't
--- too many. `gen` and `wake` read nothing, so that they take any.
+-- The words are a command, and the source tells an input that the command takes: `run` and `ready` the lines of events, `copy` any bytes
+-- that aren't too many. `gen` and `wake` read nothing, so that they take any.
 pub data TakesInput (tells : Bool) (words : List (List ℕ)) (left : List ℕ) : Type 0 where
-  run : (capacity : ℕ) → IsRun words capacity → IsTrue tells → HoldsEvents left → TakesInput tells words left
-  generate : (seed rounds : ℕ) → IsGenerate words seed rounds → TakesInput tells words left
-  wake : (senders count : ℕ) → IsWake words senders count → TakesInput tells words left
-  copy : (capacity : ℕ) (prefix : List ℕ) → IsCopy words capacity prefix → IsTrue tells → length left ≤ MOST_INPUT
+  of_events : (driver : DriverKind) → RunsOn driver words → IsTrue tells → HoldsEvents driver left → TakesInput tells words left
+  of_generate : (seed rounds : ℕ) → IsGenerate words seed rounds → TakesInput tells words left
+  of_wake : (senders count : ℕ) → IsWake words senders count → TakesInput tells words left
+  of_copy : (capacity : ℕ) (prefix : List ℕ) → IsCopy words capacity prefix → IsTrue tells → length left ≤ MOST_INPUT
       → TakesInput tells words left
 
 -- Neither count of faults rose.

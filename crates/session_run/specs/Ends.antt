@@ -1,28 +1,26 @@
--- What the parts of the top call have done: reading, running, writing. `top` cites `RunEnds`; the rest is for the functions it calls.
-use Rattle.std.specs.Prelude.{ℕ, ◌≡◌, ◌<◌, ◌≤◌, ◌+◌, ◌*◌, ◌⊎◌, Bool, IsTrue, List, [], ◌++◌, length, Option, Some, Result, Ok, Err}
+-- How commands end: what each has read, written and kept, by its status. `top` cites `RunEnds` and `ReadyEnds`; the rest is for the
+-- functions that it calls.
+use Rattle.std.specs.Prelude.{ℕ, ◌≡◌, ◌*◌, ◌⊎◌, Bool, IsTrue, List, ◌++◌}
+use Rattle.std.specs.Prelude.{Option, Some, Result, Ok, Err, ⊤}
 use Rattle.ring_core.specs.declared.ledger.Event.{Event}
 use Rattle.ring_core.specs.Counts.{Rose}
-use Rattle.ring_core.specs.Ledger.{empty}
-use Rattle.ring_core.specs.Run.{ledger, replies}
-pub use Rattle.rent_io.specs.Call.{Reading, Writing, Took, reading, writing}
-use Rattle.rent_io.specs.declared.source.Failed.{Failed}
+use Rattle.ring_core.specs.Ledger.{Ledger, empty}
+pub use Rattle.rent_io.specs.Call.{Reading, Writing, reading, writing}
 use Rattle.copy_run.specs.Ending.{CopyEnds}
 use Rattle.copy_run.specs.declared.copying.Ending.{Ending}
-use Rattle.session_run.specs.declared.session.Session.{Session}
 use Rattle.session_run.specs.declared.top.Status.{Status}
 use Rattle.session_run.specs.declared.top.Status.TheVariants.{Done, BadWords, BadLine, TooLong, ReadFault, WriteFault, OutOfMemory}
-use Rattle.session_run.specs.declared.input.NoEvents.{NoEvents}
-use Rattle.session_run.specs.declared.input.TheConstants.{MOST_INPUT, PIECE}
-use Rattle.session_run.specs.declared.output.Unwritten.{Unwritten}
+use Rattle.session_run.specs.declared.input.TheConstants.{MOST_INPUT}
 use Rattle.session_run.specs.declared.top.Kept.{Kept}
-use Rattle.session_run.specs.declared.top.Kept.TheVariants.{Run}
 use Rattle.session_run.specs.declared.command.Command.{Command}
-use Rattle.session_run.specs.declared.command.Command.TheVariants.{Run as RunOf, Generate, Wake, Copy}
-use Rattle.session_run.specs.Session.{SessionStands}
+use Rattle.session_run.specs.declared.command.Command.TheVariants.{Run as RunOf, Ready as ReadyOf, Generate, Wake, Copy}
+use Rattle.session_run.specs.Command.{RunsOn}
+use Rattle.session_run.specs.DriverKind.{DriverKind, completion, readiness, replies_on, after_on, KeepsRun, KeepsReady}
 use Rattle.session_run.specs.Generated.{generated_events}
 use Rattle.event_text.specs.TextReads.{bytes_of}
-use Rattle.session_run.specs.Top.{RunDone, LineRefused, NoLineWrong, TookTooMany, IsBadLine, WrotePrefix, WroteSome, SumsFor}
-use Rattle.session_run.specs.Top.{TookFew, WakesFor, bad_line_text, reply_lines}
+use Rattle.session_run.specs.Top.{EventsDone, LineRefused, NoLineWrong, TookTooMany, WrotePrefix, WroteSome, SumsFor}
+use Rattle.session_run.specs.Top.{TookFew, WakesFor, reply_lines}
+use Rattle.session_run.specs.Writes.{WroteShort}
 
 -- No count of faults rose, as far as the source and the sink tell it.
 pub record NoFaults (tells_source tells_sink : Bool) (source : Reading) (sink : Writing) : Type 0 where
@@ -31,121 +29,62 @@ pub record NoFaults (tells_source tells_sink : Bool) (source : Reading) (sink : 
 
 -- Memory ran out, and nothing gives another status: no more was taken than the input may have, no line that could be looked at is
 -- wrong, and no count of faults rose.
-pub record RanShort (tells_source tells_sink : Bool) (source : Reading) (sink : Writing) : Type 0 where
+pub record RanShort (driver : DriverKind) (tells_source tells_sink : Bool) (source : Reading) (sink : Writing) : Type 0 where
   pub few : IsTrue tells_source → TookFew source.left source.rest
-  pub lines : IsTrue tells_source → NoLineWrong source.left source.rest
+  pub lines : IsTrue tells_source → NoLineWrong driver source.left source.rest
   pub calm : NoFaults tells_source tells_sink source sink
 
--- All that was left was read.
-pub record IsAll (left rest text : List ℕ) : Type 0 where
-  pub within : length text ≤ MOST_INPUT
-  pub all : text ≡ left
-  pub to_its_end : rest ≡ []
+-- What running events from a ledger on has done, by the status: what is kept is for the ledger that they lead to.
+abbrev pub RunsEvents : DriverKind → Bool → Ledger → List Event → Writing → (Ledger → Type 0) → Status → Type 0
+RunsEvents driver tells L events sink keeps Done =
+    (IsTrue tells → sink.now ≡ sink.taken ++ reply_lines (replies_on driver L events)) × IsTrue sink.flushed
+    × keeps (after_on driver L events)
+RunsEvents driver tells L events sink keeps WriteFault =
+    Rose sink.faults sink.later × (IsTrue tells → WrotePrefix (reply_lines (replies_on driver L events)) sink.taken sink.now)
+RunsEvents driver tells L events sink keeps OutOfMemory =
+    IsTrue tells → WroteShort (reply_lines (replies_on driver L events)) sink.taken sink.now sink.faults sink.later
+RunsEvents driver tells L events sink keeps _ = ⊥
 
--- Memory ran out for what was read of a source that tells its bytes: no more than it may have, no line that could be looked at is
--- wrong, and no fault was counted.
-pub record ReadShort (left rest : List ℕ) (faults later : ℕ) : Type 0 where
-  pub few : TookFew left rest
-  pub lines : NoLineWrong left rest
-  pub calm : later ≡ faults
-
--- Why a source gave no bytes: too many, a fault, or no memory.
-abbrev pub WhyUnread : Bool → List ℕ → List ℕ → ℕ → ℕ → NoEvents → Type 0
-WhyUnread tells left rest faults later (NoEvents.BadLine n) = ⊥
-WhyUnread tells left rest faults later NoEvents.TooLong = IsTrue tells → TookTooMany left rest
-WhyUnread tells left rest faults later NoEvents.Fault = Rose faults later
-WhyUnread tells left rest faults later NoEvents.OutOfMemory = IsTrue tells → ReadShort left rest faults later
-
--- Why a source gave no events: a wrong line, or no bytes.
-abbrev pub WhyNoEvents : Bool → List ℕ → List ℕ → ℕ → ℕ → NoEvents → Type 0
-WhyNoEvents tells left rest faults later (NoEvents.BadLine n) = IsTrue tells → IsBadLine left rest n
-WhyNoEvents tells left rest faults later why = WhyUnread tells left rest faults later why
-
--- Why one read behind so many bytes stopped: too many came, a fault, or no memory.
-abbrev pub WhyStopped : Bool → ℕ → List ℕ → List ℕ → ℕ → ℕ → NoEvents → Type 0
-WhyStopped tells before left rest faults later (NoEvents.BadLine n) = ⊥
-WhyStopped tells before left rest faults later NoEvents.TooLong = IsTrue tells → (n : ℕ) × (MOST_INPUT < before + n) × Took left rest n
-WhyStopped tells before left rest faults later NoEvents.Fault = Rose faults later
-WhyStopped tells before left rest faults later NoEvents.OutOfMemory =
-    IsTrue tells → (n : ℕ) × (before + n ≤ MOST_INPUT) × (PIECE < before + n) × Took left rest n × (later ≡ faults)
-
--- All bytes were written, with no fault counted where the sink tells its bytes.
-pub record Wrote (tells : Bool) (bytes taken now : List ℕ) (faults later : ℕ) : Type 0 where
-  pub order : faults ≤ later
-  pub all : IsTrue tells → now ≡ taken ++ bytes
-  pub calm : IsTrue tells → later ≡ faults
-
--- All bytes were written; at a fault a prefix of them.
-abbrev pub WritesAll : Bool → List ℕ → List ℕ → List ℕ → ℕ → ℕ → Result (Unit {0}) Failed → Type 0
-WritesAll tells bytes taken now faults later (Ok done) = Wrote tells bytes taken now faults later
-WritesAll tells bytes taken now faults later (Err failed) = Rose faults later × (IsTrue tells → WrotePrefix bytes taken now)
-
--- The text of a wrong line was written, or a prefix of it.
-abbrev pub WritesLine : Bool → ℕ → List ℕ → List ℕ → ℕ → ℕ → Status → Type 0
-WritesLine tells line taken now faults later BadLine = IsTrue tells → now ≡ taken ++ bad_line_text line
-WritesLine tells line taken now faults later WriteFault = Rose faults later × (IsTrue tells → WrotePrefix (bad_line_text line) taken now)
-WritesLine tells line taken now faults later _ = ⊥
-
--- Nothing was written, and no fault was counted.
-pub record Untouched (tells : Bool) (taken now : List ℕ) (faults later : ℕ) : Type 0 where
-  pub nothing : IsTrue tells → now ≡ taken
-  pub calm : IsTrue tells → later ≡ faults
-
--- A command with no events to run ended with this status; only the number of a wrong line was written.
-abbrev pub RefusesFor : Bool → List ℕ → List ℕ → ℕ → ℕ → Status → NoEvents → Type 0
-RefusesFor tells taken now faults later status (NoEvents.BadLine n) = WritesLine tells n taken now faults later status
-RefusesFor tells taken now faults later status NoEvents.TooLong = (status ≡ TooLong) × Untouched tells taken now faults later
-RefusesFor tells taken now faults later status NoEvents.Fault = (status ≡ ReadFault) × Untouched tells taken now faults later
-RefusesFor tells taken now faults later status NoEvents.OutOfMemory = (status ≡ OutOfMemory) × Untouched tells taken now faults later
-
--- Memory ran out once a prefix of a text was written, and no fault was counted.
-pub record WroteShort (text taken now : List ℕ) (faults later : ℕ) : Type 0 where
-  pub prefix : WrotePrefix text taken now
-  pub calm : later ≡ faults
-
--- Why not all of a text was written; a prefix of it was.
-abbrev pub WhyUnwritten : Bool → List ℕ → List ℕ → List ℕ → ℕ → ℕ → Unwritten → Type 0
-WhyUnwritten tells text taken now faults later Unwritten.Fault = Rose faults later × (IsTrue tells → WrotePrefix text taken now)
-WhyUnwritten tells text taken now faults later Unwritten.OutOfMemory = IsTrue tells → WroteShort text taken now faults later
-
--- So much of a text was written that this is left of it.
-pub record Sent (text rest taken now : List ℕ) : Type 0 where
-  pub prefix : List ℕ
-  pub now_is : now ≡ taken ++ prefix
-  pub text_is : text ≡ prefix ++ rest
-
--- Events were run and their replies written.
-pub record RunsDone (tells : Bool) (capacity : ℕ) (events : List Event) (sink : Writing) (kept : Option Kept) : Type 0 where
-  pub written : IsTrue tells → sink.now ≡ sink.taken ++ reply_lines (replies (empty capacity) events)
-  pub flushed : IsTrue sink.flushed
-  pub session : Session
-  pub kept_is : kept ≡ Some (Run session)
-  pub stands : SessionStands session (ledger capacity events)
-
--- What running events has done, by the status.
-abbrev pub RunsEvents : Bool → ℕ → List Event → Writing → Option Kept → Status → Type 0
-RunsEvents tells capacity events sink kept Done = RunsDone tells capacity events sink kept
-RunsEvents tells capacity events sink kept WriteFault =
-    Rose sink.faults sink.later × (IsTrue tells → WrotePrefix (reply_lines (replies (empty capacity) events)) sink.taken sink.now)
-RunsEvents tells capacity events sink kept OutOfMemory =
-    IsTrue tells → WroteShort (reply_lines (replies (empty capacity) events)) sink.taken sink.now sink.faults sink.later
-RunsEvents tells capacity events sink kept _ = ⊥
-
--- What `run CAP` has done, by the status.
-abbrev pub RunEnds : Bool → Bool → ℕ → Reading → Writing → Option Kept → Status → Type 0
-RunEnds tells_source tells_sink capacity source sink kept Done =
-    RunDone tells_source tells_sink capacity source.left source.rest sink.taken sink.now kept × IsTrue sink.flushed
-RunEnds tells_source tells_sink capacity source sink kept BadWords = ⊥
-RunEnds tells_source tells_sink capacity source sink kept BadLine =
-    LineRefused tells_source tells_sink source.left source.rest sink.taken sink.now
-RunEnds tells_source tells_sink capacity source sink kept TooLong =
+-- What a command that reads events and runs them from a ledger on has done, by the status.
+abbrev pub EventsEnd : DriverKind → Bool → Bool → Ledger → Reading → Writing → (Ledger → Type 0) → Status → Type 0
+EventsEnd driver tells_source tells_sink L source sink keeps Done =
+    EventsDone driver tells_source tells_sink L source.left source.rest sink.taken sink.now keeps × IsTrue sink.flushed
+EventsEnd driver tells_source tells_sink L source sink keeps BadWords = ⊥
+EventsEnd driver tells_source tells_sink L source sink keeps BadLine =
+    LineRefused driver tells_source tells_sink source.left source.rest sink.taken sink.now
+EventsEnd driver tells_source tells_sink L source sink keeps TooLong =
     (IsTrue tells_source → TookTooMany source.left source.rest) × (IsTrue tells_sink → sink.now ≡ sink.taken)
-RunEnds tells_source tells_sink capacity source sink kept ReadFault =
+EventsEnd driver tells_source tells_sink L source sink keeps ReadFault =
     Rose source.faults source.later × (IsTrue tells_sink → sink.now ≡ sink.taken)
-RunEnds tells_source tells_sink capacity source sink kept WriteFault =
-    Rose sink.faults sink.later × WroteSome tells_source tells_sink capacity source.left source.rest sink.taken sink.now
-RunEnds tells_source tells_sink capacity source sink kept OutOfMemory = RanShort tells_source tells_sink source sink
-    × ((IsTrue tells_sink → sink.now ≡ sink.taken) ⊎ WroteSome tells_source tells_sink capacity source.left source.rest sink.taken sink.now)
+EventsEnd driver tells_source tells_sink L source sink keeps WriteFault =
+    Rose sink.faults sink.later × WroteSome driver tells_source tells_sink L source.left source.rest sink.taken sink.now
+EventsEnd driver tells_source tells_sink L source sink keeps OutOfMemory = RanShort driver tells_source tells_sink source sink
+    × ((IsTrue tells_sink → sink.now ≡ sink.taken)
+    ⊎ WroteSome driver tells_source tells_sink L source.left source.rest sink.taken sink.now)
+
+-- What a run of events gives: the session behind them, which stands for the ledger that they lead to; or a status other than Done.
+abbrev pub RunsGive : {S : Type 0} → DriverKind → Bool → Ledger → List Event → Writing → (S → Ledger → Type 0) → Result S Status →
+    Type 0
+RunsGive driver tells L events sink standing (Ok session) = RunsEvents driver tells L events sink (standing session) Done
+RunsGive driver tells L events sink standing (Err status) = RunsEvents driver tells L events sink (λ M. ⊥) status
+
+-- So of a command that reads them.
+abbrev pub EventsGive : {S : Type 0} → DriverKind → Bool → Bool → Ledger → Reading → Writing → (S → Ledger → Type 0) →
+    Result S Status → Type 0
+EventsGive driver tells_source tells_sink L source sink standing (Ok session) =
+    EventsEnd driver tells_source tells_sink L source sink (standing session) Done
+EventsGive driver tells_source tells_sink L source sink standing (Err status) =
+    EventsEnd driver tells_source tells_sink L source sink (λ M. ⊥) status
+
+-- What `run CAP` has done, by the status: where it is Done, a session over the completion driver is kept.
+abbrev pub RunEnds : Bool → Bool → ℕ → Reading → Writing → Option Kept → Status → Type 0
+RunEnds tells_source tells_sink capacity source sink kept status =
+    EventsEnd completion tells_source tells_sink (empty capacity) source sink (KeepsRun kept) status
+
+-- What `ready` has done, at a capacity of the machine: where the status is Done, a session over the readiness driver is kept.
+abbrev pub ReadyEnds : Bool → Bool → ℕ → Reading → Writing → Option Kept → Status → Type 0
+ReadyEnds tells_source tells_sink capacity source sink kept status =
+    EventsEnd readiness tells_source tells_sink (empty capacity) source sink (KeepsReady kept) status
 
 -- What `copy` has done, by the status: what a copy has done that ends so.
 abbrev pub CopiesFor : Bool → Bool → List ℕ → Reading → Writing → Status → Type 0
@@ -173,6 +112,8 @@ SinkEnds tells sink _ = ⊥
 abbrev pub CommandEnds : Bool → Bool → Command → Reading → Writing → Option Kept → Status → Type 0
 CommandEnds tells_source tells_sink (RunOf capacity) source sink kept status =
     RunEnds tells_source tells_sink capacity source sink kept status
+CommandEnds tells_source tells_sink ReadyOf source sink kept status =
+    (capacity : ℕ) → ReadyEnds tells_source tells_sink capacity source sink kept status
 CommandEnds tells_source tells_sink (Generate seed rounds) source sink kept status =
     SumsFor tells_sink (generated_events seed rounds) sink.taken sink.now kept status
 CommandEnds tells_source tells_sink (Wake senders count) source sink kept status =
@@ -180,12 +121,18 @@ CommandEnds tells_source tells_sink (Wake senders count) source sink kept status
 CommandEnds tells_source tells_sink (Copy capacity word) source sink kept status =
     (prefix : List ℕ) → bytes_of word.now ≡ Some prefix → CopiesFor tells_source tells_sink prefix source sink status
 
--- What every command has done, by the status.
+-- What every command has done, by the status, but for its lines: which of them is wrong depends on the command.
 abbrev pub StatusFor : Bool → Bool → Reading → Writing → Status → Type 0
 StatusFor tells_source tells_sink source sink Done = IsTrue sink.flushed
 StatusFor tells_source tells_sink source sink BadWords = ⊥
-StatusFor tells_source tells_sink source sink BadLine = LineRefused tells_source tells_sink source.left source.rest sink.taken sink.now
+StatusFor tells_source tells_sink source sink BadLine = ⊤
 StatusFor tells_source tells_sink source sink TooLong = IsTrue tells_source → TookTooMany source.left source.rest
 StatusFor tells_source tells_sink source sink ReadFault = Rose source.faults source.later
 StatusFor tells_source tells_sink source sink WriteFault = Rose sink.faults sink.later
-StatusFor tells_source tells_sink source sink OutOfMemory = RanShort tells_source tells_sink source sink
+StatusFor tells_source tells_sink source sink OutOfMemory = RanShort completion tells_source tells_sink source sink
+
+-- A line is wrong for the command of these words, which reads events: its number was written, and nothing else.
+pub record CommandRefused (words : List (List ℕ)) (tells_source tells_sink : Bool) (left rest taken now : List ℕ) : Type 0 where
+  pub driver : DriverKind
+  pub runs : RunsOn driver words
+  pub refused : LineRefused driver tells_source tells_sink left rest taken now

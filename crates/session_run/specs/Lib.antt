@@ -1,8 +1,11 @@
 pub mod Session
 pub mod Submission
 pub mod Executed
+pub mod DriverKind
 pub mod Command
 pub mod Generated
 pub mod Top
+pub mod Reads
+pub mod Writes
 pub mod Ends
 pub mod Complete

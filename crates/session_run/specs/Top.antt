@@ -5,7 +5,7 @@ use Rattle.std.specs.List.{AllZip, count_by}
 use Rattle.ring_core.specs.declared.ledger.Event.{Event}
 use Rattle.ring_core.specs.declared.ledger.Reply.{Reply}
 use Rattle.ring_core.specs.declared.ledger.Reply.TheVariants.{Handed, Refused}
-use Rattle.ring_core.specs.Ledger.{empty}
+use Rattle.ring_core.specs.Ledger.{Ledger, empty}
 use Rattle.ring_core.specs.Run.{ledger, replies}
 pub use Rattle.rent_io.specs.Call.{TookMore}
 use Rattle.session_run.specs.declared.session.Session.{Session}
@@ -16,9 +16,9 @@ use Rattle.session_run.specs.declared.top.Status.TheVariants.{Done, BadWords, Ba
 use Rattle.session_run.specs.declared.generated.TheConstants.{ENTRIES}
 use Rattle.session_run.specs.declared.input.TheConstants.{MOST_INPUT, PIECE}
 use Rattle.session_run.specs.Session.{SessionStands}
-use Rattle.event_text.specs.TextEvent.{StandsFor}
+use Rattle.session_run.specs.DriverKind.{DriverKind, StandsOn, replies_on, after_on}
 use Rattle.event_text.specs.TextReply.{reply_text}
-use Rattle.event_text.specs.TextLines.{lines, IsFirstWrong}
+use Rattle.event_text.specs.TextLines.{lines, IsFirstWrongFor}
 use Rattle.event_text.specs.TextWrites.{Starts}
 
 -- The number with which the program ends.
@@ -69,33 +69,33 @@ summary_text events =
     generated_text (length events) (count_by is_refused (replies (empty ENTRIES) events))
     (count_by is_ready (replies (empty ENTRIES) events))
 
--- The input, of at most so many bytes, was read to its end, and its lines stand for these events, one each.
-pub record WasRead (left rest : List ℕ) (events : List Event) : Type 0 where
+-- The input, of at most so many bytes, was read to its end, and its lines stand for these events, one each, of those that a driver takes.
+pub record WasRead (driver : DriverKind) (left rest : List ℕ) (events : List Event) : Type 0 where
   pub within : length left ≤ MOST_INPUT
   pub to_its_end : rest ≡ []
-  pub stand : AllZip StandsFor (lines left) events
+  pub stand : AllZip (StandsOn driver) (lines left) events
 
--- A run is done. Where the source tells its bytes they were read to their end, and are the texts of the events; where the sink
--- tells its bytes the text of each of the machine's replies was written, and nothing else. A session is kept that stands for
--- the ledger that the events lead to.
-pub record RunDone (tells_source tells_sink : Bool) (capacity : ℕ) (left rest taken now : List ℕ) (kept : Option Kept) : Type 0 where
+-- Events are done, from a ledger on. Where the source tells its bytes they were read to their end, and are the texts of the events; where
+-- the sink tells its bytes the text of each of the replies was written, and nothing else. What is kept is for the ledger that the events
+-- lead to.
+pub record EventsDone (driver : DriverKind) (tells_source tells_sink : Bool) (L : Ledger) (left rest taken now : List ℕ)
+    (keeps : Ledger → Type 0) : Type 0 where
   pub events : List Event
-  pub read : IsTrue tells_source → WasRead left rest events
-  pub written : IsTrue tells_sink → now ≡ taken ++ reply_lines (replies (empty capacity) events)
-  pub session : Session
-  pub kept_is : kept ≡ Some (Run session)
-  pub stands : SessionStands session (ledger capacity events)
+  pub read : IsTrue tells_source → WasRead driver left rest events
+  pub written : IsTrue tells_sink → now ≡ taken ++ reply_lines (replies_on driver L events)
+  pub kept : keeps (after_on driver L events)
 
--- The input, of at most so many bytes, was read to its end, and this is the number of its first line that stands for no event.
-pub record IsBadLine (left rest : List ℕ) (n : ℕ) : Type 0 where
+-- The input, of at most so many bytes, was read to its end, and this is the number of its first line that stands for no event that
+-- a driver takes.
+pub record IsBadLine (driver : DriverKind) (left rest : List ℕ) (n : ℕ) : Type 0 where
   pub within : length left ≤ MOST_INPUT
   pub to_its_end : rest ≡ []
-  pub first : IsFirstWrong (lines left) n
+  pub first : IsFirstWrongFor (StandsOn driver) (lines left) n
 
 -- A line is wrong: its number was written, and nothing else.
-pub record LineRefused (tells_source tells_sink : Bool) (left rest taken now : List ℕ) : Type 0 where
+pub record LineRefused (driver : DriverKind) (tells_source tells_sink : Bool) (left rest taken now : List ℕ) : Type 0 where
   pub n : ℕ
-  pub bad : IsTrue tells_source → IsBadLine left rest n
+  pub bad : IsTrue tells_source → IsBadLine driver left rest n
   pub written : IsTrue tells_sink → now ≡ taken ++ bad_line_text n
 
 -- More bytes were taken than the input may have.
@@ -110,10 +110,10 @@ pub record TookFew (left rest : List ℕ) : Type 0 where
 
 -- Memory ran out, and no line that could be looked at is wrong: nothing was taken; or more bytes than memory was taken for before
 -- the first read; or all was read, and each line stands for an event.
-pub data NoLineWrong (left rest : List ℕ) : Type 0 where
-  unread : rest ≡ left → NoLineWrong left rest
-  half_read : TookMore PIECE left rest → NoLineWrong left rest
-  all_right : (events : List Event) → WasRead left rest events → NoLineWrong left rest
+pub data NoLineWrong (driver : DriverKind) (left rest : List ℕ) : Type 0 where
+  unread : rest ≡ left → NoLineWrong driver left rest
+  half_read : TookMore PIECE left rest → NoLineWrong driver left rest
+  all_right : (events : List Event) → WasRead driver left rest events → NoLineWrong driver left rest
 
 -- A prefix of a text was written.
 pub record WrotePrefix (text taken now : List ℕ) : Type 0 where
@@ -122,15 +122,15 @@ pub record WrotePrefix (text taken now : List ℕ) : Type 0 where
   pub written : now ≡ taken ++ prefix
 
 -- A text that the program may write: the replies to the events that the lines of the input stand for, or the number of a wrong line.
-pub data IsText (tells_source : Bool) (capacity : ℕ) (left rest : List ℕ) : List ℕ → Type 0 where
-  of_replies : (events : List Event) → (IsTrue tells_source → WasRead left rest events)
-      → IsText tells_source capacity left rest (reply_lines (replies (empty capacity) events))
-  of_bad_line : (n : ℕ) → (IsTrue tells_source → IsBadLine left rest n) → IsText tells_source capacity left rest (bad_line_text n)
+pub data IsText (driver : DriverKind) (tells_source : Bool) (L : Ledger) (left rest : List ℕ) : List ℕ → Type 0 where
+  of_replies : (events : List Event) → (IsTrue tells_source → WasRead driver left rest events)
+      → IsText driver tells_source L left rest (reply_lines (replies_on driver L events))
+  of_bad_line : (n : ℕ) → (IsTrue tells_source → IsBadLine driver left rest n) → IsText driver tells_source L left rest (bad_line_text n)
 
 -- A prefix of a text that the program may write was written.
-pub record WroteSome (tells_source tells_sink : Bool) (capacity : ℕ) (left rest taken now : List ℕ) : Type 0 where
+pub record WroteSome (driver : DriverKind) (tells_source tells_sink : Bool) (L : Ledger) (left rest taken now : List ℕ) : Type 0 where
   pub text : List ℕ
-  pub may : IsText tells_source capacity left rest text
+  pub may : IsText driver tells_source L left rest text
   pub prefix : IsTrue tells_sink → WrotePrefix text taken now
 
 -- What `wake` wrote of so many wakers, by the status. It has no other status than these three.

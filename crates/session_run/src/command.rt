@@ -27,6 +27,8 @@ pub const MOST_CAPACITY: u64 = 16777216;
 pub enum Command<'a> {
     /// `run CAP`: runs the events that are read, over a queue of so many entries, at least one.
     Run(u32),
+    /// `ready`: runs the events that are read on the readiness driver.
+    Ready,
     /// `gen SEED COUNT`: generates the events of so many rounds from a seed, and runs them.
     Generate(u32, u32),
     /// `wake SENDERS COUNT`: so many senders, at most 64, send so many wakers each, at most 100000.
@@ -41,9 +43,21 @@ pub fn command_of(words: &[String]) -> Option<Command<'_>>
     ensures { ReadsCommand (map string_bytes words.now) result }
 {
     match words {
+        [name] => ready_of(name.as_str()),
         [name, capacity] => run_of(name.as_str(), capacity.as_str()),
         [name, first, second] => counted_of(name.as_str(), first.as_str(), second.as_str()),
         _ => None,
+    }
+}
+
+// The command `ready` of one word.
+fn ready_of<'a>(name: &str) -> Option<Command<'a>>
+    ensures { ReadsCommand (name.now ∷ []) result }
+{
+    if name == "ready" {
+        Some(Command::Ready)
+    } else {
+        None
     }
 }
 

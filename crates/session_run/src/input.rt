@@ -1,9 +1,11 @@
 //! Reading all lines of a source.
 ghost use Rattle.std.specs.Prelude.{◌≡◌, ◌≤◌, ◌<◌, ◌+◌, ◌++◌, length, IfOk, IfErr, OnOk, OnErr, IsTrue, vec_len, vec_capacity, []};
+ghost use Rattle.session_run.specs.DriverKind.{DriverKind, TakesAll};
 ghost use Rattle.session_run.specs.Top.{WasRead};
-ghost use Rattle.session_run.specs.Ends.{IsAll, WhyNoEvents, WhyStopped, WhyUnread};
+ghost use Rattle.session_run.specs.Reads.{IsAll, WhyNoEvents, WhyStopped, WhyUnread};
 
-use event_text::{LinesError, read_events};
+use crate::stepping::Stepping;
+use event_text::LinesError;
 use rent_io::ByteSource;
 use ring_core::Event;
 use std::alloc::{AllocError, Global};
@@ -29,20 +31,22 @@ pub(crate) enum NoEvents {
     OutOfMemory,
 }
 
-/// The events that the lines of a source stand for.
-pub(crate) fn source_events<S: ByteSource>(
+/// The events that the lines of a source stand for, of those that such a session takes.
+pub(crate) fn source_events<M: Stepping, S: ByteSource>(
     alloc: Global,
     source: &mut S,
 ) -> Result<Vec<Event>, NoEvents>
-    ensures read { IfOk result (λ events. IsTrue S.tells → WasRead (S.left source.old) (S.left source.new) events.items) }
+    ensures read { IfOk result (λ events. IsTrue S.tells → WasRead M.kind (S.left source.old) (S.left source.new) events.items) }
+    ensures taken { IfOk result (λ events. TakesAll M.kind events.items) }
     ensures calm { OnOk result (IsTrue S.tells → S.faults source.new ≡ S.faults source.old) }
-    ensures why { IfErr result (WhyNoEvents S.tells (S.left source.old) (S.left source.new) (S.faults source.old) (S.faults source.new)) }
+    ensures why { IfErr result (WhyNoEvents M.kind S.tells (S.left source.old) (S.left source.new) (S.faults source.old)
+        (S.faults source.new)) }
 {
     let text = match read_all(alloc, source) {
         Ok(text) => text,
         Err(why) => return Err(why),
     };
-    match read_events(alloc, text.as_slice()) {
+    match M::read(alloc, text.as_slice()) {
         Ok(events) => Ok(events),
         Err(LinesError::BadLine(line)) => Err(NoEvents::BadLine(line)),
         Err(LinesError::OutOfMemory) => Err(NoEvents::OutOfMemory),
@@ -53,7 +57,8 @@ pub(crate) fn source_events<S: ByteSource>(
 fn read_all<S: ByteSource>(alloc: Global, source: &mut S) -> Result<Vec<u8>, NoEvents>
     ensures read { IfOk result (λ text. IsTrue S.tells → IsAll (S.left source.old) (S.left source.new) text.items) }
     ensures calm { OnOk result (IsTrue S.tells → S.faults source.new ≡ S.faults source.old) }
-    ensures why { IfErr result (WhyUnread S.tells (S.left source.old) (S.left source.new) (S.faults source.old) (S.faults source.new)) }
+    ensures why { (driver : DriverKind) → IfErr result (WhyUnread driver S.tells (S.left source.old) (S.left source.new)
+        (S.faults source.old) (S.faults source.new)) }
 {
     let Ok(mut piece) = zeros(alloc, PIECE) else {
         return Err(NoEvents::OutOfMemory);

@@ -1,5 +1,5 @@
-//! Runs the events that it reads on the completion engine, and writes the replies; or sends wakers to a driver that
-//! parks, or copies what it reads.
+//! Runs the events that it reads on the completion driver or the readiness driver, and writes the replies; or sends wakers to
+//! a driver that parks, or copies what it reads.
 #![tactic(auto)]
 
 pub mod command;
@@ -7,6 +7,7 @@ pub mod generated;
 mod input;
 mod output;
 pub mod session;
+mod stepping;
 pub mod top;
 mod usage;
 pub mod wake;

@@ -1,13 +1,12 @@
 //! Writing replies and lines to a sink.
 ghost use Rattle.std.specs.Prelude.{◌≡◌, ◌<◌, ◌≤◌, ◌++◌, [], IfOk, IfErr, OnOk, IsTrue, decimal};
-ghost use Rattle.ring_core.specs.Ledger.{empty};
-ghost use Rattle.ring_core.specs.Run.{ledger, replies};
-ghost use Rattle.session_run.specs.Session.{SessionStands};
+ghost use Rattle.ring_core.specs.Ledger.{Ledger};
+ghost use Rattle.session_run.specs.DriverKind.{TakesAll, after_on, replies_on};
 ghost use Rattle.event_text.specs.TextReply.{reply_text};
 ghost use Rattle.session_run.specs.Top.{ended, reply_lines};
-ghost use Rattle.session_run.specs.Ends.{Sent, WhyUnwritten, WritesAll};
+ghost use Rattle.session_run.specs.Writes.{Sent, WhyUnwritten, WritesAll};
 
-use crate::session::Session;
+use crate::stepping::Stepping;
 use event_text::write_reply;
 use itoa::Buffer;
 use rent_buf::OutOfMemory;
@@ -26,27 +25,27 @@ pub(crate) enum Unwritten {
     OutOfMemory,
 }
 
-/// Runs events over a queue of so many entries, writes the text of each reply and a newline as it comes, in large pieces, and
-/// flushes; then it gives the session.
-pub(crate) fn write_replies<K: ByteSink>(
+/// Runs events that a session takes, writes the text of each reply and a newline as it comes, in large pieces, and flushes; then it
+/// gives the session back.
+pub(crate) fn write_replies<M: Stepping + Drop, K: ByteSink>(
     alloc: Global,
-    capacity: u32,
+    session: M,
     events: Vec<Event>,
     sink: &mut K,
-) -> Result<Session, Unwritten>
-    requires { 0 < capacity }
-    ensures stands { IfOk result (λ session. SessionStands session (ledger capacity events.items)) }
-    ensures ok { OnOk result (IsTrue K.tells → K.taken sink.new ≡ K.taken sink.old ++ reply_lines (replies (empty capacity) events.items)) }
+) -> Result<M, Unwritten>
+    requires { TakesAll M.kind events.items }
+    ensures stands { IfOk result (λ new. (L : Ledger) → M.stands session L → M.stands new (after_on M.kind L events.items)) }
+    ensures ok { OnOk result ((L : Ledger) → M.stands session L → IsTrue K.tells →
+        K.taken sink.new ≡ K.taken sink.old ++ reply_lines (replies_on M.kind L events.items)) }
     ensures flushed { OnOk result (IsTrue (K.is_flushed sink.new)) }
-    ensures why { IfErr result (WhyUnwritten K.tells (reply_lines (replies (empty capacity) events.items)) (K.taken sink.old)
-        (K.taken sink.new) (K.faults sink.old) (K.faults sink.new)) }
+    ensures why { IfErr result (λ why. (L : Ledger) → M.stands session L →
+        WhyUnwritten K.tells (reply_lines (replies_on M.kind L events.items)) (K.taken sink.old) (K.taken sink.new) (K.faults sink.old)
+        (K.faults sink.new) why) }
 {
-    let Ok(mut session) = Session::new(alloc, capacity) else {
-        return Err(Unwritten::OutOfMemory);
-    };
+    let mut running = session;
     let mut out = Vec::new(alloc);
     for event in events {
-        let Ok(reply) = session.apply(event) else {
+        let Ok(reply) = running.apply(event) else {
             return Err(Unwritten::OutOfMemory);
         };
         match write_next(reply, &mut out, sink) {
@@ -55,7 +54,7 @@ pub(crate) fn write_replies<K: ByteSink>(
         }
     }
     match write_last(out.as_slice(), sink) {
-        Ok(()) => Ok(session),
+        Ok(()) => Ok(running),
         Err(_) => Err(Unwritten::Fault),
     }
 }

@@ -1,14 +1,17 @@
 //! The top call: all that the program does, over any source and sink.
 ghost use Rattle.std.specs.Prelude.{◌≡◌, ◌≤◌, ◌<◌, ◌*◌, ◌⊎◌, ◌↔◌, map, string_bytes, List, None, Some, IfOk, IsSome, IsTrue, ℕ};
+ghost use Rattle.ring_core.specs.Ledger.{Ledger};
 ghost use Rattle.ring_core.specs.Run.{ledger};
 ghost use Rattle.session_run.specs.Session.{SessionStands};
 ghost use Rattle.ring_core.specs.Counts.{Rose};
-ghost use Rattle.session_run.specs.Command.{IsRun, IsGenerate, IsWake, IsCopy, IsNoCommand, IsWithin, KeepsNothing, ReadsNothing};
+ghost use Rattle.session_run.specs.Command.{IsRun, IsReady, IsGenerate, IsWake, IsCopy, IsNoCommand, IsWithin, KeepsNothing, ReadsNothing};
+ghost use Rattle.session_run.specs.DriverKind.{TakesAll, completion};
 ghost use Rattle.session_run.specs.Generated.{generated_events};
-ghost use Rattle.session_run.specs.Top.{LineRefused, SumsFor, TookTooMany, WakesFor, exit_number, summary_text};
+ghost use Rattle.session_run.specs.Top.{SumsFor, TookTooMany, WakesFor, exit_number, summary_text};
 ghost use Rattle.event_text.specs.TextReads.{bytes_of};
-ghost use Rattle.session_run.specs.Ends.{CommandEnds, CopiesFor, RanShort, RefusesFor, RunEnds, RunsEvents, SinkEnds, StatusFor};
-ghost use Rattle.session_run.specs.Ends.{reading, writing};
+ghost use Rattle.session_run.specs.Writes.{RefusesFor};
+ghost use Rattle.session_run.specs.Ends.{CommandEnds, CommandRefused, CopiesFor, EventsGive, RanShort, ReadyEnds, RunEnds, RunsGive};
+ghost use Rattle.session_run.specs.Ends.{SinkEnds, StatusFor, reading, writing};
 ghost use Rattle.session_run.specs.Complete.{IsDoneOrShort, NoneRose, TakesInput};
 
 use crate::command::{Command, MOST_SENDERS, command_of};
@@ -16,9 +19,11 @@ use crate::generated::{ENTRIES, generated, run_counted};
 use crate::input::{MOST_INPUT, NoEvents, source_events};
 use crate::output::{Unwritten, write_last, write_number, write_replies};
 use crate::session::Session;
+use crate::stepping::Stepping;
 use crate::wake::wake_all;
 use copy_run::{Ending, copy_all};
 use event_text::read_bytes;
+use ready_run::ReadySession;
 use rent_buf::OutOfMemory;
 use rent_io::{ByteSink, ByteSource};
 use ring_core::Event;
@@ -39,9 +44,9 @@ pub enum Status {
     BadWords,
     /// The whole input was read, and a line of it is no event's text. Nothing was run, and `line N` was written.
     BadLine,
-    /// More than 16777216 bytes were read. `run` has written nothing, and `copy` only the first of its prefix and its input.
+    /// More than 16777216 bytes were read. `run` and `ready` have written nothing, and `copy` only the first of its prefix and its input.
     TooLong,
-    /// The source failed. `run` has written nothing, and `copy` only the first of its prefix and what it read.
+    /// The source failed. `run` and `ready` have written nothing, and `copy` only the first of its prefix and what it read.
     ReadFault,
     /// The sink failed. A prefix of the text was written.
     WriteFault,
@@ -68,24 +73,27 @@ impl Status {
 
 /// What a command leaves if its status is Done. (not in monoio)
 pub enum Kept {
-    /// The session after the last event.
+    /// The session after the last event of `run` or `gen`.
     Run(Session),
+    /// The session after the last event of `ready`.
+    Ready(ReadySession),
 }
 
 impl Drop for Kept {
     fn drop(self) {
         match self {
-            Kept::Run(_) => {}
+            Kept::Run(_) | Kept::Ready(_) => {}
         }
     }
 }
 
 /// Does what the words say. `run CAP` reads lines, runs their events over a queue of `CAP` entries, and writes the text of
-/// each reply and a newline as it comes. `gen SEED COUNT` reads nothing: it runs the events that the seed generates over a
-/// queue of 8 entries, and writes how many there are, how many were refused, and how many polls were ready. `wake SENDERS
-/// COUNT` reads nothing: each sender sends so many wakers from a thread of its own, and `drained N` and a newline are written.
-/// `copy CAP PREFIXHEX` writes the bytes of `PREFIXHEX`, and then all that it reads, by way of buffers of `CAP` bytes. The
-/// condition is that nothing is kept yet. (not in monoio)
+/// each reply and a newline as it comes. `ready` does so on the readiness driver, where no line may be a turn or an execution.
+/// `gen SEED COUNT` reads nothing: it runs the events that the seed generates over a queue of 8 entries, and writes how many
+/// there are, how many were refused, and how many polls were ready. `wake SENDERS COUNT` reads nothing: each sender sends so
+/// many wakers from a thread of its own, and `drained N` and a newline are written. `copy CAP PREFIXHEX` writes the bytes of
+/// `PREFIXHEX`, and then all that it reads, by way of buffers of `CAP` bytes. The condition is that nothing is kept yet.
+/// (not in monoio)
 pub fn top<R: Threads + Wait + Clock + Sync, S: ByteSource, K: ByteSink>(
     rt: &R,
     alloc: Global,
@@ -102,6 +110,9 @@ pub fn top<R: Threads + Wait + Clock + Sync, S: ByteSource, K: ByteSink>(
     // What each command has read, written and kept, by the status.
     ensures runs { (capacity : ℕ) → IsRun (map string_bytes words.now) capacity →
         RunEnds S.tells K.tells capacity (reading S.left S.faults source.old source.new)
+        (writing K.taken K.faults K.is_flushed sink.old sink.new) kept.new result }
+    ensures readies { IsReady (map string_bytes words.now) → (capacity : ℕ) →
+        ReadyEnds S.tells K.tells capacity (reading S.left S.faults source.old source.new)
         (writing K.taken K.faults K.is_flushed sink.old sink.new) kept.new result }
     ensures sums { (seed rounds : ℕ) → IsGenerate (map string_bytes words.now) seed rounds →
         SumsFor K.tells (generated_events seed rounds) (K.taken sink.old) (K.taken sink.new) kept.new result }
@@ -120,15 +131,16 @@ pub fn top<R: Threads + Wait + Clock + Sync, S: ByteSource, K: ByteSink>(
 
     // Done means that the sink is flushed. Each other status has its cause, whatever the command; `copy` alone writes before all is read.
     ensures flushed { result ≡ Status.Done → IsTrue (K.is_flushed sink.new) }
-    ensures bad_line { result ≡ Status.BadLine → LineRefused S.tells K.tells (S.left source.old) (S.left source.new) (K.taken sink.old)
-        (K.taken sink.new) }
+    ensures bad_line { result ≡ Status.BadLine → CommandRefused (map string_bytes words.now) S.tells K.tells (S.left source.old)
+        (S.left source.new) (K.taken sink.old) (K.taken sink.new) }
     ensures too_long { result ≡ Status.TooLong → IsTrue S.tells → TookTooMany (S.left source.old) (S.left source.new) }
     ensures read_fault { result ≡ Status.ReadFault → Rose (S.faults source.old) (S.faults source.new) }
     ensures write_fault { result ≡ Status.WriteFault → Rose (K.faults sink.old) (K.faults sink.new) }
     ensures unwritten { ((capacity : ℕ) (prefix : List ℕ) → IsCopy (map string_bytes words.now) capacity prefix → ⊥) →
         (result ≡ Status.TooLong) ⊎ (result ≡ Status.ReadFault) → IsTrue K.tells → K.taken sink.new ≡ K.taken sink.old }
     ensures memory { result ≡ Status.OutOfMemory →
-        RanShort S.tells K.tells (reading S.left S.faults source.old source.new) (writing K.taken K.faults K.is_flushed sink.old sink.new) }
+        RanShort completion S.tells K.tells (reading S.left S.faults source.old source.new)
+        (writing K.taken K.faults K.is_flushed sink.old sink.new) }
 
     // A command that takes its input is done, or runs out of memory, where neither count of faults rose.
     ensures complete { TakesInput S.tells (map string_bytes words.now) (S.left source.old) →
@@ -162,13 +174,14 @@ fn run_command<R: Threads + Wait + Clock + Sync, S: ByteSource, K: ByteSink>(
 {
     match command {
         Command::Run(capacity) => run_lines(alloc, capacity, source, sink, kept),
+        Command::Ready => run_ready(alloc, source, sink, kept),
         Command::Generate(seed, rounds) => run_generated(alloc, seed, rounds, sink, kept),
         Command::Wake(senders, count) => run_wake(rt, alloc, senders, count, sink),
         Command::Copy(capacity, word) => run_copy(rt, alloc, capacity, word, source, sink),
     }
 }
 
-// Reads all lines, runs their events, and writes the replies.
+// Reads all lines, runs their events over a queue of so many entries, and writes the replies.
 fn run_lines<S: ByteSource, K: ByteSink>(
     alloc: Global,
     capacity: u32,
@@ -182,9 +195,52 @@ fn run_lines<S: ByteSource, K: ByteSink>(
         (writing K.taken K.faults K.is_flushed sink.old sink.new) kept.new result }
     ensures kept { (result ≡ Status.Done → ⊥) → kept.new ≡ None }
 {
-    match source_events(alloc, source) {
-        Ok(events) => run_events(alloc, capacity, events, sink, kept),
-        Err(why) => refuse(why, sink),
+    let Ok(session) = Session::new(alloc, capacity) else {
+        return Status::OutOfMemory;
+    };
+    match run_session(alloc, session, source, sink) {
+        Ok(session) => {
+            *kept = Some(Kept::Run(session));
+            Status::Done
+        }
+        Err(status) => status,
+    }
+}
+
+// Reads all lines, runs their events on the readiness driver, and writes the replies.
+fn run_ready<S: ByteSource, K: ByteSink>(
+    alloc: Global,
+    source: &mut S,
+    sink: &mut K,
+    kept: &mut Option<Kept>,
+) -> Status
+    requires { kept.old ≡ None }
+    ensures ends { (capacity : ℕ) → ReadyEnds S.tells K.tells capacity (reading S.left S.faults source.old source.new)
+        (writing K.taken K.faults K.is_flushed sink.old sink.new) kept.new result }
+    ensures kept { (result ≡ Status.Done → ⊥) → kept.new ≡ None }
+{
+    match run_session(alloc, ReadySession::new(alloc), source, sink) {
+        Ok(session) => {
+            *kept = Some(Kept::Ready(session));
+            Status::Done
+        }
+        Err(status) => status,
+    }
+}
+
+// Reads all lines, runs their events on a session, writes the replies, and gives the session back.
+fn run_session<M: Stepping + Drop, S: ByteSource, K: ByteSink>(
+    alloc: Global,
+    session: M,
+    source: &mut S,
+    sink: &mut K,
+) -> Result<M, Status>
+    ensures { (L : Ledger) → M.stands session L → EventsGive M.kind S.tells K.tells L (reading S.left S.faults source.old source.new)
+        (writing K.taken K.faults K.is_flushed sink.old sink.new) M.stands result }
+{
+    match source_events::<M, S>(alloc, source) {
+        Ok(events) => run_events(alloc, session, events, sink),
+        Err(why) => Err(refuse(why, sink)),
     }
 }
 
@@ -203,26 +259,21 @@ fn refuse<K: ByteSink>(why: NoEvents, sink: &mut K) -> Status
     }
 }
 
-// Runs events and writes the replies.
-fn run_events<K: ByteSink>(
+// Runs events on a session, writes the replies, and gives the session back.
+fn run_events<M: Stepping + Drop, K: ByteSink>(
     alloc: Global,
-    capacity: u32,
+    session: M,
     events: Vec<Event>,
     sink: &mut K,
-    kept: &mut Option<Kept>,
-) -> Status
-    requires capacity { 0 < capacity }
-    requires fresh { kept.old ≡ None }
-    ensures runs { RunsEvents K.tells capacity events.items (writing K.taken K.faults K.is_flushed sink.old sink.new) kept.new result }
-    ensures kept { (result ≡ Status.Done → ⊥) → kept.new ≡ None }
+) -> Result<M, Status>
+    requires { TakesAll M.kind events.items }
+    ensures { (L : Ledger) → M.stands session L → RunsGive M.kind K.tells L events.items
+        (writing K.taken K.faults K.is_flushed sink.old sink.new) M.stands result }
 {
-    match write_replies(alloc, capacity, events, sink) {
-        Ok(session) => {
-            *kept = Some(Kept::Run(session));
-            Status::Done
-        }
-        Err(Unwritten::Fault) => Status::WriteFault,
-        Err(Unwritten::OutOfMemory) => Status::OutOfMemory,
+    match write_replies(alloc, session, events, sink) {
+        Ok(session) => Ok(session),
+        Err(Unwritten::Fault) => Err(Status::WriteFault),
+        Err(Unwritten::OutOfMemory) => Err(Status::OutOfMemory),
     }
 }
 

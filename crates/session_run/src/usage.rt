@@ -10,9 +10,10 @@ use std::{env, io};
 
 /// What `--help` writes to standard output.
 pub(crate) const HELP: &str =
-    "Runs a completion I/O engine with owned buffers on events that it reads.
+    "Runs an I/O engine with owned buffers on events that it reads.
 
 usage: session_run run CAP
+       session_run ready
        session_run gen SEED COUNT
        session_run wake SENDERS COUNT
        session_run copy CAP PREFIXHEX
@@ -22,6 +23,9 @@ usage: session_run run CAP
 run CAP              reads events from standard input, one a line, runs them
                      over a submission queue of CAP entries (1 to 4294967295),
                      and writes the reply to each, one a line
+ready                does so on the readiness driver, which makes the call of an
+                     operation when it is polled: turn and exec lines are
+                     invalid here
 gen SEED COUNT       runs COUNT rounds of seven events (0 to 100000) that SEED
                      generates (0 to 2147483647) over a queue of 8 entries, and
                      writes how many events there were, how many were refused,
@@ -42,7 +46,7 @@ pub(crate) const VERSION: &str = "session_run 0.1.0";
 
 /// The line that standard error gets for an invalid command line.
 pub(crate) const USAGE: &str =
-    "usage: session_run run CAP | gen SEED COUNT | wake SENDERS COUNT | copy CAP PREFIXHEX";
+    "usage: session_run run CAP | ready | gen SEED COUNT | wake SENDERS COUNT | copy CAP PREFIXHEX";
 
 /// What a person may ask for in place of a command.
 #[derive(Clone, Copy, Debug, PartialEq, Eq)]

@@ -225,6 +225,42 @@ fn rows_of_requests(rt: HostRuntime) -> Result<(), Fail> {
     Ok(())
 }
 
+// Runs of `ready`: a name, the lines, the status, and the replies, separated by `;`.
+#[rattlefmt::skip]
+const READINESS: [(&str, &str, Status, &str); 7] = [
+    ("polls that are pending and ready, a cancel, a message and a group",
+     "give stream;submit recv 0 v 4 0 4 -;poll 0 7;feed 0 6162;poll 0 7;submit recv 0 v 1 0 1 -;cancel 1;poll 1 7;close 0;give datagram;\
+      submit recv 1 v 1 0 1 -;poll 2 7;message 1 5 61;poll 2 7;canceller;newhandle 0;under 0 recvmsg 1 v 1 0 1 -;cancelall 0;poll 3 7;\
+      under 0 recvmsg 1 v 1 0 1 -;look 1",
+     Status::Done,
+     "handle 0;op 0;pending;fed;ready ok 2 v 4 0 4 6162;op 1;asked;ready err 125 v 1 0 1 -;released;handle 1;op 2;pending;fed;\
+      ready err 22 v 1 0 1 -;canceller 0;cancelhandle 0;op 3;cancels 3;ready err 125 v 1 0 1 -;canceled v 1 0 1 -;messages 0;"),
+    ("a dropped operation takes no bytes", "give stream;submit recv 0 v 1 0 1 -;feed 0 61;drop 0;poll 0 1;submit recv 0 v 1 0 1 -;poll 1 1",
+     Status::Done, "handle 0;op 0;fed;dropped;refused NoOp;op 1;ready ok 1 v 1 0 1 61;"),
+    ("bytes through a pipe",
+     "give stream;give pipe;feed 0 616263;submit spliceto 0 1 2;poll 0 1;look 1;submit splicefrom 1 0 9;poll 1 1;feed 1 6465;\
+      poll 1 1;look 0",
+     Status::Done, "handle 0;handle 1;fed;op 0;ready ok 2 -;output 6162;op 1;pending;fed;ready ok 2 -;output 6465;"),
+    ("an accepted stream", "give listener;submit accept 0;feed 1 61;poll 0 1;feed 1 61;submit recv 1 v 2 0 2 -;poll 1 1;close 1;close 1",
+     Status::Done, "handle 0;op 0;refused NoHandle;ready made 1 -;fed;op 1;ready ok 1 v 2 0 2 61;released;refused NoHandle;"),
+    ("no turn", "give stream;turn", Status::BadLine, "line 2;"),
+    ("no execution", "exec 0 ok 0;turn", Status::BadLine, "line 1;"),
+    ("an empty input", "", Status::Done, ""),
+];
+
+#[test]
+fn rows_of_readiness(rt: HostRuntime) -> Result<(), Fail> {
+    for (name, input, status, output) in READINESS {
+        let words = split_words(rt.alloc(), "ready")?;
+        let source = MemSource::new(lines_of(rt.alloc(), input)?, failing(rt.alloc(), None)?);
+        let (ended, sink) = run_top(&rt, rt.alloc(), words.as_slice(), source, None)?;
+        let wanted = lines_of(rt.alloc(), output)?;
+        assert_eq!(rt; ended, status, "in the row {name:?}");
+        assert_eq!(rt; sink.taken(), wanted.as_slice(), "in the row {name:?}");
+    }
+    Ok(())
+}
+
 // An input, a read that fails, a write that fails, the status, and what was written.
 #[rattlefmt::skip]
 const FAULTS: [(&str, Option<u64>, Option<u64>, Status, &str); 8] = [
@@ -253,7 +289,7 @@ fn faults(rt: HostRuntime) -> Result<(), Fail> {
 
 // Words of `gen` and `wake` and of no command, a write or flush that fails, the status, and what was written.
 #[rattlefmt::skip]
-const WORDS: [(&str, Option<u64>, Status, &str); 21] = [
+const WORDS: [(&str, Option<u64>, Status, &str); 23] = [
     ("gen 1 5", None, Status::Done, "events 36 refused 1 ready 4;"),
     ("gen 0 0", None, Status::Done, "events 1 refused 0 ready 0;"),
     ("gen 2147483647 0", None, Status::Done, "events 1 refused 0 ready 0;"),
@@ -265,6 +301,8 @@ const WORDS: [(&str, Option<u64>, Status, &str); 21] = [
     ("gen 1 5", Some(1), Status::WriteFault, "events 36 refused 1 ready 4;"),
     ("run", None, Status::BadWords, ""),
     ("run 4 4", None, Status::BadWords, ""),
+    ("ready 4", None, Status::BadWords, ""),
+    ("Ready", None, Status::BadWords, ""),
     ("Run 4", None, Status::BadWords, ""),
     ("wake 2 3", None, Status::Done, "drained 6;"),
     ("wake 0 3", None, Status::Done, "drained 0;"),

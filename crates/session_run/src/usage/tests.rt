@@ -71,7 +71,7 @@ fn is_line(kept: &Cell<Option<String>>, line: Option<&str>) -> bool {
 #[rattlefmt::skip]
 const STATUSES: [(Status, u8, Option<&str>); 7] = [
     (Status::Done, 0, None),
-    (Status::BadWords, 1, Some("usage: session_run run CAP | gen SEED COUNT | wake SENDERS COUNT | copy CAP PREFIXHEX")),
+    (Status::BadWords, 1, Some("usage: session_run run CAP | ready | gen SEED COUNT | wake SENDERS COUNT | copy CAP PREFIXHEX")),
     (Status::BadLine, 2, None),
     (Status::TooLong, 3, Some("session_run: the input has more than 16777216 bytes")),
     (Status::ReadFault, 4, Some("session_run: reading the input failed")),
@@ -96,10 +96,11 @@ fn each_status_has_its_number_and_line(rt: HostRuntime) -> Result<(), Fail> {
 
 // The lines of the help.
 #[rattlefmt::skip]
-const LINES: [&str; 26] = [
-    "Runs a completion I/O engine with owned buffers on events that it reads.",
+const LINES: [&str; 30] = [
+    "Runs an I/O engine with owned buffers on events that it reads.",
     "",
     "usage: session_run run CAP",
+    "       session_run ready",
     "       session_run gen SEED COUNT",
     "       session_run wake SENDERS COUNT",
     "       session_run copy CAP PREFIXHEX",
@@ -109,6 +110,9 @@ const LINES: [&str; 26] = [
     "run CAP              reads events from standard input, one a line, runs them",
     "                     over a submission queue of CAP entries (1 to 4294967295),",
     "                     and writes the reply to each, one a line",
+    "ready                does so on the readiness driver, which makes the call of an",
+    "                     operation when it is polled: turn and exec lines are",
+    "                     invalid here",
     "gen SEED COUNT       runs COUNT rounds of seven events (0 to 100000) that SEED",
     "                     generates (0 to 2147483647) over a queue of 8 entries, and",
     "                     writes how many events there were, how many were refused,",

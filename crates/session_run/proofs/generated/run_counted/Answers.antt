@@ -6,9 +6,10 @@ use Rattle.std.proofs.lemmas.List.{length_push}
 use Rattle.ring_core.specs.Ledger.{empty}
 use Rattle.ring_core.specs.Run.{after, replies}
 use Rattle.session_run.specs.declared.generated.TheConstants.{ENTRIES}
+use Rattle.session_run.specs.DriverKind.{completion}
 use Rattle.session_run.specs.Session.{SessionStands}
 use Rattle.session_run.specs.Top.{generated_text, is_ready, is_refused}
-use Rattle.session_run.proofs.Replying.{all-replied, answered-next, count-few, count-next, take-all}
+use Rattle.session_run.proofs.Replying.{all-replied, answered-next, count-few, count-next, steps-on, take-all}
 use Rattle.session_run.proofs.generated.run_counted.Goals as goal
 
 pub count-requires : goal.count-requires
@@ -19,8 +20,9 @@ count-requires c =
     let k = length c.loop-event.yielded in
     let turn = YieldsList-turn road c.loop-event.yielded c.loop-event.event-iterator c.loop-event.yielded_by c.next.result c.next.new.self
     c.in-Some.event c.in-Some.is c.next.ensures.steps in
-    let next = answered-next (empty ENTRIES) c.args.events.items k c.in-Some.event c.in_ok-reply.reply c.apply.new.self turn.0 turn.1
-    (c.in_ok-reply.ensures.answers _ c.loop-event.invariant.stands) in
+    let next = answered-next SessionStands completion (empty ENTRIES) c.args.events.items k c.in-Some.event c.in_ok-reply.reply
+    c.apply.new.self turn.0 turn.1
+    (steps-on _ _ _ _ (c.in_ok-reply.ensures.answers _ c.loop-event.invariant.stands)) in
     let within = next.within in
     let below = turn.0 in
     let refused = count-few is_refused rs k c.loop-event.summary.refused (omega arith) c.loop-event.invariant.refused in
@@ -35,8 +37,9 @@ loop-event-preserved c =
     let k = length c.loop-event.yielded in
     let turn = YieldsList-turn road c.loop-event.yielded c.loop-event.event-iterator c.loop-event.yielded_by c.next.result c.next.new.self
     c.in-Some.event c.in-Some.is c.next.ensures.steps in
-    let next = answered-next (empty ENTRIES) c.args.events.items k c.in-Some.event c.in_ok-reply.reply c.apply.new.self turn.0 turn.1
-    (c.in_ok-reply.ensures.answers _ c.loop-event.invariant.stands) in
+    let next = answered-next SessionStands completion (empty ENTRIES) c.args.events.items k c.in-Some.event c.in_ok-reply.reply
+    c.apply.new.self turn.0 turn.1
+    (steps-on _ _ _ _ (c.in_ok-reply.ensures.answers _ c.loop-event.invariant.stands)) in
     let more = sym (length_push c.loop-event.yielded c.in-Some.event) in
     record {
       stands = subst (λ m. SessionStands c.apply.new.self (after (empty ENTRIES) (take m c.args.events.items))) more next.stands;
@@ -57,7 +60,7 @@ returns-clause-summary c =
     let k = length c.loop-event.yielded in
     let end = YieldsList-end road c.loop-event.yielded c.loop-event.event-iterator c.loop-event.yielded_by c.next.result c.next.new.self
     c.in-None.is c.next.ensures.steps in
-    let all = take-all rs k (all-replied (empty ENTRIES) c.args.events.items k end.1) in
+    let all = take-all rs k (all-replied completion (empty ENTRIES) c.args.events.items k end.1) in
     ap (λ n. generated_text n c.loop-event.summary.refused c.loop-event.summary.ready) c.loop-event.invariant.events
     ∙ ap (λ n. generated_text (length c.args.events.items) n c.loop-event.summary.ready)
     (c.loop-event.invariant.refused ∙ ap (λ xs. count_by is_refused xs) all)

@@ -1,5 +1,5 @@
 use Rattle.std.proofs.Common.{◌≡◌, ◌≤◌, length, IsTrue}
-use Rattle.session_run.specs.Ends.{Sent}
+use Rattle.session_run.specs.Writes.{Sent}
 use Rattle.session_run.proofs.output.write_all.Given as goal
 
 abbrev pub invariant-loop-rest : goal.invariant-loop-rest

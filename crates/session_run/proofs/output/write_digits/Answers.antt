@@ -1,6 +1,6 @@
 use Rattle.std.proofs.Common.{◌∷◌, [], ◌∙◌, subst}
 use Rattle.std.specs.Prelude.{decimal, Err}
-use Rattle.session_run.specs.Ends.{Wrote, WritesAll}
+use Rattle.session_run.specs.Writes.{Wrote, WritesAll}
 use Rattle.session_run.proofs.Writing.{writes-then, writes-cut}
 use Rattle.session_run.proofs.output.write_digits.Goals as goal
 

@@ -1,7 +1,7 @@
 use Rattle.std.proofs.Common.{◌∷◌, [], append_assoc, subst, sym}
 use Rattle.std.specs.Prelude.{decimal, Err}
 use Rattle.session_run.specs.Top.{ended}
-use Rattle.session_run.specs.Ends.{WritesAll}
+use Rattle.session_run.specs.Writes.{WritesAll}
 use Rattle.session_run.proofs.Writing.{writes-then, writes-cut}
 use Rattle.session_run.proofs.output.write_number.Goals as goal
 

@@ -1,17 +1,17 @@
 use Rattle.std.proofs.Common.{◌≡◌, ◌≤◌, length, take, IsTrue}
-use Rattle.ring_core.specs.Ledger.{empty}
-use Rattle.ring_core.specs.Run.{after, replies}
-use Rattle.session_run.specs.Ends.{Sent}
-use Rattle.session_run.specs.Session.{SessionStands}
+use Rattle.ring_core.specs.Ledger.{Ledger}
+use Rattle.session_run.specs.Writes.{Sent}
+use Rattle.session_run.specs.DriverKind.{after_on, replies_on}
 use Rattle.session_run.specs.Top.{reply_lines}
 use Rattle.session_run.proofs.output.write_replies.Given as goal
 
 -- The texts of the replies so far were written, or wait to be.
 abbrev pub invariant-loop-event : goal.invariant-loop-event
 invariant-loop-event g l = record {
-  stands : SessionStands l.session (after (empty l.capacity) (take (length l.yielded) l.fn.events.items));
-  sent : IsTrue g.K.ByteSink.tells
-      → Sent (reply_lines (take (length l.yielded) (replies (empty l.capacity) l.fn.events.items))) l.out.items
+  stands : (L : Ledger) → g.M.Stepping.stands l.fn.session L
+      → g.M.Stepping.stands l.running (after_on g.M.Stepping.kind L (take (length l.yielded) l.fn.events.items));
+  sent : (L : Ledger) → g.M.Stepping.stands l.fn.session L → IsTrue g.K.ByteSink.tells
+      → Sent (reply_lines (take (length l.yielded) (replies_on g.M.Stepping.kind L l.fn.events.items))) l.out.items
       (g.K.ByteSink.taken l.initial.sink)
       (g.K.ByteSink.taken l.sink);
   faults : g.K.ByteSink.faults l.initial.sink ≤ g.K.ByteSink.faults l.sink;

@@ -1,11 +1,4 @@
-use Rattle.std.proofs.Common.{refl}
 use Rattle.session_run.proofs.top.run_events.Goals as goal
 
-pub returns-in-Ok-clause-runs : goal.returns-in-Ok-clause-runs
-returns-in-Ok-clause-runs g c = record {
-  written = c.in-Ok.ensures.ok;
-  flushed = c.in-Ok.ensures.flushed;
-  session = c.in-Ok.session;
-  kept_is = refl;
-  stands = c.in-Ok.ensures.stands;
-}
+pub returns-in-Ok : goal.returns-in-Ok
+returns-in-Ok g c = λ L begun. (c.in-Ok.ensures.ok L begun, c.in-Ok.ensures.flushed, c.in-Ok.ensures.stands L begun)

@@ -1,11 +1,23 @@
-use Rattle.session_run.proofs.Endings.{ends-run, ends-refused}
+use Rattle.std.proofs.Common.{refl, Some}
+use Rattle.ring_core.specs.Ledger.{empty}
+use Rattle.session_run.specs.declared.top.Kept.TheVariants.{Run}
+use Rattle.session_run.specs.DriverKind.{completion, KeepsRun}
+use Rattle.session_run.specs.Session.{SessionStands}
+use Rattle.session_run.specs.declared.top.Status.TheVariants.{Done}
+use Rattle.session_run.specs.Ends.{reading, writing}
+use Rattle.session_run.proofs.Endings.{ends-kept}
 use Rattle.session_run.proofs.top.run_lines.Goals as goal
 
-pub returns-in-Ok-clause-ends : goal.returns-in-Ok-clause-ends
-returns-in-Ok-clause-ends g c =
-    ends-run g.S.ByteSource.tells g.K.ByteSink.tells c.args.capacity _ _ _ c.in-Ok.events.items _ c.in-Ok.ensures.read c.in-Ok.ensures.calm
-    c.run_events.ensures.runs
+pub returns-in-Ok-run_session-clause-ends : goal.returns-in-Ok-run_session-clause-ends
+returns-in-Ok-run_session-clause-ends g c =
+    ends-kept completion g.S.ByteSource.tells g.K.ByteSink.tells (empty c.args.capacity)
+    (reading g.S.ByteSource.left g.S.ByteSource.faults c.args.source.now c.run_session.new.source)
+    (writing g.K.ByteSink.taken g.K.ByteSink.faults g.K.ByteSink.is_flushed c.args.sink.now c.run_session.new.sink)
+    (SessionStands c.in-Ok-run_session.session) (KeepsRun (Some (Run c.in-Ok-run_session.session))) Done
+    (λ M stands. record { session = c.in-Ok-run_session.session; kept_is = refl; stands = stands })
+    (c.in-Ok-run_session.ensures (empty c.args.capacity) c.in-Ok.ensures)
 
 pub returns-in-Err-clause-ends : goal.returns-in-Err-clause-ends
 returns-in-Err-clause-ends g c =
-    ends-refused g.S.ByteSource.tells g.K.ByteSink.tells c.args.capacity _ _ _ c.in-Err.why _ c.in-Err.ensures.why c.refuse.ensures
+    ends-kept completion g.S.ByteSource.tells g.K.ByteSink.tells (empty c.args.capacity) _ _ (λ M. ⊥) (KeepsRun c.args.kept.now) _
+    (λ M never. absurd never) (c.in-Err.ensures (empty c.args.capacity) c.in-Ok.ensures)

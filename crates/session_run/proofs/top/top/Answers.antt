@@ -1,11 +1,20 @@
 use Rattle.session_run.proofs.Commands.{reads-nothing, generate-nothing, wake-keeps, copy-keeps}
-use Rattle.session_run.proofs.Endings.{run-ends, sum-ends, wake-ends, copy-ends, written-late}
+use Rattle.session_run.proofs.Endings.{run-ends, ready-ends, sum-ends, wake-ends, copy-ends, line-refused, written-late}
 use Rattle.session_run.proofs.Completing.{command-complete, input-taken}
 use Rattle.session_run.proofs.top.top.Goals as goal
 
 pub returns-in-Some-clause-runs : goal.returns-in-Some-clause-runs
 returns-in-Some-clause-runs g c = λ capacity run.
     run-ends g.S.ByteSource.tells g.K.ByteSink.tells _ c.in-Some.command capacity _ _ _ _ c.in-Some.ensures run c.run_command.ensures.ends
+
+pub returns-in-Some-clause-readies : goal.returns-in-Some-clause-readies
+returns-in-Some-clause-readies g c = λ ready capacity.
+    ready-ends g.S.ByteSource.tells g.K.ByteSink.tells _ c.in-Some.command capacity _ _ _ _ c.in-Some.ensures ready
+    c.run_command.ensures.ends
+
+pub returns-in-Some-clause-bad_line : goal.returns-in-Some-clause-bad_line
+returns-in-Some-clause-bad_line g c = λ is.
+    line-refused g.S.ByteSource.tells g.K.ByteSink.tells _ c.in-Some.command _ _ _ _ c.in-Some.ensures c.run_command.ensures.ends is
 
 pub returns-in-Some-clause-sums : goal.returns-in-Some-clause-sums
 returns-in-Some-clause-sums g c = λ seed rounds gen.
