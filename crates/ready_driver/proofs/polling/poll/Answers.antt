@@ -93,7 +93,7 @@ returns-in-WouldBlock-clause-polls g c = λ memory D stand. (
           c.args.task
           c.poll.new.self.slots.values c.call.new.self.slots.values c.args.io.now c.call.new.caller WouldBlock
           c.in-Pending.ensures.polls calls _
-          stand.handles (unmade.2 memory),
+          stand.handles (unmade.2 memory).0,
       record {
         operations = record {
           given = c.call.ensures.given ∙ c.poll.ensures.given ∙ stand.operations.given;
