@@ -9,8 +9,7 @@ use std::rt::Env;
 use std::{env, io};
 
 /// What `--help` writes to standard output.
-pub(crate) const HELP: &str =
-    "Runs an I/O engine with owned buffers on events that it reads.
+pub(crate) const HELP: &str = "Runs an I/O engine with owned buffers on events that it reads.
 
 usage: session_run run CAP
        session_run ready
