@@ -15,7 +15,6 @@ use Rattle.ring_core.specs.declared.ledger.Refusal.TheVariants.{BadHandleEvent}
 use Rattle.ring_core.specs.declared.ledger.Reply.{Reply}
 use Rattle.ring_core.specs.declared.ledger.Reply.TheVariants.{Refused}
 use Rattle.ring_core.specs.declared.request.Request.{Request}
-use Rattle.ring_core.specs.declared.world.HandleState.{HandleState}
 use Rattle.ring_core.specs.declared.world.Look.{Look as Shown}
 use Rattle.ring_core.specs.declared.world.WorldError.{WorldError}
 use Rattle.ring_core.specs.Step.{look_reply}
@@ -181,14 +180,14 @@ steps-built new old D own request group under (Err error) ok err plain stands is
     record { stands = err D stands; unrefused = unrefused }
 
 -- A driver whose handles alone have changed.
-pub keeps-world : (old new : LegacyState Memory Buf) (world : List HandleState) →
-    new ≡ record old { handling = with_world old.handling world } → KeepsOps old new
-keeps-world old new world same = subst (λ d. KeepsOps old d) (sym same) (record { tokens = λ op. (λ h. h, λ h. h); given = refl })
+pub keeps-world : (old new : LegacyState Memory Buf) (now : Memory) →
+    new ≡ record old { handling = with_world old.handling now } → KeepsOps old new
+keeps-world old new now same = subst (λ d. KeepsOps old d) (sym same) (record { tokens = λ op. (λ h. h, λ h. h); given = refl })
 
 -- The user of one holds what it held.
-pub single-world : (old new : LegacyState Memory Buf) (world : List HandleState) →
-    new ≡ record old { handling = with_world old.handling world } → AreSingle old.handling.table → AreSingle new.handling.table
-single-world old new world same single = subst (λ d. AreSingle d.handling.table) (sym same) single
+pub single-world : (old new : LegacyState Memory Buf) (now : Memory) →
+    new ≡ record old { handling = with_world old.handling now } → AreSingle old.handling.table → AreSingle new.handling.table
+single-world old new now same single = subst (λ d. AreSingle d.handling.table) (sym same) single
 
 -- A refused event that left the driver as it was as plain data.
 pub answers-left : (old new : ReadySession) (D : Legacy) (event : Event) (refusal : Refusal) → SessionStands old D →

@@ -164,9 +164,11 @@ fn a_cut_run_is_done_or_has_a_wrong_line(rt: HostRuntime) -> Result<(), Fail> {
 
 // Words, how many newlines they read, the status, and how many bytes are written: `line 1` of a run.
 #[rattlefmt::skip]
-const LONG: [(&str, usize, Status, usize); 4] = [
+const LONG: [(&str, usize, Status, usize); 6] = [
     ("run 4", 16777216, Status::BadLine, 7),
     ("run 4", 16777217, Status::TooLong, 0),
+    ("ready", 16777216, Status::BadLine, 7),
+    ("ready", 16777217, Status::TooLong, 0),
     ("copy 16777216 -", 16777216, Status::Done, 16777216),
     ("copy 16777216 -", 16777217, Status::TooLong, 0),
 ];

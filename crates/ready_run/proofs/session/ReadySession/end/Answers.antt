@@ -15,7 +15,7 @@ returns-in-Ok c = λ D stands.
     let old = c.args.self.now.driver in
     let new = c.end.new.self in
     answers-kept c.args.self.now _ D _ _ stands (tokens-same _) tt (c.in-Ok.ensures.answers D stands.driver)
-    (single-world old new _ c.end.ensures.rest) (keeps-world old new _ c.end.ensures.rest)
+    (single-world old new new.handling.io c.end.ensures.rest) (keeps-world old new new.handling.io c.end.ensures.rest)
 
 pub returns-in-Err : goal.returns-in-Err
 returns-in-Err c = λ D stands.
@@ -23,4 +23,4 @@ returns-in-Err c = λ D stands.
     let new = c.end.new.self in
     answers-unended c.args.self.now _ D c.args.h c.in-Err.field-0 stands (tokens-same _) (c.in-Err.ensures.answers D stands.driver)
     c.in-Err.ensures.ends
-    (single-world old new _ c.end.ensures.rest) (keeps-world old new _ c.end.ensures.rest)
+    (single-world old new new.handling.io c.end.ensures.rest) (keeps-world old new new.handling.io c.end.ensures.rest)

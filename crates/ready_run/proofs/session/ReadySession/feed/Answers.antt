@@ -18,7 +18,7 @@ returns-in-Ok c = λ D stands.
     let old = c.args.self.now.driver in
     let new = c.feed.new.self in
     answers-kept c.args.self.now _ D _ _ stands (tokens-same _) tt (c.in-Ok.ensures.answers D stands.driver)
-    (single-world old new _ c.feed.ensures.rest) (keeps-world old new _ c.feed.ensures.rest)
+    (single-world old new new.handling.io c.feed.ensures.rest) (keeps-world old new new.handling.io c.feed.ensures.rest)
 
 pub returns-in-Err-BadHandleEvent : goal.returns-in-Err-BadHandleEvent
 returns-in-Err-BadHandleEvent c = λ D stands.
@@ -27,7 +27,7 @@ returns-in-Err-BadHandleEvent c = λ D stands.
     let refused = subst (λ why. RefusedFor built D (Feed c.args.h c.args.bytes.now) new why) c.in-Err-BadHandleEvent.field-0-is
     (c.in-Err-BadHandleEvent.ensures.answers D stands.driver) in
     answers-left c.args.self.now _ D _ _ stands (tokens-same _) refused.0 refused.1
-    (single-world old new _ c.feed.ensures.rest) (keeps-world old new _ c.feed.ensures.rest)
+    (single-world old new new.handling.io c.feed.ensures.rest) (keeps-world old new new.handling.io c.feed.ensures.rest)
 
 pub returns-in-Err-OutOfMemory : goal.returns-in-Err-OutOfMemory
 returns-in-Err-OutOfMemory c = λ D stands.
@@ -38,5 +38,5 @@ returns-in-Err-OutOfMemory c = λ D stands.
     record {
       unrefused = refused.0;
       stands = stands-kept c.args.self.now _ D D stands (tokens-same _) refl refused.1
-          (single-world old new _ c.feed.ensures.rest) (keeps-world old new _ c.feed.ensures.rest);
+          (single-world old new new.handling.io c.feed.ensures.rest) (keeps-world old new new.handling.io c.feed.ensures.rest);
     }

@@ -20,7 +20,7 @@ returns-in-Ok c = λ D stands.
     let old = c.args.self.now.driver in
     let new = c.feed_message.new.self in
     answers-kept c.args.self.now _ D _ _ stands (tokens-same _) tt (c.in-Ok.ensures.answers D stands.driver)
-    (single-world old new _ c.feed_message.ensures.rest) (keeps-world old new _ c.feed_message.ensures.rest)
+    (single-world old new new.handling.io c.feed_message.ensures.rest) (keeps-world old new new.handling.io c.feed_message.ensures.rest)
 
 pub returns-in-Err-BadHandleEvent : goal.returns-in-Err-BadHandleEvent
 returns-in-Err-BadHandleEvent c = λ D stands.
@@ -30,7 +30,7 @@ returns-in-Err-BadHandleEvent c = λ D stands.
     let refused = subst (λ why. RefusedFor built D event new why) c.in-Err-BadHandleEvent.field-0-is
     (c.in-Err-BadHandleEvent.ensures.answers D stands.driver) in
     answers-left c.args.self.now _ D _ _ stands (tokens-same _) refused.0 refused.1
-    (single-world old new _ c.feed_message.ensures.rest) (keeps-world old new _ c.feed_message.ensures.rest)
+    (single-world old new new.handling.io c.feed_message.ensures.rest) (keeps-world old new new.handling.io c.feed_message.ensures.rest)
 
 pub returns-in-Err-OutOfMemory : goal.returns-in-Err-OutOfMemory
 returns-in-Err-OutOfMemory c = λ D stands.
@@ -42,5 +42,5 @@ returns-in-Err-OutOfMemory c = λ D stands.
     record {
       unrefused = refused.0;
       stands = stands-kept c.args.self.now _ D D stands (tokens-same _) refl refused.1
-          (single-world old new _ c.feed_message.ensures.rest) (keeps-world old new _ c.feed_message.ensures.rest);
+          (single-world old new new.handling.io c.feed_message.ensures.rest) (keeps-world old new new.handling.io c.feed_message.ensures.rest);
     }
