@@ -55,7 +55,8 @@ pub due-added : (duty : Duty) (h : ℕ) → h < duty.count → has_number h (wit
 due-added duty h within =
     let below : nat_lt h duty.count ≡ true = grind (arith, nat_tests) in
     let more : Duty = record duty { handles = duty.handles ++ h ∷ [] } in
-    subst (λ b. has_number h (if b && not (has_number h duty.handles) then more else duty).handles ≡ true) (sym below) (by (has_number h duty.handles) refl)
+    subst (λ b. has_number h (if b && not (has_number h duty.handles) then more else duty).handles ≡ true) (sym below)
+    (by (has_number h duty.handles) refl)
   where
     by : (b : Bool) → has_number h duty.handles ≡ b →
         has_number h (if true && not b then record duty { handles = duty.handles ++ h ∷ [] } else duty).handles ≡ true

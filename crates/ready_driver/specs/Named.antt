@@ -38,8 +38,8 @@ abbrev pub IsCompleted : {B : Type 0} → Option (Slot B) → Outcome → Type 0
 IsCompleted None outcome = ⊥
 IsCompleted (Some slot) outcome = slot.life ≡ Completed outcome
 
--- An operation that is polled names the handles that it named, made none if it had made none, and is completed with an outcome exactly if it
--- was before. All other slots stay.
+-- An operation that is polled names the handles that it named, made none if it had made none, and is completed with an outcome exactly
+-- if it was before. All other slots stay.
 pub record KeepsSlot {B : Type 0} (old : map.FinMap nat_cmp (Slot B)) (key : ℕ) (new : map.FinMap nat_cmp (Slot B)) : Type 0 where
   pub others : (k : ℕ) → k ≢ key → map.get new k ≡ map.get old k
   pub names : named_in (map.get new key) ≡ named_in (map.get old key)

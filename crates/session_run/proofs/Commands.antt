@@ -199,14 +199,17 @@ pub not-run-ready : (words : List (List ℕ)) (capacity : ℕ) → IsRun words c
 not-run-ready words capacity run ready =
     (let all : codes "run" ∷ decimal capacity ∷ [] ≡ codes "ready" ∷ [] = sym run.words_are ∙ ready in cc)
 
+-- Nor for `gen`,
 pub not-generate-ready : (words : List (List ℕ)) (seed rounds : ℕ) → IsGenerate words seed rounds → IsReady words → ⊥
 not-generate-ready words seed rounds gen ready =
     (let all : codes "gen" ∷ decimal seed ∷ decimal rounds ∷ [] ≡ codes "ready" ∷ [] = sym gen.words_are ∙ ready in cc)
 
+-- nor for `wake`,
 pub not-wake-ready : (words : List (List ℕ)) (senders count : ℕ) → IsWake words senders count → IsReady words → ⊥
 not-wake-ready words senders count wake ready =
     (let all : codes "wake" ∷ decimal senders ∷ decimal count ∷ [] ≡ codes "ready" ∷ [] = sym wake.words_are ∙ ready in cc)
 
+-- nor for `copy`.
 pub not-copy-ready : (words : List (List ℕ)) (capacity : ℕ) (prefix : List ℕ) → IsCopy words capacity prefix → IsReady words → ⊥
 not-copy-ready words capacity prefix copy ready =
     (let all : codes "copy" ∷ decimal capacity ∷ bytes_word prefix ∷ [] ≡ codes "ready" ∷ [] = sym copy.words_are ∙ ready in cc)

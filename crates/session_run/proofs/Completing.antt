@@ -1,9 +1,8 @@
 -- A command whose input is right, and whose source and sink don't fail, is done, or runs out of memory.
-use Rattle.std.proofs.Common.{◌≡◌, ◌≤◌, ◌*◌, ◌⊎◌, inl, inr, refl, ℕ, List, [], ◌∷◌, ◌++◌, length, Bool, IsTrue, Option, Some}
+use Rattle.std.proofs.Common.{◌≤◌, ◌*◌, inl, inr, refl, ℕ, List, [], ◌∷◌, ◌++◌, length, Bool, IsTrue, Option, Some}
 use Rattle.std.proofs.Common.{arith, subst}
 use Rattle.std.specs.List.{AllZip}
 use Rattle.ring_core.specs.declared.ledger.Event.{Event}
-use Rattle.ring_core.specs.Counts.{Rose}
 use Rattle.ring_core.specs.Ledger.{Ledger, empty}
 use Rattle.session_run.specs.declared.command.Command.{Command}
 use Rattle.session_run.specs.declared.input.TheConstants.{MOST_INPUT}

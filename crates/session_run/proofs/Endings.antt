@@ -1,5 +1,5 @@
 -- What a command has done, by its words and its status.
-use Rattle.std.proofs.Common.{◌≡◌, ◌*◌, ◌⊎◌, inl, inr, Bool, IsTrue, ℕ, List, Option, Some, sym, ◌∙◌, subst}
+use Rattle.std.proofs.Common.{◌≡◌, ◌*◌, ◌⊎◌, inl, inr, Bool, IsTrue, ℕ, List, Option, Some, sym, subst}
 use Rattle.std.specs.Prelude.{Result, Ok, Err}
 use Rattle.ring_core.specs.declared.ledger.Event.{Event}
 use Rattle.ring_core.specs.Ledger.{Ledger}

@@ -51,9 +51,9 @@ module _ {R B : Type 0} (view : R → RingView) (buffer : B → Buffer) (tells s
       left-last (pending view old) (closes_of queued) moves.entered (pending view new) moves.moved (omega (arith, few, ready, closes))
 
   -- A turn stops only where a count rose, a completion is stray or memory runs out.
-  goes-on : (old new : IoUringDriver R B) (turned : Turned) (queued : List ℕ) (stop : Option Stop) → StopsFor view old new turned queued stop →
-      TreatsFor view tells old new turned queued stop → IsTrue tells → IsCalm (view (ring_in old)) (view (ring_in new)) →
-      GivesNoStray view old → GoesOn stop
+  goes-on : (old new : IoUringDriver R B) (turned : Turned) (queued : List ℕ) (stop : Option Stop) →
+      StopsFor view old new turned queued stop → TreatsFor view tells old new turned queued stop → IsTrue tells →
+      IsCalm (view (ring_in old)) (view (ring_in new)) → GivesNoStray view old → GoesOn stop
   goes-on old new turned queued None stops treats shows calm none = tt
   goes-on old new turned queued (Some RingFault) stops treats shows calm none = calm.never_faulty stops.0
   goes-on old new turned queued (Some Busy) stops treats shows calm none = calm.never_busy stops.0

@@ -55,8 +55,8 @@ impl<I: NonBlock, B: IoBufMut + Drop> Driver for LegacyDriver<I, B> {
     }
 
     /// The sleeper makes its steps first, whatever the turn behind them does, and waits a millisecond at most. It does not wait where a
-    /// task is to be named, where the last look at the object brought a report, or where a poll since then returned a count or a handle that
-    /// its call made: then more is likely to come at once. (monoio: `park`)
+    /// task is to be named, where the last look at the object brought a report, or where a poll since then returned a count or a handle
+    /// that its call made: then more is likely to come at once. (monoio: `park`)
     fn park<P: Ledger, D: Ledger, T: Wait + Clock>(
         &mut self,
         rt: &T,

@@ -47,8 +47,8 @@ fn waits<S: Stage>(stage: &mut S) -> Result<(), Why> {
     Ok(())
 }
 
-/// The handle 1 sends to the handle 2, which never reads: the send that waits is canceled, and the next one is refused when the peer closes.
-/// Nothing is left behind them.
+/// The handle 1 sends to the handle 2, which never reads: the send that waits is canceled, and the next one is refused when the peer
+/// closes. Nothing is left behind them.
 pub(crate) fn full<S: Stage>(stage: &mut S, alloc: Global) -> Result<(), Why> {
     stage.adopt(0)?;
     stage.adopt(1)?;

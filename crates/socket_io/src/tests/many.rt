@@ -80,8 +80,8 @@ fn tell_all<S: Stage>(stage: &mut S, alloc: Global, count: u64) -> Result<(), Wh
     is_like(sum == 0)
 }
 
-/// So many handles, from 1 on, dialled the handle 0: each connection is accepted, and all are open at once while a number is sent over each.
-/// Nothing is left behind them.
+/// So many handles, from 1 on, dialled the handle 0: each connection is accepted, and all are open at once while a number is sent over
+/// each. Nothing is left behind them.
 pub(crate) fn many<S: Stage>(stage: &mut S, alloc: Global, count: u64) -> Result<(), Why> {
     adopts(stage, count.saturating_add(1))?;
     for h in 1..count.saturating_add(1) {

@@ -42,5 +42,6 @@ returns-in-Err-OutOfMemory c = λ D stands.
     record {
       unrefused = refused.0;
       stands = stands-kept c.args.self.now _ D D stands (tokens-same _) refl refused.1
-          (single-world old new new.handling.io c.feed_message.ensures.rest) (keeps-world old new new.handling.io c.feed_message.ensures.rest);
+          (single-world old new new.handling.io c.feed_message.ensures.rest)
+          (keeps-world old new new.handling.io c.feed_message.ensures.rest);
     }
