@@ -8,7 +8,7 @@ use Rattle.std.proofs.Math.ListN.{length-set}
 use Rattle.std.proofs.lemmas.List.{length-append}
 use Rattle.ring_core.specs.declared.ranks.TheConstants.{WIDTH}
 use Rattle.ring_core.specs.Lists.{amended}
-use Rattle.ring_core.specs.Ranks.{one_if, kept_first, sum_first, AreCounted, less_one}
+use Rattle.ring_core.specs.Ranks.{one_if, kept_first, sum_first, AreSums, AreCounted, less_one}
 
 -- 1 where a place is among the first n, else 0.
 abbrev pub among : ℕ → ℕ → ℕ
@@ -137,13 +137,25 @@ kept-left (suc n) i [] there = cc
 kept-left (suc n) zero (f ∷ flags) there = let same : f ≡ true = cc in let counts = ap one_if same in omega arith
 kept-left (suc n) (suc i) (f ∷ flags) there = let rest = kept-left n i flags there in omega arith
 
+-- Sums after a lower count and its upper one rose by one.
+sums-up : (lower upper : List ℕ) (at : ℕ) → at < length lower → at / WIDTH < length upper → AreSums lower upper →
+    AreSums (amended lower at suc) (amended upper (at / WIDTH) suc)
+sums-up lower upper at below above sums n =
+    let up = sum-counted n (at / WIDTH) upper above in
+    let scaled = among-scaled at n in
+    let before = sums n in
+    let under = sum-counted (WIDTH * n) at lower below in
+    omega arith
+
 -- The counts after a slot joined.
-pub counted-joined : (flags : List Bool) (blocks groups : List ℕ) (at : ℕ) → at ≡ length flags → at < WIDTH * length blocks →
-    length blocks ≤ WIDTH * length groups → AreCounted flags blocks groups →
+pub counted-joined : (flags : List Bool) (blocks groups regions : List ℕ) (at : ℕ) → at ≡ length flags → at < WIDTH * length blocks →
+    length blocks ≤ WIDTH * length groups → length groups ≤ WIDTH * length regions → AreCounted flags blocks groups regions →
     AreCounted (flags ++ true ∷ []) (amended blocks (at / WIDTH) suc) (amended groups (at / WIDTH / WIDTH) suc)
-counted-joined flags blocks groups at end in_blocks in_groups counts =
+    (amended regions (at / WIDTH / WIDTH / WIDTH) suc)
+counted-joined flags blocks groups regions at end in_blocks in_groups in_regions counts =
     let block : at / WIDTH < length blocks = omega arith in
-    let group : at / WIDTH / WIDTH < length groups = omega arith in record {
+    let group : at / WIDTH / WIDTH < length groups = omega arith in
+    let region : at / WIDTH / WIDTH / WIDTH < length regions = omega arith in record {
       blocks_count = λ n.
           let up = sum-counted n (at / WIDTH) blocks block in
           let scaled = among-scaled at n in
@@ -151,18 +163,14 @@ counted-joined flags blocks groups at end in_blocks in_groups counts =
           let joined = kept-joined (WIDTH * n) flags in
           let last = ap (λ i. among i (WIDTH * n)) end in
           omega arith;
-      groups_count = λ n.
-          let up = sum-counted n (at / WIDTH / WIDTH) groups group in
-          let scaled = among-scaled (at / WIDTH) n in
-          let before = counts.groups_count n in
-          let below = sum-counted (WIDTH * n) (at / WIDTH) blocks block in
-          omega arith;
+      groups_count = sums-up blocks groups (at / WIDTH) block group counts.groups_count;
+      regions_count = sums-up groups regions (at / WIDTH / WIDTH) group region counts.regions_count;
     }
 
 -- The block of a kept slot counts it.
-pub block-some : (flags : List Bool) (blocks groups : List ℕ) (i : ℕ) → AreCounted flags blocks groups → slice_get flags i ≡ Some true →
-    0 < get_or blocks (i / WIDTH) 0
-block-some flags blocks groups i counts there =
+pub block-some : (flags : List Bool) (blocks groups regions : List ℕ) (i : ℕ) → AreCounted flags blocks groups regions →
+    slice_get flags i ≡ Some true → 0 < get_or blocks (i / WIDTH) 0
+block-some flags blocks groups regions i counts there =
     let next = sum-next (i / WIDTH) blocks in
     let low = counts.blocks_count (i / WIDTH) in
     let high = counts.blocks_count (suc (i / WIDTH)) in
@@ -171,21 +179,21 @@ block-some flags blocks groups i counts there =
     let above = kept-more (suc i) (WIDTH * suc (i / WIDTH)) flags (omega arith) in
     omega arith
 
--- The group of a block that counts something counts it.
-pub group-some : (flags : List Bool) (blocks groups : List ℕ) (b : ℕ) → AreCounted flags blocks groups → 0 < get_or blocks b 0 →
-    0 < get_or groups (b / WIDTH) 0
-group-some flags blocks groups b counts some =
-    let next = sum-next (b / WIDTH) groups in
-    let low = counts.groups_count (b / WIDTH) in
-    let high = counts.groups_count (suc (b / WIDTH)) in
-    let here = sum-next b blocks in
-    let below = sum-more (WIDTH * (b / WIDTH)) b blocks (omega arith) in
-    let above = sum-more (suc b) (WIDTH * suc (b / WIDTH)) blocks (omega arith) in
+-- The upper count of a lower one that counts something counts it.
+pub sums-some : (lower upper : List ℕ) (b : ℕ) → AreSums lower upper → 0 < get_or lower b 0 → 0 < get_or upper (b / WIDTH) 0
+sums-some lower upper b sums some =
+    let next = sum-next (b / WIDTH) upper in
+    let low = sums (b / WIDTH) in
+    let high = sums (suc (b / WIDTH)) in
+    let here = sum-next b lower in
+    let below = sum-more (WIDTH * (b / WIDTH)) b lower (omega arith) in
+    let above = sum-more (suc b) (WIDTH * suc (b / WIDTH)) lower (omega arith) in
     omega arith
 
 -- A block counts at most `WIDTH`.
-pub block-few : (flags : List Bool) (blocks groups : List ℕ) (b : ℕ) → AreCounted flags blocks groups → get_or blocks b 0 ≤ WIDTH
-block-few flags blocks groups b counts =
+pub block-few : (flags : List Bool) (blocks groups regions : List ℕ) (b : ℕ) → AreCounted flags blocks groups regions →
+    get_or blocks b 0 ≤ WIDTH
+block-few flags blocks groups regions b counts =
     let next = sum-next b blocks in
     let low = counts.blocks_count b in
     let high = counts.blocks_count (suc b) in
@@ -193,8 +201,9 @@ block-few flags blocks groups b counts =
     omega arith
 
 -- A group counts at most `WIDTH * WIDTH`.
-pub group-few : (flags : List Bool) (blocks groups : List ℕ) (g : ℕ) → AreCounted flags blocks groups → get_or groups g 0 ≤ WIDTH * WIDTH
-group-few flags blocks groups g counts =
+pub group-few : (flags : List Bool) (blocks groups regions : List ℕ) (g : ℕ) → AreCounted flags blocks groups regions →
+    get_or groups g 0 ≤ WIDTH * WIDTH
+group-few flags blocks groups regions g counts =
     let next = sum-next g groups in
     let low = counts.groups_count g in
     let high = counts.groups_count (suc g) in
@@ -203,35 +212,59 @@ group-few flags blocks groups g counts =
     let few = kept-few (WIDTH * (WIDTH * g)) (WIDTH * (WIDTH * suc g)) (WIDTH * WIDTH) flags (omega arith) in
     omega arith
 
+-- A region counts at most `WIDTH * WIDTH * WIDTH`.
+pub region-few : (flags : List Bool) (blocks groups regions : List ℕ) (r : ℕ) → AreCounted flags blocks groups regions →
+    get_or regions r 0 ≤ WIDTH * WIDTH * WIDTH
+region-few flags blocks groups regions r counts =
+    let next = sum-next r regions in
+    let low = counts.regions_count r in
+    let high = counts.regions_count (suc r) in
+    let low_group = counts.groups_count (WIDTH * r) in
+    let high_group = counts.groups_count (WIDTH * suc r) in
+    let low_block = counts.blocks_count (WIDTH * (WIDTH * r)) in
+    let high_block = counts.blocks_count (WIDTH * (WIDTH * suc r)) in
+    let few = kept-few (WIDTH * (WIDTH * (WIDTH * r))) (WIDTH * (WIDTH * (WIDTH * suc r))) (WIDTH * WIDTH * WIDTH) flags (omega arith) in
+    omega arith
+
+-- Sums after a lower count and its upper one fell by one.
+sums-down : (lower upper : List ℕ) (at : ℕ) → 0 < get_or lower at 0 → 0 < get_or upper (at / WIDTH) 0 → AreSums lower upper →
+    AreSums (amended lower at less_one) (amended upper (at / WIDTH) less_one)
+sums-down lower upper at below above sums n =
+    let down = sum-discounted n (at / WIDTH) upper above in
+    let scaled = among-scaled at n in
+    let before = sums n in
+    let under = sum-discounted (WIDTH * n) at lower below in
+    omega arith
+
 -- The counts after a slot that was kept isn't any more.
-pub counted-left : (flags : List Bool) (blocks groups : List ℕ) (i : ℕ) → slice_get flags i ≡ Some true → AreCounted flags blocks groups →
+pub counted-left : (flags : List Bool) (blocks groups regions : List ℕ) (i : ℕ) → slice_get flags i ≡ Some true →
+    AreCounted flags blocks groups regions →
     AreCounted (set flags i false) (amended blocks (i / WIDTH) less_one) (amended groups (i / WIDTH / WIDTH) less_one)
-counted-left flags blocks groups i there counts =
-    let block = block-some flags blocks groups i counts there in
-    let group = group-some flags blocks groups (i / WIDTH) counts block in record {
+    (amended regions (i / WIDTH / WIDTH / WIDTH) less_one)
+counted-left flags blocks groups regions i there counts =
+    let block = block-some flags blocks groups regions i counts there in
+    let group = sums-some blocks groups (i / WIDTH) counts.groups_count block in
+    let region = sums-some groups regions (i / WIDTH / WIDTH) counts.regions_count group in record {
       blocks_count = λ n.
           let down = sum-discounted n (i / WIDTH) blocks block in
           let scaled = among-scaled i n in
           let before = counts.blocks_count n in
           let left = kept-left (WIDTH * n) i flags there in
           omega arith;
-      groups_count = λ n.
-          let down = sum-discounted n (i / WIDTH / WIDTH) groups group in
-          let scaled = among-scaled (i / WIDTH) n in
-          let before = counts.groups_count n in
-          let below = sum-discounted (WIDTH * n) (i / WIDTH) blocks block in
-          omega arith;
+      groups_count = sums-down blocks groups (i / WIDTH) block group counts.groups_count;
+      regions_count = sums-down groups regions (i / WIDTH / WIDTH) group region counts.regions_count;
     }
 
 -- The whole sum of the blocks is the number of kept slots.
-pub blocks-total : (flags : List Bool) (blocks groups : List ℕ) → length flags ≤ WIDTH * length blocks → AreCounted flags blocks groups →
-    sum_first (length blocks) blocks ≡ kept_first (length flags) flags
-blocks-total flags blocks groups in_blocks counts = counts.blocks_count (length blocks) ∙ kept-end (WIDTH * length blocks) flags in_blocks
+pub blocks-total : (flags : List Bool) (blocks groups regions : List ℕ) → length flags ≤ WIDTH * length blocks →
+    AreCounted flags blocks groups regions → sum_first (length blocks) blocks ≡ kept_first (length flags) flags
+blocks-total flags blocks groups regions in_blocks counts = counts.blocks_count (length blocks)
+    ∙ kept-end (WIDTH * length blocks) flags in_blocks
 
--- The whole sum of the groups is that of the blocks.
-pub groups-total : (flags : List Bool) (blocks groups : List ℕ) → length blocks ≤ WIDTH * length groups → AreCounted flags blocks groups →
-    sum_first (length groups) groups ≡ sum_first (length blocks) blocks
-groups-total flags blocks groups in_groups counts = counts.groups_count (length groups) ∙ sum-end (WIDTH * length groups) blocks in_groups
+-- The whole sum of upper counts is that of the lower ones.
+pub sums-total : (lower upper : List ℕ) → length lower ≤ WIDTH * length upper → AreSums lower upper →
+    sum_first (length upper) upper ≡ sum_first (length lower) lower
+sums-total lower upper enough sums = sums (length upper) ∙ sum-end (WIDTH * length upper) lower enough
 
 -- Counts of 0 have the sum 0.
 sum-zeros : (n m : ℕ) → ◌≡◌ {A = ℕ} (sum_first n (replicate m 0)) 0
@@ -239,24 +272,37 @@ sum-zeros zero m = refl
 sum-zeros (suc n) zero = refl
 sum-zeros (suc n) (suc m) = let rest = sum-zeros n m in omega arith
 
+-- Counts of 0 behind others add nothing.
+pub sum-behind : (n m : ℕ) (xs : List ℕ) → sum_first n (xs ++ replicate m 0) ≡ sum_first n xs
+sum-behind zero m xs = refl
+sum-behind (suc n) m [] = sum-zeros (suc n) m
+sum-behind (suc n) m (x ∷ xs) = ap (λ rest. x + rest) (sum-behind n m xs)
+
+-- Sums of counts that are all 0.
+sums-none : (lower upper : List ℕ) (n m : ℕ) → lower ≡ replicate n 0 → upper ≡ replicate m 0 → AreSums lower upper
+sums-none lower upper n m none_lower none_upper i = ap (sum_first i) none_upper ∙ sum-zeros i m ∙ sym (sum-zeros (WIDTH * i) n)
+    ∙ sym (ap (sum_first (WIDTH * i)) none_lower)
+
 -- Of no slots, all counts are 0.
-pub counted-none : (blocks groups : List ℕ) (n m : ℕ) → blocks ≡ replicate n 0 → groups ≡ replicate m 0 → AreCounted [] blocks groups
-counted-none blocks groups n m no_blocks no_groups = record {
+pub counted-none : (blocks groups regions : List ℕ) (n m k : ℕ) → blocks ≡ replicate n 0 → groups ≡ replicate m 0 →
+    regions ≡ replicate k 0 → AreCounted [] blocks groups regions
+counted-none blocks groups regions n m k no_blocks no_groups no_regions = record {
   blocks_count = λ i. ap (sum_first i) no_blocks ∙ sum-zeros i n ∙ sym (kept-none (WIDTH * i));
-  groups_count = λ i. ap (sum_first i) no_groups ∙ sum-zeros i m ∙ sym (sum-zeros (WIDTH * i) n)
-      ∙ sym (ap (sum_first (WIDTH * i)) no_blocks);
+  groups_count = sums-none blocks groups n m no_blocks no_groups;
+  regions_count = sums-none groups regions m k no_groups no_regions;
 }
 
 -- Counts with no slot kept are those of no slots.
-pub counted-empty : (flags : List Bool) (blocks groups : List ℕ) → length flags ≤ WIDTH * length blocks →
-    ◌≡◌ {A = ℕ} (kept_first (length flags) flags) 0 → AreCounted flags blocks groups → AreCounted [] blocks groups
-counted-empty flags blocks groups in_blocks empty counts = record {
+pub counted-empty : (flags : List Bool) (blocks groups regions : List ℕ) → length flags ≤ WIDTH * length blocks →
+    ◌≡◌ {A = ℕ} (kept_first (length flags) flags) 0 → AreCounted flags blocks groups regions → AreCounted [] blocks groups regions
+counted-empty flags blocks groups regions in_blocks empty counts = record {
   blocks_count = λ i.
       let count = counts.blocks_count i in
       let all = kept-all (WIDTH * i) flags in
       let none = kept-none (WIDTH * i) in
       omega arith;
   groups_count = counts.groups_count;
+  regions_count = counts.regions_count;
 }
 
 -- A step over a count that is no more than the rank: the next count is there, and the rank before it is what is left.
@@ -287,20 +333,28 @@ slot-over flags at rest all flag left sum within here over =
     ∙ kept-next at flags flag here in
     (kept-within (at + 1) flags (omega arith), omega arith)
 
--- The blocks of a group in which a rank ends begin before the end of all blocks, and so do those that the rank is left to.
-pub group-found : (flags : List Bool) (blocks groups : List ℕ) (rank at rest : ℕ) → length flags ≤ WIDTH * length blocks →
-    AreCounted flags blocks groups → rank < kept_first (length flags) flags → sum_first at groups + rest ≡ rank →
-    (WIDTH * at < length blocks) × (sum_first (WIDTH * at) blocks + rest < sum_first (length blocks) blocks)
-group-found flags blocks groups rank at rest in_blocks counts some found =
-    let all = blocks-total flags blocks groups in_blocks counts in
-    let same = counts.groups_count at in
-    (sum-within (WIDTH * at) blocks (omega arith), omega arith)
+-- The lower counts of an upper one in which a rank ends begin before the end of all, and so do those that the rank is left to.
+pub sums-found : (lower upper : List ℕ) (at rest : ℕ) → AreSums lower upper →
+    sum_first at upper + rest < sum_first (length lower) lower →
+    (WIDTH * at < length lower) × (sum_first (WIDTH * at) lower + rest < sum_first (length lower) lower)
+sums-found lower upper at rest sums some = let same = sums at in (sum-within (WIDTH * at) lower (omega arith), omega arith)
+
+-- A rank among the kept slots is among what each level counts.
+pub rank-counted : (flags : List Bool) (blocks groups regions : List ℕ) (rank : ℕ) → length flags ≤ WIDTH * length blocks →
+    length blocks ≤ WIDTH * length groups → length groups ≤ WIDTH * length regions → AreCounted flags blocks groups regions →
+    rank < kept_first (length flags) flags →
+    (rank < sum_first (length regions) regions) × (rank < sum_first (length groups) groups) × (rank < sum_first (length blocks) blocks)
+rank-counted flags blocks groups regions rank in_blocks in_groups in_regions counts some =
+    let all_blocks = blocks-total flags blocks groups regions in_blocks counts in
+    let all_groups = sums-total blocks groups in_groups counts.groups_count in
+    let all_regions = sums-total groups regions in_regions counts.regions_count in
+    (omega arith, omega arith, omega arith)
 
 -- The slots of a block in which a rank ends begin before the end of all slots, and so do those that the rank is left to.
-pub block-found : (flags : List Bool) (blocks groups : List ℕ) (rank at rest : ℕ) → AreCounted flags blocks groups →
+pub block-found : (flags : List Bool) (blocks groups regions : List ℕ) (rank at rest : ℕ) → AreCounted flags blocks groups regions →
     rank < kept_first (length flags) flags → sum_first at blocks + rest ≡ rank →
     (WIDTH * at < length flags) × (kept_first (WIDTH * at) flags + rest < kept_first (length flags) flags)
-block-found flags blocks groups rank at rest counts some found =
+block-found flags blocks groups regions rank at rest counts some found =
     let same = counts.blocks_count at in
     (kept-within (WIDTH * at) flags (omega arith), omega arith)
 

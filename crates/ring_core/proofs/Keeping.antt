@@ -1,6 +1,6 @@
 -- What stands on the slots that are kept.
 use Rattle.std.proofs.Common.{◌≡◌, ◌≢◌, inl, inr, ℕ, zero, suc, ◌+◌, ◌<◌, ◌≤◌, Bool, true, false, List, [], ◌∷◌, ◌++◌, map, length, take}
-use Rattle.std.proofs.Common.{drop, remove, replicate, get_or, set, Some, slice_get, refl, sym, ◌∙◌, ap, subst, arith}
+use Rattle.std.proofs.Common.{drop, remove, replicate, get_or, set, Some, slice_get, refl, sym, ◌∙◌, ap, subst, arith, true≢false}
 use Rattle.std.specs.Prelude.{◌==◌, ◌||◌}
 use Rattle.std.proofs.lemmas.Option.{slice_get_within}
 use Rattle.std.proofs.lemmas.List.{drop-set-lt, append_assoc, length-replicate}
@@ -9,8 +9,9 @@ use Rattle.ring_core.specs.declared.entry.Flight.{Flight}
 use Rattle.ring_core.specs.Lists.{amended}
 use Rattle.ring_core.specs.Ring.{marked_by}
 use Rattle.ring_core.specs.Ranks.{kept_first, is_kept, kept}
-use Rattle.ring_core.specs.declared.flights.TheConstants.{SEVERAL}
-use Rattle.ring_core.specs.Flights.{InFlight, words_of, AreLinked}
+use Rattle.ring_core.specs.declared.links.TheConstants.{FAR, SEVERAL}
+use Rattle.ring_core.specs.Flights.{InFlight, words_of}
+use Rattle.ring_core.specs.Links.{Linked, AreLinked}
 use Rattle.ring_core.proofs.Numbers.{equal-other, same-or-not}
 
 -- As many stand on kept slots as slots are kept.
@@ -83,7 +84,7 @@ marked-other w x other =
     ap (λ marked. record x { marked = marked }) (or-false x.marked (x.entry.word == w) (equal-other x.entry.word w other))
 
 -- Where nothing that is kept has a word, its cancel marks nothing.
-marks-nothing : (w : ℕ) (flags : List Bool) (xs : List Flight) →
+pub marks-nothing : (w : ℕ) (flags : List Bool) (xs : List Flight) →
     ((slot : ℕ) (x : Flight) → slice_get flags slot ≡ Some true → slice_get xs slot ≡ Some x → x.entry.word ≢ w) →
     kept flags xs ≡ map (marked_by w) (kept flags xs)
 marks-nothing w [] xs other = refl
@@ -129,21 +130,29 @@ word-there (y ∷ xs) zero x here = let same : y ≡ x = cc in ap (λ z. Some z.
 word-there (y ∷ xs) (suc slot) x here = word-there xs slot x here
 
 -- A word that is kept on a slot is kept on the one that its link names.
-pub linked-one : (links : List ℕ) (flags : List Bool) (xs : List Flight) (word at : ℕ) → AreLinked links flags (words_of xs) →
-    word < length links → get_or links word 0 ≡ at → at < SEVERAL → (slot : ℕ) (x : Flight) → slice_get flags slot ≡ Some true →
+pub linked-one : (links : Linked) (flags : List Bool) (xs : List Flight) (word at : ℕ) → AreLinked links flags (words_of xs) →
+    word < length links.slots → get_or links.slots word 0 ≡ at → at < SEVERAL → (slot : ℕ) (x : Flight) → slice_get flags slot ≡ Some true →
     slice_get xs slot ≡ Some x → x.entry.word ≡ word → slot ≡ at
 linked-one links flags xs word at linked within link one slot x there here same = elim (same-or-not at slot) [
   | inl is ↦ sym is
   | inr differs ↦ (
-      let many : get_or links word 0 ≡ SEVERAL =
-      linked slot word there (word-there xs slot x here ∙ ap Some same) within (λ is. differs (sym link ∙ is)) in
+      let many : get_or links.slots word 0 ≡ SEVERAL =
+      (linked slot word there (word-there xs slot x here ∙ ap Some same)).names within (λ is. differs (sym link ∙ is)) in
       absurd (omega arith))
 ]
 
+-- A word beyond the links is kept nowhere, where each word that is kept has its link.
+pub linked-none : (links : Linked) (flags : List Bool) (xs : List Flight) (word : ℕ) → AreLinked links flags (words_of xs) →
+    length links.slots ≤ word → word < FAR → links.complete ≡ true → (slot : ℕ) (x : Flight) → slice_get flags slot ≡ Some true →
+    slice_get xs slot ≡ Some x → x.entry.word ≢ word
+linked-none links flags xs word linked beyond near complete slot x there here same =
+    let missing = (linked slot word there (word-there xs slot x here ∙ ap Some same)).misses beyond near in
+    true≢false (sym complete ∙ missing)
+
 -- A slot that isn't kept any more takes nothing from the links of the others.
-pub linked-released : (links : List ℕ) (flags : List Bool) (words : List ℕ) (at : ℕ) → AreLinked links flags words →
+pub linked-released : (links : Linked) (flags : List Bool) (words : List ℕ) (at : ℕ) → AreLinked links flags words →
     AreLinked links (set flags at false) words
-linked-released links flags words at linked slot w kept here inside other = linked slot w (was-kept flags at slot kept) here inside other
+linked-released links flags words at linked slot w kept here = linked slot w (was-kept flags at slot kept) here
   where
     was-kept : (flags : List Bool) (at slot : ℕ) → slice_get (set flags at false) slot ≡ Some true → slice_get flags slot ≡ Some true
     was-kept [] at slot kept = kept
@@ -153,11 +162,11 @@ linked-released links flags words at linked slot w kept here inside other = link
     was-kept (f ∷ flags) (suc at) (suc slot) kept = was-kept flags at slot kept
 
 -- Words behind the slots change nothing.
-pub linked-longer : (links : List ℕ) (flags : List Bool) (words : List ℕ) (word : ℕ) → length words ≡ length flags →
+pub linked-longer : (links : Linked) (flags : List Bool) (words : List ℕ) (word : ℕ) → length words ≡ length flags →
     AreLinked links flags words → AreLinked links flags (words ++ word ∷ [])
-linked-longer links flags words word together linked slot w kept here inside other =
+linked-longer links flags words word together linked slot w kept here =
     let within : slot < length flags = slice_get_within flags slot true kept in
-    linked slot w kept (sym (get-first words slot (omega arith)) ∙ here) inside other
+    linked slot w kept (sym (get-first words slot (omega arith)) ∙ here)
   where
     get-first : (xs : List ℕ) (i : ℕ) → i < length xs → slice_get (xs ++ word ∷ []) i ≡ slice_get xs i
     get-first [] i within = absurd (omega arith)
@@ -235,7 +244,7 @@ abbrev pub in_flight : ℕ → List Flight → InFlight
 in_flight room flights = record { flights = flights; room = room }
 
 -- The links after one more item whose slot is to come.
-pub linked-more : (links : List ℕ) (flags : List Bool) (xs : List Flight) (x : Flight) → length xs ≡ length flags →
+pub linked-more : (links : Linked) (flags : List Bool) (xs : List Flight) (x : Flight) → length xs ≡ length flags →
     AreLinked links flags (words_of xs) → AreLinked links flags (words_of (xs ++ x ∷ []))
 linked-more links flags xs x together linked =
     let count = length-words xs in

@@ -23,6 +23,7 @@ pub mod Closing
 pub mod Once
 pub mod Turning
 pub mod Taking
+pub mod Linking
 pub mod Listed
 pub mod Ending
 pub mod Reaping

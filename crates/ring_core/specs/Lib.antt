@@ -23,7 +23,7 @@ pub mod Ring
 pub mod Ranks
 pub mod Closes
 pub mod Flights
-pub mod Found
+pub mod Links
 pub mod Reserved
 pub mod Payloads
 pub mod Called

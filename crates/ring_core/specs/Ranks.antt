@@ -36,18 +36,24 @@ kept (flag ∷ flags) [] = []
 kept (true ∷ flags) (x ∷ xs) = x ∷ kept flags xs
 kept (false ∷ flags) (x ∷ xs) = kept flags xs
 
--- A block counts the kept ones of `WIDTH` slots, and a group those of `WIDTH` blocks.
-pub record AreCounted (flags : List Bool) (blocks groups : List ℕ) : Type 0 where
+-- Each count is the sum of `WIDTH` lower ones.
+abbrev pub AreSums : List ℕ → List ℕ → Type 0
+AreSums lower upper = (n : ℕ) → sum_first n upper ≡ sum_first (WIDTH * n) lower
+
+-- A block counts the kept ones of `WIDTH` slots, a group those of `WIDTH` blocks, and a region those of `WIDTH` groups.
+pub record AreCounted (flags : List Bool) (blocks groups regions : List ℕ) : Type 0 where
   pub blocks_count : (n : ℕ) → sum_first n blocks ≡ kept_first (WIDTH * n) flags
-  pub groups_count : (n : ℕ) → sum_first n groups ≡ sum_first (WIDTH * n) blocks
+  pub groups_count : AreSums blocks groups
+  pub regions_count : AreSums groups regions
 
 -- A number less one, where it isn't 0.
 abbrev pub less_one : ℕ → ℕ
 less_one n = n - 1
 
--- By numbers: there is memory for so many slots, and each has a block, and each block a group.
-pub record HasSlots (slots room capacity blocks groups : ℕ) : Type 0 where
+-- By numbers: there is memory for so many slots, and each has a block, each block a group, and each group a region.
+pub record HasSlots (slots room capacity blocks groups regions : ℕ) : Type 0 where
   pub within : slots ≤ room
   pub memory : room ≤ capacity
   pub in_blocks : room ≤ WIDTH * blocks
   pub in_groups : blocks ≤ WIDTH * groups
+  pub in_regions : groups ≤ WIDTH * regions

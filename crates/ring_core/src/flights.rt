@@ -5,10 +5,11 @@ ghost use Rattle.ring_core.specs.Lists.{amended};
 ghost use Rattle.ring_core.specs.Ring.{marked_by};
 ghost use Rattle.ring_core.specs.Ranks.{kept, kept_first};
 ghost use Rattle.std.specs.Option.{ForSome};
-ghost use Rattle.ring_core.specs.Flights.{AreLinked, IsSpot, words_of};
-ghost use Rattle.ring_core.specs.Found.{LinkFor, NextLinkFor};
+ghost use Rattle.ring_core.specs.Flights.{IsSpot, words_of};
+ghost use Rattle.ring_core.specs.Links.{AreLinked};
 
 use crate::entry::{Entry, Flight};
+use crate::links::{Link, Links};
 use crate::ranks::Ranks;
 use rent_buf::OutOfMemory;
 use std::alloc::Global;
@@ -21,21 +22,16 @@ struct Spot {
     slot: usize,
 }
 
-// The link of a data word that several had at once.
-const SEVERAL: usize = usize::MAX;
-
 /// What is in flight, in order. Each entry has a slot, where it stays until it is done; the slot of a place is found by its
 /// rank, and that of a data word by its link. Once all slots are used, what is in flight moves to the first ones: for that at
-/// least half as many entries as there is room for were removed. (not in monoio)
+/// least half as many entries as there is room for were removed. More room leaves each entry on its slot. (not in monoio)
 #[derive(Debug, Drop)]
 pub struct Flights {
-    alloc: Global,
     // What stands on each slot, also on those that aren't kept any more.
     items: Vec<Flight>,
     ranks: Ranks,
     live: usize,
-    // By data word: the slot of the one that joined with it last, or `SEVERAL`.
-    links: Vec<usize>,
+    links: Links,
     // Where the last look was, so that what was looked at is removed with no second search.
     looked: Option<Spot>,
     room: usize,
@@ -45,13 +41,14 @@ impl Model for Flights {
     ghost use Rattle.std.specs.Prelude.{◌≤◌, vec_len, vec_capacity};
     ghost use Rattle.ring_core.specs.Ranks.{kept};
     ghost use Rattle.std.specs.Option.{ForSome};
-    ghost use Rattle.ring_core.specs.Flights.{InFlight, AreLinked, AreStored, IsSpot, words_of};
+    ghost use Rattle.ring_core.specs.Flights.{InFlight, AreStored, IsSpot, words_of};
+    ghost use Rattle.ring_core.specs.Links.{AreLinked};
 
     ghost Value = { InFlight };
 
     ghost view = { λ f. record { flights = kept f.ranks.flags f.items.items; room = f.room } };
 
-    ghost invariant = { λ f. AreLinked f.links.items f.ranks.flags (words_of f.items.items) ×
+    ghost invariant = { λ f. AreLinked f.links f.ranks.flags (words_of f.items.items) ×
         AreStored (vec_len f.items) f.live f.room (vec_capacity f.items) f.ranks ×
         ForSome f.looked (λ spot. IsSpot f.ranks.flags spot.place spot.slot) };
 }
@@ -62,11 +59,10 @@ impl Flights {
         ensures { result ≡ record { flights = []; room = 0 } }
     {
         Flights {
-            alloc,
             items: Vec::new(alloc),
             ranks: Ranks::new(alloc),
             live: 0,
-            links: Vec::new(alloc),
+            links: Links::new(alloc),
             looked: None,
             room: 0,
         }
@@ -124,18 +120,11 @@ impl Flights {
         ensures err { OnErr result (self.new ≡ self.old) }
     {
         let slots = room.saturating_add(room / 2).saturating_add(64);
-        if slots < self.items.len() {
-            return Err(OutOfMemory);
-        }
-        let ranks = Ranks::with_room(self.alloc, slots)?;
+        self.items.reserve(slots.saturating_sub(self.items.len()))?;
+        self.ranks.reserve(slots)?;
         // A slab of so many slots has fewer than twice as many places, and 64: so the key of each slot has its link.
-        let links = vec![in self.alloc; 0; room.saturating_mul(2).saturating_add(64)]?;
-        self.items.reserve(slots - self.items.len())?;
-        pack(&mut self.items, &self.ranks);
-        self.looked = None;
-        self.ranks = ranks;
-        self.links = links;
-        register(&self.items, &mut self.ranks, &mut self.links);
+        self.links
+            .reserve(room.saturating_mul(2).saturating_add(64))?;
         self.room = room;
         Ok(())
     }
@@ -159,9 +148,10 @@ impl Flights {
     pub fn mark(&mut self, word: u64)
         ensures { self.new ≡ record (self.old) { flights = map (marked_by word) self.old.flights } }
     {
-        match link_of(&self.links, word) {
-            Some(slot) => mark_at(&mut self.items, slot, word),
-            None => mark_all(&mut self.items, word),
+        match self.links.find(word) {
+            Link::Nowhere => {}
+            Link::At(slot) => mark_at(&mut self.items, slot, word),
+            Link::Anywhere => mark_all(&mut self.items, word),
         }
     }
 
@@ -177,6 +167,7 @@ impl Flights {
         if self.live == 0 {
             self.items.clear();
             self.ranks.restart();
+            self.links.forget();
         }
     }
 }
@@ -194,22 +185,23 @@ fn slot_at(ranks: &Ranks, looked: Option<Spot>, place: usize) -> usize
 }
 
 // Makes way for one more slot: once all are used, what is kept moves to the first ones.
-fn make_way(items: &mut Vec<Flight>, ranks: &mut Ranks, links: &mut Vec<usize>)
+fn make_way(items: &mut Vec<Flight>, ranks: &mut Ranks, links: &mut Links)
     requires together { vec_len items.old ≡ length ranks.old.flags }
     requires room { kept_first (length ranks.old.flags) ranks.old.flags < ranks.old.room }
-    requires linked { AreLinked links.old.items ranks.old.flags (words_of items.old.items) }
+    requires linked { AreLinked links.old ranks.old.flags (words_of items.old.items) }
     ensures kept { kept ranks.new.flags items.new.items ≡ kept ranks.old.flags items.old.items }
     ensures together { vec_len items.new ≡ length ranks.new.flags }
     ensures way { vec_len items.new < ranks.new.room }
     ensures room { ranks.new.room ≡ ranks.old.room }
     ensures capacity { vec_capacity items.new ≡ vec_capacity items.old }
-    ensures linked { AreLinked links.new.items ranks.new.flags (words_of items.new.items) }
+    ensures linked { AreLinked links.new ranks.new.flags (words_of items.new.items) }
 {
     if items.len() < ranks.room() {
         return;
     }
     pack(items, ranks);
     ranks.clear();
+    links.forget();
     register(items, ranks, links);
 }
 
@@ -231,12 +223,12 @@ fn pack(items: &mut Vec<Flight>, ranks: &Ranks)
 }
 
 // Each item has a slot that is kept.
-fn register(items: &Vec<Flight>, ranks: &mut Ranks, links: &mut Vec<usize>)
+fn register(items: &Vec<Flight>, ranks: &mut Ranks, links: &mut Links)
     requires none { ranks.old.flags ≡ [] }
     requires room { vec_len items.now ≤ ranks.old.room }
     ensures flags { ranks.new.flags ≡ replicate (vec_len items.now) true }
     ensures room { ranks.new.room ≡ ranks.old.room }
-    ensures linked { AreLinked links.new.items ranks.new.flags (words_of items.now.items) }
+    ensures linked { AreLinked links.new ranks.new.flags (words_of items.now.items) }
 {
     for _ in 0..items.len() {
         link(items, ranks, links);
@@ -244,60 +236,17 @@ fn register(items: &Vec<Flight>, ranks: &mut Ranks, links: &mut Vec<usize>)
 }
 
 // The first item that has no slot gets one, and its data word names it.
-fn link(items: &Vec<Flight>, ranks: &mut Ranks, links: &mut Vec<usize>)
+fn link(items: &Vec<Flight>, ranks: &mut Ranks, links: &mut Links)
     requires there { length ranks.old.flags < vec_len items.now }
     requires room { length ranks.old.flags < ranks.old.room }
-    requires linked { AreLinked links.old.items ranks.old.flags (words_of items.now.items) }
+    requires linked { AreLinked links.old ranks.old.flags (words_of items.now.items) }
     ensures flags { ranks.new.flags ≡ ranks.old.flags ++ true ∷ [] }
     ensures room { ranks.new.room ≡ ranks.old.room }
-    ensures linked { AreLinked links.new.items ranks.new.flags (words_of items.now.items) }
+    ensures linked { AreLinked links.new ranks.new.flags (words_of items.now.items) }
 {
     let slot = ranks.len();
-    set_link(items, ranks, links, slot);
+    links.set(items, ranks, slot);
     ranks.push();
-}
-
-// The data word of the item that gets a slot next names that slot.
-fn set_link(items: &Vec<Flight>, ranks: &Ranks, links: &mut Vec<usize>, slot: usize)
-    requires there { slot < vec_len items.now }
-    requires next { slot ≡ length ranks.now.flags }
-    requires linked { AreLinked links.old.items ranks.now.flags (words_of items.now.items) }
-    ensures { AreLinked links.new.items (ranks.now.flags ++ true ∷ []) (words_of items.now.items) }
-{
-    let word = items[slot].entry.word;
-    if word >= links.len() as u64 {
-        return;
-    }
-    let before = links[word as usize];
-    links[word as usize] = next_link(items, ranks, before, word, slot);
-}
-
-// The link of a data word whose link was another, once it gets a slot: that slot, unless the word is kept on another.
-fn next_link(items: &Vec<Flight>, ranks: &Ranks, before: usize, word: u64, slot: usize) -> usize
-    requires { length ranks.now.flags ≤ vec_len items.now }
-    ensures { NextLinkFor ranks.now.flags (words_of items.now.items) before word slot result }
-{
-    if before == SEVERAL {
-        return SEVERAL;
-    }
-    if ranks.holds(before) && items[before].entry.word == word {
-        SEVERAL
-    } else {
-        slot
-    }
-}
-
-// The one slot on which a data word may be kept; None where it may be kept on any.
-fn link_of(links: &Vec<usize>, word: u64) -> Option<usize>
-    ensures { LinkFor links.now.items word result }
-{
-    if word >= links.len() as u64 {
-        return None;
-    }
-    match links[word as usize] {
-        SEVERAL => None,
-        slot => Some(slot),
-    }
 }
 
 // What stands on a slot is marked where its data word is this. Where there is no such slot, nothing changes.

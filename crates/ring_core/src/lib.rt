@@ -6,12 +6,14 @@ pub mod fault_ring;
 mod flights;
 pub mod input;
 pub mod ledger;
+mod links;
 pub mod mem_ring;
 pub mod messages;
 pub mod payloads;
 mod ranks;
 pub mod request;
 pub mod ring;
+pub mod room;
 pub mod world;
 
 pub use entry::{
@@ -26,6 +28,7 @@ pub use messages::Messages;
 pub use payloads::{Payloads, append_first, append_first_parts, copy_first, copy_first_parts};
 pub use request::{CANCELED, Call, LAST_ERROR, MOST_ASKED, Names, Outcome, Request, Told, Way};
 pub use ring::{EnterError, Push, Ring};
+pub use room::make_room;
 pub use world::{
     BROKEN_PIPE, FILE_TOO_BIG, HandleKind, HandleState, INVALID, Look, MOST_FILE, World, WorldCall,
     WorldError,

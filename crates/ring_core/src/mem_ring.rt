@@ -12,6 +12,7 @@ use crate::flights::Flights;
 use crate::payloads::{Payloads, append_first, copy_first};
 use crate::request::{Outcome, Told};
 use crate::ring::{EnterError, Push, Ring};
+use crate::room::make_room;
 use crate::world::{RunError, World};
 use rent_buf::{ByteList, OutOfMemory};
 use std::alloc::Global;
@@ -241,10 +242,9 @@ impl Ring for MemRing {
             return Err(OutOfMemory);
         };
         // The queue never holds more than its capacity.
-        self.queue
-            .reserve(room.min(self.entries as usize) - queued)?;
+        make_room(&mut self.queue, room.min(self.entries as usize))?;
         self.flying.reserve(room)?;
-        self.done.reserve(room - done)?;
+        make_room(&mut self.done, room)?;
         self.spare += n;
         Ok(())
     }

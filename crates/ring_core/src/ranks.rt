@@ -1,22 +1,24 @@
 //! Slots of which some are kept, found by their rank among these.
 ghost use Rattle.std.specs.Prelude.{◌≡◌, ◌<◌, ◌≤◌, ◌+◌, ◌-◌, ◌^◌, [], ◌∷◌, ◌++◌, true, false, suc, length, replicate, get_or, slice_get};
-ghost use Rattle.std.specs.Prelude.{slice_set, Some, IfOk};
+ghost use Rattle.std.specs.Prelude.{slice_set, Some, ℕ, max, OnOk, OnErr};
 ghost use Rattle.ring_core.specs.Lists.{amended};
 ghost use Rattle.ring_core.specs.Ranks.{kept_first, sum_first, is_kept, less_one};
 
-use std::alloc::{AllocError, Global};
+use rent_buf::OutOfMemory;
+use std::alloc::Global;
 use std::marker::Model;
 
-// How many slots a block counts, and how many blocks a group.
-const WIDTH: usize = 64;
+// How many slots a block counts, how many blocks a group, and how many groups a region.
+const WIDTH: usize = 32;
 
-/// Slots, in order, each of which is kept until it is released. The slot of a rank is found by counts on two levels: it looks
-/// at a group for each `WIDTH * WIDTH` slots, and then at `WIDTH` counts and `WIDTH` slots at most. (not in monoio)
+/// Slots, in order, each of which is kept until it is released. The slot of a rank is found by counts on three levels: it looks
+/// at a region for each `WIDTH * WIDTH * WIDTH` slots, and then at twice `WIDTH` counts and `WIDTH` slots at most. (not in monoio)
 #[derive(Debug, Drop)]
 pub(crate) struct Ranks {
     flags: Vec<bool>,
     blocks: Vec<u32>,
     groups: Vec<u32>,
+    regions: Vec<u32>,
     room: usize,
 }
 
@@ -28,8 +30,8 @@ impl Model for Ranks {
 
     ghost view = { λ r. record { flags = r.flags.items; room = r.room } };
 
-    ghost invariant = { λ r. AreCounted r.flags.items r.blocks.items r.groups.items ×
-        HasSlots (vec_len r.flags) r.room (vec_capacity r.flags) (vec_len r.blocks) (vec_len r.groups) };
+    ghost invariant = { λ r. AreCounted r.flags.items r.blocks.items r.groups.items r.regions.items ×
+        HasSlots (vec_len r.flags) r.room (vec_capacity r.flags) (vec_len r.blocks) (vec_len r.groups) (vec_len r.regions) };
 }
 
 // Where a rank ends among counts: at which of them, and how many of that one are before it.
@@ -40,20 +42,6 @@ struct Found {
 }
 
 impl Ranks {
-    /// No slots, and memory for so many.
-    pub(crate) fn with_room(alloc: Global, room: usize) -> Result<Ranks, AllocError>
-        ensures { IfOk result (λ ranks. ranks ≡ record { flags = []; room = room }) }
-    {
-        let blocks = room / WIDTH + 1;
-        let groups = blocks / WIDTH + 1;
-        Ok(Ranks {
-            flags: Vec::with_capacity(alloc, room)?,
-            blocks: vec![in alloc; 0; blocks]?,
-            groups: vec![in alloc; 0; groups]?,
-            room,
-        })
-    }
-
     /// No slots and no memory.
     pub(crate) fn new(alloc: Global) -> Ranks
         ensures { result ≡ record { flags = []; room = 0 } }
@@ -62,6 +50,7 @@ impl Ranks {
             flags: Vec::new(alloc),
             blocks: Vec::new(alloc),
             groups: Vec::new(alloc),
+            regions: Vec::new(alloc),
             room: 0,
         }
     }
@@ -81,6 +70,25 @@ impl Ranks {
         self.room
     }
 
+    /// Takes the memory for so many slots.
+    pub(crate) fn reserve(&mut self, room: usize) -> Result<(), OutOfMemory>
+        ensures flags { self.new.flags ≡ self.old.flags }
+        ensures ok { OnOk result (self.new.room ≡ max room self.old.room) }
+        ensures err { OnErr result (self.new ≡ self.old) }
+    {
+        if room <= self.room {
+            return Ok(());
+        }
+        let blocks = room / WIDTH + 1;
+        let groups = blocks / WIDTH + 1;
+        self.flags.reserve(room - self.flags.len())?;
+        lengthen(&mut self.regions, groups / WIDTH + 1)?;
+        lengthen(&mut self.groups, groups)?;
+        lengthen(&mut self.blocks, blocks)?;
+        self.room = room;
+        Ok(())
+    }
+
     /// Whether a slot is there, and kept.
     pub(crate) fn holds(&self, slot: usize) -> bool
         ensures { result ≡ is_kept self.now.flags slot }
@@ -98,7 +106,8 @@ impl Ranks {
         ensures rank { kept_first result self.now.flags ≡ rank }
         ensures within { result < length self.now.flags }
     {
-        let group = find(&self.groups, 0, rank);
+        let region = find(&self.regions, 0, rank);
+        let group = find(&self.groups, WIDTH * region.at, region.rest);
         let block = find(&self.blocks, WIDTH * group.at, group.rest);
         find_kept(&self.flags, WIDTH * block.at, block.rest)
     }
@@ -112,6 +121,7 @@ impl Ranks {
         self.flags.push_reserved(true);
         count_up(&mut self.blocks, block);
         count_up(&mut self.groups, block / WIDTH);
+        count_up(&mut self.regions, block / WIDTH / WIDTH);
     }
 
     /// A slot isn't kept any more.
@@ -123,6 +133,7 @@ impl Ranks {
         self.flags[slot] = false;
         count_down(&mut self.blocks, block);
         count_down(&mut self.groups, block / WIDTH);
+        count_down(&mut self.regions, block / WIDTH / WIDTH);
     }
 
     /// No slot is left, where none was kept; the memory stays. It costs nothing that grows with the room.
@@ -140,6 +151,7 @@ impl Ranks {
         self.flags.clear();
         set_to_zero(&mut self.blocks);
         set_to_zero(&mut self.groups);
+        set_to_zero(&mut self.regions);
     }
 }
 
@@ -178,6 +190,20 @@ fn find_kept(flags: &Vec<bool>, start: usize, rank: usize) -> usize
         }
         at += 1;
     }
+}
+
+// There are so many counts, the new ones 0; or more, as there were.
+fn lengthen(counts: &mut Vec<u32>, count: usize) -> Result<(), OutOfMemory>
+    ensures sums { (n : ℕ) → sum_first n counts.new.items ≡ sum_first n counts.old.items }
+    ensures more { length counts.old.items ≤ length counts.new.items }
+    ensures ok { OnOk result (length counts.new.items ≡ max count (length counts.old.items)) }
+    ensures err { OnErr result (counts.new.items ≡ counts.old.items) }
+{
+    if count <= counts.len() {
+        return Ok(());
+    }
+    counts.resize(count, 0)?;
+    Ok(())
 }
 
 // A count rises by one.

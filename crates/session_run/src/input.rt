@@ -31,13 +31,23 @@ pub(crate) enum NoEvents {
     OutOfMemory,
 }
 
-/// The events that the lines of a source stand for, of those that such a session takes.
-pub(crate) fn source_events<M: Stepping, S: ByteSource>(
+/// What was read of a source.
+#[derive(Drop)]
+pub(crate) struct Input {
+    /// The events that its lines stand for.
+    pub(crate) events: Vec<Event>,
+    /// Its bytes. They are kept while the events run: the C library's allocator moves large blocks without a copy, as long as no other
+    /// large block was given back.
+    pub(crate) text: Vec<u8>,
+}
+
+/// What is read of a source: its lines stand for events, of those that such a session takes.
+pub(crate) fn read_input<M: Stepping, S: ByteSource>(
     alloc: Global,
     source: &mut S,
-) -> Result<Vec<Event>, NoEvents>
-    ensures read { IfOk result (λ events. IsTrue S.tells → WasRead M.kind (S.left source.old) (S.left source.new) events.items) }
-    ensures taken { IfOk result (λ events. TakesAll M.kind events.items) }
+) -> Result<Input, NoEvents>
+    ensures read { IfOk result (λ input. IsTrue S.tells → WasRead M.kind (S.left source.old) (S.left source.new) input.events.items) }
+    ensures taken { IfOk result (λ input. TakesAll M.kind input.events.items) }
     ensures calm { OnOk result (IsTrue S.tells → S.faults source.new ≡ S.faults source.old) }
     ensures why { IfErr result (WhyNoEvents M.kind S.tells (S.left source.old) (S.left source.new) (S.faults source.old)
         (S.faults source.new)) }
@@ -47,7 +57,7 @@ pub(crate) fn source_events<M: Stepping, S: ByteSource>(
         Err(why) => return Err(why),
     };
     match M::read(alloc, text.as_slice()) {
-        Ok(events) => Ok(events),
+        Ok(events) => Ok(Input { events, text }),
         Err(LinesError::BadLine(line)) => Err(NoEvents::BadLine(line)),
         Err(LinesError::OutOfMemory) => Err(NoEvents::OutOfMemory),
     }

@@ -16,7 +16,7 @@ ghost use Rattle.session_run.specs.Complete.{IsDoneOrShort, NoneRose, TakesInput
 
 use crate::command::{Command, MOST_SENDERS, command_of};
 use crate::generated::{ENTRIES, generated, run_counted};
-use crate::input::{MOST_INPUT, NoEvents, source_events};
+use crate::input::{Input, MOST_INPUT, NoEvents, read_input};
 use crate::output::{Unwritten, write_last, write_number, write_replies};
 use crate::session::Session;
 use crate::stepping::Stepping;
@@ -238,8 +238,14 @@ fn run_session<M: Stepping + Drop, S: ByteSource, K: ByteSink>(
     ensures { (L : Ledger) → M.stands session L → EventsGive M.kind S.tells K.tells L (reading S.left S.faults source.old source.new)
         (writing K.taken K.faults K.is_flushed sink.old sink.new) M.stands result }
 {
-    match source_events::<M, S>(alloc, source) {
-        Ok(events) => run_events(alloc, session, events, sink),
+    match read_input::<M, S>(alloc, source) {
+        Ok(input) => {
+            let Input {
+                events,
+                text: _text,
+            } = input;
+            run_events(alloc, session, events, sink)
+        }
         Err(why) => Err(refuse(why, sink)),
     }
 }

@@ -11,7 +11,7 @@ ghost use Rattle.uring_driver.specs.Submissions.{with_spare, room_made, pending_
 use rent_buf::OutOfMemory;
 use ring_core::{
     Completion, EnterError, Entry, ExecRefusal, FaultRing, HandleKind, Look, MOST_HANDLES, MemRing,
-    Payloads, Push, Ring, Told, WorldError,
+    Payloads, Push, Ring, Told, WorldError, make_room,
 };
 use std::alloc::Global;
 use std::collections::VecDeque;
@@ -115,7 +115,10 @@ impl<R: Ring> Submissions<R> {
         if self.room >= count {
             return Ok(());
         }
-        self.due.reserve(count)?;
+        let Some(due) = self.due.len().checked_add(count) else {
+            return Err(OutOfMemory);
+        };
+        make_room(&mut self.due, due)?;
         self.ring.reserve(count - self.room)?;
         self.room = count;
         Ok(())

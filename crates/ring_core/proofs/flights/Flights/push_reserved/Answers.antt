@@ -1,6 +1,7 @@
 use Rattle.std.proofs.Common.{◌≡◌, [], ◌∷◌, ◌++◌, true, false, length, sym, ap, subst, ◌∙◌, arith}
 use Rattle.ring_core.specs.Ranks.{kept, kept_first}
-use Rattle.ring_core.specs.Flights.{AreLinked, words_of}
+use Rattle.ring_core.specs.Flights.{words_of}
+use Rattle.ring_core.specs.Links.{AreLinked}
 use Rattle.ring_core.proofs.Counting.{kept-one-more}
 use Rattle.ring_core.proofs.Keeping.{in_flight, length-kept, kept-joined, linked-more}
 use Rattle.ring_core.proofs.flights.Flights.push_reserved.Goals as goal
@@ -19,7 +20,7 @@ make_way-requires-clause-room c =
 pub link-requires-clause-linked : goal.link-requires-clause-linked
 link-requires-clause-linked c =
     let same = c.make_way.ensures.together in
-    subst (λ items. AreLinked c.make_way.new.links.items c.make_way.new.ranks.flags (words_of items)) (sym c.push_reserved.ensures.items)
+    subst (λ items. AreLinked c.make_way.new.links c.make_way.new.ranks.flags (words_of items)) (sym c.push_reserved.ensures.items)
     (linked-more _ _ c.make_way.new.items.items _ (omega arith) c.make_way.ensures.linked)
 
 pub overflow_add-self : goal.overflow_add-self

@@ -1,7 +1,8 @@
 use Rattle.std.proofs.Common.{◌≡◌, ℕ, false, length, set, remove, sym, ap, subst, ◌∙◌, arith}
 use Rattle.std.proofs.Math.ListN.{length-set}
 use Rattle.ring_core.specs.Ranks.{kept, kept_first}
-use Rattle.ring_core.specs.Flights.{AreLinked, words_of}
+use Rattle.ring_core.specs.Flights.{words_of}
+use Rattle.ring_core.specs.Links.{AreLinked}
 use Rattle.ring_core.proofs.Counting.{kept-less}
 use Rattle.ring_core.proofs.Keeping.{in_flight, length-kept, kept-released, linked-released, length-none}
 use Rattle.ring_core.proofs.flights.Flights.remove.Goals as goal
@@ -45,7 +46,7 @@ invariant_of-self-else-self-eq0 c =
     let released = ap (λ ranks. length ranks.flags) c.release.ensures in
     let left = ap (λ ranks. kept_first (length ranks.flags) ranks.flags) c.release.ensures in
     let room = ap (λ ranks. ranks.room) c.release.ensures in (
-      subst (λ ranks. AreLinked c.self.inside.links.items ranks.flags (words_of c.self.inside.items.items)) (sym c.release.ensures)
+      subst (λ ranks. AreLinked c.self.inside.links ranks.flags (words_of c.self.inside.items.items)) (sym c.release.ensures)
           (linked-released _ flags _ slot c.self.invariant.0),
       record { together = omega arith; count = omega arith; memory = omega arith; enough = omega arith },
       λ spot none. cc,

@@ -10,7 +10,8 @@ invariant_of-self c =
     let empty : ◌≡◌ {A = ℕ} (kept_first (length c.self.inside.flags.items) c.self.inside.flags.items) 0 =
     ap (λ v. kept_first (length v.flags) v.flags) c.self.view_is
     ∙ c.requires in (
-      subst (λ flags. AreCounted flags c.self.inside.blocks.items c.self.inside.groups.items) (sym c.clear.ensures.items)
-          (counted-empty _ _ _ (omega arith) empty c.self.invariant.0),
-      record { within = omega arith; memory = omega arith; in_blocks = omega arith; in_groups = omega arith },
+      subst (λ flags. AreCounted flags c.self.inside.blocks.items c.self.inside.groups.items c.self.inside.regions.items)
+          (sym c.clear.ensures.items)
+          (counted-empty _ _ _ _ (omega arith) empty c.self.invariant.0),
+      record { within = omega arith; memory = omega arith; in_blocks = omega arith; in_groups = omega arith; in_regions = omega arith },
     )

@@ -2,7 +2,7 @@ use Rattle.std.proofs.Common.{subst}
 use Rattle.event_text.specs.TextLines.{AreEventsFor, IfBadLine, IfShort, IsFirstWrongFor, lines}
 use Rattle.session_run.specs.DriverKind.{StandsOn}
 use Rattle.session_run.proofs.Reading.{all-taken, right-short, unread-events, was-read, was-wrong}
-use Rattle.session_run.proofs.input.source_events.Goals as goal
+use Rattle.session_run.proofs.input.read_input.Goals as goal
 
 pub returns-in-Ok-read-clause-read : goal.returns-in-Ok-read-clause-read
 returns-in-Ok-read-clause-read g c = λ told.

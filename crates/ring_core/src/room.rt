@@ -1,0 +1,53 @@
+//! The memory of queues that are to hold more.
+ghost use Rattle.std.specs.Prelude.{◌≡◌, ◌≤◌, OnOk, OnErr};
+ghost use Rattle.std.specs.VecDeque.{deque_len, deque_capacity};
+
+use rent_buf::OutOfMemory;
+use std::collections::VecDeque;
+
+/// Takes the memory for a queue of so many elements, those that it has among them. The memory doubles at least, wherever in it the queue
+/// begins, so that asking for one more again and again moves it seldom; an empty queue moves nothing. If memory runs out, nothing has
+/// changed. (not in monoio)
+pub fn make_room<T: Drop>(queue: &mut VecDeque<T>, room: usize) -> Result<(), OutOfMemory>
+    ensures items { queue.new.items ≡ queue.old.items }
+    ensures len { deque_len queue.new ≡ deque_len queue.old }
+    ensures capacity { deque_capacity queue.old ≤ deque_capacity queue.new }
+    ensures ok { OnOk result (room ≤ deque_capacity queue.new) }
+{
+    let before = queue.capacity();
+    if room <= before {
+        return Ok(());
+    }
+    let after = room.max(before.saturating_mul(2));
+    if queue.is_empty() {
+        *queue = VecDeque::with_capacity(*queue.allocator(), after)?;
+        return Ok(());
+    }
+    queue.reserve(after - queue.len())?;
+    Ok(())
+}
+
+#[cfg(test)]
+mod tests {
+    use super::*;
+    use std::alloc::Global;
+
+    // A queue of one element that isn't at the start of its memory.
+    fn turned(alloc: Global) -> Result<VecDeque<u32>, OutOfMemory> {
+        let mut queue = VecDeque::with_capacity(alloc, 4)?;
+        queue.push_back(1)?;
+        queue.push_back(2)?;
+        let _ = queue.pop_front();
+        Ok(queue)
+    }
+
+    #[test]
+    fn memory_doubles_at_least(rt: HostRuntime) {
+        let mut queue = turned(rt.alloc()).expect(&rt, "memory");
+        assert!(rt; make_room(&mut queue, 5).is_ok());
+        assert!(rt; queue.capacity() >= 8);
+        assert_eq!(rt; queue.pop_front(), Some(2));
+        assert!(rt; make_room(&mut queue, 9).is_ok());
+        assert!(rt; queue.capacity() >= 16);
+    }
+}
