@@ -18,6 +18,9 @@ use number::{put_number, read_number, read_u16, read_u32};
 use rent_buf::{ByteList, OutOfMemory};
 use std::alloc::Global;
 
+// How many bytes of a word are looked at one by one.
+const NEAR: usize = 8;
+
 /// The first line, and what is behind it.
 pub(crate) fn first_line(text: &[u8]) -> (&[u8], &[u8])
     requires { 0 < length text.now }
@@ -35,8 +38,26 @@ pub(crate) fn first_line(text: &[u8]) -> (&[u8], &[u8])
 pub(crate) fn first_word(text: &[u8]) -> (&[u8], &[u8])
     ensures { words text.now ≡ result.0.now ∷ words_behind result.1.now }
 {
-    let at = place_of(b' ', text);
+    let at = near_place_of(b' ', text);
     (&text[..at], &text[at..])
+}
+
+// The same place as `place_of` says, found sooner where it is near: most words are short.
+fn near_place_of(byte: u8, text: &[u8]) -> usize
+    ensures bound { result ≤ length text.now }
+    ensures before { (k : ℕ) → k < result → slice_index text.now k ≢ byte }
+    ensures there { result < length text.now → slice_index text.now result ≡ byte }
+{
+    let near = text.len().min(NEAR);
+    for at in 0..near {
+        if text[at] == byte {
+            return at;
+        }
+    }
+    if near == text.len() {
+        return near;
+    }
+    near + place_of(byte, &text[near..])
 }
 
 // The place of the first such byte, or the length if there is none.

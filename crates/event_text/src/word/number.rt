@@ -1,11 +1,16 @@
 //! Numbers, in decimal digits.
-ghost use Rattle.std.specs.Prelude.{◌≡◌, ◌++◌, ◌^◌, decimal, OnOk, OnErr};
+ghost use Rattle.std.specs.Prelude.{◌≡◌, ◌++◌, ◌^◌, ◌-◌, ◌/◌, ◌<◌, decimal, OnOk, OnErr};
 ghost use Rattle.event_text.specs.TextWrites.{Starts};
 ghost use Rattle.event_text.specs.TextReads.{number_of, number_below};
 
-use crate::word::put;
+use crate::word::{put, put_byte};
 use itoa::Buffer;
 use rent_buf::OutOfMemory;
+
+// The greatest number without its last digit, and that digit.
+const MOST_TENTH: u64 = 1844674407370955161;
+
+const MOST_LAST: u64 = 5;
 
 /// The number that a word writes: its decimal digits, with no sign and no leading zero, at most 2^64 - 1; `None` if it writes no
 /// such number. (not in monoio)
@@ -24,12 +29,24 @@ pub fn read_number(word: &[u8]) -> Option<u64>
             return None;
         }
         let digit = (*byte - b'0') as u64;
-        if (u64::MAX - digit) / 10 < number {
+        if most_before(digit) < number {
             return None;
         }
         number = number * 10 + digit;
     }
     Some(number)
+}
+
+// The greatest number behind which this digit may stand.
+fn most_before(digit: u64) -> u64
+    requires { digit < 10 }
+    ensures { result ≡ (2 ^ 64 - 1 - digit) / 10 }
+{
+    if digit > MOST_LAST {
+        MOST_TENTH - 1
+    } else {
+        MOST_TENTH
+    }
 }
 
 /// The number that a word writes, if it is below 2^32.
@@ -59,6 +76,9 @@ pub fn put_number(number: u64, out: &mut Vec<u8>) -> Result<(), OutOfMemory>
     ensures ok { OnOk result (out.new.items ≡ out.old.items ++ decimal number) }
     ensures err { OnErr result (Starts out.old.items out.new.items) }
 {
+    if number < 10 {
+        return put_byte(b'0' + number as u8, out);
+    }
     let mut buffer = Buffer::new();
     put(buffer.format(number).as_bytes(), out)
 }

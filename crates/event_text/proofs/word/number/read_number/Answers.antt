@@ -25,8 +25,8 @@ returns-then-byte-lt48 c =
       | then-byte-lt48-via-else-byte-lt48+then-byte-gt57 w ↦ omega arith
     ]))
 
-pub returns-then-digit-number : goal.returns-then-digit-number
-returns-then-digit-number c =
+pub returns-then-most_before-number : goal.returns-then-most_before-number
+returns-then-most_before-number c =
     let value = digits_value_more 10 c.args.word.now c.loop-byte.byte-index c.loop-byte-test.true in
     let digit = digit_value-digit (get_or c.args.word.now c.loop-byte.byte-index 0) c.if-byte-lt48.false c.if-byte-gt57.false in
     sym (number_of-large c.args.word.now (c.loop-byte.byte-index + 1) (omega (arith, value, digit)))
