@@ -1,10 +1,16 @@
 -- The lines of a text, and the first of them that stands for no event, or for none of a smaller set of events.
-use Rattle.std.specs.Prelude.{◌≡◌, ℕ, ◌+◌, ◌==◌, List, [], ◌∷◌, ◌++◌, length, if◌then◌else◌}
+use Rattle.std.specs.Prelude.{◌≡◌, ◌≢◌, ℕ, ◌+◌, ◌<◌, ◌≤◌, ◌==◌, List, [], ◌∷◌, ◌++◌, length, slice_index, if◌then◌else◌}
 use Rattle.std.specs.List.{AllZip}
 use Rattle.ring_core.specs.declared.ledger.Event.{Event}
 use Rattle.event_text.specs.TextEvent.{StandsFor}
 use Rattle.event_text.specs.declared.text.LinesError.{LinesError}
 use Rattle.event_text.specs.declared.text.LinesError.TheVariants.{BadLine, OutOfMemory}
+
+-- The place of the first such byte of a text, or the text's length if there is none.
+pub record IsPlaceOf (byte : ℕ) (text : List ℕ) (at : ℕ) : Type 0 where
+  pub bound : at ≤ length text
+  pub before : (k : ℕ) → k < at → slice_index text k ≢ byte
+  pub there : at < length text → slice_index text at ≡ byte
 
 -- A byte in front of the first line.
 abbrev pub onto_first : ℕ → List (List ℕ) → List (List ℕ)

@@ -1,8 +1,8 @@
 //! Lines cut into words, and words of numbers and bytes; appending to a text.
-ghost use Rattle.std.specs.Prelude.{◌≡◌, ◌≢◌, ◌∷◌, ◌++◌, ◌^◌, ◌<◌, ◌≤◌, ℕ};
+ghost use Rattle.std.specs.Prelude.{◌≡◌, ◌∷◌, ◌++◌, ◌^◌, ◌<◌};
 ghost use Rattle.std.specs.Prelude.{IfOk, OnOk, OnErr, MatchOption, Some, None, [], bytes_eq, decimal};
-ghost use Rattle.std.specs.Prelude.{length, option_map, slice_index};
-ghost use Rattle.event_text.specs.TextLines.{lines};
+ghost use Rattle.std.specs.Prelude.{length, option_map};
+ghost use Rattle.event_text.specs.TextLines.{IsPlaceOf, lines};
 ghost use Rattle.event_text.specs.TextReaders.{field, at_end, last_of};
 ghost use Rattle.event_text.specs.TextReads.{words, words_behind, number_of, number_below, address_of, flag_of, bytes_end};
 ghost use Rattle.event_text.specs.TextRequest.{address_word};
@@ -44,9 +44,7 @@ pub(crate) fn first_word(text: &[u8]) -> (&[u8], &[u8])
 
 // The same place as `place_of` says, found sooner where it is near: most words are short.
 fn near_place_of(byte: u8, text: &[u8]) -> usize
-    ensures bound { result ≤ length text.now }
-    ensures before { (k : ℕ) → k < result → slice_index text.now k ≢ byte }
-    ensures there { result < length text.now → slice_index text.now result ≡ byte }
+    ensures { IsPlaceOf byte text.now result }
 {
     let near = text.len().min(NEAR);
     for at in 0..near {
@@ -62,9 +60,7 @@ fn near_place_of(byte: u8, text: &[u8]) -> usize
 
 // The place of the first such byte, or the length if there is none.
 fn place_of(byte: u8, text: &[u8]) -> usize
-    ensures bound { result ≤ length text.now }
-    ensures before { (k : ℕ) → k < result → slice_index text.now k ≢ byte }
-    ensures there { result < length text.now → slice_index text.now result ≡ byte }
+    ensures { IsPlaceOf byte text.now result }
 {
     memchr(byte, text).unwrap_or(text.len())
 }

@@ -69,6 +69,7 @@ pub record AsksLeave {I B : Type 0} (old new : Asking I B) : Type 0 where
   pub table : new.handling.table ≡ old.handling.table
   pub live : len new.slots ≡ len old.slots
 
+-- What asks for the cancel of each of some numbers leaves these.
 pub asks-leave : {I B : Type 0} (m : Membership) (a : Asking I B) (numbers : List ℕ) → AsksLeave a (asks_each m a numbers)
 asks-leave m a [] = record { io = refl; table = refl; live = refl }
 asks-leave {I} {B} m a (n ∷ numbers) =

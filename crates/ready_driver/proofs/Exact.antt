@@ -97,6 +97,7 @@ both-first a b = lower (nat_lt a b)
     lower true = has-first a (b ∷ [])
     lower false = upper (nat_lt b a)
 
+-- The second of two numbers is among both.
 both-second : (a b : ℕ) → has_number b (both a b) ≡ true
 both-second a b = lower (nat_lt a b) refl
   where

@@ -38,10 +38,11 @@ among-end [] n h = or-false (h == n)
 among-end (m ∷ handles) n h =
     ap (λ b. h == m || b) (among-end handles n h) ∙ sym (or_assoc (h == m) (has_number h handles) (h == n))
 
--- A number is the same as itself, and as no other.
+-- A number is the same as itself.
 same-number : (n h : ℕ) → h ≡ n → (h == n) ≡ true
 same-number n h same = grind (arith, nat_tests)
 
+-- And as no other.
 other-number : (n h : ℕ) → h ≢ n → (h == n) ≡ false
 other-number n h other = grind (arith, nat_tests)
 
@@ -57,6 +58,7 @@ unmarked-end [] (suc h) = refl
 unmarked-end (mark ∷ marks) zero = refl
 unmarked-end (mark ∷ marks) (suc h) = unmarked-end marks h
 
+-- It counts nothing.
 trues-end : (marks : List Bool) → trues (marks ++ false ∷ []) ≡ trues marks
 trues-end [] = refl
 trues-end (true ∷ marks) = ap suc (trues-end marks)

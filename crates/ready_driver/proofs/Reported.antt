@@ -37,6 +37,7 @@ shared_union a b m = same_from_bits _ _ (λ k.
 meets-some : (n : ℕ) → not (n == 0) ≡ true → 0 < n
 meets-some n met = grind (arith, nat_tests)
 
+-- And where it has a bit of it, it meets it.
 some-meets : (n : ℕ) → 0 < n → not (n == 0) ≡ true
 some-meets n some = grind (arith, nat_tests)
 
@@ -48,6 +49,7 @@ union-meets-left a b m met =
     let same = shared_union a b m in
     some-meets (bit_and (bit_or a b) m) (omega (arith, some, more, same))
 
+-- And what its other side meets.
 union-meets-right : (a b m : ℕ) → meets b m ≡ true → meets (bit_or a b) m ≡ true
 union-meets-right a b m met =
     let some = meets-some (bit_and b m) met in

@@ -71,6 +71,7 @@ due-count duty n = by (nat_lt n duty.count && not (has_number n duty.handles))
     by true = refl
     by false = refl
 
+-- The same where some are added.
 pub each-count : (duty : Duty) (handles : List ℕ) → (with_each_due duty handles).count ≡ duty.count
 each-count duty [] = refl
 each-count duty (n ∷ handles) = each-count (with_due duty n) handles ∙ due-count duty n
@@ -81,6 +82,7 @@ pub each-kept : (duty : Duty) (handles : List ℕ) (h : ℕ) → has_number h du
 each-kept duty [] h is = is
 each-kept duty (n ∷ handles) h is = each-kept (with_due duty n) handles h (due-kept duty n h is)
 
+-- Each handle that is added is due then.
 pub each-added : (duty : Duty) (handles : List ℕ) (h : ℕ) → h < duty.count → has_number h handles ≡ true →
     has_number h (with_each_due duty handles).handles ≡ true
 each-added duty [] h within is = (let f : ⊥ = cc in absurd f)
@@ -161,6 +163,7 @@ unkeyed keys h keyed = by (slice_get keys h) (sym (get-amended _ keys h) ∙ key
     by None is = cc
     by (Some k) is = cc
 
+-- Where a handle loses its key, what was shown stays, and the handle is due.
 pub unkeyed-shown : (old new : Memory) (h : ℕ) → new.keys ≡ with_key old.keys h None → new.world ≡ old.world → new.due ≡ old.due →
     KeepsShown (memory_view old) (memory_view new) × IsDue (memory_view new) h
 unkeyed-shown old new h keys world due = (

@@ -68,6 +68,7 @@ standing-like table keys D new st users slots world = record {
 abbrev one_of : Bool → ℕ → List ℕ
 one_of b n = if b then n ∷ [] else []
 
+-- It is listed once, or not at all.
 length-one : (b : Bool) (n : ℕ) → length (one_of b n) ≡ one_if b
 length-one true n = refl
 length-one false n = refl

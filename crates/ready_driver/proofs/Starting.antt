@@ -29,6 +29,7 @@ slots-none {B} buffer slots is = record {
         let g : ⊥ = cc in
         g)
 
+-- A driver that has done nothing stands for the idle machine.
 pub stands-idle : {I B : Type 0} (view : I → IoView) (buffer : B → Buffer) (d : LegacyState I B) (io : I) → d.handling.io ≡ io →
     d.handling.table.holders ≡ empty → d.slots.values ≡ empty → d.given ≡ 0 → d.members ≡ none → (view io).world ≡ [] →
     (view io).keys ≡ [] → LegacyStands view buffer d idle

@@ -111,6 +111,7 @@ among-first a b = by (nat_lt a b) (nat_lt b a)
     by false true = ap (λ c. a == b || (c || false)) (equal-self a) ∙ or-later (a == b)
     by false false = ap (λ c. c || false) (equal-self a)
 
+-- The second of two numbers is among both.
 among-second : (a b : ℕ) → has_number b (both a b) ≡ true
 among-second a b = by (nat_lt a b) (nat_lt b a) refl refl
   where

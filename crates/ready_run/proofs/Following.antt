@@ -35,10 +35,11 @@ ledger-joined : (L : Ledger) (events : List Event) (event : Event) →
 ledger-joined L [] event = refl
 ledger-joined L (first ∷ events) event = ledger-joined (ledger_behind L first) events event
 
--- Two lists that are the same have the same first element, and the same rest.
+-- Two lists that are the same have the same first element.
 first-same : (x y : Reply) (xs ys : List Reply) → x ∷ xs ≡ y ∷ ys → x ≡ y
 first-same x y xs ys same = cc
 
+-- And the same rest.
 rest-same : (x y : Reply) (xs ys : List Reply) → x ∷ xs ≡ y ∷ ys → xs ≡ ys
 rest-same x y xs ys same = cc
 

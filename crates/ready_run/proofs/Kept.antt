@@ -77,6 +77,7 @@ op-groups true made D n op = refl
 op-groups false None D n op = refl
 op-groups false (Some told) D n op = refl
 
+-- A poll of what was found leaves the groups.
 slot-groups : (D : Legacy) (n : ℕ) (found : Option LegacyOp) → groups_in (poll_slot D n found).0 ≡ groups_in D
 slot-groups D n None = refl
 slot-groups D n (Some op) = op-groups op.asked (attempt D.world (call_of op.request)) D n op

@@ -25,10 +25,11 @@ use Rattle.ready_driver.specs.Registry.{is_users}
 use Rattle.ready_run.specs.declared.session.ReadySession.{ReadySession}
 use Rattle.ready_run.specs.ReadySession.{SessionStands, is_live}
 
--- A count that isn't past a number, and one that is.
+-- A number that is past a count.
 pub below-test : (n k : ℕ) → k < n → nat_le n k ≡ false
 below-test n k h = grind (arith, nat_tests)
 
+-- A number that isn't.
 pub past-test : (n k : ℕ) → n ≤ k → nat_le n k ≡ true
 past-test n k h = grind (arith, nat_tests)
 

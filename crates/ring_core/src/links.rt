@@ -56,7 +56,7 @@ impl Links {
         }
     }
 
-    /// Takes the memory for the links of data words below a number.
+    /// Takes the memory for the links of data words below a number. A word for whose link there is none has no link.
     pub(crate) fn reserve(&mut self, words: usize) -> Result<(), OutOfMemory>
         ensures { self.new ≡ self.old }
     {

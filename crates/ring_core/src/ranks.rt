@@ -70,7 +70,7 @@ impl Ranks {
         self.room
     }
 
-    /// Takes the memory for so many slots.
+    /// Takes the memory for so many slots. If memory runs out, nothing has changed.
     pub(crate) fn reserve(&mut self, room: usize) -> Result<(), OutOfMemory>
         ensures flags { self.new.flags ≡ self.old.flags }
         ensures ok { OnOk result (self.new.room ≡ max room self.old.room) }
@@ -192,10 +192,9 @@ fn find_kept(flags: &Vec<bool>, start: usize, rank: usize) -> usize
     }
 }
 
-// There are so many counts, the new ones 0; or more, as there were.
+// Makes the counts at least so many, by zeros behind those that there are.
 fn lengthen(counts: &mut Vec<u32>, count: usize) -> Result<(), OutOfMemory>
     ensures sums { (n : ℕ) → sum_first n counts.new.items ≡ sum_first n counts.old.items }
-    ensures more { length counts.old.items ≤ length counts.new.items }
     ensures ok { OnOk result (length counts.new.items ≡ max count (length counts.old.items)) }
     ensures err { OnErr result (counts.new.items ≡ counts.old.items) }
 {

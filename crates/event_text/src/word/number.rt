@@ -7,9 +7,10 @@ use crate::word::{put, put_byte};
 use itoa::Buffer;
 use rent_buf::OutOfMemory;
 
-// The greatest number without its last digit, and that digit.
+// The greatest number without its last digit.
 const MOST_TENTH: u64 = 1844674407370955161;
 
+// The last digit of the greatest number.
 const MOST_LAST: u64 = 5;
 
 /// The number that a word writes: its decimal digits, with no sign and no leading zero, at most 2^64 - 1; `None` if it writes no
