@@ -8,6 +8,8 @@ mod TextSpaces
 mod TextParts
 mod TextForms
 mod TextRequests
-mod TextEvents
-mod TextLinesRead
+pub mod TextEvents
+mod TextLast
+pub mod TextLinesRead
+mod TextFirsts
 mod TextValid

@@ -21,12 +21,12 @@ use Rattle.event_text.specs.TextRequest.{IsRequest, request_words}
 use Rattle.event_text.specs.TextRequestReads.{request_of}
 use Rattle.event_text.specs.TextEventReads.{told_rows, told_of, engine_rows, arrived_rows, created_rows, numbered_rows, numbered_by}
 use Rattle.event_text.specs.TextEventReads.{created_by, external_by, event_of}
-use Rattle.event_text.specs.TextWords.{AreBytes, spaced, bytes_word}
+use Rattle.event_text.specs.TextWords.{AreBytes, spaced, bytes_word, is_solid}
 use Rattle.event_text.proofs.TextFields.{at_end-Some, value_of-Some}
 use Rattle.event_text.proofs.TextForms.{IsWord, IsForm, IsRow, AreRows, number_word, below_word, bytes_form, last_form, with_first_form}
 use Rattle.event_text.proofs.TextForms.{row_form, by_name-Some}
 use Rattle.event_text.proofs.TextRequests.{alone_behind, number_behind, request_of-words, request_read, solid_request}
-use Rattle.event_text.proofs.TextSpaces.{AreSolid, is_solid, words-spaced, spaced-words}
+use Rattle.event_text.proofs.TextSpaces.{AreSolid, words-spaced, spaced-words}
 
 -- The word of a handle's kind.
 kind_word : IsWord handle_kind_of handle_kind_word (λ kind. Unit {0})

@@ -8,11 +8,11 @@ use Rattle.std.proofs.lemmas.Slice.Eq.{bytes_eq-Decides}
 use Rattle.event_text.specs.TextReaders.{field, with_first, at_end, last_of, row, by_name}
 use Rattle.event_text.specs.TextReads.{number_of, number_below, bytes_of, address_of, flag_of, bytes_end}
 use Rattle.event_text.specs.TextRequest.{IsAddress, address_word}
-use Rattle.event_text.specs.TextWords.{AreBytes, bytes_word}
+use Rattle.event_text.specs.TextWords.{AreBytes, bytes_word, is_solid}
 use Rattle.event_text.proofs.TextFields.{and_then-Some, map-Some, if-Some, either-Some, at_end-Some, field-Some, bytes_end-Some}
 use Rattle.event_text.proofs.TextHex.{bytes_of-bytes_word, bytes_of-Some}
 use Rattle.event_text.proofs.TextNumbers.{number_of-decimal, number_of-Some, number_of-no_digit}
-use Rattle.event_text.proofs.TextSpaces.{AreSolid, is_solid, solid_decimal, solid_bytes}
+use Rattle.event_text.proofs.TextSpaces.{AreSolid, solid_decimal, solid_bytes}
 
 -- A word is read as a value exactly when it is that value's, and it has no space in it.
 pub record IsWord {A : Type 0} (read : List ℕ → Option A) (word_of : A → List ℕ) (IsTyped : A → Type 0) : Type 0 where

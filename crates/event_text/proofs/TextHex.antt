@@ -41,7 +41,7 @@ bytes_cons byte bytes small rest zero d few = small
 bytes_cons byte bytes small rest (suc k) d few = rest k d (omega arith)
 
 -- Tests that fail.
-isnt-eqb : (a b : ℕ) → (a ≡ b → ⊥) → (a == b) ≡ false
+pub isnt-eqb : (a b : ℕ) → (a ≡ b → ⊥) → (a == b) ≡ false
 isnt-eqb a b isnt = grind (arith, nat_tests)
 
 -- A test that can't pass fails.

@@ -1,10 +1,10 @@
 -- The lines that were read so far, and the events that they stand for.
-use Rattle.std.proofs.Common.{◌≡◌, ◌∙◌, ℕ, ◌+◌, List, [], ◌∷◌, ◌++◌, length, refl, ap, sym, arith, append_assoc}
+use Rattle.std.proofs.Common.{◌≡◌, ◌∙◌, ℕ, ◌+◌, List, [], ◌∷◌, ◌++◌, length, refl, ap, sym, subst, arith, append_assoc}
 use Rattle.std.proofs.lemmas.List.{append-nil}
 use Rattle.std.specs.List.{AllZip}
 use Rattle.ring_core.specs.declared.ledger.Event.{Event}
 use Rattle.event_text.specs.TextEvent.{AreExternal, StandsForExternal}
-use Rattle.event_text.specs.TextLines.{lines, IsFirstWrongFor, IsWrong, Standing}
+use Rattle.event_text.specs.TextLines.{lines, AreEventsFor, IsFirstWrongFor, IsWrong, Standing}
 
 -- The events so far stand for the lines in front of the rest.
 pub record HaveRead (Stands : Standing) (text rest : List ℕ) (events : List Event) : Type 0 where
@@ -64,6 +64,30 @@ pub have_read-all : (Stands : Standing) (text rest : List ℕ) (events : List Ev
     → AllZip Stands (lines text) events
 have_read-all Stands text [] events so_far end = rw (so_far.split, append-nil so_far.read) so_far.stand
 have_read-all Stands text (byte ∷ rest) events so_far end = absurd (omega arith)
+
+-- The first of lines that each stand for an event is no wrong one.
+pub right-first : (Stands : Standing) (all behind : List (List ℕ)) (line : List ℕ) → AreEventsFor Stands all → all ≡ line ∷ behind
+    → IsWrong Stands line → ⊥
+right-first Stands [] behind line right is wrong = (let f : ⊥ = cc in f)
+right-first Stands (first ∷ more) behind line right is wrong = by right.events right.stand
+  where
+    by : (events : List Event) → AllZip Stands (first ∷ more) events → ⊥
+    by [] none = none
+    by (event ∷ events) stand =
+        let same : first ≡ line = cc in
+        wrong event (subst (λ (l : List ℕ). Stands l event) same stand.0)
+
+-- Those behind it stand for events, too.
+pub right-behind : (Stands : Standing) (all behind : List (List ℕ)) (line : List ℕ) → AreEventsFor Stands all → all ≡ line ∷ behind
+    → AreEventsFor Stands behind
+right-behind Stands [] behind line right is = (let f : ⊥ = cc in absurd f)
+right-behind Stands (first ∷ more) behind line right is = by right.events right.stand
+  where
+    by : (events : List Event) → AllZip Stands (first ∷ more) events → AreEventsFor Stands behind
+    by [] none = absurd none
+    by (event ∷ events) stand =
+        let same : more ≡ behind = cc in
+        record { events = events; stand = subst (λ (all : List (List ℕ)). AllZip Stands all events) same stand.1 }
 
 -- Lines that stand for external events stand for nothing else.
 pub zip-external : (xs : List (List ℕ)) (events : List Event) → AllZip StandsForExternal xs events → AreExternal events

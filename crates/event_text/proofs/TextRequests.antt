@@ -15,12 +15,12 @@ use Rattle.event_text.specs.TextRequest.{AreTypedParts, IsAddress, IsBuffer, IsR
 use Rattle.event_text.specs.TextRequest.{buffer_words, parts_words, request_words, synced_word, unlinked_word}
 use Rattle.event_text.specs.TextRequestReads.{Rows, stream_rows, place_rows, path_rows, handle_rows, request_of, request_by}
 use Rattle.event_text.specs.TextRequestReads.{place_request_by, path_request_by, handle_request_by}
-use Rattle.event_text.specs.TextWords.{AreBytes, bytes_word}
+use Rattle.event_text.specs.TextWords.{AreBytes, bytes_word, is_solid}
 use Rattle.event_text.proofs.TextFields.{buffer_of-words, buffer_read}
 use Rattle.event_text.proofs.TextForms.{IsForm, AreRows, number_word, below_word, bytes_are_word, address_is_word, flag_word}
 use Rattle.event_text.proofs.TextForms.{bytes_form, last_form, with_first_form, row_form, by_name-Some}
 use Rattle.event_text.proofs.TextParts.{parts_of-words, parts_read, solid_parts}
-use Rattle.event_text.proofs.TextSpaces.{AreSolid, is_solid, solid_decimal, solid_bytes}
+use Rattle.event_text.proofs.TextSpaces.{AreSolid, solid_decimal, solid_bytes}
 
 -- No word of a buffer's kind has a space in it.
 solid_kind : (kind : Kind) → is_solid (buffer_kind_word kind) ≡ true

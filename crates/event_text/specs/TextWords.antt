@@ -1,5 +1,11 @@
 -- How words, numbers and bytes are written. The texts of events and of replies cite these.
-use Rattle.std.specs.Prelude.{ℕ, ◌+◌, ◌/◌, ◌%◌, ◌<◌, List, [], ◌∷◌, ◌++◌, All, map, codes, decimal, nat_lt, if◌then◌else◌}
+use Rattle.std.specs.Prelude.{ℕ, ◌+◌, ◌/◌, ◌%◌, ◌<◌, ◌==◌, Bool, true, ◌&&◌, not, List, [], ◌∷◌, ◌++◌, All, map, codes, decimal, nat_lt}
+use Rattle.std.specs.Prelude.{if◌then◌else◌}
+
+-- A word has no space in it.
+abbrev pub is_solid : List ℕ → Bool
+is_solid [] = true
+is_solid (byte ∷ bytes) = not (byte == 32) && is_solid bytes
 
 -- Pieces with one byte between them.
 abbrev pub joined : ℕ → List (List ℕ) → List ℕ

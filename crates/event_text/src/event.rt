@@ -1,5 +1,5 @@
 //! Events as text: one line each, read and written.
-ghost use Rattle.std.specs.Prelude.{◌≡◌, ◌++◌, IfOk, OnOk, OnErr};
+ghost use Rattle.std.specs.Prelude.{◌≡◌, ◌++◌, IfOk, OnOk, OnErr, false};
 ghost use Rattle.event_text.specs.TextWrites.{Starts};
 ghost use Rattle.event_text.specs.TextEvent.{event_text};
 ghost use Rattle.event_text.specs.TextReads.{words, words_behind, handle_kind_of};
@@ -9,24 +9,48 @@ ghost use Rattle.event_text.specs.TextEventReads.{turn_of, canceller_of, externa
 use crate::request::put::put_request;
 use crate::request::read_request;
 use crate::word::{
-    first_word, if_last, is_word, last_bytes, last_number, last_u16, last_u32, next_number,
-    next_word, put, put_byte, put_counted, put_next_bytes, put_next_number,
+    behind_word, first_word, if_last, is_word, last_bytes, last_number, last_u16, last_u32,
+    next_number, next_word, put, put_byte, put_counted, put_next_bytes, put_next_number,
 };
 use rent_buf::{BufSpec, OutOfMemory, PartsSpec};
 use ring_core::{Event, HandleKind, Request, Told};
 use std::alloc::Global;
 
-/// The event that a line stands for, if only external events are taken, or any.
+/// The event that a line stands for, if only external events are taken, or any. The first words of most lines are looked for before a
+/// word is cut off.
 pub(crate) fn event_of_line<const EXTERNAL: bool>(
     alloc: Global,
     line: &[u8],
 ) -> Result<Option<Event>, OutOfMemory>
     ensures { IfOk result (λ event. event ≡ event_of EXTERNAL (words line.now)) }
 {
-    let (word, rest) = first_word(line);
+    if let Some(rest) = behind_word(line, b"submit") {
+        return submit_event(alloc, rest);
+    }
+    if let Some(rest) = behind_word(line, b"poll") {
+        return Ok(poll_event(rest));
+    }
+    if let Some(rest) = behind_word(line, b"feed") {
+        return feed_event(alloc, rest);
+    }
     if EXTERNAL {
+        let (word, rest) = first_word(line);
         return external_event(alloc, word, rest);
     }
+    any_event(alloc, line)
+}
+
+// A turn or an execution, or what `external_event` reads.
+fn any_event(alloc: Global, line: &[u8]) -> Result<Option<Event>, OutOfMemory>
+    ensures { IfOk result (λ event. event ≡ event_of false (words line.now)) }
+{
+    if let Some(rest) = behind_word(line, b"exec") {
+        return Ok(exec_event(rest));
+    }
+    if let Some(rest) = behind_word(line, b"turn") {
+        return Ok(turn_event(rest));
+    }
+    let (word, rest) = first_word(line);
     if is_word(word, b"turn") {
         return Ok(turn_event(rest));
     }
@@ -119,13 +143,13 @@ pub fn write_event(event: &Event, out: &mut Vec<u8>) -> Result<(), OutOfMemory>
 
 // The events by the words behind their first one.
 
-pub(crate) fn turn_event(rest: &[u8]) -> Option<Event>
+fn turn_event(rest: &[u8]) -> Option<Event>
     ensures { result ≡ turn_of (words_behind rest.now) }
 {
     if_last(Event::Turn, rest)
 }
 
-pub(crate) fn canceller_event(rest: &[u8]) -> Option<Event>
+fn canceller_event(rest: &[u8]) -> Option<Event>
     ensures { result ≡ canceller_of (words_behind rest.now) }
 {
     if_last(Event::NewCanceller, rest)
@@ -187,7 +211,7 @@ fn under_event(alloc: Global, rest: &[u8]) -> Result<Option<Event>, OutOfMemory>
     }
 }
 
-pub(crate) fn poll_event(rest: &[u8]) -> Option<Event>
+fn poll_event(rest: &[u8]) -> Option<Event>
     ensures { result ≡ poll_of (words_behind rest.now) }
 {
     let (n, rest) = next_number(rest)?;
@@ -195,7 +219,7 @@ pub(crate) fn poll_event(rest: &[u8]) -> Option<Event>
     Some(Event::Poll(n, task))
 }
 
-pub(crate) fn exec_event(rest: &[u8]) -> Option<Event>
+fn exec_event(rest: &[u8]) -> Option<Event>
     ensures { result ≡ exec_of (words_behind rest.now) }
 {
     let (place, rest) = next_number(rest)?;
@@ -203,7 +227,8 @@ pub(crate) fn exec_event(rest: &[u8]) -> Option<Event>
     Some(Event::Exec(place as usize, told))
 }
 
-fn read_told(rest: &[u8]) -> Option<Told>
+/// What an executor tells, by the words behind a place.
+pub(crate) fn read_told(rest: &[u8]) -> Option<Told>
     ensures { result ≡ told_of (words_behind rest.now) }
 {
     let (word, rest) = next_word(rest)?;

@@ -11,7 +11,8 @@ mod word;
 
 pub use event::write_event;
 pub use reply::write_reply;
-pub use text::{LinesError, read_events, read_external_events, texts_differ};
+pub use text::{LinesError, next_event, read_events, read_external_events, texts_differ};
+pub use valid::first_wrong;
 pub use word::hex::{count_bytes, read_bytes};
 pub use word::number::{put_number, read_number};
 

@@ -1,5 +1,6 @@
 //! Requests as text, read and, in `put`, written: a name, then what the request names and holds.
-ghost use Rattle.std.specs.Prelude.{◌≡◌, ◌^◌, IfOk};
+ghost use Rattle.std.specs.Prelude.{◌≡◌, ◌^◌, IfOk, option_map};
+ghost use Rattle.ring_core.specs.declared.request.Request.TheVariants.{Recv, Send};
 ghost use Rattle.event_text.specs.TextReaders.{with_first, last_of};
 ghost use Rattle.event_text.specs.TextReads.{words_behind, number_of, number_below, bytes_of, address_of, flag_of, bytes_end};
 ghost use Rattle.event_text.specs.TextReads.{buffer_of, parts_of};
@@ -10,20 +11,26 @@ pub(crate) mod put;
 use crate::buffer::{read_buffer, read_parts};
 use crate::word::hex::read_bytes;
 use crate::word::{
-    is_word, last_bytes, last_flag, last_number, last_u32, next_address, next_number, next_u32,
-    next_word,
+    behind_next, is_word, last_bytes, last_flag, last_number, last_u32, next_address, next_number,
+    next_u32, next_word,
 };
 use rent_buf::{BufSpec, ByteList, OutOfMemory, PartsSpec};
 use ring_core::{Request, SharedFd};
 use std::alloc::Global;
 
-/// The request that words write.
+/// The request that words write. The names of most requests are looked for before a word is cut off.
 pub(crate) fn read_request(
     alloc: Global,
     rest: &[u8],
 ) -> Result<Option<Request<BufSpec, PartsSpec>>, OutOfMemory>
     ensures { IfOk result (λ request. request ≡ request_of (words_behind rest.now)) }
 {
+    if let Some(rest) = behind_next(rest, b"recv") {
+        return recv_request(alloc, rest);
+    }
+    if let Some(rest) = behind_next(rest, b"send") {
+        return send_request(alloc, rest);
+    }
     match next_word(rest) {
         Some((name, rest)) => request_of_name(alloc, name, rest),
         None => Ok(None),
@@ -40,11 +47,7 @@ fn request_of_name(
     ensures { IfOk result (λ request. request ≡ request_by name.now (words_behind rest.now)) }
 {
     if is_word(name, b"recv") {
-        let found = number_and_buffer(alloc, rest)?;
-        return Ok(found.map(|(h, buf)| Request::Recv {
-            fd: SharedFd::new(h),
-            buf,
-        }));
+        return recv_request(alloc, rest);
     }
     if is_word(name, b"readv") {
         let found = number_and_parts(alloc, rest)?;
@@ -54,11 +57,7 @@ fn request_of_name(
         }));
     }
     if is_word(name, b"send") {
-        let found = number_and_buffer(alloc, rest)?;
-        return Ok(found.map(|(h, buf)| Request::Send {
-            fd: SharedFd::new(h),
-            buf,
-        }));
+        return send_request(alloc, rest);
     }
     if is_word(name, b"writev") {
         let found = number_and_parts(alloc, rest)?;
@@ -191,6 +190,36 @@ pub(crate) fn handle_request(name: &[u8], rest: &[u8]) -> Option<Request<BufSpec
         });
     }
     None
+}
+
+// A request to receive bytes, by the words behind its name.
+fn recv_request(
+    alloc: Global,
+    rest: &[u8],
+) -> Result<Option<Request<BufSpec, PartsSpec>>, OutOfMemory>
+    ensures { IfOk result
+        (λ request. request ≡ option_map (λ found. Recv found.0 found.1) (with_first number_of buffer_of (words_behind rest.now))) }
+{
+    let found = number_and_buffer(alloc, rest)?;
+    Ok(found.map(|(h, buf)| Request::Recv {
+        fd: SharedFd::new(h),
+        buf,
+    }))
+}
+
+// A request to send bytes, by the words behind its name.
+fn send_request(
+    alloc: Global,
+    rest: &[u8],
+) -> Result<Option<Request<BufSpec, PartsSpec>>, OutOfMemory>
+    ensures { IfOk result
+        (λ request. request ≡ option_map (λ found. Send found.0 found.1) (with_first number_of buffer_of (words_behind rest.now))) }
+{
+    let found = number_and_buffer(alloc, rest)?;
+    Ok(found.map(|(h, buf)| Request::Send {
+        fd: SharedFd::new(h),
+        buf,
+    }))
 }
 
 // What is behind the names, by its shape.

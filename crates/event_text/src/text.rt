@@ -1,17 +1,17 @@
 //! The events that the lines of a text stand for.
-ghost use Rattle.std.specs.Prelude.{◌≡◌, ◌+◌, List, ℕ, IfOk, IfErr};
+ghost use Rattle.std.specs.Prelude.{◌≡◌, ◌<◌, List, ℕ, IfOk, IfErr, length};
 ghost use Rattle.std.specs.List.{AllZip};
 ghost use Rattle.ring_core.specs.declared.ledger.Event.{Event};
 ghost use Rattle.event_text.specs.TextEvent.{AreExternal, IsEvent, StandsFor, StandsForExternal, event_text, stands_for};
-ghost use Rattle.event_text.specs.TextLines.{lines, AreEvents, AreEventsFor, IfBadLine, IfShort, IsFirstWrong, IsFirstWrongFor};
-ghost use Rattle.event_text.specs.declared.text.LinesError.TheVariants.{OutOfMemory};
+ghost use Rattle.event_text.specs.TextLines.{lines, AreEvents, AreEventsFor, IfBadLine, IfShort, IsFirstEvent, IsFirstWrong};
+ghost use Rattle.event_text.specs.TextLines.{IsFirstWrongFor};
 
 use crate::event::event_of_line;
 use crate::valid::first_wrong;
 use crate::word::first_line;
 use rent_buf::OutOfMemory;
 use ring_core::Event;
-use std::alloc::{AllocError, AllocFailed, Global};
+use std::alloc::Global;
 use thiserror::Error;
 
 /// Why lines gave no events. (not in monoio)
@@ -25,33 +25,27 @@ pub enum LinesError {
     OutOfMemory,
 }
 
-impl From<OutOfMemory> for LinesError {
-    ghost from_gives = { λ _ e. e ≡ OutOfMemory };
-
-    fn from(_: OutOfMemory) -> LinesError {
-        LinesError::OutOfMemory
+/// The event that the first line of a text stands for, and the text behind that line, where each line stands for an event, as
+/// `first_wrong` tells: for any, or for an external one where only those are taken. `OutOfMemory` comes if memory runs out. (not in
+/// monoio)
+pub fn next_event<const EXTERNAL: bool>(
+    alloc: Global,
+    text: &[u8],
+) -> Result<(Event, &[u8]), OutOfMemory>
+    requires some { 0 < length text.now }
+    requires right { AreEventsFor (stands_for EXTERNAL) (lines text.now) }
+    ensures event { IfOk result (λ next. IsFirstEvent (stands_for EXTERNAL) (lines text.now) next.0 (lines next.1.now)) }
+    ensures less { IfOk result (λ next. length next.1.now < length text.now) }
+{
+    let (line, behind) = first_line(text);
+    match event_of_line::<EXTERNAL>(alloc, line)? {
+        Some(event) => Ok((event, behind)),
+        None => unreachable!(),
     }
 }
 
-impl From<AllocError> for LinesError {
-    ghost from_gives = { λ _ e. e ≡ OutOfMemory };
-
-    fn from(_: AllocError) -> LinesError {
-        LinesError::OutOfMemory
-    }
-}
-
-impl<T: Drop> From<AllocFailed<T>> for LinesError {
-    ghost from_gives = { λ _ e. e ≡ OutOfMemory };
-
-    fn from(_: AllocFailed<T>) -> LinesError {
-        LinesError::OutOfMemory
-    }
-}
-
-/// The events that the lines of a text stand for, one for each line, in order. Memory is taken line by line, so a wrong line is
-/// found before memory for the lines behind it. `OutOfMemory` comes only if no line is wrong: once memory runs out, the lines are
-/// looked through with none. (not in monoio)
+/// The events that the lines of a text stand for, one for each line, in order. A wrong line is found before memory is taken, so
+/// `OutOfMemory` comes only if no line is wrong. (not in monoio)
 pub fn read_events(alloc: Global, text: &[u8]) -> Result<Vec<Event>, LinesError>
     ensures events { IfOk result (λ events. AllZip StandsFor (lines text.now) events.items) }
     ensures bad_line { IfErr result (IfBadLine (IsFirstWrong (lines text.now))) }
@@ -71,43 +65,31 @@ pub fn read_external_events(alloc: Global, text: &[u8]) -> Result<Vec<Event>, Li
     read_lines::<true>(alloc, text)
 }
 
-// What both give: the events that are taken, and if memory runs out, why there are none.
+// What both give: the events that are taken, or why there are none.
 fn read_lines<const EXTERNAL: bool>(alloc: Global, text: &[u8]) -> Result<Vec<Event>, LinesError>
     ensures events { IfOk result (λ events. AllZip (stands_for EXTERNAL) (lines text.now) events.items) }
     ensures bad_line { IfErr result (IfBadLine (IsFirstWrongFor (stands_for EXTERNAL) (lines text.now))) }
     ensures memory { IfErr result (IfShort (AreEventsFor (stands_for EXTERNAL) (lines text.now))) }
 {
-    match try_read::<EXTERNAL>(alloc, text) {
-        Ok(events) => Ok(events),
-        Err(LinesError::BadLine(line)) => Err(LinesError::BadLine(line)),
-        Err(LinesError::OutOfMemory) => Err(why_short::<EXTERNAL>(text)),
-    }
-}
-
-// Why lines gave no events, if memory ran out: a wrong line, or memory alone.
-fn why_short<const EXTERNAL: bool>(text: &[u8]) -> LinesError
-    ensures bad_line { IfBadLine (IsFirstWrongFor (stands_for EXTERNAL) (lines text.now)) result }
-    ensures memory { IfShort (AreEventsFor (stands_for EXTERNAL) (lines text.now)) result }
-{
     match first_wrong::<EXTERNAL>(text) {
-        Some(line) => LinesError::BadLine(line),
-        None => LinesError::OutOfMemory,
+        Some(line) => Err(LinesError::BadLine(line)),
+        None => match read_right::<EXTERNAL>(alloc, text) {
+            Ok(events) => Ok(events),
+            Err(_) => Err(LinesError::OutOfMemory),
+        },
     }
 }
 
-// The events that the lines of a text stand for, up to the first wrong line, or to where memory runs out.
-fn try_read<const EXTERNAL: bool>(alloc: Global, text: &[u8]) -> Result<Vec<Event>, LinesError>
-    ensures events { IfOk result (λ events. AllZip (stands_for EXTERNAL) (lines text.now) events.items) }
-    ensures bad_line { IfErr result (IfBadLine (IsFirstWrongFor (stands_for EXTERNAL) (lines text.now))) }
+// The events of lines that stand for some.
+fn read_right<const EXTERNAL: bool>(alloc: Global, text: &[u8]) -> Result<Vec<Event>, OutOfMemory>
+    requires { AreEventsFor (stands_for EXTERNAL) (lines text.now) }
+    ensures { IfOk result (λ events. AllZip (stands_for EXTERNAL) (lines text.now) events.items) }
 {
     let mut events = Vec::new(alloc);
     let mut rest = text;
     while !rest.is_empty() {
-        let (line, behind) = first_line(rest);
-        match event_of_line::<EXTERNAL>(alloc, line)? {
-            Some(event) => events.push(event)?,
-            None => return Err(LinesError::BadLine(events.len() as u64 + 1)),
-        }
+        let (event, behind) = next_event::<EXTERNAL>(alloc, rest)?;
+        events.push(event)?;
         rest = behind;
     }
     Ok(events)

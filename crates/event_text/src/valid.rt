@@ -1,5 +1,5 @@
 //! Whether lines are events' texts, found with no memory taken.
-ghost use Rattle.std.specs.Prelude.{◌≡◌, ◌&&◌, ◌^◌, nat_le, option_and_then, MatchOption};
+ghost use Rattle.std.specs.Prelude.{◌≡◌, ◌&&◌, ◌^◌, nat_le, option_and_then, MatchOption, false};
 ghost use Rattle.std.specs.Option.{is_some};
 ghost use Rattle.event_text.specs.TextEvent.{stands_for};
 ghost use Rattle.event_text.specs.TextLines.{lines, AreEventsFor, IsFirstWrongFor};
@@ -8,24 +8,23 @@ ghost use Rattle.event_text.specs.TextReads.{words, words_behind, number_of, num
 ghost use Rattle.event_text.specs.TextReads.{buffer_of, parts_of, counted, counted_of, parts_end, is_full};
 ghost use Rattle.event_text.specs.TextRequestReads.{request_of, request_by, place_request_by, path_request_by};
 ghost use Rattle.event_text.specs.TextEventReads.{event_of, external_by, created_by, feed_of, message_of, submit_of, under_of};
+ghost use Rattle.event_text.specs.TextEventReads.{poll_of, exec_of, turn_of, canceller_of};
 ghost use Rattle.event_text.specs.TextValid.{AddsPart, NoPart};
 
 use crate::buffer::next_buffer_kind;
-use crate::event::{
-    canceller_event, exec_event, give_event, numbered_event, poll_event, turn_event,
-};
+use crate::event::{give_event, numbered_event, read_told};
 use crate::request::{handle_request, u32s};
 use crate::word::hex::count_bytes;
 use crate::word::number::read_number;
 use crate::word::{
-    count_last_bytes, first_line, first_word, is_word, last_flag, last_u32, next_address,
-    next_number, next_word,
+    behind_next, behind_word, count_last_bytes, first_line, first_word, is_word, last_flag,
+    last_number, last_u32, next_address, next_number, next_word,
 };
 use rent_buf::Kind;
 
-/// The number of the first line that is no event's text, or no external one's, counted from 1; none if each line is one. It takes
-/// no memory.
-pub(crate) fn first_wrong<const EXTERNAL: bool>(text: &[u8]) -> Option<u64>
+/// The number of the first line that is no event's text, counted from 1, or of the first that is no external event's, where only those
+/// are taken; `None` if each line is one. It takes no memory. (not in monoio)
+pub fn first_wrong<const EXTERNAL: bool>(text: &[u8]) -> Option<u64>
     ensures { MatchOption result (AreEventsFor (stands_for EXTERNAL) (lines text.now))
         (IsFirstWrongFor (stands_for EXTERNAL) (lines text.now)) }
 {
@@ -42,19 +41,43 @@ pub(crate) fn first_wrong<const EXTERNAL: bool>(text: &[u8]) -> Option<u64>
     None
 }
 
-/// Whether a line is some event's text, if only external events are taken, or any.
+/// Whether a line is some event's text, if only external events are taken, or any. The first words of most lines are looked for before a
+/// word is cut off.
 pub(crate) fn is_event_line<const EXTERNAL: bool>(line: &[u8]) -> bool
     ensures { result ≡ is_some (event_of EXTERNAL (words line.now)) }
 {
-    let (word, rest) = first_word(line);
+    if let Some(rest) = behind_word(line, b"submit") {
+        return is_submit(rest);
+    }
+    if let Some(rest) = behind_word(line, b"poll") {
+        return is_poll(rest);
+    }
+    if let Some(rest) = behind_word(line, b"feed") {
+        return is_feed(rest);
+    }
     if EXTERNAL {
+        let (word, rest) = first_word(line);
         return is_external(word, rest);
     }
+    is_any(line)
+}
+
+// Whether a line is some event's text.
+fn is_any(line: &[u8]) -> bool
+    ensures { result ≡ is_some (event_of false (words line.now)) }
+{
+    if let Some(rest) = behind_word(line, b"exec") {
+        return is_exec(rest);
+    }
+    if let Some(rest) = behind_word(line, b"turn") {
+        return is_end(rest);
+    }
+    let (word, rest) = first_word(line);
     if is_word(word, b"turn") {
-        return turn_event(rest).is_some();
+        return is_end(rest);
     }
     if is_word(word, b"exec") {
-        return exec_event(rest).is_some();
+        return is_exec(rest);
     }
     is_external(word, rest)
 }
@@ -65,7 +88,7 @@ fn is_external(word: &[u8], rest: &[u8]) -> bool
     ensures { result ≡ is_some (external_by word.now (words_behind rest.now)) }
 {
     if is_word(word, b"poll") {
-        return poll_event(rest).is_some();
+        return is_poll(rest);
     }
     if is_word(word, b"feed") {
         return is_feed(rest);
@@ -91,9 +114,37 @@ fn is_created(word: &[u8], rest: &[u8]) -> bool
         return give_event(rest).is_some();
     }
     if is_word(word, b"canceller") {
-        return canceller_event(rest).is_some();
+        return is_end(rest);
     }
     numbered_event(word, rest).is_some()
+}
+
+// Whether the words behind `poll` are an operation and a task.
+fn is_poll(rest: &[u8]) -> bool
+    ensures { result ≡ is_some (poll_of (words_behind rest.now)) }
+{
+    match next_number(rest) {
+        Some((_, rest)) => last_number(rest).is_some(),
+        None => false,
+    }
+}
+
+// Whether the words behind `exec` are a place and what is told.
+fn is_exec(rest: &[u8]) -> bool
+    ensures { result ≡ is_some (exec_of (words_behind rest.now)) }
+{
+    match next_number(rest) {
+        Some((_, rest)) => read_told(rest).is_some(),
+        None => false,
+    }
+}
+
+// Whether no word is behind `turn`, or behind `canceller`.
+fn is_end(rest: &[u8]) -> bool
+    ensures turn { result ≡ is_some (turn_of (words_behind rest.now)) }
+    ensures canceller { result ≡ is_some (canceller_of (words_behind rest.now)) }
+{
+    rest.is_empty()
 }
 
 // Whether the words behind `feed` are a handle and bytes.
@@ -140,6 +191,12 @@ fn is_under(rest: &[u8]) -> bool
 fn are_request(rest: &[u8]) -> bool
     ensures { result ≡ is_some (request_of (words_behind rest.now)) }
 {
+    if let Some(rest) = behind_next(rest, b"recv") {
+        return is_number_and_buffer(rest);
+    }
+    if let Some(rest) = behind_next(rest, b"send") {
+        return is_number_and_buffer(rest);
+    }
     match next_word(rest) {
         Some((word, rest)) => is_request(word, rest),
         None => false,

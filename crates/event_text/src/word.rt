@@ -1,12 +1,12 @@
 //! Lines cut into words, and words of numbers and bytes; appending to a text.
 ghost use Rattle.std.specs.Prelude.{◌≡◌, ◌∷◌, ◌++◌, ◌^◌, ◌<◌};
-ghost use Rattle.std.specs.Prelude.{IfOk, OnOk, OnErr, MatchOption, Some, None, [], bytes_eq, decimal};
+ghost use Rattle.std.specs.Prelude.{IfOk, IfSome, IsTrue, OnOk, OnErr, MatchOption, Some, None, [], bytes_eq, decimal};
 ghost use Rattle.std.specs.Prelude.{length, option_map};
 ghost use Rattle.event_text.specs.TextLines.{IsPlaceOf, lines};
 ghost use Rattle.event_text.specs.TextReaders.{field, at_end, last_of};
 ghost use Rattle.event_text.specs.TextReads.{words, words_behind, number_of, number_below, address_of, flag_of, bytes_end};
 ghost use Rattle.event_text.specs.TextRequest.{address_word};
-ghost use Rattle.event_text.specs.TextWords.{bytes_word};
+ghost use Rattle.event_text.specs.TextWords.{bytes_word, is_solid};
 ghost use Rattle.event_text.specs.TextWrites.{Starts};
 
 pub(crate) mod hex;
@@ -14,7 +14,7 @@ pub(crate) mod number;
 
 use hex::{count_bytes, put_bytes, read_bytes};
 use memchr::memchr;
-use number::{put_number, read_number, read_u16, read_u32};
+use number::{put_number, read_number};
 use rent_buf::{ByteList, OutOfMemory};
 use std::alloc::Global;
 
@@ -82,8 +82,58 @@ pub(crate) fn is_word(word: &[u8], text: &[u8]) -> bool
     word == text
 }
 
+/// What is behind the first word, if that is this one: a word with no space in it.
+pub(crate) fn behind_word<'a>(text: &'a [u8], word: &[u8]) -> Option<&'a [u8]>
+    requires { IsTrue (is_solid word.now) }
+    ensures { IfSome result (λ rest. words text.now ≡ word.now ∷ words_behind rest.now) }
+{
+    let at = word.len();
+    if text.len() < at || !is_word(&text[..at], word) {
+        return None;
+    }
+    if at < text.len() && text[at] != b' ' {
+        return None;
+    }
+    Some(&text[at..])
+}
+
+/// What is behind the next word, if that is this one: a word with no space in it.
+pub(crate) fn behind_next<'a>(rest: &'a [u8], word: &[u8]) -> Option<&'a [u8]>
+    requires { IsTrue (is_solid word.now) }
+    ensures { IfSome result (λ more. words_behind rest.now ≡ word.now ∷ words_behind more.now) }
+{
+    match rest {
+        [] => None,
+        [_, text @ ..] => behind_word(text, word),
+    }
+}
+
 /// The number that the next word writes, and what is behind it.
 pub(crate) fn next_number(rest: &[u8]) -> Option<(u64, &[u8])>
+    ensures { MatchOption result (field number_of (words_behind rest.now) ≡ None)
+        (λ cut. field number_of (words_behind rest.now) ≡ Some (cut.0, words_behind cut.1.now)) }
+{
+    match next_digit(rest) {
+        Some(found) => Some(found),
+        None => next_digits(rest),
+    }
+}
+
+// The number that the next word writes, if that is one digit, as most numbers are; and what is behind it.
+fn next_digit(rest: &[u8]) -> Option<(u64, &[u8])>
+    ensures { IfSome result (λ cut. field number_of (words_behind rest.now) ≡ Some (cut.0, words_behind cut.1.now)) }
+{
+    if rest.len() < 2 || !rest[1].is_ascii_digit() {
+        return None;
+    }
+    if rest.len() > 2 && rest[2] != b' ' {
+        return None;
+    }
+    Some(((rest[1] - b'0') as u64, &rest[2..]))
+}
+
+// The number that the next word writes, digit by digit, and what is behind it.
+fn next_digits(rest: &[u8]) -> Option<(u64, &[u8])>
     ensures { MatchOption result (field number_of (words_behind rest.now) ≡ None)
         (λ cut. field number_of (words_behind rest.now) ≡ Some (cut.0, words_behind cut.1.now)) }
 {
@@ -105,12 +155,14 @@ pub(crate) fn next_address(rest: &[u8]) -> Option<(Option<u64>, &[u8])>
     Some((Some(address), rest))
 }
 
-/// The number that the one word behind another writes.
+/// The number that the one word behind another writes. A word with a space in it would write none, so no space is looked for.
 pub(crate) fn last_number(rest: &[u8]) -> Option<u64>
     ensures { result ≡ last_of number_of (words_behind rest.now) }
 {
-    let (number, rest) = next_number(rest)?;
-    if_last(number, rest)
+    match rest {
+        [] => None,
+        [_, text @ ..] => read_number(text),
+    }
 }
 
 /// The number below 2^32 that the next word writes, and what is behind it.
@@ -118,26 +170,33 @@ pub(crate) fn next_u32(rest: &[u8]) -> Option<(u32, &[u8])>
     ensures { MatchOption result (field (number_below (2 ^ 32)) (words_behind rest.now) ≡ None)
         (λ cut. field (number_below (2 ^ 32)) (words_behind rest.now) ≡ Some (cut.0, words_behind cut.1.now)) }
 {
-    let (word, rest) = next_word(rest)?;
-    let number = read_u32(word)?;
-    Some((number, rest))
+    let (number, rest) = next_number(rest)?;
+    if number > u32::MAX as u64 {
+        return None;
+    }
+    Some((number as u32, rest))
 }
 
 /// The number that the one word behind another writes, if it is below 2^32.
 pub(crate) fn last_u32(rest: &[u8]) -> Option<u32>
     ensures { result ≡ last_of (number_below (2 ^ 32)) (words_behind rest.now) }
 {
-    let (number, rest) = next_u32(rest)?;
-    if_last(number, rest)
+    let number = last_number(rest)?;
+    if number > u32::MAX as u64 {
+        return None;
+    }
+    Some(number as u32)
 }
 
 /// The number that the one word behind another writes, if it is below 2^16.
 pub(crate) fn last_u16(rest: &[u8]) -> Option<u16>
     ensures { result ≡ last_of (number_below (2 ^ 16)) (words_behind rest.now) }
 {
-    let (word, rest) = next_word(rest)?;
-    let number = read_u16(word)?;
-    if_last(number, rest)
+    let number = last_number(rest)?;
+    if number > u16::MAX as u64 {
+        return None;
+    }
+    Some(number as u16)
 }
 
 /// Whether the one word behind another is `set`; it may be `unset`, and nothing else.
@@ -158,22 +217,19 @@ pub(crate) fn last_flag(rest: &[u8], set: &[u8], unset: &[u8]) -> Option<bool>
 pub(crate) fn if_last<T: Drop>(value: T, rest: &[u8]) -> Option<T>
     ensures { result ≡ at_end value (words_behind rest.now) }
 {
-    match next_word(rest) {
-        None => Some(value),
-        Some(_) => None,
+    match rest {
+        [] => Some(value),
+        _ => None,
     }
 }
 
-/// The bytes that the one word behind another writes.
+/// The bytes that the one word behind another writes. A word with a space in it would write none, so no space is looked for.
 pub(crate) fn last_bytes(alloc: Global, rest: &[u8]) -> Result<Option<ByteList>, OutOfMemory>
     ensures { IfOk result (λ bytes. bytes ≡ bytes_end (words_behind rest.now)) }
 {
-    let Some((word, rest)) = next_word(rest) else {
-        return Ok(None);
-    };
-    match next_word(rest) {
-        None => read_bytes(alloc, word),
-        Some(_) => Ok(None),
+    match rest {
+        [] => Ok(None),
+        [_, text @ ..] => read_bytes(alloc, text),
     }
 }
 
@@ -181,10 +237,9 @@ pub(crate) fn last_bytes(alloc: Global, rest: &[u8]) -> Result<Option<ByteList>,
 pub(crate) fn count_last_bytes(rest: &[u8]) -> Option<usize>
     ensures { result ≡ option_map length (bytes_end (words_behind rest.now)) }
 {
-    let (word, rest) = next_word(rest)?;
-    match next_word(rest) {
-        None => count_bytes(word),
-        Some(_) => None,
+    match rest {
+        [] => None,
+        [_, text @ ..] => count_bytes(text),
     }
 }
 

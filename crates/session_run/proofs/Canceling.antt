@@ -1,6 +1,6 @@
 -- What the events of cancellers make of a session.
 use Rattle.std.proofs.Common.{◌≡◌, ◌<◌, ◌≤◌, inl, inr, ℕ, true, List, [], ◌∷◌, ◌++◌, length, map, Option, None, Some, refl, sym, ◌∙◌, ap}
-use Rattle.std.proofs.Common.{subst, slice_get, unwrap_or, arith}
+use Rattle.std.proofs.Common.{subst, slice_get, unwrap_or}
 use Rattle.std.proofs.lemmas.List.{length-map, map-append}
 use Rattle.std.proofs.lemmas.Option.{slice_get_within, slice_get_cases}
 use Rattle.rent_buf.specs.Buf.{built}

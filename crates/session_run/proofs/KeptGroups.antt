@@ -13,7 +13,7 @@ use Rattle.ring_core.specs.Refusal.{cause}
 use Rattle.ring_core.specs.Step.{step, submit_if}
 use Rattle.ring_core.proofs.Staying.{Groups, groups_of}
 use Rattle.ring_core.proofs.Stepping.{step-refused, step-row}
-use Rattle.ring_core.proofs.Grouping.{may_group, groups-row, groups-submit, renewed}
+use Rattle.ring_core.proofs.Grouping.{may_group, groups-row, groups-submit}
 use Rattle.driver_core.specs.declared.tokens.Tokens.{Tokens}
 use Rattle.driver_core.specs.Tokens.{token_at, by_number, KeepsGroups}
 use Rattle.session_run.specs.Session.{HasGroups}

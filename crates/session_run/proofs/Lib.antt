@@ -5,6 +5,7 @@ mod Submitting
 mod Canceling
 mod Single
 mod Steps
+mod Running
 mod Runs
 mod Writing
 mod Reading

@@ -4,14 +4,10 @@ use Rattle.std.proofs.Common.{length-append, arith}
 use Rattle.std.specs.List.{AllZip}
 use Rattle.ring_core.specs.declared.ledger.Event.{Event}
 use Rattle.session_run.specs.declared.input.NoEvents.{NoEvents}
-use Rattle.ring_core.specs.declared.ledger.Event.TheVariants.{Give, Feed, FeedMessage, End, Look, Close, Submit, Poll, Drop, Cancel}
-use Rattle.ring_core.specs.declared.ledger.Event.TheVariants.{NewCanceller, NewHandle, CancelAll, Turn, Exec}
-use Rattle.ready_driver.specs.Readiness.{IsDriven}
-use Rattle.event_text.specs.TextEvent.{IsExternal}
-use Rattle.event_text.specs.TextLines.{lines, AreEventsFor, IsFirstWrongFor}
-use Rattle.session_run.specs.DriverKind.{DriverKind, StandsOn, TakesAll, completion, readiness}
+use Rattle.event_text.specs.TextLines.{lines, IsFirstWrongFor}
+use Rattle.session_run.specs.DriverKind.{DriverKind, StandsOn, completion, readiness}
 use Rattle.session_run.specs.Top.{TookFew, WasRead, IsBadLine, NoLineWrong, unread, half_read, all_right}
-use Rattle.session_run.specs.Reads.{IsAll, ReadShort, WhyNoEvents, WhyStopped, WhyUnread}
+use Rattle.session_run.specs.Reads.{IsAll, WhyNoEvents, WhyStopped, WhyUnread}
 use Rattle.rent_io.specs.Call.{Took}
 use Rattle.event_text.proofs.TextCuts.{drop-whole}
 use Rattle.rent_io.proofs.Runs.{rose_later}
@@ -65,15 +61,7 @@ unread-events driver tells left rest faults later NoEvents.TooLong why = why
 unread-events driver tells left rest faults later NoEvents.Fault why = why
 unread-events driver tells left rest faults later NoEvents.OutOfMemory why = why
 
--- What was read whole is no more than the input may have.
-pub few-all : (left rest text : List ℕ) → IsAll left rest text → TookFew left rest
-few-all left rest text all = record {
-  count = length left;
-  few = (let within = all.within in let same = ap length all.all in omega arith);
-  taken = all.to_its_end ∙ sym (drop-whole left);
-}
-
--- So is what was read as events.
+-- What was read as events is no more than the input may have.
 pub few-read : (driver : DriverKind) (left rest : List ℕ) (events : List Event) → WasRead driver left rest events → TookFew left rest
 few-read driver left rest events read = record { count = length left; few = read.within; taken = read.to_its_end ∙ sym (drop-whole left) }
 
@@ -86,15 +74,6 @@ was-read driver left rest text seen events all same stand = record {
   stand = subst (λ xs. AllZip (StandsOn driver) (lines xs) events) (same ∙ all.all) stand;
 }
 
--- All was read, and no line is wrong.
-pub right-short : (driver : DriverKind) (left rest text seen : List ℕ) (faults later : ℕ) → IsAll left rest text → seen ≡ text →
-    AreEventsFor (StandsOn driver) (lines seen) → later ≡ faults → ReadShort driver left rest faults later
-right-short driver left rest text seen faults later all same right calm = record {
-  few = few-all left rest text all;
-  lines = all_right right.events (was-read driver left rest text seen right.events all same right.stand);
-  calm = calm;
-}
-
 -- An input with a wrong line has that one.
 pub was-wrong : (driver : DriverKind) (left rest text seen : List ℕ) (n : ℕ) → IsAll left rest text → seen ≡ text →
     IsFirstWrongFor (StandsOn driver) (lines seen) n → IsBadLine driver left rest n
@@ -103,31 +82,6 @@ was-wrong driver left rest text seen n all same wrong = record {
   to_its_end = all.to_its_end;
   first = subst (λ xs. IsFirstWrongFor (StandsOn driver) (lines xs) n) (same ∙ all.all) wrong;
 }
-
--- A driver takes the events that its lines stand for.
-pub all-taken : (driver : DriverKind) (all : List (List ℕ)) (events : List Event) → AllZip (StandsOn driver) all events →
-    TakesAll driver events
-all-taken driver all [] stand = tt
-all-taken driver [] (event ∷ events) stand = absurd stand
-all-taken completion (line ∷ all) (event ∷ events) stand = (tt, all-taken completion all events stand.1)
-all-taken readiness (line ∷ all) (event ∷ events) stand = (is-driven event stand.0.external, all-taken readiness all events stand.1)
-  where
-    is-driven : (event : Event) → IsExternal event → IsDriven event
-    is-driven (Give kind) external = tt
-    is-driven (Feed h bytes) external = tt
-    is-driven (FeedMessage h addr bytes) external = tt
-    is-driven (End h) external = tt
-    is-driven (Look h) external = tt
-    is-driven (Close h) external = tt
-    is-driven (Submit request under) external = tt
-    is-driven (Poll n task) external = tt
-    is-driven (Drop n) external = tt
-    is-driven (Cancel n) external = tt
-    is-driven NewCanceller external = tt
-    is-driven (NewHandle c) external = tt
-    is-driven (CancelAll c) external = tt
-    is-driven Turn external = absurd external
-    is-driven (Exec place told) external = absurd external
 
 -- Events of the readiness driver are events.
 some-zip : (all : List (List ℕ)) (events : List Event) → AllZip (StandsOn readiness) all events → AllZip (StandsOn completion) all events

@@ -14,7 +14,7 @@ use Rattle.ready_driver.specs.Spelled.{spelled_replies, spelled_after, ledger_be
 use Rattle.ready_run.specs.declared.session.ReadySession.{ReadySession}
 use Rattle.ready_run.specs.ReadySession.{ReadyStands, ReadySteps}
 use Rattle.session_run.specs.declared.session.Session.{Session}
-use Rattle.session_run.specs.DriverKind.{AnswersOn, DriverKind, Takes, TakesAll, completion, readiness}
+use Rattle.session_run.specs.DriverKind.{AnswersOn, DriverKind, completion, readiness}
 use Rattle.session_run.specs.DriverKind.{after_on, next_on, replies_on, reply_on}
 use Rattle.session_run.specs.Session.{SessionStands, SessionAnswers}
 use Rattle.session_run.proofs.Runs.{get-there, after-one_more}
@@ -102,13 +102,6 @@ pub all-replied : (driver : DriverKind) (L : Ledger) (events : List Event) (k : 
     k ≡ length (replies_on driver L events)
 all-replied completion L events k is = is ∙ sym (length-replies L events)
 all-replied readiness L events k is = is ∙ sym (length-spelled L events)
-
--- A driver takes the event at a place of those that it takes.
-pub taken-there : (driver : DriverKind) (events : List Event) (k : ℕ) (event : Event) → TakesAll driver events → k < length events →
-    event ≡ get_or events k event → Takes driver event
-taken-there driver [] k event all within is = absurd (omega (arith, within))
-taken-there driver (x ∷ events) zero event all within is = subst (λ e. Takes driver e) (sym is) all.0
-taken-there driver (x ∷ events) (suc k) event all within is = taken-there driver events k event all.1 (omega (arith, within)) is
 
 -- One reply more is counted where it passes the test.
 pub count-next : (test : Reply → Bool) (rs : List Reply) (k old new : ℕ) (r : Reply) → k < length rs → r ≡ get_or rs k r →

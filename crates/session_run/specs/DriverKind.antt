@@ -1,5 +1,5 @@
 -- The drivers over which commands run events: which lines they take, what they reply, and when a session over one of them is kept.
-use Rattle.std.specs.Prelude.{ℕ, ◌≡◌, Bool, true, false, List, [], ◌∷◌, Option, Some}
+use Rattle.std.specs.Prelude.{ℕ, ◌≡◌, Bool, true, false, List, Option, Some}
 use Rattle.ring_core.specs.declared.ledger.Event.{Event}
 use Rattle.ring_core.specs.declared.ledger.Reply.{Reply}
 use Rattle.ring_core.specs.Ledger.{Ledger}
@@ -33,11 +33,6 @@ StandsOn driver = stands_for (is_external driver)
 abbrev pub Takes : DriverKind → Event → Type 0
 Takes completion event = Unit {0}
 Takes readiness event = IsDriven event
-
--- The driver takes each of these events.
-abbrev pub TakesAll : DriverKind → List Event → Type 0
-TakesAll driver [] = Unit {0}
-TakesAll driver (event ∷ events) = Takes driver event × TakesAll driver events
 
 -- The reply to an event: the machine's; or its reply to the event as it is spelled.
 abbrev pub reply_on : DriverKind → Ledger → Event → Reply

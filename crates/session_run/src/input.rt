@@ -1,13 +1,11 @@
 //! Reading all lines of a source.
 ghost use Rattle.std.specs.Prelude.{◌≡◌, ◌≤◌, ◌<◌, ◌+◌, ◌++◌, length, IfOk, IfErr, OnOk, OnErr, IsTrue, vec_len, vec_capacity, []};
-ghost use Rattle.session_run.specs.DriverKind.{DriverKind, TakesAll};
-ghost use Rattle.session_run.specs.Top.{WasRead};
+ghost use Rattle.event_text.specs.TextLines.{AreEventsFor, lines};
+ghost use Rattle.session_run.specs.DriverKind.{DriverKind, StandsOn};
 ghost use Rattle.session_run.specs.Reads.{IsAll, WhyNoEvents, WhyStopped, WhyUnread};
 
 use crate::stepping::Stepping;
-use event_text::LinesError;
 use rent_io::ByteSource;
-use ring_core::Event;
 use std::alloc::{AllocError, Global};
 
 /// The most bytes of input.
@@ -27,27 +25,17 @@ pub(crate) enum NoEvents {
     TooLong,
     /// The source failed.
     Fault,
-    /// Memory ran out: before anything was read, once more than `PIECE` bytes were read, or once all was read and no line is wrong.
+    /// Memory ran out: before anything was read, or once more than `PIECE` bytes were read.
     OutOfMemory,
 }
 
-/// What was read of a source.
-#[derive(Drop)]
-pub(crate) struct Input {
-    /// The events that its lines stand for.
-    pub(crate) events: Vec<Event>,
-    /// Its bytes. They are kept while the events run: the C library's allocator moves large blocks without a copy, as long as no other
-    /// large block was given back.
-    pub(crate) text: Vec<u8>,
-}
-
-/// What is read of a source: its lines stand for events, of those that such a session takes.
+/// All that a source gives: lines that each stand for an event, of those that such a session takes.
 pub(crate) fn read_input<M: Stepping, S: ByteSource>(
     alloc: Global,
     source: &mut S,
-) -> Result<Input, NoEvents>
-    ensures read { IfOk result (λ input. IsTrue S.tells → WasRead M.kind (S.left source.old) (S.left source.new) input.events.items) }
-    ensures taken { IfOk result (λ input. TakesAll M.kind input.events.items) }
+) -> Result<Vec<u8>, NoEvents>
+    ensures read { IfOk result (λ text. IsTrue S.tells → IsAll (S.left source.old) (S.left source.new) text.items) }
+    ensures right { IfOk result (λ text. AreEventsFor (StandsOn M.kind) (lines text.items)) }
     ensures calm { OnOk result (IsTrue S.tells → S.faults source.new ≡ S.faults source.old) }
     ensures why { IfErr result (WhyNoEvents M.kind S.tells (S.left source.old) (S.left source.new) (S.faults source.old)
         (S.faults source.new)) }
@@ -56,10 +44,9 @@ pub(crate) fn read_input<M: Stepping, S: ByteSource>(
         Ok(text) => text,
         Err(why) => return Err(why),
     };
-    match M::read(alloc, text.as_slice()) {
-        Ok(events) => Ok(Input { events, text }),
-        Err(LinesError::BadLine(line)) => Err(NoEvents::BadLine(line)),
-        Err(LinesError::OutOfMemory) => Err(NoEvents::OutOfMemory),
+    match M::first_wrong(text.as_slice()) {
+        None => Ok(text),
+        Some(line) => Err(NoEvents::BadLine(line)),
     }
 }
 

@@ -1,7 +1,10 @@
 //! Writing replies and lines to a sink.
-ghost use Rattle.std.specs.Prelude.{◌≡◌, ◌<◌, ◌≤◌, ◌++◌, [], IfOk, IfErr, OnOk, IsTrue, decimal};
+ghost use Rattle.std.specs.Prelude.{◌≡◌, ◌<◌, ◌≤◌, ◌++◌, [], List, IfOk, IfErr, OnOk, IsTrue, decimal};
+ghost use Rattle.std.specs.List.{AllZip};
 ghost use Rattle.ring_core.specs.Ledger.{Ledger};
-ghost use Rattle.session_run.specs.DriverKind.{TakesAll, after_on, replies_on};
+ghost use Rattle.ring_core.specs.declared.ledger.Event.{Event};
+ghost use Rattle.event_text.specs.TextLines.{AreEventsFor, lines};
+ghost use Rattle.session_run.specs.DriverKind.{StandsOn, after_on, replies_on};
 ghost use Rattle.event_text.specs.TextReply.{reply_text};
 ghost use Rattle.session_run.specs.Top.{ended, reply_lines};
 ghost use Rattle.session_run.specs.Writes.{Sent, WhyUnwritten, WritesAll};
@@ -11,7 +14,7 @@ use event_text::write_reply;
 use itoa::Buffer;
 use rent_buf::OutOfMemory;
 use rent_io::{ByteSink, Failed};
-use ring_core::{Event, Reply};
+use ring_core::Reply;
 use std::alloc::Global;
 
 // From how many bytes on the text of replies is written.
@@ -25,26 +28,31 @@ pub(crate) enum Unwritten {
     OutOfMemory,
 }
 
-/// Runs events that a session takes, writes the text of each reply and a newline as it comes, in large pieces, and flushes; then it
-/// gives the session back.
+/// Runs the events that the lines of a text stand for, each as it is read, writes the text of each reply and a newline as it comes, in
+/// large pieces, and flushes; then it gives the session back.
 pub(crate) fn write_replies<M: Stepping + Drop, K: ByteSink>(
     alloc: Global,
     session: M,
-    events: Vec<Event>,
+    text: &[u8],
     sink: &mut K,
 ) -> Result<M, Unwritten>
-    requires { TakesAll M.kind events.items }
-    ensures stands { IfOk result (λ new. (L : Ledger) → M.stands session L → M.stands new (after_on M.kind L events.items)) }
-    ensures ok { OnOk result ((L : Ledger) → M.stands session L → IsTrue K.tells →
-        K.taken sink.new ≡ K.taken sink.old ++ reply_lines (replies_on M.kind L events.items)) }
+    requires { AreEventsFor (StandsOn M.kind) (lines text.now) }
+    ensures stands { IfOk result (λ new. (events : List Event) → AllZip (StandsOn M.kind) (lines text.now) events → (L : Ledger) →
+        M.stands session L → M.stands new (after_on M.kind L events)) }
+    ensures ok { OnOk result ((events : List Event) → AllZip (StandsOn M.kind) (lines text.now) events → (L : Ledger) →
+        M.stands session L → IsTrue K.tells → K.taken sink.new ≡ K.taken sink.old ++ reply_lines (replies_on M.kind L events)) }
     ensures flushed { OnOk result (IsTrue (K.is_flushed sink.new)) }
-    ensures why { IfErr result (λ why. (L : Ledger) → M.stands session L →
-        WhyUnwritten K.tells (reply_lines (replies_on M.kind L events.items)) (K.taken sink.old) (K.taken sink.new) (K.faults sink.old)
-        (K.faults sink.new) why) }
+    ensures why { IfErr result (λ why. (events : List Event) → AllZip (StandsOn M.kind) (lines text.now) events → (L : Ledger) →
+        M.stands session L → WhyUnwritten K.tells (reply_lines (replies_on M.kind L events)) (K.taken sink.old) (K.taken sink.new)
+        (K.faults sink.old) (K.faults sink.new) why) }
 {
     let mut running = session;
     let mut out = Vec::new(alloc);
-    for event in events {
+    let mut rest = text;
+    while !rest.is_empty() {
+        let Ok((event, behind)) = M::next_event(alloc, rest) else {
+            return Err(Unwritten::OutOfMemory);
+        };
         let Ok(reply) = running.apply(event) else {
             return Err(Unwritten::OutOfMemory);
         };
@@ -52,6 +60,7 @@ pub(crate) fn write_replies<M: Stepping + Drop, K: ByteSink>(
             Ok(()) => {}
             Err(why) => return Err(why),
         }
+        rest = behind;
     }
     match write_last(out.as_slice(), sink) {
         Ok(()) => Ok(running),

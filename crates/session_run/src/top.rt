@@ -1,13 +1,16 @@
 //! The top call: all that the program does, over any source and sink.
 ghost use Rattle.std.specs.Prelude.{◌≡◌, ◌≤◌, ◌<◌, ◌*◌, ◌⊎◌, ◌↔◌, map, string_bytes, List, None, Some, IfOk, IsSome, IsTrue, ℕ};
+ghost use Rattle.std.specs.List.{AllZip};
 ghost use Rattle.ring_core.specs.Ledger.{Ledger};
+ghost use Rattle.ring_core.specs.declared.ledger.Event.{Event};
 ghost use Rattle.ring_core.specs.Run.{ledger};
 ghost use Rattle.session_run.specs.Session.{SessionStands};
 ghost use Rattle.ring_core.specs.Counts.{Rose};
 ghost use Rattle.session_run.specs.Command.{IsRun, IsReady, IsGenerate, IsWake, IsCopy, IsNoCommand, IsWithin, KeepsNothing, ReadsNothing};
-ghost use Rattle.session_run.specs.DriverKind.{TakesAll, completion};
+ghost use Rattle.session_run.specs.DriverKind.{StandsOn, completion};
 ghost use Rattle.session_run.specs.Generated.{generated_events};
 ghost use Rattle.session_run.specs.Top.{SumsFor, TookTooMany, WakesFor, exit_number, summary_text};
+ghost use Rattle.event_text.specs.TextLines.{AreEventsFor, lines};
 ghost use Rattle.event_text.specs.TextReads.{bytes_of};
 ghost use Rattle.session_run.specs.Writes.{RefusesFor};
 ghost use Rattle.session_run.specs.Ends.{CommandEnds, CommandRefused, CopiesFor, EventsGive, RanShort, ReadyEnds, RunEnds, RunsGive};
@@ -16,7 +19,7 @@ ghost use Rattle.session_run.specs.Complete.{IsDoneOrShort, NoneRose, TakesInput
 
 use crate::command::{Command, MOST_SENDERS, command_of};
 use crate::generated::{ENTRIES, generated, run_counted};
-use crate::input::{Input, MOST_INPUT, NoEvents, read_input};
+use crate::input::{MOST_INPUT, NoEvents, read_input};
 use crate::output::{Unwritten, write_last, write_number, write_replies};
 use crate::session::Session;
 use crate::stepping::Stepping;
@@ -26,7 +29,6 @@ use event_text::read_bytes;
 use ready_run::ReadySession;
 use rent_buf::OutOfMemory;
 use rent_io::{ByteSink, ByteSource};
-use ring_core::Event;
 use std::alloc::Global;
 use std::marker::Brand;
 use std::rt::Clock;
@@ -239,13 +241,7 @@ fn run_session<M: Stepping + Drop, S: ByteSource, K: ByteSink>(
         (writing K.taken K.faults K.is_flushed sink.old sink.new) M.stands result }
 {
     match read_input::<M, S>(alloc, source) {
-        Ok(input) => {
-            let Input {
-                events,
-                text: _text,
-            } = input;
-            run_events(alloc, session, events, sink)
-        }
+        Ok(text) => run_events(alloc, session, text.as_slice(), sink),
         Err(why) => Err(refuse(why, sink)),
     }
 }
@@ -265,18 +261,18 @@ fn refuse<K: ByteSink>(why: NoEvents, sink: &mut K) -> Status
     }
 }
 
-// Runs events on a session, writes the replies, and gives the session back.
+// Runs the events that the lines of a text stand for on a session, writes the replies, and gives the session back.
 fn run_events<M: Stepping + Drop, K: ByteSink>(
     alloc: Global,
     session: M,
-    events: Vec<Event>,
+    text: &[u8],
     sink: &mut K,
 ) -> Result<M, Status>
-    requires { TakesAll M.kind events.items }
-    ensures { (L : Ledger) → M.stands session L → RunsGive M.kind K.tells L events.items
-        (writing K.taken K.faults K.is_flushed sink.old sink.new) M.stands result }
+    requires { AreEventsFor (StandsOn M.kind) (lines text.now) }
+    ensures { (events : List Event) → AllZip (StandsOn M.kind) (lines text.now) events → (L : Ledger) → M.stands session L →
+        RunsGive M.kind K.tells L events (writing K.taken K.faults K.is_flushed sink.old sink.new) M.stands result }
 {
-    match write_replies(alloc, session, events, sink) {
+    match write_replies(alloc, session, text, sink) {
         Ok(session) => Ok(session),
         Err(Unwritten::Fault) => Err(Status::WriteFault),
         Err(Unwritten::OutOfMemory) => Err(Status::OutOfMemory),

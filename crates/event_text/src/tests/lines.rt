@@ -1,5 +1,5 @@
 //! Lines, read and written again.
-use crate::{LinesError, read_events, read_external_events, write_event};
+use crate::{LinesError, first_wrong, next_event, read_events, read_external_events, write_event};
 use ring_core::Event;
 use std::alloc::Global;
 use std::test::Fail;
@@ -314,5 +314,20 @@ fn turns_and_executions_are_no_external_events(rt: HostRuntime) -> Result<(), Fa
         let read = read_external_events(rt.alloc(), text.as_bytes());
         assert_eq!(rt; counts_of(read), (count, bad), "at {text:?}");
     }
+    Ok(())
+}
+
+#[test]
+fn lines_are_read_one_by_one(rt: HostRuntime) -> Result<(), Fail> {
+    let text: &[u8] = b"end 0\nturn";
+    assert_eq!(rt; first_wrong::<true>(text), Some(2));
+    if first_wrong::<false>(text).is_some() || text.is_empty() {
+        return Err(Fail::from("no event"));
+    }
+    let (event, behind) = next_event::<false>(rt.alloc(), text)?;
+    let mut out = Vec::new(rt.alloc());
+    write_event(&event, &mut out)?;
+    assert_eq!(rt; out.as_slice(), b"end 0".as_slice());
+    assert_eq!(rt; behind, b"turn".as_slice());
     Ok(())
 }

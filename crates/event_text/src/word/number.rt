@@ -1,7 +1,7 @@
 //! Numbers, in decimal digits.
 ghost use Rattle.std.specs.Prelude.{◌≡◌, ◌++◌, ◌^◌, ◌-◌, ◌/◌, ◌<◌, decimal, OnOk, OnErr};
 ghost use Rattle.event_text.specs.TextWrites.{Starts};
-ghost use Rattle.event_text.specs.TextReads.{number_of, number_below};
+ghost use Rattle.event_text.specs.TextReads.{number_of};
 
 use crate::word::{put, put_byte};
 use itoa::Buffer;
@@ -48,28 +48,6 @@ fn most_before(digit: u64) -> u64
     } else {
         MOST_TENTH
     }
-}
-
-/// The number that a word writes, if it is below 2^32.
-pub(crate) fn read_u32(word: &[u8]) -> Option<u32>
-    ensures { result ≡ number_below (2 ^ 32) word.now }
-{
-    let number = read_number(word)?;
-    if number > u32::MAX as u64 {
-        return None;
-    }
-    Some(number as u32)
-}
-
-/// The number that a word writes, if it is below 2^16.
-pub(crate) fn read_u16(word: &[u8]) -> Option<u16>
-    ensures { result ≡ number_below (2 ^ 16) word.now }
-{
-    let number = read_number(word)?;
-    if number > u16::MAX as u64 {
-        return None;
-    }
-    Some(number as u16)
 }
 
 /// Appends a number's decimal digits. If memory runs out, `out` begins as it was. (not in monoio)

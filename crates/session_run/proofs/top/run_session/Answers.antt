@@ -1,10 +1,18 @@
+use Rattle.std.proofs.Common.{refl, subst, sym}
+use Rattle.std.specs.List.{AllZip}
+use Rattle.event_text.specs.TextLines.{lines}
+use Rattle.session_run.specs.DriverKind.{StandsOn}
 use Rattle.session_run.proofs.Endings.{ends-given, ends-refused}
+use Rattle.session_run.proofs.Reading.{was-read}
 use Rattle.session_run.proofs.top.run_session.Goals as goal
 
 pub returns-in-Ok : goal.returns-in-Ok
 returns-in-Ok g c = λ L begun.
-    ends-given g.M.Stepping.stands g.M.Stepping.kind g.S.ByteSource.tells g.K.ByteSink.tells L _ _ c.in-Ok.input.events.items _
-    c.in-Ok.ensures.read c.in-Ok.ensures.calm (c.run_events.ensures L begun)
+    let right = c.in-Ok.ensures.right in
+    ends-given g.M.Stepping.stands g.M.Stepping.kind g.S.ByteSource.tells g.K.ByteSink.tells L _ _ right.events _
+    (λ told. was-read g.M.Stepping.kind _ _ _ _ right.events (c.in-Ok.ensures.read told) refl right.stand) c.in-Ok.ensures.calm
+    (c.run_events.ensures right.events
+    (subst (λ text. AllZip (StandsOn g.M.Stepping.kind) (lines text) right.events) (sym c.as_slice.ensures.value) right.stand) L begun)
 
 pub returns-in-Err : goal.returns-in-Err
 returns-in-Err g c = λ L begun.
