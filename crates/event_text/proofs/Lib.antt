@@ -1,6 +1,7 @@
 pub mod TextCuts
 pub mod TextNumbers
 pub mod TextHex
+mod TextDigits
 mod TextTable
 mod TextWrites
 pub mod TextFields
@@ -13,3 +14,4 @@ mod TextLast
 pub mod TextLinesRead
 mod TextFirsts
 mod TextValid
+mod TextLook

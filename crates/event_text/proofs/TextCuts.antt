@@ -1,10 +1,9 @@
 -- Where a text is cut into lines, and a line into words.
-use Rattle.std.proofs.Common.{◌≡◌, ◌∙◌, ℕ, zero, suc, ◌-◌, ◌<◌, ◌≤◌, inl, inr, List, [], ◌∷◌, length, get_or, take, drop, refl, ap, arith}
-use Rattle.std.specs.Prelude.{◌⊎◌}
+use Rattle.std.proofs.Common.{◌≡◌, ◌∙◌, ℕ, zero, suc, ◌-◌, ◌<◌, List, [], ◌∷◌, length, get_or, take, drop, refl, ap, arith}
 use Rattle.std.proofs.lemmas.Bool.Decides.{nat_tests}
 use Rattle.std.proofs.lemmas.Grind.{common_steps}
 use Rattle.event_text.specs.TextLines.{lines, onto_first}
-use Rattle.event_text.specs.TextReads.{words, words_behind}
+use Rattle.event_text.specs.TextReads.{words}
 
 -- The first of the bytes is the one that ends.
 pub lines-newline : (byte : ℕ) (bytes : List ℕ) → byte ≡ 10 → lines (byte ∷ bytes) ≡ [] ∷ lines bytes
@@ -41,23 +40,6 @@ lines-whole (byte ∷ next ∷ bytes) some none =
     lines-whole (next ∷ bytes) (omega arith) (λ k small. none (suc k) (omega arith)) in
     lines-other byte (next ∷ bytes) (none zero (omega arith)) ∙ ap (onto_first byte) rest
 
--- The first word ends before the first space.
-pub words-at : (text : List ℕ) (at : ℕ) → at < length text → ((k : ℕ) → k < at → get_or text k 0 ≡ 32 → ⊥) → get_or text at 0 ≡ 32
-    → words text ≡ take at text ∷ words_behind (drop at text)
-words-at [] at below before is = absurd (omega arith)
-words-at (byte ∷ bytes) zero below before is = words-space byte bytes is
-words-at (byte ∷ bytes) (suc at) below before is =
-    let rest : words bytes ≡ take at bytes ∷ words_behind (drop at bytes) =
-    words-at bytes at (omega arith) (λ k small. before (suc k) (omega arith)) is in
-    words-other byte bytes (before zero (omega arith)) ∙ ap (onto_first byte) rest
-
--- With no space there is one word.
-pub words-whole : (text : List ℕ) → ((k : ℕ) → k < length text → get_or text k 0 ≡ 32 → ⊥) → words text ≡ text ∷ []
-words-whole [] none = refl
-words-whole (byte ∷ bytes) none =
-    let rest : words bytes ≡ bytes ∷ [] = words-whole bytes (λ k small. none (suc k) (omega arith)) in
-    words-other byte bytes (none zero (omega arith)) ∙ ap (onto_first byte) rest
-
 -- A slice up to the end is what stands behind its start.
 pub take-rest : (xs : List ℕ) (n : ℕ) → take (length xs - n) (drop n xs) ≡ drop n xs
 take-rest xs n = grind (arith, common_steps)
@@ -65,23 +47,3 @@ take-rest xs n = grind (arith, common_steps)
 -- Nothing is left behind a whole list.
 pub drop-whole : (xs : List ℕ) → drop (length xs) xs ≡ []
 drop-whole xs = grind (arith, common_steps)
-
--- All elements of a list.
-take-whole : (xs : List ℕ) → take (length xs) xs ≡ xs
-take-whole xs = grind (arith, common_steps)
-
--- The first word ends at the first space, or at the end.
-pub words-first : (text : List ℕ) (at : ℕ) → at ≤ length text → ((k : ℕ) → k < at → get_or text k 0 ≡ 32 → ⊥)
-    → (at < length text → get_or text at 0 ≡ 32) →
-    words text ≡ take at text ∷ words_behind (take (length text - at) (drop at text))
-words-first text at bound before there = words-cases text at bound before there (bound-or (length text) at bound)
-  where
-    bound-or : (n k : ℕ) → k ≤ n → (k < n) ⊎ (k ≡ n)
-    bound-or n k order = grind arith
-
-    words-cases : (text : List ℕ) (at : ℕ) → at ≤ length text → ((k : ℕ) → k < at → get_or text k 0 ≡ 32 → ⊥)
-        → (at < length text → get_or text at 0 ≡ 32) → (at < length text) ⊎ (at ≡ length text) →
-        words text ≡ take at text ∷ words_behind (take (length text - at) (drop at text))
-    words-cases text at bound before there (inl below) = rw (take-rest text at) (words-at text at below before (there below))
-    words-cases text at bound before there (inr is) =
-        rw (take-rest text at, is, drop-whole text, take-whole text) (words-whole text (λ k small. before k (omega arith)))

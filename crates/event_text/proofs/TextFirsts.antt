@@ -1,44 +1,26 @@
--- What is read behind the words that most lines begin with.
-use Rattle.std.proofs.Common.{◌≡◌, ℕ, List, ◌∷◌, refl}
-use Rattle.std.specs.Prelude.{Bool, true, false, Option, Some, None, option_map, codes}
-use Rattle.std.specs.Option.{is_some}
-use Rattle.ring_core.specs.declared.request.Request.TheVariants.{Recv, Send}
-use Rattle.event_text.specs.TextReaders.{with_first}
-use Rattle.event_text.specs.TextReads.{number_of, buffer_of}
-use Rattle.event_text.specs.TextRequestReads.{request_of, request_by}
-use Rattle.event_text.specs.TextEventReads.{event_of, external_by, created_by, submit_of, poll_of, feed_of}
+-- What is read by the first of some words.
+use Rattle.std.proofs.Common.{◌≡◌, ℕ, List, [], ◌∷◌, refl}
+use Rattle.std.specs.Prelude.{true, false, bytes_eq, codes}
+use Rattle.event_text.specs.TextReaders.{behind_first, first_of}
+use Rattle.event_text.specs.TextRequestReads.{request_of, request_by, place_request_by, path_request_by, handle_request_by}
+use Rattle.event_text.specs.TextEventReads.{event_of, external_by, created_by, numbered_by}
 
--- Behind `submit` there is a request,
-pub event-submit : (external : Bool) (words : List (List ℕ)) → submit_of words ≡ event_of external (codes "submit" ∷ words)
-unfolding external_by created_by
-event-submit true words = refl
-event-submit false words = refl
+-- A request is read by the first of its words; by none there is none.
+pub request-first : (words : List (List ℕ)) → request_by (first_of words) (behind_first words) ≡ request_of words
+unfolding request_by place_request_by path_request_by handle_request_by
+request-first [] = refl
+request-first (word ∷ words) = refl
 
--- .. behind `poll` an operation and a task,
-pub event-poll : (external : Bool) (words : List (List ℕ)) → poll_of words ≡ event_of external (codes "poll" ∷ words)
-unfolding external_by
-event-poll true words = refl
-event-poll false words = refl
+-- So is an external event,
+pub external-first : (words : List (List ℕ)) → external_by (first_of words) (behind_first words) ≡ event_of true words
+unfolding external_by created_by numbered_by
+external-first [] = refl
+external-first (word ∷ words) = refl
 
--- .. and behind `feed` a handle and bytes.
-pub event-feed : (external : Bool) (words : List (List ℕ)) → feed_of words ≡ event_of external (codes "feed" ∷ words)
-unfolding external_by
-event-feed true words = refl
-event-feed false words = refl
-
--- Behind `recv` there are a handle and a buffer,
-pub request-recv : (words : List (List ℕ)) → option_map (λ found. Recv found.0 found.1) (with_first number_of buffer_of words)
-    ≡ request_of (codes "recv" ∷ words)
-unfolding request_by
-request-recv words = refl
-
--- .. as behind `send`.
-pub request-send : (words : List (List ℕ)) → option_map (λ found. Send found.0 found.1) (with_first number_of buffer_of words)
-    ≡ request_of (codes "send" ∷ words)
-unfolding request_by
-request-send words = refl
-
--- What is mapped is there exactly where it was.
-pub some-map : {A B : Type 0} (f : A → B) (o : Option A) → is_some o ≡ is_some (option_map f o)
-some-map f None = refl
-some-map f (Some x) = refl
+-- .. and any, where the first word is neither `turn` nor `exec`.
+pub other-first : (words : List (List ℕ)) → bytes_eq (first_of words) (codes "turn") ≡ false
+    → bytes_eq (first_of words) (codes "exec") ≡ false
+    → external_by (first_of words) (behind_first words) ≡ event_of false words
+unfolding external_by created_by numbered_by
+other-first [] turn exec = refl
+other-first (word ∷ words) turn exec = rw (turn, exec) refl

@@ -1,11 +1,10 @@
 -- The bytes that hexadecimal digits write.
 use Rattle.std.proofs.Common.{◌≡◌, ◌∙◌, ℕ, zero, suc, ◌+◌, ◌*◌, ◌/◌, ◌%◌, ◌<◌, ◌≤◌, List, [], ◌∷◌, ◌++◌, length, get_or, take, drop, refl}
-use Rattle.std.proofs.Common.{ap, arith, inl, inr, append_assoc, drop-cons}
-use Rattle.std.specs.Prelude.{Bool, true, false, Option, Some, None, ◌==◌, ◌||◌, ◌⊎◌, if◌then◌else◌, bytes_eq, codes}
+use Rattle.std.proofs.Common.{ap, arith, append_assoc, drop-cons, set, sym}
+use Rattle.std.specs.Prelude.{Bool, true, false, Option, Some, None, ◌==◌, ◌||◌, if◌then◌else◌, bytes_eq, codes}
 use Rattle.std.proofs.lemmas.Bool.Decides.{nat_tests}
 use Rattle.std.proofs.lemmas.Grind.{common_steps}
-use Rattle.std.proofs.lemmas.List.{take_more, drop_all, append-nil}
-use Rattle.std.proofs.Math.Bool.{or-true}
+use Rattle.std.proofs.lemmas.List.{take_more, take_more_set, drop_all, append-nil, length-set}
 use Rattle.std.proofs.lemmas.Slice.Eq.{bytes_eq-Decides}
 use Rattle.event_text.specs.TextReads.{digit_value_of, pair_onto, pairs_of, bytes_of}
 use Rattle.event_text.specs.TextWords.{AreBytes, hex, hex_digit, bytes_word}
@@ -35,6 +34,19 @@ pub hex-written : (old bytes before between behind : List ℕ) (i high low : ℕ
 hex-written old bytes before between behind i high low below is0 ish isl is1 is2 =
     rw (is2, is1, is0, ish, isl, hex-take bytes i below) (simp append_assoc)
 
+-- What the loop of `hex_block` leaves after one byte more.
+pub hex-set : (block bytes : List ℕ) (i high low : ℕ) → i < length bytes → 2 * i + 1 < length block
+    → take (2 * i) block ≡ hex (take i bytes)
+    → high ≡ hex_digit (get_or bytes i 0 / 16) → low ≡ hex_digit (get_or bytes i 0 % 16)
+    → take (2 * (i + 1)) (set (set block (2 * i) high) (2 * i + 1) low) ≡ hex (take (i + 1) bytes)
+hex-set block bytes i high low below room so_far ish isl =
+    let place : 2 * (i + 1) ≡ (2 * i + 1) + 1 = omega arith in
+    let long = length-set block (2 * i) high in
+    ap (λ (n : ℕ). take n (set (set block (2 * i) high) (2 * i + 1) low)) place
+    ∙ take_more_set (set block (2 * i) high) (2 * i + 1) low (omega arith)
+    ∙ ap (λ (l : List ℕ). l ++ low ∷ []) (take_more_set block (2 * i) high (omega arith))
+    ∙ rw (so_far, ish, isl, hex-take bytes i below) refl
+
 -- A byte in front of bytes makes bytes.
 pub bytes_cons : (byte : ℕ) (bytes : List ℕ) → byte < 256 → AreBytes bytes → AreBytes (byte ∷ bytes)
 bytes_cons byte bytes small rest zero d few = small
@@ -60,41 +72,26 @@ onto-pair : (front : List ℕ) (high low : ℕ) (o : Option (List ℕ)) → (hig
 onto-pair front high low None h l = refl
 onto-pair front high low (Some bytes) h l = rw (isnt-eqb high 16 h, isnt-eqb low 16 l, append_assoc) refl
 
--- A pair of which one is no digit is none.
-onto-no_pair : (front : List ℕ) (high low : ℕ) (o : Option (List ℕ)) → (high ≡ 16) ⊎ (low ≡ 16) → onto front (pair_onto high low o) ≡ None
-onto-no_pair front high low None bad = refl
-onto-no_pair front high low (Some bytes) (inl is) = rw is refl
-onto-no_pair front high low (Some bytes) (inr is) = rw (is, or-true (high == 16)) refl
-
 -- Two digits in front of the others.
 two-front : (word : List ℕ) (at : ℕ) → at + 1 < length word → drop at word ≡ get_or word at 0 ∷ get_or word (at + 1) 0 ∷ drop (at + 2) word
 two-front word at below = grind (arith, common_steps, drop-cons word at 0, drop-cons word (suc at) 0)
 
 -- One pair more was read.
-pub pairs_of-more : (word : List ℕ) (at : ℕ) (front : List ℕ) → at + 1 < length word → (digit_value_of (get_or word at 0) ≡ 16 → ⊥)
-    → (digit_value_of (get_or word (at + 1) 0) ≡ 16 → ⊥)
-    → pairs_of word ≡ onto front (pairs_of (drop at word))
-    → pairs_of word ≡ onto (front ++ (digit_value_of (get_or word at 0) * 16 + digit_value_of (get_or word (at + 1) 0)) ∷ [])
+pub pairs_of-more : (all : Option (List ℕ)) (word : List ℕ) (at : ℕ) (front : List ℕ) → at + 1 < length word
+    → (digit_value_of (get_or word at 0) ≡ 16 → ⊥) → (digit_value_of (get_or word (at + 1) 0) ≡ 16 → ⊥)
+    → all ≡ onto front (pairs_of (drop at word))
+    → all ≡ onto (front ++ (digit_value_of (get_or word at 0) * 16 + digit_value_of (get_or word (at + 1) 0)) ∷ [])
     (pairs_of (drop (at + 2) word))
 unfolding pairs_of
-pairs_of-more word at front below high low so_far =
+pairs_of-more all word at front below high low so_far =
     so_far ∙ ap (λ (rest : List ℕ). onto front (pairs_of rest)) (two-front word at below)
     ∙ onto-pair front (digit_value_of (get_or word at 0)) (digit_value_of (get_or word (at + 1) 0)) (pairs_of (drop (at + 2) word)) high low
 
--- A byte that is no digit makes the word none.
-pub pairs_of-stop : (word : List ℕ) (at : ℕ) (front : List ℕ) → at + 1 < length word
-    → (digit_value_of (get_or word at 0) ≡ 16) ⊎ (digit_value_of (get_or word (at + 1) 0) ≡ 16)
-    → pairs_of word ≡ onto front (pairs_of (drop at word)) → pairs_of word ≡ None
-unfolding pairs_of
-pairs_of-stop word at front below bad so_far =
-    so_far ∙ ap (λ (rest : List ℕ). onto front (pairs_of rest)) (two-front word at below)
-    ∙ onto-no_pair front (digit_value_of (get_or word at 0)) (digit_value_of (get_or word (at + 1) 0)) (pairs_of (drop (at + 2) word)) bad
-
 -- No pair is left.
-pub pairs_of-end : (word : List ℕ) (at : ℕ) (front : List ℕ) → length word ≤ at → pairs_of word ≡ onto front (pairs_of (drop at word))
-    → pairs_of word ≡ Some front
+pub pairs_of-end : (all : Option (List ℕ)) (word : List ℕ) (at : ℕ) (front : List ℕ) → length word ≤ at
+    → all ≡ onto front (pairs_of (drop at word)) → all ≡ Some front
 unfolding pairs_of
-pairs_of-end word at front end so_far =
+pairs_of-end all word at front end so_far =
     so_far ∙ ap (λ (rest : List ℕ). onto front (pairs_of rest)) (drop_all at word end) ∙ ap (λ (l : List ℕ). Some l) (append-nil front)
 
 -- An odd number of digits is none.
@@ -104,17 +101,41 @@ pairs_of-odd [] odd = absurd (odd refl)
 pairs_of-odd (digit ∷ []) odd = refl
 pairs_of-odd (high ∷ low ∷ digits) odd = rw (pairs_of-odd digits (λ even. odd (omega arith))) refl
 
+-- Nothing in front.
+pub onto-none : {A : Type 0} (o : Option (List A)) → onto [] o ≡ o
+onto-none None = refl
+onto-none (Some more) = refl
+
+-- Bytes in front of bytes.
+pub onto-onto : {A : Type 0} (front next : List A) (o : Option (List A)) → onto front (onto next o) ≡ onto (front ++ next) o
+onto-onto front next None = refl
+onto-onto front next (Some more) = rw append_assoc refl
+
+-- The digits of a byte in front of bytes that were read.
+pair_onto-onto : (high low byte : ℕ) (bytes : List ℕ) (o : Option (List ℕ)) → high < 16 → low < 16 → high * 16 + low ≡ byte
+    → pair_onto high low (onto bytes o) ≡ onto (byte ∷ bytes) o
+pair_onto-onto high low byte bytes None h l whole = refl
+pair_onto-onto high low byte bytes (Some more) h l whole =
+    rw (isnt-eqb high 16 (λ is. omega arith), isnt-eqb low 16 (λ is. omega arith), whole) refl
+
+-- What bytes are written as is read as those bytes, in front of what is read behind it.
+pub pairs_of-hex_front : (bytes rest : List ℕ) → AreBytes bytes → pairs_of (hex bytes ++ rest) ≡ onto bytes (pairs_of rest)
+unfolding pairs_of
+pairs_of-hex_front [] rest small = sym (onto-none (pairs_of rest))
+pairs_of-hex_front (byte ∷ bytes) rest small =
+    let below : byte < 256 = small zero 0 (omega arith) in
+    let behind : pairs_of (hex bytes ++ rest) ≡ onto bytes (pairs_of rest) =
+    pairs_of-hex_front bytes rest (λ k d few. small (suc k) d (omega arith)) in
+    let high : digit_value_of (hex_digit (byte / 16)) ≡ byte / 16 = digit_value_of-hex_digit (byte / 16) (omega arith) in
+    let low : digit_value_of (hex_digit (byte % 16)) ≡ byte % 16 = digit_value_of-hex_digit (byte % 16) (omega arith) in
+    rw (behind, high, low) (pair_onto-onto (byte / 16) (byte % 16) byte bytes (pairs_of rest) (omega arith) (omega arith) (omega arith))
+
 -- What bytes are written as is read as those bytes.
 pub pairs_of-hex : (bytes : List ℕ) → AreBytes bytes → pairs_of (hex bytes) ≡ Some bytes
 unfolding pairs_of
-pairs_of-hex [] small = refl
-pairs_of-hex (byte ∷ bytes) small =
-    let below : byte < 256 = small zero 0 (omega arith) in
-    let rest : pairs_of (hex bytes) ≡ Some bytes = pairs_of-hex bytes (λ k d few. small (suc k) d (omega arith)) in
-    let high : digit_value_of (hex_digit (byte / 16)) ≡ byte / 16 = digit_value_of-hex_digit (byte / 16) (omega arith) in
-    let low : digit_value_of (hex_digit (byte % 16)) ≡ byte % 16 = digit_value_of-hex_digit (byte % 16) (omega arith) in
-    let whole : byte / 16 * 16 + byte % 16 ≡ byte = omega arith in
-    rw (rest, high, low, isnt-eqb (byte / 16) 16 (λ is. omega arith), isnt-eqb (byte % 16) 16 (λ is. omega arith), whole) refl
+pairs_of-hex bytes small =
+    ap (λ (digits : List ℕ). pairs_of digits) (sym (append-nil (hex bytes))) ∙ pairs_of-hex_front bytes [] small
+    ∙ ap (λ (l : List ℕ). Some l) (append-nil bytes)
 
 -- A pair that was read.
 if-pair : (a b : Bool) (byte : ℕ) (more bytes : List ℕ) → (if a || b then None else Some (byte ∷ more)) ≡ Some bytes
@@ -124,7 +145,7 @@ if-pair false true byte more bytes is = absurd (cc)
 if-pair false false byte more bytes is = (refl, refl, cc)
 
 -- Numbers that fail the test differ.
-eqb-isnt : (a b : ℕ) → (a == b) ≡ false → a ≡ b → ⊥
+pub eqb-isnt : (a b : ℕ) → (a == b) ≡ false → a ≡ b → ⊥
 eqb-isnt a b isnt is = grind (arith, nat_tests)
 
 -- The first byte of a word that was read, and the others.
@@ -157,7 +178,7 @@ bytes_eq-false : (xs ys : List ℕ) → (xs ≡ ys → ⊥) → bytes_eq xs ys �
 bytes_eq-false xs ys isnt = false-from (bytes_eq xs ys) (λ is. isnt ((bytes_eq-Decides xs ys).0 is))
 
 -- A word of two bytes or more is read in pairs.
-bytes_of-pairs : (word : List ℕ) → 1 < length word → bytes_of word ≡ pairs_of word
+pub bytes_of-pairs : (word : List ℕ) → 1 < length word → bytes_of word ≡ pairs_of word
 bytes_of-pairs word long =
     rw (
       bytes_eq-false word (codes "-") (λ is. let one : length word ≡ 1 = ap length is in absurd (omega arith)),

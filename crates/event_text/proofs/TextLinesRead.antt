@@ -1,10 +1,16 @@
 -- The lines that were read so far, and the events that they stand for.
 use Rattle.std.proofs.Common.{◌≡◌, ◌∙◌, ℕ, ◌+◌, List, [], ◌∷◌, ◌++◌, length, refl, ap, sym, subst, arith, append_assoc}
+use Rattle.std.specs.Prelude.{Bool, Option, Some, None, Result, Ok, Err, IfOk, MatchOption}
 use Rattle.std.proofs.lemmas.List.{append-nil}
 use Rattle.std.specs.List.{AllZip}
 use Rattle.ring_core.specs.declared.ledger.Event.{Event}
-use Rattle.event_text.specs.TextEvent.{AreExternal, StandsForExternal}
+use Rattle.event_text.specs.TextEvent.{AreExternal, StandsForExternal, stands_for}
+use Rattle.event_text.specs.TextEventReads.{event_of}
 use Rattle.event_text.specs.TextLines.{lines, AreEventsFor, IsFirstWrongFor, IsWrong, Standing}
+use Rattle.event_text.specs.TextLook.{line_end, line_of}
+use Rattle.event_text.specs.TextReads.{words}
+use Rattle.event_text.proofs.TextEvents.{read-stands, read-wrong}
+use Rattle.event_text.proofs.TextLook.{line_of-whole}
 
 -- The events so far stand for the lines in front of the rest.
 pub record HaveRead (Stands : Standing) (text rest : List ℕ) (events : List Event) : Type 0 where
@@ -65,6 +71,12 @@ pub have_read-all : (Stands : Standing) (text rest : List ℕ) (events : List Ev
 have_read-all Stands text [] events so_far end = rw (so_far.split, append-nil so_far.read) so_far.stand
 have_read-all Stands text (byte ∷ rest) events so_far end = absurd (omega arith)
 
+-- The first line stands for this event, and these lines are behind it.
+pub record IsFirstEvent (Stands : Standing) (all : List (List ℕ)) (event : Event) (behind : List (List ℕ)) : Type 0 where
+  pub line : List ℕ
+  pub split : all ≡ line ∷ behind
+  pub stands : Stands line event
+
 -- The first of lines that each stand for an event is no wrong one.
 pub right-first : (Stands : Standing) (all behind : List (List ℕ)) (line : List ℕ) → AreEventsFor Stands all → all ≡ line ∷ behind
     → IsWrong Stands line → ⊥
@@ -95,3 +107,16 @@ zip-external [] [] all = tt
 zip-external [] (event ∷ events) all = absurd all
 zip-external (x ∷ xs) [] all = tt
 zip-external (x ∷ xs) (event ∷ events) all = (all.0.external, zip-external xs events all.1)
+
+-- What a line is read as, it stands for.
+line-read : (x : Bool) (line : List ℕ) (o : Option Event) → line_end line ≡ [] → o ≡ event_of x (words (line_of line))
+    → MatchOption o (IsWrong (stands_for x) line) (stands_for x line)
+line-read x line None one is = read-wrong x line (ap (λ l. event_of x (words l)) (sym (line_of-whole line one)) ∙ sym is)
+line-read x line (Some event) one is = read-stands x line event (ap (λ l. event_of x (words l)) (sym (line_of-whole line one)) ∙ sym is)
+
+-- So it does where memory may run out.
+pub ok-read : {E : Type 0} (x : Bool) (line : List ℕ) (result : Result (Option Event) E) → line_end line ≡ []
+    → IfOk result (λ event. event ≡ event_of x (words (line_of line)))
+    → IfOk result (λ event. MatchOption event (IsWrong (stands_for x) line) (stands_for x line))
+ok-read x line (Ok event) one is = line-read x line event one is
+ok-read x line (Err short) one is = tt

@@ -1,17 +1,16 @@
 -- A line is cut into the words that it was made of.
-use Rattle.std.proofs.Common.{◌≡◌, ◌∙◌, ℕ, zero, suc, ◌-◌, ◌/◌, ◌%◌, ◌^◌, ◌<◌, ◌≤◌, ◌==◌, List, [], ◌∷◌, ◌++◌, length, get_or}
-use Rattle.std.proofs.Common.{take, drop, refl, ap, sym, arith}
+use Rattle.std.proofs.Common.{◌≡◌, ◌∙◌, ℕ, zero, suc, ◌/◌, ◌%◌, ◌^◌, ◌<◌, ◌==◌, List, [], ◌∷◌, ◌++◌, length, get_or}
+use Rattle.std.proofs.Common.{refl, ap, sym, arith}
 use Rattle.std.specs.Prelude.{Bool, true, false, decimal}
 use Rattle.std.proofs.lemmas.Bool.{eqb-false, eqb-true}
 use Rattle.std.proofs.lemmas.Bool.Decides.{nat_tests}
 use Rattle.std.proofs.lemmas.Fmt.{decimal_is_IsNumeral}
-use Rattle.std.proofs.lemmas.List.{get_or-take}
 use Rattle.std.proofs.lemmas.Str.Parse.{digit_from_value}
 use Rattle.std.specs.Str.Parse.{AllDigits}
 use Rattle.event_text.specs.TextLines.{onto_first}
-use Rattle.event_text.specs.TextReads.{words, words_behind}
+use Rattle.event_text.specs.TextReads.{words}
 use Rattle.event_text.specs.TextWords.{is_solid, spaced, hex, hex_digit, bytes_word}
-use Rattle.event_text.proofs.TextCuts.{words-space, words-other, words-first}
+use Rattle.event_text.proofs.TextCuts.{words-space, words-other}
 
 -- No word has a space in it.
 abbrev pub AreSolid : List (List ℕ) → Type 0
@@ -31,18 +30,6 @@ solid-at : (word : List ℕ) (k : ℕ) → is_solid word ≡ true → k < length
 solid-at [] k solid within is = absurd (omega arith)
 solid-at (byte ∷ bytes) zero solid within is = (solid-parts byte bytes solid).0 is
 solid-at (byte ∷ bytes) (suc k) solid within is = solid-at bytes k (solid-parts byte bytes solid).1 (omega arith) is
-
--- Where a text begins with a word, and a space or nothing is behind it, that is its first word.
-pub words-behind-word : (word text : List ℕ) → is_solid word ≡ true → length word ≤ length text → take (length word) text ≡ word
-    → (length word < length text → get_or text (length word) 0 ≡ 32)
-    → words text ≡ word ∷ words_behind (take (length text - length word) (drop (length word) text))
-words-behind-word word text solid bound begins there =
-    words-first text (length word) bound before there
-    ∙ ap (λ first. first ∷ words_behind (take (length text - length word) (drop (length word) text))) begins
-  where
-    before : (k : ℕ) → k < length word → get_or text k 0 ≡ 32 → ⊥
-    before k small is =
-        solid-at word k solid small (ap (λ w. get_or w k 0) (sym begins) ∙ get_or-take (length word) text k 0 small ∙ is)
 
 -- Digits have no space.
 solid_digits : (digits : List ℕ) → AllDigits 10 digits → is_solid digits ≡ true

@@ -1,7 +1,7 @@
 -- Lines and their words looked through without keeping what they write.
-use Rattle.std.proofs.Common.{◌≡◌, ◌∙◌, ℕ, zero, suc, ◌+◌, ◌*◌, ◌/◌, ◌^◌, ◌<◌, ◌≤◌, List, [], ◌∷◌, ◌++◌, length, drop, get_or, refl, ap}
+use Rattle.std.proofs.Common.{◌≡◌, ◌∙◌, ℕ, zero, suc, ◌+◌, ◌^◌, ◌<◌, ◌≤◌, List, [], ◌∷◌, ◌++◌, length, refl, ap}
 use Rattle.std.proofs.Common.{sym, arith, length-append}
-use Rattle.std.specs.Prelude.{Bool, true, false, ◌==◌, ◌⊎◌, All, Option, Some, None, option_and_then, option_map}
+use Rattle.std.specs.Prelude.{Bool, true, false, ◌==◌, All, Option, Some, None, option_and_then}
 use Rattle.std.specs.Option.{is_some}
 use Rattle.std.proofs.lemmas.Bool.{ne_eqb}
 use Rattle.std.proofs.lemmas.List.Elements.{All-append, All-cons}
@@ -12,11 +12,11 @@ use Rattle.ring_core.specs.declared.ledger.Event.{Event}
 use Rattle.ring_core.proofs.Numbers.{some-of, none-of}
 use Rattle.event_text.specs.TextEvent.{stands_for}
 use Rattle.event_text.specs.TextLines.{lines, IsFirstWrongFor, Standing}
-use Rattle.event_text.specs.TextReads.{words, digit_value_of, pairs_of, number_of, bytes_of, part_onto, parts_end, counted}
+use Rattle.event_text.specs.TextReads.{words, number_of, bytes_of, part_onto, parts_end, counted}
 use Rattle.event_text.specs.TextEventReads.{event_of}
 use Rattle.event_text.specs.TextValid.{AddsPart, NoPart}
 use Rattle.event_text.proofs.TextEvents.{read-stands, read-wrong}
-use Rattle.event_text.proofs.TextHex.{onto, pairs_of-more, pairs_of-stop, pairs_of-end}
+use Rattle.event_text.proofs.TextHex.{onto}
 use Rattle.event_text.proofs.TextLinesRead.{HaveRead, have_read-more, have_read-wrong}
 use Rattle.event_text.proofs.TextParts.{counted-bounds, counted-None, rooms-more, rooms-alone, rooms-done}
 
@@ -46,47 +46,6 @@ have_seen-wrong x text rest line behind n seen first wrong =
     have_read-wrong (stands_for x) text rest line behind seen.events n seen.read first
     (read-wrong x line (none-of (event_of x (words line)) wrong)) (sym seen.count)
 
--- The digits so far are pairs of digits.
-pub record PairsSeen (word : List ℕ) (at : ℕ) : Type 0 where
-  pub front : List ℕ
-  pub count : length front * 2 ≡ at
-  pub read : pairs_of word ≡ onto front (pairs_of (drop at word))
-
--- At first no digit was seen.
-pub pairs_seen-none : (word : List ℕ) → PairsSeen word 0
-pairs_seen-none word = record { front = []; count = refl; read = onto-none (pairs_of word) }
-  where
-    onto-none : (o : Option (List ℕ)) → o ≡ onto [] o
-    onto-none None = refl
-    onto-none (Some more) = refl
-
--- One pair more was seen.
-pub pairs_seen-more : (word : List ℕ) (at : ℕ) → PairsSeen word at → at + 1 < length word → (digit_value_of (get_or word at 0) ≡ 16 → ⊥)
-    → (digit_value_of (get_or word (at + 1) 0) ≡ 16 → ⊥)
-    → PairsSeen word (at + 2)
-pairs_seen-more word at seen below high low =
-    let count = seen.count in
-    let byte = digit_value_of (get_or word at 0) * 16 + digit_value_of (get_or word (at + 1) 0) in
-    record {
-      front = seen.front ++ byte ∷ [];
-      count = (let lengths = length-append seen.front (byte ∷ []) in omega (arith, lengths, count));
-      read = pairs_of-more word at seen.front below high low seen.read;
-    }
-
--- A digit is none.
-pub pairs_seen-stop : (word : List ℕ) (at : ℕ) → PairsSeen word at → at + 1 < length word
-    → (digit_value_of (get_or word at 0) ≡ 16) ⊎ (digit_value_of (get_or word (at + 1) 0) ≡ 16)
-    → None ≡ option_map length (pairs_of word)
-pairs_seen-stop word at seen below bad = sym
-    (ap (λ (o : Option (List ℕ)). option_map length o) (pairs_of-stop word at seen.front below bad seen.read))
-
--- All digits were seen.
-pub pairs_seen-all : (word : List ℕ) (at : ℕ) → PairsSeen word at → length word ≤ at → Some (at / 2) ≡ option_map length (pairs_of word)
-pairs_seen-all word at seen end =
-    let count = seen.count in
-    let half : at / 2 ≡ length seen.front = omega (arith, count) in
-    ap (λ (n : ℕ). Some n) half ∙ sym (ap (λ (o : Option (List ℕ)). option_map length o) (pairs_of-end word at seen.front end seen.read))
-
 -- So many parts are to come behind those that were seen, whose bytes fit and whose rooms have this sum.
 pub record PartsSeen (all : Option Parts) (ws : List (List ℕ)) (count left rooms : ℕ) : Type 0 where
   pub parts : Parts
@@ -95,21 +54,6 @@ pub record PartsSeen (all : Option Parts) (ws : List (List ℕ)) (count left roo
   pub sum : rooms_of parts ≡ rooms
   pub small : rooms < 2 ^ 64
   pub fit : All (λ (p : Rented). length p.bytes ≤ p.total) parts
-
--- At first no part was seen.
-pub parts_seen-none : (ws : List (List ℕ)) (count : ℕ) → PartsSeen (parts_end ws) ws count count 0
-parts_seen-none ws count = record {
-  parts = [];
-  read = onto-none (parts_end ws);
-  number = omega arith;
-  sum = refl;
-  small = omega arith;
-  fit = λ k d few. absurd (omega arith);
-}
-  where
-    onto-none : (o : Option Parts) → o ≡ onto [] o
-    onto-none None = refl
-    onto-none (Some more) = refl
 
 -- A room has no bytes behind it.
 pub parts_seen-alone : (all : Option Parts) (ws next : List (List ℕ)) (first : List ℕ) (count left rooms : ℕ)

@@ -8,4 +8,6 @@ pub mod TextReaders
 pub mod TextReads
 pub mod TextRequestReads
 pub mod TextEventReads
+pub mod TextLook
+pub mod TextDigits
 pub mod TextValid

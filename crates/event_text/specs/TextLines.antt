@@ -46,12 +46,6 @@ pub record AreEventsFor (Stands : Standing) (all : List (List ℕ)) : Type 0 whe
   pub events : List Event
   pub stand : AllZip Stands all events
 
--- The first line stands for this event, and these lines are behind it.
-pub record IsFirstEvent (Stands : Standing) (all : List (List ℕ)) (event : Event) (behind : List (List ℕ)) : Type 0 where
-  pub line : List ℕ
-  pub split : all ≡ line ∷ behind
-  pub stands : Stands line event
-
 -- The same where lines may stand for any event: the first of them that stands for none,
 abbrev pub IsFirstWrong : List (List ℕ) → ℕ → Type 0
 IsFirstWrong = IsFirstWrongFor StandsFor

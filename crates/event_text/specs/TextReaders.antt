@@ -32,3 +32,13 @@ row name make read = (name, λ words. option_map make (read words))
 abbrev pub by_name : {A : Type 0} → List (List ℕ × (List (List ℕ) → Option A)) → Option A → List ℕ → List (List ℕ) → Option A
 by_name [] otherwise name words = otherwise
 by_name (first ∷ rows) otherwise name words = if bytes_eq name first.0 then first.1 words else by_name rows otherwise name words
+
+-- The first word; an empty one, where there is none.
+abbrev pub first_of : List (List ℕ) → List ℕ
+first_of [] = []
+first_of (word ∷ words) = word
+
+-- The words behind the first one.
+abbrev pub behind_first : List (List ℕ) → List (List ℕ)
+behind_first [] = []
+behind_first (word ∷ words) = words

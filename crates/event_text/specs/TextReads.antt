@@ -1,8 +1,8 @@
 -- What the readers of a line's words answer: numbers, bytes, buffers and parts. Public contracts cite only `number_of` and `bytes_of`,
 -- the others are of private functions: `event_of-stands` and `stands-event_of` (proofs/TextEvents.antt) prove that a line is read as an
 -- event exactly when it stands for it.
-use Rattle.std.specs.Prelude.{ℕ, Bool, true, false, ◌+◌, ◌-◌, ◌*◌, ◌^◌, ◌==◌, ◌&&◌, ◌||◌, nat_lt, nat_le, if◌then◌else◌, List, [], ◌∷◌}
-use Rattle.std.specs.Prelude.{length, codes, bytes_eq, decimal, Option, Some, None, option_and_then, option_map}
+use Rattle.std.specs.Prelude.{◌≡◌, ℕ, ◌≤◌, Bool, true, false, ◌+◌, ◌-◌, ◌*◌, ◌^◌, ◌==◌, ◌&&◌, ◌||◌, nat_lt, nat_le, if◌then◌else◌}
+use Rattle.std.specs.Prelude.{List, [], ◌∷◌, length, take, codes, bytes_eq, decimal, Option, Some, None, option_and_then, option_map}
 use Rattle.std.specs.Str.Parse.{digits_value}
 use Rattle.rent_buf.specs.Buffer.{Buffer}
 use Rattle.rent_buf.specs.Parts.{Parts, rooms_of}
@@ -29,6 +29,11 @@ words_behind (space ∷ bytes) = words bytes
 unfoldable pub number_of : List ℕ → Option ℕ
 number_of word =
     if nat_lt (digits_value 10 word) (2 ^ 64) && bytes_eq (decimal (digits_value 10 word)) word then Some (digits_value 10 word) else None
+
+-- So many bytes in front of a text write this number.
+pub record BeginsWithNumber (text : List ℕ) (number count : ℕ) : Type 0 where
+  pub bound : count ≤ length text
+  pub writes : number_of (take count text) ≡ Some number
 
 -- The number below a bound that a word writes.
 abbrev pub number_below : ℕ → List ℕ → Option ℕ

@@ -1,25 +1,27 @@
 //! Buffers and vectors of buffers as text, read and written.
-ghost use Rattle.std.specs.Prelude.{◌≡◌, ◌++◌, IfOk, MatchOption, OnOk, OnErr, Some, None, option_map};
+ghost use Rattle.std.specs.Prelude.{◌≡◌, ◌++◌, [], IfOk, IfSome, MatchOption, OnOk, OnErr, Some, None, option_map};
 ghost use Rattle.rent_buf.specs.Parts.{parts_of_pairs};
 ghost use Rattle.event_text.specs.TextWrites.{Starts};
 ghost use Rattle.event_text.specs.TextReply.{held_words};
 ghost use Rattle.event_text.specs.TextRequest.{buffer_kind_word, buffer_words, parts_words};
 ghost use Rattle.event_text.specs.TextWords.{spaced};
+ghost use Rattle.event_text.specs.TextLook.{line_end, words_left};
 ghost use Rattle.event_text.specs.TextReaders.{field};
-ghost use Rattle.event_text.specs.TextReads.{words_behind, buffer_of, parts_of, counted_of, parts_end, buffer_kind_of};
+ghost use Rattle.event_text.specs.TextReads.{buffer_of, parts_of, counted_of, parts_end, buffer_kind_of};
 
 use crate::word::hex::{put_bytes, read_bytes};
 use crate::word::number::read_number;
 use crate::word::{
-    is_word, last_bytes, next_number, next_word, put, put_byte, put_counted, put_next_bytes,
-    put_next_number,
+    behind_next, is_word, last_bytes, next_bytes_word, next_number, next_word, put, put_byte,
+    put_counted, put_next_bytes, put_next_number,
 };
 use rent_buf::{BufSpec, ByteList, HeldBuf, Kind, OutOfMemory, PartsSpec};
 use std::alloc::Global;
 
 /// The buffer that words write.
 pub(crate) fn read_buffer(alloc: Global, rest: &[u8]) -> Result<Option<BufSpec>, OutOfMemory>
-    ensures { IfOk result (λ buffer. buffer ≡ buffer_of (words_behind rest.now)) }
+    requires { line_end rest.now ≡ [] }
+    ensures { IfOk result (λ buffer. buffer ≡ buffer_of (words_left rest.now)) }
 {
     let Some((kind, rest)) = next_buffer_kind(rest) else {
         return Ok(None);
@@ -39,16 +41,18 @@ pub(crate) fn read_buffer(alloc: Global, rest: &[u8]) -> Result<Option<BufSpec>,
     }
 }
 
-pub(crate) fn next_buffer_kind(rest: &[u8]) -> Option<(Kind, &[u8])>
-    ensures { MatchOption result (field buffer_kind_of (words_behind rest.now) ≡ None)
-        (λ cut. field buffer_kind_of (words_behind rest.now) ≡ Some (cut.0, words_behind cut.1.now)) }
+fn next_buffer_kind(rest: &[u8]) -> Option<(Kind, &[u8])>
+    ensures reads { MatchOption result (field buffer_kind_of (words_left rest.now) ≡ None)
+        (λ cut. field buffer_kind_of (words_left rest.now) ≡ Some (cut.0, words_left cut.1.now)) }
+    ensures past { IfSome result (λ cut. line_end cut.1.now ≡ line_end rest.now) }
 {
     let (word, rest) = next_word(rest)?;
     let kind = buffer_kind(word)?;
     Some((kind, rest))
 }
 
-fn buffer_kind(word: &[u8]) -> Option<Kind>
+/// The kind of a buffer that a word writes.
+pub(crate) fn buffer_kind(word: &[u8]) -> Option<Kind>
     ensures { result ≡ buffer_kind_of word.now }
 {
     if is_word(word, b"v") {
@@ -65,17 +69,17 @@ fn buffer_kind(word: &[u8]) -> Option<Kind>
 
 /// The parts that words write.
 pub(crate) fn read_parts(alloc: Global, rest: &[u8]) -> Result<Option<PartsSpec>, OutOfMemory>
-    ensures { IfOk result (λ parts. parts ≡ parts_of (words_behind rest.now)) }
+    ensures { IfOk result (λ parts. parts ≡ parts_of (words_left rest.now)) }
 {
-    match next_word(rest) {
-        Some((word, rest)) if is_word(word, b"p") => read_counted(alloc, rest),
-        _ => Ok(None),
+    match behind_next(rest, b"p") {
+        Some(rest) => read_counted(alloc, rest),
+        None => Ok(None),
     }
 }
 
 // Nothing is reserved by the number that is written: the pairs are read first, and counted.
 fn read_counted(alloc: Global, rest: &[u8]) -> Result<Option<PartsSpec>, OutOfMemory>
-    ensures { IfOk result (λ parts. parts ≡ counted_of (words_behind rest.now)) }
+    ensures { IfOk result (λ parts. parts ≡ counted_of (words_left rest.now)) }
 {
     let Some((count, rest)) = next_number(rest) else {
         return Ok(None);
@@ -88,12 +92,12 @@ fn read_counted(alloc: Global, rest: &[u8]) -> Result<Option<PartsSpec>, OutOfMe
 
 // The rooms and bytes up to the end of the line.
 fn read_rooms(alloc: Global, rest: &[u8]) -> Result<Option<Vec<(usize, ByteList)>>, OutOfMemory>
-    ensures { IfOk result (λ pairs. option_map (λ pairs. parts_of_pairs pairs.items) pairs ≡ parts_end (words_behind rest.now)) }
+    ensures { IfOk result (λ pairs. option_map (λ pairs. parts_of_pairs pairs.items) pairs ≡ parts_end (words_left rest.now)) }
 {
     let mut pairs = Vec::new(alloc);
     let mut rest = rest;
     while let Some((room, behind)) = next_word(rest) {
-        let Some((bytes, behind)) = next_word(behind) else {
+        let Some((bytes, behind)) = next_bytes_word(behind) else {
             return Ok(None);
         };
         let Some(room) = read_number(room) else {

@@ -1,129 +1,145 @@
 //! Events as text: one line each, read and written.
-ghost use Rattle.std.specs.Prelude.{◌≡◌, ◌++◌, IfOk, OnOk, OnErr, false};
+ghost use Rattle.std.specs.Prelude.{◌≡◌, ◌++◌, [], IfOk, MatchOption, OnOk, OnErr, false};
 ghost use Rattle.event_text.specs.TextWrites.{Starts};
-ghost use Rattle.event_text.specs.TextEvent.{event_text};
-ghost use Rattle.event_text.specs.TextReads.{words, words_behind, handle_kind_of};
+ghost use Rattle.event_text.specs.TextEvent.{event_text, stands_for};
+ghost use Rattle.event_text.specs.TextLines.{IsWrong};
+ghost use Rattle.event_text.specs.TextLook.{line_end, line_of, words_left};
+ghost use Rattle.event_text.specs.TextReaders.{behind_first, first_of, last_of};
+ghost use Rattle.event_text.specs.TextReads.{words, handle_kind_of};
 ghost use Rattle.event_text.specs.TextEventReads.{event_of, feed_of, message_of, submit_of, under_of, poll_of, exec_of, give_of};
 ghost use Rattle.event_text.specs.TextEventReads.{turn_of, canceller_of, external_by, created_by, numbered_by, told_of};
 
 use crate::request::put::put_request;
 use crate::request::read_request;
 use crate::word::{
-    behind_word, first_word, if_last, is_word, last_bytes, last_number, last_u16, last_u32,
-    next_number, next_word, put, put_byte, put_counted, put_next_bytes, put_next_number,
+    behind_next, behind_word, is_word, last_bytes, last_number, last_u16, last_u32, next_number,
+    next_word, past_line, put, put_byte, put_counted, put_next_bytes, put_next_number,
 };
 use rent_buf::{BufSpec, OutOfMemory, PartsSpec};
 use ring_core::{Event, HandleKind, Request, Told};
 use std::alloc::Global;
 
-/// The event that a line stands for, if only external events are taken, or any. The first words of most lines are looked for before a
-/// word is cut off.
-pub(crate) fn event_of_line<const EXTERNAL: bool>(
+/// The event that a line stands for, if it stands for one: for any, or where `EXTERNAL` is true for an external one. `OutOfMemory` comes
+/// if memory runs out. (not in monoio)
+#[inline(always)]
+pub fn event_of_line<const EXTERNAL: bool>(
     alloc: Global,
     line: &[u8],
 ) -> Result<Option<Event>, OutOfMemory>
-    ensures { IfOk result (λ event. event ≡ event_of EXTERNAL (words line.now)) }
+    // There is no newline in it.
+    requires { line_end line.now ≡ [] }
+    ensures { IfOk result
+        (λ event. MatchOption event (IsWrong (stands_for EXTERNAL) line.now) (stands_for EXTERNAL line.now)) }
 {
-    if let Some(rest) = behind_word(line, b"submit") {
-        return submit_event(alloc, rest);
+    if EXTERNAL {
+        external_event(alloc, line)
+    } else {
+        any_event(alloc, line)
     }
+}
+
+// The same, if any event is taken.
+#[inline(always)]
+fn any_event(alloc: Global, line: &[u8]) -> Result<Option<Event>, OutOfMemory>
+    requires { line_end line.now ≡ [] }
+    ensures { IfOk result (λ event. event ≡ event_of false (words (line_of line.now))) }
+{
+    if let Some(rest) = behind_word(line, b"turn") {
+        return turn_event(rest);
+    }
+    if let Some(rest) = behind_word(line, b"exec") {
+        return exec_event(rest);
+    }
+    external_event(alloc, line)
+}
+
+// The same, if only external events are taken.
+#[tactic(auto, unfolding(crate::specs::TextEventReads::external_by))]
+fn external_event(alloc: Global, line: &[u8]) -> Result<Option<Event>, OutOfMemory>
+    requires { line_end line.now ≡ [] }
+    ensures { IfOk result (λ event. event ≡ external_by (first_of (words (line_of line.now))) (behind_first (words (line_of line.now)))) }
+{
     if let Some(rest) = behind_word(line, b"poll") {
-        return Ok(poll_event(rest));
+        return poll_event(rest);
     }
     if let Some(rest) = behind_word(line, b"feed") {
         return feed_event(alloc, rest);
     }
-    if EXTERNAL {
-        let (word, rest) = first_word(line);
-        return external_event(alloc, word, rest);
-    }
-    any_event(alloc, line)
-}
-
-// A turn or an execution, or what `external_event` reads.
-fn any_event(alloc: Global, line: &[u8]) -> Result<Option<Event>, OutOfMemory>
-    ensures { IfOk result (λ event. event ≡ event_of false (words line.now)) }
-{
-    if let Some(rest) = behind_word(line, b"exec") {
-        return Ok(exec_event(rest));
-    }
-    if let Some(rest) = behind_word(line, b"turn") {
-        return Ok(turn_event(rest));
-    }
-    let (word, rest) = first_word(line);
-    if is_word(word, b"turn") {
-        return Ok(turn_event(rest));
-    }
-    if is_word(word, b"exec") {
-        return Ok(exec_event(rest));
-    }
-    external_event(alloc, word, rest)
-}
-
-// A poll, or what arrives, or what `created_event` reads.
-#[tactic(auto, unfolding(crate::specs::TextEventReads::external_by))]
-fn external_event(alloc: Global, word: &[u8], rest: &[u8]) -> Result<Option<Event>, OutOfMemory>
-    ensures { IfOk result (λ event. event ≡ external_by word.now (words_behind rest.now)) }
-{
-    if is_word(word, b"poll") {
-        return Ok(poll_event(rest));
-    }
-    if is_word(word, b"feed") {
-        return feed_event(alloc, rest);
-    }
-    if is_word(word, b"message") {
+    if let Some(rest) = behind_word(line, b"message") {
         return message_event(alloc, rest);
     }
-    created_event(alloc, word, rest)
+    created_event(alloc, line)
 }
 
-// An event that submits a request, or creates a handle or a canceller, or what `numbered_event` reads.
+// The same, if the event submits a request, or creates a handle or a canceller, or is one of one number.
 #[tactic(auto, unfolding(crate::specs::TextEventReads::created_by))]
-fn created_event(alloc: Global, word: &[u8], rest: &[u8]) -> Result<Option<Event>, OutOfMemory>
-    ensures { IfOk result (λ event. event ≡ created_by word.now (words_behind rest.now)) }
+fn created_event(alloc: Global, line: &[u8]) -> Result<Option<Event>, OutOfMemory>
+    requires { line_end line.now ≡ [] }
+    ensures { IfOk result (λ event. event ≡ created_by (first_of (words (line_of line.now))) (behind_first (words (line_of line.now)))) }
 {
-    if is_word(word, b"submit") {
+    if let Some(rest) = behind_word(line, b"submit") {
         return submit_event(alloc, rest);
     }
-    if is_word(word, b"under") {
+    if let Some(rest) = behind_word(line, b"under") {
         return under_event(alloc, rest);
     }
-    if is_word(word, b"give") {
-        return Ok(give_event(rest));
+    if let Some(rest) = behind_word(line, b"give") {
+        return give_event(rest);
     }
-    if is_word(word, b"canceller") {
-        return Ok(canceller_event(rest));
+    if let Some(rest) = behind_word(line, b"canceller") {
+        return canceller_event(rest);
     }
-    Ok(numbered_event(word, rest))
+    numbered_event(line)
 }
 
-/// The event of one number, by its first word and what is behind that. It takes no memory.
+// The same, if the event is one of one number.
 #[tactic(auto, unfolding(crate::specs::TextEventReads::numbered_by))]
-pub(crate) fn numbered_event(word: &[u8], rest: &[u8]) -> Option<Event>
-    ensures { result ≡ numbered_by word.now (words_behind rest.now) }
+fn numbered_event(line: &[u8]) -> Result<Option<Event>, OutOfMemory>
+    ensures { IfOk result (λ event. event ≡ numbered_by (first_of (words (line_of line.now))) (behind_first (words (line_of line.now)))) }
 {
-    if is_word(word, b"drop") {
-        return last_number(rest).map(Event::Drop);
+    if let Some(rest) = behind_word(line, b"drop") {
+        return match last_number(rest) {
+            Some((n, _)) => Ok(Some(Event::Drop(n))),
+            None => Ok(None),
+        };
     }
-    if is_word(word, b"cancel") {
-        return last_number(rest).map(Event::Cancel);
+    if let Some(rest) = behind_word(line, b"cancel") {
+        return match last_number(rest) {
+            Some((n, _)) => Ok(Some(Event::Cancel(n))),
+            None => Ok(None),
+        };
     }
-    if is_word(word, b"end") {
-        return last_number(rest).map(Event::End);
+    if let Some(rest) = behind_word(line, b"end") {
+        return match last_number(rest) {
+            Some((n, _)) => Ok(Some(Event::End(n))),
+            None => Ok(None),
+        };
     }
-    if is_word(word, b"look") {
-        return last_number(rest).map(Event::Look);
+    if let Some(rest) = behind_word(line, b"look") {
+        return match last_number(rest) {
+            Some((n, _)) => Ok(Some(Event::Look(n))),
+            None => Ok(None),
+        };
     }
-    if is_word(word, b"close") {
-        return last_number(rest).map(Event::Close);
+    if let Some(rest) = behind_word(line, b"close") {
+        return match last_number(rest) {
+            Some((n, _)) => Ok(Some(Event::Close(n))),
+            None => Ok(None),
+        };
     }
-    if is_word(word, b"newhandle") {
-        return last_number(rest).map(Event::NewHandle);
+    if let Some(rest) = behind_word(line, b"newhandle") {
+        return match last_number(rest) {
+            Some((n, _)) => Ok(Some(Event::NewHandle(n))),
+            None => Ok(None),
+        };
     }
-    if is_word(word, b"cancelall") {
-        return last_number(rest).map(Event::CancelAll);
+    if let Some(rest) = behind_word(line, b"cancelall") {
+        return match last_number(rest) {
+            Some((n, _)) => Ok(Some(Event::CancelAll(n))),
+            None => Ok(None),
+        };
     }
-    None
+    Ok(None)
 }
 
 /// Appends the text of an event, with no newline. If memory runs out, `out` is unchanged. (not in monoio)
@@ -143,28 +159,46 @@ pub fn write_event(event: &Event, out: &mut Vec<u8>) -> Result<(), OutOfMemory>
 
 // The events by the words behind their first one.
 
-fn turn_event(rest: &[u8]) -> Option<Event>
-    ensures { result ≡ turn_of (words_behind rest.now) }
+fn turn_event(rest: &[u8]) -> Result<Option<Event>, OutOfMemory>
+    ensures { IfOk result (λ event. event ≡ turn_of (words_left rest.now)) }
 {
-    if_last(Event::Turn, rest)
+    match past_line(rest) {
+        Some(_) => Ok(Some(Event::Turn)),
+        None => Ok(None),
+    }
 }
 
-fn canceller_event(rest: &[u8]) -> Option<Event>
-    ensures { result ≡ canceller_of (words_behind rest.now) }
+fn canceller_event(rest: &[u8]) -> Result<Option<Event>, OutOfMemory>
+    ensures { IfOk result (λ event. event ≡ canceller_of (words_left rest.now)) }
 {
-    if_last(Event::NewCanceller, rest)
+    match past_line(rest) {
+        Some(_) => Ok(Some(Event::NewCanceller)),
+        None => Ok(None),
+    }
 }
 
-pub(crate) fn give_event(rest: &[u8]) -> Option<Event>
-    ensures { result ≡ give_of (words_behind rest.now) }
+fn give_event(rest: &[u8]) -> Result<Option<Event>, OutOfMemory>
+    ensures { IfOk result (λ event. event ≡ give_of (words_left rest.now)) }
+{
+    match one_kind(rest) {
+        Some(kind) => Ok(Some(Event::Give(kind))),
+        None => Ok(None),
+    }
+}
+
+// The kind of handle that the one word that is left writes.
+fn one_kind(rest: &[u8]) -> Option<HandleKind>
+    ensures { result ≡ last_of handle_kind_of (words_left rest.now) }
 {
     let (word, rest) = next_word(rest)?;
     let kind = handle_kind(word)?;
-    if_last(Event::Give(kind), rest)
+    past_line(rest)?;
+    Some(kind)
 }
 
 fn feed_event(alloc: Global, rest: &[u8]) -> Result<Option<Event>, OutOfMemory>
-    ensures { IfOk result (λ event. event ≡ feed_of (words_behind rest.now)) }
+    requires { line_end rest.now ≡ [] }
+    ensures { IfOk result (λ event. event ≡ feed_of (words_left rest.now)) }
 {
     let Some((h, rest)) = next_number(rest) else {
         return Ok(None);
@@ -176,7 +210,8 @@ fn feed_event(alloc: Global, rest: &[u8]) -> Result<Option<Event>, OutOfMemory>
 }
 
 fn message_event(alloc: Global, rest: &[u8]) -> Result<Option<Event>, OutOfMemory>
-    ensures { IfOk result (λ event. event ≡ message_of (words_behind rest.now)) }
+    requires { line_end rest.now ≡ [] }
+    ensures { IfOk result (λ event. event ≡ message_of (words_left rest.now)) }
 {
     let Some((h, rest)) = next_number(rest) else {
         return Ok(None);
@@ -191,7 +226,8 @@ fn message_event(alloc: Global, rest: &[u8]) -> Result<Option<Event>, OutOfMemor
 }
 
 fn submit_event(alloc: Global, rest: &[u8]) -> Result<Option<Event>, OutOfMemory>
-    ensures { IfOk result (λ event. event ≡ submit_of (words_behind rest.now)) }
+    requires { line_end rest.now ≡ [] }
+    ensures { IfOk result (λ event. event ≡ submit_of (words_left rest.now)) }
 {
     match read_request(alloc, rest)? {
         Some(request) => Ok(Some(Event::Submit(request, None))),
@@ -200,7 +236,8 @@ fn submit_event(alloc: Global, rest: &[u8]) -> Result<Option<Event>, OutOfMemory
 }
 
 fn under_event(alloc: Global, rest: &[u8]) -> Result<Option<Event>, OutOfMemory>
-    ensures { IfOk result (λ event. event ≡ under_of (words_behind rest.now)) }
+    requires { line_end rest.now ≡ [] }
+    ensures { IfOk result (λ event. event ≡ under_of (words_left rest.now)) }
 {
     let Some((handle, rest)) = next_number(rest) else {
         return Ok(None);
@@ -211,37 +248,47 @@ fn under_event(alloc: Global, rest: &[u8]) -> Result<Option<Event>, OutOfMemory>
     }
 }
 
-fn poll_event(rest: &[u8]) -> Option<Event>
-    ensures { result ≡ poll_of (words_behind rest.now) }
+fn poll_event(rest: &[u8]) -> Result<Option<Event>, OutOfMemory>
+    ensures { IfOk result (λ event. event ≡ poll_of (words_left rest.now)) }
 {
-    let (n, rest) = next_number(rest)?;
-    let task = last_number(rest)?;
-    Some(Event::Poll(n, task))
-}
-
-fn exec_event(rest: &[u8]) -> Option<Event>
-    ensures { result ≡ exec_of (words_behind rest.now) }
-{
-    let (place, rest) = next_number(rest)?;
-    let told = read_told(rest)?;
-    Some(Event::Exec(place as usize, told))
-}
-
-/// What an executor tells, by the words behind a place.
-pub(crate) fn read_told(rest: &[u8]) -> Option<Told>
-    ensures { result ≡ told_of (words_behind rest.now) }
-{
-    let (word, rest) = next_word(rest)?;
-    if is_word(word, b"ok") {
-        return last_u32(rest).map(Told::Count);
+    let Some((n, rest)) = next_number(rest) else {
+        return Ok(None);
+    };
+    match last_number(rest) {
+        Some((task, _)) => Ok(Some(Event::Poll(n, task))),
+        None => Ok(None),
     }
-    if is_word(word, b"err") {
-        return last_u16(rest).map(Told::Fail);
+}
+
+fn exec_event(rest: &[u8]) -> Result<Option<Event>, OutOfMemory>
+    ensures { IfOk result (λ event. event ≡ exec_of (words_left rest.now)) }
+{
+    let Some((place, rest)) = next_number(rest) else {
+        return Ok(None);
+    };
+    match read_told(rest) {
+        Some(told) => Ok(Some(Event::Exec(place as usize, told))),
+        None => Ok(None),
+    }
+}
+
+// What an executor tells, by the words behind a place.
+fn read_told(rest: &[u8]) -> Option<Told>
+    ensures { result ≡ told_of (words_left rest.now) }
+{
+    if let Some(rest) = behind_next(rest, b"ok") {
+        let (count, _) = last_u32(rest)?;
+        return Some(Told::Count(count));
+    }
+    if let Some(rest) = behind_next(rest, b"err") {
+        let (error, _) = last_u16(rest)?;
+        return Some(Told::Fail(error));
     }
     None
 }
 
-fn handle_kind(word: &[u8]) -> Option<HandleKind>
+/// The kind of a handle that a word writes.
+pub(crate) fn handle_kind(word: &[u8]) -> Option<HandleKind>
     ensures { result ≡ handle_kind_of word.now }
 {
     if is_word(word, b"stream") {

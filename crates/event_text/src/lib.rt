@@ -9,10 +9,11 @@ mod text;
 mod valid;
 mod word;
 
-pub use event::write_event;
+pub use event::{event_of_line, write_event};
 pub use reply::write_reply;
-pub use text::{LinesError, next_event, read_events, read_external_events, texts_differ};
+pub use text::{LinesError, read_events, read_external_events, texts_differ};
 pub use valid::first_wrong;
+pub use word::first_line;
 pub use word::hex::{count_bytes, read_bytes};
 pub use word::number::{put_number, read_number};
 

@@ -1,9 +1,9 @@
 //! The events that the lines of a text stand for.
-ghost use Rattle.std.specs.Prelude.{◌≡◌, ◌<◌, List, ℕ, IfOk, IfErr, length};
+ghost use Rattle.std.specs.Prelude.{◌≡◌, List, ℕ, IfOk, IfErr};
 ghost use Rattle.std.specs.List.{AllZip};
 ghost use Rattle.ring_core.specs.declared.ledger.Event.{Event};
 ghost use Rattle.event_text.specs.TextEvent.{AreExternal, IsEvent, StandsFor, StandsForExternal, event_text, stands_for};
-ghost use Rattle.event_text.specs.TextLines.{lines, AreEvents, AreEventsFor, IfBadLine, IfShort, IsFirstEvent, IsFirstWrong};
+ghost use Rattle.event_text.specs.TextLines.{lines, AreEvents, AreEventsFor, IfBadLine, IfShort, IsFirstWrong};
 ghost use Rattle.event_text.specs.TextLines.{IsFirstWrongFor};
 
 use crate::event::event_of_line;
@@ -23,25 +23,6 @@ pub enum LinesError {
     /// Memory ran out, and no line is wrong.
     #[error("OutOfMemory")]
     OutOfMemory,
-}
-
-/// The event that the first line of a text stands for, and the text behind that line, where each line stands for an event, as
-/// `first_wrong` tells: for any, or for an external one where only those are taken. `OutOfMemory` comes if memory runs out. (not in
-/// monoio)
-pub fn next_event<const EXTERNAL: bool>(
-    alloc: Global,
-    text: &[u8],
-) -> Result<(Event, &[u8]), OutOfMemory>
-    requires some { 0 < length text.now }
-    requires right { AreEventsFor (stands_for EXTERNAL) (lines text.now) }
-    ensures event { IfOk result (λ next. IsFirstEvent (stands_for EXTERNAL) (lines text.now) next.0 (lines next.1.now)) }
-    ensures less { IfOk result (λ next. length next.1.now < length text.now) }
-{
-    let (line, behind) = first_line(text);
-    match event_of_line::<EXTERNAL>(alloc, line)? {
-        Some(event) => Ok((event, behind)),
-        None => unreachable!(),
-    }
 }
 
 /// The events that the lines of a text stand for, one for each line, in order. A wrong line is found before memory is taken, so
@@ -88,8 +69,11 @@ fn read_right<const EXTERNAL: bool>(alloc: Global, text: &[u8]) -> Result<Vec<Ev
     let mut events = Vec::new(alloc);
     let mut rest = text;
     while !rest.is_empty() {
-        let (event, behind) = next_event::<EXTERNAL>(alloc, rest)?;
-        events.push(event)?;
+        let (line, behind) = first_line(rest);
+        match event_of_line::<EXTERNAL>(alloc, line)? {
+            Some(event) => events.push(event)?,
+            None => unreachable!(),
+        }
         rest = behind;
     }
     Ok(events)

@@ -1,6 +1,7 @@
 -- Events that run as their lines are read.
 use Rattle.std.proofs.Common.{◌≡◌, ℕ, zero, suc, ◌<◌, ◌≤◌, Bool, IsTrue, List, [], ◌∷◌, length, get_or, take, drop, refl, sym, subst}
 use Rattle.std.proofs.Common.{◌+◌, ◌++◌, add-one, append-nil, arith}
+use Rattle.std.specs.Prelude.{MatchOption, Option, Some, None}
 use Rattle.std.specs.List.{AllZip}
 use Rattle.ring_core.specs.declared.ledger.Event.{Event}
 use Rattle.ring_core.specs.declared.ledger.Event.TheVariants.{Give, Feed, FeedMessage, End, Look, Close, Submit, Poll, Drop, Cancel}
@@ -9,8 +10,9 @@ use Rattle.ring_core.specs.declared.ledger.Reply.{Reply}
 use Rattle.ring_core.specs.Ledger.{Ledger}
 use Rattle.ready_driver.specs.Readiness.{IsDriven}
 use Rattle.event_text.specs.TextEvent.{IsExternal}
-use Rattle.event_text.specs.TextLines.{IsFirstEvent, lines}
+use Rattle.event_text.specs.TextLines.{AreEventsFor, IsWrong, lines}
 use Rattle.event_text.proofs.TextEvents.{stands_once}
+use Rattle.event_text.proofs.TextLinesRead.{IsFirstEvent, right-first}
 use Rattle.event_text.specs.TextReply.{reply_text}
 use Rattle.session_run.specs.declared.output.Unwritten.{Unwritten}
 use Rattle.session_run.specs.DriverKind.{AnswersOn, DriverKind, StandsOn, Takes, after_on, completion, readiness, replies_on}
@@ -49,6 +51,24 @@ ran-none standing driver tells session text out taken events empty stand = recor
 stands-once : (driver : DriverKind) (line : List ℕ) (a b : Event) → StandsOn driver line a → StandsOn driver line b → a ≡ b
 stands-once completion line a b one other = stands_once line a b one other
 stands-once readiness line a b one other = stands_once line a b one.stands other.stands
+
+-- The event that was read of the first line stands for that line.
+pub first-read : (driver : DriverKind) (all behind : List (List ℕ)) (line : List ℕ) (read : Option Event) (event : Event) →
+    all ≡ line ∷ behind → MatchOption read (IsWrong (StandsOn driver) line) (StandsOn driver line) → read ≡ Some event →
+    IsFirstEvent (StandsOn driver) all event behind
+first-read driver all behind line read event split stands is = record {
+  line = line;
+  split = split;
+  stands = subst (λ o. MatchOption o (IsWrong (StandsOn driver) line) (StandsOn driver line)) is stands;
+}
+
+-- The first of lines that each stand for an event is read.
+pub first-right : (driver : DriverKind) (all behind : List (List ℕ)) (line : List ℕ) (read : Option Event) →
+    AreEventsFor (StandsOn driver) all → all ≡ line ∷ behind → MatchOption read (IsWrong (StandsOn driver) line) (StandsOn driver line) →
+    read ≡ None → ⊥
+first-right driver all behind line read right split wrong is =
+    right-first (StandsOn driver) all behind line right split
+    (subst (λ o. MatchOption o (IsWrong (StandsOn driver) line) (StandsOn driver line)) is wrong)
 
 -- The next event is that of the next line.
 pub record IsNext (driver : DriverKind) (behind : List (List ℕ)) (events : List Event) (k : ℕ) (event : Event) : Type 0 where

@@ -1,5 +1,7 @@
 -- Under which group a session submits a request. Cited by `Session`.
 use Rattle.std.specs.Prelude.{ℕ, ◌≡◌, ◌≤◌, length, Option, Some, Result, Ok, Err}
+use Rattle.ring_core.specs.declared.ledger.Event.{Event}
+use Rattle.ring_core.specs.declared.ledger.Event.TheVariants.{Submit}
 use Rattle.ring_core.specs.declared.ledger.Refusal.{Refusal}
 use Rattle.ring_core.specs.declared.ledger.Refusal.TheVariants.{NoCanceller}
 use Rattle.ring_core.specs.Ledger.{Ledger}
@@ -15,3 +17,8 @@ pub record IsUnmade (L : Ledger) (under : Option ℕ) : Type 0 where
 abbrev pub FindsFor : Ledger → Option ℕ → Result (Option ℕ) Refusal → Type 0
 FindsFor L under (Ok group) = IsUnder L group under
 FindsFor L under (Err refusal) = (refusal ≡ NoCanceller) × IsUnmade L under
+
+-- The event submits a request.
+abbrev pub IsSubmit : Event → Type 0
+IsSubmit (Submit request under) = Unit {0}
+IsSubmit _ = ⊥

@@ -10,7 +10,7 @@ ghost use Rattle.session_run.specs.Top.{ended, reply_lines};
 ghost use Rattle.session_run.specs.Writes.{Sent, WhyUnwritten, WritesAll};
 
 use crate::stepping::Stepping;
-use event_text::write_reply;
+use event_text::{first_line, write_reply};
 use itoa::Buffer;
 use rent_buf::OutOfMemory;
 use rent_io::{ByteSink, Failed};
@@ -50,15 +50,17 @@ pub(crate) fn write_replies<M: Stepping + Drop, K: ByteSink>(
     let mut out = Vec::new(alloc);
     let mut rest = text;
     while !rest.is_empty() {
-        let Ok((event, behind)) = M::next_event(alloc, rest) else {
-            return Err(Unwritten::OutOfMemory);
-        };
-        let Ok(reply) = running.apply(event) else {
-            return Err(Unwritten::OutOfMemory);
-        };
-        match write_next(reply, &mut out, sink) {
-            Ok(()) => {}
-            Err(why) => return Err(why),
+        let (line, behind) = first_line(rest);
+        match M::event_of_line(alloc, line) {
+            Err(_) => return Err(Unwritten::OutOfMemory),
+            Ok(None) => unreachable!(),
+            Ok(Some(event)) => match running.apply(event) {
+                Err(_) => return Err(Unwritten::OutOfMemory),
+                Ok(reply) => match write_next(reply, &mut out, sink) {
+                    Err(why) => return Err(why),
+                    Ok(()) => {}
+                },
+            },
         }
         rest = behind;
     }
@@ -69,6 +71,7 @@ pub(crate) fn write_replies<M: Stepping + Drop, K: ByteSink>(
 }
 
 // Appends the text of a reply and a newline to what waits, and writes that where it is a large piece.
+#[inline(always)]
 fn write_next<K: ByteSink>(reply: Reply, out: &mut Vec<u8>, sink: &mut K) -> Result<(), Unwritten>
     ensures ok { OnOk result (IsTrue K.tells → Sent (out.old.items ++ ended (reply_text reply)) out.new.items (K.taken sink.old)
         (K.taken sink.new)) }
@@ -94,6 +97,7 @@ fn write_next<K: ByteSink>(reply: Reply, out: &mut Vec<u8>, sink: &mut K) -> Res
 }
 
 // Appends the text of a reply and a newline.
+#[inline(always)]
 fn put_line(reply: Reply, out: &mut Vec<u8>) -> Result<(), OutOfMemory>
     ensures { OnOk result (out.new.items ≡ out.old.items ++ ended (reply_text reply)) }
 {

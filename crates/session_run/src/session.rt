@@ -16,6 +16,7 @@ ghost use Rattle.run_laws.specs.Groups.{CancellersInOrder, HandlesInOrder};
 ghost use Rattle.ring_core.specs.declared.ledger.Event.TheVariants.{Give, Feed, FeedMessage, End, Poll, Drop, Cancel, Turn, Exec};
 ghost use Rattle.session_run.specs.Session.{AreParts, PartsStand, SessionStands, SessionAnswers, StepsFor, TakesNoMemory, driver_in};
 ghost use Rattle.session_run.specs.Executed.{reply_to, AnswersRefusal};
+ghost use Rattle.session_run.specs.Submission.{IsSubmit};
 
 use driver_core::{RunError, Tokens};
 use rent_buf::{Buf, Held, HeldBuf, OutOfMemory, VecBuf};
@@ -111,13 +112,25 @@ impl Session {
     }
 
     /// The same step of an event that it takes: a submission's bytes are moved into its operation's buffer. (not in monoio)
+    #[inline(always)]
     pub fn apply(&mut self, event: Event) -> Result<Reply, OutOfMemory>
         ensures answers { (L : Ledger) → SessionStands self.old L → StepsFor L event self.new result }
         ensures memory { TakesNoMemory event → IsOk result }
     {
+        match &event {
+            Event::Submit(_, _) => self.submit_taken(event),
+            _ => self.step(&event),
+        }
+    }
+
+    // The request of an event that submits one is moved into its operation.
+    fn submit_taken(&mut self, event: Event) -> Result<Reply, OutOfMemory>
+        requires { IsSubmit event }
+        ensures { (L : Ledger) → SessionStands self.old L → StepsFor L event self.new result }
+    {
         match event {
             Event::Submit(request, under) => self.submit(request, under),
-            event => self.step(&event),
+            _ => unreachable!(),
         }
     }
 

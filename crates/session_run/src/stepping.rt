@@ -1,13 +1,14 @@
 //! What commands run events on: a session over the completion driver, or over the readiness driver.
-ghost use Rattle.std.specs.Prelude.{◌<◌, IfOk, MatchOption, length};
+ghost use Rattle.std.specs.Prelude.{◌≡◌, [], IfOk, MatchOption};
 ghost use Rattle.ring_core.specs.Ledger.{Ledger};
-ghost use Rattle.event_text.specs.TextLines.{AreEventsFor, IsFirstEvent, IsFirstWrongFor, lines};
+ghost use Rattle.event_text.specs.TextLines.{AreEventsFor, IsFirstWrongFor, IsWrong, lines};
+ghost use Rattle.event_text.specs.TextLook.{line_end};
 ghost use Rattle.ready_run.specs.ReadySession.{ReadyStands};
 ghost use Rattle.session_run.specs.DriverKind.{AnswersOn, DriverKind, StandsOn, Takes, completion, readiness};
 ghost use Rattle.session_run.specs.Session.{SessionStands};
 
 use crate::session::Session;
-use event_text::{first_wrong, next_event};
+use event_text::{event_of_line, first_wrong};
 use ready_run::ReadySession;
 use rent_buf::OutOfMemory;
 use ring_core::{Event, Reply};
@@ -25,13 +26,10 @@ pub(crate) trait Stepping {
     fn first_wrong(text: &[u8]) -> Option<u64>
         ensures { MatchOption result (AreEventsFor (StandsOn kind) (lines text.now)) (IsFirstWrongFor (StandsOn kind) (lines text.now)) };
 
-    /// The event that the first line of a text stands for, and the text behind that line, where each line stands for an event that it
-    /// takes.
-    fn next_event(alloc: Global, text: &[u8]) -> Result<(Event, &[u8]), OutOfMemory>
-        requires some { 0 < length text.now }
-        requires right { AreEventsFor (StandsOn kind) (lines text.now) }
-        ensures event { IfOk result (λ next. IsFirstEvent (StandsOn kind) (lines text.now) next.0 (lines next.1.now)) }
-        ensures less { IfOk result (λ next. length next.1.now < length text.now) };
+    /// The event that a line with no newline in it stands for, if it stands for one that the session takes.
+    fn event_of_line(alloc: Global, line: &[u8]) -> Result<Option<Event>, OutOfMemory>
+        requires { line_end line.now ≡ [] }
+        ensures { IfOk result (λ event. MatchOption event (IsWrong (StandsOn kind) line.now) (StandsOn kind line.now)) };
 
     /// Answers an event that it takes, unless memory runs out.
     fn apply(&mut self, event: Event) -> Result<Reply, OutOfMemory>
@@ -48,8 +46,8 @@ impl Stepping for Session {
         first_wrong::<false>(text)
     }
 
-    fn next_event(alloc: Global, text: &[u8]) -> Result<(Event, &[u8]), OutOfMemory> {
-        next_event::<false>(alloc, text)
+    fn event_of_line(alloc: Global, line: &[u8]) -> Result<Option<Event>, OutOfMemory> {
+        event_of_line::<false>(alloc, line)
     }
 
     fn apply(&mut self, event: Event) -> Result<Reply, OutOfMemory> {
@@ -66,8 +64,8 @@ impl Stepping for ReadySession {
         first_wrong::<true>(text)
     }
 
-    fn next_event(alloc: Global, text: &[u8]) -> Result<(Event, &[u8]), OutOfMemory> {
-        next_event::<true>(alloc, text)
+    fn event_of_line(alloc: Global, line: &[u8]) -> Result<Option<Event>, OutOfMemory> {
+        event_of_line::<true>(alloc, line)
     }
 
     fn apply(&mut self, event: Event) -> Result<Reply, OutOfMemory> {

@@ -1,5 +1,8 @@
 //! Lines, read and written again.
-use crate::{LinesError, first_wrong, next_event, read_events, read_external_events, write_event};
+use crate::{
+    LinesError, event_of_line, first_line, first_wrong, read_events, read_external_events,
+    write_event,
+};
 use ring_core::Event;
 use std::alloc::Global;
 use std::test::Fail;
@@ -22,6 +25,7 @@ const WRONG: &str = "an empty line|
 upper-case hex|feed 0 6A
 odd hex|feed 0 616
 no hex digit|feed 0 6g
+no hex digit behind many|feed 0 000102030405060708090a0b0c0d0e0f101112131415161718191a1b1c1d1e1f2g
 half of the hex is `-`|feed 0 -6
 leading zero|poll 00 7
 leading zero of a further number|poll 0 07
@@ -236,6 +240,7 @@ give file
 give pipe
 give listener
 message 0 5 616263
+feed 0 000102030405060708090a0b0c0d0e0f101112131415161718191a1b1c1d1e1f2021222324fbfcfdfeff
 message 18446744073709551615 18446744073709551615 -
 submit recvmsg 0 v 2 0 2 -
 submit sendmsg 0 - v 1 0 1 78
@@ -321,10 +326,13 @@ fn turns_and_executions_are_no_external_events(rt: HostRuntime) -> Result<(), Fa
 fn lines_are_read_one_by_one(rt: HostRuntime) -> Result<(), Fail> {
     let text: &[u8] = b"end 0\nturn";
     assert_eq!(rt; first_wrong::<true>(text), Some(2));
-    if first_wrong::<false>(text).is_some() || text.is_empty() {
-        return Err(Fail::from("no event"));
+    if text.is_empty() {
+        return Err(Fail::from("no line"));
     }
-    let (event, behind) = next_event::<false>(rt.alloc(), text)?;
+    let (line, behind) = first_line(text);
+    let Some(event) = event_of_line::<false>(rt.alloc(), line)? else {
+        return Err(Fail::from("no event"));
+    };
     let mut out = Vec::new(rt.alloc());
     write_event(&event, &mut out)?;
     assert_eq!(rt; out.as_slice(), b"end 0".as_slice());

@@ -4,30 +4,40 @@ use Rattle.rent_io.proofs.Runs.{rose_later}
 use Rattle.event_text.proofs.TextLinesRead.{right-behind}
 use Rattle.session_run.specs.DriverKind.{replies_on}
 use Rattle.session_run.specs.Top.{WrotePrefix, reply_lines}
-use Rattle.session_run.proofs.Running.{all-sent, all-stand, ran-next, ran-none, ran-short, ran-unwritten, stands-taken}
+use Rattle.session_run.proofs.Running.{all-sent, all-stand, first-read, first-right, ran-next, ran-none, ran-short, ran-unwritten}
+use Rattle.session_run.proofs.Running.{stands-taken}
 use Rattle.session_run.proofs.Writing.{sent-all, sent-some}
 use Rattle.session_run.proofs.output.write_replies.Goals as goal
 
+pub unreachable-requires : goal.unreachable-requires
+unreachable-requires g c =
+    first-right g.M.Stepping.kind _ _ c.first_line.result.0.now _ c.loop-rest.invariant.right c.first_line.ensures.lines
+    c.in-Ok-None.ensures c.in-Ok-None.field-0-is
+
 pub apply-requires : goal.apply-requires
 apply-requires g c =
-    let first = c.in-Ok.ensures.event in stands-taken g.M.Stepping.kind first.line c.in-Ok.event first.stands
-
-pub returns-in_default-clause-why : goal.returns-in_default-clause-why
-returns-in_default-clause-why g c = λ events stand.
-    ran-short g.M.Stepping.stands g.M.Stepping.kind g.K.ByteSink.tells _ _ _ _ _ _ events _ _ (c.loop-rest.invariant.ran events stand)
-    c.loop-rest.invariant.calm
-
-pub returns-in_default-apply-clause-why : goal.returns-in_default-apply-clause-why
-returns-in_default-apply-clause-why g c = λ events stand.
-    ran-short g.M.Stepping.stands g.M.Stepping.kind g.K.ByteSink.tells _ _ _ _ _ _ events _ _ (c.loop-rest.invariant.ran events stand)
-    c.loop-rest.invariant.calm
+    let first = first-read g.M.Stepping.kind _ _ c.first_line.result.0.now _ c.in-Ok-Some.event c.first_line.ensures.lines
+    c.in-Ok-Some.ensures c.in-Ok-Some.field-0-is in
+    stands-taken g.M.Stepping.kind first.line c.in-Ok-Some.event first.stands
 
 pub returns-in-Err-clause-why : goal.returns-in-Err-clause-why
 returns-in-Err-clause-why g c = λ events stand.
-    ran-unwritten g.M.Stepping.stands g.M.Stepping.kind g.K.ByteSink.tells _ _ c.apply.new.self _ c.in-Ok.behind.now
-    c.loop-rest.out.items _ (g.K.ByteSink.taken c.loop-rest.sink) _ events c.in-Ok.event c.in-Ok-apply.reply _
-    (g.K.ByteSink.faults c.loop-rest.sink) _ c.in-Err.why (c.loop-rest.invariant.ran events stand) c.in-Ok.ensures.event
-    c.in-Ok-apply.ensures c.loop-rest.invariant.faults c.loop-rest.invariant.calm c.in-Err.ensures.why
+    ran-short g.M.Stepping.stands g.M.Stepping.kind g.K.ByteSink.tells _ _ _ _ _ _ events _ _ (c.loop-rest.invariant.ran events stand)
+    c.loop-rest.invariant.calm
+
+pub returns-in-Err-apply-clause-why : goal.returns-in-Err-apply-clause-why
+returns-in-Err-apply-clause-why g c = λ events stand.
+    ran-short g.M.Stepping.stands g.M.Stepping.kind g.K.ByteSink.tells _ _ _ _ _ _ events _ _ (c.loop-rest.invariant.ran events stand)
+    c.loop-rest.invariant.calm
+
+pub returns-in-Err-write_next-clause-why : goal.returns-in-Err-write_next-clause-why
+returns-in-Err-write_next-clause-why g c = λ events stand.
+    let first = first-read g.M.Stepping.kind _ _ c.first_line.result.0.now _ c.in-Ok-Some.event c.first_line.ensures.lines
+    c.in-Ok-Some.ensures c.in-Ok-Some.field-0-is in
+    ran-unwritten g.M.Stepping.stands g.M.Stepping.kind g.K.ByteSink.tells _ _ c.apply.new.self _ c.first_line.result.1.now
+    c.loop-rest.out.items _ (g.K.ByteSink.taken c.loop-rest.sink) _ events c.in-Ok-Some.event c.in-Ok.reply _
+    (g.K.ByteSink.faults c.loop-rest.sink) _ c.in-Err-write_next.why (c.loop-rest.invariant.ran events stand) first
+    c.in-Ok.ensures c.loop-rest.invariant.faults c.loop-rest.invariant.calm c.in-Err-write_next.ensures.why
 
 pub loop-rest-init : goal.loop-rest-init
 loop-rest-init g c = record {
@@ -40,15 +50,18 @@ loop-rest-init g c = record {
 }
 
 pub loop-rest-preserved : goal.loop-rest-preserved
-loop-rest-preserved g c = record {
-  right = right-behind _ _ _ c.in-Ok.ensures.event.line c.loop-rest.invariant.right c.in-Ok.ensures.event.split;
-  ran = λ events stand.
-      ran-next g.M.Stepping.stands g.M.Stepping.kind g.K.ByteSink.tells _ _ c.apply.new.self _ c.in-Ok.behind.now
-      c.loop-rest.out.items c.write_next.new.out.items _ (g.K.ByteSink.taken c.loop-rest.sink) _ events c.in-Ok.event c.in-Ok-apply.reply
-      (c.loop-rest.invariant.ran events stand) c.in-Ok.ensures.event c.in-Ok-apply.ensures c.in-Ok-write_next.ensures.ok;
-  faults = (let later = c.in-Ok-write_next.ensures.faults in let before = c.loop-rest.invariant.faults in omega arith);
-  calm = λ told. c.in-Ok-write_next.ensures.calm told ∙ c.loop-rest.invariant.calm told;
-}
+loop-rest-preserved g c =
+    let first = first-read g.M.Stepping.kind _ _ c.first_line.result.0.now _ c.in-Ok-Some.event c.first_line.ensures.lines
+    c.in-Ok-Some.ensures c.in-Ok-Some.field-0-is in
+    record {
+      right = right-behind _ _ _ c.first_line.result.0.now c.loop-rest.invariant.right c.first_line.ensures.lines;
+      ran = λ events stand.
+          ran-next g.M.Stepping.stands g.M.Stepping.kind g.K.ByteSink.tells _ _ c.apply.new.self _ c.first_line.result.1.now
+          c.loop-rest.out.items c.write_next.new.out.items _ (g.K.ByteSink.taken c.loop-rest.sink) _ events c.in-Ok-Some.event
+          c.in-Ok.reply (c.loop-rest.invariant.ran events stand) first c.in-Ok.ensures c.in-Ok-write_next.ensures.ok;
+      faults = (let later = c.in-Ok-write_next.ensures.faults in let before = c.loop-rest.invariant.faults in omega arith);
+      calm = λ told. c.in-Ok-write_next.ensures.calm told ∙ c.loop-rest.invariant.calm told;
+    }
 
 pub returns-in-Ok-write_last-clause-stands : goal.returns-in-Ok-write_last-clause-stands
 returns-in-Ok-write_last-clause-stands g c = λ events stand.

@@ -1,10 +1,13 @@
-use Rattle.std.proofs.Common.{◌≡◌, ◌≤◌, ◌+◌, ◌-◌, ◌*◌, ◌++◌, length, take, vec_len, vec_capacity}
+use Rattle.std.proofs.Common.{◌≡◌, ◌≤◌, ◌+◌, ◌*◌, ◌++◌, length, vec_len, vec_capacity}
 use Rattle.event_text.specs.TextWords.{hex}
 use Rattle.event_text.proofs.word.hex.put_bytes.Given as goal
 
--- The digits of the bytes so far were appended, and there is room for those of the others.
-abbrev pub invariant-loop-byte : goal.invariant-loop-byte
-invariant-loop-byte l = record {
-  written : l.out.items ≡ l.initial.out.items ++ hex (take l.byte-index l.bytes);
-  room : vec_len l.out + (length l.bytes - l.byte-index) * 2 ≤ vec_capacity l.out;
+-- What was appended, then the digits of the bytes that are left, are the digits of all, and there is room for the others.
+abbrev pub invariant-loop-rest : goal.invariant-loop-rest
+invariant-loop-rest l = record {
+  written : l.out.items ++ hex l.rest ≡ l.initial.out.items ++ hex l.bytes;
+  room : vec_len l.out + length l.rest * 2 ≤ vec_capacity l.out;
 }
+
+abbrev pub decreases-loop-rest : goal.decreases-loop-rest
+decreases-loop-rest l = length l.rest

@@ -1,17 +1,15 @@
-use Rattle.std.proofs.Common.{◌≡◌, ◌-◌, ◌%◌, ◌≤◌, ◌*◌, length, drop, vec_len, vec_capacity}
+use Rattle.std.proofs.Common.{◌≡◌, ◌≤◌, ◌+◌, ◌*◌, ◌%◌, length, vec_capacity, vec_len}
 use Rattle.event_text.specs.TextReads.{pairs_of}
 use Rattle.event_text.proofs.TextHex.{onto}
 use Rattle.event_text.proofs.word.hex.read_pairs.Given as goal
 
--- The bytes so far, then those of the digits that are left, are those of all.
-abbrev pub invariant-loop-at : goal.invariant-loop-at
-invariant-loop-at l = record {
-  even : l.at % 2 ≡ 0;
-  within : l.at ≤ length l.word;
-  count : vec_len l.bytes * 2 ≡ l.at;
-  room : length l.word ≤ vec_capacity l.bytes * 2;
-  read : pairs_of l.word ≡ onto l.bytes.items (pairs_of (drop l.at l.word));
+-- The bytes so far, then those of the digits that are left, are those of all, and there is room for the others.
+abbrev pub invariant-loop-rest : goal.invariant-loop-rest
+invariant-loop-rest l = record {
+  even : length l.rest % 2 ≡ 0;
+  read : pairs_of l.word ≡ onto l.bytes.items (pairs_of l.rest);
+  room : vec_len l.bytes * 2 + length l.rest ≤ vec_capacity l.bytes * 2;
 }
 
-abbrev pub decreases-loop-at : goal.decreases-loop-at
-decreases-loop-at l = length l.word - l.at
+abbrev pub decreases-loop-rest : goal.decreases-loop-rest
+decreases-loop-rest l = length l.rest
