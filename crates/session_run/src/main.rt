@@ -1,22 +1,11 @@
-//! Runs the events that it reads on the completion driver or the readiness driver, and writes the replies; or sends wakers to
-//! a driver that parks, or copies what it reads.
+//! The program: the top call over standard input and standard output.
 #![tactic(auto)]
 
-pub mod command;
-pub mod generated;
-mod input;
-mod output;
-pub mod session;
-mod stepping;
-pub mod top;
-mod usage;
-pub mod wake;
-
-pub use event_text::{LinesError, read_events, write_event, write_reply};
 use rent_io::{StdSink, StdSource};
+use session_core::top::top;
+use session_core::usage::{answer, asked_of, end_with, words_of};
+use session_core::{Kept, Status};
 use std::process::ExitCode;
-use top::{Kept, Status, top};
-use usage::{answer, asked_of, end_with, words_of};
 
 fn main(rt: HostRuntime) -> ExitCode {
     let Ok(words) = words_of(&rt) else {

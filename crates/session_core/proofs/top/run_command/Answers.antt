@@ -1,0 +1,11 @@
+use Rattle.session_core.specs.DriverKind.{completion, readiness, KeepsRun, KeepsReady}
+use Rattle.session_core.proofs.Endings.{ends-status}
+use Rattle.session_core.proofs.top.run_command.Goals as goal
+
+pub returns-in-Run-clause-status : goal.returns-in-Run-clause-status
+returns-in-Run-clause-status g c =
+    ends-status completion g.S.ByteSource.tells g.K.ByteSink.tells _ _ _ (KeepsRun c.run_lines.new.kept) _ c.run_lines.ensures.ends
+
+pub returns-in-Ready-clause-status : goal.returns-in-Ready-clause-status
+returns-in-Ready-clause-status g c =
+    ends-status readiness g.S.ByteSource.tells g.K.ByteSink.tells _ _ _ (KeepsReady c.run_ready.new.kept) _ (c.run_ready.ensures.ends 0)

@@ -1,0 +1,141 @@
+//! The words of the command line.
+ghost use Rattle.std.specs.Prelude.{map, codes, string_bytes, ◌∷◌, []};
+ghost use Rattle.session_core.specs.Command.{ReadsCapacity, ReadsCounts, ReadsRounds, ReadsCommand, ReadsUpTo};
+
+use event_text::{count_bytes, read_number};
+
+/// The most entries of `run`'s queue. (not in monoio)
+pub const MOST_ENTRIES: u64 = 4294967295;
+
+/// The greatest seed of `gen`. (not in monoio)
+pub const MOST_SEED: u64 = 2147483647;
+
+/// The most rounds of `gen`. (not in monoio)
+pub const MOST_ROUNDS: u64 = 100000;
+
+/// The most senders of `wake`. (not in monoio)
+pub const MOST_SENDERS: u64 = 64;
+
+/// The most wakers of each sender of `wake`. (not in monoio)
+pub const MOST_COUNT: u64 = 100000;
+
+/// The most bytes of each buffer of `copy`. (not in monoio)
+pub const MOST_CAPACITY: u64 = 16777216;
+
+/// A command of the program. (not in monoio)
+#[derive(Clone, Copy, Debug, PartialEq, Eq)]
+pub enum Command<'a> {
+    /// `run CAP`: runs the events that are read, over a queue of so many entries, at least one.
+    Run(u32),
+    /// `ready`: runs the events that are read on the readiness driver.
+    Ready,
+    /// `gen SEED COUNT`: generates the events of so many rounds from a seed, and runs them.
+    Generate(u32, u32),
+    /// `wake SENDERS COUNT`: so many senders, at most 64, send so many wakers each, at most 100000.
+    Wake(u64, u32),
+    /// `copy CAP PREFIXHEX`: writes the bytes that this word writes, and then the input, by way of buffers of so many bytes, at
+    /// least one.
+    Copy(u32, &'a [u8]),
+}
+
+/// The command that words write; `None` if they write none. Numbers have no sign and no leading zero. (not in monoio)
+pub fn command_of(words: &[String]) -> Option<Command<'_>>
+    ensures { ReadsCommand (map string_bytes words.now) result }
+{
+    match words {
+        [name] => ready_of(name.as_str()),
+        [name, capacity] => run_of(name.as_str(), capacity.as_str()),
+        [name, first, second] => counted_of(name.as_str(), first.as_str(), second.as_str()),
+        _ => None,
+    }
+}
+
+// The command `ready` of one word.
+fn ready_of<'a>(name: &str) -> Option<Command<'a>>
+    ensures { ReadsCommand (name.now ∷ []) result }
+{
+    if name == "ready" {
+        Some(Command::Ready)
+    } else {
+        None
+    }
+}
+
+// The command `run` of two words.
+fn run_of<'a>(name: &str, capacity: &str) -> Option<Command<'a>>
+    ensures { ReadsCommand (name.now ∷ capacity.now ∷ []) result }
+{
+    if name == "run" {
+        capacity_of(capacity.as_bytes())
+    } else {
+        None
+    }
+}
+
+// The command of a capacity: a decimal number from 1 to 4294967295.
+fn capacity_of<'a>(word: &[u8]) -> Option<Command<'a>>
+    ensures { ReadsCapacity word.now result }
+{
+    match read_number(word) {
+        Some(capacity) if 1 <= capacity && capacity <= MOST_ENTRIES => Some(Command::Run(
+            capacity as u32,
+        )),
+        _ => None,
+    }
+}
+
+// The command of three words: `wake` or `gen`, and two numbers, or `copy`, a number and bytes.
+fn counted_of<'a>(name: &str, first: &str, second: &'a str) -> Option<Command<'a>>
+    ensures { ReadsCommand (name.now ∷ first.now ∷ second.now ∷ []) result }
+{
+    if name == "wake" {
+        return wake_of(first.as_bytes(), second.as_bytes());
+    }
+    if name == "gen" {
+        return generate_of(first.as_bytes(), second.as_bytes());
+    }
+    if name == "copy" {
+        return copy_of(first.as_bytes(), second.as_bytes());
+    }
+    None
+}
+
+// The command of how many senders there are, and how many wakers each sends.
+fn wake_of<'a>(senders: &[u8], count: &[u8]) -> Option<Command<'a>>
+    ensures { ReadsCounts senders.now count.now result }
+{
+    let senders = number_up_to(senders, MOST_SENDERS)?;
+    let count = number_up_to(count, MOST_COUNT)?;
+    Some(Command::Wake(senders, count as u32))
+}
+
+// The command of a seed, and how many rounds it generates.
+fn generate_of<'a>(seed: &[u8], rounds: &[u8]) -> Option<Command<'a>>
+    ensures { ReadsRounds seed.now rounds.now result }
+{
+    let seed = number_up_to(seed, MOST_SEED)?;
+    let rounds = number_up_to(rounds, MOST_ROUNDS)?;
+    Some(Command::Generate(seed as u32, rounds as u32))
+}
+
+// The command of a capacity from 1 to 16777216, and the word of a prefix.
+fn copy_of<'a>(capacity: &[u8], prefix: &'a [u8]) -> Option<Command<'a>>
+    ensures { ReadsCommand (codes "copy" ∷ capacity.now ∷ prefix.now ∷ []) result }
+{
+    let capacity = number_up_to(capacity, MOST_CAPACITY)?;
+    if capacity == 0 {
+        return None;
+    }
+    let _ = count_bytes(prefix)?;
+    Some(Command::Copy(capacity as u32, prefix))
+}
+
+// A decimal number that isn't greater than the most.
+fn number_up_to(word: &[u8], most: u64) -> Option<u64>
+    ensures { ReadsUpTo most word.now result }
+{
+    match read_number(word) {
+        Some(number) if number <= most => Some(number),
+        _ => None,
+    }
+}

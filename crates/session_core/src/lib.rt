@@ -1,0 +1,19 @@
+//! Runs of events on the completion driver or the readiness driver, and all that the program does, over any source and sink.
+#![tactic(auto)]
+
+pub mod command;
+pub mod generated;
+mod input;
+mod output;
+pub mod session;
+mod stepping;
+pub mod top;
+pub mod usage;
+pub mod wake;
+
+pub use driver_core::{RunError, Tokens};
+pub use event_text::{LinesError, read_events, write_event, write_reply};
+pub use input::MOST_INPUT;
+pub use session::Session;
+pub use top::{Kept, Status};
+pub use wake::wake_all;

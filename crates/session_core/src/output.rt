@@ -1,0 +1,159 @@
+//! Writing replies and lines to a sink.
+ghost use Rattle.std.specs.Prelude.{◌≡◌, ◌<◌, ◌≤◌, ◌++◌, [], List, IfOk, IfErr, OnOk, IsTrue, decimal};
+ghost use Rattle.std.specs.List.{AllZip};
+ghost use Rattle.ring_core.specs.Ledger.{Ledger};
+ghost use Rattle.ring_core.specs.declared.ledger.Event.{Event};
+ghost use Rattle.event_text.specs.TextLines.{AreEventsFor, lines};
+ghost use Rattle.session_core.specs.DriverKind.{StandsOn, after_on, replies_on};
+ghost use Rattle.event_text.specs.TextReply.{reply_text};
+ghost use Rattle.session_core.specs.Top.{ended, reply_lines};
+ghost use Rattle.session_core.specs.Writes.{Sent, WhyUnwritten, WritesAll};
+
+use crate::stepping::Stepping;
+use event_text::{first_line, write_reply};
+use itoa::Buffer;
+use rent_buf::OutOfMemory;
+use rent_io::{ByteSink, Failed};
+use ring_core::Reply;
+use std::alloc::Global;
+
+// From how many bytes on the text of replies is written.
+const PIECE: usize = 65536;
+
+/// Why not all of a text was written.
+pub(crate) enum Unwritten {
+    /// The sink failed.
+    Fault,
+    /// Memory ran out.
+    OutOfMemory,
+}
+
+/// Runs the events that the lines of a text stand for, each as it is read, writes the text of each reply and a newline as it comes, in
+/// large pieces, and flushes; then it gives the session back.
+pub(crate) fn write_replies<M: Stepping + Drop, K: ByteSink>(
+    alloc: Global,
+    session: M,
+    text: &[u8],
+    sink: &mut K,
+) -> Result<M, Unwritten>
+    requires { AreEventsFor (StandsOn M.kind) (lines text.now) }
+    ensures stands { IfOk result (λ new. (events : List Event) → AllZip (StandsOn M.kind) (lines text.now) events → (L : Ledger) →
+        M.stands session L → M.stands new (after_on M.kind L events)) }
+    ensures ok { OnOk result ((events : List Event) → AllZip (StandsOn M.kind) (lines text.now) events → (L : Ledger) →
+        M.stands session L → IsTrue K.tells → K.taken sink.new ≡ K.taken sink.old ++ reply_lines (replies_on M.kind L events)) }
+    ensures flushed { OnOk result (IsTrue (K.is_flushed sink.new)) }
+    ensures why { IfErr result (λ why. (events : List Event) → AllZip (StandsOn M.kind) (lines text.now) events → (L : Ledger) →
+        M.stands session L → WhyUnwritten K.tells (reply_lines (replies_on M.kind L events)) (K.taken sink.old) (K.taken sink.new)
+        (K.faults sink.old) (K.faults sink.new) why) }
+{
+    let mut running = session;
+    let mut out = Vec::new(alloc);
+    let mut rest = text;
+    while !rest.is_empty() {
+        let (line, behind) = first_line(rest);
+        match M::event_of_line(alloc, line) {
+            Err(_) => return Err(Unwritten::OutOfMemory),
+            Ok(None) => unreachable!(),
+            Ok(Some(event)) => match running.apply(event) {
+                Err(_) => return Err(Unwritten::OutOfMemory),
+                Ok(reply) => match write_next(reply, &mut out, sink) {
+                    Err(why) => return Err(why),
+                    Ok(()) => {}
+                },
+            },
+        }
+        rest = behind;
+    }
+    match write_last(out.as_slice(), sink) {
+        Ok(()) => Ok(running),
+        Err(_) => Err(Unwritten::Fault),
+    }
+}
+
+// Appends the text of a reply and a newline to what waits, and writes that where it is a large piece.
+#[inline(always)]
+fn write_next<K: ByteSink>(reply: Reply, out: &mut Vec<u8>, sink: &mut K) -> Result<(), Unwritten>
+    ensures ok { OnOk result (IsTrue K.tells → Sent (out.old.items ++ ended (reply_text reply)) out.new.items (K.taken sink.old)
+        (K.taken sink.new)) }
+    ensures faults { OnOk result (K.faults sink.old ≤ K.faults sink.new) }
+    ensures calm { OnOk result (IsTrue K.tells → K.faults sink.new ≡ K.faults sink.old) }
+    ensures why { IfErr result (WhyUnwritten K.tells (out.old.items ++ ended (reply_text reply)) (K.taken sink.old) (K.taken sink.new)
+        (K.faults sink.old) (K.faults sink.new)) }
+{
+    match put_line(reply, out) {
+        Ok(()) => {}
+        Err(_) => return Err(Unwritten::OutOfMemory),
+    }
+    if out.len() < PIECE {
+        return Ok(());
+    }
+    match write_all(out.as_slice(), sink) {
+        Ok(()) => {
+            out.clear();
+            Ok(())
+        }
+        Err(_) => Err(Unwritten::Fault),
+    }
+}
+
+// Appends the text of a reply and a newline.
+#[inline(always)]
+fn put_line(reply: Reply, out: &mut Vec<u8>) -> Result<(), OutOfMemory>
+    ensures { OnOk result (out.new.items ≡ out.old.items ++ ended (reply_text reply)) }
+{
+    write_reply(&reply, out)?;
+    out.push(b'\n')?;
+    Ok(())
+}
+
+// A call that may fail is matched, not asked by `?`, where the proof has to name its error.
+
+/// Writes words, a number and a newline, and flushes. It takes no memory.
+pub(crate) fn write_number<K: ByteSink>(
+    words: &[u8],
+    number: u64,
+    sink: &mut K,
+) -> Result<(), Failed>
+    ensures writes { WritesAll K.tells (ended (words.now ++ decimal number)) (K.taken sink.old) (K.taken sink.new) (K.faults sink.old)
+        (K.faults sink.new) result }
+    ensures flushed { OnOk result (IsTrue (K.is_flushed sink.new)) }
+{
+    match write_all(words, sink) {
+        Ok(()) => write_digits(number, sink),
+        Err(failed) => Err(failed),
+    }
+}
+
+// Writes a number and a newline, and flushes.
+fn write_digits<K: ByteSink>(number: u64, sink: &mut K) -> Result<(), Failed>
+    ensures writes { WritesAll K.tells (ended (decimal number)) (K.taken sink.old) (K.taken sink.new) (K.faults sink.old)
+        (K.faults sink.new) result }
+    ensures flushed { OnOk result (IsTrue (K.is_flushed sink.new)) }
+{
+    let mut buffer = Buffer::new();
+    match write_all(buffer.format(number).as_bytes(), sink) {
+        Ok(()) => write_last(b"\n", sink),
+        Err(failed) => Err(failed),
+    }
+}
+
+/// Writes bytes and flushes; at a fault a prefix of them was written.
+pub(crate) fn write_last<K: ByteSink>(bytes: &[u8], sink: &mut K) -> Result<(), Failed>
+    ensures writes { WritesAll K.tells bytes.now (K.taken sink.old) (K.taken sink.new) (K.faults sink.old) (K.faults sink.new) result }
+    ensures flushed { OnOk result (IsTrue (K.is_flushed sink.new)) }
+{
+    write_all(bytes, sink)?;
+    sink.flush()
+}
+
+// Writes all bytes; at a fault a prefix of them was written.
+fn write_all<K: ByteSink>(bytes: &[u8], sink: &mut K) -> Result<(), Failed>
+    ensures { WritesAll K.tells bytes.now (K.taken sink.old) (K.taken sink.new) (K.faults sink.old) (K.faults sink.new) result }
+{
+    let mut rest = bytes;
+    while !rest.is_empty() {
+        let count = sink.write(rest)?;
+        rest = &rest[count..];
+    }
+    Ok(())
+}

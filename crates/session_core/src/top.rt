@@ -1,0 +1,379 @@
+//! The top call: all that the program does, over any source and sink.
+ghost use Rattle.std.specs.Prelude.{◌≡◌, ◌≤◌, ◌<◌, ◌*◌, ◌⊎◌, ◌↔◌, map, string_bytes, List, None, Some, IfOk, IsSome, IsTrue, ℕ};
+ghost use Rattle.std.specs.List.{AllZip};
+ghost use Rattle.ring_core.specs.Ledger.{Ledger};
+ghost use Rattle.ring_core.specs.declared.ledger.Event.{Event};
+ghost use Rattle.ring_core.specs.Run.{ledger};
+ghost use Rattle.session_core.specs.Session.{SessionStands};
+ghost use Rattle.ring_core.specs.Counts.{Rose};
+ghost use Rattle.session_core.specs.Command.{IsRun, IsReady, IsGenerate, IsWake, IsCopy, IsNoCommand, IsWithin, KeepsNothing, ReadsNothing};
+ghost use Rattle.session_core.specs.DriverKind.{StandsOn, completion};
+ghost use Rattle.session_core.specs.Generated.{generated_events};
+ghost use Rattle.session_core.specs.Top.{SumsFor, TookTooMany, WakesFor, exit_number, summary_text};
+ghost use Rattle.event_text.specs.TextLines.{AreEventsFor, lines};
+ghost use Rattle.event_text.specs.TextReads.{bytes_of};
+ghost use Rattle.session_core.specs.Writes.{RefusesFor};
+ghost use Rattle.session_core.specs.Ends.{CommandEnds, CommandRefused, CopiesFor, EventsGive, RanShort, ReadyEnds, RunEnds, RunsGive};
+ghost use Rattle.session_core.specs.Ends.{SinkEnds, StatusFor, reading, writing};
+ghost use Rattle.session_core.specs.Complete.{IsDoneOrShort, NoneRose, TakesInput};
+
+use crate::command::{Command, MOST_SENDERS, command_of};
+use crate::generated::{ENTRIES, generated, run_counted};
+use crate::input::{MOST_INPUT, NoEvents, read_input};
+use crate::output::{Unwritten, write_last, write_number, write_replies};
+use crate::session::Session;
+use crate::stepping::Stepping;
+use crate::wake::wake_all;
+use copy_run::{Ending, copy_all};
+use event_text::read_bytes;
+use ready_run::ReadySession;
+use rent_buf::OutOfMemory;
+use rent_io::{ByteSink, ByteSource};
+use std::alloc::Global;
+use std::marker::Brand;
+use std::rt::Clock;
+use std::sync::Wait;
+use std::sync::ledger::Blank;
+use std::thread::Threads;
+use wake_core::{OpenGate, PUSH_PARTS};
+
+/// How the program ends. (not in monoio)
+#[derive(Clone, Copy, Debug, PartialEq, Eq)]
+pub enum Status {
+    /// All was written and flushed, and the input of a command that reads was read to its end.
+    Done,
+    /// The words are no command's. Nothing was read or written.
+    BadWords,
+    /// The whole input was read, and a line of it is no event's text. Nothing was run, and `line N` was written.
+    BadLine,
+    /// More than 16777216 bytes were read. `run` and `ready` have written nothing, and `copy` only the first of its prefix and its input.
+    TooLong,
+    /// The source failed. `run` and `ready` have written nothing, and `copy` only the first of its prefix and what it read.
+    ReadFault,
+    /// The sink failed. A prefix of the text was written.
+    WriteFault,
+    /// Memory ran out, and nothing that was seen gives another status. A prefix of the text may have been written.
+    OutOfMemory,
+}
+
+impl Status {
+    /// The program's exit status. (not in monoio)
+    pub fn number(self) -> u8
+        ensures { result ≡ exit_number self }
+    {
+        match self {
+            Status::Done => 0,
+            Status::BadWords => 1,
+            Status::BadLine => 2,
+            Status::TooLong => 3,
+            Status::ReadFault => 4,
+            Status::WriteFault => 5,
+            Status::OutOfMemory => 6,
+        }
+    }
+}
+
+/// What a command leaves if its status is Done. (not in monoio)
+pub enum Kept {
+    /// The session after the last event of `run` or `gen`.
+    Run(Session),
+    /// The session after the last event of `ready`.
+    Ready(ReadySession),
+}
+
+impl Drop for Kept {
+    fn drop(self) {
+        match self {
+            Kept::Run(_) | Kept::Ready(_) => {}
+        }
+    }
+}
+
+/// Does what the words say. `run CAP` reads lines, runs their events over a queue of `CAP` entries, and writes the text of
+/// each reply and a newline as it comes. `ready` does so on the readiness driver, where no line may be a turn or an execution.
+/// `gen SEED COUNT` reads nothing: it runs the events that the seed generates over a queue of 8 entries, and writes how many
+/// there are, how many were refused, and how many polls were ready. `wake SENDERS COUNT` reads nothing: each sender sends so
+/// many wakers from a thread of its own, and `drained N` and a newline are written. `copy CAP PREFIXHEX` writes the bytes of
+/// `PREFIXHEX`, and then all that it reads, by way of buffers of `CAP` bytes. The condition is that nothing is kept yet.
+/// (not in monoio)
+pub fn top<R: Threads + Wait + Clock + Sync, S: ByteSource, K: ByteSink>(
+    rt: &R,
+    alloc: Global,
+    words: &[String],
+    source: &mut S,
+    sink: &mut K,
+    kept: &mut Option<Kept>,
+) -> Status
+    requires { kept.old ≡ None }
+    // It is BadWords exactly when the words are no command's, and then nothing is read or written.
+    ensures bad_words { (result ≡ Status.BadWords) ↔ IsNoCommand (map string_bytes words.now) }
+    ensures untouched { result ≡ Status.BadWords → (source.new ≡ source.old) × (sink.new ≡ sink.old) }
+
+    // What each command has read, written and kept, by the status.
+    ensures runs { (capacity : ℕ) → IsRun (map string_bytes words.now) capacity →
+        RunEnds S.tells K.tells capacity (reading S.left S.faults source.old source.new)
+        (writing K.taken K.faults K.is_flushed sink.old sink.new) kept.new result }
+    ensures readies { IsReady (map string_bytes words.now) → (capacity : ℕ) →
+        ReadyEnds S.tells K.tells capacity (reading S.left S.faults source.old source.new)
+        (writing K.taken K.faults K.is_flushed sink.old sink.new) kept.new result }
+    ensures sums { (seed rounds : ℕ) → IsGenerate (map string_bytes words.now) seed rounds →
+        SumsFor K.tells (generated_events seed rounds) (K.taken sink.old) (K.taken sink.new) kept.new result }
+    ensures wakes { (senders count : ℕ) → IsWake (map string_bytes words.now) senders count →
+        WakesFor K.tells (senders * count) (K.taken sink.old) (K.taken sink.new) result }
+    ensures copies { (capacity : ℕ) (prefix : List ℕ) → IsCopy (map string_bytes words.now) capacity prefix →
+        CopiesFor S.tells K.tells prefix (reading S.left S.faults source.old source.new)
+        (writing K.taken K.faults K.is_flushed sink.old sink.new) result }
+
+    // `gen` and `wake` read nothing. Only Done keeps something, and `wake` and `copy` keep nothing.
+    ensures unread_sums { (seed rounds : ℕ) → IsGenerate (map string_bytes words.now) seed rounds → source.new ≡ source.old }
+    ensures unread_wakes { (senders count : ℕ) → IsWake (map string_bytes words.now) senders count → (source.new ≡ source.old) ×
+        (kept.new ≡ None) }
+    ensures unkept_copies { (capacity : ℕ) (prefix : List ℕ) → IsCopy (map string_bytes words.now) capacity prefix → kept.new ≡ None }
+    ensures kept { (result ≡ Status.Done → ⊥) → kept.new ≡ None }
+
+    // Done means that the sink is flushed. Each other status has its cause, whatever the command; `copy` alone writes before all is read.
+    ensures flushed { result ≡ Status.Done → IsTrue (K.is_flushed sink.new) }
+    ensures bad_line { result ≡ Status.BadLine → CommandRefused (map string_bytes words.now) S.tells K.tells (S.left source.old)
+        (S.left source.new) (K.taken sink.old) (K.taken sink.new) }
+    ensures too_long { result ≡ Status.TooLong → IsTrue S.tells → TookTooMany (S.left source.old) (S.left source.new) }
+    ensures read_fault { result ≡ Status.ReadFault → Rose (S.faults source.old) (S.faults source.new) }
+    ensures write_fault { result ≡ Status.WriteFault → Rose (K.faults sink.old) (K.faults sink.new) }
+    ensures unwritten { ((capacity : ℕ) (prefix : List ℕ) → IsCopy (map string_bytes words.now) capacity prefix → ⊥) →
+        (result ≡ Status.TooLong) ⊎ (result ≡ Status.ReadFault) → IsTrue K.tells → K.taken sink.new ≡ K.taken sink.old }
+    ensures memory { result ≡ Status.OutOfMemory →
+        RanShort completion S.tells K.tells (reading S.left S.faults source.old source.new)
+        (writing K.taken K.faults K.is_flushed sink.old sink.new) }
+
+    // A command that takes its input is done, or runs out of memory, where neither count of faults rose.
+    ensures complete { TakesInput S.tells (map string_bytes words.now) (S.left source.old) →
+        NoneRose (reading S.left S.faults source.old source.new) (writing K.taken K.faults K.is_flushed sink.old sink.new) →
+        IsDoneOrShort result }
+{
+    match command_of(words) {
+        Some(command) => run_command(rt, alloc, command, source, sink, kept),
+        None => Status::BadWords,
+    }
+}
+
+// Does what a command asks for.
+fn run_command<R: Threads + Wait + Clock + Sync, S: ByteSource, K: ByteSink>(
+    rt: &R,
+    alloc: Global,
+    command: Command<'_>,
+    source: &mut S,
+    sink: &mut K,
+    kept: &mut Option<Kept>,
+) -> Status
+    requires within { IsWithin command }
+    requires fresh { kept.old ≡ None }
+    ensures ends { CommandEnds S.tells K.tells command.entry (reading S.left S.faults source.old source.new)
+        (writing K.taken K.faults K.is_flushed sink.old sink.new) kept.new result }
+    ensures status { StatusFor S.tells K.tells (reading S.left S.faults source.old source.new)
+        (writing K.taken K.faults K.is_flushed sink.old sink.new) result }
+    ensures kept { (result ≡ Status.Done → ⊥) → kept.new ≡ None }
+    ensures unread { ReadsNothing command.entry → source.new ≡ source.old }
+    ensures unkept { KeepsNothing command.entry → kept.new ≡ None }
+{
+    match command {
+        Command::Run(capacity) => run_lines(alloc, capacity, source, sink, kept),
+        Command::Ready => run_ready(alloc, source, sink, kept),
+        Command::Generate(seed, rounds) => run_generated(alloc, seed, rounds, sink, kept),
+        Command::Wake(senders, count) => run_wake(rt, alloc, senders, count, sink),
+        Command::Copy(capacity, word) => run_copy(rt, alloc, capacity, word, source, sink),
+    }
+}
+
+// Reads all lines, runs their events over a queue of so many entries, and writes the replies.
+fn run_lines<S: ByteSource, K: ByteSink>(
+    alloc: Global,
+    capacity: u32,
+    source: &mut S,
+    sink: &mut K,
+    kept: &mut Option<Kept>,
+) -> Status
+    requires capacity { 0 < capacity }
+    requires fresh { kept.old ≡ None }
+    ensures ends { RunEnds S.tells K.tells capacity (reading S.left S.faults source.old source.new)
+        (writing K.taken K.faults K.is_flushed sink.old sink.new) kept.new result }
+    ensures kept { (result ≡ Status.Done → ⊥) → kept.new ≡ None }
+{
+    let Ok(session) = Session::new(alloc, capacity) else {
+        return Status::OutOfMemory;
+    };
+    match run_session(alloc, session, source, sink) {
+        Ok(session) => {
+            *kept = Some(Kept::Run(session));
+            Status::Done
+        }
+        Err(status) => status,
+    }
+}
+
+// Reads all lines, runs their events on the readiness driver, and writes the replies.
+fn run_ready<S: ByteSource, K: ByteSink>(
+    alloc: Global,
+    source: &mut S,
+    sink: &mut K,
+    kept: &mut Option<Kept>,
+) -> Status
+    requires { kept.old ≡ None }
+    ensures ends { (capacity : ℕ) → ReadyEnds S.tells K.tells capacity (reading S.left S.faults source.old source.new)
+        (writing K.taken K.faults K.is_flushed sink.old sink.new) kept.new result }
+    ensures kept { (result ≡ Status.Done → ⊥) → kept.new ≡ None }
+{
+    match run_session(alloc, ReadySession::new(alloc), source, sink) {
+        Ok(session) => {
+            *kept = Some(Kept::Ready(session));
+            Status::Done
+        }
+        Err(status) => status,
+    }
+}
+
+// Reads all lines, runs their events on a session, writes the replies, and gives the session back.
+fn run_session<M: Stepping + Drop, S: ByteSource, K: ByteSink>(
+    alloc: Global,
+    session: M,
+    source: &mut S,
+    sink: &mut K,
+) -> Result<M, Status>
+    ensures { (L : Ledger) → M.stands session L → EventsGive M.kind S.tells K.tells L (reading S.left S.faults source.old source.new)
+        (writing K.taken K.faults K.is_flushed sink.old sink.new) M.stands result }
+{
+    match read_input::<M, S>(alloc, source) {
+        Ok(text) => run_events(alloc, session, text.as_slice(), sink),
+        Err(why) => Err(refuse(why, sink)),
+    }
+}
+
+// Ends a command that has no events to run; only a wrong line is written.
+fn refuse<K: ByteSink>(why: NoEvents, sink: &mut K) -> Status
+    ensures { RefusesFor K.tells (K.taken sink.old) (K.taken sink.new) (K.faults sink.old) (K.faults sink.new) result why }
+{
+    match why {
+        NoEvents::BadLine(line) => match write_number(b"line ", line, sink) {
+            Ok(()) => Status::BadLine,
+            Err(_) => Status::WriteFault,
+        },
+        NoEvents::TooLong => Status::TooLong,
+        NoEvents::Fault => Status::ReadFault,
+        NoEvents::OutOfMemory => Status::OutOfMemory,
+    }
+}
+
+// Runs the events that the lines of a text stand for on a session, writes the replies, and gives the session back.
+fn run_events<M: Stepping + Drop, K: ByteSink>(
+    alloc: Global,
+    session: M,
+    text: &[u8],
+    sink: &mut K,
+) -> Result<M, Status>
+    requires { AreEventsFor (StandsOn M.kind) (lines text.now) }
+    ensures { (events : List Event) → AllZip (StandsOn M.kind) (lines text.now) events → (L : Ledger) → M.stands session L →
+        RunsGive M.kind K.tells L events (writing K.taken K.faults K.is_flushed sink.old sink.new) M.stands result }
+{
+    match write_replies(alloc, session, text, sink) {
+        Ok(session) => Ok(session),
+        Err(Unwritten::Fault) => Err(Status::WriteFault),
+        Err(Unwritten::OutOfMemory) => Err(Status::OutOfMemory),
+    }
+}
+
+// Runs the events that a seed generates, and writes how many there are, and how many were refused and ready.
+fn run_generated<K: ByteSink>(
+    alloc: Global,
+    seed: u32,
+    rounds: u32,
+    sink: &mut K,
+    kept: &mut Option<Kept>,
+) -> Status
+    requires { kept.old ≡ None }
+    ensures sums { SumsFor K.tells (generated_events seed rounds) (K.taken sink.old) (K.taken sink.new) kept.new result }
+    ensures ends { SinkEnds K.tells (writing K.taken K.faults K.is_flushed sink.old sink.new) result }
+    ensures kept { (result ≡ Status.Done → ⊥) → kept.new ≡ None }
+{
+    let Ok((line, session)) = summary_line(alloc, seed, rounds) else {
+        return Status::OutOfMemory;
+    };
+    match write_last(line.as_slice(), sink) {
+        Ok(()) => {
+            *kept = Some(Kept::Run(session));
+            Status::Done
+        }
+        Err(_) => Status::WriteFault,
+    }
+}
+
+// Runs the events that a seed generates: the line of their summary, and the session after them.
+fn summary_line(alloc: Global, seed: u32, rounds: u32) -> Result<(Vec<u8>, Session), OutOfMemory>
+    ensures line { IfOk result (λ run. run.0.items ≡ summary_text (generated_events seed rounds)) }
+    ensures stands { IfOk result (λ run. SessionStands run.1 (ledger ENTRIES (generated_events seed rounds))) }
+{
+    let (summary, session) = run_counted(alloc, generated(alloc, seed, rounds)?)?;
+    let mut line = Vec::new(alloc);
+    summary.put(&mut line)?;
+    Ok((line, session))
+}
+
+// Sends and drains wakers, and writes how many.
+fn run_wake<R: Threads + Wait + Clock + Sync, K: ByteSink>(
+    rt: &R,
+    alloc: Global,
+    senders: u64,
+    count: u32,
+    sink: &mut K,
+) -> Status
+    requires few { senders ≤ MOST_SENDERS }
+    ensures wakes { WakesFor K.tells (senders * count) (K.taken sink.old) (K.taken sink.new) result }
+    ensures ends { SinkEnds K.tells (writing K.taken K.faults K.is_flushed sink.old sink.new) result }
+{
+    let (pushes, drains) = (Blank::new(PUSH_PARTS), Blank::new(1));
+    let gate = OpenGate;
+    let Ok(settled) = wake_all::<Brand, Brand, OpenGate, R>(
+        rt, alloc, pushes, drains, senders, count, &gate,
+    ) else {
+        return Status::OutOfMemory;
+    };
+    match write_number(b"drained ", settled.drained, sink) {
+        Ok(()) => Status::Done,
+        Err(_) => Status::WriteFault,
+    }
+}
+
+// Copies the prefix that a word writes, and then what is read.
+fn run_copy<R: Wait, S: ByteSource, K: ByteSink>(
+    rt: &R,
+    alloc: Global,
+    capacity: u32,
+    word: &[u8],
+    source: &mut S,
+    sink: &mut K,
+) -> Status
+    requires { IsSome (bytes_of word.now) }
+    ensures { (prefix : List ℕ) → bytes_of word.now ≡ Some prefix → CopiesFor S.tells K.tells prefix
+        (reading S.left S.faults source.old source.new) (writing K.taken K.faults K.is_flushed sink.old sink.new) result }
+{
+    let Ok(Some(prefix)) = read_bytes(alloc, word) else {
+        return Status::OutOfMemory;
+    };
+    match copy_all(
+        rt,
+        alloc,
+        capacity as usize,
+        MOST_INPUT,
+        prefix,
+        source,
+        sink,
+    ) {
+        Ending::Done => Status::Done,
+        Ending::TooLong => Status::TooLong,
+        Ending::ReadFault => Status::ReadFault,
+        Ending::WriteFault => Status::WriteFault,
+        Ending::OutOfMemory => Status::OutOfMemory,
+    }
+}
+
+#[cfg(test)]
+mod failing;
+#[cfg(test)]
+mod tests;

@@ -1,5 +1,0 @@
-use Rattle.session_run.proofs.Replying.{ready-stepped}
-use Rattle.session_run.proofs.stepping.ReadySessionStepping.apply.Goals as goal
-
-pub returns : goal.returns
-returns c = ready-stepped c.args.self.now c.apply.new.self c.args.event c.apply.result c.apply.ensures.answers
