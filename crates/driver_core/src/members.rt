@@ -159,6 +159,3 @@ impl Members {
         self.groups.cancel(c)
     }
 }
-
-#[cfg(test)]
-mod tests;
