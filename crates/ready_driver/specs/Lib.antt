@@ -1,5 +1,6 @@
 pub mod Awaits
 pub mod CallRows
+pub mod Dialing
 pub mod Due
 pub mod HandlesStand
 pub mod Io

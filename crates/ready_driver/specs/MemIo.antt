@@ -1,6 +1,7 @@
 -- Handles in memory as an object whose calls don't wait. Cited by `MemIo`.
-use Rattle.std.specs.Prelude.{ℕ, List, [], length, Option}
+use Rattle.std.specs.Prelude.{ℕ, Bool, List, [], length, Option}
 use Rattle.ring_core.specs.declared.world.HandleState.{HandleState}
+use Rattle.ring_core.specs.Attempt.{is_file_at}
 use Rattle.ready_driver.specs.Io.{IoView}
 use Rattle.ready_driver.specs.Reports.{reports_of}
 
@@ -25,6 +26,10 @@ memory_view memory = record {
   due = memory.due;
   reports = reports_of memory.world memory.keys memory.due;
 }
+
+-- A handle is a file.
+abbrev pub memory_files : Memory → ℕ → Bool
+memory_files memory h = is_file_at memory.world h
 
 -- No handles.
 abbrev pub no_handles : Memory
