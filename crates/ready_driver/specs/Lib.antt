@@ -1,4 +1,5 @@
 pub mod Awaits
+pub mod Calling
 pub mod CallRows
 pub mod Dialing
 pub mod Due

@@ -235,7 +235,7 @@ impl<I: NonBlock, B: IoBufMut + Drop> LegacyDriver<I, B> {
         ensures fails { FailsFor I.view self.old self.new op result }
         ensures slots { PollsSlotFor (ops_in self.old) (ops_in self.new) op result }
         ensures tokens { TokensFor (ops_in self.old) (ops_in self.new) op result }
-        ensures ends { EndsFor I.files I.view I.tells I.memory self.old self.new op task result }
+        ensures ends { EndsFor I.files B.buffer I.called I.view I.tells I.memory self.old self.new op task result }
         ensures given { self.new.given ≡ self.old.given }
         ensures asked { self.new.asked ≡ self.old.asked }
         ensures untreated { self.new.untreated ≡ self.old.untreated }

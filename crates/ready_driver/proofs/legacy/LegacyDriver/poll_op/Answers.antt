@@ -1,4 +1,4 @@
-use Rattle.std.proofs.Common.{◌≡◌, Some, ◌⊎◌, refl, sym, ap, subst, ◌∙◌}
+use Rattle.std.proofs.Common.{◌≡◌, Some, inl, ◌⊎◌, refl, sym, ap, subst, ◌∙◌}
 use Rattle.std.specs.Prelude.{Ok, Err}
 use Rattle.std.specs.FinMap.{get}
 use Rattle.ring_core.specs.Request.{named, listed, plain_request, held_of}
@@ -12,6 +12,7 @@ use Rattle.driver_core.specs.Op.{KeepsTokens, DropsToken}
 use Rattle.driver_core.specs.Slot.{number_at}
 use Rattle.driver_core.proofs.Placing.{in-slots-left}
 use Rattle.ready_driver.specs.Awaits.{slot_awaits, unless, IsWorldUnmet, LeavesFor, PollsUnless, KeysFor, TokensFor}
+use Rattle.ready_driver.specs.Calling.{CallsOnce}
 use Rattle.ready_driver.specs.Errors.{IsCounted, ReturnsFor}
 use Rattle.ready_driver.specs.LegacyState.{LegacyState, Holds}
 use Rattle.ready_driver.specs.LegacyStep.{poll_slot}
@@ -247,6 +248,7 @@ returns-in-Err-clause-ends g c =
         leaves = leaves-refused _ _ c.reserve.new.registry.records c.args.op.number c.args.task _;
       },
       refl,
+      inl (record { object = same.io; request = refl }),
     )
 
 pub returns-in-Ok-Pending-clause-ends : goal.returns-in-Ok-Pending-clause-ends
@@ -267,6 +269,10 @@ returns-in-Ok-Pending-clause-ends g c =
             c.poll_op.new.self.records (Ok x)) c.in-Ok-Pending.field-0-is c.in-Ok-Pending.ensures.leaves);
       },
       refl,
+      subst (λ io. CallsOnce g.B.IoBufMut.buffer g.I.Calls.called slot io (get c.poll_op.new.ops.slots.values c.args.op.key)
+          c.poll_op.new.self.io (Ok (Pending c.in-Ok-Pending.op))) same.io
+          (subst (λ x. CallsOnce g.B.IoBufMut.buffer g.I.Calls.called slot room.io (get c.poll_op.new.ops.slots.values c.args.op.key)
+          c.poll_op.new.self.io (Ok x)) c.in-Ok-Pending.field-0-is c.in-Ok-Pending.ensures.calls),
     )
 
 pub returns-in-Err-poll_op-clause-ends : goal.returns-in-Err-poll_op-clause-ends
@@ -282,6 +288,9 @@ returns-in-Err-poll_op-clause-ends g c =
             c.in-Err-poll_op.ensures.leaves;
       },
       refl,
+      subst (λ io. CallsOnce g.B.IoBufMut.buffer g.I.Calls.called (get c.self.inside.ops.slots.values c.args.op.key) io
+          (get c.poll_op.new.ops.slots.values c.args.op.key) c.poll_op.new.self.io (Err c.in-Err-poll_op.refused)) same.io
+          c.in-Err-poll_op.ensures.calls,
     )
 
 pub returns-in-Ok-Ready-clause-ends : goal.returns-in-Ok-Ready-clause-ends
@@ -312,6 +321,13 @@ returns-in-Ok-Ready-clause-ends g c =
     rw (← c.self.view_is) (record {
       mid = c.poll_op.new.self;
       call = done.outcome;
+      calls = subst (λ r. CallsOnce g.B.IoBufMut.buffer g.I.Calls.called slot d.handling.io
+          (get c.poll_op.new.ops.slots.values op.key) c.poll_op.new.self.io
+          (Ok (Ready (record { outcome = done.outcome; request = r })))) (sym c.hand_over-done.ensures.request)
+          (subst (λ io. CallsOnce g.B.IoBufMut.buffer g.I.Calls.called slot io (get c.poll_op.new.ops.slots.values op.key)
+          c.poll_op.new.self.io (Ok (Ready done))) same.io
+          (subst (λ x. CallsOnce g.B.IoBufMut.buffer g.I.Calls.called slot room.io (get c.poll_op.new.ops.slots.values op.key)
+          c.poll_op.new.self.io (Ok x)) c.in-Ok-Ready.field-0-is c.in-Ok-Ready.ensures.calls));
       polls = record {
         table = ap (λ t. t.holders) c.poll_op.ensures.table ∙ same.table;
         records = room.records;
