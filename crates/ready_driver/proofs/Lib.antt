@@ -44,3 +44,4 @@ pub mod Bearing
 pub mod Showing
 pub mod Exact
 pub mod Errors
+pub mod Dialing

@@ -21,11 +21,13 @@ use Rattle.driver_core.specs.declared.operations.calls.CallAnswer.{CallAnswer}
 use Rattle.driver_core.specs.declared.slot.Slot.{Slot}
 use Rattle.driver_core.specs.Calls.{CallsSlot}
 use Rattle.driver_core.specs.Holds.{named_in, made_in, made_life, is_maker}
-use Rattle.driver_core.specs.Slot.{number_at, is_flying, with_life, PollsAt}
+use Rattle.driver_core.specs.Slot.{number_at, is_flying, flies_in, with_life, PollsAt}
 use Rattle.driver_core.proofs.Counted.{flying-made}
 use Rattle.driver_core.proofs.Lists.{some}
 use Rattle.driver_core.proofs.Maps.{put-same, put-other, gone-same, gone-other, remove-put}
 use Rattle.driver_core.proofs.Numbers.{Owner, owner}
+use Rattle.driver_core.specs.declared.operations.calls.CallAnswer.TheVariants as calling
+use Rattle.ready_driver.specs.Calling.{request_in, MakesCall, CallsInSlot}
 use Rattle.ready_driver.specs.Io.{CountsFor, EndsFor}
 use Rattle.ready_driver.specs.Named.{IsCompleted, KeepsSlot, ReturnsSlot, canceled_if, canceled_in, canceled_slots}
 use Rattle.ready_driver.specs.Polling.{EndsSlot}
@@ -86,6 +88,11 @@ module _ {B : Type 0} (old : FinMap nat_cmp (Slot B)) (key number : ℕ) (holds 
       IsCompleted (get old key) done.outcome
   ready-outcome task new done polls =
       subst (λ s. IsCompleted s done.outcome) (sym mine.there) (polls mine.slot mine.there).0
+
+  -- Its request is returned, and no call was made.
+  pub ready-request : (task : ℕ) (new : FinMap nat_cmp (Slot B)) (done : Done B) → PollsAt old key task new (Some done) →
+      request_in (get old key) ≡ Some done.request
+  ready-request task new done polls = ap request_in mine.there ∙ ap Some (sym (polls mine.slot mine.there).1)
 
   -- A poll that waits, and the call behind it.
   module _ {C : Type 0} (buffer : B → Buffer) (called : C → Request Buffer Parts → C → Request Buffer Parts → CallAnswer → Type 0)
@@ -159,6 +166,31 @@ module _ {B : Type 0} (old : FinMap nat_cmp (Slot B)) (key number : ℕ) (holds 
               ∙ ends-makes (plain_request buffer calls.slot.request) (plain_request buffer calls.now.request) outcome h is
               (ap made_by (sym e.0) ∙ made);
         }
+
+    -- The call was made on the request of the slot.
+    pub makes-call : (now : Request B Parts) → now ≡ calls.now.request → MakesCall buffer called (get old key) before after answer now
+    makes-call now is = record {
+      request = mine.slot.request;
+      asked = ap request_in mine.there;
+      flies = ap flies_in mine.there ∙ (polls mine.slot mine.there).0;
+      calls = subst (λ r. called before (plain_request buffer r) after (plain_request buffer now) answer) asked-request
+          (subst (λ r. called before (plain_request buffer calls.slot.request) after (plain_request buffer r) answer) (sym is) calls.calls);
+    }
+
+    -- The request stays in its slot.
+    pub calls-in-slot : CallsInSlot buffer called (get old key) (get new key) before after answer
+    calls-in-slot = record {
+      now = calls.now.request;
+      stays = ap request_in called-here;
+      made = makes-call calls.now.request refl;
+    }
+
+    -- The call ended, and its operation is returned with its outcome.
+    pub calls-ended : (outcome : Outcome) (done : Done B) (behind : FinMap nat_cmp (Slot B)) → answer ≡ calling.Done outcome →
+        EndsSlot new key outcome behind done → MakesCall buffer called (get old key) before after (calling.Done done.outcome) done.request
+    calls-ended outcome done behind is ends =
+        let e = ends calls.now called-here in
+        subst (λ a. MakesCall buffer called (get old key) before after a done.request) (is ∙ ap calling.Done (sym e.0)) (makes-call done.request e.1)
 
     -- Its outcome is how the call ended.
     pub made-outcome : (outcome : Outcome) (done : Done B) (behind : FinMap nat_cmp (Slot B)) → EndsSlot new key outcome behind done →

@@ -1,7 +1,7 @@
 -- What a table of holders and records keep true: just the handles that somebody holds have records, through each change of both.
 use Rattle.std.proofs.Common.{◌≡◌, ◌∙◌, inl, inr, ℕ, ◌+◌, ◌<◌, Bool, true, false, Option, Some, None, option_map, refl, sym}
 use Rattle.std.proofs.Common.{ap, subst, arith}
-use Rattle.std.specs.Prelude.{is_some, unwrap_or, nat_lt, Result, Ok, Err}
+use Rattle.std.specs.Prelude.{is_some, unwrap_or, nat_lt, Result, Ok, Err, IfSome}
 use Rattle.std.proofs.lemmas.Bool.Decides.{nat_tests}
 use Rattle.std.specs.Ordering.{nat_cmp}
 use Rattle.std.specs.FinMap.{FinMap, get, empty, insert, remove, get-empty}
@@ -16,9 +16,12 @@ use Rattle.driver_core.specs.declared.op.PollOp.{PollOp}
 use Rattle.driver_core.specs.declared.op.PollOp.TheVariants.{Pending, Ready}
 use Rattle.ready_driver.specs.declared.records.Record.{Record}
 use Rattle.ready_driver.specs.declared.scheduled_io.Waiter.{Waiter}
-use Rattle.ready_driver.specs.Awaits.{LeavesIf}
-use Rattle.ready_driver.specs.Records.{Kept, record_at, is_registered, with_record, without_record, changed, changed_if, with_registered}
-use Rattle.ready_driver.specs.Registry.{is_known, is_users, AreRecorded}
+use Rattle.ready_driver.specs.declared.ready.Direction.{Direction}
+use Rattle.ready_driver.specs.Awaits.{LeavesIf, LeavesFor}
+use Rattle.ready_driver.specs.Ready.{meets, mask_of}
+use Rattle.ready_driver.specs.ScheduledIo.{entry_of}
+use Rattle.ready_driver.specs.Records.{Kept, io_at, record_at, is_registered, with_record, without_record, changed, changed_if, with_registered}
+use Rattle.ready_driver.specs.Registry.{Handling, HasMadeRoom, is_known, is_users, AreRecorded}
 use Rattle.ready_driver.proofs.Recorded.{put-twice, there-changed}
 
 -- Two maps have the same keys, after each got one more, or wrote one that it had.
@@ -170,3 +173,60 @@ recorded-left table true old h entry new (Err error) all left = elim left [
   | inl same ↦ subst (AreRecorded table) (sym same) all
   | inr cleared ↦ subst (AreRecorded table) (sym cleared) (recorded-changed table old all h _)
 ]
+
+-- So it is, whatever the poll's operation waits for.
+pub recorded-leaves : {B : Type 0} (table : Table) (awaited : Option (ℕ × Direction)) (old : Kept) (serial task : ℕ) (new : Kept)
+    (result : Result (PollOp B) (OutOfMemory × Op)) → AreRecorded table old → LeavesFor awaited old serial task new result →
+    AreRecorded table new
+recorded-leaves table None old serial task new result all left = subst (AreRecorded table) (sym left) all
+recorded-leaves table (Some (h, dir)) old serial task new result all left =
+    recorded-left table (meets (io_at old h).ready (mask_of dir)) old h (entry_of serial task dir) new result all left
+
+-- A poll that memory ran out for before it looked at the bits leaves the records as they were.
+pub leaves-refused : (B : Type 0) (awaited : Option (ℕ × Direction)) (records : Kept) (serial task : ℕ) (error : OutOfMemory × Op) →
+    LeavesFor {B = B} awaited records serial task records (Err error)
+leaves-refused B None records serial task error = refl
+leaves-refused B (Some (h, dir)) records serial task error = by (meets (io_at records h).ready (mask_of dir))
+  where
+    by : (met : Bool) → LeavesIf {B = B} met records h (entry_of serial task dir) records (Err error)
+    by true = inl refl
+    by false = refl
+
+-- A record that changes takes none of the memory that is reserved for one.
+spare-changed : (kept : Kept) (h : ℕ) (change : Record → Record) → (changed kept h change).spare ≡ kept.spare
+spare-changed kept h change = by (record_at kept h)
+  where
+    by : (one : Option Record) → (changed_if one kept h change).spare ≡ kept.spare
+    by None = refl
+    by (Some one) = refl
+
+-- Nor does a poll.
+pub leaves-spare : {B : Type 0} (awaited : Option (ℕ × Direction)) (old : Kept) (serial task : ℕ) (new : Kept)
+    (result : Result (PollOp B) (OutOfMemory × Op)) → LeavesFor awaited old serial task new result → new.spare ≡ old.spare
+leaves-spare None old serial task new result left = ap (λ k. k.spare) left
+leaves-spare (Some (h, dir)) old serial task new result left =
+    by (meets (io_at old h).ready (mask_of dir)) result left
+  where
+    same : (change : Record → Record) → new ≡ changed old h change → new.spare ≡ old.spare
+    same change is = ap (λ k. k.spare) is ∙ spare-changed old h change
+
+    by : {B : Type 0} (met : Bool) (result : Result (PollOp B) (OutOfMemory × Op)) →
+        LeavesIf met old h (entry_of serial task dir) new result → new.spare ≡ old.spare
+    by false (Ok (Pending back)) left = same _ left
+    by false (Ok (Ready done)) left = absurd left
+    by false (Err error) left = ap (λ k. k.spare) left
+    by true (Ok (Pending back)) left = same _ left
+    by true (Ok (Ready done)) left = same _ left
+    by true (Err error) left = elim left [
+      | inl is ↦ ap (λ k. k.spare) is
+      | inr is ↦ same _ is
+    ]
+
+-- A handle that a call made has the memory that was taken for one.
+pub made-room : {I : Type 0} (made : Option ℕ) (maker : Bool) (old new : Handling I) → (maker ≡ true → HasMadeRoom old) →
+    ((h : ℕ) → made ≡ Some h → maker ≡ true) → new.table ≡ old.table → new.records.spare ≡ old.records.spare →
+    IfSome made (λ h. HasMadeRoom new)
+made-room None maker old new room makes table spare = tt
+made-room (Some h) maker old new room makes table spare =
+    let had = room (makes h refl) in
+    record { handle = subst (λ t. 0 < t.spare) (sym table) had.handle; one = subst (λ n. 0 < n) (sym spare) had.one }

@@ -37,7 +37,7 @@ module _ (tells memory : Bool) where
 
   -- A fault behind other calls is one of all of them.
   pub fault-behind : (a b c : IoView) (why : NonBlockError) → IsLater a b → FaultsFor memory b c why → FaultsFor memory a c why
-  fault-behind a b c Fault x y = (omega (arith, x.faults, y.0), y.1)
+  fault-behind a b c (Fault code) x y = (omega (arith, x.faults, y.0), y.1)
   fault-behind a b c OutOfMemory x y = tt
 
 module _ {I : Type 0} (view : I → IoView) (tells memory : Bool) where

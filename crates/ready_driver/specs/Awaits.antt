@@ -71,10 +71,14 @@ pub record IsUnmetAt (kept : Kept) (awaited : Option (ℕ × Direction)) : Type 
 abbrev pub IsSlotUnmet : {B : Type 0} → Kept → Option (Slot B) → Type 0
 IsSlotUnmet kept slot = IsUnmetAt kept (slot_awaits slot)
 
--- What an operation waits for, where the handle isn't a file of a world.
+-- What an operation waits for, where the handle isn't a file.
+abbrev pub unless : (ℕ → Bool) → Option (ℕ × Direction) → Option (ℕ × Direction)
+unless is_file None = None
+unless is_file (Some (h, dir)) = if is_file h then None else Some (h, dir)
+
+-- The same, where the handle isn't a file of a world.
 abbrev pub unless_file : List HandleState → Option (ℕ × Direction) → Option (ℕ × Direction)
-unless_file world None = None
-unless_file world (Some (h, dir)) = if is_file_at world h then None else Some (h, dir)
+unless_file world awaited = unless (is_file_at world) awaited
 
 -- The same over a world in memory, where an operation on a file waits for nothing.
 abbrev pub IsWorldUnmet : {B : Type 0} → Kept → List HandleState → Option (Slot B) → Type 0
@@ -121,14 +125,6 @@ LeavesIf true old h entry new (Err error) = (new ≡ old) ⊎ (new ≡ changed o
 
 abbrev pub Leaves : {B : Type 0} → Kept → ℕ → Waiter → Kept → Result (PollOp B) (OutOfMemory × Op) → Type 0
 Leaves old h entry new result = LeavesIf (meets (io_at old h).ready (mask_of entry.direction)) old h entry new result
-
--- An operation was polled by the bits of the handle that it waits for.
-pub record LeavesByBits {B : Type 0} (slot : Option (Slot B)) (old : Kept) (serial task : ℕ) (new : Kept)
-    (result : Result (PollOp B) (OutOfMemory × Op)) : Type 0 where
-  pub handle : ℕ
-  pub direction : Direction
-  pub awaited : slot_awaits slot ≡ Some (handle, direction)
-  pub leaves : Leaves old handle (entry_of serial task direction) new result
 
 -- What a poll leaves of the records, by what its operation waits for: nothing changes where that is nothing.
 abbrev pub LeavesFor : {B : Type 0} → Option (ℕ × Direction) → Kept → ℕ → ℕ → Kept → Result (PollOp B) (OutOfMemory × Op) → Type 0

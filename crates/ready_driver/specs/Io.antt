@@ -165,7 +165,7 @@ pub record IsWaited (tells memory : Bool) (old new : IoView) : Type 0 where
 
 -- Why a call failed: `Fault` comes only where its count rose, and never of a world in memory.
 abbrev pub FaultsFor : Bool → IoView → IoView → NonBlockError → Type 0
-FaultsFor memory old new Fault = Rose old.faults new.faults × (IsTrue memory → ⊥)
+FaultsFor memory old new (Fault code) = Rose old.faults new.faults × (IsTrue memory → ⊥)
 FaultsFor memory old new NoMemory = Unit {0}
 
 -- What registering a handle, or taking that back, answers and leaves. A world in memory always does it, and a handle that it registered is

@@ -1,6 +1,7 @@
 -- What a poll of a readiness driver leaves of handles and groups, over every object. Cited by `LegacyDriver`.
-use Rattle.std.specs.Prelude.{ℕ, ◌≡◌, ◌⊎◌, Bool, true, false, Option, None, Some, Result, Ok, Err}
+use Rattle.std.specs.Prelude.{ℕ, ◌≡◌, Bool, true, false, Option, None, Some, Result, Ok, Err}
 use Rattle.std.specs.FinMap as map
+use Rattle.rent_buf.specs.Buffer.{Buffer}
 use Rattle.rent_buf.specs.declared.fault.OutOfMemory.{OutOfMemory as NoMemory}
 use Rattle.handle_core.specs.Table.{Table}
 use Rattle.ring_core.specs.declared.request.Outcome.{Outcome}
@@ -15,7 +16,8 @@ use Rattle.driver_core.specs.declared.op.PollOp.TheVariants.{Pending, Ready}
 use Rattle.driver_core.specs.declared.slot.Slot.{Slot}
 use Rattle.driver_core.specs.Holds.{without_ops, unheld_by}
 use Rattle.driver_core.specs.Members.{leaves}
-use Rattle.ready_driver.specs.Awaits.{LeavesByBits}
+use Rattle.ready_driver.specs.Awaits.{slot_awaits, unless, LeavesFor}
+use Rattle.ready_driver.specs.Calling.{Called, CallsOnce}
 use Rattle.ready_driver.specs.Io.{IoView}
 use Rattle.ready_driver.specs.LegacyState.{LegacyState}
 use Rattle.ready_driver.specs.Records.{Kept}
@@ -38,20 +40,23 @@ outcome_by table outcome (Some h) = outcome_if (is_old table h) outcome
 abbrev pub outcome_for : Table → Outcome → Outcome
 outcome_for table outcome = outcome_by table outcome (made_by outcome)
 
--- What a poll itself left of the handles, but for memory: their holders, and the bits and the waiting entries.
-pub record PollsHandling {I B : Type 0} (old mid : Handling I) (slot : Option (Slot B)) (number task : ℕ)
+-- What a poll itself left of the handles, but for memory: their holders, and the bits and the waiting entries. One that is pending and waits
+-- for a direction of a handle that is no file is, with its task, in that handle's waiting list.
+pub record PollsHandling {I B : Type 0} (files : I → ℕ → Bool) (old mid : Handling I) (slot : Option (Slot B)) (number task : ℕ)
     (result : Result (PollOp B) (NoMemory × Token)) : Type 0 where
   pub table : mid.table.holders ≡ old.table.holders
   pub records : Kept
   pub room : records.handles ≡ old.records.handles
-  pub leaves : (mid.records ≡ records) ⊎ LeavesByBits slot records number task mid.records result
+  pub leaves : LeavesFor (unless (files old.io) (slot_awaits slot)) records number task mid.records result
 
--- An operation was returned: what it made is its user's, it holds its handles no more, and it is no member of its group.
-pub record EndsOp {I B : Type 0} (view : I → IoView) (tells memory : Bool) (old new : LegacyState I B) (op : Token) (task : ℕ)
+-- An operation was returned, by a call that ended so or without one: what it made is its user's, it holds its handles no more, and it is no member of its group.
+pub record EndsOp {I B : Type 0} (files : I → ℕ → Bool) (buffer : B → Buffer) (called : Called I) (view : I → IoView) (tells memory : Bool) (old new : LegacyState I B) (op : Token) (task : ℕ)
     (done : Done B) : Type 0 where
   pub mid : Handling I
   pub call : Outcome
-  pub polls : PollsHandling old.handling mid (map.get old.slots.values op.key) op.number task
+  pub calls : CallsOnce buffer called (map.get old.slots.values op.key) old.handling.io (map.get new.slots.values op.key) mid.io
+      (Ok (Ready (record done { outcome = call })))
+  pub polls : PollsHandling files old.handling mid (map.get old.slots.values op.key) op.number task
       (Ok (Ready (record done { outcome = call })))
   pub outcome : done.outcome ≡ outcome_for mid.table call
   pub handed : Handling I
@@ -60,13 +65,17 @@ pub record EndsOp {I B : Type 0} (view : I → IoView) (tells memory : Bool) (ol
       (unheld_by handed.table (named done.request)) new.handling
   pub members : new.members ≡ leaves old.members op.number
 
--- What a poll leaves of the handles and the groups. Only one that is ready lets handles go.
-abbrev pub EndsFor : {I B : Type 0} → (I → IoView) → Bool → Bool → LegacyState I B → LegacyState I B → Token → ℕ →
+-- What a poll leaves of the handles and the groups, and which call it made: one at most. Only one that is ready lets handles go.
+abbrev pub EndsFor : {I B : Type 0} → (I → ℕ → Bool) → (B → Buffer) → Called I → (I → IoView) → Bool → Bool → LegacyState I B → LegacyState I B → Token → ℕ →
     Result (PollOp B) (NoMemory × Token) → Type 0
-EndsFor view tells memory old new op task (Ok (Pending back)) =
-    PollsHandling old.handling new.handling (map.get old.slots.values op.key) op.number task (Ok (Pending back))
+EndsFor files buffer called view tells memory old new op task (Ok (Pending back)) =
+    PollsHandling files old.handling new.handling (map.get old.slots.values op.key) op.number task (Ok (Pending back))
     × (new.members ≡ old.members)
-EndsFor view tells memory old new op task (Ok (Ready done)) = EndsOp view tells memory old new op task done
-EndsFor view tells memory old new op task (Err error) =
-    PollsHandling old.handling new.handling (map.get old.slots.values op.key) op.number task (Err error)
+    × CallsOnce buffer called (map.get old.slots.values op.key) old.handling.io (map.get new.slots.values op.key) new.handling.io
+    (Ok (Pending back))
+EndsFor files buffer called view tells memory old new op task (Ok (Ready done)) = EndsOp files buffer called view tells memory old new op task done
+EndsFor files buffer called view tells memory old new op task (Err error) =
+    PollsHandling files old.handling new.handling (map.get old.slots.values op.key) op.number task (Err error)
     × (new.members ≡ old.members)
+    × CallsOnce buffer called (map.get old.slots.values op.key) old.handling.io (map.get new.slots.values op.key) new.handling.io
+    (Err error)

@@ -1,5 +1,7 @@
 pub mod Awaits
+pub mod Calling
 pub mod CallRows
+pub mod Dialing
 pub mod Due
 pub mod HandlesStand
 pub mod Io

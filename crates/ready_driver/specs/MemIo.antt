@@ -1,7 +1,9 @@
 -- Handles in memory as an object whose calls don't wait. Cited by `MemIo`.
-use Rattle.std.specs.Prelude.{ℕ, List, [], length, Option}
+use Rattle.std.specs.Prelude.{ℕ, Bool, true, List, [], length, Option}
 use Rattle.ring_core.specs.declared.world.HandleState.{HandleState}
-use Rattle.ready_driver.specs.Io.{IoView}
+use Rattle.ring_core.specs.Attempt.{is_file_at}
+use Rattle.ready_driver.specs.Calling.{Called}
+use Rattle.ready_driver.specs.Io.{IoView, CallsFor}
 use Rattle.ready_driver.specs.Reports.{reports_of}
 
 -- Handles in memory; by handle, the key with which it is registered, if it is; which handles are due, in the order in which they became so;
@@ -25,6 +27,14 @@ memory_view memory = record {
   due = memory.due;
   reports = reports_of memory.world memory.keys memory.due;
 }
+
+-- A handle is a file.
+abbrev pub memory_files : Memory → ℕ → Bool
+memory_files memory h = is_file_at memory.world h
+
+-- What its calls do.
+abbrev pub memory_called : Called Memory
+memory_called old request new now answer = CallsFor true true (memory_view old) request (memory_view new) now answer
 
 -- No handles.
 abbrev pub no_handles : Memory

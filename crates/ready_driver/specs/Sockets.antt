@@ -3,7 +3,7 @@ use Rattle.std.specs.Prelude.{ℕ, suc, ◌≡◌, Bool, IsTrue, [], ◌∷◌, 
 use Rattle.ring_core.specs.declared.world.HandleKind.{HandleKind}
 use Rattle.ring_core.specs.World.{fresh}
 use Rattle.ready_driver.specs.declared.non_block.NonBlockError.{NonBlockError}
-use Rattle.ready_driver.specs.Io.{IoView, IsLater, IsStill, FaultsFor}
+use Rattle.ready_driver.specs.Io.{IoView, IsLater, IsStill, KeepsShown, FaultsFor}
 
 -- A handle of a kind was made: its number is how many there were, and nothing else moved. It isn't registered.
 pub record IsGiven (tells memory : Bool) (kind : HandleKind) (old new : IoView) (h : ℕ) : Type 0 where
@@ -12,6 +12,7 @@ pub record IsGiven (tells memory : Bool) (kind : HandleKind) (old new : IoView) 
   pub made : new.made ≡ suc old.made
   pub world : IsTrue tells → new.world ≡ old.world ++ fresh kind ∷ []
   pub keys : IsTrue memory → new.keys ≡ old.keys ++ None ∷ []
+  pub shown : IsTrue memory → KeepsShown old new
 
 -- What listening, or dialling, answers and leaves. An error leaves all as it was.
 abbrev pub GivesFor : Bool → Bool → HandleKind → IoView → IoView → Result ℕ NonBlockError → Type 0

@@ -12,6 +12,7 @@ ghost use Rattle.driver_core.specs.Answers.{IsUnder};
 ghost use Rattle.driver_core.specs.Groups.{is_under_canceled, joins_if, AreInSlots};
 ghost use Rattle.driver_core.specs.Holds.{named_in, without_ops, unheld_by};
 ghost use Rattle.driver_core.specs.Members.{none, leaves};
+ghost use Rattle.driver_core.specs.declared.op.Op.{Op as Token};
 ghost use Rattle.driver_core.specs.Op.{number_of, key_of, KeepsTokens as KeepsTokensIn};
 ghost use Rattle.driver_core.specs.Requests.{KeepsRequests as KeepsRequestsIn};
 ghost use Rattle.driver_core.specs.Slot.{number_at};
@@ -43,6 +44,7 @@ use ring_core::{INVALID, Names, Outcome, Request};
 use std::alloc::Global;
 use std::marker::Model;
 
+mod dialing;
 mod groups;
 mod handles;
 mod memory;
@@ -148,9 +150,10 @@ impl<I: NonBlock, B: IoBufMut + Drop> LegacyDriver<I, B> {
         self.ops.len()
     }
 
-    /// How many operations were submitted, which is the number of the next one. (not in monoio)
+    /// How many operations were submitted, which is the number of the next one: each operation has a lower number. (not in monoio)
     pub fn given(&self) -> u64
-        ensures { result ≡ self.now.given }
+        ensures value { result ≡ self.now.given }
+        ensures numbers { (op : Token) → Holds self.now op → number_of op < self.now.given }
     {
         self.ops.given()
     }
@@ -232,7 +235,7 @@ impl<I: NonBlock, B: IoBufMut + Drop> LegacyDriver<I, B> {
         ensures fails { FailsFor I.view self.old self.new op result }
         ensures slots { PollsSlotFor (ops_in self.old) (ops_in self.new) op result }
         ensures tokens { TokensFor (ops_in self.old) (ops_in self.new) op result }
-        ensures ends { EndsFor I.view I.tells I.memory self.old self.new op task result }
+        ensures ends { EndsFor I.files B.buffer I.called I.view I.tells I.memory self.old self.new op task result }
         ensures given { self.new.given ≡ self.old.given }
         ensures asked { self.new.asked ≡ self.old.asked }
         ensures untreated { self.new.untreated ≡ self.old.untreated }
@@ -353,7 +356,7 @@ fn prepare<I: NonBlock, B: Drop>(
     }
     match registry.make_ready(names) {
         Ok(()) => {}
-        Err(NonBlockError::Fault) => return Err(SubmitFault::RingFault),
+        Err(NonBlockError::Fault(_)) => return Err(SubmitFault::RingFault),
         Err(NonBlockError::OutOfMemory) => return Err(SubmitFault::OutOfMemory),
     }
     match enroll(members, under, number) {

@@ -5,7 +5,7 @@ ghost use Rattle.rent_buf.specs.Counts.{Rose};
 ghost use Rattle.ring_core.specs.Attempt.{is_readable_at};
 ghost use Rattle.ring_core.specs.World.{fresh, look_at, WorldFeeds, WorldFeedsMessage, WorldEnds};
 ghost use Rattle.ready_driver.specs.Io.{CallsFor, FailRose, KeepsShown};
-ghost use Rattle.ready_driver.specs.MemIo.{memory_view, no_handles};
+ghost use Rattle.ready_driver.specs.MemIo.{memory_called, memory_files, memory_view, no_handles};
 ghost use Rattle.ready_driver.specs.Reports.{bits_of, report_of, reports_of, with_key, with_made_key};
 ghost use Rattle.std.specs.Vec.{vec_len, vec_capacity};
 
@@ -252,7 +252,7 @@ fn set_key(keys: &mut Vec<Option<usize>>, h: usize, key: Option<usize>)
 }
 
 impl Calls for MemIo {
-    ghost called = { λ old request new now answer. CallsFor true true (memory_view old) request (memory_view new) now answer };
+    ghost called = { memory_called };
 
     /// Makes the call of a request, where it doesn't block (`World::call`). A handle that it makes isn't registered. Unless memory ran out,
     /// each handle that the request names is due.
@@ -280,6 +280,8 @@ impl Calls for MemIo {
 
 impl NonBlock for MemIo {
     ghost view = { memory_view };
+
+    ghost files = { memory_files };
 
     ghost tells = { true };
 

@@ -1,5 +1,5 @@
 //! What a readiness driver asks of the object that makes its calls.
-ghost use Rattle.std.specs.Prelude.{◌≡◌, ◌++◌, [], ◌∷◌, Bool, Some, None, IsTrue, OnOk, OnErr, length, slice_get};
+ghost use Rattle.std.specs.Prelude.{◌≡◌, ◌++◌, ℕ, [], ◌∷◌, Bool, Some, None, IsTrue, OnOk, OnErr, length, slice_get};
 ghost use Rattle.rent_buf.specs.Buffer.{Buffer};
 ghost use Rattle.rent_buf.specs.Parts.{Parts};
 ghost use Rattle.ring_core.specs.declared.request.Request.{Request};
@@ -19,9 +19,10 @@ use thiserror::Error;
 /// Why an object did nothing. (monoio: an `io::Error`)
 #[derive(Clone, Copy, Debug, PartialEq, Eq, Error)]
 pub enum NonBlockError {
-    /// It failed: its count of faults rose.
-    #[error("Fault")]
-    Fault,
+    /// It failed, with this error number: its count of faults rose. Where no call was made since a handle couldn't be new, the number is
+    /// `INVALID`, and no count rose.
+    #[error("Fault {0}")]
+    Fault(u16),
     /// Memory ran out.
     #[error("OutOfMemory")]
     OutOfMemory,
@@ -102,6 +103,9 @@ pub trait NonBlock: Calls + Drop {
     // The object as a value.
     ghost view: { Self → IoView };
 
+    // A handle is a file: its calls wait for nothing that is reported.
+    ghost files: { Self → ℕ → Bool };
+
     // It shows its handles.
     ghost tells: { Bool };
 
@@ -125,7 +129,8 @@ pub trait NonBlock: Calls + Drop {
 
     /// A handle is a file: its calls wait for nothing that is reported. (not in monoio)
     fn is_file(&self, h: u64) -> bool
-        ensures { IsTrue memory → result ≡ is_file_at (view self.now).world h };
+        ensures file { result ≡ files self.now h }
+        ensures world { IsTrue memory → result ≡ is_file_at (view self.now).world h };
 
     /// Waits for reports, no longer than so many milliseconds, and puts them into an empty list. (monoio: `Poll::poll`)
     fn wait(&mut self, limit: Option<u64>, reports: &mut Reports) -> Result<(), NonBlockError>
@@ -147,6 +152,8 @@ pub trait NonBlock: Calls + Drop {
 /// An object that is lent is what it is, with its counts. (not in monoio)
 impl<N: NonBlock> NonBlock for &mut N {
     ghost view = { λ lent. N.view lent.now };
+
+    ghost files = { λ lent h. N.files lent.now h };
 
     ghost tells = { N.tells };
 

@@ -7,6 +7,7 @@ ghost use Rattle.driver_core.specs.Operations.{Submits};
 ghost use Rattle.driver_core.specs.Requests.{KeepsRequests};
 ghost use Rattle.driver_core.specs.Slot.{flies_in, number_at};
 ghost use Rattle.ring_core.specs.Request.{plain_request};
+ghost use Rattle.ready_driver.specs.Calling.{CallsOnce};
 ghost use Rattle.ready_driver.specs.Errors.{ReturnsFor};
 ghost use Rattle.ready_driver.specs.Legacy.{Legacy};
 ghost use Rattle.ready_driver.specs.LegacyStep.{freed};
@@ -54,6 +55,9 @@ pub fn poll<I: NonBlock, B: IoBufMut + Drop>(
         PollsFor B.buffer D op ops.new (I.view io.new).world result }
     ensures blocks { BlocksFor (I.view io.old) (I.view io.new) result }
     ensures returns { ReturnsFor (map.get ops.old.slots.values (key_of op)) (I.view io.old) (I.view io.new) result }
+    // It made one call at most, and its answer is that of the call.
+    ensures calls { CallsOnce B.buffer I.called (map.get ops.old.slots.values (key_of op)) io.old
+        (map.get ops.new.slots.values (key_of op)) io.new result }
     // Over every object the slots of all other operations stay.
     ensures slots { PollsSlotFor ops.old ops.new op result }
     ensures tokens { TokensFor ops.old ops.new op result }

@@ -8,6 +8,7 @@ ghost use Rattle.ready_driver.specs.Records.{io_at, is_registered};
 ghost use Rattle.ready_driver.specs.Registry.{is_known, is_users, holds_each, is_old, AreRecorded, HasMadeRoom, IsSameButRoom, GivesUser};
 ghost use Rattle.ready_driver.specs.Registry.{are_registered, MakesReady, Refuses, RefusesReady};
 
+mod dialing;
 mod leave;
 mod memory;
 mod polls;

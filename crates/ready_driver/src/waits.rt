@@ -1,16 +1,17 @@
 //! The poll of an operation that makes its call only once a report meets its direction.
-ghost use Rattle.std.specs.Prelude.{◌≡◌, ◌⊎◌, Some, None, IsTrue, option_copied};
+ghost use Rattle.std.specs.Prelude.{◌≡◌, Some, None, IsTrue, option_copied};
 ghost use Rattle.std.specs.FinMap as map;
 ghost use Rattle.driver_core.specs.Holds.{made_in};
 ghost use Rattle.driver_core.specs.Op.{Holds, number_of, key_of};
 ghost use Rattle.ready_driver.specs.ScheduledIo.{entry_of};
 ghost use Rattle.ready_driver.specs.Legacy.{Legacy};
+ghost use Rattle.ready_driver.specs.Calling.{CallsOnce};
 ghost use Rattle.ready_driver.specs.Errors.{ReturnsFor};
 ghost use Rattle.ready_driver.specs.Io.{IsLater};
 ghost use Rattle.ready_driver.specs.Named.{PollsSlotFor};
 ghost use Rattle.ready_driver.specs.Polling.{PartsStand};
 ghost use Rattle.ready_driver.specs.Awaits.{awaits, slot_awaits, IsUnmet, IsSlotUnmet, IsWorldUnmet, PollsUnless, BlocksUnless, Leaves};
-ghost use Rattle.ready_driver.specs.Awaits.{LeavesByBits, LeavesFor, unless_file, KeysFor, TokensFor};
+ghost use Rattle.ready_driver.specs.Awaits.{LeavesFor, unless, KeysFor, TokensFor};
 ghost use Rattle.ready_driver.specs.Turns.{KeepsBits};
 
 use crate::non_block::NonBlock;
@@ -74,6 +75,8 @@ pub fn poll_at<I: NonBlock, B: IoBufMut + Drop>(
     ensures polls { IsTrue I.memory → (D : Legacy) → PartsStand B.buffer ops.old (I.view io.old).world D →
         PollsUnless (IsUnmet records.old h dir) B.buffer D op ops.new (I.view io.new).world result }
     ensures blocks { BlocksUnless (IsUnmet records.old h dir) (I.view io.old) (I.view io.new) result }
+    ensures calls { CallsOnce B.buffer I.called (map.get ops.old.slots.values (key_of op)) io.old
+        (map.get ops.new.slots.values (key_of op)) io.new result }
     ensures returns { ReturnsFor (map.get ops.old.slots.values (key_of op)) (I.view io.old) (I.view io.new) result }
     ensures leaves { Leaves records.old h (entry_of (number_of op) task dir) records.new result }
     ensures keys { IsTrue I.memory → made_in (map.get ops.old.slots.values (key_of op)) ≡ None →
@@ -122,10 +125,10 @@ pub fn poll_op<I: NonBlock, B: IoBufMut + Drop>(
         B.buffer D op ops.new (I.view io.new).world result }
     ensures blocks { BlocksUnless (IsSlotUnmet records.old (map.get ops.old.slots.values (key_of op)))
         (I.view io.old) (I.view io.new) result }
+    ensures calls { CallsOnce B.buffer I.called (map.get ops.old.slots.values (key_of op)) io.old
+        (map.get ops.new.slots.values (key_of op)) io.new result }
     ensures returns { ReturnsFor (map.get ops.old.slots.values (key_of op)) (I.view io.old) (I.view io.new) result }
-    ensures leaves { (records.new ≡ records.old) ⊎
-        LeavesByBits (map.get ops.old.slots.values (key_of op)) records.old (number_of op) task records.new result }
-    ensures bits { IsTrue I.memory → LeavesFor (unless_file (I.view io.old).world (slot_awaits (map.get ops.old.slots.values (key_of op))))
+    ensures leaves { LeavesFor (unless (I.files io.old) (slot_awaits (map.get ops.old.slots.values (key_of op))))
         records.old (number_of op) task records.new result }
     ensures keys { IsTrue I.memory → made_in (map.get ops.old.slots.values (key_of op)) ≡ None →
         KeysFor (I.view io.old).keys (I.view io.new).keys result }

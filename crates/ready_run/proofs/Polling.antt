@@ -1,5 +1,6 @@
 -- The user of a session still holds each handle once at most after a submission, a poll, a drop and a cancel.
 use Rattle.std.proofs.Common.{◌≡◌, ℕ, true, Option, Some, None, ap}
+use Rattle.rent_buf.specs.Buf.{built}
 use Rattle.rent_buf.specs.Parts.{Parts}
 use Rattle.rent_buf.specs.declared.plain.Buf.{Buf}
 use Rattle.handle_core.specs.Table.{Table}
@@ -12,7 +13,7 @@ use Rattle.driver_core.specs.Holds.{with_ops, without_ops}
 use Rattle.ready_driver.specs.LegacyCalls.{JoinsOp}
 use Rattle.ready_driver.specs.LegacyPolls.{HandsOver, EndsOp}
 use Rattle.ready_driver.specs.LegacyState.{LegacyState}
-use Rattle.ready_driver.specs.MemIo.{Memory, memory_view}
+use Rattle.ready_driver.specs.MemIo.{Memory, memory_files, memory_called, memory_view}
 use Rattle.ready_driver.specs.Registry.{Handling}
 use Rattle.ready_run.specs.ReadySession.{AreSingle}
 use Rattle.ready_run.proofs.Single.{single-same, single-given, single-joined, single-left}
@@ -29,7 +30,7 @@ single-handed mid handed (Some h) hands = single-given mid.table handed.table h 
 
 -- That of a driver of which an operation was returned.
 pub single-ended : (old new : LegacyState Memory Buf) (op : Op) (task : ℕ) (done : Done Buf) →
-    EndsOp memory_view true true old new op task done → AreSingle old.handling.table → AreSingle new.handling.table
+    EndsOp memory_files built memory_called memory_view true true old new op task done → AreSingle old.handling.table → AreSingle new.handling.table
 single-ended old new op task done ends single =
     single-as (without_ops ends.handed.table (named done.request)) new.handling.table ends.lets.holders
     (single-left ends.handed.table (named done.request)

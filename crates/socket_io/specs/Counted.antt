@@ -39,7 +39,7 @@ SaysNothing NoMemory = Unit {0}
 
 -- A call that failed as a whole is counted. One for which memory ran out isn't.
 abbrev pub ErrorCounted : NonBlockError → Counts → Counts → Type 0
-ErrorCounted Fault old new = Raises old.faults new.faults × (new ≡ record old { faults = new.faults })
+ErrorCounted (Fault code) old new = Raises old.faults new.faults × (new ≡ record old { faults = new.faults })
 ErrorCounted OutOfMemory old new = new ≡ old
 
 -- So is any call that may fail as a whole.

@@ -14,7 +14,7 @@ ghost use Rattle.ready_driver.specs.SocketLaws.{no-memory};
 
 use crate::mio_io::counts::Counts;
 use crate::mio_io::poller::Poller;
-use crate::mio_io::socket::{Refusal, Socket};
+use crate::mio_io::socket::{Refusal, Socket, fault_by};
 use crate::mio_io::table::Table;
 use driver_core::{CallAnswer, Calls};
 use ready_driver::{NonBlock, NonBlockError, Reports, Sockets};
@@ -203,6 +203,8 @@ impl<R: Net + Drop> Calls for MioIo<R> {
 impl<R: Net + Drop> NonBlock for MioIo<R> {
     ghost view = { host_view };
 
+    ghost files = { λ io h. false };
+
     ghost tells = { false };
 
     ghost reporting = { false };
@@ -227,7 +229,7 @@ impl<R: Net + Drop> NonBlock for MioIo<R> {
             return Err(self.counts.fault(why));
         }
         let Some(registry) = self.poller.registry() else {
-            return Err(self.counts.fault(NonBlockError::Fault));
+            return Err(self.counts.fault(NonBlockError::Fault(NO_NUMBER)));
         };
         match self.table.register(h, registry, key) {
             Ok(()) => Ok(()),
@@ -243,7 +245,7 @@ impl<R: Net + Drop> NonBlock for MioIo<R> {
         ensures there { OnOk result (IsSome (finite.get self.old.kinds h)) }
     {
         let Some(registry) = self.poller.registry() else {
-            return Err(self.counts.fault(NonBlockError::Fault));
+            return Err(self.counts.fault(NonBlockError::Fault(NO_NUMBER)));
         };
         match self.table.deregister(h, registry) {
             Ok(()) => Ok(()),
@@ -267,7 +269,7 @@ impl<R: Net + Drop> NonBlock for MioIo<R> {
 
     /// No handle is.
     fn is_file(&self, h: u64) -> bool
-        ensures { result ≡ false }
+        ensures value { result ≡ false }
     {
         false
     }
@@ -309,7 +311,7 @@ impl<R: Net + Drop> Sockets for MioIo<R> {
         }
         match Socket::listen(&self.rt, port) {
             Ok(socket) => Ok(self.table.add(socket)),
-            Err(_) => Err(self.counts.fault(NonBlockError::Fault)),
+            Err(error) => Err(self.counts.fault(fault_by(&error))),
         }
     }
 
@@ -323,7 +325,7 @@ impl<R: Net + Drop> Sockets for MioIo<R> {
         }
         match Socket::dial(&self.rt, port) {
             Ok(socket) => Ok(self.table.add(socket)),
-            Err(_) => Err(self.counts.fault(NonBlockError::Fault)),
+            Err(error) => Err(self.counts.fault(fault_by(&error))),
         }
     }
 }

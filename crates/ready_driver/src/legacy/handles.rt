@@ -39,6 +39,13 @@ impl<I: NonBlock, B: IoBufMut + Drop> LegacyDriver<I, B> {
         self.registry.known(h)
     }
 
+    /// A handle is closing: never, since it is closed in the step in which its last holder leaves. (not in monoio)
+    pub fn closing(&self, h: u64) -> bool
+        ensures { result ≡ false }
+    {
+        false
+    }
+
     /// The user holds a handle. (not in monoio)
     pub fn user_holds(&self, h: u64) -> bool
         ensures { result ≡ is_users self.now.handling.table h }

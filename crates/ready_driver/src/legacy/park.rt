@@ -108,7 +108,7 @@ fn collect<I: NonBlock>(
     }
     match registry.wait(Some(0), untreated) {
         Ok(()) => {}
-        Err(NonBlockError::Fault) => return Some(Stop::RingFault),
+        Err(NonBlockError::Fault(_)) => return Some(Stop::RingFault),
         Err(NonBlockError::OutOfMemory) => return Some(Stop::OutOfMemory),
     }
     *lively = untreated.len() > 0;

@@ -1,18 +1,19 @@
 // The polls of operations by the bits of the handles that they wait for.
-ghost use Rattle.std.specs.Prelude.{◌≡◌, ◌⊎◌, None, IsTrue, option_map};
+ghost use Rattle.std.specs.Prelude.{◌≡◌, None, IsTrue, option_map};
 ghost use Rattle.std.specs.FinMap as map;
 ghost use Rattle.driver_core.specs.Holds.{made_in};
 ghost use Rattle.driver_core.specs.Op.{Holds, number_of, key_of};
 ghost use Rattle.ready_driver.specs.ScheduledIo.{waiter_of};
 ghost use Rattle.ready_driver.specs.Records.{io_at, changed, with_io};
 ghost use Rattle.ready_driver.specs.Legacy.{Legacy};
+ghost use Rattle.ready_driver.specs.Calling.{CallsOnce};
 ghost use Rattle.ready_driver.specs.Errors.{ReturnsFor};
 ghost use Rattle.ready_driver.specs.Io.{IsLater};
 ghost use Rattle.ready_driver.specs.Named.{PollsSlotFor};
 ghost use Rattle.ready_driver.specs.Polling.{PartsStand, PollsFor};
 ghost use Rattle.ready_driver.specs.HandlesStand.{HandlesStand};
 ghost use Rattle.ready_driver.specs.Turns.{AreReported, KeepsBits};
-ghost use Rattle.ready_driver.specs.Awaits.{slot_awaits, unless_file, IsSlotUnmet, IsWorldUnmet, PollsUnless, BlocksUnless, LeavesByBits};
+ghost use Rattle.ready_driver.specs.Awaits.{slot_awaits, unless, IsSlotUnmet, IsWorldUnmet, PollsUnless, BlocksUnless};
 ghost use Rattle.ready_driver.specs.Awaits.{LeavesFor, KeysFor, TokensFor, without_waiter};
 
 use crate::non_block::NonBlock;
@@ -41,11 +42,10 @@ impl<I: NonBlock> Registry<I> {
             PollsFor B.buffer D op ops.new (I.view self.new.io).world result }
         ensures blocks { BlocksUnless (IsSlotUnmet self.old.records (map.get ops.old.slots.values (key_of op)))
             (I.view self.old.io) (I.view self.new.io) result }
+        ensures calls { CallsOnce B.buffer I.called (map.get ops.old.slots.values (key_of op)) self.old.io
+            (map.get ops.new.slots.values (key_of op)) self.new.io result }
         ensures returns { ReturnsFor (map.get ops.old.slots.values (key_of op)) (I.view self.old.io) (I.view self.new.io) result }
-        ensures leaves { (self.new.records ≡ self.old.records) ⊎ LeavesByBits (map.get ops.old.slots.values (key_of op))
-            self.old.records (number_of op) task self.new.records result }
-        ensures bits { IsTrue I.memory →
-            LeavesFor (unless_file (I.view self.old.io).world (slot_awaits (map.get ops.old.slots.values (key_of op))))
+        ensures leaves { LeavesFor (unless (I.files self.old.io) (slot_awaits (map.get ops.old.slots.values (key_of op))))
             self.old.records (number_of op) task self.new.records result }
         ensures table { self.new.table ≡ self.old.table }
         ensures keys { IsTrue I.memory → made_in (map.get ops.old.slots.values (key_of op)) ≡ None →

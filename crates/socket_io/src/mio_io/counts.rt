@@ -61,8 +61,9 @@ impl Counts {
         ensures why { result ≡ why }
         ensures counted { ErrorCounted why self.old self.new }
     {
-        if why == NonBlockError::Fault {
-            self.faults = self.faults.saturating_add(1);
+        match why {
+            NonBlockError::Fault(_) => self.faults = self.faults.saturating_add(1),
+            NonBlockError::OutOfMemory => {}
         }
         why
     }

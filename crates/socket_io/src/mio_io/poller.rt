@@ -4,6 +4,7 @@ ghost use Rattle.mio.specs.Events.{items, capacity};
 ghost use Rattle.socket_io.specs.declared.mio_io.poller.TheConstants.{MOST_EVENTS};
 ghost use Rattle.socket_io.specs.System.{bit_if, event_bits, event_report};
 
+use crate::mio_io::socket::{NO_NUMBER, fault_by};
 use mio::event::Event;
 use mio::{Events, Poll, Registry};
 use ready_driver::{NonBlockError, Ready, Report, Reports};
@@ -85,7 +86,7 @@ impl Poller {
         self.make(rt)?;
         match &mut self.waits {
             Some(waits) => waits.wait(limit, reports),
-            None => Err(NonBlockError::Fault),
+            None => Err(NonBlockError::Fault(NO_NUMBER)),
         }
     }
 }
@@ -104,7 +105,7 @@ impl Waits {
                 events,
                 unreported: false,
             }),
-            Err(_) => Err(NonBlockError::Fault),
+            Err(error) => Err(fault_by(&error)),
         }
     }
 
@@ -116,8 +117,9 @@ impl Waits {
     {
         if !self.unreported {
             let time = limit.map(Duration::from_millis);
-            if self.poll.poll(&mut self.events, time).is_err() {
-                return Err(NonBlockError::Fault);
+            match self.poll.poll(&mut self.events, time) {
+                Ok(()) => {}
+                Err(error) => return Err(fault_by(&error)),
             }
         }
         self.unreported = true;

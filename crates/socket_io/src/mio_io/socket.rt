@@ -104,7 +104,7 @@ impl Socket {
             Socket::Listener(listener) => registry.deregister(listener),
             Socket::Stream(stream) => registry.deregister(stream),
         };
-        done.map_err(|_| NonBlockError::Fault)
+        done.map_err(|error| fault_by(&error))
     }
 }
 
@@ -141,7 +141,7 @@ fn register_source<S: Source>(
         }
         done => done,
     };
-    done.map_err(|_| NonBlockError::Fault)
+    done.map_err(|error| fault_by(&error))
 }
 
 // A port of this machine.
@@ -157,6 +157,13 @@ fn refused_by(error: &io::Error) -> Refusal
         ErrorKind::WouldBlock => Refusal::WouldBlock,
         _ => Refusal::Error(number(error.raw_os_error())),
     }
+}
+
+/// A call that failed as a whole with an error of the system: the fault has its number. (not in monoio)
+pub(crate) fn fault_by(error: &io::Error) -> NonBlockError
+    ensures { result ≡ NonBlockError.Fault (error_number (raw_os_error error.now)) }
+{
+    NonBlockError::Fault(number(error.raw_os_error()))
 }
 
 // The number of an error: that of the system where it is one, and else `NO_NUMBER`.

@@ -141,7 +141,7 @@ impl Table {
         ensures there { OnOk result (IsSome (finite.get self.old.kinds h)) }
     {
         let Some(socket) = self.open.get_mut(&h) else {
-            return Err(NonBlockError::Fault);
+            return Err(NonBlockError::Fault(INVALID));
         };
         socket.register(registry, key)
     }
@@ -153,7 +153,7 @@ impl Table {
         ensures there { OnOk result (IsSome (finite.get self.old.kinds h)) }
     {
         let Some(socket) = self.open.get_mut(&h) else {
-            return Err(NonBlockError::Fault);
+            return Err(NonBlockError::Fault(INVALID));
         };
         socket.deregister(registry)
     }

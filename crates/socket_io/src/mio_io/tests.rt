@@ -156,7 +156,7 @@ fn refuses_dial<I: Sockets>(rt: &HostRuntime, io: &mut I, port: u16) -> Result<b
             io.register(h, 1)?;
             fails(rt, io, h, REFUSED)
         }
-        Err(why) => Ok(why == NonBlockError::Fault),
+        Err(why) => Ok(why == NonBlockError::Fault(REFUSED)),
     }
 }
 

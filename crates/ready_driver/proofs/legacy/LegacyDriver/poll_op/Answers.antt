@@ -1,17 +1,18 @@
 use Rattle.std.proofs.Common.{◌≡◌, Some, inl, ◌⊎◌, refl, sym, ap, subst, ◌∙◌}
-use Rattle.std.specs.Prelude.{Ok}
+use Rattle.std.specs.Prelude.{Ok, Err}
 use Rattle.std.specs.FinMap.{get}
 use Rattle.ring_core.specs.Request.{named, listed, plain_request, held_of}
 use Rattle.ring_core.specs.Effect.{made_by}
 use Rattle.ring_core.specs.declared.ledger.Reply.TheVariants.{Pending as Waits, Handed}
 use Rattle.driver_core.specs.Groups.{AreInSlots}
-use Rattle.driver_core.specs.declared.op.PollOp.TheVariants.{Ready}
-use Rattle.driver_core.specs.Holds.{named_in, without_ops, unheld_by, CanLeave}
+use Rattle.driver_core.specs.declared.op.PollOp.TheVariants.{Pending, Ready}
+use Rattle.driver_core.specs.Holds.{is_maker, named_in, without_ops, unheld_by, CanLeave}
 use Rattle.driver_core.specs.Members.{leaves, leaves as leaves_of}
 use Rattle.driver_core.specs.Op.{KeepsTokens, DropsToken}
 use Rattle.driver_core.specs.Slot.{number_at}
 use Rattle.driver_core.proofs.Placing.{in-slots-left}
-use Rattle.ready_driver.specs.Awaits.{IsWorldUnmet, LeavesByBits, PollsUnless, KeysFor, TokensFor}
+use Rattle.ready_driver.specs.Awaits.{slot_awaits, unless, IsWorldUnmet, LeavesFor, PollsUnless, KeysFor, TokensFor}
+use Rattle.ready_driver.specs.Calling.{CallsOnce}
 use Rattle.ready_driver.specs.Errors.{IsCounted, ReturnsFor}
 use Rattle.ready_driver.specs.LegacyState.{LegacyState, Holds}
 use Rattle.ready_driver.specs.LegacyStep.{poll_slot}
@@ -27,6 +28,7 @@ use Rattle.ready_driver.proofs.Errors.{error-caused}
 use Rattle.ready_driver.proofs.Naming.{naming-room, naming-kept, naming-leave, naming-left, in-slots-tokens}
 use Rattle.ready_driver.proofs.Polled.{naming-handed, parts-room, room-handles, reported-room, stands-waiting, step-waits}
 use Rattle.ready_driver.proofs.Polled.{answers-waits, stands-ended}
+use Rattle.ready_driver.proofs.Registering.{leaves-refused, leaves-spare, made-room}
 use Rattle.ready_driver.proofs.Showing.{shown-room, shown-polled, shown-handed, shown-left}
 use Rattle.ready_driver.proofs.legacy.LegacyDriver.poll_op.Goals as goal
 
@@ -239,8 +241,14 @@ pub returns-in-Err-clause-ends : goal.returns-in-Err-clause-ends
 returns-in-Err-clause-ends g c =
     let same = c.reserve.ensures.same in
     rw (← c.self.view_is) (
-      record { table = same.table; records = c.reserve.new.registry.records; room = same.records; leaves = inl refl },
+      record {
+        table = same.table;
+        records = c.reserve.new.registry.records;
+        room = same.records;
+        leaves = leaves-refused _ _ c.reserve.new.registry.records c.args.op.number c.args.task _;
+      },
       refl,
+      inl (record { object = same.io; request = refl }),
     )
 
 pub returns-in-Ok-Pending-clause-ends : goal.returns-in-Ok-Pending-clause-ends
@@ -255,11 +263,16 @@ returns-in-Ok-Pending-clause-ends g c =
         table = ap (λ t. t.holders) c.poll_op.ensures.table ∙ same.table;
         records = room.records;
         room = same.records;
-        leaves = subst (λ x. (c.poll_op.new.self.records ≡ room.records)
-            ⊎ LeavesByBits slot room.records c.args.op.number c.args.task c.poll_op.new.self.records (Ok x)) c.in-Ok-Pending.field-0-is
-            c.in-Ok-Pending.ensures.leaves;
+        leaves = subst (λ io. LeavesFor (unless (g.I.NonBlock.files io) (slot_awaits slot)) room.records c.args.op.number c.args.task
+            c.poll_op.new.self.records (Ok (Pending c.in-Ok-Pending.op))) same.io
+            (subst (λ x. LeavesFor (unless (g.I.NonBlock.files room.io) (slot_awaits slot)) room.records c.args.op.number c.args.task
+            c.poll_op.new.self.records (Ok x)) c.in-Ok-Pending.field-0-is c.in-Ok-Pending.ensures.leaves);
       },
       refl,
+      subst (λ io. CallsOnce g.B.IoBufMut.buffer g.I.Calls.called slot io (get c.poll_op.new.ops.slots.values c.args.op.key)
+          c.poll_op.new.self.io (Ok (Pending c.in-Ok-Pending.op))) same.io
+          (subst (λ x. CallsOnce g.B.IoBufMut.buffer g.I.Calls.called slot room.io (get c.poll_op.new.ops.slots.values c.args.op.key)
+          c.poll_op.new.self.io (Ok x)) c.in-Ok-Pending.field-0-is c.in-Ok-Pending.ensures.calls),
     )
 
 pub returns-in-Err-poll_op-clause-ends : goal.returns-in-Err-poll_op-clause-ends
@@ -270,9 +283,14 @@ returns-in-Err-poll_op-clause-ends g c =
         table = ap (λ t. t.holders) c.poll_op.ensures.table ∙ same.table;
         records = c.reserve.new.registry.records;
         room = same.records;
-        leaves = c.in-Err-poll_op.ensures.leaves;
+        leaves = subst (λ io. LeavesFor (unless (g.I.NonBlock.files io) (slot_awaits (get c.self.inside.ops.slots.values c.args.op.key)))
+            c.reserve.new.registry.records c.args.op.number c.args.task c.poll_op.new.self.records (Err c.in-Err-poll_op.refused)) same.io
+            c.in-Err-poll_op.ensures.leaves;
       },
       refl,
+      subst (λ io. CallsOnce g.B.IoBufMut.buffer g.I.Calls.called (get c.self.inside.ops.slots.values c.args.op.key) io
+          (get c.poll_op.new.ops.slots.values c.args.op.key) c.poll_op.new.self.io (Err c.in-Err-poll_op.refused)) same.io
+          c.in-Err-poll_op.ensures.calls,
     )
 
 pub returns-in-Ok-Ready-clause-ends : goal.returns-in-Ok-Ready-clause-ends
@@ -294,21 +312,29 @@ returns-in-Ok-Ready-clause-ends g c =
     let names : listed c.names_at-names.result ≡ named result.request =
     c.names_at-names.ensures ∙ ap (λ k. named_in (get d.slots.values k)) c.key-key.ensures ∙ sym returns.names
     ∙ ap named (sym c.hand_over-done.ensures.request) in
-    let leaves : (c.poll_op.new.self.records ≡ room.records)
-    ⊎ LeavesByBits slot room.records op.number c.args.task c.poll_op.new.self.records (Ok (Ready done)) =
-    subst (λ x. (c.poll_op.new.self.records ≡ room.records)
-    ⊎ LeavesByBits slot room.records op.number c.args.task c.poll_op.new.self.records (Ok x)) c.in-Ok-Ready.field-0-is
-    c.in-Ok-Ready.ensures.leaves in
+    let leaves : LeavesFor (unless (g.I.NonBlock.files d.handling.io) (slot_awaits slot)) room.records op.number c.args.task
+    c.poll_op.new.self.records (Ok (Ready done)) =
+    subst (λ io. LeavesFor (unless (g.I.NonBlock.files io) (slot_awaits slot)) room.records op.number c.args.task
+    c.poll_op.new.self.records (Ok (Ready done))) same.io
+    (subst (λ x. LeavesFor (unless (g.I.NonBlock.files room.io) (slot_awaits slot)) room.records op.number c.args.task
+    c.poll_op.new.self.records (Ok x)) c.in-Ok-Ready.field-0-is c.in-Ok-Ready.ensures.leaves) in
     rw (← c.self.view_is) (record {
       mid = c.poll_op.new.self;
       call = done.outcome;
+      calls = subst (λ r. CallsOnce g.B.IoBufMut.buffer g.I.Calls.called slot d.handling.io
+          (get c.poll_op.new.ops.slots.values op.key) c.poll_op.new.self.io
+          (Ok (Ready (record { outcome = done.outcome; request = r })))) (sym c.hand_over-done.ensures.request)
+          (subst (λ io. CallsOnce g.B.IoBufMut.buffer g.I.Calls.called slot io (get c.poll_op.new.ops.slots.values op.key)
+          c.poll_op.new.self.io (Ok (Ready done))) same.io
+          (subst (λ x. CallsOnce g.B.IoBufMut.buffer g.I.Calls.called slot room.io (get c.poll_op.new.ops.slots.values op.key)
+          c.poll_op.new.self.io (Ok x)) c.in-Ok-Ready.field-0-is c.in-Ok-Ready.ensures.calls));
       polls = record {
         table = ap (λ t. t.holders) c.poll_op.ensures.table ∙ same.table;
         records = room.records;
         room = same.records;
-        leaves = subst (λ r. (c.poll_op.new.self.records ≡ room.records)
-            ⊎ LeavesByBits slot room.records op.number c.args.task c.poll_op.new.self.records
-            (Ok (Ready (record { outcome = done.outcome; request = r })))) (sym c.hand_over-done.ensures.request) leaves;
+        leaves = subst (λ r. LeavesFor (unless (g.I.NonBlock.files d.handling.io) (slot_awaits slot)) room.records op.number c.args.task
+            c.poll_op.new.self.records (Ok (Ready (record { outcome = done.outcome; request = r }))))
+            (sym c.hand_over-done.ensures.request) leaves;
       };
       outcome = c.hand_over-done.ensures.outcome;
       handed = handed;
@@ -334,3 +360,14 @@ returns-in-Ok-Ready-clause-fails g c =
     error-caused view g.I.NonBlock.tells g.I.NonBlock.memory d.handling room mid c.hand_over-done.new.registry c.let_go.new.self slot
     c.reserve.ensures.same c.poll_op.ensures.table (c.self.invariant.0.canceled key) _ _ c.let_go.ensures done.outcome
     c.hand_over-done.result.outcome returned c.hand_over-done.ensures.outcome c.hand_over-done.ensures.hands)
+
+pub hand_over-done-requires : goal.hand_over-done-requires
+hand_over-done-requires g c =
+    let slots = c.self.inside.ops.slots.values in
+    let key = c.args.op.key in
+    let returns : ReturnsSlot slots key c.poll_op.new.ops.slots.values c.in-Ok-Ready.done =
+    subst (λ x. PollsSlotFor c.self.inside.ops c.poll_op.new.ops c.args.op (Ok x)) c.in-Ok-Ready.field-0-is c.in-Ok-Ready.ensures.slots in
+    made-room (made_by c.in-Ok-Ready.done.outcome) (is_maker (get slots key)) c.reserve.new.registry c.poll_op.new.self
+    (λ maker. c.in-Ok.ensures.ok (c.is_maker.ensures ∙ ap (λ k. is_maker (get slots k)) c.key-key.ensures ∙ maker))
+    (returns.made (c.self.invariant.0.unmade key)) c.poll_op.ensures.table
+    (leaves-spare _ c.reserve.new.registry.records _ _ c.poll_op.new.self.records _ c.in-Ok-Ready.ensures.leaves)

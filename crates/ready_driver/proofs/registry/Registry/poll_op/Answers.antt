@@ -1,18 +1,16 @@
-use Rattle.std.proofs.Common.{inl, inr, sym, subst}
-use Rattle.ready_driver.specs.Registry.{Handling, AreRecorded}
+use Rattle.std.proofs.Common.{subst}
+use Rattle.ready_driver.specs.Registry.{Handling}
 use Rattle.std.specs.FinMap.{get}
 use Rattle.ready_driver.specs.Awaits.{IsWorldUnmet, PollsUnless}
 use Rattle.ready_driver.specs.Polling.{PartsStand}
-use Rattle.ready_driver.proofs.Registering.{recorded-left}
+use Rattle.ready_driver.proofs.Registering.{recorded-leaves}
 use Rattle.ready_driver.proofs.Exact.{unmet-waits, exact-unless}
 use Rattle.ready_driver.proofs.registry.Registry.poll_op.Goals as goal
 
 pub invariant_of-self : goal.invariant_of-self
-invariant_of-self g c = elim c.poll_op.ensures.leaves [
-  | inl same ↦ subst (λ r. AreRecorded c.self.inside.table r) (sym same) c.self.invariant
-  | inr left ↦ recorded-left c.self.inside.table _ c.self.inside.records left.handle _ c.poll_op.new.records c.poll_op.result
-      c.self.invariant left.leaves
-]
+invariant_of-self g c =
+    recorded-leaves c.self.inside.table _ c.self.inside.records c.args.op.number c.args.task c.poll_op.new.records c.poll_op.result
+    c.self.invariant c.poll_op.ensures.leaves
 
 pub returns-clause-exact : goal.returns-clause-exact
 returns-clause-exact g c = λ memory reported D handles parts.
