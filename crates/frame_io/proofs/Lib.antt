@@ -1,0 +1,5 @@
+pub mod Places
+pub mod Headers
+pub mod Reading
+pub mod Steps
+pub mod Writing

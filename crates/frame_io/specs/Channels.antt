@@ -1,0 +1,11 @@
+-- The place of an open channel in a list. The private functions on open channels cite it.
+use Rattle.std.specs.Prelude.{ℕ, ◌≡◌, ◌<◌, true, List, length, remove, slice_index_or}
+use Rattle.frame_io.specs.declared.message.Message.{Message}
+use Rattle.frame_io.specs.Frames.{bytes_of, is_open, without}
+
+-- A channel stands at this place.
+pub record HasPlace (channel : ℕ) (channels : List Message) (place : ℕ) : Type 0 where
+  pub there : place < length channels
+  pub known : is_open channel channels ≡ true
+  pub bytes : (d : Message) → (slice_index_or channels place d).bytes ≡ bytes_of channel channels
+  pub rest : remove channels place ≡ without channel channels

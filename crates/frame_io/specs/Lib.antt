@@ -1,0 +1,7 @@
+pub mod Channels
+pub mod Decoder
+pub mod FrameReader
+pub mod Frames
+pub mod Number
+pub mod Piece
+pub mod Written

@@ -1,0 +1,18 @@
+//! Frames and messages over any stream: pieces of messages on numbered channels.
+#![tactic(auto)]
+
+mod channels;
+mod decoder;
+pub mod fault;
+mod header;
+mod law;
+pub mod limits;
+pub mod message;
+mod number;
+pub mod reader;
+
+pub use fault::{BadFrame, FrameFault};
+pub use law::written_is_read;
+pub use limits::{Limits, MOST_CHANNELS, MOST_IN_MESSAGE, MOST_IN_PIECE};
+pub use message::{Message, MessagePoll};
+pub use reader::{FrameReader, MOST_OFFSET};
