@@ -147,16 +147,19 @@ impl<R: Net> MioIo<R> {
         }
     }
 
-    // A wait for readiness is over once it is asked for: the driver asks when the handle is reported.
-    fn look(&mut self, h: u64) -> CallAnswer
+    // A wait for readiness: to read, of a stream, it blocks where a read would; else it is over once the driver asks, which it does when the
+    // handle is reported.
+    fn look(&mut self, h: u64, read: bool) -> CallAnswer
         ensures looks { MovesFor 0 self.old self.new result }
         ensures unfit { is_some (finite.get self.old.kinds h) ≡ false → IsInvalid result }
     {
-        if self.table.is_open(h) {
-            CallAnswer::Done(Outcome::Count(0))
-        } else {
-            CallAnswer::Done(self.counts.fail(INVALID))
+        if !self.table.is_open(h) {
+            return CallAnswer::Done(self.counts.fail(INVALID));
         }
+        if read && self.table.would_block(h) {
+            return self.counts.refuse(Refusal::WouldBlock);
+        }
+        CallAnswer::Done(Outcome::Count(0))
     }
 }
 
@@ -186,14 +189,15 @@ fn read_into(table: &Table, h: u64, room: &mut [u8], most: u32) -> Result<u32, R
 impl<R: Net + Drop> Calls for MioIo<R> {
     ghost called = { HostCalls };
 
-    /// Makes the call of a request, where it doesn't block. A handle that it makes isn't registered. A `PollAdd` of an open handle answers
-    /// the count 0 at once: a driver asks for it when a wait reported the handle. (monoio: `legacy_call`, of a relaxed `PollAdd`)
+    /// Makes the call of a request, where it doesn't block. A handle that it makes isn't registered. A `PollAdd` to read a
+    /// stream blocks where a read would; else one of an open handle answers the count 0 at once: a driver asks for it when a wait reported
+    /// the handle. (monoio: `legacy_call`, of a `PollAdd`; there to write and on a listener the descriptor is polled too)
     fn call<B: IoBufMut>(&mut self, request: &mut Request<B, VecBuf>) -> CallAnswer {
         match request.call() {
             Call::Accept { h } => self.accept(h),
             Call::In { h, ask } => self.receive(h, ask, request),
             Call::Out { h, .. } => self.send(h, request),
-            Call::PollAdd { h, .. } => self.look(h),
+            Call::PollAdd { h, read } => self.look(h, read),
             _ => CallAnswer::Done(self.counts.fail(UNSUPPORTED)),
         }
     }

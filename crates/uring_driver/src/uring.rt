@@ -7,6 +7,7 @@ ghost use Rattle.ring_core.specs.Ring.{IsLater};
 ghost use Rattle.ring_core.specs.Ledger.{Ledger, empty};
 ghost use Rattle.ring_core.specs.declared.ledger.Event.TheVariants.{Drop, Cancel};
 ghost use Rattle.ring_core.specs.declared.ledger.Reply.TheVariants.{Dropped, Asked};
+ghost use Rattle.driver_core.specs.declared.op.Op.{Op as Token};
 ghost use Rattle.uring_driver.specs.Op.{number_of, cancel_for, Holds, HoldsNone, KeepsTokens, DropsToken, KeepsRequests};
 ghost use Rattle.uring_driver.specs.Submissions.{IsIdle, TakesFront, PendingMoves, PendingMovesEach, with_spare, room_made, pending_ring};
 ghost use Rattle.uring_driver.specs.Uring.{ring_in, due_in, pending, whole_ring, live_slots, given_by, holds_all, members_in};
@@ -121,9 +122,10 @@ impl<R: Ring, B: IoBufMut + Drop> IoUringDriver<R, B> {
         self.ops.len()
     }
 
-    /// How many operations were submitted, which is the number of the next one. (not in monoio)
+    /// How many operations were submitted, which is the number of the next one: each operation has a lower number. (not in monoio)
     pub fn given(&self) -> u64
-        ensures { result ≡ given_by self.now }
+        ensures value { result ≡ given_by self.now }
+        ensures numbers { (op : Token) → Holds self.now op → number_of op < given_by self.now }
     {
         self.ops.given()
     }

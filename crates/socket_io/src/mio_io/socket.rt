@@ -75,6 +75,15 @@ impl Socket {
         }
     }
 
+    /// A read of a stream would block: neither bytes nor the end nor an error is there. Of a listener it isn't known. (libc: `recv` with
+    /// `MSG_PEEK`)
+    pub fn would_block(&self) -> bool {
+        match self {
+            Socket::Stream(stream) => peek_blocks(stream),
+            Socket::Listener(_) => false,
+        }
+    }
+
     /// Sends a prefix of the bytes on a stream, and answers how many. (libc: `send`)
     pub fn write(&self, bytes: &[u8]) -> Result<usize, Refusal>
         ensures within { IfOk result (λ n. n ≤ length bytes.now) }
@@ -115,6 +124,14 @@ fn read_from(mut stream: &TcpStream, room: &mut [u8]) -> Result<usize, Refusal>
     match stream.read(room) {
         Ok(count) => Ok(count),
         Err(error) => Err(refused_by(&error)),
+    }
+}
+
+// A look at the next byte of a stream would block.
+fn peek_blocks(stream: &TcpStream) -> bool {
+    match stream.peek(&mut [0; 1]) {
+        Ok(_) => false,
+        Err(error) => error.kind() == ErrorKind::WouldBlock,
     }
 }
 

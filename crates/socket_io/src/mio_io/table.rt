@@ -122,6 +122,15 @@ impl Table {
         }
     }
 
+    /// A read of the stream of a handle would block. Of a listener, and of a handle that isn't open, it isn't known. (libc: `recv` with
+    /// `MSG_PEEK`)
+    pub fn would_block(&self, h: u64) -> bool {
+        match self.open.get(&h) {
+            Some(socket) => socket.would_block(),
+            None => false,
+        }
+    }
+
     /// Sends a prefix of the bytes on the stream of a handle, and answers how many. (libc: `send`)
     pub fn write(&self, h: u64, bytes: &[u8]) -> Result<usize, Refusal>
         ensures within { IfOk result (λ n. n ≤ length bytes.now) }
