@@ -94,27 +94,3 @@ impl<R: Drop> Lifecycle<R> {
         }
     }
 }
-
-#[cfg(test)]
-mod tests {
-    use super::*;
-
-    #[test]
-    fn the_task_that_asked_last_is_woken(rt: HostRuntime) {
-        let mut lifecycle: Lifecycle<u64> = Lifecycle::Submitted;
-        assert_eq!(rt; lifecycle.poll(6), AfterPoll::Pending);
-        assert_eq!(rt; lifecycle.poll(7), AfterPoll::Pending);
-        assert_eq!(rt; lifecycle.complete(10), AfterComplete::Wake(7));
-        assert_eq!(rt; lifecycle.poll(8), AfterPoll::Take);
-        assert!(rt; matches!(lifecycle, Lifecycle::Completed(10)));
-    }
-
-    #[test]
-    fn what_is_dropped_early_is_freed_at_its_completion(rt: HostRuntime) {
-        let mut early: Lifecycle<u64> = Lifecycle::Waiting(7);
-        assert_eq!(rt; early.drop_owner(), AfterDrop::Left);
-        assert_eq!(rt; early.complete(10), AfterComplete::Free);
-        let mut late: Lifecycle<u64> = Lifecycle::Completed(10);
-        assert_eq!(rt; late.drop_owner(), AfterDrop::Free);
-    }
-}

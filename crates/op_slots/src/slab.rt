@@ -334,8 +334,3 @@ fn give_back<T: Drop>(
     lists[count - 1] = FreeList { place: 0, count: 0 };
     *pages = count - 1;
 }
-
-#[cfg(test)]
-mod speed;
-#[cfg(test)]
-mod tests;

@@ -69,6 +69,3 @@ impl<const N: usize> IoBufMut for Box<[u8; N]> {
         place.copy_from_slice(bytes);
     }
 }
-
-#[cfg(test)]
-mod tests;

@@ -49,6 +49,3 @@ pub enum IoFault {
 /// What a transfer answers: how much it moved, or why it failed, and the buffer, which comes back
 /// either way (monoio: `BufResult`).
 pub type BufResult<N, T> = (Result<N, IoFault>, T);
-
-#[cfg(test)]
-mod tests;

@@ -158,6 +158,3 @@ impl LendBytes for Grow {
 
     ghost with_bytes_beside = { λ g at w. refl };
 }
-
-#[cfg(test)]
-mod tests;

@@ -286,6 +286,3 @@ impl<T: IoBuf> IoBuf for Arc<T> {
         inner.bytes_init()
     }
 }
-
-#[cfg(test)]
-mod tests;

@@ -6,7 +6,7 @@ ghost use Rattle.rent_buf.specs.Parts.{Parts, IsParts, bytes_of, rooms_of, part_
 ghost use Rattle.rent_buf.specs.Parts.{parts_of_lists, items_of};
 
 use crate::fault::OutOfMemory;
-use crate::io_buf::{IoBuf, IoBufMut, LendBytes};
+use crate::io_buf::{IoBuf as _, IoBufMut as _, LendBytes as _};
 use crate::plain_parts::PartsSpec;
 use crate::rent::Rent;
 use std::marker::Model;
@@ -305,6 +305,3 @@ impl LendParts for VecBuf {
 
     ghost with_part_held = { λ v i at w. refl };
 }
-
-#[cfg(test)]
-mod tests;

@@ -31,6 +31,3 @@ pub use ranges::Ranges;
 pub use rent::Rent;
 pub use slice::{Slice, SliceMut};
 pub use vec_wrapper::{IoVecWrapper, IoVecWrapperMut};
-
-#[cfg(test)]
-mod trials;

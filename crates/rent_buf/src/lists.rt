@@ -313,6 +313,3 @@ impl MessageList {
         Ok(MessageList { items })
     }
 }
-
-#[cfg(test)]
-mod tests;

@@ -297,6 +297,3 @@ impl LendBytes for Buf {
 
     ghost with_bytes_beside = { elim [ Vector slice ↦ λ at w. refl | Grown slice ↦ λ at w. refl | Fixed slice ↦ λ at w. refl ] };
 }
-
-#[cfg(test)]
-mod tests;

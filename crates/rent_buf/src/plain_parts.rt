@@ -5,7 +5,7 @@ ghost use Rattle.rent_buf.specs.Parts.{IsParts, part_at, parts_of_pairs};
 ghost use Rattle.rent_buf.specs.PartsSpec.{part_eq, parts_eq, parts_eq_equiv};
 
 use crate::fault::OutOfMemory;
-use crate::io_buf::{IoBuf, IoBufMut};
+use crate::io_buf::{IoBuf as _, IoBufMut as _};
 use crate::io_vec_buf::{VecBuf, cloned_rents};
 use crate::lists::ByteList;
 use crate::rent::Rent;
@@ -229,6 +229,3 @@ fn rent_of(room: usize, bytes: ByteList) -> Result<Rent, OutOfMemory>
         Err(_) => Err(OutOfMemory),
     }
 }
-
-#[cfg(test)]
-mod tests;

@@ -174,6 +174,3 @@ impl Ranges {
         count
     }
 }
-
-#[cfg(test)]
-mod tests;

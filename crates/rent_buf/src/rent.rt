@@ -176,6 +176,3 @@ impl LendBytes for Rent {
 
     ghost with_bytes_beside = { λ r at w. refl };
 }
-
-#[cfg(test)]
-mod tests;

@@ -262,6 +262,3 @@ impl<T: LendBytes> LendBytes for SliceMut<T> {
 
     ghost with_bytes_beside = { λ s at w. refl };
 }
-
-#[cfg(test)]
-mod tests;

@@ -166,6 +166,3 @@ impl<T: LendParts> LendBytes for IoVecWrapperMut<T> {
 
     ghost with_bytes_beside = { λ w at s. ap behind_first (T.with_part_held w 0 at s) ∙ behind_overwritten (T.held w) at s };
 }
-
-#[cfg(test)]
-mod tests;
