@@ -57,23 +57,29 @@ slots-free (Waiting t) m k x h = (let f : ⊥ = cc in absurd f)
 slots-free Ignored m k x h = refl
 slots-free (Completed r) m k x h = (let f : ⊥ = cc in absurd f)
 
-module _ {B : Type 0} (m : FinMap nat_cmp (Slot B)) (c : Completion) (s : Slot B) (life : Lifecycle Outcome) (there : get m c.word ≡ Some s)
-    (completed : life ≡ Completed c.outcome) (flies : flies_in (get m c.word) ≡ true) where
+-- A completion of a slot in flight.
+module _ {B : Type 0} (m : FinMap nat_cmp (Slot B)) (c : Completion) (s : Slot B) (there : get m c.word ≡ Some s)
+    (flies : flies_in (get m c.word) ≡ true) where
   flying : is_flying s.life ≡ true
   flying = ap flies_in (sym there) ∙ flies
 
-  named-here : named_by (get m c.word) ≡ Some (s.serial, task_in s.life)
-  named-here = ap named_by there ∙ ap (λ b. named_if b s) flying
+  -- It names the slot's number, and the task that waits.
+  pub named-flying : named_by (get m c.word) ≡ Some (s.serial, task_in s.life)
+  named-flying = ap named_by there ∙ ap (λ b. named_if b s) flying
 
-  slots-here : slots_after m c (get m c.word) ≡ slots_completed s.life m c.word (with_life s (Completed c.outcome))
-  slots-here = ap (slots_after m c) there ∙ ap (λ b. slots_if b m c s) flying
+  -- It completes the slot by its life.
+  pub slots-flying : slots_after m c (get m c.word) ≡ slots_completed s.life m c.word (with_life s (Completed c.outcome))
+  slots-flying = ap (slots_after m c) there ∙ ap (λ b. slots_if b m c s) flying
 
+-- What completing a slot in flight leaves and answers, by what becomes of its life.
+module _ {B : Type 0} (m : FinMap nat_cmp (Slot B)) (c : Completion) (s : Slot B) (life : Lifecycle Outcome) (there : get m c.word ≡ Some s)
+    (completed : life ≡ Completed c.outcome) (flies : flies_in (get m c.word) ≡ true) where
   pub completes-kept : after_complete s.life ≡ Kept → CompletesSlot m c (insert m c.word (record s { life = life })) (Some (s.serial, None))
   completes-kept h = record {
     slots =
         ap (λ l. insert m c.word (with_life s l)) completed ∙ sym (slots-kept s.life m c.word (with_life s (Completed c.outcome)) h)
-        ∙ sym slots-here;
-    answer = ap (λ t. Some (s.serial, t)) (sym (task-kept s.life h)) ∙ sym named-here;
+        ∙ sym (slots-flying m c s there flies);
+    answer = ap (λ t. Some (s.serial, t)) (sym (task-kept s.life h)) ∙ sym (named-flying m c s there flies);
   }
 
   pub completes-wake : (task : ℕ) → after_complete s.life ≡ Wake task →
@@ -81,8 +87,8 @@ module _ {B : Type 0} (m : FinMap nat_cmp (Slot B)) (c : Completion) (s : Slot B
   completes-wake task h = record {
     slots =
         ap (λ l. insert m c.word (with_life s l)) completed ∙ sym (slots-wake s.life m c.word (with_life s (Completed c.outcome)) task h)
-        ∙ sym slots-here;
-    answer = ap (λ t. Some (s.serial, t)) (sym (task-wake s.life task h)) ∙ sym named-here;
+        ∙ sym (slots-flying m c s there flies);
+    answer = ap (λ t. Some (s.serial, t)) (sym (task-wake s.life task h)) ∙ sym (named-flying m c s there flies);
   }
 
   pub completes-free : (new : FinMap nat_cmp (Slot B)) → after_complete s.life ≡ Free →
@@ -90,6 +96,6 @@ module _ {B : Type 0} (m : FinMap nat_cmp (Slot B)) (c : Completion) (s : Slot B
   completes-free new h gone = record {
     slots =
         gone ∙ ap (λ l. remove (insert m c.word (with_life s l)) c.word) completed
-        ∙ sym (slots-free s.life m c.word (with_life s (Completed c.outcome)) h) ∙ sym slots-here;
-    answer = ap (λ t. Some (s.serial, t)) (sym (task-free s.life h)) ∙ sym named-here;
+        ∙ sym (slots-free s.life m c.word (with_life s (Completed c.outcome)) h) ∙ sym (slots-flying m c s there flies);
+    answer = ap (λ t. Some (s.serial, t)) (sym (task-free s.life h)) ∙ sym (named-flying m c s there flies);
   }

@@ -1,7 +1,8 @@
 -- Lists of numbers in which none stands twice.
-use Rattle.std.proofs.Common.{◌≡◌, ◌≢◌, ◌∙◌, inl, inr, ℕ, suc, ◌+◌, Bool, true, false, List, [], ◌∷◌, ◌++◌, Option, Some, None}
+use Rattle.std.proofs.Common.{◌≡◌, ◌≢◌, ◌∙◌, inl, inr, ℕ, suc, ◌+◌, ◌≤◌, Bool, true, false, List, [], ◌∷◌, ◌++◌, Option, Some, None}
 use Rattle.std.proofs.Common.{refl, sym, ap, arith}
 use Rattle.std.specs.Prelude.{◌||◌, ◌==◌}
+use Rattle.std.proofs.Math.Bool.{or_assoc, or-false}
 use Rattle.std.proofs.lemmas.Bool.Decides.{eqb_tells}
 use Rattle.ring_core.specs.Lists.{has_number}
 use Rattle.ring_core.specs.Ranks.{one_if}
@@ -34,14 +35,8 @@ first-other h xs apart k there = apart-by xs k h there apart.0
 
 -- A number is among those of a list with one more exactly where it is in the list, or is that one.
 pub has-one_more : (k h : ℕ) (xs : List ℕ) → has_number k (xs ++ h ∷ []) ≡ (has_number k xs || (k == h))
-has-one_more k h [] = or-none (k == h) where
-  or-none : (b : Bool) → (b || false) ≡ b
-  or-none true = refl
-  or-none false = refl
-has-one_more k h (x ∷ xs) = ap (λ b. (k == x) || b) (has-one_more k h xs) ∙ or-turn (k == x) (has_number k xs) (k == h) where
-  or-turn : (a b c : Bool) → (a || (b || c)) ≡ ((a || b) || c)
-  or-turn true b c = refl
-  or-turn false b c = refl
+has-one_more k h [] = or-false (k == h)
+has-one_more k h (x ∷ xs) = ap (λ b. (k == x) || b) (has-one_more k h xs) ∙ sym (or_assoc (k == x) (has_number k xs) (k == h))
 
 -- A list that has no number twice, and one that isn't in it.
 pub distinct-one_more : (xs : List ℕ) (h : ℕ) → Distinct xs → has_number h xs ≡ false → Distinct (xs ++ h ∷ [])
@@ -63,6 +58,11 @@ distinct-made (Some h) xs apart not = distinct-one_more xs h apart (not h refl)
 -- Equal numbers pass the test of it.
 pub equal-is : (n m : ℕ) → n ≡ m → (n == m) ≡ true
 equal-is n m e = elim (eqb_tells n m) [ inl t ↦ t.0 | inr t ↦ absurd (t.1 e) ]
+
+-- A test counts once at most.
+pub one-most : (b : Bool) → one_if b ≤ 1
+one-most true = omega arith
+one-most false = omega arith
 
 -- How often a number is there, where at most one of two tests passes.
 pub one-of_two : (a b : Bool) → (b ≡ true → a ≡ false) → one_if (a || b) ≡ one_if a + one_if b

@@ -1,38 +1,41 @@
 -- What calls leave of groups that stand for those of a ledger.
-use Rattle.std.proofs.Common.{◌≡◌, ◌≢◌, ◌⊎◌, inl, inr, ℕ, zero, suc, ◌<◌, Bool, true, false, List, [], ◌∷◌, ◌++◌, length, map, Option, Some}
-use Rattle.std.proofs.Common.{None, option_map, set, slice_get, IfSome, refl, sym, ◌∙◌, ap, subst, arith, nat_cmp, Greater}
+use Rattle.std.proofs.Common.{◌≡◌, ◌≢◌, ◌⊎◌, inl, inr, ℕ, ◌<◌, true, false, [], ◌∷◌, ◌++◌, length, Option, Some}
+use Rattle.std.proofs.Common.{None, slice_get, IfSome, refl, sym, ◌∙◌, ap, subst, arith, nat_cmp}
 use Rattle.std.specs.FinMap as finite
-use Rattle.std.specs.Cmp.{nat_cmp_is}
-use Rattle.std.specs.Ordering.{match_ordering}
-use Rattle.std.proofs.lemmas.List.{map-append, get_or-set_same, get_or-set_other}
+use Rattle.std.proofs.lemmas.Bool.{lt-leb}
 use Rattle.std.proofs.lemmas.Option.{slice_get_within}
 use Rattle.rent_buf.specs.Buffer.{Buffer}
+use Rattle.rent_buf.specs.Parts.{Parts}
+use Rattle.ring_core.specs.declared.ledger.Event.TheVariants.{Submit}
+use Rattle.ring_core.specs.declared.request.Request.{Request}
 use Rattle.ring_core.specs.Ledger.{Ledger, Place, InQueue, InFlight, InDone, Reaped, Gone, is_kept, is_marked, members, empty}
+use Rattle.ring_core.specs.Ledger.{group_under}
+use Rattle.ring_core.specs.Refusal.{has_no_canceller}
 use Rattle.ring_core.specs.Lists.{amended, has_number, passes}
 use Rattle.ring_core.specs.Step.{new_canceller_step, new_handle_step, cancel_all_step}
 use Rattle.ring_core.proofs.Amended.{get-amended-other}
 use Rattle.ring_core.proofs.Grouping.{op_groups, GroupsStay, groups-cancel_all}
-use Rattle.ring_core.proofs.Leaving.{has-first, has-later}
 use Rattle.ring_core.proofs.Members.{members-are}
 use Rattle.ring_core.proofs.Numbers.{same-or-not}
 use Rattle.ring_core.proofs.Owning.{members-marked, members-kept, members-left, members-more, members-beside, marks-more}
 use Rattle.ring_core.proofs.Staying.{Groups, groups_of}
 use Rattle.ring_core.proofs.Stepping.{OwnedAt}
-use Rattle.cancel_core.specs.Group.{Group, fresh, canceled, group_at, with_members, joined, without}
-use Rattle.driver_core.specs.declared.members.places.Place.{Place as Placed}
+use Rattle.cancel_core.specs.Group.{fresh, canceled, group_at, without}
 use Rattle.driver_core.specs.declared.op.Op.{Op}
 use Rattle.driver_core.specs.declared.slot.Slot.{Slot}
+use Rattle.driver_core.specs.Answers.{IsUnder}
 use Rattle.driver_core.specs.Groups.{GroupsStand, is_under_canceled, joins_if}
-use Rattle.driver_core.specs.Members.{Membership, ArePlaced, none, with_fresh, leaves, leaves_from, cancels}
+use Rattle.driver_core.specs.Members.{Membership, ArePlaced, none, with_fresh, joins, leaves, cancels}
 use Rattle.driver_core.specs.Op.{AddsToken, DropsToken}
 use Rattle.driver_core.specs.Ops.{Ops}
 use Rattle.driver_core.specs.Slot.{number_at, number_if, serial_of, is_owned_life, KeepsNumbers}
 use Rattle.driver_core.specs.Slots.{SlotsStand, life_of, owned_life}
-use Rattle.driver_core.proofs.Joining.{at-more, at-same, at-other, has-contains}
 use Rattle.driver_core.proofs.Lists.{some}
 use Rattle.driver_core.proofs.Numbers.{owner}
 use Rattle.driver_core.proofs.Owned.{owned-slot}
-use Rattle.driver_core.proofs.Placing.{without-absent, apart-absent}
+use Rattle.driver_core.proofs.Regrouped.{members_of, marked-at, left-marks, left-members, joined-marks, joined-members}
+use Rattle.driver_core.proofs.Regrouped.{joined-members-other, fresh-marks, fresh-members, canceled-marks, canceled-mark, canceled-members}
+use Rattle.driver_core.proofs.Regrouped.{canceled-members-other}
 
 -- The slot of an operation that isn't gone, and wasn't dropped, is its user's.
 owned-place : (p : Place) (task : Option ℕ) → is_kept p ≡ true → is_owned_life (owned_life p task) ≡ true
@@ -100,44 +103,6 @@ groups-kept buffer slots slots' L M m old new keeps stay stand =
       members = λ g. stand.members g ∙ sym (members-kept L M g (stays-marked L M g stay.groups) stay.ops into from);
     }
 
--- A change of one group's members leaves all marks.
-marks-stay : (gs : List Group) (g : ℕ) (ks : List ℕ) → map (λ x. x.canceled) (with_members gs g ks) ≡ map (λ x. x.canceled) gs
-marks-stay [] g ks = refl
-marks-stay (x ∷ gs) zero ks = refl
-marks-stay (x ∷ gs) (suc g) ks = ap (λ marks. x.canceled ∷ marks) (marks-stay gs g ks)
-
--- The groups that an operation leaves, by its place.
-module _ (m : Membership) (placed : ArePlaced m) (n : ℕ) where
-  -- They have their marks.
-  left-marks : (x : Option Placed) → finite.get m.places n ≡ x →
-      map (λ g. g.canceled) (leaves_from m n x).groups ≡ map (λ g. g.canceled) m.groups
-  left-marks None at = refl
-  left-marks (Some place) at = marks-stay m.groups place.group (without (group_at m.groups place.group).members n)
-
-  -- They have their members but that one.
-  left-members : (x : Option Placed) → finite.get m.places n ≡ x → (g : ℕ) →
-      (group_at (leaves_from m n x).groups g).members ≡ without (group_at m.groups g).members n
-  left-members None at g = sym (without-absent n (group_at m.groups g).members (apart-absent m placed n g at))
-  left-members (Some place) at g = elim (same-or-not g place.group) [
-    | inl e ↦
-        let fewer : List ℕ = without (group_at m.groups place.group).members n in
-        ap (λ i. (group_at (with_members m.groups place.group fewer) i).members) e
-        ∙ ap (λ (x : Group). x.members) (at-same m.groups place.group fewer
-        (placed.made place.group n (ap (option_map (λ p. p.group)) at)))
-        ∙ ap (λ i. without (group_at m.groups i).members n) (sym e)
-    | inr e ↦
-        ap (λ (x : Group). x.members) (at-other m.groups place.group g (without (group_at m.groups place.group).members n) e)
-        ∙ sym (without-absent n (group_at m.groups g).members (elsewhere e))
-  ]
-    where
-      elsewhere : g ≢ place.group → has_number n (group_at m.groups g).members ≡ false
-      elsewhere other = by (has_number n (group_at m.groups g).members) refl
-        where
-          by : (b : Bool) → has_number n (group_at m.groups g).members ≡ b → b ≡ false
-          by false e = refl
-          by true e = absurd (other (let same : ◌≡◌ {A = Option ℕ} (Some g) (Some place.group) =
-              sym (placed.members g n (has-contains n (group_at m.groups g).members e)) ∙ ap (option_map (λ p. p.group)) at in cc))
-
 -- Where one operation is its user's no more, and leaves its group, they stand for those of the next ledger.
 pub groups-left : {B : Type 0} (buffer : B → Buffer) (old new : Ops B) (L M : Ledger) (m : Membership) (op : Op) →
     SlotsStand buffer old.slots.values L.ops → SlotsStand buffer new.slots.values M.ops →
@@ -157,33 +122,31 @@ groups-left buffer old new L M m op was is at spends stay placed stand =
           (subst (λ i. number_at old.slots.values k.0 ≡ Some i) e both.0) at)),
     )) in
     record {
-      marks = left-marks m placed n (finite.get m.places n) refl ∙ stand.marks ∙ sym (ap (λ (G : Groups). G.groups) stay.groups);
-      members = λ g. left-members m placed n (finite.get m.places n) refl g ∙ ap (λ ms. without ms n) (stand.members g)
+      marks = left-marks m n ∙ stand.marks ∙ sym (ap (λ (G : Groups). G.groups) stay.groups);
+      members = λ g. left-members m placed n g ∙ ap (λ ms. without ms n) (stand.members g)
           ∙ sym (members-left L M g n (stays-marked L M g stay.groups) stay.ops into from);
     }
   where
     same-op : (q k : ℕ) → q ≡ op.number → k ≡ op.key → ◌≡◌ {A = Op} (record { number = q; key = k }) op
     same-op q k e f = ap (λ i. record { number = i; key = k }) e ∙ ap (λ j. record { number = op.number; key = j }) f
 
--- A number above others joins them at their end.
-joined-last : (n : ℕ) (xs : List ℕ) → ((q : ℕ) → has_number q xs ≡ true → q < n) → joined xs n ≡ xs ++ n ∷ []
-joined-last n [] below = refl
-joined-last n (x ∷ xs) below =
-    let above : Greater ≡ nat_cmp n x = nat_cmp_is n x Greater (below x (has-first x xs)) in
-    ap (λ r. match_ordering r (n ∷ x ∷ xs) (x ∷ xs) (x ∷ joined xs n)) (sym above)
-    ∙ ap (λ ys. x ∷ ys) (joined-last n xs (λ q h. below q (has-later q x xs h)))
-
 -- A group that isn't canceled isn't marked in a ledger for which groups stand.
 pub stands-marked : (m : Membership) (L : Ledger) → GroupsStand m L → (g : ℕ) → g < length m.groups →
     is_marked L g ≡ (group_at m.groups g).canceled
 stands-marked m L stand g within =
-    ap (λ marks. passes (λ mark. mark) (slice_get marks g)) (sym stand.marks) ∙ read m.groups g within
-  where
-    read : (gs : List Group) (h : ℕ) → h < length gs →
-        passes (λ mark. mark) (slice_get (map (λ x. x.canceled) gs) h) ≡ (group_at gs h).canceled
-    read [] h lt = absurd (omega (arith, lt))
-    read (x ∷ gs) zero lt = refl
-    read (x ∷ gs) (suc h) lt = read gs h (omega (arith, lt))
+    ap (λ marks. passes (λ mark. mark) (slice_get marks g)) (sym stand.marks) ∙ marked-at m g within
+
+-- The group of the cancel handle that the machine submits under is the one that a driver submits under.
+pub under-group : (L : Ledger) (under handle : Option ℕ) → IsUnder L under handle → group_under L handle ≡ under
+under-group L None handle is = ap (group_under L) is
+under-group L (Some g) handle is = is
+
+-- That cancel handle was created.
+pub under-known : (L : Ledger) (request : Request Buffer Parts) (under handle : Option ℕ) → IsUnder L under handle →
+    has_no_canceller L (Submit request handle) ≡ false
+under-known L request under None is = refl
+under-known L request None (Some k) is = (let f : ⊥ = cc in absurd f)
+under-known L request (Some g) (Some k) is = lt-leb (length L.cancel_handles) k (slice_get_within L.cancel_handles k g is)
 
 -- Where a new operation joins the group that it is submitted under, or none, they stand for those of the next ledger.
 module _ {B : Type 0} (buffer : B → Buffer) (old new : Ops B) (L M : Ledger) (m : Membership) (op : Op) (under : Option ℕ)
@@ -231,19 +194,16 @@ module _ {B : Type 0} (buffer : B → Buffer) (old new : Ops B) (L M : Ledger) (
       }
       by (Some u) e within opened =
           let now : is_marked L u ≡ false = stands-marked m L stand u within ∙ opened in
-          let more : List ℕ = joined (group_at m.groups u).members op.number in
           record {
-            marks = marks-stay m.groups u more ∙ stand.marks ∙ sym marks;
+            marks = joined-marks m u op.number key ∙ stand.marks ∙ sym marks;
             members = λ g. elim (same-or-not g u) [
               | inl q ↦
-                  ap (λ i. (group_at (with_members m.groups u more) i).members) q
-                  ∙ ap (λ (x : Group). x.members) (at-same m.groups u more within)
-                  ∙ ap (λ ms. joined ms op.number) (stand.members u)
-                  ∙ joined-last op.number (members L u) (λ i h. below u i now h)
+                  ap (members_of (joins m u op.number key)) q
+                  ∙ joined-members m u op.number key (members L u) within (stand.members u) (λ i h. below u i now h)
                   ∙ sym (members-more L M op.number under ops number into this from u (stays-marked L M u groups ∙ now) now e)
                   ∙ ap (members M) (sym q)
               | inr q ↦
-                  ap (λ (x : Group). x.members) (at-other m.groups u g more q) ∙ stand.members g
+                  joined-members-other m u op.number key g q ∙ stand.members g
                   ∙ sym (beside g (λ f. q (let s : ◌≡◌ {A = Option ℕ} (Some u) (Some g) = sym e ∙ f in cc)))
             ];
           }
@@ -251,8 +211,8 @@ module _ {B : Type 0} (buffer : B → Buffer) (old new : Ops B) (L M : Ledger) (
 -- With a fresh group behind them they stand for those of the ledger with a new canceller.
 pub groups-fresh : (m : Membership) (L : Ledger) → GroupsStand m L → GroupsStand (with_fresh m) (new_canceller_step L)
 groups-fresh m L stand = record {
-  marks = map-append (λ x. x.canceled) m.groups (fresh ∷ []) ∙ ap (λ marks. marks ++ false ∷ []) stand.marks;
-  members = λ g. ap (λ (x : Group). x.members) (at-more m.groups g) ∙ stand.members g
+  marks = fresh-marks m ∙ ap (λ marks. marks ++ false ∷ []) stand.marks;
+  members = λ g. fresh-members m g ∙ stand.members g
       ∙ sym (members-kept L (new_canceller_step L) g (marks-more L.groups g) refl
       (λ n o. record { operation = o.operation; there = o.there; kept = o.kept; undropped = o.undropped })
       (λ n o. record { operation = o.operation; there = o.there; kept = o.kept; undropped = o.undropped }));
@@ -261,13 +221,6 @@ groups-fresh m L stand = record {
 -- A cancel handle leaves groups and operations.
 pub groups-handle : (m : Membership) (L : Ledger) (c : ℕ) → GroupsStand m L → GroupsStand m (new_handle_step L c)
 groups-handle m L c stand = record { marks = stand.marks; members = stand.members }
-
--- The marks of groups of which one is canceled.
-marks-canceled : (gs : List Group) (c : ℕ) →
-    map (λ x. x.canceled) (set gs c canceled) ≡ amended (map (λ x. x.canceled) gs) c (λ mark. true)
-marks-canceled [] c = refl
-marks-canceled (x ∷ gs) zero = refl
-marks-canceled (x ∷ gs) (suc c) = ap (λ marks. x.canceled ∷ marks) (marks-canceled gs c)
 
 -- Where a group that was made is canceled, which is that of a canceller, and its slots stay, they stand for those of the ledger with that
 -- group canceled.
@@ -285,25 +238,14 @@ groups-canceled buffer slots L m k c old new within stand =
     let at : (g : ℕ) → is_marked M g ≡ passes (λ mark. mark) (slice_get (amended L.groups c (λ mark. true)) g) = λ g.
     ap (λ ms. passes (λ mark. mark) (slice_get ms g)) marks ∙ marks-more (amended L.groups c (λ mark. true)) g in
     record {
-      marks = map-append (λ x. x.canceled) (set m.groups c canceled) (fresh ∷ [])
-          ∙ ap (λ ms. ms ++ false ∷ []) (marks-canceled m.groups c ∙ ap (λ ms. amended ms c (λ mark. true)) stand.marks) ∙ sym marks;
-      members = λ g. ap (λ (x : Group). x.members) (at-more (set m.groups c canceled) g) ∙ elim (same-or-not g c) [
+      marks = canceled-marks m c ∙ ap (λ ms. amended ms c (λ mark. true) ++ false ∷ []) stand.marks ∙ sym marks;
+      members = λ g. elim (same-or-not g c) [
         | inl e ↦
-            ap (λ i. (group_at (set m.groups c canceled) i).members) e
-            ∙ ap (λ (x : Group). x.members) (get_or-set_same m.groups c canceled fresh within)
-            ∙ sym (members-marked M c (at c ∙ ap (passes (λ mark. mark)) (marked-this L.groups c
-            (subst (λ ms. c < length ms) stand.marks (rw (length-marks m.groups) within))))) ∙ ap (members M) (sym e)
+            ap (members_of (cancels m c)) e ∙ canceled-members m c within
+            ∙ sym (members-marked M c (at c ∙ ap (passes (λ mark. mark)) (canceled-mark m L.groups c stand.marks within)))
+            ∙ ap (members M) (sym e)
         | inr e ↦
-            ap (λ (x : Group). x.members) (get_or-set_other m.groups c g canceled fresh e) ∙ stand.members g
+            canceled-members-other m c g e ∙ stand.members g
             ∙ sym (members-kept L M g (at g ∙ ap (passes (λ mark. mark)) (get-amended-other (λ mark. true) L.groups c g e)) s.1 into from)
       ];
     }
-  where
-    length-marks : (gs : List Group) → length (map (λ x. x.canceled) gs) ≡ length gs
-    length-marks [] = refl
-    length-marks (x ∷ gs) = ap suc (length-marks gs)
-
-    marked-this : (ms : List Bool) (i : ℕ) → i < length ms → slice_get (amended ms i (λ mark. true)) i ≡ Some true
-    marked-this [] i lt = absurd (omega (arith, lt))
-    marked-this (x ∷ ms) zero lt = refl
-    marked-this (x ∷ ms) (suc i) lt = marked-this ms i (omega (arith, lt))

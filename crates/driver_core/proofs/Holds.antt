@@ -1,7 +1,8 @@
 -- What tables of holders are, handle by handle, once operations joined or left.
 use Rattle.std.proofs.Common.{◌≡◌, ◌≢◌, ◌∙◌, inl, inr, ℕ, ◌+◌, ◌<◌, Bool, true, false, not, List, [], ◌∷◌, length, Option, Some, None}
 use Rattle.std.proofs.Common.{refl, sym, ap, subst, arith}
-use Rattle.std.specs.Prelude.{◌==◌, is_some, IsSome, unwrap_or}
+use Rattle.std.specs.Prelude.{◌==◌, is_some, IsSome, unwrap_or, nat_lt}
+use Rattle.std.proofs.lemmas.Bool.{ltb-true}
 use Rattle.std.proofs.lemmas.Bool.Decides.{nat_tests}
 use Rattle.std.specs.FinMap.{get, len}
 use Rattle.handle_core.specs.declared.table.TheConstants.{MAX_HOLDS}
@@ -237,3 +238,20 @@ pub len-handed : (table : Table) (h : ℕ) → 0 < (holders_at table h).operatio
 len-handed table h some =
     let was = entry-of (get table.holders h) (omega (arith, some)) in
     len-put table.holders h (handed (holders_at table h)) was.0 was.1
+
+-- A handle that somebody holds is in the table.
+pub held-some : (table : Table) (h : ℕ) → 0 < (holders_at table h).user + (holders_at table h).operations →
+    is_some (get table.holders h) ≡ true
+held-some table h some = by (get table.holders h) some
+  where
+    by : (o : Option Holders) → 0 < (unwrap_or o nobody).user + (unwrap_or o nobody).operations → is_some o ≡ true
+    by None h = absurd (omega arith)
+    by (Some x) h = refl
+
+-- So is one that an operation holds.
+pub held-op : (table : Table) (h : ℕ) → 0 < (holders_at table h).operations → is_some (get table.holders h) ≡ true
+held-op table h some = held-some table h (omega (arith, some))
+
+-- And one that its user holds.
+pub held-user : (table : Table) (h : ℕ) → nat_lt 0 (holders_at table h).user ≡ true → is_some (get table.holders h) ≡ true
+held-user table h users = (let a = ltb-true 0 (holders_at table h).user users in held-some table h (omega (arith, a)))

@@ -2,6 +2,7 @@
 use Rattle.std.proofs.Common.{◌≡◌, ◌≢◌, inl, inr, ℕ, zero, suc, ◌<◌, Bool, true, false, not, ◌||◌, List, [], ◌∷◌, ◌++◌, length}
 use Rattle.std.proofs.Common.{refl, sym, ◌∙◌, ap, subst, arith, eqb, eqb-true, eq-eqb, ne_eqb, true≢false, Contains}
 use Rattle.std.proofs.Common.{nat_cmp, Less, Equal, Greater}
+use Rattle.std.proofs.Math.Bool.{or-true}
 use Rattle.std.specs.List.{list_any}
 use Rattle.std.specs.Ordering.{match_ordering}
 use Rattle.std.specs.Cmp.{nat_eq_equiv}
@@ -58,10 +59,7 @@ joined-this ks k = found-member (joined ks k) k (any-joined ks k k ∙ ap (λ b.
 
 -- A member stays when another joins.
 pub joined-kept : (ks : List ℕ) (k n : ℕ) → Contains ks n → Contains (joined ks k) n
-joined-kept ks k n h = found-member (joined ks k) n (any-joined ks k n ∙ ap (λ b. eqb n k || b) (found ks n h) ∙ or-true (eqb n k)) where
-  or-true : (b : Bool) → (b || true) ≡ true
-  or-true true = refl
-  or-true false = refl
+joined-kept ks k n h = found-member (joined ks k) n (any-joined ks k n ∙ ap (λ b. eqb n k || b) (found ks n h) ∙ or-true (eqb n k))
 
 -- Who is a member beside the one that joined was one before.
 pub joined-other : (ks : List ℕ) (k n : ℕ) → n ≢ k → Contains (joined ks k) n → Contains ks n

@@ -1,4 +1,5 @@
 pub mod Lists
+pub mod Rising
 pub mod Maps
 pub mod Distinct
 pub mod Holds
@@ -22,5 +23,6 @@ pub mod Trees
 pub mod Joining
 pub mod Membership
 pub mod Placing
+pub mod Regrouped
 pub mod Grouping
 pub mod KeptTokens

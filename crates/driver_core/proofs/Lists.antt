@@ -1,12 +1,17 @@
 -- Lists by place.
 use Rattle.std.proofs.Common.{◌≡◌, ◌≢◌, ◌⊎◌, inl, inr, ℕ, zero, suc, ◌≤◌, List, [], ◌∷◌, ◌++◌, length, map, Option, Some, None, refl, sym}
 use Rattle.std.proofs.Common.{◌∙◌, ap, arith}
-use Rattle.std.specs.Prelude.{slice_get, remove}
+use Rattle.std.specs.Prelude.{slice_get, remove, option_to_list}
 use Rattle.ring_core.specs.Lists.{amended}
 
 -- An option holds one value.
 pub some : {X : Type 0} (x y : X) (o : Option X) → o ≡ Some x → o ≡ Some y → x ≡ y
 some x y o p q = let e = sym p ∙ q in cc
+
+-- An option is one value at most.
+pub length-option : {X : Type 0} (o : Option X) → length (option_to_list o) ≤ 1
+length-option None = omega arith
+length-option (Some x) = omega arith
 
 -- A list of no length is empty.
 pub emptied : {A : Type 0} (xs : List A) → length xs ≤ 0 → xs ≡ []

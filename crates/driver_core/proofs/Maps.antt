@@ -56,6 +56,13 @@ remove-put m k v = same_map nat_cmp_total nat_cmp-IsAntisymmetric _ _ (λ q. eli
   | inr e ↦ gone-other (insert m k v) k q e ∙ put-other m k v q e ∙ sym (gone-other m k q e)
 ])
 
+-- What is written twice at a key is written once.
+pub put-twice : {X : Type 0} (m : FinMap nat_cmp X) (k : ℕ) (v w : X) → insert (insert m k v) k w ≡ insert m k w
+put-twice m k v w = same_map nat_cmp_total nat_cmp-IsAntisymmetric _ _ (λ q. elim (same-or-not q k) [
+  | inl e ↦ ap (get (insert (insert m k v) k w)) e ∙ put-same (insert m k v) k w ∙ sym (put-same m k w) ∙ ap (get (insert m k w)) (sym e)
+  | inr e ↦ put-other (insert m k v) k w q e ∙ put-other m k v q e ∙ sym (put-other m k w q e)
+])
+
 -- What is there is written again.
 pub put-self : {X : Type 0} (m : FinMap nat_cmp X) (k : ℕ) (v : X) → get m k ≡ Some v → insert m k v ≡ m
 put-self m k v h = same_map nat_cmp_total nat_cmp-IsAntisymmetric _ _ (λ q. elim (same-or-not q k) [

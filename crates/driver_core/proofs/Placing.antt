@@ -1,11 +1,10 @@
 -- Where the operations under groups are: that they are in slots, after each call, and what a join that is taken back leaves.
-use Rattle.std.proofs.Common.{◌≡◌, ◌≢◌, inl, inr, ℕ, zero, suc, Bool, true, false, cond, not, List, [], ◌∷◌, Option, Some, None, is_some}
+use Rattle.std.proofs.Common.{◌≡◌, ◌≢◌, inl, inr, ℕ, zero, suc, true, false, cond, not, List, [], ◌∷◌, Option, Some, None, is_some}
 use Rattle.std.proofs.Common.{option_map, Result, Ok, Err, OnOk, refl, sym, ◌∙◌, ap, subst, arith, true≢false, eq-eqb, nat_cmp, Less}
 use Rattle.std.proofs.Common.{Equal, Greater}
 use Rattle.std.specs.FinMap as map
-use Rattle.std.specs.FinMap.{same_map, nat_cmp-IsAntisymmetric}
-use Rattle.std.specs.Cmp.{nat_cmp_total}
 use Rattle.std.specs.Ordering.{match_ordering}
+use Rattle.std.proofs.lemmas.Bool.{false_from_ne_true}
 use Rattle.std.proofs.lemmas.Map.Lookups.{exact_unsigned}
 use Rattle.ring_core.specs.Lists.{has_number}
 use Rattle.ring_core.proofs.Leaving.{has-first, has-other}
@@ -15,12 +14,12 @@ use Rattle.driver_core.specs.declared.members.places.Place.{Place}
 use Rattle.driver_core.specs.declared.op.Op.{Op}
 use Rattle.driver_core.specs.declared.slot.Slot.{Slot}
 use Rattle.driver_core.specs.Groups.{AreInSlots, joins_if}
-use Rattle.driver_core.specs.Members.{Membership, ArePlaced, joins, moves, keyed_at, leaves, leaves_from}
+use Rattle.driver_core.specs.Members.{Membership, ArePlaced, group_over, joins, moves, keyed_at, leaves, leaves_from}
 use Rattle.driver_core.specs.Op.{AddsToken, DropsToken}
 use Rattle.driver_core.specs.Ops.{Ops, AreNumbered}
 use Rattle.driver_core.specs.Slot.{number_at, KeepsNumbers}
 use Rattle.driver_core.proofs.Lists.{some}
-use Rattle.driver_core.proofs.Maps.{put-same, put-other, gone-same, gone-other}
+use Rattle.driver_core.proofs.Maps.{put-same, put-other, put-twice, gone-same, gone-other}
 use Rattle.driver_core.proofs.Membership.{put-taken}
 use Rattle.driver_core.proofs.Joining.{has-contains}
 
@@ -84,14 +83,6 @@ next-apart m slots given are numbered = by (map.get m.places given) refl
     by None at = refl
     by (Some place) at = absurd (let below = (numbered place.key given (are given place at)).number_below in omega (arith, below))
 
--- What is written twice at a number is written once.
-put-twice : {X : Type 0} (m : map.FinMap nat_cmp X) (k : ℕ) (v w : X) → map.insert (map.insert m k v) k w ≡ map.insert m k w
-put-twice m k v w = same_map nat_cmp_total nat_cmp-IsAntisymmetric _ _ (λ q. elim (same-or-not q k) [
-  | inl e ↦ ap (map.get (map.insert (map.insert m k v) k w)) e ∙ put-same (map.insert m k v) k w ∙ sym (put-same m k w)
-      ∙ ap (map.get (map.insert m k w)) (sym e)
-  | inr e ↦ put-other (map.insert m k v) k w q e ∙ put-other m k v q e ∙ sym (put-other m k w q e)
-])
-
 -- An operation that joined with one key and moved to another one joined with that.
 pub moved-joined : (m : Membership) (under : Option ℕ) (n k j : ℕ) → map.get m.places n ≡ None →
     moves (joins_if m under n k) n j ≡ joins_if m under n j
@@ -102,6 +93,14 @@ moved-joined m (Some g) n k j apart =
     ∙ ap (λ ps. record (joins m g n k) { places = ps })
     (put-twice m.places n (record { key = k; group = g }) (record { key = j; group = g }))
 
+-- The groups once the next operation joined one, in front of its slot, and then got the key of its slot.
+pub joined-at : (m mid new : Membership) (under : Option ℕ) (given : ℕ) (op : Op) (number key : ℕ) → op.number ≡ given →
+    number ≡ op.number → key ≡ op.key → map.get m.places given ≡ None → mid ≡ joins_if m under given 0 → new ≡ moves mid number key →
+    new ≡ joins_if m under op.number op.key
+joined-at m mid new under given op number key is n k apart joins moved =
+    moved ∙ ap (λ x. moves x number key) joins ∙ ap (λ i. moves (joins_if m under given 0) i key) (n ∙ is)
+    ∙ moved-joined m under given 0 key apart ∙ ap (joins_if m under given) k ∙ ap (λ i. joins_if m under i op.key) (sym is)
+
 -- A number that isn't among others isn't the first of them, nor among the rest.
 absent-both : (n x : ℕ) (xs : List ℕ) → has_number n (x ∷ xs) ≡ false → (n ≢ x) × (has_number n xs ≡ false)
 absent-both n x xs absent =
@@ -109,11 +108,11 @@ absent-both n x xs absent =
     (other, sym (has-other n x xs other) ∙ absent)
 
 -- Numbers without one that isn't the first of them.
-without-keeps : (n x : ℕ) (xs : List ℕ) → n ≢ x → without (x ∷ xs) n ≡ x ∷ without xs n
+pub without-keeps : (n x : ℕ) (xs : List ℕ) → n ≢ x → without (x ∷ xs) n ≡ x ∷ without xs n
 without-keeps n x xs other = ap (λ b. cond (not b) (x ∷ without xs n) (without xs n)) (equal-other x n (λ e. other (sym e)))
 
 -- Numbers without the first of them.
-without-drops : (n : ℕ) (xs : List ℕ) → without (n ∷ xs) n ≡ without xs n
+pub without-drops : (n : ℕ) (xs : List ℕ) → without (n ∷ xs) n ≡ without xs n
 without-drops n xs = ap (λ b. cond (not b) (n ∷ without xs n) (without xs n)) (eq-eqb n n refl)
 
 -- Numbers without one that isn't among them.
@@ -134,15 +133,17 @@ without-joined n (x ∷ xs) absent =
       | Greater ↦ λ e. without-keeps n x (joined xs n) both.0 ∙ ap (λ ys. x ∷ ys) (without-joined n xs both.1)
     ] refl
 
+-- Who isn't under a group is no member of it.
+pub absent-unless : (m : Membership) → ArePlaced m → (n g : ℕ) → group_over m n ≢ Some g →
+    has_number n (group_at m.groups g).members ≡ false
+absent-unless m placed n g other = false_from_ne_true (has_number n (group_at m.groups g).members) (λ is.
+    other (placed.members g n (has-contains n (group_at m.groups g).members is)))
+
 -- Who has no place is a member of no group.
 pub apart-absent : (m : Membership) → ArePlaced m → (n g : ℕ) → map.get m.places n ≡ None →
     has_number n (group_at m.groups g).members ≡ false
-apart-absent m placed n g apart = by (has_number n (group_at m.groups g).members) refl
-  where
-    by : (b : Bool) → has_number n (group_at m.groups g).members ≡ b → b ≡ false
-    by false e = refl
-    by true e = absurd (true≢false (sym (ap is_some (placed.members g n (has-contains n (group_at m.groups g).members e)))
-        ∙ ap (λ x. is_some (option_map (λ place. place.group) x)) apart))
+apart-absent m placed n g apart = absent-unless m placed n g (λ over.
+    true≢false (sym (ap is_some over) ∙ ap (λ x. is_some (option_map (λ place. place.group) x)) apart))
 
 -- An operation that joined a group, and left again, leaves all as it was.
 left-joined : (m : Membership) (g n k : ℕ) → ArePlaced m → map.get m.places n ≡ None → leaves (joins m g n k) n ≡ m

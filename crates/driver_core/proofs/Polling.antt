@@ -3,6 +3,8 @@ use Rattle.std.proofs.Common.{◌≡◌, ℕ, true, false, Option, Some, None, r
 use Rattle.std.specs.Prelude.{IsSome, IfSome}
 use Rattle.std.specs.Ordering.{nat_cmp}
 use Rattle.std.specs.FinMap.{FinMap, get, insert, remove}
+use Rattle.rent_buf.specs.Buffer.{Buffer}
+use Rattle.rent_buf.specs.Parts.{Parts}
 use Rattle.op_slots.specs.declared.lifecycle.AfterDrop.{AfterDrop}
 use Rattle.op_slots.specs.declared.lifecycle.AfterDrop.TheVariants.{Left, Free}
 use Rattle.op_slots.specs.declared.lifecycle.AfterPoll.{AfterPoll}
@@ -11,8 +13,11 @@ use Rattle.op_slots.specs.declared.lifecycle.Lifecycle.{Lifecycle}
 use Rattle.op_slots.specs.declared.lifecycle.Lifecycle.TheVariants.{Submitted, Waiting, Ignored, Completed}
 use Rattle.op_slots.specs.Lifecycle.{after_poll, polled, after_drop, dropped, IsCompleted}
 use Rattle.ring_core.specs.declared.request.Outcome.{Outcome}
+use Rattle.ring_core.specs.declared.request.Request.{Request}
 use Rattle.driver_core.specs.declared.op.Done.{Done}
+use Rattle.driver_core.specs.declared.operations.calls.CallAnswer.{CallAnswer}
 use Rattle.driver_core.specs.declared.slot.Slot.{Slot}
+use Rattle.driver_core.specs.Calls.{CallsSlot}
 use Rattle.driver_core.specs.Slot.{with_life, is_flying, PollsSlot, PollsThis, PollsAt, DropsSlot, DropsThis, DropsAt}
 use Rattle.driver_core.proofs.Lists.{some}
 use Rattle.driver_core.proofs.Maps.{put-same, remove-put}
@@ -23,6 +28,13 @@ flies-waits Submitted e = refl
 flies-waits (Waiting t) e = refl
 flies-waits Ignored e = refl
 flies-waits (Completed r) e = cc
+
+-- What is polled in flight is in flight.
+pub polled-flies : (life : Lifecycle Outcome) (task : ℕ) → is_flying life ≡ true → is_flying (polled life task) ≡ true
+polled-flies Submitted task flies = refl
+polled-flies (Waiting earlier) task flies = refl
+polled-flies Ignored task flies = refl
+polled-flies (Completed outcome) task flies = flies
 
 -- A poll that takes an outcome leaves the life as it was.
 polled-take : (l : Lifecycle Outcome) (task : ℕ) → after_poll l ≡ Take → polled l task ≡ l
@@ -103,3 +115,9 @@ module _ {B : Type 0} (old : FinMap nat_cmp (Slot B)) (key : ℕ) (mid : FinMap 
     flies-free p.slot.life (sym p.answers ∙ free),
     gone ∙ ap (λ m. remove m key) p.slots ∙ remove-put old key (with_life p.slot (dropped p.slot.life)),
   )
+
+-- The slot of an operation that was called is the one after the call.
+pub called-now : {B C : Type 0} {buffer : B → Buffer} {called : C → Request Buffer Parts → C → Request Buffer Parts → CallAnswer → Type 0}
+    {old : FinMap nat_cmp (Slot B)} {key : ℕ} {before : C} {new : FinMap nat_cmp (Slot B)} {after : C} {answer : CallAnswer}
+    (calls : CallsSlot buffer called old key before new after answer) → get new key ≡ Some calls.now
+called-now {old = old} {key = key} calls = ap (λ m. get m key) calls.slots ∙ put-same old key calls.now

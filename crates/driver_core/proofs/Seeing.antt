@@ -1,7 +1,7 @@
 -- Where all operations that hold a handle are seen to hold it, in a ledger in which nobody else holds what an operation made; and which
 -- closes are queued once an operation left.
-use Rattle.std.proofs.Common.{◌≡◌, ◌≢◌, ◌∙◌, inl, inr, ℕ, suc, ◌+◌, ◌<◌, Bool, true, false, cond, ◌==◌, List, [], ◌∷◌, ◌++◌, length}
-use Rattle.std.proofs.Common.{Option, Some, None, refl, sym, ap, subst, arith, if◌then◌else◌}
+use Rattle.std.proofs.Common.{◌≡◌, ◌≢◌, ◌∙◌, inl, inr, ℕ, suc, ◌+◌, ◌<◌, Bool, true, false, cond, ◌==◌, List, [], ◌∷◌, ◌++◌}
+use Rattle.std.proofs.Common.{Option, Some, None, refl, sym, ap, subst, arith, append-nil, if◌then◌else◌}
 use Rattle.std.specs.Prelude.{◌&&◌, nat_lt, slice_get, filter, max, option_to_list}
 use Rattle.std.proofs.lemmas.Bool.Decides.{nat_tests}
 use Rattle.handle_core.specs.Table.{Table, holders_at, with_holders, without_operation, handed}
@@ -150,11 +150,7 @@ filter-one_more test (x ∷ xs) h = by (test x) (filter-one_more test xs h)
 -- Those that pass where one that was made passes too.
 filter-made : (test : ℕ → Bool) (xs : List ℕ) (made : Option ℕ) → ((h : ℕ) → made ≡ Some h → test h ≡ true) →
     filter test (with_made made xs) ≡ filter test xs ++ option_to_list made
-filter-made test xs None passes = sym (none-more (filter test xs))
-  where
-    none-more : (ys : List ℕ) → ys ++ [] ≡ ys
-    none-more [] = refl
-    none-more (y ∷ ys) = ap (λ zs. y ∷ zs) (none-more ys)
+filter-made test xs None passes = sym (append-nil (filter test xs))
 filter-made test xs (Some h) passes = filter-one_more test xs h ∙ ap (λ b. filter test xs ++ (if b then h ∷ [] else [])) (passes h refl)
 
 module _ (table : Table) (L : Ledger) (n : ℕ) (o : Operation) (stand : HoldersStand table L) (there : slice_get L.ops n ≡ Some o)
@@ -203,9 +199,9 @@ module _ (table : Table) (L : Ledger) (n : ℕ) (o : Operation) (stand : Holders
     abbrev handed_ledger : Ledger
     handed_ledger = with_user L h true
 
-    -- It is below the number of handles.
-    within : h < length L.owners
-    within = known.known n h o there (made-held o.made (named o.request) h made)
+    -- Its user holds it then.
+    user-has : user_holds handed_ledger h ≡ true
+    user-has = user-with_user L h true (known.known n h o there (made-held o.made (named o.request) h made))
 
     -- It isn't among those that the operation names.
     named-not : has_number h (named o.request) ≡ false
@@ -237,7 +233,7 @@ module _ (table : Table) (L : Ledger) (n : ℕ) (o : Operation) (stand : Holders
         | inl e ↦ (
             ap (λ x. nat_lt 0 (holders_at handed_table x).user) e
             ∙ ap (λ x. nat_lt 0 x.user) (with-same table h (handed (holders_at table h))) ∙ once (holders_at table h).user
-            ∙ sym (ap (user_holds handed_ledger) e ∙ user-with_user L h true within))
+            ∙ sym (ap (user_holds handed_ledger) e ∙ user-has))
         | inr e ↦ (
             ap (λ x. nat_lt 0 x.user) (with-other table h (handed (holders_at table h)) k e) ∙ stand.users k
             ∙ sym (user-with_user-other L h k true e))
@@ -264,13 +260,9 @@ module _ (table : Table) (L : Ledger) (n : ℕ) (o : Operation) (stand : Holders
         ap (λ x. is_nobody (without_operation x)) (same-holders k is)
         ∙ left-nobody k (holds-named k (made_life (life_at o)) (named o.request) is)
         ∙ sym (unheld-at (with_gone L n) G k (user-with_user-other L h k true (other k is)) refl))
-        ∙ none-more (filter (is_unheld G) (named o.request))
+        ∙ sym (append-nil (filter (is_unheld G) (named o.request)))
         ∙ ap (λ b. filter (is_unheld G) (named o.request) ++ (if b then h ∷ [] else []))
-        (sym (held-by_user G h (user-with_user L h true within)))
+        (sym (held-by_user G h user-has))
         ∙ sym (filter-one_more (is_unheld G) (named o.request) h)
         ∙ ap (λ m. filter (is_unheld G) (with_made m (named o.request))) (sym made)
         ∙ sym (became-held handed_ledger n o there live (known-with_user L h true known) (holds-ascends L n o there known))
-      where
-        none-more : (ys : List ℕ) → ys ≡ ys ++ []
-        none-more [] = refl
-        none-more (y ∷ ys) = ap (λ zs. y ∷ zs) (none-more ys)

@@ -49,7 +49,7 @@ seen-op L n change keeps = record {
 }
 
 -- What waits made nothing that is seen.
-made-waiting : (task : Option ℕ) → made_life (waiting task) ≡ None
+pub made-waiting : (task : Option ℕ) → made_life (waiting task) ≡ None
 made-waiting None = refl
 made-waiting (Some task) = refl
 

@@ -28,6 +28,19 @@ slot-other buffer ops n f t other m = record {
   uncanceled = m.uncanceled;
 }
 
+-- A slot that is there once one was written with its own number was there before, with its number.
+pub slot-before : {B : Type 0} (slots : FinMap nat_cmp (Slot B)) (key : ℕ) (s t : Slot B) → get slots key ≡ Some s → t.serial ≡ s.serial →
+    (k : ℕ) (u : Slot B) → get (insert slots key t) k ≡ Some u → (w : Slot B) × (get slots k ≡ Some w) × (w.serial ≡ u.serial)
+slot-before slots key s t there number k u h = elim (same-or-not k key) [
+  | inl e ↦ (
+    s,
+    ap (get slots) e ∙ there,
+    sym number ∙ ap (λ x. x.serial)
+        (some t u (get (insert slots key t) key) (put-same slots key t) (ap (get (insert slots key t)) (sym e) ∙ h)),
+  )
+  | inr e ↦ (u, sym (put-other slots key t k e) ∙ h, refl)
+]
+
 -- One operation was changed, and its slot still fits it.
 module _ {B : Type 0} (buffer : B → Buffer) (slots : FinMap nat_cmp (Slot B)) (ops : List Operation) (n : ℕ) (f : Operation → Operation)
     (o : Operation)
@@ -55,20 +68,7 @@ module _ {B : Type 0} (buffer : B → Buffer) (slots : FinMap nat_cmp (Slot B)) 
     (f : Operation → Operation) (o : Operation)
     (stand : SlotsStand buffer slots ops) (there : get slots key ≡ Some s) (number : t.serial ≡ s.serial)
     (which : slice_get ops s.serial ≡ Some o) (lives : is_live (f o) ≡ is_live o) (fits : SlotFor buffer (amended ops s.serial f) t) where
-  -- A slot after is a slot of that number before.
-  back : (k : ℕ) (u : Slot B) → get (insert slots key t) k ≡ Some u → (w : Slot B) × (get slots k ≡ Some w) × (w.serial ≡ u.serial)
-  back k u h = elim (same-or-not k key) [
-    | inl e ↦ (
-      s,
-      ap (get slots) e ∙ there,
-      sym number ∙ ap (λ x. x.serial)
-          (some t u (get (insert slots key t) key) (put-same slots key t) (ap (get (insert slots key t)) (sym e) ∙ h)),
-    )
-    | inr e ↦ (u, sym (put-other slots key t k e) ∙ h, refl)
-  ]
-
   pub slots-replaced : SlotsStand buffer (insert slots key t) (amended ops s.serial f)
-  unfolding back
   slots-replaced = record {
     holds = λ k u h. elim (same-or-not k key) [
       | inl e ↦ subst (λ x. SlotFor buffer (amended ops s.serial f) x)
@@ -78,8 +78,8 @@ module _ {B : Type 0} (buffer : B → Buffer) (slots : FinMap nat_cmp (Slot B)) 
           slot-other buffer ops s.serial f u (λ q. e (stand.one k key u s before there q)) (stand.holds k u before)
     ];
     one = λ k j u w h i e.
-        let a = back k u h in
-        let b = back j w i in
+        let a = slot-before slots key s t there number k u h in
+        let b = slot-before slots key s t there number j w i in
         stand.one k j a.0 b.0 a.1 b.1 (a.2 ∙ e ∙ sym b.2);
     each = λ n p h l. elim (same-or-not n s.serial) [
       | inl e ↦ record { key = key; slot = t; there = put-same slots key t; serial = number ∙ sym e }

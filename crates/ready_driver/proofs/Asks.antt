@@ -2,6 +2,7 @@
 -- for were taken.
 use Rattle.std.proofs.Common.{◌≡◌, inl, inr, ℕ, Bool, true, false, ◌||◌, List, [], ◌∷◌, ◌++◌, length, Option, Some, None, option_map}
 use Rattle.std.proofs.Common.{slice_get, refl, sym, ◌∙◌, ap, subst, if◌then◌else◌, ◌==◌}
+use Rattle.std.proofs.Math.Bool.{or-true, or-false}
 use Rattle.std.proofs.lemmas.Bool.Decides.{eqb_tells}
 use Rattle.ring_core.specs.Lists.{amended, passes}
 use Rattle.ring_core.specs.Ledger.{Ledger, Operation, Place, InQueue, InFlight, InDone, Reaped, Gone, Queued, Req, Cancel}
@@ -63,16 +64,6 @@ canceled_in x = passes (λ o. o.canceled) x
 -- The cancels that are asked for are those that were taken once the queue is.
 abbrev pub Asks : Ledger → Type 0
 Asks L = (n : ℕ) → asked L n ≡ canceled_in (slice_get (take_all L).ops n)
-
--- A test or one that fails.
-or-false : (a : Bool) → (a || false) ≡ a
-or-false true = refl
-or-false false = refl
-
--- A test or one that passes.
-or-true : (a : Bool) → (a || true) ≡ true
-or-true true = refl
-or-true false = refl
 
 -- A cancel that is appended is in the queue.
 cancel-same : (xs : List Queued) (m n : ℕ) → (n == m) ≡ true → has_cancel n (xs ++ Cancel m ∷ []) ≡ true

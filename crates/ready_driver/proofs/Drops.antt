@@ -18,10 +18,10 @@ use Rattle.ring_core.proofs.Amended.{get-amended}
 use Rattle.ring_core.proofs.Taking.{taken_place}
 use Rattle.ring_core.proofs.Staying.{stays-push}
 use Rattle.ring_core.proofs.Stepping.{step-row, OwnedAt}
+use Rattle.driver_core.proofs.Lists.{amended-twice}
 use Rattle.ready_driver.specs.Spelled.{place_of, spelled_out, spelled_reply, drop_spelling, row_spelling}
 use Rattle.ready_driver.specs.Legacy.{Legacy}
 use Rattle.ready_driver.specs.LegacyStep.{freed, legacy_row}
-use Rattle.ready_driver.proofs.Lists.{amended-twice}
 use Rattle.ready_driver.proofs.Flat.{flat-push, flat-changed}
 use Rattle.ready_driver.proofs.Closes.{turn-takes}
 use Rattle.ready_driver.proofs.Settled.{Stands}

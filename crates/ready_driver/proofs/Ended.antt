@@ -27,13 +27,13 @@ use Rattle.driver_core.specs.Calls.{CallsSlot}
 use Rattle.driver_core.specs.Slot.{is_owned_life, number_at, is_flying, flies_in, with_life, PollsAt, slots_completed, slots_if}
 use Rattle.driver_core.specs.Slot.{slots_after}
 use Rattle.driver_core.specs.Slot.{CompletesSlot}
-use Rattle.driver_core.proofs.Lists.{some}
+use Rattle.driver_core.proofs.Lists.{some, amended-twice}
 use Rattle.driver_core.proofs.Maps.{put-same, put-self, remove-put}
 use Rattle.driver_core.proofs.Numbers.{Owner, owner}
+use Rattle.driver_core.proofs.Polling.{polled-flies, called-now}
 use Rattle.ready_driver.specs.Legacy.{Legacy, slot_at}
 use Rattle.ready_driver.specs.LegacyStep.{freed, op_effect, ends_with, poll_op, poll_slot, with_ask}
 use Rattle.ready_driver.specs.Polling.{LifeFor, SlotFor, SlotsStand, EndsSlot, asked_at}
-use Rattle.ready_driver.proofs.Lists.{amended-twice}
 use Rattle.ready_driver.proofs.Slots.{slots-put, slots-gone, asked-same, asked-other}
 
 -- A slot that is its user's and in flight is completed in its place.
@@ -85,14 +85,7 @@ flying-unasked false life for flies = refl
 flying-unasked true life for flies =
     (let e : false ≡ true = sym (ap is_flying for) ∙ flies in let f : ⊥ = cc in absurd f)
 
--- What is polled in flight is in flight.
-pub polled-flies : (life : Lifecycle Outcome) (task : ℕ) → is_flying life ≡ true → is_flying (polled life task) ≡ true
-polled-flies Submitted task flies = refl
-polled-flies (Waiting earlier) task flies = refl
-polled-flies Ignored task flies = refl
-polled-flies (Completed outcome) task flies = flies
-
--- It waits on.
+-- What waits and is polled waits on.
 polled-life : (life : Lifecycle Outcome) (task : ℕ) → LifeFor false life → LifeFor false (polled life task)
 polled-life Submitted task for = tt
 polled-life (Waiting earlier) task for = tt
@@ -316,10 +309,6 @@ module _ {B : Type 0} (buffer : B → Buffer) (D : Legacy) (old : FinMap nat_cmp
     module _ (world next : List HandleState) (outcome : Outcome) (done : Done B) (behind : FinMap nat_cmp (Slot B)) (same : world ≡ D.world)
         (made : IsCalled world (plain_request buffer calls.slot.request) next (plain_request buffer calls.now.request) outcome)
         (ends : EndsSlot new key outcome behind done) where
-      -- The slot after the call.
-      called-there : get new key ≡ Some calls.now
-      called-there = ap (λ m. get m key) new-is ∙ put-same (insert old key waiting) key calls.now
-
       -- What the driver's call moves.
       effect-is : call_effect world (plain_request buffer calls.slot.request) made.told ≡ op_effect D fits.op made.told
       effect-is = ap (λ w. call_effect w (plain_request buffer calls.slot.request) made.told) same
@@ -335,7 +324,7 @@ module _ {B : Type 0} (buffer : B → Buffer) (D : Legacy) (old : FinMap nat_cmp
       -- What the request holds is what the driver has.
       held-is : held_of (plain_request buffer done.request) ≡ held fits.op.request made.told (op_effect D fits.op made.told).got
       held-is =
-          ap (λ r. held_of (plain_request buffer r)) (ends calls.now called-there).1 ∙ made.holds.holds
+          ap (λ r. held_of (plain_request buffer r)) (ends calls.now (called-now calls)).1 ∙ made.holds.holds
           ∙ ap (λ r. held r made.told (call_effect world (plain_request buffer calls.slot.request) made.told).got) asks-same
           ∙ ap (λ (left : Effect). held fits.op.request made.told left.got) effect-is
 
@@ -344,7 +333,7 @@ module _ {B : Type 0} (buffer : B → Buffer) (D : Legacy) (old : FinMap nat_cmp
       made-reply =
           ap (λ p. p.1) made-driven
           ∙ ap (λ o. Handed o (held fits.op.request made.told (op_effect D fits.op made.told).got))
-          (sym ((ends calls.now called-there).0 ∙ made.outcome_is ∙ ap (λ left. left.outcome) effect-is))
+          (sym ((ends calls.now (called-now calls)).0 ∙ made.outcome_is ∙ ap (λ left. left.outcome) effect-is))
           ∙ ap (Handed done.outcome) (sym held-is)
 
       -- The slots are those of the driver behind it.
@@ -352,7 +341,7 @@ module _ {B : Type 0} (buffer : B → Buffer) (D : Legacy) (old : FinMap nat_cmp
       made-stand =
           subst (SlotsStand buffer behind) (sym (ap (λ p. p.0) made-driven))
           (subst (λ m. SlotsStand buffer m (ends_with D number fits.op made.told).0)
-          (sym ((ends calls.now called-there).2 ∙ ap (λ m. remove m key) new-is ∙ remove-put (insert old key waiting) key calls.now
+          (sym ((ends calls.now (called-now calls)).2 ∙ ap (λ m. remove m key) new-is ∙ remove-put (insert old key waiting) key calls.now
           ∙ remove-put old key waiting))
           (slots-beside buffer (remove old key) (freed D number) (ends_with D number fits.op made.told).0.world
           (ends_with D number fits.op made.told).0.users gone))

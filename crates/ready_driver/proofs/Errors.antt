@@ -1,5 +1,5 @@
 -- An error that a poll of a driver returns has one of its causes.
-use Rattle.std.proofs.Common.{◌≡◌, inl, inr, ◌⊎◌, ℕ, suc, ◌≤◌, Bool, true, false, List, Option, refl, sym, ◌∙◌, ap, subst, arith}
+use Rattle.std.proofs.Common.{◌≡◌, inl, inr, ◌⊎◌, ℕ, suc, ◌≤◌, Bool, true, false, List, Option, refl, sym, ◌∙◌, ap, subst}
 use Rattle.std.specs.Prelude.{is_some, nat_le, ◌||◌}
 use Rattle.std.specs.FinMap.{get}
 use Rattle.rent_buf.specs.Counts.{Rose}
@@ -16,11 +16,8 @@ use Rattle.ready_driver.specs.Io.{IoView}
 use Rattle.ready_driver.specs.LegacyPolls.{HandsOver, outcome_if, outcome_for}
 use Rattle.ready_driver.specs.Named.{IsCompleted, IsOnlyCanceled}
 use Rattle.ready_driver.specs.Registry.{Handling, is_old, IsSameButRoom, LetsGo}
+use Rattle.driver_core.proofs.Rising.{rose-later}
 use Rattle.ready_driver.proofs.Naming.{completed-only}
-
--- A count that rose and doesn't fall has risen.
-rose-later : (a b c : ℕ) → Rose a b → b ≤ c → Rose a c
-rose-later a b c rose more = omega (arith, rose, more)
 
 -- A poll for which memory was reserved: what it left, the handle that it handed over, and the handles that it let go.
 module _ {I B : Type 0} (view : I → IoView) (tells memory : Bool) (old room mid handed new : Handling I) (slot : Option (Slot B))

@@ -6,7 +6,6 @@ use Rattle.std.specs.Ordering.{nat_cmp}
 use Rattle.std.specs.FinMap.{FinMap, get, insert, remove, len}
 use Rattle.std.proofs.lemmas.Bool.Decides.{nat_tests}
 use Rattle.std.proofs.lemmas.List.{length-append}
-use Rattle.std.proofs.lemmas.Option.{slice_get_within}
 use Rattle.rent_buf.specs.Buffer.{Buffer}
 use Rattle.rent_buf.specs.Parts.{Parts}
 use Rattle.handle_core.specs.Table.{Table}
@@ -19,7 +18,7 @@ use Rattle.ring_core.specs.declared.ledger.Reply.TheVariants.{Submitted as Given
 use Rattle.ring_core.specs.declared.request.Request.{Request}
 use Rattle.ring_core.specs.Lists.{passes}
 use Rattle.ring_core.specs.Ledger.{is_marked, is_under_marked, group_under}
-use Rattle.ring_core.specs.Refusal.{refused_if, has_no_canceller}
+use Rattle.ring_core.specs.Refusal.{refused_if}
 use Rattle.ring_core.specs.Request.{named, plain_request, held_of}
 use Rattle.ring_core.proofs.Numbers.{and-left, and-right}
 use Rattle.ring_core.proofs.Requests.{named-mapped}
@@ -34,16 +33,17 @@ use Rattle.driver_core.proofs.Maps.{len-put, len-gone, len-new}
 use Rattle.driver_core.proofs.Numbers.{Owner, owner}
 use Rattle.ready_driver.specs.HandlesStand.{HandlesStand}
 use Rattle.ready_driver.specs.Io.{IoView}
-use Rattle.ready_driver.specs.Legacy.{LegacyOp, Legacy, seen, slot_in, slot_at, live_at, holds_at, is_on}
+use Rattle.ready_driver.specs.Legacy.{LegacyOp, Legacy, seen, slot_at, live_at, holds_at, is_on}
 use Rattle.ready_driver.specs.LegacyStands.{GroupsStand, LegacyStands, LegacyAnswers}
 use Rattle.ready_driver.specs.LegacyState.{LegacyState, ops_in, holds_all}
 use Rattle.ready_driver.specs.LegacyStep.{with_ask, freed, new_op, submit_at, misses_handle, legacy_cause, legacy_row}
 use Rattle.ready_driver.specs.Named.{canceled_if, canceled_in, canceled_slots}
 use Rattle.ready_driver.specs.Polling.{SlotFor, OpsStand, asked_at, joined_at}
 use Rattle.ready_driver.specs.Registry.{Handling, is_users, without_keys, LetsGo}
+use Rattle.driver_core.proofs.Grouping.{under-group, under-known}
 use Rattle.ready_driver.proofs.Driven.{answers-row}
 use Rattle.ready_driver.proofs.Grouped.{groups-asked, groups-freed, groups-joined, stands-marked}
-use Rattle.ready_driver.proofs.Parting.{standing-left}
+use Rattle.ready_driver.proofs.Parting.{slot-there, standing-left}
 use Rattle.ready_driver.proofs.Standing.{standing-like}
 
 -- So many slots are live once the cancel of an operation is asked for.
@@ -68,24 +68,7 @@ pub asked-on : (h : ℕ) (slot : Option LegacyOp) → is_on h (option_map with_a
 asked-on h None = refl
 asked-on h (Some op) = refl
 
--- The slot of what was looked up and is there.
-slot-there : (x : Option (Option LegacyOp)) (op : LegacyOp) → slot_in x ≡ Some op → x ≡ Some (Some op)
-slot-there None op is = (let f : ⊥ = cc in absurd f)
-slot-there (Some slot) op is = ap Some is
-
--- The group of the cancel handle that an event names is the one that a call submits under.
-under-group : (D : Legacy) (under handle : Option ℕ) → IsUnder (seen D) under handle → group_under (seen D) handle ≡ under
-under-group D None handle is = ap (group_under (seen D)) is
-under-group D (Some g) handle is = is
-
--- That cancel handle was created.
-under-known : (D : Legacy) (r : Request Buffer Parts) (under handle : Option ℕ) → IsUnder (seen D) under handle →
-    has_no_canceller (seen D) (Submit r handle) ≡ false
-under-known D r under None is = refl
-under-known D r None (Some k) is = (let f : ⊥ = cc in absurd f)
-under-known D r (Some g) (Some k) is = (let w = slice_get_within D.cancel_handles k g is in grind (arith, nat_tests))
-
--- That group is marked exactly where it is canceled.
+-- The group of the cancel handle that an event names is marked exactly where the one that a call submits under is canceled.
 under-marked : (m : Membership) (D : Legacy) (under handle : Option ℕ) → GroupsStand m D → IsUnder (seen D) under handle →
     IfSome under (λ g. g < length m.groups) → is_under_marked (seen D) handle ≡ is_under_canceled m under
 under-marked m D None handle stand is within = ap (λ g. passes (is_marked (seen D)) g) (ap (group_under (seen D)) is)
@@ -190,7 +173,7 @@ module _ {I B : Type 0} (view : I → IoView) (buffer : B → Buffer) (d : Legac
           legacy_cause D (Submit r handle) ≡ submit_cause false false marked full
       cause-by marked full m f =
           ap (λ b. submit_cause b (misses_handle D (named r)) (is_under_marked (seen D) handle) (nat_le MOST_LIVE (length (live_at D))))
-          (under-known D r under handle is)
+          (under-known (seen D) r under handle is)
           ∙ ap (λ b. submit_cause false b (is_under_marked (seen D) handle) (nat_le MOST_LIVE (length (live_at D)))) user-there
           ∙ ap (λ b. submit_cause false false b (nat_le MOST_LIVE (length (live_at D)))) m ∙ ap (submit_cause false false marked) f
 
@@ -217,7 +200,7 @@ module _ {I B : Type 0} (view : I → IoView) (buffer : B → Buffer) (d : Legac
           let marked = under-marked d.members D under handle old.groups is known ∙ uncanceled in
           let row : legacy_row D (Submit r handle) ≡ (joined_at D r under, Given (length D.slots)) =
           ap (λ b. submit_at b D r (group_under (seen D) handle)) marked
-          ∙ ap (submit_at false D r) (under-group D under handle is) in
+          ∙ ap (submit_at false D r) (under-group (seen D) under handle is) in
           let live = old.live in
           answers-row view buffer D (Submit r handle) (Given number) new
           (cause-by false false marked (grind (arith, nat_tests)))

@@ -2,7 +2,7 @@
 use Rattle.std.proofs.Common.{◌≡◌, ◌∙◌, inl, inr, ℕ, Bool, true, false, not, List, [], ◌∷◌, Option, Some, None, refl, sym, ap}
 use Rattle.std.proofs.Common.{slice_get, arith}
 use Rattle.std.proofs.lemmas.Bool.Decides.{nat_tests}
-use Rattle.std.specs.Prelude.{if◌then◌else◌, nat_lt, ◌||◌, ◌==◌, unwrap_or, Result, Ok, Err}
+use Rattle.std.specs.Prelude.{if◌then◌else◌, nat_lt, ◌||◌, unwrap_or, Result, Ok, Err}
 use Rattle.std.specs.FinMap.{get}
 use Rattle.rent_buf.specs.Buffer.{Buffer}
 use Rattle.rent_buf.specs.Parts.{Parts}
@@ -20,7 +20,7 @@ use Rattle.ring_core.specs.Attempt.{awaited, is_file_at, is_readable_at, is_read
 use Rattle.ring_core.specs.Lists.{has_number, passes}
 use Rattle.ring_core.specs.Request.{named, both, call_of, plain_request}
 use Rattle.ring_core.specs.World.{is_file}
-use Rattle.ring_core.proofs.Leaving.{has-first}
+use Rattle.ring_core.proofs.Leaving.{has-first, has-later}
 use Rattle.ring_core.proofs.Requests.{named-mapped}
 use Rattle.driver_core.specs.declared.op.Op.{Op}
 use Rattle.driver_core.specs.declared.op.PollOp.{PollOp}
@@ -41,7 +41,7 @@ use Rattle.ready_driver.specs.Reports.{ShowsBits}
 use Rattle.ready_driver.specs.Turns.{AreReported}
 use Rattle.ready_driver.proofs.Ended.{flying-unasked}
 use Rattle.ready_driver.proofs.Parting.{named-held}
-use Rattle.ready_driver.proofs.Registering.{known-op}
+use Rattle.driver_core.proofs.Holds.{held-op}
 
 -- A pair of a handle and a direction: the handle.
 pub same-handle : (fd h : ℕ) (d e : Direction) → ◌≡◌ {A = Option (ℕ × Direction)} (Some (fd, d)) (Some (h, e)) → fd ≡ h
@@ -76,14 +76,9 @@ awaits-read buffer (MkDir path mode) h is = (let f : ⊥ = cc in absurd f)
 awaits-read buffer (Rename from to) h is = (let f : ⊥ = cc in absurd f)
 awaits-read buffer (Unlink path remove_dir) h is = (let f : ⊥ = cc in absurd f)
 
--- Where a test passes.
-or-true : (b : Bool) → (b || true) ≡ true
-or-true true = refl
-or-true false = refl
-
 -- The second of two numbers.
 has-second : (a b : ℕ) → has_number b (a ∷ b ∷ []) ≡ true
-has-second a b = ap (λ c. b == a || c) (has-first b []) ∙ or-true (b == a)
+has-second a b = has-later b a (b ∷ []) (has-first b [])
 
 -- Each of two handles is among both.
 both-first : (a b : ℕ) → has_number a (both a b) ≡ true
@@ -115,7 +110,7 @@ named-as : (fd h : ℕ) (handles : List ℕ) → has_number fd handles ≡ true 
 named-as fd h handles there is = ap (λ k. has_number k handles) (sym is) ∙ there
 
 -- A request names the handle that it waits for.
-awaits-named : {B V : Type 0} (r : Request B V) (h : ℕ) (dir : Direction) → awaits r ≡ Some (h, dir) → has_number h (named r) ≡ true
+pub awaits-named : {B V : Type 0} (r : Request B V) (h : ℕ) (dir : Direction) → awaits r ≡ Some (h, dir) → has_number h (named r) ≡ true
 awaits-named (Recv fd buf) h dir is = named-as fd h (fd ∷ []) (has-first fd []) (same-handle fd h _ _ is)
 awaits-named (ReadVec fd parts) h dir is = named-as fd h (fd ∷ []) (has-first fd []) (same-handle fd h _ _ is)
 awaits-named (RecvMsg fd buf) h dir is = named-as fd h (fd ∷ []) (has-first fd []) (same-handle fd h _ _ is)
@@ -204,7 +199,7 @@ module _ {B : Type 0} (buffer : B → Buffer) (table : Table) (records : Kept) (
       (ap (λ r. has_number unmet.handle (named r)) (sym one.request)
       ∙ ap (has_number unmet.handle) (named-mapped buffer (λ ps. ps) own.slot.request) ∙ names) in
       let read = unmet-read unmet.direction (is_readable_at world unmet.handle) (io_at records unmet.handle).ready
-      (reported unmet.handle (known-op table unmet.handle held)) unmet.unmet in
+      (reported unmet.handle (held-op table unmet.handle held)) unmet.unmet in
       let call = awaits-read buffer own.slot.request unmet.handle
       (waits.1 ∙ ap (λ d. Some (unmet.handle, d)) read.0) in
       blocked-waits D number (slot_at D number) one.op (ap (slot_at D) (sym own.serial) ∙ one.there)

@@ -26,8 +26,8 @@ use Rattle.ring_core.proofs.Amended.{get-amended, get-amended-other}
 use Rattle.ring_core.proofs.Occurring.{same-cases, queued, listed, listed-remove}
 use Rattle.ring_core.proofs.Taking.{in_queue, in_flight, in_done, queue_mark, flight_mark, done_mark, Listed}
 use Rattle.ring_core.proofs.Stepping.{step-row}
+use Rattle.driver_core.proofs.Lists.{amended-twice}
 use Rattle.ready_driver.specs.Spelled.{place_of}
-use Rattle.ready_driver.proofs.Lists.{amended-twice}
 use Rattle.ready_driver.proofs.Flat.{take-none}
 use Rattle.ready_driver.proofs.Asks.{Calm, calm-changed, Flies}
 use Rattle.ready_driver.proofs.Settled.{Flat}

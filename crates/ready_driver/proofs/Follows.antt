@@ -30,8 +30,8 @@ use Rattle.ready_driver.proofs.Flat.{beside}
 use Rattle.ready_driver.proofs.Closes.{after-append}
 use Rattle.ready_driver.proofs.Settled.{Stands, is_users, settle, Ends as Settles, ended-shows}
 use Rattle.ready_driver.proofs.Causes.{sees, sees-under, sees-group, same-cause}
-use Rattle.ready_driver.proofs.Meets.{Meets, MeetsSpelled, meets-itself, stands-going, going-meets, going-beside, kept-taken, taken-flies}
-use Rattle.ready_driver.proofs.Meets.{going-canceled, cancel_all-meets, close-meets, submit-meets}
+use Rattle.ready_driver.proofs.Meets.{Meets, MeetsSpelled, meets-itself, stands-meets, stands-beside, kept-taken, taken-flies}
+use Rattle.ready_driver.proofs.Meets.{stands-canceled, cancel_all-meets, close-meets, submit-meets}
 use Rattle.ready_driver.proofs.Polls.{poll-meets}
 use Rattle.ready_driver.proofs.Drops.{drop-meets}
 
@@ -42,9 +42,9 @@ module _ (D : Legacy) (L : Ledger) (st : Stands D L) where
       users ≡ is_users owners → dw ≡ world → length owners ≡ length world → reply ≡ told →
       Meets (record D { users = users; world = dw }, reply) (beside L world owners L.cancellers L.cancel_handles L.groups) told
   handles-meet users dw world owners reply told eu ew counted er =
-      going-meets (record D { users = users; world = dw }) (beside L world owners L.cancellers L.cancel_handles L.groups) reply told er
-      (going-beside D L users dw D.cancellers D.cancel_handles D.groups world owners L.cancellers L.cancel_handles L.groups eu ew
-      st.shows.cancellers st.shows.cancel_handles st.shows.groups counted (stands-going D L st))
+      stands-meets (record D { users = users; world = dw }) (beside L world owners L.cancellers L.cancel_handles L.groups) reply told er
+      (stands-beside D L users dw D.cancellers D.cancel_handles D.groups world owners L.cancellers L.cancel_handles L.groups eu ew
+      st.shows.cancellers st.shows.cancel_handles st.shows.groups counted st)
 
   -- The groups are others.
   groups-meet : (dc dh : List ℕ) (dg : List Bool) (cancellers handles : List ℕ) (groups : List Bool) (reply : Reply) (told : Reply) →
@@ -52,10 +52,10 @@ module _ (D : Legacy) (L : Ledger) (st : Stands D L) where
       Meets (record D { cancellers = dc; cancel_handles = dh; groups = dg }, reply)
       (beside L L.world L.owners cancellers handles groups) told
   groups-meet dc dh dg cancellers handles groups reply told ec eh eg er =
-      going-meets (record D { cancellers = dc; cancel_handles = dh; groups = dg }) (beside L L.world L.owners cancellers handles groups)
+      stands-meets (record D { cancellers = dc; cancel_handles = dh; groups = dg }) (beside L L.world L.owners cancellers handles groups)
       reply told er
-      (going-beside D L D.users D.world dc dh dg L.world L.owners cancellers handles groups st.shows.users st.shows.world ec eh eg
-      st.settled.half.counted (stands-going D L st))
+      (stands-beside D L D.users D.world dc dh dg L.world L.owners cancellers handles groups st.shows.users st.shows.world ec eh eg
+      st.settled.half.counted st)
 
   -- One handle changes, and no list, owner or group.
   changed-meets : (h : ℕ) (change : HandleState → HandleState) (reply : Reply) →
@@ -85,11 +85,11 @@ module _ (D : Legacy) (L : Ledger) (st : Stands D L) where
       let K : Ledger = beside L L.world owners L.cancellers L.cancel_handles L.groups in
       meets-itself (legacy_row D (Close h)) L (close_unheld K h) (Close h) Released (step-row L (Close h) u)
       (close-meets (record D { users = users }) K h (is_unheld K h)
-      (going-beside D L users D.world D.cancellers D.cancel_handles D.groups L.world owners L.cancellers L.cancel_handles L.groups
+      (stands-beside D L users D.world D.cancellers D.cancel_handles D.groups L.world owners L.cancellers L.cancel_handles L.groups
       (ap (λ us. amended us h (λ is_user. false)) st.shows.users
       ∙ sym (map-changed (λ o. o.is_user) L.owners h (as_user false) (λ is_user. false) (λ x. refl)))
       st.shows.world st.shows.cancellers st.shows.cancel_handles st.shows.groups
-      (length-amended (as_user false) L.owners h ∙ st.settled.half.counted) (stands-going D L st)))
+      (length-amended (as_user false) L.owners h ∙ st.settled.half.counted) st))
 
   -- A new canceller.
   canceller-meets : cause L NewCanceller ≡ None → MeetsSpelled (legacy_row D NewCanceller) L (row_spelling L NewCanceller)
@@ -129,8 +129,8 @@ module _ (D : Legacy) (L : Ledger) (st : Stands D L) where
       meets-itself (legacy_row D (End h)) L (with_handle L h with_end) (End h) Ended (step-row L (End h) u) (changed-meets h with_end Ended)
   row-meets (Look h) r u =
       meets-itself (legacy_row D (Look h)) L L (Look h) (look_reply (look_at L.world h)) (step-row L (Look h) u)
-      (going-meets D L (look_reply (look_at D.world h)) (look_reply (look_at L.world h)) (ap (λ w. look_reply (look_at w h)) st.shows.world)
-      (stands-going D L st))
+      (stands-meets D L (look_reply (look_at D.world h)) (look_reply (look_at L.world h))
+      (ap (λ w. look_reply (look_at w h)) st.shows.world) st)
   row-meets (Close h) r u = closed-meets h u
   row-meets (Submit request under) r u =
       let b : Bool = is_under_marked L under in
@@ -149,9 +149,9 @@ module _ (D : Legacy) (L : Ledger) (st : Stands D L) where
       let f : OwnedAt L n = found L n u in
       let asked : Legacy = record D { slots = amended D.slots n (option_map with_ask) } in
       meets-itself (legacy_row D (Cancel n)) L (push L (Queued.Cancel n)) (Cancel n) Asked (step-row L (Cancel n) u)
-      (going-meets asked (push L (Queued.Cancel n)) Asked Asked refl
-      (going-canceled D L n (taken-flies L n f.operation (kept-taken L n f.operation st.settled.half f.there f.kept))
-      (stands-going D L st)))
+      (stands-meets asked (push L (Queued.Cancel n)) Asked Asked refl
+      (stands-canceled D L n (taken-flies L n f.operation (kept-taken L n f.operation st.settled.half f.there f.kept))
+      st))
   row-meets NewCanceller r u = canceller-meets u
   row-meets (NewHandle c) r u = cancel_handle-meets c u
   row-meets (CancelAll c) r u =
@@ -166,7 +166,7 @@ module _ (D : Legacy) (L : Ledger) (st : Stands D L) where
   cause-meets : (e : Event) (c : Option Refusal) → IsDriven e → cause L e ≡ c → MeetsSpelled (legacy_answered c D e) L (open_spelling c L e)
   cause-meets e (Some refusal) r h =
       meets-itself (D, Refused refusal) L L e (Refused refusal) (step-refused L e refusal h)
-      (going-meets D L (Refused refusal) (Refused refusal) refl (stands-going D L st))
+      (stands-meets D L (Refused refusal) (Refused refusal) refl st)
   cause-meets e None r h = row-meets e r h
 
 -- Events behind a spelling.

@@ -12,12 +12,6 @@ amended-swap (x ∷ xs) zero (suc m) f g same = refl
 amended-swap (x ∷ xs) (suc n) zero f g same = refl
 amended-swap (x ∷ xs) (suc n) (suc m) f g same = ap (λ ys. x ∷ ys) (amended-swap xs n m f g same)
 
--- Two changes of one element are one.
-pub amended-twice : {A : Type 0} (xs : List A) (n : ℕ) (f g : A → A) → amended (amended xs n f) n g ≡ amended xs n (λ x. g (f x))
-amended-twice [] n f g = refl
-amended-twice (x ∷ xs) zero f g = refl
-amended-twice (x ∷ xs) (suc n) f g = ap (λ ys. x ∷ ys) (amended-twice xs n f g)
-
 -- A change of the last element.
 pub amended-end : {A : Type 0} (xs : List A) (y : A) (f : A → A) → amended (xs ++ y ∷ []) (length xs) f ≡ xs ++ f y ∷ []
 amended-end [] y f = refl

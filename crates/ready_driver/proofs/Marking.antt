@@ -1,10 +1,10 @@
 -- Marks of the handles that are due: how many they are, and what setting one does.
-use Rattle.std.proofs.Common.{◌≡◌, ◌∙◌, ◌≢◌, inl, inr, ℕ, zero, suc, ◌<◌, ◌≤◌, Bool, true, false, ◌||◌, ◌==◌, List, [], ◌∷◌, ◌++◌}
+use Rattle.std.proofs.Common.{◌≡◌, ◌∙◌, inl, inr, ℕ, zero, suc, ◌<◌, ◌≤◌, Bool, true, false, ◌||◌, List, [], ◌∷◌, ◌++◌}
 use Rattle.std.proofs.Common.{◌+◌, length, get_or, set, refl, sym, ap, arith}
-use Rattle.std.proofs.Math.Bool.{or_assoc, or-false}
+use Rattle.std.proofs.Math.Bool.{or-true, or-false}
+use Rattle.driver_core.proofs.Distinct.{has-one_more, equal-is}
 use Rattle.std.proofs.lemmas.List.{get_or-set_same, get_or-set_other, length-append, length-set}
-use Rattle.std.proofs.lemmas.Bool.Decides.{nat_tests}
-use Rattle.ring_core.proofs.Numbers.{same-or-not}
+use Rattle.ring_core.proofs.Numbers.{same-or-not, equal-other}
 use Rattle.ring_core.specs.Lists.{has_number}
 use Rattle.ready_driver.specs.Due.{trues, IsMarked}
 
@@ -31,25 +31,6 @@ trues-set (false ∷ marks) zero in_range unmarked = refl
 trues-set (true ∷ marks) zero in_range unmarked = cc
 trues-set (true ∷ marks) (suc n) in_range unmarked = ap suc (trues-set marks n (omega (arith, in_range)) unmarked)
 trues-set (false ∷ marks) (suc n) in_range unmarked = trues-set marks n (omega (arith, in_range)) unmarked
-
--- A handle is among others and one more.
-pub among-end : (handles : List ℕ) (n h : ℕ) → has_number h (handles ++ n ∷ []) ≡ (has_number h handles || h == n)
-among-end [] n h = or-false (h == n)
-among-end (m ∷ handles) n h =
-    ap (λ b. h == m || b) (among-end handles n h) ∙ sym (or_assoc (h == m) (has_number h handles) (h == n))
-
--- A number is the same as itself.
-same-number : (n h : ℕ) → h ≡ n → (h == n) ≡ true
-same-number n h same = grind (arith, nat_tests)
-
--- And as no other.
-other-number : (n h : ℕ) → h ≢ n → (h == n) ≡ false
-other-number n h other = grind (arith, nat_tests)
-
--- What is true or holds is true.
-or-true : (b : Bool) → (b || true) ≡ true
-or-true true = refl
-or-true false = refl
 
 -- A further mark that isn't set marks nothing.
 unmarked-end : (marks : List Bool) (h : ℕ) → get_or (marks ++ false ∷ []) h false ≡ get_or marks h false
@@ -85,9 +66,9 @@ pub marked-added : (handles : List ℕ) (marks : List Bool) (room n : ℕ) → I
 marked-added handles marks room n all in_range unmarked = record {
   marked = λ h. elim (same-or-not h n) [
     | inl e ↦ ap (λ k. get_or (set marks n true) k false) e ∙ get_or-set_same marks n true false in_range
-        ∙ sym (among-end handles n h ∙ ap (λ b. has_number h handles || b) (same-number n h e) ∙ or-true (has_number h handles))
+        ∙ sym (has-one_more h n handles ∙ ap (λ b. has_number h handles || b) (equal-is h n e) ∙ or-true (has_number h handles))
     | inr e ↦ get_or-set_other marks n h true false e ∙ all.marked h
-        ∙ sym (among-end handles n h ∙ ap (λ b. has_number h handles || b) (other-number n h e) ∙ or-false (has_number h handles))
+        ∙ sym (has-one_more h n handles ∙ ap (λ b. has_number h handles || b) (equal-other h n e) ∙ or-false (has_number h handles))
   ];
   once = (let same = length-append handles (n ∷ []) in let once = all.once in let more = trues-set marks n in_range unmarked in
       omega (arith, same, once, more));

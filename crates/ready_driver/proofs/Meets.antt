@@ -57,31 +57,23 @@ pub meets-itself : (s : Legacy × Reply) (L M : Ledger) (e : Event) (reply : Rep
     MeetsSpelled s L (itself e)
 meets-itself s L M e reply h m = meets-same s (step L e).0 M (step L e).1 reply (ap (λ x. x.0) h) (ap (λ x. x.1) h) m
 
--- A driver shows a ledger in which no close is in flight.
-pub record Going (D : Legacy) (L : Ledger) : Type 0 where
-  pub half : Half L
-  pub closed : closes_only (take_all L).flying ≡ []
-  pub shows : Shown D L
-
--- It does where it stands for it.
-pub stands-going : (D : Legacy) (L : Ledger) → Stands D L → Going D L
-stands-going D L st = record { half = st.settled.half; closed = st.settled.closed; shows = st.shows }
-
--- Then no close follows.
-pub going-meets : (D : Legacy) (L : Ledger) (r q : Reply) → r ≡ q → Going D L → Meets (D, r) L q
-going-meets D L r q e g = record { reply_is = e; half = g.half; tidy = λ none. g.closed; shows = g.shows }
+-- Where a driver stands for a ledger no close follows.
+pub stands-meets : (D : Legacy) (L : Ledger) (r q : Reply) → r ≡ q → Stands D L → Meets (D, r) L q
+stands-meets D L r q e g = record { reply_is = e; half = g.settled.half; tidy = λ none. g.settled.closed; shows = g.shows }
 
 -- Other handles, users, cancellers, cancel handles and groups.
-pub going-beside : (D : Legacy) (L : Ledger) (users : List Bool) (dw : List HandleState) (dc dh : List ℕ) (dg : List Bool)
+pub stands-beside : (D : Legacy) (L : Ledger) (users : List Bool) (dw : List HandleState) (dc dh : List ℕ) (dg : List Bool)
     (world : List HandleState) (owners : List Owner) (cancellers handles : List ℕ) (groups : List Bool) → users ≡ is_users owners →
-    dw ≡ world → dc ≡ cancellers → dh ≡ handles → dg ≡ groups → length owners ≡ length world → Going D L →
-    Going (record D { users = users; world = dw; cancellers = dc; cancel_handles = dh; groups = dg })
+    dw ≡ world → dc ≡ cancellers → dh ≡ handles → dg ≡ groups → length owners ≡ length world → Stands D L →
+    Stands (record D { users = users; world = dw; cancellers = dc; cancel_handles = dh; groups = dg })
     (beside L world owners cancellers handles groups)
-going-beside D L users dw dc dh dg world owners cancellers handles groups eu ew ec eh eg counted g =
+stands-beside D L users dw dc dh dg world owners cancellers handles groups eu ew ec eh eg counted g =
     let e = flat-beside L world owners cancellers handles groups in
     record {
-      half = half-beside L world owners cancellers handles groups counted g.half;
-      closed = ap (λ K. closes_only K.flying) e ∙ g.closed;
+      settled = record {
+        half = half-beside L world owners cancellers handles groups counted g.settled.half;
+        closed = ap (λ K. closes_only K.flying) e ∙ g.settled.closed;
+      };
       shows = record {
         slots = g.shows.slots ∙ ap (λ K. map shown K.ops) (sym e);
         users = eu;
@@ -128,14 +120,16 @@ shown-canceled o f =
     ap (λ p. shown (canceled_at p o)) f ∙ ap (λ p. slot_by p (with_ask op)) f ∙ ap (λ p. option_map with_ask (slot_by p op)) (sym f)
 
 -- A cancel of what is in flight.
-pub going-canceled : (D : Legacy) (L : Ledger) (n : ℕ) → Flies (take_all L) n → Going D L →
-    Going (record D { slots = amended D.slots n (option_map with_ask) }) (push L (Queued.Cancel n))
-going-canceled D L n f g =
+pub stands-canceled : (D : Legacy) (L : Ledger) (n : ℕ) → Flies (take_all L) n → Stands D L →
+    Stands (record D { slots = amended D.slots n (option_map with_ask) }) (push L (Queued.Cancel n))
+stands-canceled D L n f g =
     let T : Ledger = take_all L in
     let e : take_all (push L (Queued.Cancel n)) ≡ with_op T n with_cancel = flat-push L (Queued.Cancel n) in
     record {
-      half = half-canceled L n f g.half;
-      closed = ap (λ K. closes_only K.flying) e ∙ g.closed;
+      settled = record {
+        half = half-canceled L n f g.settled.half;
+        closed = ap (λ K. closes_only K.flying) e ∙ g.settled.closed;
+      };
       shows = shows-stays D L (push L (Queued.Cancel n)) (amended D.slots n (option_map with_ask)) (stays-push L (Queued.Cancel n))
           (ap (λ xs. amended xs n (option_map with_ask)) g.shows.slots
           ∙ sym (map-changed-at shown T.ops n f.o with_cancel (option_map with_ask) f.there (shown-canceled f.o f.place))
@@ -165,13 +159,13 @@ all-kept T m [] h = tt
 all-kept T m (n ∷ numbers) h = (flies-kept T m n h.0, all-kept T m numbers h.1)
 
 -- Cancels of what is in flight.
-going-each : (D : Legacy) (L : Ledger) (numbers : List ℕ) → AllFly (take_all L) numbers → Going D L →
-    Going (record D { slots = ask_each D.slots numbers }) (push_each L (map Queued.Cancel numbers))
-going-each D L [] h g = g
-going-each D L (n ∷ numbers) h g =
-    going-each (record D { slots = amended D.slots n (option_map with_ask) }) (push L (Queued.Cancel n)) numbers
+stands-each : (D : Legacy) (L : Ledger) (numbers : List ℕ) → AllFly (take_all L) numbers → Stands D L →
+    Stands (record D { slots = ask_each D.slots numbers }) (push_each L (map Queued.Cancel numbers))
+stands-each D L [] h g = g
+stands-each D L (n ∷ numbers) h g =
+    stands-each (record D { slots = amended D.slots n (option_map with_ask) }) (push L (Queued.Cancel n)) numbers
     (subst (λ K. AllFly K numbers) (sym (flat-push L (Queued.Cancel n))) (all-kept (take_all L) n numbers h.1))
-    (going-canceled D L n h.0 g)
+    (stands-canceled D L n h.0 g)
 
 -- Numbers of operations that aren't gone.
 abbrev AllKept : Ledger → List ℕ → Type 0
@@ -216,42 +210,42 @@ cancel_all-meets D L c g st =
     let lg : List Bool = amended L.groups g (λ mark. true) in
     let eg : dg ≡ lg = ap (λ x. amended x g (λ mark. true)) st.shows.groups in
     let marked : Legacy = record D { groups = dg } in
-    let one : Going marked (with_mark L g) =
-    going-beside D L D.users D.world D.cancellers D.cancel_handles dg L.world L.owners L.cancellers L.cancel_handles lg
-    st.shows.users st.shows.world st.shows.cancellers st.shows.cancel_handles eg st.settled.half.counted (stands-going D L st) in
+    let one : Stands marked (with_mark L g) =
+    stands-beside D L D.users D.world D.cancellers D.cancel_handles dg L.world L.owners L.cancellers L.cancel_handles lg
+    st.shows.users st.shows.world st.shows.cancellers st.shows.cancel_handles eg st.settled.half.counted st in
     let fly : AllFly (take_all (with_mark L g)) numbers =
     subst (λ K. AllFly K numbers) (sym (flat-beside L L.world L.owners L.cancellers L.cancel_handles lg))
     (fly-beside (take_all L) L.world L.owners L.cancellers L.cancel_handles lg numbers (members-fly L g st.settled.half)) in
     let M : Ledger = push_each (with_mark L g) (map Queued.Cancel numbers) in
     let all : Legacy = record marked { slots = ask_each D.slots numbers } in
-    let two : Going all M = going-each marked (with_mark L g) numbers fly one in
+    let two : Stands all M = stands-each marked (with_mark L g) numbers fly one in
     let kept = stays-push_each (with_mark L g) (map Queued.Cancel numbers) in
     let kg : dg ≡ M.groups = eg ∙ ap (λ x. x.groups) (sym kept.groups) in
     let kc : D.cancellers ≡ M.cancellers = st.shows.cancellers ∙ ap (λ x. x.cancellers) (sym kept.groups) in
-    let three : Going (record all { cancellers = amended D.cancellers c (λ x. length D.groups); groups = dg ++ false ∷ [] })
+    let three : Stands (record all { cancellers = amended D.cancellers c (λ x. length D.groups); groups = dg ++ false ∷ [] })
     (renew_group M c) =
-    going-beside all M D.users D.world (amended D.cancellers c (λ x. length D.groups)) D.cancel_handles (dg ++ false ∷ [])
+    stands-beside all M D.users D.world (amended D.cancellers c (λ x. length D.groups)) D.cancel_handles (dg ++ false ∷ [])
     M.world M.owners (amended M.cancellers c (λ x. length M.groups)) M.cancel_handles (M.groups ++ false ∷ [])
     two.shows.users two.shows.world
     (ap (λ xs. amended xs c (λ x. length D.groups)) kc
     ∙ ap (λ k. amended M.cancellers c (λ x. k)) (sym (length-amended (λ mark. true) D.groups g) ∙ ap length kg))
-    two.shows.cancel_handles (ap (λ xs. xs ++ false ∷ []) kg) two.half.counted two in
-    going-meets (cancel_group D c g) (renew_group M c) (Cancels (members_at D g)) (Cancels numbers) (ap Cancels same)
-    (subst (λ xs. Going (record (record marked { slots = ask_each D.slots xs }) {
+    two.shows.cancel_handles (ap (λ xs. xs ++ false ∷ []) kg) two.settled.half.counted two in
+    stands-meets (cancel_group D c g) (renew_group M c) (Cancels (members_at D g)) (Cancels numbers) (ap Cancels same)
+    (subst (λ xs. Stands (record (record marked { slots = ask_each D.slots xs }) {
       cancellers = amended D.cancellers c (λ x. length D.groups);
       groups = dg ++ false ∷ [];
     }) (renew_group M c)) (sym same) three)
 
 -- Close, by whether nobody holds the handle.
-pub close-meets : (D : Legacy) (L : Ledger) (h : ℕ) (b : Bool) → Going D L → Meets (D, Released) (close_if b L h) Released
+pub close-meets : (D : Legacy) (L : Ledger) (h : ℕ) (b : Bool) → Stands D L → Meets (D, Released) (close_if b L h) Released
 close-meets D L h true g = record {
   reply_is = refl;
-  half = half-closed L h g.half;
+  half = half-closed L h g.settled.half;
   tidy = tidy-close L h;
   shows = shows-stays D L (push L (Queued.Close h)) D.slots (stays-push L (Queued.Close h))
       (g.shows.slots ∙ ap (λ K. map shown K.ops) (sym (flat-push L (Queued.Close h)))) g.shows;
 }
-close-meets D L h false g = going-meets D L Released Released refl g
+close-meets D L h false g = stands-meets D L Released Released refl g
 
 -- Submit under no marked group.
 submitted-meets : (D : Legacy) (L : Ledger) (request : Request Buffer Parts) (dg group : Option ℕ) → dg ≡ group → Stands D L →
@@ -297,5 +291,5 @@ submitted-meets D L request dg group same st =
 pub submit-meets : (D : Legacy) (L : Ledger) (request : Request Buffer Parts) (dg group : Option ℕ) (b : Bool) → dg ≡ group → Stands D L →
     Meets (submit_at b D request dg) (submit_if b L request group).0 (submit_if b L request group).1
 submit-meets D L request dg group true same st =
-    going-meets D L (CanceledAtOnce (held_of request)) (CanceledAtOnce (held_of request)) refl (stands-going D L st)
+    stands-meets D L (CanceledAtOnce (held_of request)) (CanceledAtOnce (held_of request)) refl st
 submit-meets D L request dg group false same st = submitted-meets D L request dg group same st

@@ -28,10 +28,10 @@ use Rattle.driver_core.proofs.Maps.{put-same, put-other, gone-same, gone-other, 
 use Rattle.driver_core.proofs.Numbers.{Owner, owner}
 use Rattle.driver_core.specs.declared.operations.calls.CallAnswer.TheVariants as calling
 use Rattle.ready_driver.specs.Calling.{request_in, MakesCall, CallsInSlot}
+use Rattle.driver_core.proofs.Polling.{polled-flies, called-now}
 use Rattle.ready_driver.specs.Io.{CountsFor, EndsFor}
 use Rattle.ready_driver.specs.Named.{IsCompleted, KeepsSlot, ReturnsSlot, canceled_if, canceled_in, canceled_slots}
 use Rattle.ready_driver.specs.Polling.{EndsSlot}
-use Rattle.ready_driver.proofs.Ended.{polled-flies}
 
 -- A request after a count names what it named, by the way that its bytes go.
 counts-names : (way : Way) (r now : Request Buffer Parts) (k : ℕ) → CountsFor way r now k → named now ≡ named r
@@ -115,10 +115,6 @@ module _ {B : Type 0} (old : FinMap nat_cmp (Slot B)) (key number : ℕ) (holds 
     called-others k e =
         ap (λ m. get m k) calls.slots ∙ put-other mid key calls.now k e ∙ ap (λ m. get m k) mid-at ∙ put-other old key waits k e
 
-    -- The slot after the call.
-    called-here : get new key ≡ Some calls.now
-    called-here = ap (λ m. get m key) calls.slots ∙ put-same mid key calls.now
-
     -- The request that was called is that of the slot.
     asked-request : calls.slot.request ≡ mine.slot.request
     asked-request = ap (λ s. s.request) slot-at
@@ -138,13 +134,13 @@ module _ {B : Type 0} (old : FinMap nat_cmp (Slot B)) (key number : ℕ) (holds 
     pub unmade-slots : plain_request buffer calls.now.request ≡ plain_request buffer calls.slot.request → KeepsSlot old key new
     unmade-slots same = record {
       others = called-others;
-      names = ap named_in called-here ∙ called-names (ap named same);
-      unmade = λ none. ap made_in called-here ∙ ap made_life (calls.life ∙ ap (λ s. s.life) slot-at)
+      names = ap named_in (called-now calls) ∙ called-names (ap named same);
+      unmade = λ none. ap made_in (called-now calls) ∙ ap made_life (calls.life ∙ ap (λ s. s.life) slot-at)
           ∙ flying-made (polled mine.slot.life task) (polled-flies mine.slot.life task (polls mine.slot mine.there).0);
       completed = λ outcome. (
         λ now. absurd (flying-open (polled mine.slot.life task) outcome
             (polled-flies mine.slot.life task (polls mine.slot mine.there).0)
-            (sym (calls.life ∙ ap (λ s. s.life) slot-at) ∙ subst (λ s. IsCompleted s outcome) called-here now)),
+            (sym (calls.life ∙ ap (λ s. s.life) slot-at) ∙ subst (λ s. IsCompleted s outcome) (called-now calls) now)),
         λ was. absurd (flying-open mine.slot.life outcome (polls mine.slot mine.there).0
             (subst (λ s. IsCompleted s outcome) mine.there was)),
       );
@@ -155,7 +151,7 @@ module _ {B : Type 0} (old : FinMap nat_cmp (Slot B)) (key number : ℕ) (holds 
         EndsFor (plain_request buffer calls.slot.request) (plain_request buffer calls.now.request) outcome →
         EndsSlot new key outcome behind done → ReturnsSlot old key behind done
     made-slots outcome done behind is ends =
-        let e = ends calls.now called-here in
+        let e = ends calls.now (called-now calls) in
         record {
           others = λ k apart. ap (λ m. get m k) e.2 ∙ gone-other new key k apart ∙ called-others k apart;
           free = ap (λ m. get m key) e.2 ∙ gone-same new key;
@@ -195,7 +191,7 @@ module _ {B : Type 0} (old : FinMap nat_cmp (Slot B)) (key number : ℕ) (holds 
     -- Its outcome is how the call ended.
     pub made-outcome : (outcome : Outcome) (done : Done B) (behind : FinMap nat_cmp (Slot B)) → EndsSlot new key outcome behind done →
         done.outcome ≡ outcome
-    made-outcome outcome done behind ends = (ends calls.now called-here).0
+    made-outcome outcome done behind ends = (ends calls.now (called-now calls)).0
 
 -- A slot goes, whether its cancel was asked for or not.
 pub gone-canceled : {B : Type 0} (slots : FinMap nat_cmp (Slot B)) (key : ℕ) → remove (canceled_slots slots key) key ≡ remove slots key

@@ -1,5 +1,5 @@
 -- A table of holders that counts the operations in slots, after each call that changes the table or the slots.
-use Rattle.std.proofs.Common.{◌≡◌, ◌≢◌, inl, inr, ℕ, ◌+◌, ◌≤◌, ◌<◌, Bool, true, false, List, [], ◌∷◌, Option, Some, None, refl, sym, ◌∙◌}
+use Rattle.std.proofs.Common.{◌≡◌, ◌≢◌, inl, inr, ℕ, ◌+◌, ◌<◌, Bool, true, false, List, [], ◌∷◌, Option, Some, None, refl, sym, ◌∙◌}
 use Rattle.std.proofs.Common.{ap, subst, arith}
 use Rattle.std.specs.Prelude.{IsSome, is_some, nat_lt, unwrap_or}
 use Rattle.std.specs.Ordering.{nat_cmp}
@@ -20,17 +20,16 @@ use Rattle.ring_core.proofs.Numbers.{same-or-not, and-left, and-right}
 use Rattle.driver_core.specs.declared.operations.TheConstants.{MOST_GIVEN}
 use Rattle.driver_core.specs.declared.slot.Slot.{Slot}
 use Rattle.driver_core.specs.Holds.{named_in, made_in, settled, with_ops, without_ops, CanJoin, CanLeave}
-use Rattle.driver_core.specs.declared.op.Op.{Op}
-use Rattle.driver_core.specs.Groups.{AreInSlots, joins_if}
-use Rattle.driver_core.specs.Members.{Membership, moves}
+use Rattle.driver_core.specs.Groups.{AreInSlots}
+use Rattle.driver_core.specs.Members.{Membership}
 use Rattle.driver_core.specs.Op.{KeepsTokens}
 use Rattle.driver_core.specs.Ops.{Ops}
 use Rattle.driver_core.specs.Slot.{is_flying, with_life}
 use Rattle.driver_core.proofs.Counted.{named-distinct}
-use Rattle.driver_core.proofs.Distinct.{ascends-distinct}
+use Rattle.driver_core.proofs.Distinct.{ascends-distinct, one-most}
 use Rattle.driver_core.proofs.Holds.{with-same, with-other, settled-same, settled-other, can-leave, can-join, ops-joined, ops-left}
+use Rattle.driver_core.proofs.Holds.{held-user}
 use Rattle.driver_core.proofs.Maps.{put-same, put-other}
-use Rattle.driver_core.proofs.Placing.{moved-joined}
 use Rattle.driver_core.proofs.Passing.{number-none, number-some, number-kept, number-changed}
 use Rattle.ready_driver.specs.LegacyState.{holds_all}
 use Rattle.ready_driver.specs.Named.{IsOnlyCanceledLife, IsOnlyCanceled, IsCompleted, KeepsSlot, canceled_if, canceled_in, canceled_slots}
@@ -193,11 +192,6 @@ pub naming-canceled : {B : Type 0} (table : Table) (slots : FinMap nat_cmp (Slot
     AreNaming table (canceled_slots slots key) given
 naming-canceled table slots given key are = naming-named table slots (canceled_slots slots key) given key are (canceled-keeps slots key)
 
--- An operation that joins adds one hold at most.
-one-more : (b : Bool) → one_if b ≤ 1
-one-more true = omega arith
-one-more false = omega arith
-
 -- A new operation joins, in a slot that was free.
 pub naming-joined : {B : Type 0} (table : Table) (slots slots' : FinMap nat_cmp (Slot B)) (given key : ℕ) (s : Slot B) →
     AreNaming table slots given → get slots key ≡ None → slots' ≡ insert slots key s → s.life ≡ Submitted →
@@ -213,7 +207,7 @@ naming-joined {B} table slots slots' given key s are free is life =
           let b = ap (λ o. one_if (names_it h o)) free in
           let c = ap (λ o. one_if (names_it h o)) now in
           omega (arith, a, b, c));
-      few = λ h. (let a = ops h in let b = are.few h in let c = one-more (has_number h (named s.request)) in omega (arith, a, b, c));
+      few = λ h. (let a = ops h in let b = are.few h in let c = one-most (has_number h (named s.request)) in omega (arith, a, b, c));
       unmade = λ k. elim (same-or-not k key) [
         | inl e ↦ ap (λ x. made_in (get slots' x)) e ∙ ap made_in now ∙ made-none s.life life
         | inr e ↦ ap (λ m. made_in (get m k)) is ∙ ap made_in (put-other slots key s k e) ∙ are.unmade k
@@ -277,11 +271,7 @@ users-held table h user = by (get table.holders h) user
 -- Each handle of those that the user holds all of is known.
 pub all-known : (table : Table) (handles : List ℕ) → holds_all table handles ≡ true → (h : ℕ) → has_number h handles ≡ true →
     is_known table h ≡ true
-all-known table handles all h there = by (get table.holders h) (all-users table handles all h there)
-  where
-    by : (x : Option Holders) → nat_lt 0 (unwrap_or x nobody).user ≡ true → is_some x ≡ true
-    by None e = (let f : ⊥ = cc in absurd f)
-    by (Some held) e = refl
+all-known table handles all h there = held-user table h (all-users table handles all h there)
 
 -- A request's operation may join handles that the user holds.
 pub naming-join : {B V C : Type 0} (table table' : Table) (slots : FinMap nat_cmp (Slot B)) (given : ℕ) (request : Request C V) →
@@ -297,11 +287,3 @@ naming-join table table' slots given request are all few same =
 pub in-slots-tokens : {B : Type 0} (m : Membership) (old new : Ops B) → KeepsTokens old new → AreInSlots m old.slots.values →
     AreInSlots m new.slots.values
 in-slots-tokens m old new keeps are = λ number place there. (keeps (record { number = number; key = place.key })).0 (are number place there)
-
--- The groups once the next operation joined one, in front of its slot, and then got the key of its slot.
-pub joined-at : (m mid new : Membership) (under : Option ℕ) (given : ℕ) (op : Op) (number key : ℕ) → op.number ≡ given →
-    number ≡ op.number → key ≡ op.key → get m.places given ≡ None → mid ≡ joins_if m under given 0 → new ≡ moves mid number key →
-    new ≡ joins_if m under op.number op.key
-joined-at m mid new under given op number key is n k apart joins moved =
-    moved ∙ ap (λ x. moves x number key) joins ∙ ap (λ i. moves (joins_if m under given 0) i key) (n ∙ is)
-    ∙ moved-joined m under given 0 key apart ∙ ap (joins_if m under given) k ∙ ap (λ i. joins_if m under i op.key) (sym is)

@@ -2,6 +2,7 @@
 use Rattle.std.proofs.Common.{◌≡◌, ◌≢◌, ◌∙◌, inl, inr, ℕ, ◌+◌, ◌-◌, ◌<◌, Bool, true, false, List, [], ◌∷◌, length, Option, Some, None}
 use Rattle.std.proofs.Common.{refl, sym, ap, arith, slice_get}
 use Rattle.std.specs.Prelude.{is_some, nat_lt, option_map}
+use Rattle.std.proofs.lemmas.Bool.{ltb-true}
 use Rattle.std.proofs.lemmas.Bool.Decides.{nat_tests}
 use Rattle.handle_core.specs.declared.table.Holders.{Holders}
 use Rattle.handle_core.specs.Table.{Table, holders_at, without_user}
@@ -14,14 +15,14 @@ use Rattle.ring_core.proofs.Leaving.{named-ascends}
 use Rattle.ring_core.proofs.Where.{where-kept, where-left}
 use Rattle.driver_core.specs.Holds.{is_nobody, settle_if, settled, left_holders, without_ops, front_if, unheld_by, CanLeave}
 use Rattle.driver_core.proofs.Distinct.{ascends-distinct}
-use Rattle.driver_core.proofs.Holds.{settled-same, settled-other, user-left, ops-left, can-leave}
+use Rattle.driver_core.proofs.Holds.{settled-same, settled-other, user-left, ops-left, can-leave, held-op, held-user}
 use Rattle.driver_core.proofs.Maps.{gone-same, gone-other}
 use Rattle.ready_driver.specs.HandlesStand.{HandlesStand}
 use Rattle.ready_driver.specs.Legacy.{Legacy, LegacyOp, holds_at, is_on, slot_in, slot_at}
 use Rattle.ready_driver.specs.LegacyStep.{freed}
 use Rattle.ready_driver.specs.Registry.{is_known, is_users, unheld_if, without_keys}
 use Rattle.ready_driver.specs.Reports.{with_key}
-use Rattle.ready_driver.proofs.Registering.{keys-kept, known-op, known-user, lt-found}
+use Rattle.ready_driver.proofs.Registering.{keys-kept}
 
 -- As many handles have a key, or none, as before.
 length-without : (handles : List ℕ) (keys : List (Option ℕ)) → length (without_keys keys handles) ≡ length keys
@@ -60,11 +61,11 @@ left-known (h ∷ handles) table keys k may known =
     let before : (ks : List (Option ℕ)) → (is_known next k ≡ true) ×
     (slice_get (without_keys ks (unheld_by next handles)) k ≡ slice_get ks k) = λ ks. left-known handles next ks k may.1 known in
     left-front table h (is_nobody (left_holders table h)) (unheld_by next handles) keys k
-    (settled-known table h (left_holders table h) (is_nobody (left_holders table h)) (known-op table h may.0) k (before keys).0)
+    (settled-known table h (left_holders table h) (is_nobody (left_holders table h)) (held-op table h may.0) k (before keys).0)
     (λ ks. (before ks).1)
 
 -- What was looked up, where the slot is there.
-slot-there : (x : Option (Option LegacyOp)) (op : LegacyOp) → slot_in x ≡ Some op → x ≡ Some (Some op)
+pub slot-there : (x : Option (Option LegacyOp)) (op : LegacyOp) → slot_in x ≡ Some op → x ≡ Some (Some op)
 slot-there None op is = (let f : ⊥ = cc in absurd f)
 slot-there (Some slot) op is = ap Some is
 
@@ -154,11 +155,11 @@ module _ (table : Table) (keys : List (Option ℕ)) (D : Legacy) (st : HandlesSt
           slice_get (without_keys keys (unheld_if b h)) k ≡ Some (Some k)
       by true is k known =
           let was = settled-known table h (without_user (holders_at table h)) (is_nobody (without_user (holders_at table h)))
-          (known-user table h held) k known in
+          (held-user table h held) k known in
           get-amended-other (λ old. None) keys h k (was.1 is) ∙ st.keyed k was.0
       by false is k known =
           let was = settled-known table h (without_user (holders_at table h)) (is_nobody (without_user (holders_at table h)))
-          (known-user table h held) k known in
+          (held-user table h held) k known in
           st.keyed k was.0
 
   -- It was the user's only hold: the user holds the handle no more.
@@ -181,7 +182,7 @@ module _ (table : Table) (keys : List (Option ℕ)) (D : Legacy) (st : HandlesSt
       (without_keys keys (unheld_if (is_nobody (without_user (holders_at table h))) h)) D
   standing-released h held more =
       standing-dropped h held D.users refl (λ k e. refl)
-      (two (holders_at table h).user (lt-found (holders_at table h).user held) more ∙ sym held ∙ st.users h)
+      (two (holders_at table h).user (ltb-true 0 (holders_at table h).user held) more ∙ sym held ∙ st.users h)
     where
       two : (n : ℕ) → 0 < n → n ≢ 1 → nat_lt 0 (n - 1) ≡ true
       two n some more = grind (arith, nat_tests)

@@ -1,5 +1,5 @@
 -- What a poll does to a readiness driver, and to one that is one as plain data.
-use Rattle.std.proofs.Common.{◌≡◌, ◌≢◌, inl, inr, ◌⊎◌, ℕ, ◌+◌, ◌<◌, ◌≤◌, ◌||◌, Bool, true}
+use Rattle.std.proofs.Common.{◌≡◌, ◌≢◌, inl, inr, ◌⊎◌, ℕ, ◌+◌, ◌<◌, ◌||◌, Bool, true}
 use Rattle.std.proofs.Common.{false, List, [], ◌∷◌, ◌++◌, length, Option, Some, None}
 use Rattle.std.proofs.Common.{not, refl, sym, ◌∙◌, ap, subst, arith}
 use Rattle.std.specs.Prelude.{is_some, nat_le, IsTrue, option_to_list}
@@ -32,6 +32,7 @@ use Rattle.driver_core.specs.Op.{KeepsTokens}
 use Rattle.driver_core.specs.Slot.{number_at}
 use Rattle.driver_core.proofs.Numbers.{owner}
 use Rattle.driver_core.proofs.Maps.{put-same, put-other, gone-same, gone-other, len-put}
+use Rattle.driver_core.proofs.Lists.{length-option}
 use Rattle.ready_driver.specs.Awaits.{IsWorldUnmet}
 use Rattle.ready_driver.specs.HandlesStand.{HandlesStand}
 use Rattle.ready_driver.specs.Io.{IoView}
@@ -180,11 +181,6 @@ module _ {I : Type 0} (view : I → IoView) (tells memory : Bool) (mid handed ne
       (subst (λ k. (view handed.io).keys ≡ with_key (keys ++ None ∷ []) k (Some k)) here
       (tried.1 ∙ ap (λ ks. with_key ks h (Some h)) keyed)) count) there is lets
 
--- One handle is made at most.
-one-made : (made : Option ℕ) → length (option_to_list made) ≤ 1
-one-made None = omega arith
-one-made (Some h) = omega arith
-
 -- A driver that is one as plain data, and a poll of an operation of it, for which memory was reserved.
 module _ {I B : Type 0} (view : I → IoView) (buffer : B → Buffer) (d : LegacyState I B) (D : Legacy) (old : LegacyStands view buffer d D)
   where
@@ -277,7 +273,7 @@ module _ {I B : Type 0} (view : I → IoView) (buffer : B → Buffer) (d : Legac
           st there is lets (made_by done.outcome) made in
           let groups = groups-freed d.members placed n D old.groups in
           let count = end.count in
-          let one = one-made (made_by done.outcome) in
+          let one = length-option (made_by done.outcome) in
           record {
             reply_is = ap (λ p. p.1) (poll-row task) ∙ polls.0
                 ∙ ap (λ o. Handed o (held_of (plain_request buffer done.request))) (sym kept)

@@ -35,7 +35,8 @@ use Rattle.ready_driver.specs.Spelled.{row_spelling, spelled_reply}
 use Rattle.ready_driver.specs.Legacy.{LegacyOp, Legacy, slot_in, slot_at}
 use Rattle.ready_driver.specs.LegacyStep.{freed, users_with, ends_with, poll_op, poll_slot, legacy_row}
 use Rattle.ready_driver.specs.Readiness.{slot_by}
-use Rattle.ready_driver.proofs.Lists.{amended-twice, amended-end, map-changed}
+use Rattle.driver_core.proofs.Lists.{amended-twice}
+use Rattle.ready_driver.proofs.Lists.{amended-end, map-changed}
 use Rattle.ready_driver.proofs.Flat.{take-none, Unmoved, flat-changed}
 use Rattle.ready_driver.proofs.Closes.{closes_only, turn-takes, closes-remove}
 use Rattle.ready_driver.proofs.Asks.{Flies}

@@ -3,11 +3,8 @@ use Rattle.std.proofs.Common.{◌≡◌, ◌≢◌, inl, inr, ℕ, Bool, true, f
 use Rattle.std.proofs.Common.{◌∙◌, ap, subst}
 use Rattle.std.proofs.Common.{arith}
 use Rattle.std.specs.Prelude.{◌==◌, bit_and, if◌then◌else◌, IsSome, is_some, OnOk, OnErr, Result, Ok, Err}
-use Rattle.std.specs.Ordering.{nat_cmp}
-use Rattle.std.specs.Cmp.{nat_cmp_total}
-use Rattle.std.specs.FinMap.{FinMap, get, insert, same_map, nat_cmp-IsAntisymmetric}
 use Rattle.ring_core.proofs.Numbers.{same-or-not}
-use Rattle.driver_core.proofs.Maps.{put-same, put-other}
+use Rattle.driver_core.proofs.Maps.{put-same, put-other, put-twice}
 use Rattle.ready_driver.specs.declared.ready.Direction.{Direction}
 use Rattle.ready_driver.specs.declared.ready.Direction.TheVariants.{Read, Write}
 use Rattle.ready_driver.specs.declared.records.Record.{Record}
@@ -39,13 +36,6 @@ pub changed-at : (kept : Kept) (h : ℕ) (change : Record → Record) (one : Rec
     record_at (changed kept h change) h ≡ Some (change one)
 changed-at kept h change one there =
     ap (λ x. record_at (changed_if x kept h change) h) there ∙ put-same kept.handles h (change one)
-
--- What is written at a handle last is what is there.
-pub put-twice : {X : Type 0} (m : FinMap nat_cmp X) (h : ℕ) (v w : X) → insert (insert m h v) h w ≡ insert m h w
-put-twice m h v w = same_map nat_cmp_total nat_cmp-IsAntisymmetric _ _ (λ q. elim (same-or-not q h) [
-  | inl e ↦ ap (get (insert (insert m h v) h w)) e ∙ put-same (insert m h v) h w ∙ sym (put-same m h w) ∙ ap (get (insert m h w)) (sym e)
-  | inr e ↦ put-other (insert m h v) h w q e ∙ put-other m h v q e ∙ sym (put-other m h w q e)
-])
 
 -- A handle with no record has none then.
 pub changed-none : (kept : Kept) (h : ℕ) (change : Record → Record) → record_at kept h ≡ None → changed kept h change ≡ kept

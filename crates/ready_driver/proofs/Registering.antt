@@ -1,14 +1,13 @@
 -- What a table of holders and records keep true: just the handles that somebody holds have records, through each change of both.
-use Rattle.std.proofs.Common.{◌≡◌, ◌∙◌, inl, inr, ℕ, ◌+◌, ◌<◌, Bool, true, false, Option, Some, None, option_map, refl, sym}
+use Rattle.std.proofs.Common.{◌≡◌, ◌∙◌, inl, inr, ℕ, ◌<◌, Bool, true, false, Option, Some, None, option_map, refl, sym}
 use Rattle.std.proofs.Common.{ap, subst, arith}
-use Rattle.std.specs.Prelude.{is_some, unwrap_or, nat_lt, Result, Ok, Err, IfSome}
-use Rattle.std.proofs.lemmas.Bool.Decides.{nat_tests}
+use Rattle.std.specs.Prelude.{is_some, unwrap_or, Result, Ok, Err, IfSome}
 use Rattle.std.specs.Ordering.{nat_cmp}
 use Rattle.std.specs.FinMap.{FinMap, get, empty, insert, remove, get-empty}
 use Rattle.handle_core.specs.declared.table.Holders.{Holders}
-use Rattle.handle_core.specs.Table.{Table, holders_at, with_holders, without_handle, nobody, by_operation, by_user, handed}
+use Rattle.handle_core.specs.Table.{Table, holders_at, with_holders, without_handle, by_operation, by_user, handed}
 use Rattle.ring_core.proofs.Numbers.{same-or-not}
-use Rattle.driver_core.proofs.Maps.{put-same, put-other, gone-same, gone-other, put-self}
+use Rattle.driver_core.proofs.Maps.{put-same, put-other, put-twice, gone-same, gone-other, put-self}
 use Rattle.driver_core.proofs.Holds.{with-same}
 use Rattle.rent_buf.specs.declared.fault.OutOfMemory.{OutOfMemory}
 use Rattle.driver_core.specs.declared.op.Op.{Op}
@@ -21,8 +20,8 @@ use Rattle.ready_driver.specs.Awaits.{LeavesIf, LeavesFor}
 use Rattle.ready_driver.specs.Ready.{meets, mask_of}
 use Rattle.ready_driver.specs.ScheduledIo.{entry_of}
 use Rattle.ready_driver.specs.Records.{Kept, io_at, record_at, is_registered, with_record, without_record, changed, changed_if, with_registered}
-use Rattle.ready_driver.specs.Registry.{Handling, HasMadeRoom, is_known, is_users, AreRecorded}
-use Rattle.ready_driver.proofs.Recorded.{put-twice, there-changed}
+use Rattle.ready_driver.specs.Registry.{Handling, HasMadeRoom, is_known, AreRecorded}
+use Rattle.ready_driver.proofs.Recorded.{there-changed}
 
 -- Two maps have the same keys, after each got one more, or wrote one that it had.
 keys-put : {X Y : Type 0} (a : FinMap nat_cmp X) (b : FinMap nat_cmp Y) (h : ℕ) (x : X) (y : Y) →
@@ -80,25 +79,6 @@ module _ (table : Table) (records : Kept) (all : AreRecorded table records) wher
   -- The record of a handle changes.
   pub recorded-changed : (h : ℕ) (change : Record → Record) → AreRecorded table (changed records h change)
   recorded-changed h change = λ k. there-changed records h change k ∙ all k
-
--- A handle that somebody holds is known.
-pub known-some : (table : Table) (h : ℕ) → 0 < (holders_at table h).user + (holders_at table h).operations → is_known table h ≡ true
-known-some table h some = by (get table.holders h) some where
-  by : (o : Option Holders) → 0 < (unwrap_or o nobody).user + (unwrap_or o nobody).operations → is_some o ≡ true
-  by None h = absurd (omega arith)
-  by (Some x) h = refl
-
--- A handle that an operation holds is known.
-pub known-op : (table : Table) (h : ℕ) → 0 < (holders_at table h).operations → is_known table h ≡ true
-known-op table h some = known-some table h (omega (arith, some))
-
--- A number that is found above 0 is.
-pub lt-found : (k : ℕ) → nat_lt 0 k ≡ true → 0 < k
-lt-found k h = grind (arith, nat_tests)
-
--- A handle that its user holds is known.
-pub known-user : (table : Table) (h : ℕ) → is_users table h ≡ true → is_known table h ≡ true
-known-user table h users = (let a = lt-found (holders_at table h).user users in known-some table h (omega (arith, a)))
 
 -- A new handle is held, and has a record.
 pub recorded-new : (table : Table) (records : Kept) → AreRecorded table records → (h : ℕ) (new : Table) (now : Kept) (one : Record) →

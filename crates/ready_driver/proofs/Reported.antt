@@ -1,5 +1,5 @@
 -- What bits show of a handle once reports are treated: those of a world in memory show each handle that was due.
-use Rattle.std.proofs.Common.{◌≡◌, ◌≢◌, ◌∙◌, inl, inr, ℕ, ◌<◌, Bool, true, false, not, ◌||◌, if◌then◌else◌, List, [], ◌∷◌, ◌++◌, Option}
+use Rattle.std.proofs.Common.{◌≡◌, ◌≢◌, ◌∙◌, inl, inr, ℕ, ◌<◌, Bool, true, false, not, if◌then◌else◌, List, [], ◌∷◌, ◌++◌, Option}
 use Rattle.std.proofs.Common.{None, Some, refl, sym, ap, subst, arith, slice_get}
 use Rattle.std.specs.Prelude.{is_some, unwrap_or, option_map, bit_and, bit_or, min, max, ◌==◌, IsTrue}
 use Rattle.std.specs.Int.{bit_at}
@@ -10,6 +10,7 @@ use Rattle.handle_core.specs.Table.{Table}
 use Rattle.ring_core.specs.declared.world.HandleState.{HandleState}
 use Rattle.ring_core.specs.Attempt.{is_readable_at}
 use Rattle.ring_core.specs.Lists.{has_number}
+use Rattle.ring_core.proofs.Leaving.{has-other}
 use Rattle.ring_core.proofs.Numbers.{equal-self, same-or-not}
 use Rattle.ready_driver.specs.declared.non_block.Report.{Report}
 use Rattle.ready_driver.specs.declared.ready.Direction.TheVariants.{Read, Write}
@@ -114,15 +115,8 @@ after-due world keys (n ∷ handles) h due keyed ready = elim (same-or-not h n) 
       (after-own h (slice_get keys h) (is_readable_at world h) ready (reports_of world keys handles) keyed)
   | inr e ↦
       after-other h (slice_get keys n) (is_readable_at world n) (is_readable_at world h) (reports_of world keys handles)
-      (after-due world keys handles h (later (h == n) (apart e) due) keyed) ready
+      (after-due world keys handles h (sym (has-other h n handles e) ∙ due) keyed) ready
 ]
-  where
-    apart : h ≢ n → (h == n) ≡ false
-    apart e = grind (arith, nat_tests)
-
-    later : (b : Bool) → b ≡ false → (b || has_number h handles) ≡ true → has_number h handles ≡ true
-    later true none there = (let f : ⊥ = cc in absurd f)
-    later false none there = there
 
 -- The bits of a handle that has a record after a report.
 bits-reported : (kept : Kept) (report : Report) (h : ℕ) → is_some (record_at kept h) ≡ true →

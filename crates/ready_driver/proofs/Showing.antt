@@ -26,7 +26,8 @@ use Rattle.ready_driver.specs.Registry.{MakesReady, LetsGo, TriesFor, with_creat
 use Rattle.ready_driver.specs.Turns.{bits_after, AreShown, KeepsBits}
 use Rattle.ready_driver.proofs.Bearing.{bits-kept}
 use Rattle.ready_driver.proofs.Parting.{settled-known, left-known}
-use Rattle.ready_driver.proofs.Registering.{keys-kept, known-op, known-user}
+use Rattle.driver_core.proofs.Holds.{held-op, held-user}
+use Rattle.ready_driver.proofs.Registering.{keys-kept}
 use Rattle.ready_driver.proofs.Standing.{joined-known}
 
 -- The bits that a look-up reads.
@@ -47,7 +48,7 @@ left-record [] table records k may known = refl
 left-record (h ∷ handles) table records k may known =
     let next = settled table h (left_holders table h) in
     let held = left-known handles next [] k may.1 known in
-    let was = settled-known table h (left_holders table h) (is_nobody (left_holders table h)) (known-op table h may.0) k held.0 in
+    let was = settled-known table h (left_holders table h) (is_nobody (left_holders table h)) (held-op table h may.0) k held.0 in
     by (is_nobody (left_holders table h)) was.1 (λ rs. left-record handles next rs k may.1 known)
   where
     by : (b : Bool) → (b ≡ true → k ≢ h) →
@@ -183,7 +184,7 @@ module _ {I : Type 0} (view : I → IoView) (reports : List Report) where
     shown-released old new h users lets =
         let held = without_user (holders_at old.table h) in
         let was : (k : ℕ) → is_known new.table k ≡ true → (is_known old.table k ≡ true) × (is_nobody held ≡ true → k ≢ h) =
-        λ k known. settled-known old.table h held (is_nobody held) (known-user old.table h users) k
+        λ k known. settled-known old.table h held (is_nobody held) (held-user old.table h users) k
         (ap (λ t. is_known t k) (sym lets.holders) ∙ known) in
         shown-like old new (lets.object.shown in_memory) (λ k known. (was k known).0)
         (λ k known. ap (λ r. (io_at r k).ready) lets.records ∙ gone (is_nobody held) k (was k known).1)

@@ -1,5 +1,5 @@
 -- Handles in memory that are due, or that bits show: what each call keeps of that.
-use Rattle.std.proofs.Common.{◌≡◌, ◌≢◌, ◌⊎◌, inl, inr, ℕ, ◌<◌, ◌≤◌, Bool, true, false, not, ◌&&◌, ◌||◌, ◌==◌, List, [], ◌∷◌, ◌++◌}
+use Rattle.std.proofs.Common.{◌≡◌, ◌≢◌, ◌⊎◌, inl, inr, ℕ, ◌<◌, ◌≤◌, Bool, true, false, not, ◌&&◌, List, [], ◌∷◌, ◌++◌}
 use Rattle.std.proofs.Common.{if◌then◌else◌, length, Option, Some, None, option_map, slice_get, refl, sym, ◌∙◌, ap, subst, arith}
 use Rattle.std.specs.Prelude.{nat_lt}
 use Rattle.std.proofs.lemmas.Bool.Decides.{nat_tests}
@@ -14,40 +14,22 @@ use Rattle.ring_core.specs.Effect.{made_by}
 use Rattle.ring_core.specs.Lists.{amended, has_number, passes}
 use Rattle.ring_core.specs.Request.{named}
 use Rattle.ring_core.specs.WorldCall.{IsCalled}
-use Rattle.ring_core.proofs.Numbers.{equal-self, same-or-not, below-or-not}
+use Rattle.ring_core.proofs.Leaving.{has-before, has-last, has-other}
+use Rattle.ring_core.proofs.Numbers.{same-or-not, below-or-not}
 use Rattle.ring_core.proofs.Amended.{get-amended, get-amended-other}
 use Rattle.ring_core.proofs.Appended.{get-append-within, get-append-end, get-append-past}
 use Rattle.ready_driver.specs.Due.{Duty, with_due, with_each_due}
 use Rattle.ready_driver.specs.Io.{IsDue, KeepsShown, AreDue}
 use Rattle.ready_driver.specs.MemIo.{Memory, memory_view}
 use Rattle.ready_driver.specs.Reports.{with_key, with_made_key, ShowsBits}
-use Rattle.ready_driver.proofs.Marking.{among-end}
 use Rattle.ready_driver.proofs.Unnamed.{called-other}
-
--- Of two tests one passes; so it does where the second passes that follows from it.
-either : (a b c : Bool) → (b ≡ true → c ≡ true) → (a || b) ≡ true → (a || c) ≡ true
-either true b c follows is = refl
-either false b c follows is = follows is
-
--- A number that is among the first ones is among all.
-first-has : (h : ℕ) (xs ys : List ℕ) → has_number h xs ≡ true → has_number h (xs ++ ys) ≡ true
-first-has h [] ys is = (let f : ⊥ = cc in absurd f)
-first-has h (x ∷ xs) ys is = either (h == x) (has_number h xs) (has_number h (xs ++ ys)) (first-has h xs ys) is
-
--- A further one is among all.
-last-has : (h : ℕ) (xs : List ℕ) → has_number h (xs ++ h ∷ []) ≡ true
-last-has h xs = among-end xs h h ∙ ap (λ b. has_number h xs || b) (equal-self h) ∙ or-later (has_number h xs)
-  where
-    or-later : (x : Bool) → (x || true) ≡ true
-    or-later true = refl
-    or-later false = refl
 
 -- What was due is once another handle is.
 pub due-kept : (duty : Duty) (n h : ℕ) → has_number h duty.handles ≡ true → has_number h (with_due duty n).handles ≡ true
 due-kept duty n h is = by (nat_lt n duty.count && not (has_number n duty.handles))
   where
     by : (b : Bool) → has_number h (if b then record duty { handles = duty.handles ++ n ∷ [] } else duty).handles ≡ true
-    by true = first-has h duty.handles (n ∷ []) is
+    by true = has-before h n duty.handles is
     by false = is
 
 -- A handle that can be due is once it is added.
@@ -61,7 +43,7 @@ due-added duty h within =
     by : (b : Bool) → has_number h duty.handles ≡ b →
         has_number h (if true && not b then record duty { handles = duty.handles ++ h ∷ [] } else duty).handles ≡ true
     by true is = is
-    by false is = last-has h duty.handles
+    by false is = has-last h duty.handles
 
 -- As many can be due as before.
 pub due-count : (duty : Duty) (n : ℕ) → (with_due duty n).count ≡ duty.count
@@ -90,15 +72,9 @@ each-added duty (n ∷ handles) h within is = elim (same-or-not h n) [
   | inl e ↦
       each-kept (with_due duty n) handles h
       (subst (λ k. has_number k (with_due duty n).handles ≡ true) (sym e) (due-added duty n (subst (λ k. k < duty.count) e within)))
-  | inr e ↦ each-added (with_due duty n) handles h (subst (λ k. h < k) (sym (due-count duty n)) within) (later (h == n) (apart e) is)
+  | inr e ↦ each-added (with_due duty n) handles h (subst (λ k. h < k) (sym (due-count duty n)) within)
+      (sym (has-other h n handles e) ∙ is)
 ]
-  where
-    apart : h ≢ n → (h == n) ≡ false
-    apart e = grind (arith, nat_tests)
-
-    later : (b : Bool) → b ≡ false → (b || has_number h handles) ≡ true → has_number h handles ≡ true
-    later true none there = (let f : ⊥ = cc in absurd f)
-    later false none there = there
 
 -- Of each handle: what was due is, and else it has its key and what it had, unless it is due.
 pub record Stays (old new : Memory) : Type 0 where

@@ -13,6 +13,7 @@ use Rattle.ring_core.proofs.Numbers.{same-or-not}
 use Rattle.driver_core.specs.declared.slot.Slot.{Slot}
 use Rattle.driver_core.proofs.Lists.{some}
 use Rattle.driver_core.proofs.Maps.{put-same, put-other, gone-same, gone-other}
+use Rattle.driver_core.proofs.Slots.{slot-before}
 use Rattle.ready_driver.specs.Legacy.{LegacyOp, Legacy, slot_in, slot_at}
 use Rattle.ready_driver.specs.LegacyStep.{freed, with_ask, new_op}
 use Rattle.ready_driver.specs.Polling.{LifeFor, SlotFor, SlotsStand, asked_at, joined_at}
@@ -33,18 +34,6 @@ module _ {B : Type 0} (buffer : B → Buffer) (slots : FinMap nat_cmp (Slot B)) 
   -- It is written with the same number, and no other operation changes.
   module _ (E : Legacy) (t : Slot B) (serial : t.serial ≡ s.serial) (fits : SlotFor buffer E t)
       (stays : (n : ℕ) → n ≢ s.serial → slot_at E n ≡ slot_at D n) where
-    -- A slot then was one before, with its number.
-    put-back : (k : ℕ) (u : Slot B) → get (insert slots key t) k ≡ Some u → (w : Slot B) × (get slots k ≡ Some w) × (w.serial ≡ u.serial)
-    put-back k u at = elim (same-or-not k key) [
-      | inl e ↦ (
-        s,
-        ap (get slots) e ∙ there,
-        sym serial ∙ ap (λ x. x.serial)
-            (some t u (get (insert slots key t) key) (put-same slots key t) (ap (get (insert slots key t)) (sym e) ∙ at)),
-      )
-      | inr e ↦ (u, sym (put-other slots key t k e) ∙ at, refl)
-    ]
-
     -- The slots are those of the driver.
     pub slots-put : SlotsStand buffer (insert slots key t) E
     slots-put = record {
@@ -56,8 +45,8 @@ module _ {B : Type 0} (buffer : B → Buffer) (slots : FinMap nat_cmp (Slot B)) 
             slot-stays buffer D E u (stays u.serial (other-serial k u e old)) (stand.holds k u old))
       ];
       one = λ k j u v at there_too same. (
-          let a = put-back k u at in
-          let b = put-back j v there_too in
+          let a = slot-before slots key s t there serial k u at in
+          let b = slot-before slots key s t there serial j v there_too in
           stand.one k j a.0 b.0 a.1 b.1 (a.2 ∙ same ∙ sym b.2));
       each = λ number op at. elim (same-or-not number s.serial) [
         | inl e ↦ record { key = key; slot = t; there = put-same slots key t; serial = serial ∙ sym e }
@@ -172,7 +161,7 @@ module _ {B : Type 0} (buffer : B → Buffer) (slots : FinMap nat_cmp (Slot B)) 
   old-there k u e at = sym (put-other slots key t k e) ∙ at
 
   -- The slots are those of the driver.
-  pub slots-joined : SlotsStand buffer (insert slots key t) E
+  pub slots-joined : SlotsStand buffer (insert slots key t) (joined_at D (plain_request buffer request) group)
   slots-joined = record {
     holds = λ k u at. elim (same-or-not k key) [
       | inl e ↦ subst (SlotFor buffer E) (new-there k u e at) (record {

@@ -1,11 +1,11 @@
 -- Holders and keys that are those of a driver as plain data, through what each call makes of them.
 use Rattle.std.proofs.Common.{◌≡◌, ◌≢◌, ◌∙◌, inl, inr, ℕ, ◌+◌, Bool, true, false, List, [], ◌∷◌, ◌++◌, length, Option}
 use Rattle.std.proofs.Common.{Some, None, refl, sym, ap, arith, slice_get, length-append}
-use Rattle.std.specs.Prelude.{is_some, unwrap_or, nat_lt, ◌==◌, ◌||◌, if◌then◌else◌}
-use Rattle.std.proofs.lemmas.Bool.Decides.{nat_tests}
+use Rattle.std.specs.Prelude.{is_some, unwrap_or, nat_lt, if◌then◌else◌}
 use Rattle.std.proofs.lemmas.Option.{slice_get_past}
 use Rattle.std.specs.Ordering.{nat_cmp}
 use Rattle.std.specs.FinMap.{get, empty, insert, get-empty}
+use Rattle.std.proofs.lemmas.Bool.{lt-ltb}
 use Rattle.handle_core.specs.declared.table.Holders.{Holders}
 use Rattle.handle_core.specs.Table.{Table, holders_at, with_holders, nobody, by_user, with_user, with_operation}
 use Rattle.rent_buf.specs.Buffer.{Buffer}
@@ -18,7 +18,7 @@ use Rattle.ring_core.specs.Request.{named}
 use Rattle.ring_core.proofs.Numbers.{same-or-not, none-of}
 use Rattle.ring_core.proofs.Amended.{get-amended-same, get-amended-other, length-amended, joined-cases}
 use Rattle.ring_core.proofs.Appended.{get-append-end}
-use Rattle.ring_core.proofs.Leaving.{named-ascends, has-first}
+use Rattle.ring_core.proofs.Leaving.{named-ascends, has-first, has-later}
 use Rattle.ring_core.proofs.Where.{where-joined}
 use Rattle.driver_core.specs.Holds.{with_ops, CanJoin}
 use Rattle.driver_core.proofs.Distinct.{ascends-distinct}
@@ -31,7 +31,8 @@ use Rattle.ready_driver.specs.Polling.{joined_at}
 use Rattle.ready_driver.specs.Registry.{is_known, is_users, keyed_unless, keyed_each}
 use Rattle.ready_driver.specs.Records.{Kept, is_registered, changed, with_registered}
 use Rattle.ready_driver.specs.Reports.{with_key}
-use Rattle.ready_driver.proofs.Registering.{keys-kept, known-user}
+use Rattle.driver_core.proofs.Holds.{held-user}
+use Rattle.ready_driver.proofs.Registering.{keys-kept}
 
 -- What was looked up in a table: the user holds it.
 abbrev users_in : Option Holders → Bool
@@ -167,7 +168,7 @@ module _ (table : Table) (keys : List (Option ℕ)) (D : Legacy) (st : HandlesSt
       | inl e ↦ (
           ap (λ q. is_users (with_holders table h (with_user (holders_at table h))) q) e
           ∙ ap (λ (x : Holders). nat_lt 0 x.user) (with-same table h (with_user (holders_at table h)))
-          ∙ more (holders_at table h).user ∙ sym held ∙ ap (is_users table) (sym e) ∙ st.users k)
+          ∙ lt-ltb 0 ((holders_at table h).user + 1) (omega arith) ∙ sym held ∙ ap (is_users table) (sym e) ∙ st.users k)
       | inr e ↦ ap (λ (x : Holders). nat_lt 0 x.user) (with-other table h (with_user (holders_at table h)) k e) ∙ st.users k
     ];
     operations = λ k. elim (same-or-not k h) [
@@ -177,13 +178,10 @@ module _ (table : Table) (keys : List (Option ℕ)) (D : Legacy) (st : HandlesSt
           ∙ ap (λ q. (holders_at table q).operations) (sym e) ∙ st.operations k)
       | inr e ↦ ap (λ (x : Holders). x.operations) (with-other table h (with_user (holders_at table h)) k e) ∙ st.operations k
     ];
-    keyed = λ k known. st.keyed k (sym (keys-kept table.holders h (with_user (holders_at table h)) (known-user table h held) k) ∙ known);
+    keyed = λ k known. st.keyed k (sym (keys-kept table.holders h (with_user (holders_at table h)) (held-user table h held) k) ∙ known);
     counted = st.counted;
     sized = st.sized;
   }
-    where
-      more : (n : ℕ) → nat_lt 0 (n + 1) ≡ true
-      more n = grind (arith, nat_tests)
 
   -- A new operation holds the handles that it names, of which each is held.
   pub standing-joined : (request : Request Buffer Parts) (group : Option ℕ) → CanJoin table (named request) →
@@ -226,11 +224,4 @@ standing-ready table D [] records keys st known = st
 standing-ready table D (h ∷ handles) records keys st known =
     standing-ready table D handles (changed records h (with_registered true)) (keyed_unless (is_registered records h) keys h)
     (standing-keyed table keys D st h (is_registered records h) (known h (has-first h handles)))
-    (λ k there. known k (later k h handles there))
-  where
-    later : (k h : ℕ) (handles : List ℕ) → has_number k handles ≡ true → has_number k (h ∷ handles) ≡ true
-    later k h handles there = ap (λ b. k == h || b) there ∙ or-true (k == h)
-      where
-        or-true : (b : Bool) → (b || true) ≡ true
-        or-true true = refl
-        or-true false = refl
+    (λ k there. known k (has-later k h handles there))

@@ -23,9 +23,9 @@ use Rattle.ring_core.proofs.Appended.{get-append-within}
 use Rattle.driver_core.specs.declared.slot.Slot.{Slot}
 use Rattle.driver_core.specs.Holds.{named_in}
 use Rattle.driver_core.specs.Slot.{is_flying}
-use Rattle.ready_driver.specs.Awaits.{awaits, awaits_if, slot_awaits}
+use Rattle.ready_driver.specs.Awaits.{awaits_if, slot_awaits}
 use Rattle.ready_driver.specs.declared.ready.Direction.{Direction}
-use Rattle.ready_driver.proofs.Exact.{same-handle}
+use Rattle.ready_driver.proofs.Exact.{awaits-named}
 
 -- A number that isn't the only one of a list is another one.
 other-one : (h n : ℕ) → has_number h (n ∷ []) ≡ false → h ≢ n
@@ -98,70 +98,12 @@ pub called-other : (world : List HandleState) (request : Request Buffer Parts) (
 called-other world request (Count k) h other within = counted-other world request k h other within
 called-other world request (Fail e) h other within = refl
 
--- Each of two numbers is among both.
-among-first : (a b : ℕ) → has_number a (both a b) ≡ true
-among-first a b = by (nat_lt a b) (nat_lt b a)
-  where
-    or-later : (x : Bool) → (x || true) ≡ true
-    or-later true = refl
-    or-later false = refl
-
-    by : (x y : Bool) → has_number a (if x then a ∷ b ∷ [] else if y then b ∷ a ∷ [] else a ∷ []) ≡ true
-    by true y = ap (λ c. c || (a == b || false)) (equal-self a)
-    by false true = ap (λ c. a == b || (c || false)) (equal-self a) ∙ or-later (a == b)
-    by false false = ap (λ c. c || false) (equal-self a)
-
--- The second of two numbers is among both.
-among-second : (a b : ℕ) → has_number b (both a b) ≡ true
-among-second a b = by (nat_lt a b) (nat_lt b a) refl refl
-  where
-    or-later : (x : Bool) → (x || true) ≡ true
-    or-later true = refl
-    or-later false = refl
-
-    by : (x y : Bool) → nat_lt a b ≡ x → nat_lt b a ≡ y →
-        has_number b (if x then a ∷ b ∷ [] else if y then b ∷ a ∷ [] else a ∷ []) ≡ true
-    by true y lt gt = ap (λ c. b == a || (c || false)) (equal-self b) ∙ or-later (b == a)
-    by false true lt gt = ap (λ c. c || (b == a || false)) (equal-self b)
-    by false false lt gt =
-        let same : b ≡ a = grind (arith, nat_tests) in
-        ap (λ n. n == a || false) same ∙ ap (λ c. c || false) (equal-self a)
-
--- A handle that is one of a request's is one that it names.
-named-one : (fd h : ℕ) → fd ≡ h → has_number h (fd ∷ []) ≡ true
-named-one fd h same = subst (λ n. has_number n (fd ∷ []) ≡ true) same (ap (λ c. c || false) (equal-self fd))
-
--- A request names the handle that it waits for.
-pub awaited-named : {B V : Type 0} (request : Request B V) (h : ℕ) (dir : Direction) → awaits request ≡ Some (h, dir) →
-    has_number h (named request) ≡ true
-awaited-named (Recv fd buf) h dir is = named-one fd h (same-handle fd h _ dir is)
-awaited-named (ReadVec fd parts) h dir is = named-one fd h (same-handle fd h _ dir is)
-awaited-named (RecvMsg fd buf) h dir is = named-one fd h (same-handle fd h _ dir is)
-awaited-named (Read fd pos buf) h dir is = named-one fd h (same-handle fd h _ dir is)
-awaited-named (SpliceTo fd pipe len) h dir is =
-    subst (λ n. has_number n (both fd pipe) ≡ true) (same-handle fd h _ dir is) (among-first fd pipe)
-awaited-named (Accept fd) h dir is = named-one fd h (same-handle fd h _ dir is)
-awaited-named (PollAdd fd true) h dir is = named-one fd h (same-handle fd h _ dir is)
-awaited-named (PollAdd fd false) h dir is = named-one fd h (same-handle fd h _ dir is)
-awaited-named (Send fd buf) h dir is = named-one fd h (same-handle fd h _ dir is)
-awaited-named (WriteVec fd parts) h dir is = named-one fd h (same-handle fd h _ dir is)
-awaited-named (SendMsg fd addr buf) h dir is = named-one fd h (same-handle fd h _ dir is)
-awaited-named (Write fd pos buf) h dir is = named-one fd h (same-handle fd h _ dir is)
-awaited-named (SpliceFrom pipe fd len) h dir is =
-    subst (λ n. has_number n (both pipe fd) ≡ true) (same-handle fd h _ dir is) (among-second pipe fd)
-awaited-named (Open path flags mode) h dir is = (let f : ⊥ = cc in absurd f)
-awaited-named (Connect fd addr) h dir is = (let f : ⊥ = cc in absurd f)
-awaited-named (Fsync fd data_only) h dir is = (let f : ⊥ = cc in absurd f)
-awaited-named (MkDir path mode) h dir is = (let f : ⊥ = cc in absurd f)
-awaited-named (Rename from to) h dir is = (let f : ⊥ = cc in absurd f)
-awaited-named (Unlink path remove_dir) h dir is = (let f : ⊥ = cc in absurd f)
-
--- So does an operation that is in flight.
+-- An operation that is in flight names the handle that it waits for.
 pub slot-named : {B : Type 0} (slot : Option (Slot B)) (h : ℕ) (dir : Direction) → slot_awaits slot ≡ Some (h, dir) →
     has_number h (named_in slot) ≡ true
 slot-named None h dir is = (let f : ⊥ = cc in absurd f)
 slot-named (Some s) h dir is = by (is_flying s.life) is
   where
     by : (b : Bool) → awaits_if b s.request ≡ Some (h, dir) → has_number h (named s.request) ≡ true
-    by true there = awaited-named s.request h dir there
+    by true there = awaits-named s.request h dir there
     by false there = (let f : ⊥ = cc in absurd f)

@@ -22,7 +22,7 @@ use Rattle.ring_core.specs.Ledger.{Ledger, Operation, Place, InQueue, InFlight, 
 use Rattle.ring_core.specs.Ledger.{is_owned, with_made}
 use Rattle.ring_core.specs.Queue.{at_place, with_op, push, push_each, is_unheld, became_unheld, with_gone, leave}
 use Rattle.ring_core.specs.Turn.{reaped_place, with_reap, reap_if, reap_op, reap_one, reap_each, task_if, task_woken, tasks_woken}
-use Rattle.ring_core.specs.Closes.{close_count, AreKnown, ClosesOnce, made_at}
+use Rattle.ring_core.specs.Closes.{close_count, ClosesOnce, made_at}
 use Rattle.ring_core.proofs.Where.{where-kept}
 use Rattle.ring_core.proofs.Staying.{stays-leave}
 use Rattle.ring_core.proofs.Numbers.{below-or-not}
@@ -45,7 +45,7 @@ use Rattle.driver_core.proofs.Holds.{can-leave}
 use Rattle.driver_core.proofs.Seen.{AreEarly, made-done}
 use Rattle.driver_core.proofs.Seeing.{made-unseen, unheld-lost}
 use Rattle.driver_core.proofs.Standing.{nobody-counts, holders-stand-changed, holders-stand-left, seen-some}
-use Rattle.driver_core.proofs.Lists.{some}
+use Rattle.driver_core.proofs.Lists.{some, length-option}
 use Rattle.uring_driver.specs.Holding.{Holding, closes, places, with_added, HandlesStand}
 use Rattle.uring_driver.specs.Making.{kept_if, lost_if, op_closes, op_ended, is_old, refuses_made}
 use Rattle.uring_driver.specs.Lists.{done_items_of, done_items_in}
@@ -98,37 +98,21 @@ module _ {B : Type 0} (buffer : B → Buffer) (v : RingView) (slots : FinMap nat
   abbrev less : Ledger
   less = record L { done = flat_map done_items_of rest }
 
-  known-less : AreKnown less
-  known-less = less-known buffer v slots holding L c rest old first
-
   -- The completion of an operation.
-  module _ (key : ℕ) (is : target c.word ≡ Keyed key) where
-    this : Completes buffer v slots L c rest
-    this = completes buffer v slots L c rest old.means first key is
-
-    o : Operation
-    unfolding this
+  module _ (key : ℕ) (is : target c.word ≡ Keyed key) (this : Completes buffer v slots L c rest) where
+    -- It.
+    abbrev o : Operation
     o = this.operation
-
-    at-number : slice_get L.ops c.serial ≡ Some o
-    unfolding o this
-    at-number = this.there
 
     done-op : L.done ≡ Op c.serial ∷ flat_map done_items_of rest
     done-op = done-first buffer v slots L c rest old.means first ∙ ap (λ t. done_items_in c t ++ flat_map done_items_of rest) is
 
-    lives : is_live o ≡ true
-    unfolding o this
-    lives = ap is_kept this.done
-
     -- What it made is what the completion says.
     made-is : o.made ≡ made_by c.outcome
-    unfolding o this
-    made-is = old.alone.agrees c.serial o at-number lives ∙ ap made_at this.done
+    made-is = old.alone.agrees c.serial o this.there this.live ∙ ap made_at this.done
 
     -- A driver hasn't seen it yet.
     unseen : made_life (life_at o) ≡ None
-    unfolding o this
     unseen = made-done o.dropped o.place o.task c.outcome this.done
 
     seen-is : seen o ≡ handles_of o.request
@@ -139,17 +123,17 @@ module _ {B : Type 0} (buffer : B → Buffer) (v : RingView) (slots : FinMap nat
     made-new h says =
         let made : o.made ≡ Some h = made-is ∙ says in
         let alone = old.alone in
-        let user = alone.users c.serial h o at-number lives made in
-        let ops = ap length (made-unseen L alone old.known c.serial h o at-number lives made unseen) in
+        let user = alone.users c.serial h o this.there this.live made in
+        let ops = ap length (made-unseen L alone old.known c.serial h o this.there this.live made unseen) in
         let counted = old.handles.holders.operations h in
         let none : is_nobody (holders_at holding.table h) ≡ true =
         nobody-counts (holders_at holding.table h)
         ∙ ap (λ b. not b && ((holders_at holding.table h).operations == 0)) (old.handles.holders.users h ∙ user)
         ∙ ap (λ k. k == 0) (counted ∙ ops) in
-        let there = made-there L c.serial h o old.known at-number made in
+        let there = made-there L c.serial h o old.known this.there made in
         let together = old.known.together in
         let few = old.few in
-        is-new holding h none (closes-not h (held-by_op L h c.serial o at-number (made-holding h o lives made)))
+        is-new holding h none (closes-not h (held-by_op L h c.serial o this.there (made-holding h o this.live made)))
         (omega (arith, there, together, few))
       where
         none-found : (k : ℕ) → k ≤ 0 → nat_lt 0 k ≡ false
@@ -164,7 +148,6 @@ module _ {B : Type 0} (buffer : B → Buffer) (v : RingView) (slots : FinMap nat
 
     -- It isn't refused.
     takes : is_refused holding c.outcome (get slots c.word) ≡ false
-    unfolding o this
     takes =
         ap (λ b. not b || refuses_made holding (is_maker (get slots c.word)) (made_by c.outcome)) this.flies
         ∙ by (made_by c.outcome) refl
@@ -173,7 +156,7 @@ module _ {B : Type 0} (buffer : B → Buffer) (v : RingView) (slots : FinMap nat
         by None says = refl
         by (Some h) says =
             ap (λ b. not b || is_old holding h)
-            (this.maker ∙ old.alone.makers c.serial h o at-number lives (made-is ∙ says)) ∙ made-new h says
+            (this.maker ∙ old.alone.makers c.serial h o this.there this.live (made-is ∙ says)) ∙ made-new h says
 
     -- Without it there are as many closes.
     same-count : (h : ℕ) → close_count less h ≡ close_count L h
@@ -187,7 +170,7 @@ module _ {B : Type 0} (buffer : B → Buffer) (v : RingView) (slots : FinMap nat
 
     -- What its reap leaves of the ledger.
     reaped-is : reap_one less (Op c.serial) ≡ reap_if o.dropped less c.serial
-    reaped-is = ap (reap_op less c.serial) at-number
+    reaped-is = ap (reap_op less c.serial) this.there
 
     -- Who holds handles once it is treated, by whether it was dropped.
     abbrev ended : Bool → List ℕ → Holding
@@ -196,7 +179,6 @@ module _ {B : Type 0} (buffer : B → Buffer) (v : RingView) (slots : FinMap nat
 
     ended-is : (b : Bool) → o.dropped ≡ b → (names : List ℕ) → dropped_in (get slots c.word) ≡ names →
         holding_after holding c.outcome (get slots c.word) ≡ ended b names
-    unfolding o this
     ended-is b is names are =
         ap (λ ns. op_ended holding ns (is_maker (get slots c.word)) (kept_if (is_dropped (get slots c.word)) (made_by c.outcome))
         (lost_if (is_dropped (get slots c.word)) (made_by c.outcome))) are
@@ -206,7 +188,6 @@ module _ {B : Type 0} (buffer : B → Buffer) (v : RingView) (slots : FinMap nat
 
     -- As many operations make handles as are left.
     making-left : AreMaking (slots_after slots c (get slots c.word)) (holding.makers - one_if (makes o.request))
-    unfolding o this
     making-left = subst (λ m. AreMaking (slots_after slots c (get slots c.word)) (holding.makers - one_if m)) this.maker
         (making-after slots holding.makers c old.making this.flies)
 
@@ -215,7 +196,6 @@ module _ {B : Type 0} (buffer : B → Buffer) (v : RingView) (slots : FinMap nat
     reaped = with_op less c.serial with_reap
 
     reaped-life : o.dropped ≡ false → made_life (life_at (with_reap o)) ≡ made_by c.outcome
-    unfolding o this
     reaped-life kept =
         ap (λ b. made_life (life_of b (reaped_place o.place) o.task)) kept
         ∙ ap (λ p. made_life (life_of false (reaped_place p) o.task)) this.done
@@ -224,7 +204,7 @@ module _ {B : Type 0} (buffer : B → Buffer) (v : RingView) (slots : FinMap nat
         HoldersStand (with_added holding.table (option_to_list made)) reaped
     reaped-stands kept made says =
         holders-stand-changed holding.table (with_added holding.table (option_to_list made)) less c.serial o with_reap less-handles.holders
-        at-number (λ h. ap (nat_lt 0) (users-added holding.table (option_to_list made) (nobody-made made says) h (few made)))
+        this.there (λ h. ap (nat_lt 0) (users-added holding.table (option_to_list made) (nobody-made made says) h (length-option made)))
         (counts made says)
       where
         nobody-made : (made : Option ℕ) → made_by c.outcome ≡ made → (h : ℕ) → option_to_list made ≡ h ∷ [] →
@@ -234,16 +214,12 @@ module _ {B : Type 0} (buffer : B → Buffer) (v : RingView) (slots : FinMap nat
             let e : m ≡ h = cc in
             (not-old holding h (made-new h (says ∙ ap Some e))).0
 
-        few : (made : Option ℕ) → length (option_to_list made) ≤ 1
-        few None = omega arith
-        few (Some h) = omega arith
-
         seen-before : (h : ℕ) → one_if (is_seen h o) ≡ one_if (has_number h (handles_of o.request))
-        seen-before h = ap one_if (ap (λ b. b && has_number h (seen o)) lives ∙ ap (has_number h) seen-is)
+        seen-before h = ap one_if (ap (λ b. b && has_number h (seen o)) this.live ∙ ap (has_number h) seen-is)
 
         seen-after : (made : Option ℕ) → made_by c.outcome ≡ made → (h : ℕ) →
             one_if (is_seen h (with_reap o)) ≡ one_if (has_number h (with_made made (handles_of o.request)))
-        seen-after made says h = ap one_if (ap (λ b. b && has_number h (seen (with_reap o))) (reaped-kept o.place ∙ lives)
+        seen-after made says h = ap one_if (ap (λ b. b && has_number h (seen (with_reap o))) (reaped-kept o.place ∙ this.live)
             ∙ ap (λ m. has_number h (with_made m (handles_of o.request))) (reaped-life kept ∙ says))
 
         counts : (made : Option ℕ) → made_by c.outcome ≡ made → (h : ℕ) →
@@ -260,19 +236,18 @@ module _ {B : Type 0} (buffer : B → Buffer) (v : RingView) (slots : FinMap nat
             not-named : (m : ℕ) → made_by c.outcome ≡ Some m → has_number m (handles_of o.request) ≡ false
             not-named m says = by (has_number m (handles_of o.request)) refl where
               by : (b : Bool) → has_number m (handles_of o.request) ≡ b → b ≡ false
-              by true is = absurd (let lt = old.known.above c.serial m m o at-number is (made-is ∙ says) in omega (arith, lt))
+              by true is = absurd (let lt = old.known.above c.serial m m o this.there is (made-is ∙ says) in omega (arith, lt))
               by false is = refl
 
     reaped-amid : o.dropped ≡ false →
         Amid buffer (with_done v rest) (slots_after slots c (get slots c.word)) (ended false []) reaped
-    unfolding o this
     reaped-amid kept = record {
       means = (this.kept kept).0;
       handles = record {
         holders = reaped-stands kept (made_by c.outcome) refl;
         closing = less-handles.closing;
       };
-      known = known-op less c.serial with_reap (λ p. (refl, refl)) known-less;
+      known = known-op less c.serial with_reap (λ p. (refl, refl)) (less-known buffer v slots holding L c rest old first);
       once = once-op less c.serial with_reap (λ p there. reap-holds p) less-once;
       alone = alone-from (ops_from-op less c.serial with_reap from-reap) (less-alone buffer v slots holding L c rest old first);
       few = old.few;
@@ -290,7 +265,6 @@ module _ {B : Type 0} (buffer : B → Buffer) (v : RingView) (slots : FinMap nat
     closed_now = op_closes holding.table (handles_of o.request) (lost_if true (made_by c.outcome))
 
     gone-means : o.dropped ≡ true → Means buffer (with_done v rest) (slots_after slots c (get slots c.word)) gone
-    unfolding o this
     gone-means left = (this.left left).0
 
     asks-live : o.dropped ≡ true → AreLive gone.ops less.queue
@@ -302,12 +276,11 @@ module _ {B : Type 0} (buffer : B → Buffer) (v : RingView) (slots : FinMap nat
     unheld-is : op_closes holding.table (handles_of o.request) (lost_if true (made_by c.outcome)) ≡ became_unheld less gone
     unheld-is =
         ap (λ m. unheld_by holding.table (handles_of o.request) ++ option_to_list m) (sym made-is)
-        ∙ unheld-lost holding.table less c.serial o less-handles.holders at-number lives known-less
-        (less-alone buffer v slots holding L c rest old first) unseen
+        ∙ unheld-lost holding.table less c.serial o less-handles.holders this.there this.live
+        (less-known buffer v slots holding L c rest old first) (less-alone buffer v slots holding L c rest old first) unseen
 
     -- Their closes are queued.
     queued-is : o.dropped ≡ true → (treat_one (target c.word) slots holding c).queued ≡ became_unheld less gone
-    unfolding o this
     queued-is left =
         ap (λ t. (treat_one t slots holding c).queued) is
         ∙ ap (λ b. (treats_slot (named_unless b (named_by (get slots c.word))) slots holding c).queued) takes
@@ -324,10 +297,10 @@ module _ {B : Type 0} (buffer : B → Buffer) (v : RingView) (slots : FinMap nat
           (subst (λ hs. (h : ℕ) → has_number h hs ≡ true → h < MOST_HANDLES) (queued-is left) below));
       handles = handles-left holding (ended true (handles_of o.request)) less c.serial closed_now less-handles.closing
           (subst (λ hs. HoldersStand (without_ops holding.table hs) gone) seen-is
-          (holders-stand-left holding.table less c.serial o less-handles.holders at-number lives
+          (holders-stand-left holding.table less c.serial o less-handles.holders this.there this.live
           (subst Distinct (sym seen-is) (ascends-distinct 0 (handles_of o.request) (named-ascends o.request)))))
           unheld-is refl (asks-early left);
-      known = known-stays (stays-leave less c.serial) known-less;
+      known = known-stays (stays-leave less c.serial) (less-known buffer v slots holding L c rest old first);
       once = once-leave less c.serial (asks-live left) less-once;
       alone = alone-from (ops_from-then (ops_from-op less c.serial (at_place Gone) from-gone)
           (from-push_closes gone (became_unheld less gone) (asks-early left))) (less-alone buffer v slots holding L c rest old first);
@@ -338,19 +311,18 @@ module _ {B : Type 0} (buffer : B → Buffer) (v : RingView) (slots : FinMap nat
     owned-gone : o.dropped ≡ true → numbers_where is_owned 0 (leave less c.serial).ops ≡ numbers_where is_owned 0 L.ops
     owned-gone left = owned-push_closes gone (became_unheld less gone) (asks-live left)
         ∙ where-kept is_owned (at_place Gone) L.ops c.serial 0 (λ p there.
-        sym (ap (λ b. is_live p && not b) (ap (λ x. x.dropped) (some p o (slice_get L.ops c.serial) there at-number) ∙ left)
+        sym (ap (λ b. is_live p && not b) (ap (λ x. x.dropped) (some p o (slice_get L.ops c.serial) there this.there) ∙ left)
         ∙ and-false (is_live p)))
 
     -- It may leave: it holds each of them.
     may-leave : CanLeave holding.table (handles_of o.request)
     may-leave = subst (CanLeave holding.table) seen-is (can-leave holding.table (seen o)
         (subst Distinct (sym seen-is) (ascends-distinct 0 (handles_of o.request) (named-ascends o.request)))
-        (seen-some holding.table less c.serial o less-handles.holders at-number lives))
+        (seen-some holding.table less c.serial o less-handles.holders this.there this.live))
 
     -- No more is owed.
     places-left : (b : Bool) (names : List ℕ) → CanLeave holding.table names →
         places (ended b names) + length (op_closes holding.table names (lost_if b (made_by c.outcome))) ≤ places holding
-    unfolding o this
     places-left b names may =
         places-ended holding names (makes o.request) (kept_if b (made_by c.outcome)) (lost_if b (made_by c.outcome)) may
         (some (makes o.request) refl)
@@ -380,14 +352,13 @@ module _ {B : Type 0} (buffer : B → Buffer) (v : RingView) (slots : FinMap nat
     -- The tasks that are woken are the machine's.
     wakes-task : (task : Option ℕ) → option_to_list task ≡ task_if o.dropped o.task →
         option_to_list task ≡ tasks_woken L.ops (c.serial ∷ [])
-    wakes-task task woken = woken ∙ sym (append-nil (task_if o.dropped o.task)) ∙ ap (λ x. task_woken x ++ []) (sym at-number)
+    wakes-task task woken = woken ∙ sym (append-nil (task_if o.dropped o.task)) ∙ ap (λ x. task_woken x ++ []) (sym this.there)
 
     -- The handles that it leaves.
     abbrev names_if : Bool → List ℕ
     names_if b = if b then handles_of o.request else []
 
     names-are : (b : Bool) → o.dropped ≡ b → dropped_in (get slots c.word) ≡ names_if b
-    unfolding o this
     names-are true left = (this.left left).1
     names-are false kept = (this.kept kept).1
 
@@ -418,7 +389,6 @@ module _ {B : Type 0} (buffer : B → Buffer) (v : RingView) (slots : FinMap nat
 
     -- What it is said to come to.
     said-is : (task : Option ℕ) → treats_slot (Some (c.serial, task)) slots holding c ≡ said task o.dropped (names_if o.dropped)
-    unfolding o this
     said-is task =
         ap (λ h. record (treats_slot (Some (c.serial, task)) slots holding c) { holding = h })
         (ended-is o.dropped refl (names_if o.dropped) (names-are o.dropped refl))
@@ -432,7 +402,6 @@ module _ {B : Type 0} (buffer : B → Buffer) (v : RingView) (slots : FinMap nat
 
     completed : TreatsItems buffer (with_done v rest) holding L (reap_one less (Op c.serial)) (Op c.serial ∷ [])
         (treats_slot (names_in holding c.outcome (get slots c.word)) slots holding c)
-    unfolding o this
     completed =
         subst (λ M. TreatsItems buffer (with_done v rest) holding L M (Op c.serial ∷ [])
         (treats_slot (names_in holding c.outcome (get slots c.word)) slots holding c)) (sym reaped-is)
@@ -448,7 +417,7 @@ module _ {B : Type 0} (buffer : B → Buffer) (v : RingView) (slots : FinMap nat
       TreatsItems buffer (with_done v rest) holding L (reap_each less (done_items_in c t)) (done_items_in c t) (treat_one t slots holding c)
   treats-by (Reserved word) is = reserved buffer v slots holding L c rest old first word is
   treats-by (Handle h) is = closed buffer v slots holding L c rest old first h is
-  treats-by (Keyed key) is = completed key is
+  treats-by (Keyed key) is = completed key is (completes buffer v slots L c rest old.means first key is)
 
   pub treats-first : TreatsItems buffer (with_done v rest) holding L (reap_each less (done_items_of c)) (done_items_of c)
       (treat_one (target c.word) slots holding c)

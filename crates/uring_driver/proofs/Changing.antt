@@ -77,15 +77,13 @@ module _ {B : Type 0} (buffer : B → Buffer) (v : RingView) (slots : FinMap nat
   other n p a h e = h (sym a.stays ∙ ap (λ x. x.place) (some a.operation o (slice_get L.ops n) a.there (ap (slice_get L.ops) e ∙ which))
       ∙ at_user)
 
-  lives : is_live o ≡ true
-  lives = ap is_kept at_user
-
   both : (n : ℕ) (p : Place) → p ≢ Reaped r → IsAt L.ops n p →
       KeepsSlot slots (remove slots key) n × KeepsOp L.ops (amended L.ops s.serial f) n
   both n p h a = (
     λ k u q i. (
       u,
-      other-left buffer slots L.ops key s f o old.in_slots there which lives gone k u q (λ e. other n p a h (sym i ∙ e)),
+      other-left buffer slots L.ops key s f o old.in_slots there which (ap is_kept at_user) gone k u q
+          (λ e. other n p a h (sym i ∙ e)),
       refl,
       refl,
     ),
@@ -96,7 +94,7 @@ module _ {B : Type 0} (buffer : B → Buffer) (v : RingView) (slots : FinMap nat
   means-freed = record {
     capacity = old.capacity;
     world = old.world;
-    in_slots = slots-freed buffer slots L.ops key s f o old.in_slots there which lives gone;
+    in_slots = slots-freed buffer slots L.ops key s f o old.in_slots there which (ap is_kept at_user) gone;
     in_lists = lists-kept buffer slots (remove slots key) L.ops (amended L.ops s.serial f) v L refl (λ n a. both n InQueue (λ q. cc) a)
         (λ n a. both n InFlight (λ q. cc) a) (λ i c h b a. both c.serial (InDone c.outcome) (λ q. cc) a) old.in_lists;
   }

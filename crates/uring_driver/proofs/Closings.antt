@@ -1,45 +1,22 @@
 -- What holds of holders and closes always, through each change of a table.
 use Rattle.std.proofs.Common.{◌≡◌, ◌≢◌, ◌∙◌, inl, inr, ℕ, ◌+◌, ◌-◌, ◌<◌, Bool, true, false, [], ◌∷◌, Option, Some, None}
-use Rattle.std.proofs.Common.{refl, sym, ap, subst, arith}
-use Rattle.std.specs.Prelude.{is_some, unwrap_or, nat_lt, ◌||◌, OnOk, OnErr, Result, Ok, Err}
-use Rattle.std.proofs.lemmas.Bool.Decides.{nat_tests}
+use Rattle.std.proofs.Common.{sym, ap, subst, arith}
+use Rattle.std.specs.Prelude.{is_some, OnOk, OnErr, Result, Ok, Err}
+use Rattle.std.proofs.lemmas.Bool.{or_parts}
 use Rattle.std.specs.Ordering.{nat_cmp}
 use Rattle.std.specs.FinMap.{get, insert, remove, len, empty, get-empty, len-empty}
 use Rattle.handle_core.specs.declared.table.Holders.{Holders}
-use Rattle.handle_core.specs.Table.{Table, holders_at, with_holders, without_handle, nobody, by_user, by_operation}
+use Rattle.handle_core.specs.Table.{Table, with_holders, without_handle, nobody, by_user, by_operation}
 use Rattle.handle_core.proofs.Kept.{held-with, held-without}
 use Rattle.ring_core.specs.declared.entry.TheConstants.{MOST_HANDLES}
 use Rattle.ring_core.proofs.Numbers.{same-or-not, some-of, none-of}
 use Rattle.driver_core.proofs.Maps.{put-same, put-other, gone-same, gone-other, len-put, len-new, len-gone, len-some, above}
 use Rattle.uring_driver.specs.Making.{maker_ended}
-use Rattle.uring_driver.specs.Holding.{Holding, is_held, closes, knows, is_users, user_count, places, IsKept}
-
--- A handle that somebody holds is in the table.
-pub held-some : (table : Table) (h : ℕ) → 0 < (holders_at table h).user + (holders_at table h).operations →
-    is_some (get table.holders h) ≡ true
-held-some table h some = held-by (get table.holders h) some where
-  held-by : (o : Option Holders) → 0 < (unwrap_or o nobody).user + (unwrap_or o nobody).operations → is_some o ≡ true
-  held-by None h = absurd (omega arith)
-  held-by (Some x) h = refl
-
--- A handle that an operation holds is in the table.
-pub held-op : (table : Table) (h : ℕ) → 0 < (holders_at table h).operations → is_some (get table.holders h) ≡ true
-held-op table h some = held-some table h (omega (arith, some))
-
--- A number that is found above 0 is.
-pub lt-found : (k : ℕ) → nat_lt 0 k ≡ true → 0 < k
-lt-found k h = grind (arith, nat_tests)
-
--- A handle that its user holds is in the table.
-pub held-user : (holding : Holding) (h : ℕ) → is_users holding h ≡ true → is_held holding h ≡ true
-held-user holding h users = (let a = lt-found (user_count holding h) users in held-some holding.table h (omega (arith, a)))
+use Rattle.uring_driver.specs.Holding.{Holding, is_held, closes, knows, places, IsKept}
 
 -- A handle that isn't known is neither held nor closing.
 pub unknown : (holding : Holding) (h : ℕ) → knows holding h ≡ false → (is_held holding h ≡ false) × (closes holding h ≡ false)
-unknown holding h fresh = neither (is_held holding h) (closes holding h) fresh where
-  neither : (a b : Bool) → (a || b) ≡ false → (a ≡ false) × (b ≡ false)
-  neither true b h = (let f : ⊥ = cc in absurd f)
-  neither false b h = (refl, h)
+unknown holding h fresh = or_parts (is_held holding h) (closes holding h) fresh
 
 -- Holders that aren't nobody are somebody.
 pub somebody-of : (held : Holders) → (held ≡ nobody → ⊥) → 0 < held.user + held.operations

@@ -54,13 +54,13 @@ stands-departs view buffer tells steady d new L H n us event reply always old de
     let left = parts-left view buffer tells steady new.slots.values d.ring new.ring d.holding new.holding H n us always departs.means
     departs.closing departs.stand departs.became departs.closed departs.early departs.live departs.below departs.room (fits-of view d old)
     departs.posts in
-    answers-parts view buffer d new L (leave H n) event reply old e left.capacity left.means
+    answers-parts view buffer d new L (leave H n) event reply old e left.pushed.capacity left.pushed.means
     (given ∙ old.operations.numbered ∙ sym (left.count ∙ departs.count)) left.handles
-    (groups-less view buffer d new L (leave H n) event reply old e left.capacity quiet left.means.in_slots op at leaves_it)
+    (groups-less view buffer d new L (leave H n) event reply old e left.pushed.capacity quiet left.pushed.means.in_slots op at leaves_it)
     (let a = departs.owned in
     let b = ap length left.owned in
-    let c = left.room in
+    let c = left.pushed.room in
     let f = departs.places in
     let r = old.room in
     omega (arith, a, b, c, f, r))
-    left.fits (left.world ∙ departs.world)
+    left.pushed.fits (left.world ∙ departs.world)

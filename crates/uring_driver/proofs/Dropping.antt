@@ -1,7 +1,7 @@
 -- What a drop and a cancel do to a driver that stands for a ledger.
 use Rattle.std.proofs.Common.{◌≡◌, ℕ, ◌+◌, ◌≤◌, ◌<◌, Bool, true, false, IsTrue}
 use Rattle.std.proofs.Math.Bool.{and-false}
-use Rattle.std.proofs.Common.{length, Option, Some, None, refl, sym, ◌∙◌, ap, subst, arith}
+use Rattle.std.proofs.Common.{length, Option, Some, refl, sym, ◌∙◌, ap, subst, arith}
 use Rattle.std.specs.Prelude.{slice_get}
 use Rattle.std.specs.FinMap.{get, insert, remove}
 use Rattle.rent_buf.specs.Buffer.{Buffer}
@@ -11,7 +11,7 @@ use Rattle.op_slots.specs.Lifecycle.{dropped, after_drop}
 use Rattle.ring_core.specs.Ring.{RingView}
 use Rattle.ring_core.specs.Lists.{amended, numbers_where}
 use Rattle.ring_core.specs.Closes.{made_at}
-use Rattle.ring_core.specs.Request.{named, plain_request}
+use Rattle.ring_core.specs.Request.{named}
 use Rattle.ring_core.specs.declared.request.Outcome.{Outcome}
 use Rattle.ring_core.specs.declared.ledger.Event.TheVariants.{Drop, Cancel as Asks}
 use Rattle.ring_core.specs.declared.ledger.Reply.TheVariants.{Dropped, Asked}
@@ -29,10 +29,10 @@ use Rattle.uring_driver.specs.Submissions.{pending_ring, Posts}
 use Rattle.driver_core.specs.Holds.{made_life, held_in, seen, unheld_by, HoldersStand}
 use Rattle.driver_core.proofs.Holds.{len-left}
 use Rattle.driver_core.specs.Slot.{with_life, is_owned_life, number_at}
-use Rattle.driver_core.specs.Slots.{SlotFor, waiting, life_of, life_at, owned_life}
+use Rattle.driver_core.specs.Slots.{SlotFor, life_of, life_at, owned_life}
 use Rattle.uring_driver.specs.Stands.{Stands, Answers}
 use Rattle.driver_core.proofs.Lists.{some, amended-twice}
-use Rattle.driver_core.proofs.Seen.{SeenAlike, AreEarly, seen-op, early-changed}
+use Rattle.driver_core.proofs.Seen.{SeenAlike, AreEarly, seen-op, made-waiting, early-changed}
 use Rattle.driver_core.proofs.Early.{listed-early, early-gone}
 use Rattle.driver_core.proofs.Standing.{holders-stand-same, holders-stand-left}
 use Rattle.driver_core.proofs.Seeing.{seen-distinct, unheld-became}
@@ -41,7 +41,7 @@ use Rattle.driver_core.proofs.Maps.{put-same}
 use Rattle.driver_core.proofs.Counts.{where-less}
 use Rattle.uring_driver.proofs.Steps.{is_waiting, step-drop-waiting, step-drop-reaped, step-cancel}
 use Rattle.driver_core.proofs.Numbers.{slot-number}
-use Rattle.driver_core.proofs.Owned.{Owned, owned-slot}
+use Rattle.driver_core.proofs.Owned.{Owned, owned-slot, owned-names, owned-reaped}
 use Rattle.uring_driver.proofs.Means.{Means, means-of}
 use Rattle.uring_driver.proofs.Changing.{means-changed, means-freed}
 use Rattle.uring_driver.proofs.Posting.{posts-cancel}
@@ -50,14 +50,12 @@ use Rattle.uring_driver.proofs.Answering.{LeavesGroup, lawful-of, alone-of, fits
 use Rattle.uring_driver.proofs.Lefts.{owned-push}
 use Rattle.uring_driver.proofs.Leaving.{TakesParts}
 use Rattle.uring_driver.proofs.Departing.{Departs, stands-departs}
-use Rattle.uring_driver.proofs.Polling.{take-reaped}
 use Rattle.ring_core.proofs.Taken.{length-make_room}
 use Rattle.ring_core.proofs.Taking.{in_queue}
 use Rattle.ring_core.proofs.Turning.{live-gone}
 use Rattle.ring_core.proofs.Lawful.{listed-live, listed-unasked}
 use Rattle.ring_core.proofs.Staying.{stays-push}
 use Rattle.ring_core.proofs.Holders.{AreLive, live-changed}
-use Rattle.ring_core.proofs.Requests.{named-holding, named-mapped}
 use Rattle.driver_core.proofs.Polling.{ignored-left}
 
 -- An operation whose slot is left isn't reaped.
@@ -72,15 +70,11 @@ left-waits Gone t h e = (let f : ⊥ = cc in absurd f)
 drop-seen : (o : Operation) → is_waiting o.place ≡ true → SeenAlike o (with_drop o)
 drop-seen o waits = record { request = refl; made = by o.dropped o.place o.task waits; live = refl }
   where
-    none : (t : Option ℕ) → made_life (waiting t) ≡ None
-    none None = refl
-    none (Some t) = refl
-
     by : (b : Bool) (p : Place) (t : Option ℕ) → is_waiting p ≡ true → made_life (life_of true p t) ≡ made_life (life_of b p t)
     by true p t waits = refl
-    by false InQueue t waits = sym (none t)
-    by false InFlight t waits = sym (none t)
-    by false (InDone r) t waits = sym (none t)
+    by false InQueue t waits = sym (made-waiting t)
+    by false InFlight t waits = sym (made-waiting t)
+    by false (InDone r) t waits = sym (made-waiting t)
     by false (Reaped r) t waits = (let f : ⊥ = cc in absurd f)
     by false Gone t waits = (let f : ⊥ = cc in absurd f)
 
@@ -88,12 +82,11 @@ module _ {R B : Type 0} (view : R → RingView) (buffer : B → Buffer) (tells s
     (d new : IoUringDriver R B) (L : Ledger) (key : ℕ) (s : Slot B) (old : Stands view buffer d L) (there : get d.slots.values key ≡ Some s)
     (mine : is_owned_life s.life ≡ true) (given : new.given ≡ d.given) where
   -- The operation of the slot, which its user may still drop.
-  my : Owned buffer L s
+  abbrev my : Owned buffer L s
   my = owned-slot buffer L s (old.operations.in_slots.holds key s there) mine
 
   -- Of each operation that its user may drop, the cancel has room.
   pub has-room : 0 < room_in d
-  unfolding my
   has-room = (let a = where-less is_owned (at_place Gone) L.ops s.serial my.fit.operation my.fit.there my.owned refl in let r = old.room in
       omega (arith, a, r))
 
@@ -117,7 +110,6 @@ module _ {R B : Type 0} (view : R → RingView) (buffer : B → Buffer) (tells s
 
     -- The slot that is left is that of the dropped operation.
     fits : SlotFor buffer (amended L.ops s.serial with_drop) t
-    unfolding my
     fits = record {
       operation = with_drop my.fit.operation;
       there = get-amended-same with_drop L.ops s.serial my.fit.operation my.fit.there;
@@ -132,7 +124,7 @@ module _ {R B : Type 0} (view : R → RingView) (buffer : B → Buffer) (tells s
     pub stands-leaves : LeavesGroup d new (record { number = s.serial; key = key }) →
         new.slots.values ≡ insert d.slots.values key (with_life s (dropped s.life)) → new.holding ≡ d.holding →
         Posts view tells steady d.ring new.ring (cancel_entry key s.serial) → Answers view buffer L (Drop s.serial) Dropped new
-    unfolding my has-room requests asks
+    unfolding has-room requests asks
     stands-leaves leaves_it put holding posts =
         let o = my.fit.operation in
         let waits = left-waits o.place o.task my.fit.live (sym (ap after_drop my.life) ∙ left) in
@@ -159,34 +151,23 @@ module _ {R B : Type 0} (view : R → RingView) (buffer : B → Buffer) (tells s
         omega (arith, x, y, z, w, r))
         c.fits (stays-push M (Cancel s.serial)).world
 
-  -- The slot names what its operation does.
-  names : named my.fit.operation.request ≡ named s.request
-  names = sym (named-holding my.fit.operation.request my.fit.operation.buffer (plain_request buffer s.request) my.fit.request)
-      ∙ named-mapped buffer (λ parts. parts) s.request
-
   -- The drop of one that is.
   module _ (r : Outcome) (life : s.life ≡ Completed r) (gone : new.slots.values ≡ remove d.slots.values key)
       (parts : TakesParts view tells steady d new d.holding (held_in (Some s))) where
-    reaped : my.fit.operation.place ≡ Reaped r
-    unfolding my
-    reaped = take-reaped my.fit.operation.place my.fit.operation.task r my.fit.live (sym my.life ∙ life)
-
     -- What its slot holds is what it is seen to hold.
     seen-is : held_in (Some s) ≡ seen my.fit.operation
-    unfolding my names
     seen-is =
-        ap (λ hs. with_made (made_life s.life) hs) (sym names)
+        ap (λ hs. with_made (made_life s.life) hs) (sym (owned-names buffer L s my))
         ∙ ap (λ m. with_made m (named my.fit.operation.request)) (ap made_life my.fit.life)
 
     -- All that it made is seen.
     all-seen : made_life (life_at my.fit.operation) ≡ my.fit.operation.made
-    unfolding my reaped
     all-seen =
         ap made_life (sym my.fit.life ∙ life)
-        ∙ sym ((alone-of old).agrees s.serial my.fit.operation my.fit.there my.fit.live ∙ ap made_at reaped)
+        ∙ sym ((alone-of old).agrees s.serial my.fit.operation my.fit.there my.fit.live ∙ ap made_at (owned-reaped buffer L s my r life))
 
     departs : Departs view buffer tells steady d new L M s.serial (unheld_by d.holding.table (held_in (Some s)))
-    unfolding my reaped requests asks
+    unfolding requests asks
     departs =
         let o = my.fit.operation in
         let f : Operation → Operation = λ x. at_place Gone (with_drop x) in
@@ -196,11 +177,12 @@ module _ {R B : Type 0} (view : R → RingView) (buffer : B → Buffer) (tells s
         let twice : with_op L s.serial f ≡ with_gone M s.serial =
         ap (λ ops. record L { ops = ops }) (sym (amended-twice L.ops s.serial with_drop (at_place Gone))) in
         let holding = parts.holding ∙ ap (ops_left d.holding) seen-is in
-        let unasked = listed-unasked L s.serial o lawful.lists my.fit.there (ap in_queue reaped) in
+        let unasked = listed-unasked L s.serial o lawful.lists my.fit.there (ap in_queue (owned-reaped buffer L s my r life)) in
         record {
           means = subst (λ x. Means buffer (pending_ring view d.ring) x (with_gone M s.serial)) (sym gone)
               (subst (λ K. Means buffer (pending_ring view d.ring) (remove d.slots.values key) K) twice
-              (means-freed buffer (pending_ring view d.ring) d.slots.values L key s f o r (means-of old) there my.fit.there reaped refl));
+              (means-freed buffer (pending_ring view d.ring) d.slots.values L key s f o r (means-of old) there my.fit.there
+              (owned-reaped buffer L s my r life) refl));
           closing = old.handles.closing;
           stand = subst (λ t. HoldersStand t (with_gone M s.serial)) (sym (ap (λ x. x.table) holding))
               (holders-stand-same
@@ -228,17 +210,16 @@ module _ {R B : Type 0} (view : R → RingView) (buffer : B → Buffer) (tells s
         }
 
     pub stands-frees : LeavesGroup d new (record { number = s.serial; key = key }) → Answers view buffer L (Drop s.serial) Dropped new
-    unfolding my reaped
     stands-frees leaves_it =
         stands-departs view buffer tells steady d new L M s.serial (unheld_by d.holding.table (held_in (Some s))) (Drop s.serial) Dropped
-        always old departs (step-drop-reaped L s.serial my.fit.operation my.fit.there my.owned r reaped) given refl
+        always old departs
+        (step-drop-reaped L s.serial my.fit.operation my.fit.there my.owned r (owned-reaped buffer L s my r life)) given refl
         (record { number = s.serial; key = key }) (slot-number d.slots.values key s there mine) leaves_it
 
   -- Its cancel is asked for.
   pub stands-asks : new.slots.values ≡ d.slots.values → new.holding ≡ d.holding → new.members ≡ d.members →
       length (numbers_where is_owned 0 L.ops) + places d.holding ≤ room_in new → 0 < room_in d →
       Posts view tells steady d.ring new.ring (cancel_entry key s.serial) → Answers view buffer L (Asks s.serial) Asked new
-  unfolding my
   stands-asks same holding members room some posts =
       let o = my.fit.operation in
       let live = listed-live L (lawful-of old).lists in

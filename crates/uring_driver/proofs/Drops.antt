@@ -65,7 +65,7 @@ completed (Completed r) h = (r, refl)
 -- The answers of `drop_op`, by what it did to the slot of its token.
 module _ {R B : Type 0} (d new : IoUringDriver R B) (op : Op) (slots : FinMap nat_cmp (Slot B)) (holds : Holds d op)
     (put : new.slots.values ≡ slots) where
-  has : Owner d.slots.values op.key op.number
+  abbrev has : Owner d.slots.values op.key op.number
   has = held-slot d.slots.values op holds
 
   -- What a drop does, over any ring, where it leaves the slot.

@@ -2,6 +2,7 @@
 use Rattle.std.proofs.Common.{◌≡◌, ◌∙◌, inl, inr, ℕ, ◌+◌, ◌-◌, ◌<◌, ◌≤◌, Bool, true, false, not, List, [], ◌∷◌, length}
 use Rattle.std.proofs.Common.{Option, Some, None, refl, sym, ap, arith, length-append}
 use Rattle.std.specs.Prelude.{◌==◌, ◌||◌, nat_le, is_some, unwrap_or, option_to_list}
+use Rattle.std.proofs.lemmas.Bool.{or_parts, not-false}
 use Rattle.std.proofs.lemmas.Bool.Decides.{nat_tests}
 use Rattle.std.specs.FinMap.{get, insert, len}
 use Rattle.handle_core.specs.declared.table.Holders.{Holders}
@@ -16,27 +17,14 @@ use Rattle.driver_core.proofs.Maps.{len-put, len-new}
 use Rattle.uring_driver.specs.Holding.{Holding, closes, places, with_added}
 use Rattle.uring_driver.specs.Making.{kept_if, lost_if, op_closes, op_ended, is_old, refuses_made}
 
--- A test counts once at most.
-pub one-most : (b : Bool) → one_if b ≤ 1
-one-most true = omega arith
-one-most false = omega arith
-
 -- What a handle that can be new isn't: nobody holds it, it isn't closing, and its number is a handle's.
 pub not-old : (holding : Holding) (h : ℕ) → is_old holding h ≡ false →
     (is_nobody (holders_at holding.table h) ≡ true) × (closes holding h ≡ false) × (h < MOST_HANDLES)
 not-old holding h new =
-    let a = neither (not (is_nobody (holders_at holding.table h))) (closes holding h || nat_le MOST_HANDLES h) new in
-    let b = neither (closes holding h) (nat_le MOST_HANDLES h) a.1 in
-    (nobody-by (is_nobody (holders_at holding.table h)) a.0, b.0, below b.1)
+    let a = or_parts (not (is_nobody (holders_at holding.table h))) (closes holding h || nat_le MOST_HANDLES h) new in
+    let b = or_parts (closes holding h) (nat_le MOST_HANDLES h) a.1 in
+    (not-false (is_nobody (holders_at holding.table h)) a.0, b.0, below b.1)
   where
-    neither : (a b : Bool) → (a || b) ≡ false → (a ≡ false) × (b ≡ false)
-    neither true b h = (let f : ⊥ = cc in absurd f)
-    neither false b h = (refl, h)
-
-    nobody-by : (b : Bool) → not b ≡ false → b ≡ true
-    nobody-by true e = refl
-    nobody-by false e = (let f : ⊥ = cc in absurd f)
-
     below : nat_le MOST_HANDLES h ≡ false → h < MOST_HANDLES
     below e = grind (arith, nat_tests)
 

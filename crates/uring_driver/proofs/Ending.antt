@@ -6,12 +6,12 @@ use Rattle.std.proofs.lemmas.List.{take-append-drop}
 use Rattle.std.specs.Ordering.{nat_cmp}
 use Rattle.std.specs.FinMap.{FinMap}
 use Rattle.ring_core.specs.declared.entry.Completion.{Completion}
-use Rattle.ring_core.specs.Counts.{Rose}
 use Rattle.ring_core.specs.Ring.{RingView}
 use Rattle.driver_core.specs.declared.op.Stop.TheVariants.{BadCompletion}
 use Rattle.driver_core.specs.declared.op.Turned.{Turned}
 use Rattle.driver_core.specs.declared.slot.Slot.{Slot}
 use Rattle.driver_core.proofs.Lists.{emptied}
+use Rattle.driver_core.proofs.Rising.{rose-later}
 use Rattle.uring_driver.specs.declared.uring.IoUringDriver.{IoUringDriver}
 use Rattle.uring_driver.specs.declared.uring.turn.Begun.{Begun}
 use Rattle.uring_driver.specs.declared.uring.turn.Named.{Named}
@@ -23,10 +23,6 @@ use Rattle.uring_driver.specs.Reaps.{closes_of, PendingJoins, Treats, Reaps, Rea
 use Rattle.uring_driver.specs.Turned.{StopsFor, TreatsTaken, TreatsFor}
 use Rattle.uring_driver.specs.Begun.{EnteredFor, HasBegun, why_stopped}
 use Rattle.uring_driver.proofs.Strays.{treats-stray, Split, split}
-
--- A count that rose and doesn't fall has risen.
-rose-later : (a b c : ℕ) → Rose a b → b ≤ c → Rose a c
-rose-later a b c rose more = omega (arith, rose, more)
 
 -- What is told of what was treated, where nobody was named before.
 abbrev told : {B : Type 0} → FinMap nat_cmp (Slot B) → Holding → List ℕ → List ℕ → List ℕ → List ℕ → Option ℕ → Treated B

@@ -39,7 +39,7 @@ use Rattle.driver_core.proofs.Slots.{slots-replaced, other-slot}
 use Rattle.driver_core.proofs.Filling.{filled-where-fits}
 use Rattle.uring_driver.proofs.Kept.{slot-done}
 use Rattle.uring_driver.proofs.Finishing.{lists-finished, lists-owners}
-use Rattle.uring_driver.proofs.Flights.{o, s, slot-there, n-is, there-s, which, flies, request-is, life-is, allows-is, comes-is, here}
+use Rattle.uring_driver.proofs.Flights.{o, s, slot-there, n-is, mine, which, flies, request-is, life-is, allows-is, comes-is, here}
 
 -- An operation that was executed keeps its stage of life.
 done-life : (b : Bool) (r : Outcome) (t : Option ℕ) → life_of b InFlight t ≡ life_of b (InDone r) t
@@ -158,7 +158,7 @@ module _ {B : Type 0} (buffer : B → Buffer) (v : RingView) (before after : Ops
   fits-t = record {
     operation = f op;
     there = ap (slice_get (amended L.ops slot.serial f)) stored-is.serial
-        ∙ get-amended-same f L.ops slot.serial op (there-s buffer v slots L place fin.flight old fin.there calls);
+        ∙ get-amended-same f L.ops slot.serial op (mine buffer v slots L place fin.flight old fin.there calls).there;
     live = refl;
     request = subst (λ x. IsHolding op.request (held op.request told x) (plain_request buffer t.request)) got-is stored-is.request;
     life = stored-is.life ∙ life-is buffer v slots L place fin.flight old fin.there calls ∙ done-life op.dropped result.outcome op.task;
@@ -171,7 +171,7 @@ module _ {B : Type 0} (buffer : B → Buffer) (v : RingView) (before after : Ops
   slots-stand =
       let a = slots-replaced buffer slots L.ops fin.flight.entry.word slot t f op old.in_slots
       (slot-there buffer v slots L place fin.flight old fin.there calls) stored-is.serial
-      (there-s buffer v slots L place fin.flight old fin.there calls) lives fits-t in
+      (mine buffer v slots L place fin.flight old fin.there calls).there lives fits-t in
       subst (λ x. SlotsStand buffer x ops') (sym (stored-is.changed ∙ ap (λ k. insert slots k t) word))
       (subst (λ x. SlotsStand buffer (insert slots fin.flight.entry.word t) (amended L.ops x f))
       (n-is buffer v slots L place fin.flight old fin.there calls) a)
@@ -182,7 +182,7 @@ module _ {B : Type 0} (buffer : B → Buffer) (v : RingView) (before after : Ops
   slot-kept k u h q =
       let a = other-slot buffer slots L.ops fin.flight.entry.word slot t f op old.in_slots
       (slot-there buffer v slots L place fin.flight old fin.there calls) stored-is.serial
-      (there-s buffer v slots L place fin.flight old fin.there calls) lives fits-t k u h
+      (mine buffer v slots L place fin.flight old fin.there calls).there lives fits-t k u h
       (λ r. q (r ∙ n-is buffer v slots L place fin.flight old fin.there calls)) in
       ap (λ m. get m k) (stored-is.changed ∙ ap (λ x. insert slots x t) word) ∙ a
 

@@ -46,19 +46,14 @@ module _ {B : Type 0} (buffer : B → Buffer) (v : RingView) (slots : FinMap nat
   unfolding s here
   n-is = here.0.serial
 
-  pub mine : SlotFor buffer L.ops s
+  abbrev pub mine : SlotFor buffer L.ops s
   mine = old.in_slots.holds flight.entry.word s slot-there
 
-  pub o : Operation
-  unfolding mine
+  abbrev pub o : Operation
   o = mine.operation
 
-  pub there-s : slice_get L.ops s.serial ≡ Some o
-  unfolding o mine
-  there-s = mine.there
-
   pub which : slice_get L.ops flight.entry.serial ≡ Some o
-  which = ap (slice_get L.ops) (sym n-is) ∙ there-s
+  which = ap (slice_get L.ops) (sym n-is) ∙ mine.there
 
   pub flies : o.place ≡ InFlight
   unfolding here
@@ -66,12 +61,10 @@ module _ {B : Type 0} (buffer : B → Buffer) (v : RingView) (slots : FinMap nat
 
   -- Its slot's request is the one that was submitted, with its buffer.
   pub request-is : plain_request buffer s.request ≡ o.request
-  unfolding o mine
   request-is = holding-same mine.operation.request (plain_request buffer s.request)
       (subst (λ h. IsHolding mine.operation.request h (plain_request buffer s.request)) (mine.fresh (ap is_early flies)) mine.request)
 
   pub life-is : s.life ≡ life_of o.dropped InFlight o.task
-  unfolding o mine
   life-is = mine.life ∙ ap (λ p. life_of mine.operation.dropped p mine.operation.task) flies
 
   -- It is marked where its operation's cancel was taken.

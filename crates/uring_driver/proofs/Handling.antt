@@ -1,6 +1,7 @@
 -- What the calls on a driver's handles leave of what holds of every driver, and of the ledger that it stands for.
 use Rattle.std.proofs.Common.{◌≡◌, ◌≢◌, ◌∙◌, inl, inr, ℕ, ◌+◌, ◌-◌, ◌<◌, ◌≤◌, Bool, true, false, ◌==◌, [], ◌∷◌, length, map}
 use Rattle.std.proofs.Common.{Some, refl, sym, ap, subst, arith, IsTrue}
+use Rattle.std.proofs.lemmas.Bool.{lt-ltb}
 use Rattle.std.specs.Prelude.{◌||◌, nat_lt, unwrap_or}
 use Rattle.std.proofs.lemmas.Bool.Decides.{nat_tests}
 use Rattle.std.specs.Ordering.{nat_cmp}
@@ -46,7 +47,7 @@ use Rattle.uring_driver.specs.Submissions.{Posts, PendingMoves, pending_ring}
 use Rattle.uring_driver.specs.Reaps.{FitsQueue}
 use Rattle.uring_driver.specs.Uring.{room_in, whole_ring}
 use Rattle.uring_driver.proofs.Answering.{lawful-of, alone-of, fits-of, groups-still, answers-parts, stands-parts}
-use Rattle.uring_driver.proofs.Closings.{held-user}
+use Rattle.driver_core.proofs.Holds.{held-user}
 use Rattle.uring_driver.proofs.Entering.{moves-join}
 use Rattle.uring_driver.proofs.Lefts.{closing-joined, closes-pushed, owned-push}
 use Rattle.uring_driver.proofs.Means.{Means, means-of}
@@ -106,7 +107,7 @@ stands-holders view buffer d new L old ring slots given members handles few =
 pub room-held : {B : Type 0} (room : ℕ) (slots : FinMap nat_cmp (Slot B)) (holding : Holding) (h : ℕ) →
     IsSound room slots (places holding) → is_users holding h ≡ true → 0 < room
 room-held room slots holding h sound user =
-    let a = sound.few in let b = len-some holding.table.holders h (held-user holding h user) in omega (arith, a, b)
+    let a = sound.few in let b = len-some holding.table.holders h (held-user holding.table h user) in omega (arith, a, b)
 
 -- The close of a handle joined what is pending.
 pub close-moves : {R : Type 0} (view : R → RingView) (tells steady : Bool) (old new : Pending R) (h : ℕ) (b : Bool) → b ≡ true →
@@ -120,7 +121,7 @@ close-moves view tells steady old new h b is some posts t =
 module _ (holding : Holding) (h : ℕ) (user : is_users holding h ≡ true) where
   -- The holders of a handle that its user holds.
   there : (held : Holders) × (get holding.table.holders h ≡ Some held)
-  there = some-of (get holding.table.holders h) (held-user holding h user)
+  there = some-of (get holding.table.holders h) (held-user holding.table h user)
 
   -- As many handles are held once such a handle has other holders.
   len-held : (held : Holders) → len (with_holders holding.table h held).holders ≡ len holding.table.holders
@@ -131,7 +132,7 @@ module _ (holding : Holding) (h : ℕ) (user : is_users holding h ≡ true) wher
   len-unheld held none =
       let a = ap (λ b. len (settle_if b holding.table h held).holders) none in
       let b = len-gone holding.table.holders h there.0 there.1 in
-      let c = len-some holding.table.holders h (held-user holding h user) in
+      let c = len-some holding.table.holders h (held-user holding.table h user) in
       omega (arith, a, b, c)
 
   -- As many are where somebody still holds it.
@@ -144,13 +145,11 @@ module _ (holding : Holding) (h : ℕ) (user : is_users holding h ≡ true) wher
   handles-more L old =
       let held = held_more (holders_at holding.table h) in record {
         holders = holders-beside holding.table (with_holders holding.table h held) L L h old.holders
-            (ap (λ x. nat_lt 0 x.user) (with-same holding.table h held) ∙ more (user_count holding h) ∙ sym user ∙ old.holders.users h)
+            (ap (λ x. nat_lt 0 x.user) (with-same holding.table h held) ∙ lt-ltb 0 (user_count holding h + 1) (omega arith)
+            ∙ sym user ∙ old.holders.users h)
             (ap (λ x. x.operations) (with-same holding.table h held)) (with-other holding.table h held) (λ k e. refl) (λ k. refl);
         closing = old.closing;
       }
-    where
-      more : (k : ℕ) → nat_lt 0 (k + 1) ≡ true
-      more k = grind (arith, nat_tests)
 
 -- A driver whose user holds a handle once more stands for the same ledger.
 pub stands-more : {R B : Type 0} (view : R → RingView) (buffer : B → Buffer) (d new : IoUringDriver R B) (L : Ledger) (h : ℕ) →

@@ -22,7 +22,7 @@ use Rattle.driver_core.specs.Ops.{AreNumbered}
 use Rattle.driver_core.specs.Holds.{named_in, made_life, made_in, held_in, is_maker, is_dropped_life, is_dropped, if_dropped, dropped_in}
 use Rattle.driver_core.specs.Holds.{without_ops, AreMaking, CanLeave}
 use Rattle.driver_core.proofs.Counted.{counted-some, counted-changed, making-some, making-changed, apart-changed, flying-made, flying-held}
-use Rattle.driver_core.proofs.Distinct.{one-more, ascends-distinct}
+use Rattle.driver_core.proofs.Distinct.{one-more, one-most, ascends-distinct}
 use Rattle.driver_core.proofs.Holds.{nobody-is, ops-left, can-leave}
 use Rattle.driver_core.proofs.Numbers.{slot-number}
 use Rattle.driver_core.proofs.Maps.{put-same, put-other, gone-same, gone-other}
@@ -30,7 +30,7 @@ use Rattle.uring_driver.specs.Holding.{Holding, IsSameHolding, closes, places, w
 use Rattle.uring_driver.specs.Making.{kept_if, lost_if, op_closes, op_ended, refuses_made}
 use Rattle.uring_driver.specs.Reap.{is_refused, holding_after, lost_in}
 use Rattle.uring_driver.specs.State.{AreHolding}
-use Rattle.uring_driver.proofs.Ended.{one-most, not-old, not-refused, ops-added, made-few, kept-or-lost, places-ended}
+use Rattle.uring_driver.proofs.Ended.{not-old, not-refused, ops-added, made-few, kept-or-lost, places-ended}
 
 -- One slot changed, and with it how often operations hold each handle, and how many make one.
 pub record SlotChanges {B : Type 0} (old new : Holding) (slots slots' : FinMap nat_cmp (Slot B)) (given key : ℕ) : Type 0 where

@@ -22,7 +22,7 @@ use Rattle.uring_driver.specs.Making.{KeepsHolding, op_joined}
 use Rattle.uring_driver.specs.State.{AreHolding, IsSound}
 use Rattle.uring_driver.specs.Uring.{holds_all, holds_handle}
 use Rattle.uring_driver.specs.declared.uring.IoUringDriver.{IoUringDriver}
-use Rattle.uring_driver.proofs.Closings.{held-user}
+use Rattle.driver_core.proofs.Holds.{held-user}
 use Rattle.uring_driver.proofs.Holdings.{holding-joined, holding-reserved}
 use Rattle.uring_driver.proofs.Sound.{sound-keeps}
 
@@ -65,7 +65,7 @@ pub may-join : {R B : Type 0} (d : IoUringDriver R B) (request : Request B Parts
 may-join d request mid all are few same =
     can-join mid.table (named request) (ascends-distinct 0 (named request) (named-ascends request))
     (λ k there.
-    let e = some-of (get d.holding.table.holders k) (held-user d.holding k (holds-each d (named request) all k there)) in
+    let e = some-of (get d.holding.table.holders k) (held-user d.holding.table k (holds-each d (named request) all k there)) in
     subst (λ m. IsSome (get m k)) (sym same.table) (subst (λ o. IsSome o) (sym e.1) refl))
     (λ k there. (
     let a = are.few k in

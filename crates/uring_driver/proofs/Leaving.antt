@@ -6,7 +6,6 @@ use Rattle.std.proofs.lemmas.List.{length-map}
 use Rattle.std.specs.Ordering.{nat_cmp}
 use Rattle.std.specs.FinMap.{FinMap, get, remove}
 use Rattle.handle_core.specs.Table.{holders_at, handed}
-use Rattle.op_slots.specs.declared.lifecycle.Lifecycle.{Lifecycle}
 use Rattle.ring_core.specs.Entry.{close_entry}
 use Rattle.ring_core.specs.Lists.{has_number}
 use Rattle.ring_core.specs.Ranks.{one_if}
@@ -14,13 +13,12 @@ use Rattle.ring_core.specs.Ledger.{with_made}
 use Rattle.ring_core.specs.Effect.{made_by}
 use Rattle.ring_core.specs.Request.{named}
 use Rattle.ring_core.specs.Ring.{RingView}
-use Rattle.ring_core.specs.declared.request.Outcome.{Outcome}
 use Rattle.ring_core.proofs.Leaving.{holds-named}
 use Rattle.driver_core.specs.Holds.{without_ops, unheld_by, named_in, made_in, made_life, held_in, CanLeave}
 use Rattle.driver_core.specs.Slot.{is_flying, number_at, serial_of, PollsAt, DropsAt}
 use Rattle.op_slots.specs.Lifecycle.{polled}
 use Rattle.op_slots.specs.declared.lifecycle.AfterDrop.TheVariants.{Left, Free}
-use Rattle.op_slots.specs.declared.lifecycle.Lifecycle.TheVariants.{Submitted, Waiting, Ignored, Completed}
+use Rattle.op_slots.specs.declared.lifecycle.Lifecycle.TheVariants.{Ignored}
 use Rattle.ring_core.specs.declared.entry.TheConstants.{MOST_HANDLES}
 use Rattle.driver_core.specs.declared.op.Op.{Op}
 use Rattle.driver_core.specs.declared.op.Done.{Done}
@@ -30,6 +28,7 @@ use Rattle.driver_core.proofs.Distinct.{apart-by, one-more}
 use Rattle.driver_core.proofs.Holds.{with-other, can-leave, ops-left, ops-handed, len-left, len-handed}
 use Rattle.driver_core.proofs.Maps.{gone-same, gone-other}
 use Rattle.driver_core.proofs.Numbers.{Owner}
+use Rattle.driver_core.proofs.Polling.{polled-flies}
 use Rattle.driver_core.proofs.SlotTokens.{held-slot}
 use Rattle.uring_driver.specs.Holding.{Holding, places, ops_left}
 use Rattle.uring_driver.specs.Making.{made_handed, handed_if}
@@ -47,13 +46,6 @@ use Rattle.uring_driver.proofs.Sound.{sound-gone}
 -- What a call keeps where it leaves the slot of a token.
 module _ {B : Type 0} (holding : Holding) (slots slots' : FinMap nat_cmp (Slot B)) (given : ℕ) (op : Op)
     (are : AreHolding holding slots given) (has : Owner slots op.key op.number) where
-  -- A slot that waits with another task is in flight.
-  polled-flies : (l : Lifecycle Outcome) (task : ℕ) → is_flying l ≡ true → is_flying (polled l task) ≡ true
-  polled-flies Submitted task flies = refl
-  polled-flies (Waiting t) task flies = refl
-  polled-flies Ignored task flies = refl
-  polled-flies (Completed outcome) task flies = (let f : ⊥ = cc in absurd f)
-
   -- A poll that waits keeps what holds of every driver's handles.
   pub polled-holding : (task : ℕ) → PollsAt slots op.key task slots' None → AreHolding holding slots' given
   polled-holding task polls =
@@ -85,7 +77,7 @@ module _ {R B : Type 0} (d : IoUringDriver R B) (op : Op) (holds : Holds d op)
     (as_many : places base ≡ places d.holding) (same : base.makers ≡ d.holding.makers)
     (ops : (h : ℕ) → (holders_at (without_ops base.table handles) h).operations
     + one_if (has_number h (held_in (get d.slots.values op.key))) ≡ (holders_at d.holding.table h).operations) where
-  has : Owner d.slots.values op.key op.number
+  abbrev has : Owner d.slots.values op.key op.number
   has = held-slot d.slots.values op holds
 
   -- There is room for the closes of those that nobody holds any more.
@@ -220,7 +212,7 @@ module _ {R B : Type 0} (d : IoUringDriver R B) (op : Op) (holds : Holds d op)
     (sound : IsSound d.ring.room d.slots.values (places d.holding))
     (are : AreHolding d.holding d.slots.values d.given) (task : ℕ) (slots : FinMap nat_cmp (Slot B)) (done : Done B)
     (polls : PollsAt d.slots.values op.key task slots (Some done)) where
-  has-polled : Owner d.slots.values op.key op.number
+  abbrev has-polled : Owner d.slots.values op.key op.number
   has-polled = held-slot d.slots.values op holds
 
   made-polled : made_in (get d.slots.values op.key) ≡ made_by done.outcome

@@ -2,7 +2,8 @@
 use Rattle.std.proofs.Common.{◌≡◌, ◌∙◌, inl, inr, ℕ, zero, suc, ◌+◌, ◌-◌, ◌<◌, ◌≤◌, Bool, true, false, not, ◌==◌}
 use Rattle.std.proofs.Common.{List, [], ◌∷◌, length, map, Some, refl, sym, ap, subst, arith, IsTrue, if◌then◌else◌}
 use Rattle.std.specs.Prelude.{◌||◌, ◌&&◌, is_some, nat_lt, slice_get}
-use Rattle.std.proofs.Math.Bool.{or-false}
+use Rattle.std.proofs.Math.Bool.{or-false, or_assoc}
+use Rattle.std.proofs.lemmas.Bool.{or_right}
 use Rattle.std.proofs.lemmas.Bool.Decides.{nat_tests}
 use Rattle.std.specs.Ordering.{nat_cmp}
 use Rattle.std.specs.FinMap.{FinMap, get, insert}
@@ -37,15 +38,10 @@ use Rattle.driver_core.proofs.Maps.{put-same, put-other}
 use Rattle.uring_driver.specs.Pending.{Pending}
 use Rattle.uring_driver.specs.Submissions.{pending_ring, PostsEach}
 use Rattle.uring_driver.proofs.Means.{Means}
-use Rattle.uring_driver.proofs.Posting.{posts-closes}
+use Rattle.uring_driver.proofs.Posting.{ArePushed, posts-closes}
 use Rattle.driver_core.proofs.Distinct.{equal-is}
 use Rattle.uring_driver.specs.Reaps.{FitsQueue}
 use Rattle.uring_driver.specs.Holding.{Holding, closes, with_added, HandlesStand}
-
--- One of three tests, in another order.
-or-turn : (a b c : Bool) → ((a || b) || c) ≡ (a || (b || c))
-or-turn true b c = refl
-or-turn false b c = refl
 
 -- A close that joined what is closing is there, and all else stays.
 closing-one : (closing : Table) (h k spare : ℕ) →
@@ -53,14 +49,11 @@ closing-one : (closing : Table) (h k spare : ℕ) →
 closing-one closing h k spare = elim (same-or-not k h) [
   | inl e ↦ (
       ap (λ x. is_some (get (insert closing.holders h by_operation) x)) e ∙ ap is_some (put-same closing.holders h by_operation)
-      ∙ sym (or-right (is_some (get closing.holders k)) (k == h) (equal-is k h e)))
+      ∙ sym (or_right (is_some (get closing.holders k)) (k == h) (equal-is k h e)))
   | inr e ↦ (
       ap is_some (put-other closing.holders h by_operation k e)
       ∙ sym (or-left (is_some (get closing.holders k)) (k == h) (equal-other k h e)))
-] where
-  or-right : (a b : Bool) → b ≡ true → (a || b) ≡ true
-  or-right true b h = refl
-  or-right false b h = h
+]
 
 -- What is closing once closes joined: what was, and these.
 pub closing-joined : (closing : Table) (handles : List ℕ) (k : ℕ) →
@@ -69,7 +62,7 @@ closing-joined closing [] k = sym (or-false (is_some (get closing.holders k)))
 closing-joined closing (h ∷ handles) k =
     closing-joined (record (with_holders closing h by_operation) { spare = closing.spare - 1 }) handles k
     ∙ ap (λ b. b || has_number k handles) (closing-one closing h k (closing.spare - 1))
-    ∙ or-turn (is_some (get closing.holders k)) (k == h) (has_number k handles)
+    ∙ or_assoc (is_some (get closing.holders k)) (k == h) (has_number k handles)
 
 -- A count to which none comes is above zero where it was.
 none-more : (a : ℕ) → nat_lt 0 (a + 0) ≡ (nat_lt 0 a || false)
@@ -83,7 +76,7 @@ closes-pushed a k (h ∷ handles) =
     ap (nat_lt 0) (regrouped a (one_if (k == h)) (closes_queued k (map Queued.Close handles)))
     ∙ closes-pushed (a + one_if (k == h)) k handles
     ∙ ap (λ b. b || has_number k handles) (one-more a (k == h))
-    ∙ or-turn (nat_lt 0 a) (k == h) (has_number k handles)
+    ∙ or_assoc (nat_lt 0 a) (k == h) (has_number k handles)
   where
     regrouped : (a b c : ℕ) → a + (b + c) ≡ (a + b) + c
     regrouped a b c = omega arith
@@ -161,11 +154,8 @@ owned-push_closes L (h ∷ handles) requests =
 -- its user's as the one in which it is gone.
 pub record LeftParts {R B : Type 0} (view : R → RingView) (buffer : B → Buffer) (slots : FinMap nat_cmp (Slot B)) (old new : Pending R)
     (holding : Holding) (used : ℕ) (K M : Ledger) : Type 0 where
-  pub means : Means buffer (pending_ring view new) slots M
+  pub pushed : ArePushed view buffer slots old new used M
   pub handles : HandlesStand holding M
-  pub room : new.room + used ≡ old.room
-  pub fits : FitsQueue view new
-  pub capacity : (view new.ring).capacity ≡ (view old.ring).capacity
   pub owned : numbers_where is_owned 0 M.ops ≡ numbers_where is_owned 0 K.ops
   pub count : length M.ops ≡ length K.ops
   pub world : M.world ≡ K.world
@@ -182,12 +172,9 @@ parts-left view buffer tells steady slots old new holding after L n us always me
     let pushed = posts-closes view buffer tells steady slots always old new (with_gone L n) us means below room fits posts in
     subst (λ hs. LeftParts view buffer slots old new after (length us) (with_gone L n)
     (push_each (with_gone L n) (map Queued.Close hs))) are (record {
-      means = pushed.means;
+      pushed = pushed;
       handles = subst (λ hs. HandlesStand after (push_each (with_gone L n) (map Queued.Close hs))) (sym are)
           (handles-left holding after L n us closing stand are is early);
-      room = pushed.room;
-      fits = pushed.fits;
-      capacity = pushed.capacity;
       owned = owned-push_closes (with_gone L n) us live;
       count = stays-length (stays-push_each (with_gone L n) (map Queued.Close us));
       world = (stays-push_each (with_gone L n) (map Queued.Close us)).world;

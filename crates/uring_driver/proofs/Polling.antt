@@ -20,9 +20,8 @@ use Rattle.ring_core.specs.Step.{with_task, with_user, handed_over}
 use Rattle.ring_core.specs.Effect.{made_by}
 use Rattle.ring_core.specs.Closes.{made_at}
 use Rattle.ring_core.proofs.Amended.{get-amended-same, length-amended}
-use Rattle.driver_core.proofs.Seen.{SeenAlike, seen-op}
+use Rattle.driver_core.proofs.Seen.{SeenAlike, seen-op, made-waiting}
 use Rattle.ring_core.proofs.Taking.{in_queue}
-use Rattle.ring_core.proofs.Requests.{named-holding, named-mapped}
 use Rattle.driver_core.specs.declared.slot.Slot.{Slot}
 use Rattle.uring_driver.specs.declared.uring.IoUringDriver.{IoUringDriver}
 use Rattle.uring_driver.specs.Holding.{ops_left, places, with_added, HandlesStand}
@@ -58,7 +57,7 @@ use Rattle.driver_core.proofs.Counts.{where-all, where-less}
 use Rattle.driver_core.proofs.Lists.{some}
 use Rattle.driver_core.proofs.Standing.{holders-stand-left}
 use Rattle.driver_core.proofs.Seeing.{seen-distinct, unheld-became, holders-stand-handed, unheld-handed}
-use Rattle.driver_core.proofs.Owned.{Owned, owned-slot}
+use Rattle.driver_core.proofs.Owned.{Owned, owned-slot, owned-names, owned-reaped}
 
 -- An operation whose slot isn't completed isn't reaped.
 pending-waits : (p : Place) (t : Option ℕ) → is_kept p ≡ true → after_poll (owned_life p t) ≡ Waits → is_waiting p ≡ true
@@ -67,19 +66,6 @@ pending-waits InFlight t h e = refl
 pending-waits (InDone r) t h e = refl
 pending-waits (Reaped r) t h e = (let f : ⊥ = cc in absurd f)
 pending-waits Gone t h e = (let f : ⊥ = cc in absurd f)
-
--- A slot that waits isn't completed.
-waiting-not : (t : Option ℕ) (r : Outcome) → waiting t ≡ Completed r → ⊥
-waiting-not None r e = cc
-waiting-not (Some t) r e = cc
-
--- An operation whose slot is completed was reaped.
-pub take-reaped : (p : Place) (t : Option ℕ) (r : Outcome) → is_kept p ≡ true → owned_life p t ≡ Completed r → p ≡ Reaped r
-take-reaped InQueue t r h e = absurd (waiting-not t r e)
-take-reaped InFlight t r h e = absurd (waiting-not t r e)
-take-reaped (InDone o) t r h e = absurd (waiting-not t r e)
-take-reaped (Reaped o) t r h e = (let q : o ≡ r = cc in ap (λ x. Reaped x) q)
-take-reaped Gone t r h e = (let f : ⊥ = cc in absurd f)
 
 -- What isn't reaped is so at its place.
 unreaped-place : (p : Place) → is_waiting p ≡ true → IsUnreapedPlace p
@@ -113,15 +99,11 @@ life-waits Gone t task h = (let f : ⊥ = cc in absurd f)
 task-seen : (task : ℕ) (o : Operation) → is_waiting o.place ≡ true → SeenAlike o (with_task task o)
 task-seen task o waits = record { request = refl; made = by o.dropped o.place o.task waits; live = refl }
   where
-    none : (t : Option ℕ) → made_life (waiting t) ≡ None
-    none None = refl
-    none (Some t) = refl
-
     by : (b : Bool) (p : Place) (t : Option ℕ) → is_waiting p ≡ true → made_life (life_of b p (Some task)) ≡ made_life (life_of b p t)
     by true p t waits = refl
-    by false InQueue t waits = sym (none t)
-    by false InFlight t waits = sym (none t)
-    by false (InDone r) t waits = sym (none t)
+    by false InQueue t waits = sym (made-waiting t)
+    by false InFlight t waits = sym (made-waiting t)
+    by false (InDone r) t waits = sym (made-waiting t)
     by false (Reaped r) t waits = (let f : ⊥ = cc in absurd f)
     by false Gone t waits = (let f : ⊥ = cc in absurd f)
 
@@ -129,7 +111,7 @@ module _ {R B : Type 0} (view : R → RingView) (buffer : B → Buffer) (d new :
     (old : Stands view buffer d L) (there : get d.slots.values key ≡ Some s) (mine : is_owned_life s.life ≡ true)
     (given : new.given ≡ d.given) where
   -- The operation of the slot, which its user may still drop.
-  my : Owned buffer L s
+  abbrev my : Owned buffer L s
   my = owned-slot buffer L s (old.operations.in_slots.holds key s there) mine
 
   -- A poll of an operation that isn't reaped.
@@ -137,7 +119,6 @@ module _ {R B : Type 0} (view : R → RingView) (buffer : B → Buffer) (d new :
       KeepsNumbers d.slots.values new.slots.values → after_poll s.life ≡ Waits →
       new.slots.values ≡ insert d.slots.values key (with_life s (polled s.life task)) →
       Answers view buffer L (Poll s.serial task) Pending new
-  unfolding my
   stands-waits ring holding members keeps waits_here slots =
       let o = my.fit.operation in
       let w = pending-waits o.place o.task my.fit.live (ap after_poll (sym my.life) ∙ waits_here) in
@@ -171,24 +152,17 @@ module _ {R B : Type 0} (view : R → RingView) (buffer : B → Buffer) (d new :
 
   -- An operation whose poll waits isn't reaped.
   pub waits-unreaped : after_poll s.life ≡ Waits → IsUnreaped L s.serial
-  unfolding my
   waits-unreaped waits_here = subst (λ x. IsUnreapedOp x) (sym my.fit.there) (unreaped-place my.fit.operation.place
       (pending-waits my.fit.operation.place my.fit.operation.task my.fit.live (ap after_poll (sym my.life) ∙ waits_here)))
-
-  -- The slot names what its operation does.
-  names : named my.fit.operation.request ≡ named s.request
-  names = sym (named-holding my.fit.operation.request my.fit.operation.buffer (plain_request buffer s.request) my.fit.request)
-      ∙ named-mapped buffer (λ parts. parts) s.request
 
   -- What the operation of a completed slot made is seen: it is what its outcome says.
   made-reaped : (r : Outcome) → s.life ≡ Completed r → (made_life (life_at my.fit.operation) ≡ made_by r)
       × (my.fit.operation.made ≡ made_by r)
-  unfolding my
   made-reaped r life =
       let o = my.fit.operation in (
         ap made_life (sym my.fit.life ∙ life),
         (alone-of old).agrees s.serial o my.fit.there my.fit.live
-            ∙ ap made_at (take-reaped o.place o.task r my.fit.live (sym my.life ∙ life)),
+            ∙ ap made_at (owned-reaped buffer L s my r life),
       )
 
   -- A poll of an operation that was reaped, by what it made.
@@ -200,17 +174,13 @@ module _ {R B : Type 0} (view : R → RingView) (buffer : B → Buffer) (d new :
     abbrev o : Operation
     o = my.fit.operation
 
-    reaped : my.fit.operation.place ≡ Reaped r
-    unfolding my
-    reaped = take-reaped my.fit.operation.place my.fit.operation.task r my.fit.live (sym my.life ∙ life)
-
     freed : (H : Ledger) → Means buffer (pending_ring view d.ring) d.slots.values H → slice_get H.ops s.serial ≡ Some my.fit.operation →
         Means buffer (pending_ring view d.ring) new.slots.values (with_gone H s.serial)
     freed H means at = subst (λ x. Means buffer (pending_ring view d.ring) x (with_gone H s.serial)) (sym slots)
-        (means-freed buffer (pending_ring view d.ring) d.slots.values H key s (at_place Gone) my.fit.operation r means there at reaped refl)
+        (means-freed buffer (pending_ring view d.ring) d.slots.values H key s (at_place Gone) my.fit.operation r means there at
+        (owned-reaped buffer L s my r life) refl)
 
     owned-less : length (numbers_where is_owned 0 (with_gone L s.serial).ops) + 1 ≡ length (numbers_where is_owned 0 L.ops)
-    unfolding my
     owned-less = where-less is_owned (at_place Gone) L.ops s.serial my.fit.operation my.fit.there my.owned refl
 
     places-less : places (handed_if d.holding (made_by r)) ≡ places d.holding →
@@ -222,13 +192,12 @@ module _ {R B : Type 0} (view : R → RingView) (buffer : B → Buffer) (d new :
 
     departs : (made : Option ℕ) → made_by r ≡ made → places (handed_if d.holding (made_by r)) ≡ places d.holding →
         Departs view buffer tells steady d new L (handed_over L made) s.serial (us (made_by r))
-    unfolding my names reaped
     departs None is same =
         let o = my.fit.operation in
         let lawful = lawful-of old in
         let none : made_life (life_at o) ≡ None = (made-reaped r life).0 ∙ is in
         let seen-is : seen o ≡ named s.request =
-        ap (λ m. with_made m (named o.request)) none ∙ names in
+        ap (λ m. with_made m (named o.request)) none ∙ owned-names buffer L s my in
         let holding : new.holding ≡ ops_left d.holding (seen o) =
         parts.holding ∙ ap (λ m. ops_left (handed_if d.holding m) (named s.request)) is ∙ ap (ops_left d.holding) (sym seen-is) in
         let distinct = seen-distinct d.holding.table L s.serial o old.handles.holders my.fit.there my.fit.live lawful.known
@@ -243,8 +212,8 @@ module _ {R B : Type 0} (view : R → RingView) (buffer : B → Buffer) (d new :
               ((made-reaped r life).0 ∙ sym (made-reaped r life).1);
           closed = ap (λ x. x.closing) parts.holding
               ∙ ap (λ m. with_added (handed_if d.holding m).closing (us (made_by r))) is;
-          early = early-left L s.serial o lawful my.fit.there (ap in_queue reaped);
-          live = live-left L s.serial o lawful my.fit.there (ap in_queue reaped);
+          early = early-left L s.serial o lawful my.fit.there (ap in_queue (owned-reaped buffer L s my r life));
+          live = live-left L s.serial o lawful my.fit.there (ap in_queue (owned-reaped buffer L s my r life));
           below = parts.below;
           room = parts.room;
           posts = parts.posts;
@@ -261,7 +230,7 @@ module _ {R B : Type 0} (view : R → RingView) (buffer : B → Buffer) (d new :
         let all : made_life (life_at o) ≡ o.made = (made-reaped r life).0 ∙ sym (made-reaped r life).1 in
         let holding : new.holding ≡ ops_left (made_handed d.holding h) (named o.request) =
         parts.holding ∙ ap (λ m. ops_left (handed_if d.holding m) (named s.request)) is
-        ∙ ap (ops_left (made_handed d.holding h)) (sym names) in
+        ∙ ap (ops_left (made_handed d.holding h)) (sym (owned-names buffer L s my)) in
         record {
           means = freed H (means-world buffer (whole_ring view d) d.slots.values L (whole_ring view d).world L.world H.owners
               old.ring.world (means-of old)) my.fit.there;
@@ -269,13 +238,13 @@ module _ {R B : Type 0} (view : R → RingView) (buffer : B → Buffer) (d new :
           stand = subst (λ t. HoldersStand t (with_gone H s.serial)) (sym (ap (λ x. x.table) holding))
               (holders-stand-handed d.holding.table L s.serial o old.handles.holders my.fit.there my.fit.live lawful.known (alone-of old)
               h made all);
-          became = ap us is ∙ ap (unheld_by (made_handed d.holding h).table) (sym names)
+          became = ap us is ∙ ap (unheld_by (made_handed d.holding h).table) (sym (owned-names buffer L s my))
               ∙ unheld-handed d.holding.table L s.serial o old.handles.holders my.fit.there my.fit.live lawful.known (alone-of old)
               h made all;
           closed = ap (λ x. x.closing) parts.holding
               ∙ ap (λ m. with_added (handed_if d.holding m).closing (us (made_by r))) is;
-          early = early-left L s.serial o lawful my.fit.there (ap in_queue reaped);
-          live = live-left L s.serial o lawful my.fit.there (ap in_queue reaped);
+          early = early-left L s.serial o lawful my.fit.there (ap in_queue (owned-reaped buffer L s my r life));
+          live = live-left L s.serial o lawful my.fit.there (ap in_queue (owned-reaped buffer L s my r life));
           below = parts.below;
           room = parts.room;
           posts = parts.posts;
@@ -289,10 +258,10 @@ module _ {R B : Type 0} (view : R → RingView) (buffer : B → Buffer) (d new :
     pub stands-takes : IsTrue steady → LeavesGroup d new (record { number = s.serial; key = key }) →
         places (handed_if d.holding (made_by r)) ≡ places d.holding →
         Answers view buffer L (Poll s.serial task) (Handed r (held_of (plain_request buffer s.request))) new
-    unfolding my reaped
     stands-takes always leaves_it same =
         let o = my.fit.operation in
-        let e = step-poll-reaped L s.serial task o my.fit.there my.owned r reaped
+        let e = step-poll-reaped L s.serial task o my.fit.there my.owned r
+        (owned-reaped buffer L s my r life)
         ∙ ap (λ x. (leave (handed_over L o.made) s.serial, Handed r x)) (sym my.fit.request.holds)
         ∙ ap (λ m. (leave (handed_over L m) s.serial, Handed r (held_of (plain_request buffer s.request)))) (made-reaped r life).1 in
         stands-departs view buffer tells steady d new L (handed_over L (made_by r)) s.serial (us (made_by r)) (Poll s.serial task)
@@ -301,15 +270,14 @@ module _ {R B : Type 0} (view : R → RingView) (buffer : B → Buffer) (d new :
 
   -- One whose slot is completed is.
   pub takes-reaped : (r : Outcome) → s.life ≡ Completed r → IsUnreaped L s.serial → ⊥
-  unfolding my
-  takes-reaped r life unreaped = subst (λ x. IsUnreapedPlace x) (take-reaped my.fit.operation.place my.fit.operation.task r my.fit.live
-      (sym my.life ∙ life)) (subst (λ x. IsUnreapedOp x) my.fit.there unreaped)
+  takes-reaped r life unreaped =
+      subst (λ x. IsUnreapedPlace x) (owned-reaped buffer L s my r life) (subst (λ x. IsUnreapedOp x) my.fit.there unreaped)
 
 -- The answers of a poll, by what it did to the slot of its token.
 module _ {R B : Type 0} (view : R → RingView) (buffer : B → Buffer) (d new : IoUringDriver R B) (op : Op) (task : ℕ) (holds : Holds d op)
     (L : Ledger) (old : Stands view buffer d L) (given : new.given ≡ d.given) where
   -- The slot that the token names.
-  has : Owner d.slots.values op.key op.number
+  abbrev has : Owner d.slots.values op.key op.number
   has = held-slot d.slots.values op holds
 
   -- A poll that waits answers what the machine does.

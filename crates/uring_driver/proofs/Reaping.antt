@@ -17,13 +17,15 @@ use Rattle.ring_core.specs.Turn.{reaped_place, with_reap, task_if}
 use Rattle.ring_core.proofs.Amended.{get-amended-same, get-amended-other}
 use Rattle.ring_core.proofs.Requests.{named-holding, named-mapped, makes-holding, makes-mapped}
 use Rattle.driver_core.specs.declared.slot.Slot.{Slot}
-use Rattle.driver_core.specs.Slot.{with_life, is_flying, flies_in, task_in, slots_completed, named_by, named_if, slots_if, slots_after}
+use Rattle.driver_core.specs.Slot.{with_life, is_flying, flies_in, task_in, slots_completed, named_by, slots_after}
 use Rattle.driver_core.specs.Holds.{if_dropped, dropped_in, is_maker, is_dropped, is_dropped_life}
 use Rattle.driver_core.specs.Slots.{SlotFor, SlotsStand, waiting, life_of, is_early}
 use Rattle.ring_core.specs.declared.entry.Target.TheVariants.{Slot as Keyed}
 use Rattle.ring_core.specs.Entry.{target}
 use Rattle.uring_driver.specs.Lists.{CompletionFor, DoneFor, IsAt, ListsStand, names_slot, done_items_of}
+use Rattle.uring_driver.proofs.Heads.{at-head, behind-head, once-behind}
 use Rattle.uring_driver.proofs.Means.{Means}
+use Rattle.driver_core.proofs.Completing.{named-flying, slots-flying}
 use Rattle.driver_core.proofs.Lists.{some}
 use Rattle.driver_core.proofs.Maps.{remove-put}
 use Rattle.driver_core.proofs.Slots.{slots-replaced, other-slot, slots-freed, other-left}
@@ -81,8 +83,6 @@ pub means-less : {B : Type 0} (buffer : B → Buffer) (v : RingView) (slots : Fi
     (rest : List Completion) → Means buffer v slots L → v.done ≡ c ∷ rest →
     Means buffer (with_done v rest) slots (record L { done = flat_map done_items_of rest })
 means-less buffer v slots L c rest old first =
-    let later : (i : ℕ) (x : Completion) → slice_get rest i ≡ Some x →
-    slice_get v.done (suc i) ≡ Some x = λ i x h. ap (λ xs. slice_get xs (suc i)) first ∙ h in
     let l = old.in_lists in
     record {
       capacity = old.capacity;
@@ -94,10 +94,10 @@ means-less buffer v slots L c rest old first =
         done = refl;
         in_queue = l.in_queue;
         in_flight = l.in_flight;
-        in_done = λ i x h. l.in_done (suc i) x (later i x h);
+        in_done = λ i x h. l.in_done (suc i) x (behind-head v.done c rest first i x h);
         queue_once = l.queue_once;
         flight_once = l.flight_once;
-        done_once = λ i j x y h k a b e. (let z = l.done_once (suc i) (suc j) x y (later i x h) (later j y k) a b e in cc);
+        done_once = once-behind _ _ v.done c rest first l.done_once;
         cancels = l.cancels;
       };
     }
@@ -115,6 +115,7 @@ pub record Completes {B : Type 0} (buffer : B → Buffer) (v : RingView) (slots 
   pub there : slice_get L.ops c.serial ≡ Some operation
   pub done : operation.place ≡ InDone c.outcome
   pub named : Names (named_by (get slots c.word)) c.serial (task_if operation.dropped operation.task)
+  pub live : is_live operation ≡ true
   pub flies : flies_in (get slots c.word) ≡ true
   pub maker : is_maker (get slots c.word) ≡ makes operation.request
   pub drop : is_dropped (get slots c.word) ≡ operation.dropped
@@ -127,11 +128,8 @@ pub record Completes {B : Type 0} (buffer : B → Buffer) (v : RingView) (slots 
 module _ {B : Type 0} (buffer : B → Buffer) (v : RingView) (slots : FinMap nat_cmp (Slot B)) (L : Ledger) (c : Completion)
     (rest : List Completion)
     (old : Means buffer v slots L) (first : v.done ≡ c ∷ rest) (key : ℕ) (keyed : target c.word ≡ Keyed key) where
-  at_head : slice_get v.done 0 ≡ Some c
-  at_head = ap (λ xs. slice_get xs 0) first
-
   here : CompletionFor slots c × IsAt L.ops c.serial (InDone c.outcome)
-  here = subst (λ t. DoneFor slots L.ops c t) keyed (old.in_lists.in_done 0 c at_head)
+  here = subst (λ t. DoneFor slots L.ops c t) keyed (old.in_lists.in_done 0 c (at-head v.done c rest first))
 
   s : Slot B
   unfolding here
@@ -145,26 +143,20 @@ module _ {B : Type 0} (buffer : B → Buffer) (v : RingView) (slots : FinMap nat
   unfolding s here
   n-is = here.0.serial
 
-  mine : SlotFor buffer L.ops s
+  abbrev mine : SlotFor buffer L.ops s
   mine = old.in_slots.holds c.word s slot-there
 
-  o : Operation
-  unfolding mine
+  abbrev o : Operation
   o = mine.operation
 
-  there-s : slice_get L.ops s.serial ≡ Some o
-  unfolding o mine
-  there-s = mine.there
-
   which : slice_get L.ops c.serial ≡ Some o
-  which = ap (slice_get L.ops) (sym n-is) ∙ there-s
+  which = ap (slice_get L.ops) (sym n-is) ∙ mine.there
 
   stands-done : o.place ≡ InDone c.outcome
   unfolding here
   stands-done = ap (λ x. x.place) (some o here.1.operation (slice_get L.ops c.serial) which here.1.there) ∙ here.1.stays
 
   life-is : s.life ≡ life_of o.dropped (InDone c.outcome) o.task
-  unfolding o mine
   life-is = mine.life ∙ ap (λ p. life_of mine.operation.dropped p mine.operation.task) stands-done
 
   abbrev t : Slot B
@@ -182,7 +174,6 @@ module _ {B : Type 0} (buffer : B → Buffer) (v : RingView) (slots : FinMap nat
     not-queued h = (let z = sym (ap reaped_place stands-done) ∙ h in cc)
 
     fits : SlotFor buffer (amended L.ops s.serial with_reap) t
-    unfolding o mine
     fits = record {
       operation = with_reap o;
       there = get-amended-same with_reap L.ops s.serial o mine.there;
@@ -195,34 +186,30 @@ module _ {B : Type 0} (buffer : B → Buffer) (v : RingView) (slots : FinMap nat
 
     slots-reaped : SlotsStand buffer (insert slots c.word t) (amended L.ops c.serial with_reap)
     slots-reaped = subst (λ x. SlotsStand buffer (insert slots c.word t) (amended L.ops x with_reap)) n-is
-        (slots-replaced buffer slots L.ops c.word s t with_reap o old.in_slots slot-there refl there-s lives fits)
+        (slots-replaced buffer slots L.ops c.word s t with_reap o old.in_slots slot-there refl mine.there lives fits)
 
     slot-kept : (n : ℕ) → n ≢ c.serial → KeepsSlot slots (insert slots c.word t) n
     slot-kept n q k u h e = (
       u,
-      other-slot buffer slots L.ops c.word s t with_reap o old.in_slots slot-there refl there-s lives fits k u h
+      other-slot buffer slots L.ops c.word s t with_reap o old.in_slots slot-there refl mine.there lives fits k u h
           (λ r. q (sym e ∙ r ∙ n-is)),
       refl,
       refl,
     )
 
   -- Its user dropped it: its slot is freed.
-  module _ where
-    was : is_live o ≡ true
-    was = ap is_kept stands-done
+  slots-left : SlotsStand buffer (remove slots c.word) (amended L.ops c.serial (at_place Gone))
+  slots-left = subst (λ x. SlotsStand buffer (remove slots c.word) (amended L.ops x (at_place Gone))) n-is
+      (slots-freed buffer slots L.ops c.word s (at_place Gone) o old.in_slots slot-there mine.there (ap is_kept stands-done) refl)
 
-    slots-left : SlotsStand buffer (remove slots c.word) (amended L.ops c.serial (at_place Gone))
-    slots-left = subst (λ x. SlotsStand buffer (remove slots c.word) (amended L.ops x (at_place Gone))) n-is
-        (slots-freed buffer slots L.ops c.word s (at_place Gone) o old.in_slots slot-there there-s was refl)
-
-    slot-left : (n : ℕ) → n ≢ c.serial → KeepsSlot slots (remove slots c.word) n
-    slot-left n q k u h e = (
-      u,
-      other-left buffer slots L.ops c.word s (at_place Gone) o old.in_slots slot-there there-s was refl k u h
-          (λ r. q (sym e ∙ r ∙ n-is)),
-      refl,
-      refl,
-    )
+  slot-left : (n : ℕ) → n ≢ c.serial → KeepsSlot slots (remove slots c.word) n
+  slot-left n q k u h e = (
+    u,
+    other-left buffer slots L.ops c.word s (at_place Gone) o old.in_slots slot-there mine.there (ap is_kept stands-done) refl k u h
+        (λ r. q (sym e ∙ r ∙ n-is)),
+    refl,
+    refl,
+  )
 
   op-kept : (f : Operation → Operation) (n : ℕ) → n ≢ c.serial → KeepsOp L.ops (amended L.ops c.serial f) n
   op-kept f n q p h = (p, get-amended-other f L.ops c.serial n q ∙ h, refl, refl)
@@ -230,9 +217,6 @@ module _ {B : Type 0} (buffer : B → Buffer) (v : RingView) (slots : FinMap nat
   not-this : (n : ℕ) (p : Place) → IsAt L.ops n p → p ≢ InDone c.outcome → n ≢ c.serial
   not-this n p a h e = h (sym a.stays ∙ ap (λ x. x.place) (some a.operation o (slice_get L.ops n) a.there (ap (slice_get L.ops) e ∙ which))
       ∙ stands-done)
-
-  later : (i : ℕ) (x : Completion) → slice_get rest i ≡ Some x → slice_get v.done (suc i) ≡ Some x
-  later i x h = ap (λ xs. slice_get xs (suc i)) first ∙ h
 
   -- The ledger without it.
   abbrev taken-off : Ledger
@@ -248,8 +232,8 @@ module _ {B : Type 0} (buffer : B → Buffer) (v : RingView) (slots : FinMap nat
       (λ n a. (let q = not-this n InQueue a (λ r. cc) in (keeps n q, op-kept f n q)))
       (λ n a. (let q = not-this n InFlight a (λ r. cc) in (keeps n q, op-kept f n q)))
       (λ i x h b a. (
-      let q : x.serial ≢ c.serial = λ r. (let z = old.in_lists.done_once (suc i) 0 x c (later i x h) at_head b (ap names_slot keyed) r in
-      cc) in
+      let q : x.serial ≢ c.serial = λ r. (let z = old.in_lists.done_once (suc i) 0 x c (behind-head v.done c rest first i x h)
+      (at-head v.done c rest first) b (ap names_slot keyed) r in cc) in
       (keeps x.serial q, op-kept f x.serial q)))
       less.in_lists
 
@@ -277,17 +261,16 @@ module _ {B : Type 0} (buffer : B → Buffer) (v : RingView) (slots : FinMap nat
       })
   left-by false d h = (let f : ⊥ = cc in absurd f)
 
-  flies : is_flying s.life ≡ true
-  flies = ap is_flying life-is ∙ done-flies o.dropped c.outcome o.task
+  abbrev flies-here : flies_in (get slots c.word) ≡ true
+  flies-here = ap flies_in slot-there ∙ ap is_flying life-is ∙ done-flies o.dropped c.outcome o.task
 
   -- The slots once it is treated.
   after-is : slots_after slots c (get slots c.word) ≡ after o.dropped
-  after-is = ap (slots_after slots c) slot-there ∙ ap (λ b. slots_if b slots c s) flies ∙ ap (λ l. slots_completed l slots c.word t) life-is
+  after-is = slots-flying slots c s slot-there flies-here ∙ ap (λ l. slots_completed l slots c.word t) life-is
 
   -- The handles that it leaves, by whether its operation was dropped.
   names-by : (b : Bool) → dropped_in (get slots c.word) ≡ if_dropped (life_of b (InDone c.outcome) o.task) (handles_of s.request) →
       (b ≡ false → dropped_in (get slots c.word) ≡ []) × (b ≡ true → dropped_in (get slots c.word) ≡ handles_of o.request)
-  unfolding o mine
   names-by true is = (
     λ h. (let f : ⊥ = cc in absurd f),
     λ h. is ∙ sym (named-mapped buffer (λ parts. parts) s.request)
@@ -298,12 +281,8 @@ module _ {B : Type 0} (buffer : B → Buffer) (v : RingView) (slots : FinMap nat
   dropped-is : dropped_in (get slots c.word) ≡ if_dropped (life_of o.dropped (InDone c.outcome) o.task) (handles_of s.request)
   dropped-is = ap dropped_in slot-there ∙ ap (λ l. if_dropped l (handles_of s.request)) life-is
 
-  named-here : named_by (get slots c.word) ≡ Some (s.serial, task_in s.life)
-  named-here = ap named_by slot-there ∙ ap (λ b. named_if b s) flies
-
   maker-here : is_maker (get slots c.word) ≡ makes o.request
-  unfolding o mine
-  maker-here = ap is_maker slot-there ∙ ap (λ b. b && makes s.request) flies
+  maker-here = ap is_maker slot-there ∙ ap (λ b. b && makes s.request) (ap flies_in (sym slot-there) ∙ flies-here)
       ∙ sym (makes-mapped buffer (λ parts. parts) s.request)
       ∙ makes-holding mine.operation.request mine.operation.buffer (plain_request buffer s.request) mine.request
 
@@ -313,12 +292,13 @@ module _ {B : Type 0} (buffer : B → Buffer) (v : RingView) (slots : FinMap nat
     operation = o;
     there = which;
     done = stands-done;
-    flies = ap flies_in slot-there ∙ flies;
+    live = ap is_kept stands-done;
+    flies = flies-here;
     maker = maker-here;
     drop = ap is_dropped slot-there ∙ ap is_dropped_life life-is ∙ dropped-by o.dropped c.outcome o.task;
     named = record {
       task = task_in s.life;
-      is = named-here ∙ ap (λ n. Some (n, task_in s.life)) n-is;
+      is = named-flying slots c s slot-there flies-here ∙ ap (λ n. Some (n, task_in s.life)) n-is;
       woken = ap (λ l. option_to_list (task_in l)) life-is ∙ wakes-task o.dropped c.outcome o.task;
     };
     kept = λ h. (

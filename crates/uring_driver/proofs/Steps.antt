@@ -1,8 +1,8 @@
 -- What a step of the machine is, where the event isn't refused.
-use Rattle.std.proofs.Common.{◌≡◌, ◌<◌, ◌≤◌, ℕ, Bool, true, false, List, [], ◌∷◌, ◌++◌, length, Option, None, Some, refl, ◌∙◌, ap, arith}
+use Rattle.std.proofs.Common.{◌≡◌, ◌≤◌, ℕ, Bool, true, false, List, [], ◌∷◌, ◌++◌, length, Option, None, Some, refl, ◌∙◌, ap}
 use Rattle.std.proofs.Common.{not, ◌||◌, ◌&&◌, unwrap_or}
 use Rattle.std.specs.Prelude.{slice_get, nat_le}
-use Rattle.std.proofs.lemmas.Bool.Decides.{nat_tests}
+use Rattle.std.proofs.lemmas.Bool.{lt-leb, le-leb}
 use Rattle.std.proofs.lemmas.Option.{slice_get_within}
 use Rattle.rent_buf.specs.Buffer.{Buffer}
 use Rattle.rent_buf.specs.Parts.{Parts}
@@ -33,6 +33,7 @@ use Rattle.ring_core.specs.Step.{handed_over, with_drop, close_step, submit_if, 
 use Rattle.ring_core.specs.Step.{cancel_all_step, look_reply}
 use Rattle.ring_core.proofs.Stepping.{step-row}
 use Rattle.ring_core.specs.Run.{after, ledger}
+pub use Rattle.std.proofs.lemmas.Bool.{lt-leb as below-test, le-leb as past-test}
 
 -- One more event is one step more.
 after-append : (L : Ledger) (es : List Event) (e : Event) → (step (after L es) e).0 ≡ after L (es ++ e ∷ [])
@@ -116,10 +117,6 @@ step-cancel L n o there owned =
     ap (λ x. answered (refused_if (not (passes is_owned x)) NoOp None) L (Asks n)) there
     ∙ ap (λ b. answered (refused_if (not b) NoOp None) L (Asks n)) owned
 
--- The test doesn't find a number at most another that is below it.
-pub below-test : (n k : ℕ) → k < n → nat_le n k ≡ false
-below-test n k h = grind (arith, nat_tests)
-
 -- What is refused of a submission: its cancel handle wasn't created, a handle that it names isn't its user's, or there are too many.
 abbrev submit-cause : Bool → Bool → Bool → Bool → Option Refusal
 submit-cause unknown lacks marked full =
@@ -159,14 +156,14 @@ step-canceller L = refl
 pub step-handle : (L : Ledger) (c g : ℕ) → slice_get L.cancellers c ≡ Some g →
     step L (NewHandle c) ≡ (new_handle_step L c, CancelHandle (length L.cancel_handles))
 step-handle L c g there = step-row L (NewHandle c)
-    (ap (λ b. refused_if b NoCanceller None) (below-test (length L.cancellers) c (slice_get_within L.cancellers c g there)))
+    (ap (λ b. refused_if b NoCanceller None) (lt-leb (length L.cancellers) c (slice_get_within L.cancellers c g there)))
 
 -- The group of a canceller that was created is canceled.
 pub step-cancel_all : (L : Ledger) (c g : ℕ) → slice_get L.cancellers c ≡ Some g →
     step L (CancelAll c) ≡ (cancel_all_step L c g, Cancels (members L g))
 step-cancel_all L c g there =
     step-row L (CancelAll c)
-    (ap (λ b. refused_if b NoCanceller None) (below-test (length L.cancellers) c (slice_get_within L.cancellers c g there)))
+    (ap (λ b. refused_if b NoCanceller None) (lt-leb (length L.cancellers) c (slice_get_within L.cancellers c g there)))
     ∙ ap (λ k. (cancel_all_step L c k, Cancels (members L k))) (ap (λ x. unwrap_or x 0) there)
 
 -- A turn is never refused.
@@ -231,10 +228,6 @@ pub step-close : (L : Ledger) (h : ℕ) → user_holds L h ≡ true → step L (
 unfolding step
 step-close L h user = ap (λ b. answered (refused_if (not b || false) NoHandle None) L (Close h)) user
 
--- The test finds a number that is at most another at most it.
-pub past-test : (n k : ℕ) → n ≤ k → nat_le n k ≡ true
-past-test n k h = grind (arith, nat_tests)
-
 -- An execution is refused by what is in flight, and by the outcome of what is at the place.
 abbrev exec-cause : Bool → Bool → Option Refusal
 exec-cause past allows = refused_if past NotFlying (refused_if (not allows) BadOutcome None)
@@ -244,7 +237,7 @@ cause-exec : (L : Ledger) (place : ℕ) (told : Told) (item : Item) (allows : Bo
     allowed L item told ≡ allows → cause L (Exec place told) ≡ exec-cause false allows
 cause-exec L place told item allows there is =
     ap (λ b. exec-cause b (passes (λ x. allowed L x told) (slice_get L.flying place)))
-    (below-test (length L.flying) place (slice_get_within L.flying place item there))
+    (lt-leb (length L.flying) place (slice_get_within L.flying place item there))
     ∙ ap (λ x. exec-cause false (passes (λ y. allowed L y told) x)) there ∙ ap (exec-cause false) is
 
 -- An execution of an allowed outcome is not refused.
@@ -273,4 +266,4 @@ allowed-op L n told o which = ap (passes (λ operation. is_allowed L.world opera
 pub cause-flying : (L : Ledger) (place : ℕ) (told : Told) → length L.flying ≤ place → cause L (Exec place told) ≡ Some NotFlying
 cause-flying L place told h =
     ap (λ b. refused_if b NotFlying (refused_if (not (passes (λ item. allowed L item told) (slice_get L.flying place))) BadOutcome None))
-    (past-test (length L.flying) place h)
+    (le-leb (length L.flying) place h)

@@ -23,7 +23,6 @@ use Rattle.ring_core.specs.declared.ledger.Reply.TheVariants.{Submitted, Cancele
 use Rattle.ring_core.specs.Lists.{numbers_where, passes}
 use Rattle.ring_core.specs.Ledger.{Ledger, Queued, Req, Cancel, Operation, InFlight, is_live, is_owned, live_ops, new_operation}
 use Rattle.ring_core.specs.Ledger.{is_marked, is_under_marked, group_under}
-use Rattle.ring_core.specs.Refusal.{has_no_canceller}
 use Rattle.ring_core.specs.Queue.{take_one, take_each, take_all, make_room, append, push, at_place, with_cancel}
 use Rattle.ring_core.specs.declared.ledger.TheConstants.{MOST_LIVE}
 use Rattle.ring_core.specs.Step.{step, submit_step, with_new_op}
@@ -41,12 +40,11 @@ use Rattle.driver_core.specs.Holds.{CanJoin}
 use Rattle.driver_core.specs.declared.op.Op.{Op}
 use Rattle.driver_core.specs.Answers.{IsUnder}
 use Rattle.driver_core.specs.Groups.{GroupsStand, is_under_canceled, joins_if}
-use Rattle.driver_core.specs.Members.{Membership, moves}
+use Rattle.driver_core.specs.Members.{Membership}
 use Rattle.driver_core.specs.Op.{AddsToken}
 use Rattle.driver_core.specs.Ops.{Ops}
 use Rattle.driver_core.specs.Slot.{number_at}
-use Rattle.driver_core.proofs.Grouping.{groups-joined, stands-marked}
-use Rattle.driver_core.proofs.Placing.{moved-joined}
+use Rattle.driver_core.proofs.Grouping.{groups-joined, stands-marked, under-group, under-known}
 use Rattle.uring_driver.specs.Op.{ops_in}
 use Rattle.driver_core.specs.Operations.{Submits, new_slot}
 use Rattle.uring_driver.specs.Submissions.{with_spare, room_made}
@@ -59,7 +57,7 @@ use Rattle.uring_driver.proofs.Entering.{room-capacity}
 use Rattle.uring_driver.proofs.Holders.{lacks-none, req-queued, means-early, handles-room, handles-joined}
 use Rattle.uring_driver.proofs.Joining.{keeps-same, places-joined}
 use Rattle.uring_driver.proofs.Starting.{stands-same}
-use Rattle.uring_driver.proofs.Steps.{reached-more, step-submit, step-canceled, below-test}
+use Rattle.uring_driver.proofs.Steps.{reached-more, step-submit, step-canceled}
 use Rattle.uring_driver.proofs.Submitting.{means-pushed}
 use Rattle.uring_driver.proofs.Heads.{means-view}
 use Rattle.uring_driver.proofs.Taking.{means-room, owned-room}
@@ -123,18 +121,6 @@ all-known count (Queued.Close k ∷ qs) h = (tt, all-known count qs (λ i m g. h
 -- There is room for one more live operation.
 is-room : (n : ℕ) → n < MAX_LIVE → nat_le MOST_LIVE n ≡ false
 is-room n h = grind (arith, nat_tests)
-
--- The group of the cancel handle that the machine submits under is the one that the driver submits under.
-under-group : (L : Ledger) (under handle : Option ℕ) → IsUnder L under handle → group_under L handle ≡ under
-under-group L None handle is = ap (group_under L) is
-under-group L (Some g) handle is = is
-
--- That cancel handle was created.
-under-known : (L : Ledger) (r : Request Buffer Parts) (under handle : Option ℕ) → IsUnder L under handle →
-    has_no_canceller L (Submit r handle) ≡ false
-under-known L r under None is = refl
-under-known L r None (Some k) is = (let f : ⊥ = cc in absurd f)
-under-known L r (Some g) (Some k) is = below-test (length L.cancel_handles) k (slice_get_within L.cancel_handles k g is)
 
 -- Its group is marked exactly where the driver's is canceled.
 under-marked : (m : Membership) (L : Ledger) (under handle : Option ℕ) → GroupsStand m L → IsUnder L under handle →
@@ -285,11 +271,3 @@ adds-over old mid new op same given adds = record {
   number = adds.number ∙ given;
   next = adds.next ∙ ap (λ n. n + 1) given;
 }
-
--- The groups once the next operation joined one, and its slot has its key.
-pub joined-at : (m mid new : Membership) (under : Option ℕ) (given : ℕ) (op : Op) (number key : ℕ) → op.number ≡ given →
-    number ≡ op.number → key ≡ op.key → get m.places given ≡ None → mid ≡ joins_if m under given 0 → new ≡ moves mid number key →
-    new ≡ joins_if m under op.number op.key
-joined-at m mid new under given op number key is n k apart joins moved =
-    moved ∙ ap (λ x. moves x number key) joins ∙ ap (λ i. moves (joins_if m under given 0) i key) (n ∙ is)
-    ∙ moved-joined m under given 0 key apart ∙ ap (joins_if m under given) k ∙ ap (λ i. joins_if m under i op.key) (sym is)

@@ -24,7 +24,7 @@ use Rattle.driver_core.proofs.Lists.{some, get-pushed}
 use Rattle.driver_core.proofs.Counts.{where-same}
 use Rattle.uring_driver.proofs.Kept.{call-queued, call-flown, queued-kept, flight-kept, done-kept, flown-at}
 use Rattle.driver_core.proofs.Slots.{slots-amended}
-use Rattle.uring_driver.proofs.Heads.{at-head, behind-head, cancels-left}
+use Rattle.uring_driver.proofs.Heads.{at-head, behind-head, once-behind, cancels-left}
 
 -- A slot has one stage of life while its operation is queued and in flight.
 early-life : (d : Bool) (t : Option ℕ) → life_of d InQueue t ≡ life_of d InFlight t
@@ -34,14 +34,8 @@ early-life false t = refl
 -- A call is taken: it is in flight, not marked.
 module _ {B : Type 0} (buffer : B → Buffer) (v : RingView) (slots : FinMap nat_cmp (Slot B)) (L : Ledger) (e : Entry) (rest : List Entry)
     (old : Means buffer v slots L) (first : v.queue ≡ e ∷ rest) (call : Call) (body : e.body ≡ Calls call) where
-  at_head : slice_get v.queue 0 ≡ Some e
-  at_head = at-head v e rest first
-
-  later : (i : ℕ) (x : Entry) → slice_get rest i ≡ Some x → slice_get v.queue (suc i) ≡ Some x
-  later = behind-head v e rest first
-
   here : EntryFor buffer slots e × IsAt L.ops e.serial InQueue
-  here = call-queued buffer slots L.ops e e.body (old.in_lists.in_queue 0 e at_head) (ap is_call body)
+  here = call-queued buffer slots L.ops e e.body (old.in_lists.in_queue 0 e (at-head v.queue e rest first)) (ap is_call body)
 
   abbrev ops' : List Operation
   ops' = amended L.ops e.serial (at_place InFlight)
@@ -57,7 +51,10 @@ module _ {B : Type 0} (buffer : B → Buffer) (v : RingView) (slots : FinMap nat
 
   -- A call behind it has another number.
   behind : (i : ℕ) (x : Entry) → slice_get rest i ≡ Some x → is_call x.body ≡ true → x.serial ≢ e.serial
-  behind i x h c q = (let z = old.in_lists.queue_once (suc i) 0 x e (later i x h) at_head c (ap is_call body) q in cc)
+  behind i x h c q =
+      let z = old.in_lists.queue_once (suc i) 0 x e (behind-head v.queue e rest first i x h) (at-head v.queue e rest first) c
+      (ap is_call body) q in
+      cc
 
   stays : (m : ℕ) (p : Place) → m ≢ e.serial → IsAt L.ops m p → IsAt ops' m p
   stays m p h a = record {
@@ -132,7 +129,7 @@ module _ {B : Type 0} (buffer : B → Buffer) (v : RingView) (slots : FinMap nat
         ∙ sym (map-append item_of v.flying (f' ∷ []));
     done = old.in_lists.done;
     in_queue = λ i x h. queued-kept buffer slots slots L.ops ops' x x.body (λ c a. (a.0, stays x.serial InQueue (behind i x h c) a.1))
-        (old.in_lists.in_queue (suc i) x (later i x h));
+        (old.in_lists.in_queue (suc i) x (behind-head v.queue e rest first i x h));
     in_flight = λ i x h. elim (get-pushed v.flying f' i x h) [
       | inl r ↦ flight-kept buffer slots slots L.ops ops' x x.marked x.entry.body (λ _. refl) (λ _ a. (a.0, flown-stays x a.1))
           (old.in_lists.in_flight i x r)
@@ -142,7 +139,7 @@ module _ {B : Type 0} (buffer : B → Buffer) (v : RingView) (slots : FinMap nat
     in_done = λ i c h. done-kept slots slots L.ops ops' c (target c.word)
         (λ _ a. (a.0, stays c.serial (InDone c.outcome) (not-this c.serial (InDone c.outcome) a.1 (λ q. cc)) a.1))
         (old.in_lists.in_done i c h);
-    queue_once = λ i j x y h k a b q. (let z = old.in_lists.queue_once (suc i) (suc j) x y (later i x h) (later j y k) a b q in cc);
+    queue_once = once-behind _ _ v.queue e rest first old.in_lists.queue_once;
     flight_once = λ i j x y h k c d q. elim (get-pushed v.flying f' i x h) [
       | inl a ↦ elim (get-pushed v.flying f' j y k) [
         | inl b ↦ old.in_lists.flight_once i j x y a b c d q
@@ -157,9 +154,10 @@ module _ {B : Type 0} (buffer : B → Buffer) (v : RingView) (slots : FinMap nat
     -- A cancel that is left stood behind the call that is in flight now.
     cancels = cancels-left v e rest first old.in_lists.cancels (v.flying ++ f' ∷ [])
         (λ i j f c key h k b q. elim (get-pushed v.flying f' i f h) [
-          | inl r ↦ old.in_lists.cancels.flown i (suc j) f c key r (later j c k) b q
+          | inl r ↦ old.in_lists.cancels.flown i (suc j) f c key r (behind-head v.queue e rest first j c k) b q
           | inr r ↦ subst (λ y. Meets y.entry key c.serial) (sym r.1)
-              (old.in_lists.cancels.before 0 (suc j) e c key at_head (later j c k) b (omega arith) (ap is_call body))
+              (old.in_lists.cancels.before 0 (suc j) e c key (at-head v.queue e rest first) (behind-head v.queue e rest first j c k) b
+              (omega arith) (ap is_call body))
         ]);
   }
 

@@ -29,7 +29,7 @@ use Rattle.driver_core.proofs.Distinct.{equal-is}
 use Rattle.driver_core.proofs.Lists.{map-get, get-pushed, amended-absent}
 use Rattle.uring_driver.proofs.Kept.{cancel-queued, close-flown, queued-kept, flight-kept, done-kept, done-reserved}
 use Rattle.driver_core.proofs.Slots.{slots-amended}
-use Rattle.uring_driver.proofs.Heads.{at-head, behind-head, cancels-left}
+use Rattle.uring_driver.proofs.Heads.{at-head, behind-head, once-behind, cancels-left}
 
 -- The taking of a cancel changes whether it was taken, and nothing else.
 cancel-same : (p : Place) (o : Operation) → canceled_at p o ≡ record o { canceled = (canceled_at p o).canceled }
@@ -55,12 +55,6 @@ same-flying key (f ∷ fs) = ap (λ xs. item_of f ∷ xs) (same-flying key fs)
 -- A cancel is taken: what is in flight with its key is marked, and it leaves a completion that means nothing.
 module _ {B : Type 0} (buffer : B → Buffer) (v : RingView) (slots : FinMap nat_cmp (Slot B)) (L : Ledger) (e : Entry) (rest : List Entry)
     (old : Means buffer v slots L) (first : v.queue ≡ e ∷ rest) (key : ℕ) (body : e.body ≡ Cancels key) where
-  at_head : slice_get v.queue 0 ≡ Some e
-  at_head = at-head v e rest first
-
-  later : (i : ℕ) (x : Entry) → slice_get rest i ≡ Some x → slice_get v.queue (suc i) ≡ Some x
-  later = behind-head v e rest first
-
   abbrev marked_ops : List Operation
   marked_ops = amended L.ops e.serial with_cancel
 
@@ -68,7 +62,7 @@ module _ {B : Type 0} (buffer : B → Buffer) (v : RingView) (slots : FinMap nat
   answer = record { word = e.word; serial = e.serial; outcome = Counted 0 }
 
   is-cancel : (e.word ≡ CANCEL_WORD) × (key < FIRST_CLOSE)
-  is-cancel = cancel-queued buffer slots L.ops e e.body (old.in_lists.in_queue 0 e at_head) key body
+  is-cancel = cancel-queued buffer slots L.ops e e.body (old.in_lists.in_queue 0 e (at-head v.queue e rest first)) key body
 
   -- The word of its completion is reserved, and names no slot.
   reserved : target e.word ≡ Reserved CANCEL_WORD
@@ -93,7 +87,7 @@ module _ {B : Type 0} (buffer : B → Buffer) (v : RingView) (slots : FinMap nat
   flown-marked : (i : ℕ) (f : Flight) → slice_get v.flying i ≡ Some f → is_call f.entry.body ≡ true → IsFlown L.ops f →
       IsFlown marked_ops (marked_by key f)
   flown-marked i f h c a =
-      let meets = old.in_lists.cancels.flown i 0 f e key h at_head body c in
+      let meets = old.in_lists.cancels.flown i 0 f e key h (at-head v.queue e rest first) body c in
       elim (same-or-not f.entry.serial e.serial) [
         | inl q ↦ record {
           operation = with_cancel a.operation;
@@ -143,7 +137,7 @@ module _ {B : Type 0} (buffer : B → Buffer) (v : RingView) (slots : FinMap nat
     flying = old.in_lists.flying ∙ sym (same-flying key v.flying);
     done = old.in_lists.done ∙ sym (done-reserved v.done answer CANCEL_WORD reserved);
     in_queue = λ i x h. queued-kept buffer slots slots L.ops marked_ops x x.body (λ c a. (a.0, stays-at x.serial InQueue a.1))
-        (old.in_lists.in_queue (suc i) x (later i x h));
+        (old.in_lists.in_queue (suc i) x (behind-head v.queue e rest first i x h));
     in_flight = λ i f h. (
         let g = map-get (marked_by key) v.flying i f h in
         subst (λ y. FlightFor buffer slots marked_ops y y.entry.body) (sym g.2)
@@ -156,7 +150,7 @@ module _ {B : Type 0} (buffer : B → Buffer) (v : RingView) (slots : FinMap nat
       | inr r ↦ subst (λ y. DoneFor slots marked_ops y (target y.word)) (sym r.1)
           (subst (λ t. DoneFor slots marked_ops answer t) (sym reserved) tt)
     ];
-    queue_once = λ i j x y h k a b q. (let z = old.in_lists.queue_once (suc i) (suc j) x y (later i x h) (later j y k) a b q in cc);
+    queue_once = once-behind _ _ v.queue e rest first old.in_lists.queue_once;
     flight_once = λ i j x y h k c d q. (
         let a = map-get (marked_by key) v.flying i x h in
         let b = map-get (marked_by key) v.flying j y k in
@@ -173,7 +167,8 @@ module _ {B : Type 0} (buffer : B → Buffer) (v : RingView) (slots : FinMap nat
     cancels = cancels-left v e rest first old.in_lists.cancels (map (marked_by key) v.flying) (λ i j f c k h l b q. (
         let g = map-get (marked_by key) v.flying i f h in
         subst (λ y. Meets y.entry k c.serial) (sym g.2)
-        (old.in_lists.cancels.flown i (suc j) g.0 c k g.1 (later j c l) b (ap (λ z. is_call z.entry.body) (sym g.2) ∙ q))));
+        (old.in_lists.cancels.flown i (suc j) g.0 c k g.1 (behind-head v.queue e rest first j c l) b
+        (ap (λ z. is_call z.entry.body) (sym g.2) ∙ q))));
   }
 
   pub means-cancel : Means buffer (record v { queue = rest; flying = map (marked_by key) v.flying; done = v.done ++ answer ∷ [] }) slots

@@ -1,6 +1,5 @@
 -- What taking the close of a handle off the queue does to a ring and slots that mean a ledger.
-use Rattle.std.proofs.Common.{◌≡◌, ◌<◌, inl, inr, ℕ, suc, true, false, List, [], ◌∷◌, ◌++◌, map, Some, refl, sym, ◌∙◌, ap, subst}
-use Rattle.std.specs.Prelude.{slice_get}
+use Rattle.std.proofs.Common.{◌≡◌, ◌<◌, inl, inr, ℕ, suc, true, false, List, [], ◌∷◌, ◌++◌, map, refl, sym, ◌∙◌, ap, subst}
 use Rattle.std.specs.Ordering.{nat_cmp}
 use Rattle.std.specs.FinMap.{FinMap}
 use Rattle.std.proofs.lemmas.List.{map-append}
@@ -18,16 +17,13 @@ use Rattle.uring_driver.specs.Lists.{FlightFor, ListsStand, is_call, queued_of, 
 use Rattle.uring_driver.proofs.Means.{Means}
 use Rattle.driver_core.proofs.Lists.{get-pushed}
 use Rattle.uring_driver.proofs.Kept.{close-queued}
-use Rattle.uring_driver.proofs.Heads.{at-head, behind-head, cancels-left}
+use Rattle.uring_driver.proofs.Heads.{at-head, behind-head, once-behind, cancels-left}
 
 -- A close is taken: it is in flight, not marked.
 module _ {B : Type 0} (buffer : B → Buffer) (v : RingView) (slots : FinMap nat_cmp (Slot B)) (L : Ledger) (e : Entry) (rest : List Entry)
     (old : Means buffer v slots L) (first : v.queue ≡ e ∷ rest) (k : ℕ) (body : e.body ≡ Closes k) where
-  later : (i : ℕ) (x : Entry) → slice_get rest i ≡ Some x → slice_get v.queue (suc i) ≡ Some x
-  later = behind-head v e rest first
-
   here : (e ≡ close_entry k) × (k < MOST_HANDLES)
-  here = close-queued buffer slots L.ops e e.body (old.in_lists.in_queue 0 e (at-head v e rest first)) k body
+  here = close-queued buffer slots L.ops e e.body (old.in_lists.in_queue 0 e (at-head v.queue e rest first)) k body
 
   abbrev f' : Flight
   f' = record { entry = e; marked = false }
@@ -42,14 +38,14 @@ module _ {B : Type 0} (buffer : B → Buffer) (v : RingView) (slots : FinMap nat
     flying = ap (λ x. x ++ Item.Close k ∷ []) old.in_lists.flying ∙ ap (λ b. map item_of v.flying ++ item_in e b ∷ []) (sym body)
         ∙ sym (map-append item_of v.flying (f' ∷ []));
     done = old.in_lists.done;
-    in_queue = λ i x h. old.in_lists.in_queue (suc i) x (later i x h);
+    in_queue = λ i x h. old.in_lists.in_queue (suc i) x (behind-head v.queue e rest first i x h);
     in_flight = λ i x h. elim (get-pushed v.flying f' i x h) [
       | inl r ↦ old.in_lists.in_flight i x r
       | inr r ↦ subst (λ y. FlightFor buffer slots L.ops y y.entry.body) (sym r.1)
           (subst (λ b. FlightFor buffer slots L.ops f' b) (sym body) (here.0, here.1, refl))
     ];
     in_done = old.in_lists.in_done;
-    queue_once = λ i j x y h q a b s. (let z = old.in_lists.queue_once (suc i) (suc j) x y (later i x h) (later j y q) a b s in cc);
+    queue_once = once-behind _ _ v.queue e rest first old.in_lists.queue_once;
     flight_once = λ i j x y h q c d s. elim (get-pushed v.flying f' i x h) [
       | inl a ↦ elim (get-pushed v.flying f' j y q) [
         | inl b ↦ old.in_lists.flight_once i j x y a b c d s
@@ -60,7 +56,7 @@ module _ {B : Type 0} (buffer : B → Buffer) (v : RingView) (slots : FinMap nat
     done_once = old.in_lists.done_once;
     cancels = cancels-left v e rest first old.in_lists.cancels (v.flying ++ f' ∷ [])
         (λ i j f c key h q b s. elim (get-pushed v.flying f' i f h) [
-          | inl r ↦ old.in_lists.cancels.flown i (suc j) f c key r (later j c q) b s
+          | inl r ↦ old.in_lists.cancels.flown i (suc j) f c key r (behind-head v.queue e rest first j c q) b s
           | inr r ↦ absurd (not-call f r.1 s)
         ]);
   }

@@ -75,7 +75,7 @@ module _ {R B : Type 0} (view : R → RingView) (buffer : B → Buffer) (tells s
   }
   says = told-is view tells steady old mid new begun turned named bad has ends reaped closed woken
 
-  entered : Enters view tells old.ring mid.ring
+  abbrev entered : Enters view tells old.ring mid.ring
   entered = enters view tells steady old mid new begun turned named bad has ends reaped closed woken
 
   -- What is pending after the enter fits the queue.

@@ -7,7 +7,7 @@ use Rattle.ready_driver.specs.Registry.{Handling, is_users}
 use Rattle.ready_driver.proofs.Driven.{by_parts, stands-handling}
 use Rattle.ready_driver.proofs.Naming.{naming-written}
 use Rattle.ready_driver.proofs.Standing.{standing-held}
-use Rattle.ready_driver.proofs.Registering.{known-user}
+use Rattle.driver_core.proofs.Holds.{held-user}
 use Rattle.ready_driver.proofs.Showing.{shown-held}
 use Rattle.ready_driver.proofs.legacy.LegacyDriver.hold.Goals as goal
 
@@ -22,7 +22,7 @@ invariant_of-self g c =
           (with_user (holders_at table c.number.result)) c.self.invariant.0 refl),
       c.self.invariant.1,
       λ memory. shown-held g.I.NonBlock.view c.self.inside.untreated c.self.inside.registry c.hold.new.self c.number.result
-          (with_user (holders_at table c.number.result)) (known-user table c.number.result users) c.hold.ensures
+          (with_user (holders_at table c.number.result)) (held-user table c.number.result users) c.hold.ensures
           (c.self.invariant.2 memory),
     )
 

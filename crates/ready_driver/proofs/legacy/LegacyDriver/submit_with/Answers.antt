@@ -5,7 +5,7 @@ use Rattle.driver_core.specs.declared.operations.TheConstants.{MOST_GIVEN}
 use Rattle.driver_core.specs.Groups.{AreInSlots}
 use Rattle.driver_core.specs.Holds.{with_ops, CanJoin}
 use Rattle.driver_core.specs.Operations.{new_slot}
-use Rattle.driver_core.proofs.Placing.{in-slots-joined}
+use Rattle.driver_core.proofs.Placing.{in-slots-joined, joined-at}
 use Rattle.driver_core.proofs.Requests.{request-added}
 use Rattle.ready_driver.specs.LegacyCalls.{Unready}
 use Rattle.ready_driver.specs.LegacyState.{LegacyState, holds_all, group_count}
@@ -15,7 +15,7 @@ use Rattle.ready_driver.specs.Registry.{Handling, MakesReady}
 use Rattle.ready_driver.proofs.Driven.{by_parts}
 use Rattle.ready_driver.proofs.Events.{stands-canceled, stands-submits}
 use Rattle.ready_driver.proofs.Holding.{stands-unready, joins-handles}
-use Rattle.ready_driver.proofs.Naming.{naming-join, naming-joined, all-known, joined-at}
+use Rattle.ready_driver.proofs.Naming.{naming-join, naming-joined, all-known}
 use Rattle.ready_driver.proofs.Showing.{shown-ready, shown-joined}
 use Rattle.ready_driver.proofs.legacy.LegacyDriver.submit_with.Goals as goal
 

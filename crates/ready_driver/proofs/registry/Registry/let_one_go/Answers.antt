@@ -1,7 +1,8 @@
 use Rattle.std.proofs.Common.{◌<◌, sym, subst}
 use Rattle.handle_core.specs.Table.{holders_at, without_operation, without_handle}
 use Rattle.ready_driver.specs.Registry.{Handling, AreRecorded}
-use Rattle.ready_driver.proofs.Registering.{recorded-written, recorded-gone, known-op}
+use Rattle.driver_core.proofs.Holds.{held-op}
+use Rattle.ready_driver.proofs.Registering.{recorded-written, recorded-gone}
 use Rattle.ready_driver.proofs.registry.Registry.let_one_go.Goals as goal
 
 pub invariant_of-self : goal.invariant_of-self
@@ -10,7 +11,7 @@ invariant_of-self g c =
     let some = subst (λ (x : Handling g.row.I.Denot). 0 < (holders_at x.table c.args.h).operations) (sym c.self.view_is) c.requires in
     subst (λ t. AreRecorded t c.self.inside.records) (sym (c.release_op.ensures.stays c.in-Held.is))
     (recorded-written table c.self.inside.records c.self.invariant c.args.h (without_operation (holders_at table c.args.h))
-    (known-op table c.args.h some))
+    (held-op table c.args.h some))
 
 pub invariant_of-self-in-Last : goal.invariant_of-self-in-Last
 invariant_of-self-in-Last g c =

@@ -1,7 +1,8 @@
 use Rattle.std.proofs.Common.{◌≡◌, true, sym, subst}
 use Rattle.handle_core.specs.Table.{holders_at, without_user, without_handle}
 use Rattle.ready_driver.specs.Registry.{Handling, AreRecorded, is_users}
-use Rattle.ready_driver.proofs.Registering.{recorded-written, recorded-gone, known-user}
+use Rattle.driver_core.proofs.Holds.{held-user}
+use Rattle.ready_driver.proofs.Registering.{recorded-written, recorded-gone}
 use Rattle.ready_driver.proofs.registry.Registry.release.Goals as goal
 
 pub invariant_of-self : goal.invariant_of-self
@@ -10,7 +11,7 @@ invariant_of-self g c =
     let users = subst (λ (x : Handling g.row.I.Denot). is_users x.table c.args.h ≡ true) (sym c.self.view_is) c.requires in
     subst (λ t. AreRecorded t c.self.inside.records) (sym (c.release.ensures.stays c.in-Held.is))
     (recorded-written table c.self.inside.records c.self.invariant c.args.h (without_user (holders_at table c.args.h))
-    (known-user table c.args.h users))
+    (held-user table c.args.h users))
 
 pub invariant_of-self-in-Last : goal.invariant_of-self-in-Last
 invariant_of-self-in-Last g c =

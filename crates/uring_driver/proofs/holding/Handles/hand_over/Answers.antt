@@ -1,7 +1,8 @@
 use Rattle.std.proofs.Common.{◌<◌, sym, subst, arith}
 use Rattle.handle_core.specs.Table.{holders_at, handed}
 use Rattle.uring_driver.specs.Holding.{Holding, IsKept}
-use Rattle.uring_driver.proofs.Closings.{kept-written, held-op}
+use Rattle.uring_driver.proofs.Closings.{kept-written}
+use Rattle.driver_core.proofs.Holds.{held-op}
 use Rattle.uring_driver.proofs.holding.Handles.hand_over.Goals as goal
 
 pub invariant_of-self : goal.invariant_of-self

@@ -3,7 +3,8 @@ use Rattle.handle_core.specs.declared.table.Released.{Released}
 use Rattle.handle_core.specs.declared.table.Released.TheVariants.{Held, Last}
 use Rattle.handle_core.specs.Table.{Table, holders_at, with_holders, by_operation, without_operation}
 use Rattle.uring_driver.specs.Holding.{Holding, IsKept}
-use Rattle.uring_driver.proofs.Closings.{kept-closing, kept-written, room-kept, somebody-of, held-op}
+use Rattle.uring_driver.proofs.Closings.{kept-closing, kept-written, room-kept, somebody-of}
+use Rattle.driver_core.proofs.Holds.{held-op}
 use Rattle.uring_driver.proofs.holding.Handles.release_op.Goals as goal
 
 pub add_op_reserved-requires-clause-room : goal.add_op_reserved-requires-clause-room

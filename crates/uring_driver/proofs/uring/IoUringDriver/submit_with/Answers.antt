@@ -20,8 +20,8 @@ use Rattle.uring_driver.proofs.Holdings.{holding-reserved}
 use Rattle.uring_driver.proofs.Joining.{keeps-same, places-same, places-joined, may-join, holding-submitted}
 use Rattle.uring_driver.proofs.Sound.{sound-more, sound-keeps}
 use Rattle.driver_core.specs.Groups.{AreInSlots}
-use Rattle.driver_core.proofs.Placing.{in-slots-joined}
-use Rattle.uring_driver.proofs.Submits.{stands-submits, stands-canceled, why-refused, put-over, adds-over, joined-at}
+use Rattle.driver_core.proofs.Placing.{in-slots-joined, joined-at}
+use Rattle.uring_driver.proofs.Submits.{stands-submits, stands-canceled, why-refused, put-over, adds-over}
 use Rattle.uring_driver.proofs.uring.IoUringDriver.submit_with.Goals as goal
 
 pub invariant_of-self : goal.invariant_of-self
