@@ -177,7 +177,7 @@ module _ {B : Type 0} (old : FinMap nat_cmp (Slot B)) (key number : ℕ) (holds 
     pub calls-in-slot : CallsInSlot buffer called (get old key) (get new key) before after answer
     calls-in-slot = record {
       now = calls.now.request;
-      stays = ap request_in called-here;
+      stays = ap request_in (called-now calls);
       made = makes-call calls.now.request refl;
     }
 
@@ -185,7 +185,7 @@ module _ {B : Type 0} (old : FinMap nat_cmp (Slot B)) (key number : ℕ) (holds 
     pub calls-ended : (outcome : Outcome) (done : Done B) (behind : FinMap nat_cmp (Slot B)) → answer ≡ calling.Done outcome →
         EndsSlot new key outcome behind done → MakesCall buffer called (get old key) before after (calling.Done done.outcome) done.request
     calls-ended outcome done behind is ends =
-        let e = ends calls.now called-here in
+        let e = ends calls.now (called-now calls) in
         subst (λ a. MakesCall buffer called (get old key) before after a done.request) (is ∙ ap calling.Done (sym e.0)) (makes-call done.request e.1)
 
     -- Its outcome is how the call ended.
