@@ -1,5 +1,5 @@
 -- What opening a handle keeps of a driver.
-use Rattle.std.proofs.Common.{◌≡◌, ℕ, ◌||◌, Bool, true, false, List, refl, sym, ◌∙◌, ap, subst}
+use Rattle.std.proofs.Common.{◌≡◌, ℕ, ◌||◌, Bool, false, List, refl, sym, ◌∙◌, ap, subst}
 use Rattle.std.specs.Prelude.{is_some, unwrap_or, option_map, nat_le, IsTrue, Result, Ok, Err}
 use Rattle.std.specs.Ordering.{nat_cmp}
 use Rattle.std.specs.FinMap.{FinMap, get}
@@ -16,18 +16,14 @@ use Rattle.ready_driver.specs.Registry.{Handling, is_known, is_old, IsSameButRoo
 use Rattle.ready_driver.specs.Sockets.{IsGiven}
 use Rattle.ready_driver.specs.Turns.{AreShown}
 use Rattle.ready_driver.proofs.Naming.{naming-room, naming-given}
+use Rattle.ready_driver.proofs.Polled.{or-first}
 use Rattle.ready_driver.proofs.Showing.{shown-like, shown-given}
 use Rattle.handle_core.specs.Table.{Table}
-
--- Of two tests neither of which passes, the first doesn't.
-first-fails : (a b : Bool) → (a || b) ≡ false → a ≡ false
-first-fails true b is = (let f : ⊥ = cc in absurd f)
-first-fails false b is = refl
 
 -- A handle that can be new is nobody's, also where reserved memory has changed.
 pub unknown-new : (table now : Table) (h : ℕ) → now.holders ≡ table.holders → is_old table h ≡ false → is_known now h ≡ false
 unknown-new table now h same fresh =
-    ap (λ m. is_some (get m h)) same ∙ first-fails (is_known table h) (nat_le MOST_HANDLES h) fresh
+    ap (λ m. is_some (get m h)) same ∙ or-first (is_known table h) (nat_le MOST_HANDLES h) fresh
 
 -- A handle is opened: memory is taken, the object makes it, and its user gets it.
 pub opened-by : {I : Type 0} (view : I → IoView) (tells memory : Bool) (kind : HandleKind) (old way inside : Handling I) (io : I) (h fd : ℕ)

@@ -186,7 +186,8 @@ module _ {B : Type 0} (old : FinMap nat_cmp (Slot B)) (key number : ℕ) (holds 
         EndsSlot new key outcome behind done → MakesCall buffer called (get old key) before after (calling.Done done.outcome) done.request
     calls-ended outcome done behind is ends =
         let e = ends calls.now (called-now calls) in
-        subst (λ a. MakesCall buffer called (get old key) before after a done.request) (is ∙ ap calling.Done (sym e.0)) (makes-call done.request e.1)
+        subst (λ a. MakesCall buffer called (get old key) before after a done.request) (is ∙ ap calling.Done (sym e.0))
+        (makes-call done.request e.1)
 
     -- Its outcome is how the call ended.
     pub made-outcome : (outcome : Outcome) (done : Done B) (behind : FinMap nat_cmp (Slot B)) → EndsSlot new key outcome behind done →

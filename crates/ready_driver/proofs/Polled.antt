@@ -92,7 +92,7 @@ reported-room old new world same shows = λ h known.
     (shows h (ap (λ m. is_some (get m h)) (sym same.table) ∙ known))
 
 -- Of two tests that both fail, the first one does.
-or-first : (a b : Bool) → (a || b) ≡ false → a ≡ false
+pub or-first : (a b : Bool) → (a || b) ≡ false → a ≡ false
 or-first false b is = refl
 or-first true b is = is
 

@@ -19,7 +19,8 @@ use Rattle.ready_driver.specs.declared.ready.Direction.{Direction}
 use Rattle.ready_driver.specs.Awaits.{LeavesIf, LeavesFor}
 use Rattle.ready_driver.specs.Ready.{meets, mask_of}
 use Rattle.ready_driver.specs.ScheduledIo.{entry_of}
-use Rattle.ready_driver.specs.Records.{Kept, io_at, record_at, is_registered, with_record, without_record, changed, changed_if, with_registered}
+use Rattle.ready_driver.specs.Records.{Kept, io_at, record_at, is_registered, with_record, without_record, changed, changed_if}
+use Rattle.ready_driver.specs.Records.{with_registered}
 use Rattle.ready_driver.specs.Registry.{Handling, HasMadeRoom, is_known, AreRecorded}
 use Rattle.ready_driver.proofs.Recorded.{there-changed}
 

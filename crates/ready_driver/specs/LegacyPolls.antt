@@ -40,8 +40,8 @@ outcome_by table outcome (Some h) = outcome_if (is_old table h) outcome
 abbrev pub outcome_for : Table → Outcome → Outcome
 outcome_for table outcome = outcome_by table outcome (made_by outcome)
 
--- What a poll itself left of the handles, but for memory: their holders, and the bits and the waiting entries. One that is pending and waits
--- for a direction of a handle that is no file is, with its task, in that handle's waiting list.
+-- What a poll itself left of the handles, but for memory: their holders, and the bits and the waiting entries. A pending operation that
+-- waits for a direction of a handle which is no file is, with its task, in that handle's waiting list.
 pub record PollsHandling {I B : Type 0} (files : I → ℕ → Bool) (old mid : Handling I) (slot : Option (Slot B)) (number task : ℕ)
     (result : Result (PollOp B) (NoMemory × Token)) : Type 0 where
   pub table : mid.table.holders ≡ old.table.holders
@@ -49,8 +49,10 @@ pub record PollsHandling {I B : Type 0} (files : I → ℕ → Bool) (old mid : 
   pub room : records.handles ≡ old.records.handles
   pub leaves : LeavesFor (unless (files old.io) (slot_awaits slot)) records number task mid.records result
 
--- An operation was returned, by a call that ended so or without one: what it made is its user's, it holds its handles no more, and it is no member of its group.
-pub record EndsOp {I B : Type 0} (files : I → ℕ → Bool) (buffer : B → Buffer) (called : Called I) (view : I → IoView) (tells memory : Bool) (old new : LegacyState I B) (op : Token) (task : ℕ)
+-- An operation was returned, by a call that ended so or without one: what it made is its user's, it holds its handles no more, and it is no
+-- member of its group.
+pub record EndsOp {I B : Type 0} (files : I → ℕ → Bool) (buffer : B → Buffer) (called : Called I) (view : I → IoView)
+    (tells memory : Bool) (old new : LegacyState I B) (op : Token) (task : ℕ)
     (done : Done B) : Type 0 where
   pub mid : Handling I
   pub call : Outcome
@@ -66,14 +68,16 @@ pub record EndsOp {I B : Type 0} (files : I → ℕ → Bool) (buffer : B → Bu
   pub members : new.members ≡ leaves old.members op.number
 
 -- What a poll leaves of the handles and the groups, and which call it made: one at most. Only one that is ready lets handles go.
-abbrev pub EndsFor : {I B : Type 0} → (I → ℕ → Bool) → (B → Buffer) → Called I → (I → IoView) → Bool → Bool → LegacyState I B → LegacyState I B → Token → ℕ →
+abbrev pub EndsFor : {I B : Type 0} → (I → ℕ → Bool) → (B → Buffer) → Called I → (I → IoView) → Bool → Bool → LegacyState I B →
+    LegacyState I B → Token → ℕ →
     Result (PollOp B) (NoMemory × Token) → Type 0
 EndsFor files buffer called view tells memory old new op task (Ok (Pending back)) =
     PollsHandling files old.handling new.handling (map.get old.slots.values op.key) op.number task (Ok (Pending back))
     × (new.members ≡ old.members)
     × CallsOnce buffer called (map.get old.slots.values op.key) old.handling.io (map.get new.slots.values op.key) new.handling.io
     (Ok (Pending back))
-EndsFor files buffer called view tells memory old new op task (Ok (Ready done)) = EndsOp files buffer called view tells memory old new op task done
+EndsFor files buffer called view tells memory old new op task (Ok (Ready done)) =
+    EndsOp files buffer called view tells memory old new op task done
 EndsFor files buffer called view tells memory old new op task (Err error) =
     PollsHandling files old.handling new.handling (map.get old.slots.values op.key) op.number task (Err error)
     × (new.members ≡ old.members)

@@ -4,7 +4,7 @@ ghost use Rattle.std.specs.Prelude.{OnOk, OnErr};
 ghost use Rattle.rent_buf.specs.Counts.{Rose};
 ghost use Rattle.ring_core.specs.Attempt.{is_readable_at};
 ghost use Rattle.ring_core.specs.World.{fresh, look_at, WorldFeeds, WorldFeedsMessage, WorldEnds};
-ghost use Rattle.ready_driver.specs.Io.{CallsFor, FailRose, KeepsShown};
+ghost use Rattle.ready_driver.specs.Io.{FailRose, KeepsShown};
 ghost use Rattle.ready_driver.specs.MemIo.{memory_called, memory_files, memory_view, no_handles};
 ghost use Rattle.ready_driver.specs.Reports.{bits_of, report_of, reports_of, with_key, with_made_key};
 ghost use Rattle.std.specs.Vec.{vec_len, vec_capacity};

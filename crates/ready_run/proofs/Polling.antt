@@ -30,7 +30,8 @@ single-handed mid handed (Some h) hands = single-given mid.table handed.table h 
 
 -- That of a driver of which an operation was returned.
 pub single-ended : (old new : LegacyState Memory Buf) (op : Op) (task : ℕ) (done : Done Buf) →
-    EndsOp memory_files built memory_called memory_view true true old new op task done → AreSingle old.handling.table → AreSingle new.handling.table
+    EndsOp memory_files built memory_called memory_view true true old new op task done →
+    AreSingle old.handling.table → AreSingle new.handling.table
 single-ended old new op task done ends single =
     single-as (without_ops ends.handed.table (named done.request)) new.handling.table ends.lets.holders
     (single-left ends.handed.table (named done.request)

@@ -147,7 +147,7 @@ impl<R: Net> MioIo<R> {
         }
     }
 
-    // A wait for readiness: to read, of a stream, it blocks where a read would; else it is over once the driver asks, which it does when the
+    // A wait for readiness: to read a stream it blocks where a read would; else it is over once the driver asks, which it does when the
     // handle is reported.
     fn look(&mut self, h: u64, read: bool) -> CallAnswer
         ensures looks { MovesFor 0 self.old self.new result }

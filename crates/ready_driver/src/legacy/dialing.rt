@@ -1,5 +1,4 @@
 //! The handles that a readiness driver opens: listeners, and connections that it dials.
-ghost use Rattle.std.specs.Prelude.{◌≡◌, false};
 ghost use Rattle.ring_core.specs.declared.world.HandleKind.TheVariants.{Listener, Stream};
 ghost use Rattle.ready_driver.specs.Dialing.{OpensFor};
 ghost use Rattle.ready_driver.specs.LegacyState.{SameOps};

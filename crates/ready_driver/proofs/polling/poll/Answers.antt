@@ -10,7 +10,8 @@ use Rattle.ready_driver.specs.Io.{IsMade, CallsFor, AreDue}
 use Rattle.ready_driver.specs.Polling.{EndsSlot}
 use Rattle.ready_driver.proofs.Ended.{ready-reply, ready-stand, ready-rest, unmade-stand, blocks-driven, made-reply, made-stand, made-rest}
 use Rattle.ready_driver.proofs.Ended.{called-flies}
-use Rattle.ready_driver.proofs.Named.{ready-slots, ready-outcome, ready-request, called-named, calls-in-slot, calls-ended, unmade-slots, made-slots, made-outcome}
+use Rattle.ready_driver.proofs.Named.{ready-slots, ready-outcome, ready-request, called-named, calls-in-slot, calls-ended}
+use Rattle.ready_driver.proofs.Named.{unmade-slots, made-slots, made-outcome}
 use Rattle.ready_driver.proofs.polling.poll.Goals as goal
 
 pub returns-in-Ready-clause-polls : goal.returns-in-Ready-clause-polls
@@ -291,8 +292,8 @@ returns-in-Done-clause-calls g c =
     let ends = subst (λ key. EndsSlot c.call.new.self.slots.values key c.in-Done.outcome c.end.new.ops.slots.values c.end.result) same
     c.end.ensures.ends in
     inr (calls-ended c.args.ops.now.slots.values c.args.op.key c.args.op.number c.requires g.B.IoBufMut.buffer g.I.Calls.called c.args.task
-    c.poll.new.self.slots.values c.call.new.self.slots.values c.args.io.now c.call.new.caller (Done c.in-Done.outcome) c.in-Pending.ensures.polls calls
-    c.in-Done.outcome c.end.result c.end.new.ops.slots.values refl ends)
+    c.poll.new.self.slots.values c.call.new.self.slots.values c.args.io.now c.call.new.caller (Done c.in-Done.outcome)
+    c.in-Pending.ensures.polls calls c.in-Done.outcome c.end.result c.end.new.ops.slots.values refl ends)
 
 pub returns-in-WouldBlock-clause-calls : goal.returns-in-WouldBlock-clause-calls
 returns-in-WouldBlock-clause-calls g c =
@@ -301,7 +302,8 @@ returns-in-WouldBlock-clause-calls g c =
     c.call.new.self.slots.values c.call.new.caller WouldBlock =
     subst (λ key. CallsSlot g.B.IoBufMut.buffer g.I.Calls.called c.poll.new.self.slots.values key c.args.io.now
     c.call.new.self.slots.values c.call.new.caller WouldBlock) same c.in-WouldBlock.ensures.calls in
-    inr (calls-in-slot c.args.ops.now.slots.values c.args.op.key c.args.op.number c.requires g.B.IoBufMut.buffer g.I.Calls.called c.args.task
+    inr (calls-in-slot c.args.ops.now.slots.values c.args.op.key c.args.op.number c.requires g.B.IoBufMut.buffer
+    g.I.Calls.called c.args.task
     c.poll.new.self.slots.values c.call.new.self.slots.values c.args.io.now c.call.new.caller WouldBlock c.in-Pending.ensures.polls calls)
 
 pub returns-in-OutOfMemory-clause-calls : goal.returns-in-OutOfMemory-clause-calls
@@ -311,5 +313,6 @@ returns-in-OutOfMemory-clause-calls g c =
     c.call.new.self.slots.values c.call.new.caller OutOfMemory =
     subst (λ key. CallsSlot g.B.IoBufMut.buffer g.I.Calls.called c.poll.new.self.slots.values key c.args.io.now
     c.call.new.self.slots.values c.call.new.caller OutOfMemory) same c.in-OutOfMemory.ensures.calls in
-    inr (inr (calls-in-slot c.args.ops.now.slots.values c.args.op.key c.args.op.number c.requires g.B.IoBufMut.buffer g.I.Calls.called c.args.task
+    inr (inr (calls-in-slot c.args.ops.now.slots.values c.args.op.key c.args.op.number c.requires g.B.IoBufMut.buffer
+    g.I.Calls.called c.args.task
     c.poll.new.self.slots.values c.call.new.self.slots.values c.args.io.now c.call.new.caller OutOfMemory c.in-Pending.ensures.polls calls))

@@ -37,7 +37,8 @@ returns-in-Ok-Pending c = λ reported D stands.
     let there = sym c.in-Some.ensures.value in
     let kept = subst (λ answer. PollsTokens (ops_in old) (ops_in new) c.in-Some.op answer) c.in-Ok-Pending.field-0-is
     c.in-Ok-Pending.ensures.tokens in
-    let ends = subst (λ answer. EndsFor memory_files built memory_called memory_view true true old new c.in-Some.op c.args.task (Ok answer)) c.in-Ok-Pending.field-0-is
+    let ends = subst (λ answer. EndsFor memory_files built memory_called memory_view true true old new c.in-Some.op c.args.task
+    (Ok answer)) c.in-Ok-Pending.field-0-is
     c.in-Ok-Pending.ensures.ends in
     let waits = subst (λ answer. WaitsFor memory_view built D c.in-Some.op c.args.task new (Ok answer)) c.in-Ok-Pending.field-0-is
     (c.in-Ok-Pending.ensures.exact refl reported D stands.driver) in
@@ -57,7 +58,8 @@ returns-in-Ok-Ready c = λ reported D stands.
     let done = c.in-Ok-Ready.done in
     let drops = subst (λ answer. PollsTokens (ops_in old) (ops_in new) c.in-Some.op answer) c.in-Ok-Ready.field-0-is
     c.in-Ok-Ready.ensures.tokens in
-    let ends = subst (λ answer. EndsFor memory_files built memory_called memory_view true true old new c.in-Some.op c.args.task (Ok answer)) c.in-Ok-Ready.field-0-is
+    let ends = subst (λ answer. EndsFor memory_files built memory_called memory_view true true old new c.in-Some.op c.args.task
+    (Ok answer)) c.in-Ok-Ready.field-0-is
     c.in-Ok-Ready.ensures.ends in
     let polls = subst (λ answer. PollsFor memory_view built old D c.in-Some.op c.args.task new (Ok answer)) c.in-Ok-Ready.field-0-is
     (c.in-Ok-Ready.ensures.answers refl D stands.driver) in
