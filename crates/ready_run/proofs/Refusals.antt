@@ -58,7 +58,7 @@ pub cause-close : (D : Legacy) (h : ℕ) → holds_at D h ≡ false → legacy_c
 cause-close D h absent = ap (λ held. refused_if (not held || false) NoHandle None) absent
 
 -- Where each of two holds, both do.
-not-and : (a b : Bool) → (not a || not b) ≡ not (a && b)
+pub not-and : (a b : Bool) → (not a || not b) ≡ not (a && b)
 not-and true b = refl
 not-and false b = refl
 

@@ -65,11 +65,13 @@ single-released table h single k =
           omega (arith, a, b))
     ]
 
+-- A count that is at most one, and some, is one.
+pub once-counted : (k : ℕ) → k ≤ 1 → nat_lt 0 k ≡ true → (k == 1) ≡ true
+once-counted k few some = grind (arith, nat_tests)
+
 -- A handle that the user holds is held once by it.
 pub once-held : (table : Table) (h : ℕ) → AreSingle table → is_users table h ≡ true → ((holders_at table h).user == 1) ≡ true
-once-held table h single holds = (let few = single h in one (holders_at table h).user few holds) where
-  one : (k : ℕ) → k ≤ 1 → nat_lt 0 k ≡ true → (k == 1) ≡ true
-  one k few some = grind (arith, nat_tests)
+once-held table h single holds = once-counted (holders_at table h).user (single h) holds
 
 -- Asking for the cancel of an operation leaves who holds the handles, whether it has a place or not.
 asks-table_in : {I B : Type 0} (a : Asking I B) (number : ℕ) (key : Option ℕ) → (asks_in a number key).handling.table ≡ a.handling.table
@@ -89,6 +91,10 @@ found-within : (users : List Bool) (h : ℕ) (found : Option Bool) → slice_get
 found-within users h None is holds = (let f : ⊥ = cc in absurd f)
 found-within users h (Some b) is holds = slice_get_within users h b is
 
+-- The test finds a number that is less than another less than it.
+pub less-test : (a b : ℕ) → a < b → nat_lt a b ≡ true
+less-test a b order = grind (arith, nat_tests)
+
 -- The user holds a handle of the world exactly when it does as plain data.
 pub has-held : (driver : LegacyState Memory Buf) (D : Legacy) (h : ℕ) → LegacyStands memory_view built driver D →
     (is_users driver.handling.table h && nat_lt h (length driver.handling.io.world)) ≡ holds_at D h
@@ -96,11 +102,8 @@ has-held driver D h stands = at (holds_at D h) refl (is_users driver.handling.ta
     let a = found-within D.users h (slice_get D.users h) refl holds in
     let b = stands.handles.counted in
     let c = ap (λ w. length w) stands.parts.handles in
-    less h (length driver.handling.io.world) (omega (arith, a, b, c)))
+    less-test h (length driver.handling.io.world) (omega (arith, a, b, c)))
   where
-    less : (a b : ℕ) → a < b → nat_lt a b ≡ true
-    less a b order = grind (arith, nat_tests)
-
     at : (b : Bool) → holds_at D h ≡ b → (held : Bool) → held ≡ holds_at D h →
         (holds_at D h ≡ true → nat_lt h (length driver.handling.io.world) ≡ true) →
         (held && nat_lt h (length driver.handling.io.world)) ≡ holds_at D h

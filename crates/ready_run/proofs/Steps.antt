@@ -143,10 +143,6 @@ answers-taken old new D n op event reply stands there tokens groups plain taken 
   };
 }
 
--- A list with one element more.
-length-added : {A : Type 0} (xs : List A) (x : A) → length (xs ++ x ∷ []) ≡ length xs + 1
-length-added xs x = length-append xs (x ∷ [])
-
 -- A new operation's token stands at the end.
 pub answers-added : (old new : ReadySession) (D : Legacy) (op : Op) (request : Request Buffer Parts) (under : Option ℕ) (reply : Reply) →
     SessionStands old D → by_number new.tokens ≡ by_number old.tokens ++ Some op ∷ [] → KeepsGroups old.tokens new.tokens →
@@ -157,7 +153,7 @@ answers-added old new D op request under reply stands tokens groups adds single 
   stands = record {
     driver = answers.stands;
     single = single stands.single;
-    numbered = ap (λ items. length items) tokens ∙ length-added (by_number old.tokens) (Some op)
+    numbered = ap (λ items. length items) tokens ∙ length-append (by_number old.tokens) (Some op ∷ [])
         ∙ ap (λ k. k + 1) stands.numbered ∙ sym adds.next;
     tokens = subst (λ items. AreHeld items (ops_in new.driver)) (sym tokens)
         (are_held-added (by_number old.tokens) (ops_in old.driver) (ops_in new.driver) op stands.numbered stands.tokens adds);

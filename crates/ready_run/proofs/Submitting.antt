@@ -1,10 +1,11 @@
 -- Which submissions a session refuses, by what a driver as plain data refuses them with.
 use Rattle.std.proofs.Common.{◌≡◌, ◌<◌, ◌≤◌, ℕ, Bool, true, false, not, ◌&&◌, length, Option, None, Some, refl, sym, ◌∙◌, ap}
 use Rattle.std.specs.Prelude.{nat_le}
+use Rattle.std.proofs.Math.Bool.{and-false}
 use Rattle.std.proofs.lemmas.Option.{slice_get_within}
 use Rattle.rent_buf.specs.Buffer.{Buffer}
 use Rattle.rent_buf.specs.Parts.{Parts}
-use Rattle.ring_core.specs.Ledger.{is_marked, is_under_marked}
+use Rattle.ring_core.specs.Ledger.{Ledger, is_marked, is_under_marked}
 use Rattle.ring_core.specs.Lists.{passes}
 use Rattle.ring_core.specs.Refusal.{refused_if, has_no_canceller}
 use Rattle.ring_core.specs.Request.{named}
@@ -35,12 +36,12 @@ causes D request under unmade lacks full u l f =
     ∙ ap (λ b. refused_if unmade NoCanceller (refused_if lacks NoHandle (refused_if b Full None))) f
 
 -- The cancel handle of a submission under a group was created.
-made-under : (D : Legacy) (request : Request Buffer Parts) (group under : Option ℕ) → IsUnder (seen D) group under →
-    has_no_canceller (seen D) (Submit request under) ≡ false
-made-under D request None under is = ap (λ u. has_no_canceller (seen D) (Submit request u)) is
-made-under D request (Some g) None is = absurd (let none : ◌≡◌ {A = Option ℕ} None (Some g) = is in cc)
-made-under D request (Some g) (Some handle) is =
-    below-test (length D.cancel_handles) handle (slice_get_within D.cancel_handles handle g is)
+pub made-under : (L : Ledger) (request : Request Buffer Parts) (group under : Option ℕ) → IsUnder L group under →
+    has_no_canceller L (Submit request under) ≡ false
+made-under L request None under is = ap (λ u. has_no_canceller L (Submit request u)) is
+made-under L request (Some g) None is = absurd (let none : ◌≡◌ {A = Option ℕ} None (Some g) = is in cc)
+made-under L request (Some g) (Some handle) is =
+    below-test (length L.cancel_handles) handle (slice_get_within L.cancel_handles handle g is)
 
 -- The user holds each handle that a submission names where the driver says so.
 lacks-none : (session : ReadySession) (D : Legacy) (request : Request Buffer Parts) (held : Bool) → SessionStands session D →
@@ -62,7 +63,7 @@ pub cause-submit_handle : (session : ReadySession) (D : Legacy) (request : Reque
     legacy_cause D (Submit request under) ≡ Some NoHandle
 cause-submit_handle session D request group under stands is absent =
     causes D request under false true (is_full D under)
-    (made-under D request group under is) (lacks-none session D request false stands absent) refl
+    (made-under (seen D) request group under is) (lacks-none session D request false stands absent) refl
 
 -- Where as many operations as there may be are live, another one is refused as Full, unless its group is marked.
 pub cause-submit_full : (session : ReadySession) (D : Legacy) (request : Request Buffer Parts) (group under : Option ℕ) (live : ℕ)
@@ -70,7 +71,7 @@ pub cause-submit_full : (session : ReadySession) (D : Legacy) (request : Request
     holds_all session.driver.handling.table (named request) ≡ true → live ≡ live_slots session.driver → MOST_LIVE ≤ live →
     marked ≡ is_under_marked (seen D) under → marked ≡ false → legacy_cause D (Submit request under) ≡ Some Full
 cause-submit_full session D request group under live marked stands is held count full same unmarked =
-    causes D request under false false true (made-under D request group under is) (lacks-none session D request true stands held)
+    causes D request under false false true (made-under (seen D) request group under is) (lacks-none session D request true stands held)
     (ap (λ b. not b && nat_le MOST_LIVE (length (live_at D))) (sym same ∙ unmarked)
     ∙ ap (λ k. nat_le MOST_LIVE k) (sym stands.driver.live ∙ sym count) ∙ past-test MOST_LIVE live full)
 
@@ -79,20 +80,15 @@ pub unrefused-marked : (session : ReadySession) (D : Legacy) (request : Request 
     SessionStands session D → IsUnder (seen D) group under → holds_all session.driver.handling.table (named request) ≡ true →
     marked ≡ is_under_marked (seen D) under → marked ≡ true → legacy_cause D (Submit request under) ≡ None
 unrefused-marked session D request group under marked stands is held same marks =
-    causes D request under false false false (made-under D request group under is) (lacks-none session D request true stands held)
+    causes D request under false false false (made-under (seen D) request group under is) (lacks-none session D request true stands held)
     (ap (λ b. not b && nat_le MOST_LIVE (length (live_at D))) (sym same ∙ marks))
-
--- Nothing is both.
-and-false : (b : Bool) → (b && false) ≡ false
-and-false true = refl
-and-false false = refl
 
 -- Nor is one refused where fewer operations are live.
 pub unrefused-fewer : (session : ReadySession) (D : Legacy) (request : Request Buffer Parts) (group under : Option ℕ) (live : ℕ) →
     SessionStands session D → IsUnder (seen D) group under → holds_all session.driver.handling.table (named request) ≡ true →
     live ≡ live_slots session.driver → live < MOST_LIVE → legacy_cause D (Submit request under) ≡ None
 unrefused-fewer session D request group under live stands is held count fewer =
-    causes D request under false false false (made-under D request group under is) (lacks-none session D request true stands held)
+    causes D request under false false false (made-under (seen D) request group under is) (lacks-none session D request true stands held)
     (ap (λ b. not (is_under_marked (seen D) under) && b) (ap (λ k. nat_le MOST_LIVE k)
     (sym stands.driver.live ∙ sym count) ∙ below-test MOST_LIVE live fewer)
     ∙ and-false (not (is_under_marked (seen D) under)))

@@ -23,7 +23,7 @@ use Rattle.driver_core.specs.declared.tokens.Tokens.{Tokens}
 use Rattle.driver_core.specs.Tokens.{token_at, by_number, cancellers_in, handles_in}
 use Rattle.session_core.specs.Session.{AreSingle, HasGroups, SessionStands, SessionAnswers}
 use Rattle.session_core.specs.Submission.{IsUnmade}
-use Rattle.session_core.proofs.KeptGroups.{canceller-there, canceller-past, canceller-renewed}
+use Rattle.ready_run.proofs.Kept.{canceller-there, canceller-past, canceller-renewed}
 use Rattle.session_core.proofs.Refusals.{unrefused-new_handle, unrefused-cancel_all}
 use Rattle.session_core.proofs.Steps.{stands-beside, stands-unmoved}
 

@@ -1,3 +1,4 @@
+pub mod Driven
 mod Commands
 mod KeptGroups
 mod Refusals
@@ -12,5 +13,5 @@ mod Reading
 mod Replying
 mod Generating
 mod Endings
-mod Parts
+pub mod Parts
 mod Completing

@@ -24,7 +24,8 @@ use Rattle.driver_core.specs.declared.tokens.Tokens.{Tokens}
 use Rattle.driver_core.specs.Tokens.{by_number}
 use Rattle.session_core.specs.Session.{PartsStand, AreParts, AreSingle}
 use Rattle.driver_core.proofs.KeptTokens.{are_held-kept}
-use Rattle.session_core.proofs.KeptGroups.{groups-same, groups-kept, groups-step}
+use Rattle.ready_run.proofs.Kept.{groups-same}
+use Rattle.session_core.proofs.KeptGroups.{groups-kept, groups-step}
 use Rattle.session_core.proofs.Single.{single-same, single-turned}
 use Rattle.session_core.proofs.Steps.{stopped-same}
 

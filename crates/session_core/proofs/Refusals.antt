@@ -22,6 +22,7 @@ use Rattle.driver_core.specs.Slots.{waiting, life_of, life_at}
 use Rattle.driver_core.proofs.Owned.{owned-slot}
 use Rattle.driver_core.proofs.SlotTokens.{held-slot}
 use Rattle.uring_driver.proofs.Steps.{below-test, past-test}
+use Rattle.ready_run.proofs.Refusals.{not-and}
 use Rattle.session_core.specs.declared.session.Session.{Session}
 use Rattle.driver_core.specs.Tokens.{token_at, by_number}
 use Rattle.session_core.specs.Session.{SessionStands}
@@ -54,11 +55,6 @@ cause-close L h absent = ap (λ held. refused_if (not held || false) NoHandle No
 -- A look at a handle that the user holds isn't refused.
 pub unrefused-look : (L : Ledger) (h : ℕ) → user_holds L h ≡ true → cause L (Look h) ≡ None
 unrefused-look L h present = ap (λ held. refused_if (not held || false) NoHandle None) present
-
--- Where each of two holds, both do.
-not-and : (a b : Bool) → (not a || not b) ≡ not (a && b)
-not-and true b = refl
-not-and false b = refl
 
 -- The user lacks one of some handles where the driver doesn't hold all of them.
 pub lacks_handle-holds_all : (driver : IoUringDriver RingView Buf) (L : Ledger) → ((h : ℕ) → holds_handle driver h ≡ user_holds L h) →

@@ -17,20 +17,14 @@ use Rattle.session_core.specs.declared.session.Session.{Session}
 use Rattle.session_core.specs.DriverKind.{AnswersOn, DriverKind, completion, readiness}
 use Rattle.session_core.specs.DriverKind.{after_on, next_on, replies_on, reply_on}
 use Rattle.session_core.specs.Session.{SessionStands, SessionAnswers}
-use Rattle.session_core.proofs.Runs.{get-there, after-one_more}
+use Rattle.ready_run.proofs.Runs.{after-next, get-there, one-reply-each}
+use Rattle.session_core.proofs.Runs.{after-one_more}
 
 -- What was found at a place is the element there.
 found-there : (rs : List Reply) (k : ℕ) (r : Reply) → slice_get rs k ≡ Some r → (k < length rs) × (r ≡ get_or rs k r)
 found-there [] k r is = absurd (cc)
 found-there (x ∷ rs) zero r is = (omega arith, (let same : x ≡ r = cc in sym same))
 found-there (x ∷ rs) (suc k) r is = let more = found-there rs k r is in (omega (arith, more.0), more.1)
-
--- The ledger behind one spelled event more.
-spelled-next : (L : Ledger) (events : List Event) (k : ℕ) (event : Event) → slice_get events k ≡ Some event →
-    spelled_after L (take (suc k) events) ≡ ledger_behind (spelled_after L (take k events)) event
-spelled-next L [] k event there = absurd (let never : ◌≡◌ {A = Option Event} None (Some event) = there in cc)
-spelled-next L (x ∷ events) zero event there = (let same : x ≡ event = cc in ap (λ e. ledger_behind L e) same)
-spelled-next L (x ∷ events) (suc k) event there = spelled-next (ledger_behind L x) events k event there
 
 -- The reply to a spelled event is that from the ledger before it.
 spelled-at : (L : Ledger) (events : List Event) (k : ℕ) (event : Event) → slice_get events k ≡ Some event →
@@ -39,16 +33,11 @@ spelled-at L [] k event there = absurd (let never : ◌≡◌ {A = Option Event}
 spelled-at L (x ∷ events) zero event there = (let same : x ≡ event = cc in ap (λ e. Some (reply_on readiness L e)) same)
 spelled-at L (x ∷ events) (suc k) event there = spelled-at (ledger_behind L x) events k event there
 
--- There is one reply for each spelled event.
-length-spelled : (L : Ledger) (events : List Event) → length (spelled_replies L events) ≡ length events
-length-spelled L [] = refl
-length-spelled L (x ∷ events) = ap suc (length-spelled (ledger_behind L x) events)
-
 -- The ledger behind one event more, on each driver.
 after-on_next : (driver : DriverKind) (L : Ledger) (events : List Event) (k : ℕ) (event : Event) → slice_get events k ≡ Some event →
     after_on driver L (take (suc k) events) ≡ next_on driver (after_on driver L (take k events)) event
 after-on_next completion L events k event there = after-one_more L events k (suc k) event refl there
-after-on_next readiness L events k event there = spelled-next L events k event there
+after-on_next readiness L events k event there = after-next L events k event there
 
 -- The reply to an event is that from the ledger before it, on each driver.
 reply-on_at : (driver : DriverKind) (L : Ledger) (events : List Event) (k : ℕ) (event : Event) → slice_get events k ≡ Some event →
@@ -101,7 +90,7 @@ take-all (x ∷ xs) (suc k) is = ap (λ ys. x ∷ ys) (take-all xs k (omega arit
 pub all-replied : (driver : DriverKind) (L : Ledger) (events : List Event) (k : ℕ) → k ≡ length events →
     k ≡ length (replies_on driver L events)
 all-replied completion L events k is = is ∙ sym (length-replies L events)
-all-replied readiness L events k is = is ∙ sym (length-spelled L events)
+all-replied readiness L events k is = is ∙ sym (one-reply-each L events)
 
 -- One reply more is counted where it passes the test.
 pub count-next : (test : Reply → Bool) (rs : List Reply) (k old new : ℕ) (r : Reply) → k < length rs → r ≡ get_or rs k r →

@@ -4,12 +4,8 @@ use Rattle.std.proofs.Common.{◌+◌, ◌++◌, add-one, append-nil, arith}
 use Rattle.std.specs.Prelude.{MatchOption, Option, Some, None}
 use Rattle.std.specs.List.{AllZip}
 use Rattle.ring_core.specs.declared.ledger.Event.{Event}
-use Rattle.ring_core.specs.declared.ledger.Event.TheVariants.{Give, Feed, FeedMessage, End, Look, Close, Submit, Poll, Drop, Cancel}
-use Rattle.ring_core.specs.declared.ledger.Event.TheVariants.{NewCanceller, NewHandle, CancelAll, Turn, Exec}
 use Rattle.ring_core.specs.declared.ledger.Reply.{Reply}
 use Rattle.ring_core.specs.Ledger.{Ledger}
-use Rattle.ready_driver.specs.Readiness.{IsDriven}
-use Rattle.event_text.specs.TextEvent.{IsExternal}
 use Rattle.event_text.specs.TextLines.{AreEventsFor, IsWrong, lines}
 use Rattle.event_text.proofs.TextEvents.{stands_once}
 use Rattle.event_text.proofs.TextLinesRead.{IsFirstEvent, right-first}
@@ -18,6 +14,7 @@ use Rattle.session_core.specs.declared.output.Unwritten.{Unwritten}
 use Rattle.session_core.specs.DriverKind.{AnswersOn, DriverKind, StandsOn, Takes, after_on, completion, readiness, replies_on}
 use Rattle.session_core.specs.Top.{ended, reply_lines}
 use Rattle.session_core.specs.Writes.{Sent, WhyUnwritten}
+use Rattle.session_core.proofs.Driven.{is_driven}
 use Rattle.session_core.proofs.Replying.{all-replied, answered-next, take-all}
 use Rattle.session_core.proofs.Writing.{prefix-sent, reply-unwritten, reply-written, starts-lines}
 
@@ -109,24 +106,7 @@ ran-all driver (byte ∷ rest) events k end within stand = absurd (omega arith)
 -- A driver takes the event that a line of it stands for.
 pub stands-taken : (driver : DriverKind) (line : List ℕ) (event : Event) → StandsOn driver line event → Takes driver event
 stands-taken completion line event stands = tt
-stands-taken readiness line event stands = is-driven event stands.external
-  where
-    is-driven : (event : Event) → IsExternal event → IsDriven event
-    is-driven (Give kind) external = tt
-    is-driven (Feed h bytes) external = tt
-    is-driven (FeedMessage h addr bytes) external = tt
-    is-driven (End h) external = tt
-    is-driven (Look h) external = tt
-    is-driven (Close h) external = tt
-    is-driven (Submit request under) external = tt
-    is-driven (Poll n task) external = tt
-    is-driven (Drop n) external = tt
-    is-driven (Cancel n) external = tt
-    is-driven NewCanceller external = tt
-    is-driven (NewHandle c) external = tt
-    is-driven (CancelAll c) external = tt
-    is-driven Turn external = absurd external
-    is-driven (Exec place told) external = absurd external
+stands-taken readiness line event stands = is_driven event stands.external
 
 -- The next event ran, and the text of its reply was written, or waits to be.
 pub ran-next : {S : Type 0} (standing : S → Ledger → Type 0) (driver : DriverKind) (tells : Bool) (old session new : S)

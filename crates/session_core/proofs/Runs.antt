@@ -10,12 +10,6 @@ use Rattle.ring_core.specs.Run.{after, replies}
 use Rattle.ring_core.proofs.Keeping.{drop-suc}
 use Rattle.run_laws.proofs.Replies.{after-next}
 
--- The element at a place that is there.
-pub get-there : {A : Type 0} (xs : List A) (n : ℕ) (x : A) → n < length xs → x ≡ get_or xs n x → slice_get xs n ≡ Some x
-get-there [] n x in_range is = absurd (omega arith)
-get-there (y ∷ xs) zero x in_range is = ap Some (sym is)
-get-there (y ∷ xs) (suc n) x in_range is = get-there xs n x (omega arith) is
-
 -- The ledger after one event more.
 pub after-one_more : (L : Ledger) (events : List Event) (k n : ℕ) (event : Event) → n ≡ suc k → slice_get events k ≡ Some event →
     after L (take n events) ≡ (step (after L (take k events)) event).0

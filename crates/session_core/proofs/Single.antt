@@ -46,6 +46,7 @@ use Rattle.driver_core.specs.declared.op.Op.{Op}
 use Rattle.driver_core.specs.Slot.{is_flying}
 use Rattle.driver_core.proofs.SlotTokens.{held-slot}
 use Rattle.session_core.specs.Session.{AreSingle}
+use Rattle.ready_run.proofs.Single.{less-test, once-counted}
 
 -- A driver that keeps who holds its handles.
 pub single-same : (old new : IoUringDriver RingView Buf) → holding_in new ≡ holding_in old → AreSingle old → AreSingle new
@@ -232,11 +233,8 @@ has-held driver L h stands = at (user_holds L h) refl (holds_handle driver h) (s
     subst (λ M. AreKnown M) (sym stands.reached) (lawful-ledger (ring_in driver).capacity stands.events).known in
     let b = known.together in
     let c = ap (λ w. length w) stands.ring.world in
-    less h (length (ring_in driver).world) (omega (arith, a, b, c)))
+    less-test h (length (ring_in driver).world) (omega (arith, a, b, c)))
   where
-    less : (a b : ℕ) → a < b → nat_lt a b ≡ true
-    less a b order = grind (arith, nat_tests)
-
     at : (b : Bool) → user_holds L h ≡ b → (held : Bool) → held ≡ user_holds L h →
         (user_holds L h ≡ true → nat_lt h (length (ring_in driver).world) ≡ true) →
         (held && nat_lt h (length (ring_in driver).world)) ≡ user_holds L h
@@ -246,9 +244,7 @@ has-held driver L h stands = at (user_holds L h) refl (holds_handle driver h) (s
 -- A handle that the user holds is held once by it.
 pub once-held : (driver : IoUringDriver RingView Buf) (h : ℕ) → AreSingle driver → holds_handle driver h ≡ true →
     (user_count (holding_in driver) h == 1) ≡ true
-once-held driver h single holds = (let few = single h in one (user_count (holding_in driver) h) few holds) where
-  one : (k : ℕ) → k ≤ 1 → nat_lt 0 k ≡ true → (k == 1) ≡ true
-  one k few some = grind (arith, nat_tests)
+once-held driver h single holds = once-counted (user_count (holding_in driver) h) (single h) holds
 
 -- One of which an operation was dropped.
 pub single-dropped : (old new : IoUringDriver RingView Buf) (op : Op) → Holds old op → DropsOp (λ r. r) true old new op →

@@ -50,7 +50,8 @@ use Rattle.session_core.specs.declared.session.Session.{Session}
 use Rattle.driver_core.specs.Tokens.{token_at, by_number, KeepsGroups}
 use Rattle.session_core.specs.Session.{AreHeld, AreSingle, HasGroups, SessionStands, SessionAnswers, StepsFor}
 use Rattle.driver_core.proofs.KeptTokens.{are_held-kept, are_held-taken, are_held-added}
-use Rattle.session_core.proofs.KeptGroups.{SameTokens, groups-kept, groups-step, groups-submitted}
+use Rattle.ready_run.proofs.Kept.{SameTokens}
+use Rattle.session_core.proofs.KeptGroups.{groups-kept, groups-step, groups-submitted}
 use Rattle.session_core.proofs.Single.{single-kept}
 
 -- A session that keeps its operations' tokens stands for a ledger where its driver does, which has nothing due and holds the tokens that it
@@ -179,10 +180,6 @@ answers-taken old new L n op event reply stands there tokens groups plain taken 
   };
 }
 
--- A list with one element more.
-length-added : {A : Type 0} (xs : List A) (x : A) → length (xs ++ x ∷ []) ≡ length xs + 1
-length-added xs x = length-append xs (x ∷ [])
-
 -- A new operation's token stands at the end.
 pub answers-added : (old new : Session) (L : Ledger) (op : Op) (request : Request Buffer Parts) (under : Option ℕ) (reply : Reply) →
     SessionStands old L → by_number new.tokens ≡ by_number old.tokens ++ Some op ∷ [] → KeepsGroups old.tokens new.tokens →
@@ -194,7 +191,7 @@ answers-added old new L op request under reply stands tokens groups adds due sin
     driver = answers.stands;
     none_due = due stands.none_due;
     single = single stands.single;
-    numbered = ap (λ items. length items) tokens ∙ length-added (by_number old.tokens) (Some op)
+    numbered = ap (λ items. length items) tokens ∙ length-append (by_number old.tokens) (Some op ∷ [])
         ∙ ap (λ k. k + 1) stands.numbered ∙ sym adds.next;
     tokens = subst (λ items. AreHeld items new.driver) (sym tokens)
         (are_held-added (by_number old.tokens) (ops_in old.driver) (ops_in new.driver) op stands.numbered stands.tokens adds);

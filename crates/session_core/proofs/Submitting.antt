@@ -1,7 +1,7 @@
 -- Which submissions a session refuses, by the causes that the machine names.
 use Rattle.std.proofs.Common.{◌≡◌, ◌<◌, ◌≤◌, ℕ, Bool, true, false, not, ◌&&◌, length, Option, None, Some, refl, sym, ◌∙◌, ap}
 use Rattle.std.specs.Prelude.{nat_le}
-use Rattle.std.proofs.lemmas.Option.{slice_get_within}
+use Rattle.std.proofs.Math.Bool.{and-false}
 use Rattle.rent_buf.specs.Buffer.{Buffer}
 use Rattle.rent_buf.specs.Parts.{Parts}
 use Rattle.ring_core.specs.Ledger.{Ledger, live_ops, is_marked, is_under_marked}
@@ -15,6 +15,7 @@ use Rattle.ring_core.specs.Refusal.{cause, refused_if, has_no_canceller, lacks_h
 use Rattle.driver_core.specs.Answers.{IsUnder}
 use Rattle.uring_driver.specs.Uring.{holds_all, live_slots}
 use Rattle.uring_driver.proofs.Steps.{below-test, past-test}
+use Rattle.ready_run.proofs.Submitting.{made-under}
 use Rattle.session_core.specs.declared.session.Session.{Session}
 use Rattle.session_core.specs.Session.{SessionStands}
 use Rattle.session_core.specs.Submission.{IsUnmade}
@@ -31,14 +32,6 @@ causes L request under unmade lacks full u l f =
     ∙ ap (λ b. refused_if unmade NoCanceller (refused_if b NoHandle
     (refused_if (not (is_under_marked L under) && nat_le MOST_LIVE (length (live_ops L))) Full None))) l
     ∙ ap (λ b. refused_if unmade NoCanceller (refused_if lacks NoHandle (refused_if b Full None))) f
-
--- The cancel handle of a submission under a group was created.
-made-under : (L : Ledger) (request : Request Buffer Parts) (group under : Option ℕ) → IsUnder L group under →
-    has_no_canceller L (Submit request under) ≡ false
-made-under L request None under is = ap (λ u. has_no_canceller L (Submit request u)) is
-made-under L request (Some g) None is = absurd (let none : ◌≡◌ {A = Option ℕ} None (Some g) = is in cc)
-made-under L request (Some g) (Some handle) is =
-    below-test (length L.cancel_handles) handle (slice_get_within L.cancel_handles handle g is)
 
 -- The user holds each handle that a submission names where the driver says so.
 lacks-none : (session : Session) (L : Ledger) (request : Request Buffer Parts) (held : Bool) → SessionStands session L →
@@ -80,11 +73,6 @@ pub unrefused-marked : (session : Session) (L : Ledger) (request : Request Buffe
 unrefused-marked session L request group under marked stands is held same marks =
     causes L request under false false false (made-under L request group under is) (lacks-none session L request true stands held)
     (ap (λ b. not b && nat_le MOST_LIVE (length (live_ops L))) (sym same ∙ marks))
-
--- Nothing is both.
-and-false : (b : Bool) → (b && false) ≡ false
-and-false true = refl
-and-false false = refl
 
 -- Nor is one refused where fewer operations are live.
 pub unrefused-fewer : (session : Session) (L : Ledger) (request : Request Buffer Parts) (group under : Option ℕ) (live : ℕ) →

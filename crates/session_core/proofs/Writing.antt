@@ -1,6 +1,6 @@
 -- What was written of a text.
 use Rattle.std.proofs.Common.{◌≡◌, ◌<◌, ◌≤◌, ℕ, zero, suc, ◌+◌, Bool, IsTrue, List, [], ◌∷◌, ◌++◌, length, take, get_or, refl, sym, ◌∙◌, ap}
-use Rattle.std.proofs.Common.{subst, add-one, append_assoc, arith}
+use Rattle.std.proofs.Common.{subst, add-one, append-nil, append_assoc, arith}
 use Rattle.std.specs.Prelude.{Result, Ok, Err}
 use Rattle.ring_core.specs.declared.ledger.Reply.{Reply}
 use Rattle.rent_io.specs.declared.source.Failed.{Failed}
@@ -26,11 +26,7 @@ starts-lines (suc k) (r ∷ rs) =
 pub lines-next : (k : ℕ) (rs : List Reply) (r : Reply) → k < length rs → r ≡ get_or rs k r →
     reply_lines (take (suc k) rs) ≡ reply_lines (take k rs) ++ ended (reply_text r)
 lines-next k [] r within is = absurd (omega (arith, within))
-lines-next zero (x ∷ rs) r within is = ap (λ y. ended (reply_text y) ++ []) (sym is) ∙ append-none (ended (reply_text r))
-  where
-    append-none : (xs : List ℕ) → xs ++ [] ≡ xs
-    append-none [] = refl
-    append-none (y ∷ ys) = ap (λ zs. y ∷ zs) (append-none ys)
+lines-next zero (x ∷ rs) r within is = ap (λ y. ended (reply_text y) ++ []) (sym is) ∙ append-nil (ended (reply_text r))
 lines-next (suc k) (x ∷ rs) r within is =
     ap (λ xs. ended (reply_text x) ++ xs) (lines-next k rs r (omega (arith, within)) is)
     ∙ sym (append_assoc (ended (reply_text x)) (reply_lines (take k rs)) (ended (reply_text r)))

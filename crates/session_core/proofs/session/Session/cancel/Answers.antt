@@ -5,7 +5,7 @@ use Rattle.ring_core.specs.declared.ledger.Reply.TheVariants.{Asked}
 use Rattle.uring_driver.specs.Stands.{Answers}
 use Rattle.session_core.proofs.Refusals.{cause-cancel, no_token-lacks, token-owns, unrefused-cancel}
 use Rattle.session_core.proofs.Single.{single-same}
-use Rattle.session_core.proofs.KeptGroups.{tokens-same}
+use Rattle.ready_run.proofs.Kept.{tokens-same}
 use Rattle.session_core.proofs.Steps.{answers-kept, answers-refused, stands-kept}
 use Rattle.session_core.proofs.session.Session.cancel.Goals as goal
 

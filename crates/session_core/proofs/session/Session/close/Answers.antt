@@ -5,7 +5,7 @@ use Rattle.uring_driver.specs.Holding.{user_count}
 use Rattle.uring_driver.specs.Uring.{holding_in}
 use Rattle.session_core.proofs.Refusals.{cause-close}
 use Rattle.session_core.proofs.Single.{once-held, single-released}
-use Rattle.session_core.proofs.KeptGroups.{tokens-same}
+use Rattle.ready_run.proofs.Kept.{tokens-same}
 use Rattle.session_core.proofs.Steps.{answers-kept, answers-refused}
 use Rattle.session_core.proofs.session.Session.close.Goals as goal
 

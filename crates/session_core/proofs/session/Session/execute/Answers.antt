@@ -1,6 +1,6 @@
 use Rattle.std.proofs.Common.{◌∙◌}
 use Rattle.session_core.proofs.Single.{single-same}
-use Rattle.session_core.proofs.KeptGroups.{tokens-same}
+use Rattle.ready_run.proofs.Kept.{tokens-same}
 use Rattle.session_core.proofs.Steps.{answers-executed, steps-unexecuted}
 use Rattle.session_core.proofs.session.Session.execute.Goals as goal
 

@@ -3,7 +3,7 @@ use Rattle.ring_core.specs.declared.ledger.Event.TheVariants.{FeedMessage}
 use Rattle.uring_driver.specs.Handles.{RefusedFor}
 use Rattle.session_core.proofs.Refusals.{cause-message}
 use Rattle.session_core.proofs.Single.{has-held, single-same}
-use Rattle.session_core.proofs.KeptGroups.{tokens-same}
+use Rattle.ready_run.proofs.Kept.{tokens-same}
 use Rattle.session_core.proofs.Steps.{answers-kept, answers-refused, stands-same}
 use Rattle.session_core.proofs.session.Session.feed_message.Goals as goal
 

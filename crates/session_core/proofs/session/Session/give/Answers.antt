@@ -1,6 +1,6 @@
 use Rattle.std.proofs.Common.{refl, ◌∙◌}
 use Rattle.session_core.proofs.Single.{single-adopted, single-reserved}
-use Rattle.session_core.proofs.KeptGroups.{tokens-same}
+use Rattle.ready_run.proofs.Kept.{tokens-same}
 use Rattle.session_core.proofs.Steps.{answers-kept, stands-kept}
 use Rattle.session_core.proofs.session.Session.give.Goals as goal
 

@@ -1,7 +1,7 @@
 use Rattle.std.proofs.Common.{refl, sym, ◌∙◌}
 use Rattle.session_core.proofs.Refusals.{cause-look, unrefused-look}
 use Rattle.session_core.proofs.Single.{has-held}
-use Rattle.session_core.proofs.KeptGroups.{tokens-same}
+use Rattle.ready_run.proofs.Kept.{tokens-same}
 use Rattle.session_core.proofs.Steps.{answers-looked, answers-refused}
 use Rattle.session_core.proofs.session.Session.look.Goals as goal
 

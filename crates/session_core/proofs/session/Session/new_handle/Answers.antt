@@ -2,7 +2,7 @@ use Rattle.std.proofs.Common.{◌++◌, [], ◌∷◌, refl, ◌∙◌, ap, arit
 use Rattle.std.proofs.lemmas.Option.{slice_get_within}
 use Rattle.driver_core.specs.Tokens.{handles_in}
 use Rattle.session_core.proofs.Canceling.{answers-handle, canceller-at, canceller-made, canceller-none}
-use Rattle.session_core.proofs.KeptGroups.{tokens-same}
+use Rattle.ready_run.proofs.Kept.{tokens-same}
 use Rattle.session_core.proofs.Refusals.{cause-new_handle, unrefused-new_handle}
 use Rattle.session_core.proofs.Steps.{answers-refused, stands-same}
 use Rattle.session_core.proofs.session.Session.new_handle.Goals as goal

@@ -9,7 +9,7 @@ use Rattle.driver_core.specs.Tokens.{token_at, by_number}
 use Rattle.driver_core.proofs.KeptTokens.{emptied-none, token_at-emptied, put-taken}
 use Rattle.session_core.proofs.Refusals.{cause-poll, no_token-lacks}
 use Rattle.session_core.proofs.Single.{single-same, single-polled}
-use Rattle.session_core.proofs.KeptGroups.{groups-then}
+use Rattle.ready_run.proofs.Kept.{groups-then}
 use Rattle.session_core.proofs.Steps.{answers-kept, answers-refused, answers-taken}
 use Rattle.session_core.proofs.session.Session.poll.Goals as goal
 

@@ -13,7 +13,8 @@ use Rattle.run_laws.proofs.Laws.{input-in-order, messages-in-order, files-hold-l
 use Rattle.run_laws.proofs.Laws.{moves-own, reads-take-own, receives-take-own, splices-pass-on}
 use Rattle.run_laws.proofs.Laws.{cancels-members, canceled-at-once-exactly, no-canceller-exactly, cancellers-in-order, handles-in-order}
 use Rattle.session_core.specs.Session.{SessionStands}
-use Rattle.session_core.proofs.Runs.{get-there, after-one_more, replies-one_more, holds-of_all}
+use Rattle.ready_run.proofs.Runs.{get-there}
+use Rattle.session_core.proofs.Runs.{after-one_more, replies-one_more, holds-of_all}
 use Rattle.session_core.proofs.session.Session.run.Goals as goal
 
 pub loop-event-preserved : goal.loop-event-preserved

@@ -1,5 +1,5 @@
 use Rattle.std.proofs.Common.{Some, refl, sym, ◌∙◌, ap}
-use Rattle.session_core.proofs.KeptGroups.{tokens-same}
+use Rattle.ready_run.proofs.Kept.{tokens-same}
 use Rattle.session_core.proofs.Steps.{answers-refused}
 use Rattle.session_core.proofs.Submitting.{cause-submit_unmade}
 use Rattle.session_core.proofs.session.Session.submit.Goals as goal

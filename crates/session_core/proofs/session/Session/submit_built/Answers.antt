@@ -2,7 +2,7 @@ use Rattle.std.proofs.Common.{refl, subst}
 use Rattle.rent_buf.specs.Buf.{built}
 use Rattle.ring_core.specs.Request.{plain_request}
 use Rattle.uring_driver.specs.Submitted.{SubmitsFor, AddsToken, JoinsFor}
-use Rattle.session_core.proofs.KeptGroups.{tokens-same}
+use Rattle.ready_run.proofs.Kept.{tokens-same}
 use Rattle.session_core.proofs.Single.{single-joined}
 use Rattle.session_core.proofs.Steps.{answers-added, answers-returned, stands-unsubmitted}
 use Rattle.session_core.proofs.session.Session.submit_built.Goals as goal

@@ -1,7 +1,7 @@
 use Rattle.std.proofs.Common.{refl, subst}
 use Rattle.ring_core.specs.declared.ledger.Event.TheVariants.{Submit}
 use Rattle.session_core.specs.Session.{StepsFor}
-use Rattle.session_core.proofs.KeptGroups.{tokens-same}
+use Rattle.ready_run.proofs.Kept.{tokens-same}
 use Rattle.session_core.proofs.Steps.{answers-refused}
 use Rattle.session_core.proofs.session.Session.submit_copy_to.Goals as goal
 

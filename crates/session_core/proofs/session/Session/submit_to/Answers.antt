@@ -1,6 +1,6 @@
 use Rattle.std.proofs.Common.{refl, ◌∙◌, ap}
 use Rattle.uring_driver.specs.Uring.{holds_all}
-use Rattle.session_core.proofs.KeptGroups.{tokens-same}
+use Rattle.ready_run.proofs.Kept.{tokens-same}
 use Rattle.session_core.proofs.Steps.{answers-refused, stands-same, steps-built}
 use Rattle.session_core.proofs.session.Session.submit_to.Goals as goal
 

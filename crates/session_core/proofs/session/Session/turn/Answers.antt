@@ -2,7 +2,7 @@ use Rattle.std.proofs.Common.{true, inl, refl, subst}
 use Rattle.rent_buf.specs.Buf.{built}
 use Rattle.uring_driver.specs.Turned.{TurnsFor, TreatsFor}
 use Rattle.session_core.proofs.Single.{single-turned}
-use Rattle.session_core.proofs.KeptGroups.{tokens-same}
+use Rattle.ready_run.proofs.Kept.{tokens-same}
 use Rattle.session_core.proofs.Steps.{answers-kept, stands-same, stopped-same}
 use Rattle.session_core.proofs.session.Session.turn.Goals as goal
 
