@@ -41,7 +41,7 @@ type Writer<K> = BufWriter<SinkStream<K>>;
 /// Writes a prefix and then all that a source gives, at most `most` bytes, and flushes. Buffers of `capacity` bytes, at least 1,
 /// stand behind the reads and in front of the writes. Memory is taken before the first read, and not for what is copied. However
 /// it ends, the first bytes of the prefix and of what the source gave, in order, are all that is written; `Ending` says when
-/// each end comes. (not in monoio)
+/// each end comes. It is not claimed that it ends. (not in monoio)
 pub fn copy_all<R: Wait, S: ByteSource, K: ByteSink>(
     rt: &R,
     alloc: Global,
@@ -199,7 +199,7 @@ fn pump<'a, 'b, R: Wait, S: ByteSource, K: ByteSink, P: Places>(
     unreachable!()
 }
 
-// A copy that goes on with a rest. If memory runs out it tries again.
+// A copy that goes on with a rest, which has the memory of a copy already. If it is refused nonetheless, it tries again.
 fn resume<R: Wait>(rt: &R, rest: ByteList) -> Copy
     requires { length rest ≤ MOST_HELD }
     ensures { result ≡ record { held = rest; count = 0 } }

@@ -1,5 +1,6 @@
 pub mod Completeness
 pub mod ExactRuns
+pub mod Files
 pub mod FirstParts
 pub mod Fronts
 pub mod LineRuns

@@ -1,6 +1,6 @@
 -- What a poll answers while its stream neither fails nor pauses: it doesn't wait, and each fault that is left has a reason. The clause
 -- `complete` of each state's `poll` cites `Completes`, with the faults that its state may still end with.
-use Rattle.std.specs.Prelude.{ℕ, ◌≡◌, ◌<◌, ◌⊎◌, Bool, true, IsTrue, List, [], ◌++◌, length, IsUtf8, Result, IfErr}
+use Rattle.std.specs.Prelude.{ℕ, ◌≡◌, ◌<◌, ◌⊎◌, Bool, true, IsTrue, List, ◌++◌, length, IsUtf8, Result, IfErr}
 use Rattle.rent_buf.specs.declared.fault.IoFault.{IoFault}
 use Rattle.rent_buf.specs.declared.fault.IoFault.TheVariants.{UnexpectedEof, WriteZero, OutOfMemory, InvalidData}
 use Rattle.rent_io.specs.declared.poll.Step.{Step}

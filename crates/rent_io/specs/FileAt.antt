@@ -1,5 +1,5 @@
 -- What is read and written at a position, and what the polls of a read and a write there do.
-use Rattle.std.specs.Prelude.{ℕ, ◌≡◌, ◌≤◌, ◌+◌, ◌-◌, Bool, IsTrue, List, ◌++◌, length, take, drop, replicate, Ok, Err}
+use Rattle.std.specs.Prelude.{ℕ, ◌≡◌, ◌≤◌, ◌+◌, ◌-◌, Bool, IsTrue, List, [], ◌∷◌, ◌++◌, length, take, drop, replicate, Ok, Err}
 use Rattle.rent_buf.specs.Buffer.{Buffer}
 use Rattle.rent_buf.specs.Parts.{Parts}
 use Rattle.rent_io.specs.declared.poll.PollBuf.{PollBuf}
@@ -20,9 +20,12 @@ ReadsAt tells bytes pos buffer under beside buf (Ready (Err fault) back) = back 
 ReadsAt tells bytes pos buffer under beside buf (Pending back) = back ≡ buf
 ReadsAt tells bytes pos buffer under beside buf (Again back) = back ≡ buf
 
--- Bytes with others written over them from a position on, and 0 where bytes are missing before it.
+-- Bytes with others written over them from a position on, and 0 where bytes are missing before it. No bytes change nothing. It says of
+-- a file what `overwritten` of ring_core says of one in the machine.
 abbrev pub written_at : List ℕ → ℕ → List ℕ → List ℕ
-written_at bytes pos s = take pos bytes ++ replicate (pos - length bytes) 0 ++ s ++ drop (pos + length s) bytes
+written_at bytes pos [] = bytes
+written_at bytes pos (byte ∷ s) =
+    take pos bytes ++ replicate (pos - length bytes) 0 ++ (byte ∷ s) ++ drop (pos + length (byte ∷ s)) bytes
 
 -- A poll of a write from a position on: the first n bytes are written, or nothing is. The buffer comes back.
 abbrev pub WritesAt : {T : Type 0} → Bool → List ℕ → List ℕ → ℕ → List ℕ → T → PollBuf T → Type 0

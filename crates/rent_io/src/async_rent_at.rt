@@ -43,8 +43,8 @@ pub trait AsyncWriteRentAt {
     /// Its bytes, where it tells them, and its counts.
     ghost file: { Self → FileAt };
 
-    /// Writes the first bytes of a buffer from `pos` on (monoio: `write_at`), and answers their number. Bytes that
-    /// are missing before `pos` are 0 from then on. At `Pending`, `Again` and a fault nothing was written.
+    /// Writes the first bytes of a buffer from `pos` on (monoio: `write_at`), and answers their number. If there are some,
+    /// bytes that are missing before `pos` are 0 from then on. At `Pending`, `Again` and a fault nothing was written.
     fn poll_write_at<T: IoBuf>(&mut self, buf: T, pos: u64, task: u64) -> PollBuf<T>
         ensures writes { WritesAt tells (file self.old).bytes (file self.new).bytes pos (T.content buf) buf result }
         ensures cause { IsCaused (file self.old).counts (file self.new).counts result }

@@ -57,7 +57,8 @@ impl<T: IoBufMut> ReadExact<T> {
         self.poll_by(io, &Plain, task)
     }
 
-    /// Polls it until it is done, `polls` times at most (not in monoio). Whatever the stream answered, the bytes that left
+    /// Polls it until it is done, `polls` times at most: again at once also after a pause, so it is for tests and proofs
+    /// (not in monoio). Whatever the stream answered, the bytes that left
     /// it are stored in the range, one behind the other, each once. `Again` means that the polls are used up.
     pub fn drive<A: AsyncReadRent>(
         self,

@@ -66,7 +66,8 @@ impl<N: Number> ReadNumber<N> {
         self.poll_by(io, &Plain, task)
     }
 
-    /// Polls it until it is done, `polls` times at most (not in monoio). Whatever the stream answered, the number is that
+    /// Polls it until it is done, `polls` times at most: again at once also after a pause, so it is for tests and proofs
+    /// (not in monoio). Whatever the stream answered, the number is that
     /// of the bytes that left it.
     /// `Again` means that the polls are used up.
     pub fn drive<A: AsyncReadRent>(

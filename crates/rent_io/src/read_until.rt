@@ -114,7 +114,8 @@ impl ReadUntil {
         }
     }
 
-    /// Polls it until it is done, `polls` times at most (not in monoio). Whatever the stream answered, the bytes that left
+    /// Polls it until it is done, `polls` times at most: again at once also after a pause, so it is for tests and proofs
+    /// (not in monoio). Whatever the stream answered, the bytes that left
     /// it were added, up to and with the first delimiter.
     /// `Again` means that the polls are used up.
     pub fn drive<A: AsyncBufRead>(

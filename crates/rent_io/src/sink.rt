@@ -125,7 +125,8 @@ impl<I> SendAndFlush<I> {
         }
     }
 
-    /// Polls it until it is done, `polls` times at most (not in monoio). Whatever the sink answered, the item is taken in
+    /// Polls it until it is done, `polls` times at most: again at once also after a pause, so it is for tests and proofs
+    /// (not in monoio). Whatever the sink answered, the item is taken in
     /// one poll, and a flush comes in a later one. `Again` means that the polls are used up.
     pub fn drive<S: Sink<I>>(
         self,

@@ -59,7 +59,8 @@ impl<T: IoBuf> WriteAll<T> {
         self.poll_by(io, &Plain, task)
     }
 
-    /// Polls it until it is done, `polls` times at most (not in monoio). Whatever the stream answered, the bytes that it
+    /// Polls it until it is done, `polls` times at most: again at once also after a pause, so it is for tests and proofs
+    /// (not in monoio). Whatever the stream answered, the bytes that it
     /// took are the first ones, each once and in order.
     /// `Again` means that the polls are used up.
     pub fn drive<A: AsyncWriteRent>(

@@ -3,11 +3,13 @@ ghost use Rattle.std.specs.Prelude.{◌≡◌, ◌+◌, ◌<◌, ◌≤◌, ◌+
 ghost use Rattle.rent_io.specs.Counts.{AfterCall};
 ghost use Rattle.rent_io.specs.Polls.{IsCaused, IsCountCaused};
 ghost use Rattle.rent_io.specs.Writer.{EndsStay, Writes, CountsDone, IfDone};
+ghost use Rattle.rent_io.specs.Writer as write;
+ghost use Rattle.std.specs.List.{concat};
 ghost use Rattle.stream_util.specs.BufWriter.{Writing, Pushes, IsPushCaused, Offers, IfPushed, WriteRule};
 ghost use Rattle.stream_util.specs.BufWriter.{FlushCompletes, OfferCompletes, WriteCompletes};
 ghost use Rattle.stream_util.specs.BufWriter.{fresh_writer, counts_over, writer_over};
 
-use rent_buf::{IoBuf, IoBufMut, IoFault, IoVecBuf, IoVecBufMut, OutOfMemory, Slice};
+use rent_buf::{ByteList, IoBuf, IoBufMut, IoFault, IoVecBuf, IoVecBufMut, OutOfMemory, Slice};
 use rent_io::vectored::first_part;
 use rent_io::{AsyncBufRead, AsyncReadRent, AsyncWriteRent, PollBuf, PollCount};
 use std::alloc::Global;
@@ -19,6 +21,9 @@ pub const DEFAULT_CAPACITY: usize = 8192;
 
 /// A stream with a buffer in front of its writes (monoio: `BufWriter`). A clause sees it as the stream inside, the bytes
 /// that are buffered, and how many it buffers at most.
+///
+/// What is buffered when it is let go is lost, since a drop can't wait for a write: poll its flush or its shutdown until it
+/// is done, or take it apart by `into_parts`.
 #[derive(Debug, Drop)]
 pub struct BufWriter<W> {
     inner: W,
@@ -114,7 +119,7 @@ impl<W> BufWriter<W> {
         &mut self.inner
     }
 
-    /// The stream inside (monoio: `into_inner`). What is buffered is lost.
+    /// The stream inside (monoio: `into_inner`). What is buffered is lost; `into_parts` returns it too.
     pub fn into_inner(self) -> W
         ensures { result ≡ self.inner }
     {
@@ -127,6 +132,25 @@ impl<W> BufWriter<W> {
             moved: _,
         } = self;
         inner
+    }
+
+    /// The stream inside, and what is buffered, which wasn't written (not in monoio).
+    pub fn into_parts(self) -> (W, ByteList)
+        ensures inner { result.0 ≡ self.inner }
+        ensures rest { result.1 ≡ self.held }
+    {
+        let BufWriter {
+            inner,
+            mut buf,
+            sent,
+            capacity: _,
+            refused: _,
+            moved: _,
+        } = self;
+        let left = buf.len() - sent;
+        buf.as_mut_slice().copy_within(sent.., 0);
+        buf.truncate(left);
+        (inner, ByteList::from_vec(buf))
     }
 
     /// What is buffered (monoio: `buffer`), at most as many bytes as the capacity.
@@ -247,7 +271,19 @@ impl<W: AsyncWriteRent> AsyncWriteRent for BufWriter<W> {
         }
     }
 
-    fn poll_writev<T: IoVecBuf>(&mut self, buf: T, task: u64) -> PollBuf<T> {
+    /// As `poll_write`, of the first part that has bytes.
+    #[tactic(auto, using(crate::proofs::Completeness::write_gets_on))]
+    fn poll_writev<T: IoVecBuf>(&mut self, buf: T, task: u64) -> PollBuf<T>
+        ensures writes { Writes W.tells (writer_over (W.writer self.old.inner) self.old).delivered
+            (writer_over (W.writer self.new.inner) self.new).delivered (concat (T.parts buf)) buf result }
+        ensures ends { EndsStay (W.writer self.old.inner) (W.writer self.new.inner) }
+        ensures cause { IsCaused (counts_over (W.writer self.old.inner).counts self.old)
+            (counts_over (W.writer self.new.inner).counts self.new) result }
+        ensures counts { AfterCall (counts_over (W.writer self.old.inner).counts self.old)
+            (counts_over (W.writer self.new.inner).counts self.new) }
+        ensures rule { WriteRule W.writer W.tells self.old self.new (write.first_part (T.parts buf)) result }
+        ensures complete { WriteCompletes W.tells (W.writer self.old.inner) (W.writer self.new.inner) self.old.held self.new.held result }
+    {
         let part = first_part(&buf);
         let count = part.len();
         match self.offer(part, task) {
