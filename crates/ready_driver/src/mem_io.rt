@@ -329,6 +329,3 @@ impl NonBlock for MemIo {
         }
     }
 }
-
-#[cfg(test)]
-mod tests;
