@@ -471,6 +471,3 @@ fn note(asked: &mut Vec<u64>, task: Option<u64>)
         Some(task) => asked.push_reserved(task),
     }
 }
-
-#[cfg(test)]
-mod tests;

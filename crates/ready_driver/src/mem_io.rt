@@ -331,6 +331,3 @@ impl NonBlock for MemIo {
         }
     }
 }
-
-#[cfg(test)]
-mod tests;

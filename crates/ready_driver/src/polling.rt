@@ -159,6 +159,3 @@ fn end<B: IoBufMut + Drop>(ops: &mut Operations<B>, op: Op, outcome: Outcome, ta
         }
     }
 }
-
-#[cfg(test)]
-mod tests;

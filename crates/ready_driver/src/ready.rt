@@ -272,6 +272,3 @@ impl Direction {
         }
     }
 }
-
-#[cfg(test)]
-mod tests;

@@ -266,6 +266,3 @@ impl<I: NonBlock> Registry<I> {
         self.table.hold(h);
     }
 }
-
-#[cfg(test)]
-mod tests;

@@ -250,6 +250,3 @@ fn name_tasks(waiting: &[Waiter], ready: Ready, tasks: &mut Vec<u64>)
         }
     }
 }
-
-#[cfg(test)]
-mod tests;

@@ -77,6 +77,3 @@ impl Sockets for MemIo {
         }
     }
 }
-
-#[cfg(test)]
-mod tests;

@@ -4,6 +4,3 @@
 pub mod mio_io;
 
 pub use mio_io::MioIo;
-
-#[cfg(test)]
-mod tests;

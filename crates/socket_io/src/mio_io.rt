@@ -333,6 +333,3 @@ impl<R: Net + Drop> Sockets for MioIo<R> {
         }
     }
 }
-
-#[cfg(test)]
-pub(crate) mod tests;

@@ -11,7 +11,7 @@ use mio::{Interest, Registry, Token};
 use ready_driver::NonBlockError;
 use ring_core::{INVALID, LAST_ERROR};
 use std::io;
-use std::io::{ErrorKind, Read, Write};
+use std::io::{ErrorKind, Read as _, Write as _};
 use std::net::{Ipv4Addr, Net, SocketAddr};
 
 /// The error of a call for which the system tells no number. (Linux: `EIO`)

@@ -1,10 +1,10 @@
 // A peer that never reads.
-use crate::mio_io::MioIo;
-use crate::mio_io::tests::connects;
 use crate::tests::scene::{Scene, play_on};
+use crate::tests::sockets::connects;
 use crate::tests::stage::{Stage, Why, failed, finish, is_like, run, send};
-use rent_buf::{IoBufMut, Rent};
+use rent_buf::{IoBufMut as _, Rent};
 use ring_core::{CANCELED, Outcome};
+use socket_io::MioIo;
 use std::alloc::Global;
 use std::test::Fail;
 
@@ -30,7 +30,7 @@ fn filled(alloc: Global) -> Result<Rent, Why> {
 fn sends_until_it_waits<S: Stage>(stage: &mut S, alloc: Global) -> Result<(), Why> {
     for _ in 0..TRIES {
         stage.submit(0, send(1, filled(alloc)?))?;
-        match stage.poll(0)? {
+        match stage.poll(0, 0)? {
             Some(done) => is_like(matches!(done.outcome, Outcome::Count(k) if k > 0))?,
             None => return Ok(()),
         }
@@ -42,7 +42,7 @@ fn sends_until_it_waits<S: Stage>(stage: &mut S, alloc: Global) -> Result<(), Wh
 fn waits<S: Stage>(stage: &mut S) -> Result<(), Why> {
     for _ in 0..5 {
         stage.park()?;
-        is_like(stage.poll(0)?.is_none())?;
+        is_like(stage.poll(0, 0)?.is_none())?;
     }
     Ok(())
 }

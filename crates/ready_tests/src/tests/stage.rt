@@ -1,5 +1,7 @@
-// What tests do with a driver over sockets: each call here makes one call of the driver. An operation is named by its place, 0 or 1.
-use driver_core::Done;
+// What tests do with a driver over any object: each call here makes one call of the driver, and answers plain values. An operation is
+// named by its place, 0 or 1.
+use driver_core::{Done, Turned};
+use ready_driver::Ready;
 use rent_buf::{OutOfMemory, Rent, VecBuf};
 use ring_core::{Outcome, Request, SharedFd};
 use thiserror::Error;
@@ -27,7 +29,7 @@ impl From<OutOfMemory> for Why {
     }
 }
 
-/// A driver over sockets, with the tokens of its operations.
+/// A driver with the tokens of its operations. `Unmet` comes where the condition of a call isn't met, and then the call isn't made.
 pub(crate) trait Stage {
     /// The user holds a handle that isn't known.
     fn adopt(&mut self, h: u64) -> Result<(), Why>;
@@ -35,20 +37,41 @@ pub(crate) trait Stage {
     /// Submits a request, whose token is kept at a place.
     fn submit(&mut self, place: usize, request: Asked) -> Result<(), Why>;
 
-    /// Polls the operation at a place, for the task of that number. None: it is pending.
-    fn poll(&mut self, place: usize) -> Result<Option<Done<Rent>>, Why>;
+    /// Polls the operation at a place, for a task. None: it is pending.
+    fn poll(&mut self, place: usize, task: u64) -> Result<Option<Done<Rent>>, Why>;
 
     /// Asks for the cancel of the operation at a place.
     fn cancel(&mut self, place: usize) -> Result<(), Why>;
 
+    /// Drops the operation at a place.
+    fn drop_op(&mut self, place: usize) -> Result<(), Why>;
+
     /// The user drops its only hold of a handle.
     fn release(&mut self, h: u64) -> Result<(), Why>;
+
+    /// A turn.
+    fn turn(&mut self) -> Turned;
 
     /// A park with a limit of a millisecond. Its turn doesn't stop.
     fn park(&mut self) -> Result<(), Why>;
 
-    /// How many operations are live, and how many sockets are open.
+    /// Whether the user holds a handle, it is known, and a request may name it.
+    fn handle(&self, h: u64) -> (bool, bool, bool);
+
+    /// The bits of a handle.
+    fn bits(&self, h: u64) -> Ready;
+
+    /// How many operations are live, and how many handles of the object are open.
     fn left(&self) -> (usize, usize);
+}
+
+/// A driver over handles in memory.
+pub(crate) trait InMemory {
+    /// A new stream, and its number.
+    fn stream(&mut self) -> Result<u64, Why>;
+
+    /// Bytes arrive at a handle.
+    fn feed(&mut self, h: u64, bytes: &[u8]) -> Result<(), Why>;
 }
 
 /// An answer is like the one that a test expects.
@@ -62,7 +85,7 @@ const TRIES: u32 = 20000;
 /// The operation at a place is done, after some parks.
 pub(crate) fn finish<S: Stage>(stage: &mut S, place: usize) -> Result<Done<Rent>, Why> {
     for _ in 0..TRIES {
-        if let Some(done) = stage.poll(place)? {
+        if let Some(done) = stage.poll(place, 0)? {
             return Ok(done);
         }
         stage.park()?;
@@ -79,7 +102,7 @@ pub(crate) fn run<S: Stage>(stage: &mut S, request: Asked) -> Result<Done<Rent>,
 /// A request is submitted at a place, and is pending.
 pub(crate) fn pends<S: Stage>(stage: &mut S, place: usize, request: Asked) -> Result<(), Why> {
     stage.submit(place, request)?;
-    is_like(stage.poll(place)?.is_none())
+    is_like(stage.poll(place, 0)?.is_none())
 }
 
 /// A send of all bytes of a buffer.

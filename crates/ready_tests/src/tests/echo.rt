@@ -1,9 +1,9 @@
 // Bytes that are sent to and fro on one thread. The time of a round trip is printed, and compared with nothing.
-use crate::mio_io::MioIo;
-use crate::mio_io::tests::connects;
 use crate::tests::scene::{Scene, play_on};
+use crate::tests::sockets::connects;
 use crate::tests::stage::{Stage, Why, finish, is_like, moved, pends, receive, run, send};
 use rent_buf::{IoBuf, IoBufMut, Rent};
+use socket_io::MioIo;
 use std::alloc::Global;
 use std::test::Fail;
 use std::time::Instant;
@@ -17,7 +17,7 @@ const TRIPS: u32 = 10000;
 // A buffer of bytes that are all the same.
 fn filled(alloc: Global, byte: u8) -> Result<Rent, Why> {
     let mut buf = Rent::with_total(alloc, SIZE)?;
-    buf.store(0, &[byte; SIZE]);
+    IoBufMut::store(&mut buf, 0, &[byte; SIZE]);
     Ok(buf)
 }
 
@@ -37,7 +37,7 @@ fn trips<S: Stage>(stage: &mut S, alloc: Global) -> Result<(), Why> {
     for number in 0..TRIPS {
         let byte = (number % 251) as u8;
         let back = trip(stage, filled(alloc, byte)?)?;
-        is_like(back.bytes() == [byte; SIZE].as_slice())?;
+        is_like(IoBuf::bytes(&back) == [byte; SIZE].as_slice())?;
     }
     Ok(())
 }

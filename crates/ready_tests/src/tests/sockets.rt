@@ -1,9 +1,10 @@
 // Sockets of this machine, through the bound alone. Each test takes the first port that is free from one of its own on.
-use super::{MioIo, UNSUPPORTED};
-use driver_core::{CallAnswer, Calls};
+use driver_core::{CallAnswer, Calls as _};
 use ready_driver::{NonBlock, NonBlockError, Report, Reports, Sockets};
-use rent_buf::{IoBuf, IoBufMut, Rent, VecBuf};
+use rent_buf::{IoBuf as _, IoBufMut as _, Rent, VecBuf};
 use ring_core::{INVALID, Outcome, Request, SharedFd};
+use socket_io::MioIo;
+use socket_io::mio_io::UNSUPPORTED;
 use std::test::Fail;
 
 // How many waits at most come before a call is made, and how many ports at most are tried.

@@ -1,5 +1,5 @@
 use Rattle.std.proofs.Common.{vec_len}
-use Rattle.socket_io.proofs.tests.bench.Bench.drop.Given as goal
+use Rattle.ready_tests.proofs.tests.bench.Bench.drop.Given as goal
 
 abbrev pub decreases-loop-token : goal.decreases-loop-token
 decreases-loop-token g l = vec_len l.ops

@@ -1,11 +1,11 @@
 // Many connections that are open at once.
-use crate::mio_io::MioIo;
-use crate::mio_io::tests::{listen, opens};
 use crate::tests::scene::{Scene, play_on};
-use crate::tests::stage::{Asked, Stage, Why, is_like, moved, receive, run, send};
+use crate::tests::sockets::{listen, opens};
+use crate::tests::stage::{Stage, Why, is_like, moved, receive, run, send};
 use ready_driver::Sockets;
-use rent_buf::{IoBuf, IoBufMut, Rent};
+use rent_buf::{IoBuf as _, IoBufMut as _, Rent};
 use ring_core::{Outcome, Request, SharedFd};
+use socket_io::MioIo;
 use std::alloc::Global;
 use std::test::Fail;
 

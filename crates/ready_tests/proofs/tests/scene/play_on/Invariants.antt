@@ -1,4 +1,4 @@
-use Rattle.socket_io.proofs.tests.scene.play_on.Given as goal
+use Rattle.ready_tests.proofs.tests.scene.play_on.Given as goal
 
 abbrev pub ghosts-play_new-P-Ledger : goal.ghosts-play_new-P-Ledger
 ghosts-play_new-P-Ledger g a = record { name = a.pushes.name; parts = a.pushes.parts }

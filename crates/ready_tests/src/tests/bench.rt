@@ -1,14 +1,14 @@
-// A driver over sockets, with the tokens of two operations.
-ghost use Rattle.std.specs.Prelude.{◌≡◌, IfOk};
+// A driver over any object, with the tokens of two operations.
+ghost use Rattle.std.specs.Prelude.{IfOk};
 ghost use Rattle.ready_driver.specs.LegacyState.{Holds};
 
-use crate::mio_io::MioIo;
-use crate::tests::stage::{Asked, Stage, Why};
-use driver_core::{Done, Driver, MOST_GIVEN, Op, PollOp, Submitted};
+use crate::tests::stage::{Asked, InMemory, Stage, Why};
+use driver_core::{Done, Driver as _, MOST_GIVEN, Op, PollOp, Submitted, Turned};
 use handle_core::{Released, SharedFd};
-use ready_driver::{LegacyDriver, NonBlock};
+use ready_driver::{LegacyDriver, MemIo, NonBlock, Ready};
 use rent_buf::Rent;
-use ring_core::MOST_HANDLES;
+use ring_core::{HandleKind, MOST_HANDLES, Names};
+use socket_io::MioIo;
 use std::alloc::Global;
 use std::net::Net;
 use std::sync::Wait;
@@ -16,15 +16,22 @@ use std::sync::ledger::Ledger;
 use std::time::Clock;
 use wake_core::Sleeper;
 
-/// An object that tells how many sockets are open.
+/// An object that tells how many of its handles are open.
 pub(crate) trait Opens {
-    /// How many sockets are open.
+    /// How many of its handles are open.
     fn opened(&self) -> usize;
 }
 
 impl<R: Net> Opens for MioIo<R> {
     fn opened(&self) -> usize {
         self.open_handles()
+    }
+}
+
+impl Opens for MemIo {
+    // It tells of none.
+    fn opened(&self) -> usize {
+        0
     }
 }
 
@@ -81,6 +88,7 @@ fn token_of(submitted: Submitted<Rent>) -> Result<Op, Why> {
 // What a poll gives back: the token, or how the operation ended.
 enum Polled {
     Token(Op),
+    OutOfMemory(Op),
     Done(Done<Rent>),
 }
 
@@ -91,7 +99,7 @@ fn poll_once<I: NonBlock>(driver: &mut LegacyDriver<I, Rent>, op: Op, task: u64)
     match driver.poll_op(op, task) {
         Ok(PollOp::Ready(done)) => Polled::Done(done),
         Ok(PollOp::Pending(op)) => Polled::Token(op),
-        Err((_, op)) => Polled::Token(op),
+        Err((_, op)) => Polled::OutOfMemory(op),
     }
 }
 
@@ -162,12 +170,16 @@ impl<'a, I: NonBlock + Opens, P: Ledger, D: Ledger, T: Wait + Clock> Stage
         Ok(())
     }
 
-    fn poll(&mut self, place: usize) -> Result<Option<Done<Rent>>, Why> {
+    fn poll(&mut self, place: usize, task: u64) -> Result<Option<Done<Rent>>, Why> {
         let op = self.take(place)?;
-        match poll_once(&mut self.driver, op, place as u64) {
+        match poll_once(&mut self.driver, op, task) {
             Polled::Token(op) => {
                 self.put(place, op);
                 Ok(None)
+            }
+            Polled::OutOfMemory(op) => {
+                self.put(place, op);
+                Err(Why::OutOfMemory)
             }
             Polled::Done(done) => Ok(Some(done)),
         }
@@ -180,6 +192,12 @@ impl<'a, I: NonBlock + Opens, P: Ledger, D: Ledger, T: Wait + Clock> Stage
         Ok(asked?)
     }
 
+    fn drop_op(&mut self, place: usize) -> Result<(), Why> {
+        let op = self.take(place)?;
+        self.driver.drop_op(op);
+        Ok(())
+    }
+
     fn release(&mut self, h: u64) -> Result<(), Why> {
         if !self.driver.user_holds(h) {
             return Err(Why::Unmet);
@@ -190,6 +208,10 @@ impl<'a, I: NonBlock + Opens, P: Ledger, D: Ledger, T: Wait + Clock> Stage
         }
     }
 
+    fn turn(&mut self) -> Turned {
+        self.driver.submit()
+    }
+
     fn park(&mut self) -> Result<(), Why> {
         let parked = self.driver.park_timeout(self.rt, self.sleeper, 1);
         match parked.turned.stop {
@@ -198,7 +220,49 @@ impl<'a, I: NonBlock + Opens, P: Ledger, D: Ledger, T: Wait + Clock> Stage
         }
     }
 
+    fn handle(&self, h: u64) -> (bool, bool, bool) {
+        let driver = &self.driver;
+        (
+            driver.user_holds(h),
+            driver.known(h),
+            driver.holds_names(Names::One(h)),
+        )
+    }
+
+    fn bits(&self, h: u64) -> Ready {
+        self.driver.readiness(h)
+    }
+
     fn left(&self) -> (usize, usize) {
         (self.driver.num_operations(), self.driver.io().opened())
+    }
+}
+
+// A new stream in memory.
+fn give(driver: &mut LegacyDriver<MemIo, Rent>) -> Result<u64, Why> {
+    if driver.handles() >= MOST_HANDLES || driver.known(driver.handles()) {
+        return Err(Why::Unmet);
+    }
+    Ok(driver.give(HandleKind::Stream)?.number())
+}
+
+// Bytes arrive at a handle in memory.
+fn feed(driver: &mut LegacyDriver<MemIo, Rent>, h: u64, bytes: &[u8]) -> Result<(), Why> {
+    if !driver.has_handle(h) {
+        return Err(Why::Unmet);
+    }
+    match driver.feed(h, bytes) {
+        Ok(()) => Ok(()),
+        Err(_) => Err(Why::Unlike),
+    }
+}
+
+impl<'a, P: Ledger, D: Ledger, T> InMemory for Bench<'a, MemIo, P, D, T> {
+    fn stream(&mut self) -> Result<u64, Why> {
+        give(&mut self.driver)
+    }
+
+    fn feed(&mut self, h: u64, bytes: &[u8]) -> Result<(), Why> {
+        feed(&mut self.driver, h, bytes)
     }
 }
