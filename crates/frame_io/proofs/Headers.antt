@@ -1,6 +1,6 @@
 -- A number and a header at the front of bytes are there too if more bytes follow.
-use Rattle.std.proofs.Common.{◌≡◌, ◌∙◌, ℕ, zero, suc, ◌+◌, ◌-◌, ◌*◌, ◌/◌, ◌<◌, ◌≤◌, List, [], ◌∷◌, ◌++◌, Bool, true, false, length, drop, sym, ap, subst, refl, arith}
-use Rattle.std.proofs.Common.{cond, ltb-true}
+use Rattle.std.proofs.Common.{◌≡◌, ℕ, zero, suc, ◌+◌, ◌-◌, ◌*◌, ◌/◌, ◌<◌, ◌≤◌, List, [], ◌∷◌, ◌++◌, Bool, true, false, length, drop, sym, ap, subst, refl, arith}
+use Rattle.std.proofs.Common.{cond}
 use Rattle.std.specs.Prelude.{nat_eq, nat_lt, nat_le}
 use Rattle.std.proofs.lemmas.Bool.{cond_both}
 use Rattle.std.proofs.lemmas.Bool.Decides.{nat_tests}
@@ -11,7 +11,7 @@ use Rattle.frame_io.specs.declared.header.Header.{Header}
 use Rattle.frame_io.specs.declared.header.Header.TheVariants.{Whole, Cut, Bad}
 use Rattle.frame_io.specs.declared.number.Field.{Field}
 use Rattle.frame_io.specs.declared.number.Field.TheVariants.{Whole as FieldWhole, Cut as FieldCut, Wrong as FieldWrong}
-use Rattle.frame_io.specs.Number.{behind, number_below, number_at, IsWithin}
+use Rattle.frame_io.specs.Number.{behind, number_below, number_at}
 use Rattle.frame_io.specs.Piece.{flag_then, size_then, channel_then, header_at, IsHeader}
 
 -- No bytes are less than a header.

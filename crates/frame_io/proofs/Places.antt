@@ -1,9 +1,8 @@
 -- Open channels, from a place on.
-use Rattle.std.proofs.Common.{◌≡◌, ◌∙◌, ℕ, ◌+◌, ◌<◌, List, [], ◌∷◌, ◌++◌, Bool, true, false, length, take, drop, get_or, sym, ap, refl, arith}
-use Rattle.std.proofs.Common.{cond, add-one}
-use Rattle.std.specs.Prelude.{nat_eq, remove}
+use Rattle.std.proofs.Common.{◌≡◌, ℕ, List, [], ◌∷◌, ◌++◌, Bool, true, false, take, drop, ap, refl}
+use Rattle.std.proofs.Common.{cond}
+use Rattle.std.specs.Prelude.{nat_eq}
 use Rattle.frame_io.specs.declared.message.Message.{Message}
-use Rattle.frame_io.specs.Channels.{HasPlace}
 use Rattle.frame_io.specs.Frames.{bytes_of, is_open, without}
 
 none_at : (b : Bool) (channel : ℕ) (message : Message) (channels : List Message) → cond b true (is_open channel channels) ≡ false

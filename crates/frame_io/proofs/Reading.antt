@@ -1,5 +1,5 @@
 -- What is read, step by step.
-use Rattle.std.proofs.Common.{◌≡◌, ◌∙◌, ℕ, zero, suc, ◌+◌, ◌-◌, ◌<◌, ◌≤◌, List, [], ◌∷◌, ◌++◌, Bool, true, false, length, take, drop, sym, ap, subst, refl, arith}
+use Rattle.std.proofs.Common.{◌≡◌, ◌∙◌, ℕ, zero, suc, ◌+◌, ◌<◌, List, [], ◌∷◌, ◌++◌, Bool, true, false, length, take, drop, sym, ap, subst, refl, arith}
 use Rattle.std.proofs.Common.{cond, append_assoc, append-nil, length-append}
 use Rattle.std.specs.Prelude.{Option, None, Some, nat_lt}
 use Rattle.std.proofs.Math.ListN.{drop_of_length-le}
@@ -19,7 +19,7 @@ use Rattle.frame_io.specs.declared.message.Message.{Message}
 use Rattle.frame_io.specs.Piece.{header_at, IsHeader}
 use Rattle.frame_io.specs.Frames.{Outcome, stops, gives, bytes_of, without, refusal, ended, inside, begun, ending_of, taken, reads_at, reads}
 use Rattle.frame_io.specs.Frames.{read_from}
-use Rattle.frame_io.specs.Decoder.{Polled, Stops, answer_of}
+use Rattle.frame_io.specs.Decoder.{Polled, answer_of}
 use Rattle.frame_io.proofs.Headers.{HeaderGoes, header_goes, header_within}
 
 -- An end is answered by its name.

@@ -1,31 +1,31 @@
 -- What is still to be read, as a reader takes bytes.
 use Rattle.std.proofs.Common.{◌≡◌, ◌∙◌, ℕ, zero, suc, ◌+◌, ◌-◌, ◌<◌, ◌≤◌, List, [], ◌∷◌, ◌++◌, Bool, true, false, length, take, drop, sym, ap, subst, refl, arith}
-use Rattle.std.proofs.Common.{cond, append_assoc, append-nil, length-append}
+use Rattle.std.proofs.Common.{append_assoc, append-nil}
 use Rattle.std.proofs.Common.{get_or}
 use Rattle.std.proofs.Math.Seq.{drop-append_seam}
-use Rattle.std.specs.Prelude.{Option, None, Some, IfSome, ◌==◌, not, ◌&&◌, nat_lt, nat_le}
+use Rattle.std.specs.Prelude.{Option, None, Some, IfSome, ◌==◌, not, nat_lt}
 use Rattle.std.proofs.lemmas.Bool.{cond-true, cond-false}
 use Rattle.std.proofs.lemmas.Bool.Decides.{nat_tests}
-use Rattle.std.proofs.lemmas.List.{take-append-drop, length-drop}
+use Rattle.std.proofs.lemmas.List.{take-append-drop}
 use Rattle.frame_io.specs.declared.fault.BadFrame.{BadFrame}
 use Rattle.frame_io.specs.declared.fault.BadFrame.TheVariants.{Number, Large, Flag, Channels, Long, Cut}
 use Rattle.frame_io.specs.declared.fault.Ending.{Ending}
-use Rattle.frame_io.specs.declared.fault.Ending.TheVariants.{End, Fault}
+use Rattle.frame_io.specs.declared.fault.Ending.TheVariants.{Fault}
 use Rattle.frame_io.specs.declared.header.Begun.{Begun}
 use Rattle.frame_io.specs.declared.header.Head.{Head}
 use Rattle.frame_io.specs.declared.header.Header.TheVariants.{Whole, Cut as HeaderCut, Bad}
 use Rattle.frame_io.specs.declared.limits.Limits.{Limits}
 use Rattle.frame_io.specs.declared.message.Message.{Message}
 use Rattle.frame_io.specs.declared.message.MessagePoll.{MessagePoll}
-use Rattle.frame_io.specs.Piece.{header_at, IsHeader}
-use Rattle.frame_io.specs.Frames.{Outcome, stops, gives, behind, bytes_of, without, is_open, is_one_more, refusal, ended, inside, begun, ending_of, taken}
+use Rattle.frame_io.specs.Piece.{header_at}
+use Rattle.frame_io.specs.Frames.{Outcome, stops, gives, behind, bytes_of, is_open, is_one_more, refusal, inside, ending_of, taken}
 use Rattle.frame_io.specs.Frames.{read_from}
-use Rattle.frame_io.specs.Decoder.{Decoding, IsDecoding, Faults, Polled, Stops, rest_of, rest_at, rest_in}
+use Rattle.frame_io.specs.Decoder.{Decoding, IsBounded, IsDecoding, Faults, Polled, Stops, rest_of, rest_at, rest_in}
 use Rattle.frame_io.specs.declared.fault.FrameFault.{FrameFault}
 use Rattle.frame_io.specs.declared.fault.FrameFault.TheVariants.{Number as AtNumber, Large as AtLarge, Flag as AtFlag}
 use Rattle.frame_io.specs.declared.fault.FrameFault.TheVariants.{Channels as AtChannels, Long as AtLong, Cut as AtCut, Io, OutOfMemory}
 use Rattle.frame_io.proofs.Headers.{no_header}
-use Rattle.frame_io.proofs.Reading.{read_bad, read_whole, read_end, takes_all, inside_more, inside_whole, inside_end}
+use Rattle.frame_io.proofs.Reading.{read_bad, read_whole, read_end, inside_more, inside_end}
 
 -- Inside a piece.
 pub rest_piece : (d : Decoding) (p : Begun) (left : List ℕ) → d.stop ≡ None → d.piece ≡ Some p
@@ -142,10 +142,12 @@ ends_piece was p stop piece more = rest_piece was p [] stop piece
     ∙ inside_end (λ o n b. read_from was.limits o n b) was.channels was.offset p was.bytes more
 
 -- A decoder that keeps no bytes of a header, outside a piece.
-pub decoding_none : (head : List ℕ) (piece : Option Begun) → head ≡ [] → piece ≡ None → IsDecoding head piece
-decoding_none head piece empty none = record {
+pub decoding_none : (limits : Limits) (channels : List Message) (head : List ℕ) (piece : Option Begun) (bytes : List ℕ) → head ≡ []
+    → piece ≡ None → IsBounded limits channels piece bytes → IsDecoding limits channels head piece bytes
+decoding_none limits channels head piece bytes empty none bound = record {
   part = subst (λ h. header_at h ≡ HeaderCut) (sym empty) no_header;
   none = subst (λ q. IfSome q (λ p. (head ≡ []) × (p.size ≤ 65547))) (sym none) tt;
+  bound = bound;
 }
 
 one_byte : (n byte : ℕ) (rest more : List ℕ) → n ≤ 1 → drop n (byte ∷ []) ++ (rest ++ more) ≡ drop n (byte ∷ rest) ++ more

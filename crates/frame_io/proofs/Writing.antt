@@ -1,24 +1,22 @@
 -- The pieces of messages are read as these messages.
 use Rattle.std.proofs.Common.{◌≡◌, ◌∙◌, ℕ, zero, suc, ◌+◌, ◌-◌, ◌*◌, ◌/◌, ◌%◌, ◌<◌, ◌≤◌, List, [], ◌∷◌, ◌++◌, Bool, true, false, length}
-use Rattle.std.proofs.Common.{take, drop, sym, ap, subst, refl, arith, cond, append_assoc, append-nil, length-append}
-use Rattle.std.specs.Prelude.{◌⊎◌, Option, None, Some, not, nat_eq, nat_lt, nat_le}
-use Rattle.std.proofs.Math.Seq.{drop-append_seam, take-append_seam}
+use Rattle.std.proofs.Common.{take, drop, sym, ap, refl, arith, cond, append_assoc, length-append}
+use Rattle.std.specs.Prelude.{Option, None, Some, nat_eq, nat_lt, nat_le}
+use Rattle.std.proofs.Math.Seq.{drop-append_seam}
 use Rattle.std.proofs.lemmas.Bool.{cond-true, cond-false, ltb-true, ltb-false, leb-true, leb-false}
 use Rattle.std.proofs.lemmas.Bool.Decides.{nat_tests}
 use Rattle.std.proofs.lemmas.List.{length-drop, take-append-drop}
-use Rattle.frame_io.specs.declared.fault.Ending.TheVariants.{End, Fault}
+use Rattle.frame_io.specs.declared.fault.Ending.TheVariants.{End}
 use Rattle.frame_io.specs.declared.header.Head.{Head}
-use Rattle.frame_io.specs.declared.header.Header.{Header}
 use Rattle.frame_io.specs.declared.fault.BadFrame.TheVariants.{Large}
-use Rattle.frame_io.specs.declared.header.Header.TheVariants.{Whole, Cut, Bad}
+use Rattle.frame_io.specs.declared.header.Header.TheVariants.{Whole, Bad}
 use Rattle.frame_io.specs.declared.limits.Limits.{Limits}
 use Rattle.frame_io.specs.declared.message.Message.{Message}
-use Rattle.frame_io.specs.declared.number.Field.{Field}
-use Rattle.frame_io.specs.declared.number.Field.TheVariants.{Whole as FieldWhole, Cut as FieldCut, Wrong as FieldWrong}
+use Rattle.frame_io.specs.declared.number.Field.TheVariants.{Whole as FieldWhole, Wrong as FieldWrong}
 use Rattle.frame_io.specs.Number.{behind, number_in, vnum, number_below, number_at}
 use Rattle.frame_io.specs.Piece.{flag_of, piece, pieces_in, pieces_of, flag_then, size_then, channel_then, header_at}
-use Rattle.frame_io.specs.Frames.{Outcome, gives, bytes_of, is_open, without, is_one_more, refusal, begun, ended, inside, taken, reads_at}
-use Rattle.frame_io.specs.Frames.{read_from, read_frames}
+use Rattle.frame_io.specs.Frames.{Outcome, gives, bytes_of, without, is_one_more, refusal, taken, reads_at}
+use Rattle.frame_io.specs.Frames.{read_from}
 use Rattle.frame_io.specs.Written.{pieces_of_all, AreWithin, WrittenIsRead}
 use Rattle.frame_io.proofs.Reading.{reads_is, inside_more, inside_whole, read_end}
 use Rattle.frame_io.proofs.Headers.{no_header}

@@ -1,5 +1,5 @@
 -- What a reader keeps between its polls, and what is still to be read by it. Each clause of a reader cites it.
-use Rattle.std.specs.Prelude.{ℕ, ◌≡◌, ◌<◌, ◌≤◌, Bool, Option, None, Some, IfSome, List, [], ◌++◌, length}
+use Rattle.std.specs.Prelude.{ℕ, ◌≡◌, ◌+◌, ◌<◌, ◌≤◌, false, Option, None, Some, IfSome, List, [], ◌∷◌, ◌++◌, length}
 use Rattle.frame_io.specs.declared.fault.Ending.{Ending}
 use Rattle.frame_io.specs.declared.fault.Ending.TheVariants.{End, Fault}
 use Rattle.frame_io.specs.declared.fault.BadFrame.{BadFrame}
@@ -44,10 +44,23 @@ rest_at d None left = rest_in d d.piece left
 abbrev pub rest_of : Decoding → List ℕ → Outcome
 rest_of d left = rest_at d d.stop left
 
--- What is kept is less than a header, and nothing of one inside a piece, which has 65547 bytes at most.
-pub record IsDecoding (head : List ℕ) (piece : Option Begun) : Type 0 where
+-- Each of the channels has so many bytes at most.
+abbrev pub AreShort : ℕ → List Message → Type 0
+AreShort most [] = Unit {0}
+AreShort most (message ∷ channels) = (length message.bytes ≤ most) × AreShort most channels
+
+-- What is kept is within the limits: no more channels, and no more bytes of each, with those of a begun piece that are to come.
+pub record IsBounded (limits : Limits) (channels : List Message) (piece : Option Begun) (bytes : List ℕ) : Type 0 where
+  pub few : length channels ≤ limits.channels
+  pub short : AreShort limits.bytes channels
+  pub within : length bytes ≤ limits.bytes
+  pub begun : IfSome piece (λ p. (length bytes + p.lacks ≤ limits.bytes) × (p.last ≡ false → length channels < limits.channels))
+
+-- What is kept of a header is less than a whole one, and nothing inside a piece, which has 65547 bytes at most; and it is bounded.
+pub record IsDecoding (limits : Limits) (channels : List Message) (head : List ℕ) (piece : Option Begun) (bytes : List ℕ) : Type 0 where
   pub part : header_at head ≡ HeaderCut
   pub none : IfSome piece (λ p. (head ≡ []) × (p.size ≤ 65547))
+  pub bound : IsBounded limits channels piece bytes
 
 -- What was to be read is this end alone, and still is.
 pub record Stops (ending : Ending) (was now : Outcome) : Type 0 where

@@ -1,16 +1,14 @@
 -- A reader of messages: what each poll of it does.
-use Rattle.std.specs.Prelude.{ℕ, ◌≡◌, ◌<◌, ◌⊎◌, Bool, IsTrue, List, [], ◌++◌, length}
+use Rattle.std.specs.Prelude.{◌<◌, ◌⊎◌, Bool, IsTrue, length}
 use Rattle.rent_io.specs.Counts.{Rose}
 use Rattle.rent_io.specs.Reader.{Reader}
 use Rattle.frame_io.specs.declared.fault.FrameFault.{FrameFault}
 use Rattle.frame_io.specs.declared.fault.FrameFault.TheVariants.{Number, Large, Flag, Channels, Long, Cut, Io, OutOfMemory}
 use Rattle.frame_io.specs.declared.limits.Limits.{Limits}
 use Rattle.frame_io.specs.declared.limits.TheConstants.{MOST_CHANNELS, MOST_IN_MESSAGE}
-use Rattle.frame_io.specs.declared.message.Message.{Message}
 use Rattle.frame_io.specs.declared.message.MessagePoll.{MessagePoll}
 use Rattle.frame_io.specs.declared.message.MessagePoll.TheVariants.{Message as Given, End, Pending, Again, Fault}
-use Rattle.frame_io.specs.Decoder.{Decoding, Polled, fresh}
-use Rattle.frame_io.specs.Frames.{Outcome}
+use Rattle.frame_io.specs.Decoder.{Decoding, fresh}
 
 -- Such a reader is the stream inside, and what it keeps.
 pub record Reading (R : Type 0) : Type 0 where

@@ -1,5 +1,5 @@
 -- Pieces of messages: a channel, a length, a flag and that many bytes; and what stands at the front of bytes.
-use Rattle.std.specs.Prelude.{ℕ, zero, suc, ◌+◌, ◌-◌, ◌<◌, ◌≤◌, Bool, true, false, nat_eq, nat_lt, nat_le, if◌then◌else◌}
+use Rattle.std.specs.Prelude.{ℕ, zero, suc, ◌+◌, ◌<◌, ◌≤◌, Bool, true, false, nat_eq, nat_lt, nat_le, if◌then◌else◌}
 use Rattle.std.specs.Prelude.{List, [], ◌∷◌, ◌++◌, length, take, drop}
 use Rattle.frame_io.specs.declared.fault.BadFrame.TheVariants.{Number, Large, Flag}
 use Rattle.frame_io.specs.declared.header.Header.{Header}

@@ -1,6 +1,6 @@
 // The reading of pieces, apart from the stream that they come from.
 ghost use Rattle.std.specs.Prelude.{◌≡◌, ◌<◌, ◌≤◌, ◌^◌, ⊤, ℕ, List, [], ◌∷◌, ◌++◌, None, Some, IfSome, MatchOption, length, drop};
-ghost use Rattle.frame_io.specs.Decoder.{Decoding, Polled, IsOwn, answer_of as answer_to, fault_of as fault_to, fresh, rest_of};
+ghost use Rattle.frame_io.specs.Decoder.{Decoding, IsBounded, Polled, IsOwn, answer_of as answer_to, fault_of as fault_to, fresh, rest_of};
 ghost use Rattle.frame_io.specs.Frames.{read_from, refusal, stops, taken};
 ghost use Rattle.frame_io.specs.declared.fault.Ending.TheVariants.{Fault};
 
@@ -43,7 +43,7 @@ impl Model for Decoder {
       offset = d.offset;
     } };
 
-    ghost invariant = { λ d. IsDecoding d.head d.piece };
+    ghost invariant = { λ d. IsDecoding d.limits d.channels.items d.head d.piece d.bytes };
 }
 
 // The fault that a piece is refused with.
@@ -92,6 +92,14 @@ impl Decoder {
         ensures { result ≡ self.now.offset }
     {
         self.offset
+    }
+
+    // How many channels are open. What is kept is within the limits.
+    pub(crate) fn open_channels(&self) -> usize
+        ensures value { result ≡ length self.now.channels }
+        ensures within { IsBounded self.now.limits self.now.channels self.now.piece self.now.bytes }
+    {
+        self.channels.len()
     }
 
     // The answer that needs no more bytes: the end, or that of a piece whose bytes are all there.

@@ -1,7 +1,7 @@
 // A reader of messages.
 ghost use Rattle.std.specs.Prelude.{◌≡◌, ◌<◌, ◌^◌, ◌++◌, ◌∷◌, [], ℕ, List, None, IfSome, IsTrue, length, vec_len, vec_capacity};
 ghost use Rattle.rent_io.specs.Counts.{AfterCall};
-ghost use Rattle.frame_io.specs.Decoder.{IsOwn, Polled, rest_of};
+ghost use Rattle.frame_io.specs.Decoder.{IsBounded, IsOwn, Polled, rest_of};
 ghost use Rattle.frame_io.specs.FrameReader.{IsMessageCaused, fresh_reader, standard};
 ghost use Rattle.frame_io.specs.Frames.{behind, read_frames};
 
@@ -63,6 +63,14 @@ impl<R> FrameReader<R> {
         ensures { result ≡ self.now.kept.offset }
     {
         self.decoder.offset()
+    }
+
+    /// How many channels are open (not in monoio). What a reader keeps is within its limits.
+    pub fn open_channels(&self) -> usize
+        ensures value { result ≡ length self.now.kept.channels }
+        ensures within { IsBounded self.now.kept.limits self.now.kept.channels self.now.kept.piece self.now.kept.bytes }
+    {
+        self.decoder.open_channels()
     }
 
     /// The stream inside (not in monoio). What the reader keeps is lost.

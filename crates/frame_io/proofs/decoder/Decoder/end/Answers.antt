@@ -1,8 +1,7 @@
 use Rattle.std.proofs.Common.{◌≡◌, ◌∙◌, ◌<◌, [], ap, subst, sym, refl, length, rules, arith}
 use Rattle.std.proofs.lemmas.Grind.{common_steps}
 use Rattle.std.specs.Prelude.{None, Some, IfSome, vec_len, ◌==◌}
-use Rattle.frame_io.specs.declared.fault.Ending.TheVariants.{End, Fault}
-use Rattle.frame_io.specs.declared.fault.BadFrame.TheVariants.{Cut}
+use Rattle.frame_io.specs.declared.fault.Ending.TheVariants.{End}
 use Rattle.frame_io.specs.declared.header.Header.TheVariants.{Cut as HeaderCut}
 use Rattle.frame_io.specs.Decoder.{Stops, rest_of}
 use Rattle.frame_io.specs.Frames.{stops, ending_of}

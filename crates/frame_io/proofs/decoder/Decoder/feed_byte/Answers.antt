@@ -1,5 +1,5 @@
-use Rattle.std.proofs.Common.{◌≡◌, ◌∙◌, ◌++◌, ◌∷◌, [], List, ℕ, drop, sym, ap, subst, refl}
-use Rattle.std.specs.Prelude.{None, Some}
+use Rattle.std.proofs.Common.{◌≡◌, ◌∙◌, ◌++◌, ◌∷◌, [], drop, sym, ap, subst}
+use Rattle.std.specs.Prelude.{None}
 use Rattle.frame_io.specs.declared.header.Header.TheVariants.{Whole, Bad}
 use Rattle.frame_io.specs.Decoder.{Decoding, Polled, rest_of}
 use Rattle.frame_io.specs.Frames.{read_from, refusal, taken}
@@ -9,10 +9,12 @@ use Rattle.frame_io.proofs.Steps.{decoding_none, fed_bad, fed_whole, polled_by}
 use Rattle.frame_io.proofs.decoder.Decoder.feed_byte.Goals as goal
 
 pub invariant_of-self-in-Bad : goal.invariant_of-self-in-Bad
-invariant_of-self-in-Bad c = decoding_none _ _ c.truncate-in-Bad.ensures (ap (λ d. d.piece) c.self.view_is ∙ c.requires.piece)
+invariant_of-self-in-Bad c = decoding_none _ _ _ _ _ c.truncate-in-Bad.ensures (ap (λ d. d.piece) c.self.view_is ∙ c.requires.piece)
+    c.self.invariant.bound
 
 pub invariant_of-self : goal.invariant_of-self
-invariant_of-self c = decoding_none _ _ c.truncate.ensures (ap (λ d. d.piece) c.self.view_is ∙ c.requires.piece)
+invariant_of-self c = decoding_none _ _ _ _ _ c.truncate.ensures (ap (λ d. d.piece) c.self.view_is ∙ c.requires.piece)
+    c.self.invariant.bound
 
 pub returns-in-Whole-clause-answer : goal.returns-in-Whole-clause-answer
 returns-in-Whole-clause-answer c = λ more.

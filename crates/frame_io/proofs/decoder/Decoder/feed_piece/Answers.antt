@@ -1,4 +1,4 @@
-use Rattle.std.proofs.Common.{◌≡◌, ◌∙◌, ◌-◌, ◌++◌, List, ℕ, length, take, drop, sym, ap, subst, arith}
+use Rattle.std.proofs.Common.{◌≡◌, ◌∙◌, ◌-◌, ◌++◌, List, ℕ, length, drop, ap, subst, arith}
 use Rattle.std.specs.Prelude.{None, Some}
 use Rattle.frame_io.specs.Decoder.{Decoding, rest_of}
 use Rattle.frame_io.proofs.Steps.{fed_piece}
