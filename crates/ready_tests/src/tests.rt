@@ -2,6 +2,7 @@
 // machine. Each test of sockets takes the first port that is free from one of its own on.
 mod bench;
 mod bits;
+mod dials;
 mod echo;
 mod full;
 mod many;

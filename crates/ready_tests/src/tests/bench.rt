@@ -5,7 +5,7 @@ ghost use Rattle.ready_driver.specs.LegacyState.{Holds};
 use crate::tests::stage::{Asked, InMemory, Stage, Why};
 use driver_core::{Done, Driver as _, MOST_GIVEN, Op, PollOp, Submitted, Turned};
 use handle_core::{Released, SharedFd};
-use ready_driver::{LegacyDriver, MemIo, NonBlock, Ready};
+use ready_driver::{LegacyDriver, MemIo, NonBlock, NonBlockError, Ready, Sockets};
 use rent_buf::Rent;
 use ring_core::{HandleKind, MOST_HANDLES, Names};
 use socket_io::MioIo;
@@ -154,7 +154,7 @@ impl<'a, I: NonBlock, P: Ledger, D: Ledger, T> Bench<'a, I, P, D, T> {
     }
 }
 
-impl<'a, I: NonBlock + Opens, P: Ledger, D: Ledger, T: Wait + Clock> Stage
+impl<'a, I: Sockets + Opens, P: Ledger, D: Ledger, T: Wait + Clock> Stage
     for Bench<'a, I, P, D, T> {
     fn adopt(&mut self, h: u64) -> Result<(), Why> {
         if h >= MOST_HANDLES || self.driver.known(h) {
@@ -162,6 +162,20 @@ impl<'a, I: NonBlock + Opens, P: Ledger, D: Ledger, T: Wait + Clock> Stage
         }
         self.driver.adopt(h)?;
         Ok(())
+    }
+
+    fn listen(&mut self, port: u16) -> Result<u64, NonBlockError> {
+        match self.driver.listen(port) {
+            Ok(fd) => Ok(fd.number()),
+            Err(why) => Err(why),
+        }
+    }
+
+    fn dial(&mut self, port: u16) -> Result<u64, NonBlockError> {
+        match self.driver.dial(port) {
+            Ok(fd) => Ok(fd.number()),
+            Err(why) => Err(why),
+        }
     }
 
     fn submit(&mut self, place: usize, request: Asked) -> Result<(), Why> {

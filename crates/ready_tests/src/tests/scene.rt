@@ -2,11 +2,12 @@
 ghost use Rattle.std.specs.Prelude.{◌≡◌};
 
 use crate::tests::bench::{Bench, Opens};
+use crate::tests::dials::dials_and_accepts;
 use crate::tests::echo::echo;
 use crate::tests::full::full;
 use crate::tests::many::many;
 use crate::tests::stage::{Stage, Why};
-use ready_driver::NonBlock;
+use ready_driver::Sockets;
 use std::alloc::Global;
 use std::marker::Brand;
 use std::sync::Wait;
@@ -21,6 +22,8 @@ pub(crate) enum Scene {
     Echo,
     /// A peer never reads.
     Full,
+    /// The driver listens, dials and accepts.
+    Dials,
     /// So many connections are open at once.
     Many(u64),
 }
@@ -30,12 +33,13 @@ fn play<S: Stage>(stage: &mut S, alloc: Global, scene: Scene) -> Result<(), Why>
     match scene {
         Scene::Echo => echo(stage, alloc),
         Scene::Full => full(stage, alloc),
+        Scene::Dials => dials_and_accepts(stage, alloc),
         Scene::Many(count) => many(stage, alloc, count),
     }
 }
 
 // Plays a scene on a new driver, whose parks are lent this sleeper.
-fn play_over<I: NonBlock + Opens, P: Ledger, D: Ledger, T: Wait + Clock>(
+fn play_over<I: Sockets + Opens, P: Ledger, D: Ledger, T: Wait + Clock>(
     rt: &T,
     alloc: Global,
     io: I,
@@ -47,7 +51,7 @@ fn play_over<I: NonBlock + Opens, P: Ledger, D: Ledger, T: Wait + Clock>(
 }
 
 // The same with a new sleeper.
-fn play_new<P: Ledger, D: Ledger, I: NonBlock + Opens, T: Wait + Clock>(
+fn play_new<P: Ledger, D: Ledger, I: Sockets + Opens, T: Wait + Clock>(
     rt: &T,
     alloc: Global,
     io: I,
@@ -65,7 +69,7 @@ fn play_new<P: Ledger, D: Ledger, I: NonBlock + Opens, T: Wait + Clock>(
 }
 
 /// Plays a scene on a new driver over an object, with a new sleeper.
-pub(crate) fn play_on<I: NonBlock + Opens, T: Wait + Clock>(
+pub(crate) fn play_on<I: Sockets + Opens, T: Wait + Clock>(
     rt: &T,
     alloc: Global,
     io: I,

@@ -1,7 +1,7 @@
 // What tests do with a driver over any object: each call here makes one call of the driver, and answers plain values. An operation is
 // named by its place, 0 or 1.
 use driver_core::{Done, Turned};
-use ready_driver::Ready;
+use ready_driver::{NonBlockError, Ready};
 use rent_buf::{OutOfMemory, Rent, VecBuf};
 use ring_core::{Outcome, Request, SharedFd};
 use thiserror::Error;
@@ -33,6 +33,12 @@ impl From<OutOfMemory> for Why {
 pub(crate) trait Stage {
     /// The user holds a handle that isn't known.
     fn adopt(&mut self, h: u64) -> Result<(), Why>;
+
+    /// A new listener on a port.
+    fn listen(&mut self, port: u16) -> Result<u64, NonBlockError>;
+
+    /// A new connection to a port.
+    fn dial(&mut self, port: u16) -> Result<u64, NonBlockError>;
 
     /// Submits a request, whose token is kept at a place.
     fn submit(&mut self, place: usize, request: Asked) -> Result<(), Why>;
