@@ -8,6 +8,7 @@ use crate::locked::handle::Nudging;
 use crate::locked::sender::{SendDue, SenderEnd};
 use crate::locked::sleeper::{RoundDue, SleeperEnd};
 use crate::park::Sleeper;
+use crate::sleeper::SleeperStage;
 use crate::state::{PUSH_PARTS, WakeState};
 use crate::unpark::UnparkHandle;
 use std::alloc::Global;
@@ -90,5 +91,11 @@ impl<P: Ledger, D: Ledger> WakeCell<P, D> {
     pub fn unpark_handle(&self) -> Result<UnparkHandle<P, D>, OutOfMemory> {
         let shared = Arc::try_clone(&self.shared).map_err(|_| OutOfMemory)?;
         Ok(UnparkHandle::over(shared))
+    }
+
+    /// The stage that the sleeper is at, read under the lock: to look at, since it may be at another one as soon as the lock is
+    /// released. Takes no memory. (not in monoio)
+    pub fn stage<R: Wait>(&self, rt: &R) -> SleeperStage {
+        self.shared.state.lock(rt).stage()
     }
 }

@@ -5,16 +5,3 @@ use thiserror::Error;
 #[derive(Clone, Copy, Debug, PartialEq, Eq, Error)]
 #[error("OutOfMemory")]
 pub struct OutOfMemory;
-
-#[cfg(test)]
-mod tests {
-    use super::*;
-    use std::test::Fail;
-
-    #[test]
-    fn it_has_a_text(rt: HostRuntime) -> Result<(), Fail> {
-        let text = OutOfMemory.to_string(rt.alloc())?;
-        assert_eq!(rt; text.as_str(), "OutOfMemory");
-        Ok(())
-    }
-}

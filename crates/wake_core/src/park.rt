@@ -183,6 +183,3 @@ impl<P: Ledger, D: Ledger> Sleeper<P, D> {
         Settled { drained, rest }
     }
 }
-
-#[cfg(test)]
-mod tests;

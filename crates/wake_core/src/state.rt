@@ -297,6 +297,3 @@ impl<P: Ledger, D: Ledger> WakeState<P, D> {
         self.stage = SleeperStage::Awake;
     }
 }
-
-#[cfg(test)]
-mod tests;

@@ -69,23 +69,3 @@ impl WakerList {
         self.items.push(item).map_err(|_| OutOfMemory)
     }
 }
-
-#[cfg(test)]
-mod tests {
-    use super::*;
-    use std::test::Fail;
-
-    #[test]
-    fn a_list_takes_wakers_and_returns_them(rt: HostRuntime) -> Result<(), Fail> {
-        let waker = Waker {
-            sender: 2,
-            number: 0,
-            task: 9,
-        };
-        let mut list = WakerList::from_vec(Vec::new(rt.alloc()));
-        list.push(waker)?;
-        assert!(rt; list.as_slice() == [waker].as_slice());
-        assert!(rt; list.into_vec().as_slice() == [waker].as_slice());
-        Ok(())
-    }
-}
