@@ -1,7 +1,9 @@
 //! The cancel groups of a driver, whose members are operations in slots.
-ghost use Rattle.std.specs.Prelude.{◌≡◌, ◌<◌, [], None, false, length, IsTrue, IfOk, IfErr, OnOk, OnErr};
+ghost use Rattle.std.specs.Prelude.{◌≡◌, ◌<◌, [], None, false, length, IsTrue, IfOk, IfErr, IfSome, OnOk, OnErr};
+ghost use Rattle.std.specs.FinMap as map;
 ghost use Rattle.std.specs.List.Sorted.{IsStrictlyIncreasing};
 ghost use Rattle.cancel_core.specs.Group.{group_at};
+ghost use Rattle.driver_core.specs.Groups.{is_under_canceled, joins_if};
 ghost use Rattle.driver_core.specs.Members.{none, with_fresh, joins, moves, leaves, cancels, key_at, HaveKeys, IsUnderNone, ArePlaced};
 
 mod places;
@@ -103,6 +105,17 @@ impl Members {
         self.groups.canceled(g)
     }
 
+    /// Whether the group that a request is submitted under is canceled; none is not. (not in monoio)
+    pub fn is_under_canceled(&self, under: &Option<CancelHandle>) -> bool
+        requires { IfSome under.now (λ g. g < length self.now.groups) }
+        ensures { result ≡ is_under_canceled self.now under.now }
+    {
+        match under {
+            None => false,
+            Some(g) => self.canceled(*g),
+        }
+    }
+
     /// The operation of a number, whose slot is at a key, becomes a member of a group that isn't canceled (monoio:
     /// `CancelHandle::associate_op`). It is under no group yet: `key_of` answers None. If memory runs out, nothing changed.
     pub fn join(&mut self, g: CancelHandle, number: u64, key: usize) -> Result<(), OutOfMemory>
@@ -120,6 +133,22 @@ impl Members {
                 self.places.take(number);
                 Err(error)
             }
+        }
+    }
+
+    /// The operation of a number, that is under no group, joins a group that isn't canceled, if it is submitted under one. The key of its
+    /// slot isn't known yet: it is 0. Once it leaves again all is as it was. If memory runs out, nothing changed. (not in monoio)
+    pub fn enroll(&mut self, under: Option<CancelHandle>, number: u64) -> Result<(), OutOfMemory>
+        requires known { IfSome under (λ g. g < length self.old.groups) }
+        requires open { is_under_canceled self.old under ≡ false }
+        requires apart { map.get self.old.places number ≡ None }
+        ensures ok { OnOk result (self.new ≡ joins_if self.old under number 0) }
+        ensures again { OnOk result (leaves self.new number ≡ self.old) }
+        ensures err { OnErr result (self.new ≡ self.old) }
+    {
+        match under {
+            None => Ok(()),
+            Some(g) => self.join(g, number, 0),
         }
     }
 

@@ -192,7 +192,7 @@ impl<I: NonBlock, B: IoBufMut + Drop> LegacyDriver<I, B> {
         ensures stands { OnErr result (IsTrue I.memory → (D : Legacy) → LegacyStands I.view B.buffer self.old D →
             LegacyStands I.view B.buffer self.new D) }
     {
-        if is_canceled(&self.members, &under) {
+        if self.members.is_under_canceled(&under) {
             return Ok(Submitted::Canceled(request));
         }
         let names = request.names();
@@ -313,17 +313,6 @@ impl<I: NonBlock, B: IoBufMut + Drop> LegacyDriver<I, B> {
     }
 }
 
-// The group that a request is submitted under is canceled; none is not.
-fn is_canceled(members: &Members, under: &Option<CancelHandle>) -> bool
-    requires { IfSome under.now (λ g. g < length members.now.groups) }
-    ensures { result ≡ is_under_canceled members.now under.now }
-{
-    match under {
-        None => false,
-        Some(g) => members.canceled(*g),
-    }
-}
-
 // Makes ready for a submission that names these handles and is under no canceled group: memory is taken, the handles are registered, and
 // the next operation joins its group, with the key 0. No slot changes.
 fn prepare<I: NonBlock, B: Drop>(
@@ -359,28 +348,9 @@ fn prepare<I: NonBlock, B: Drop>(
         Err(NonBlockError::Fault(_)) => return Err(SubmitFault::RingFault),
         Err(NonBlockError::OutOfMemory) => return Err(SubmitFault::OutOfMemory),
     }
-    match enroll(members, under, number) {
+    match members.enroll(under, number) {
         Ok(()) => Ok(()),
         Err(_) => Err(SubmitFault::OutOfMemory),
-    }
-}
-
-// The operation of a number, that is under no group, joins a group that isn't canceled, if it is submitted under one. The key of its slot
-// isn't known yet: it is 0. If memory runs out, nothing changes.
-fn enroll(
-    members: &mut Members,
-    under: Option<CancelHandle>,
-    number: u64,
-) -> Result<(), OutOfMemory>
-    requires known { IfSome under (λ g. g < length members.old.groups) }
-    requires open { is_under_canceled members.old under ≡ false }
-    requires apart { map.get members.old.places number ≡ Option.None }
-    ensures ok { OnOk result (members.new ≡ joins_if members.old under number 0) }
-    ensures err { OnErr result (members.new ≡ members.old) }
-{
-    match under {
-        None => Ok(()),
-        Some(g) => members.join(g, number, 0),
     }
 }
 

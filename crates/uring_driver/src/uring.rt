@@ -27,7 +27,6 @@ ghost use Rattle.uring_driver.specs.PollOp.{IsExactPoll, PollsHandles, closes_of
 
 use crate::holding::Handles;
 use crate::submissions::Submissions;
-use crate::uring::groups::{enroll, is_canceled};
 use crate::uring::leave::{hand_over, let_all_go, let_go};
 use crate::uring::turn::Named;
 use driver_core::{
@@ -173,7 +172,7 @@ impl<R: Ring, B: IoBufMut + Drop> IoUringDriver<R, B> {
         ensures takes { OnErr result (IsTrue R.tells → TakesFront (whole_ring R.view self.old) (whole_ring R.view self.new)) }
         ensures kept { length (R.view (ring_in self.old)).done ≤ length (R.view (ring_in self.new)).done }
     {
-        if is_canceled(&self.members, &under) {
+        if self.members.is_under_canceled(&under) {
             return Ok(Submitted::Canceled(request));
         }
         let maker = request.makes();
@@ -334,7 +333,7 @@ fn enter_group<R: Ring, B: Drop>(
     let Ok(handles) = handles.make_ready(maker) else {
         return Err(SubmitFault::OutOfMemory);
     };
-    if enroll(members, under, number).is_err() {
+    if members.enroll(under, number).is_err() {
         return Err(SubmitFault::OutOfMemory);
     }
     match prepare(ring, ops, handles) {

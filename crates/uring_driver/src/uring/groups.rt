@@ -1,13 +1,11 @@
 //! The calls of a driver on its cancel groups.
-ghost use Rattle.std.specs.Prelude.{◌≡◌, ◌≤◌, ◌<◌, false, [], Option, length, IsTrue, IfSome, IfOk, IfErr, OnOk, OnErr};
-ghost use Rattle.std.specs.FinMap as map;
+ghost use Rattle.std.specs.Prelude.{◌≡◌, ◌≤◌, ◌<◌, [], length, IsTrue, IfOk, IfErr, OnOk, OnErr};
 ghost use Rattle.std.specs.List.Sorted.{IsStrictlyIncreasing};
 ghost use Rattle.cancel_core.specs.Group.{group_at};
 ghost use Rattle.ring_core.specs.Ledger.{Ledger, is_marked};
 ghost use Rattle.driver_core.specs.Answers.{CancellerFor, HandleFor, CancelsFor};
 ghost use Rattle.driver_core.specs.Groups as groups;
-ghost use Rattle.driver_core.specs.Groups.{is_under_canceled, joins_if};
-ghost use Rattle.driver_core.specs.Members.{with_fresh, leaves, cancels, HaveKeys};
+ghost use Rattle.driver_core.specs.Members.{with_fresh, cancels, HaveKeys};
 ghost use Rattle.uring_driver.specs.Groups.{cancels_of};
 ghost use Rattle.uring_driver.specs.Op.{KeepsTokens, KeepsRequests};
 ghost use Rattle.uring_driver.specs.Reaps.{PendingJoins};
@@ -99,37 +97,6 @@ impl<R: Ring, B: IoBufMut + Drop> IoUringDriver<R, B> {
         };
         post_cancels(&mut self.ring, &self.members, numbers.as_slice());
         Ok((fresh, numbers))
-    }
-}
-
-/// The group that a request is submitted under is canceled; none is not.
-pub(crate) fn is_canceled(members: &Members, under: &Option<CancelHandle>) -> bool
-    requires { IfSome under.now (λ g. g < length members.now.groups) }
-    ensures { result ≡ is_under_canceled members.now under.now }
-{
-    match under {
-        None => false,
-        Some(g) => members.canceled(*g),
-    }
-}
-
-/// The operation of a number, that is under no group, joins a group that isn't canceled, if it is submitted under one. The key of its slot
-/// isn't known yet: it is 0. Once it leaves again all is as it was. If memory runs out, nothing changed.
-pub(crate) fn enroll(
-    members: &mut Members,
-    under: Option<CancelHandle>,
-    number: u64,
-) -> Result<(), OutOfMemory>
-    requires known { IfSome under (λ g. g < length members.old.groups) }
-    requires open { is_under_canceled members.old under ≡ false }
-    requires apart { map.get members.old.places number ≡ Option.None }
-    ensures ok { OnOk result (members.new ≡ joins_if members.old under number 0) }
-    ensures again { OnOk result (leaves members.new number ≡ members.old) }
-    ensures err { OnErr result (members.new ≡ members.old) }
-{
-    match under {
-        None => Ok(()),
-        Some(g) => members.join(g, number, 0),
     }
 }
 

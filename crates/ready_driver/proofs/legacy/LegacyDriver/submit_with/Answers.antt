@@ -19,8 +19,8 @@ use Rattle.ready_driver.proofs.Naming.{naming-join, naming-joined, all-known}
 use Rattle.ready_driver.proofs.Showing.{shown-ready, shown-joined}
 use Rattle.ready_driver.proofs.legacy.LegacyDriver.submit_with.Goals as goal
 
-pub returns-then-is_canceled-clause-answers : goal.returns-then-is_canceled-clause-answers
-returns-then-is_canceled-clause-answers g c =
+pub returns-then-is_under_canceled-clause-answers : goal.returns-then-is_under_canceled-clause-answers
+returns-then-is_under_canceled-clause-answers g c =
     let d : LegacyState g.row.I.Denot g.row.B.Denot =
     by_parts c.self.inside.registry c.self.inside.ops c.self.inside.members c.self.inside.asked.items c.self.inside.untreated in
     let user = subst (λ (x : LegacyState g.row.I.Denot g.row.B.Denot). holds_all x.handling.table (named c.args.request) ≡ true)
@@ -28,7 +28,7 @@ returns-then-is_canceled-clause-answers g c =
     let within = subst (λ (x : LegacyState g.row.I.Denot g.row.B.Denot). IfSome c.args.under (λ n. n < group_count x)) (sym c.self.view_is)
     c.requires.known in
     rw (← c.self.view_is) (λ memory D stands handle is. stands-canceled g.I.NonBlock.view g.B.IoBufMut.buffer d D stands c.args.request
-    c.args.under handle user within is (sym c.is_canceled.ensures ∙ c.if-is_canceled.true))
+    c.args.under handle user within is (sym c.is_under_canceled.ensures ∙ c.if-is_under_canceled.true))
 
 pub returns-in-Err-clause-stands : goal.returns-in-Err-clause-stands
 returns-in-Err-clause-stands g c =
@@ -151,7 +151,7 @@ returns-clause-answers g c =
       slots = subst (λ m. SlotsStand buffer m D) (sym c.in-Ok.ensures.slots) stands.parts.operations.slots;
     } in
     stands-submits view buffer d D stands c.args.request c.args.under handle user within is new op.number op.key
-    (new_slot prep c.args.request) (sym c.is_canceled.ensures ∙ c.if-is_canceled.false) c.in-Ok.ensures.room.1
+    (new_slot prep c.args.request) (sym c.is_under_canceled.ensures ∙ c.if-is_under_canceled.false) c.in-Ok.ensures.room.1
     (c.submit-op.ensures.number D ops) (c.submit-op.ensures.submits D c.args.under ops)
     (ap (λ m. get m op.key) (sym c.in-Ok.ensures.slots) ∙ puts.free)
     (puts.slots ∙ ap (λ m. insert m op.key (new_slot prep c.args.request)) c.in-Ok.ensures.slots)

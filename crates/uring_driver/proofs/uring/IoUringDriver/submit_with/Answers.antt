@@ -126,7 +126,7 @@ returns-clause-answers g c =
     c.number-number.result c.key-key.result puts.number c.number-number.ensures c.key-key.ensures c.in-Ok.ensures.apart
     c.in-Ok.ensures.joins c.set_key.ensures in
     let within = subst (λ x. IfSome c.args.under (λ n. n < group_count x)) (sym c.self.view_is) c.requires.known in
-    let open_group = sym c.is_canceled.ensures ∙ c.if-is_canceled.false in
+    let open_group = sym c.is_under_canceled.ensures ∙ c.if-is_under_canceled.false in
     rw (← c.self.view_is) (
     λ tells L stands handle named_by.
     let view = g.R.Ring.view in
@@ -155,15 +155,15 @@ returns-clause-answers g c =
     ∙ ap (op_joined held (named c.args.request)) c.makes-maker.ensures)
     named_by within open_group op puts.number adds members)
 
-pub returns-then-is_canceled-clause-answers : goal.returns-then-is_canceled-clause-answers
-returns-then-is_canceled-clause-answers g c =
+pub returns-then-is_under_canceled-clause-answers : goal.returns-then-is_under_canceled-clause-answers
+returns-then-is_under_canceled-clause-answers g c =
     let d : State g.row.R.Denot g.row.B.Denot =
     by_parts c.self.inside.ring c.self.inside.ops c.self.inside.handles c.self.inside.members in
     let user = subst (λ x. IsTrue (holds_all x (named c.args.request))) (sym c.self.view_is) c.requires.held in
     let within = subst (λ x. IfSome c.args.under (λ n. n < group_count x)) (sym c.self.view_is) c.requires.known in
     rw (← c.self.view_is) (
     λ tells L stands handle named_by. stands-canceled g.R.Ring.view g.B.IoBufMut.buffer d L c.args.request c.args.under handle stands user
-    named_by within (sym c.is_canceled.ensures ∙ c.if-is_canceled.true))
+    named_by within (sym c.is_under_canceled.ensures ∙ c.if-is_under_canceled.true))
 
 pub returns-clause-joins : goal.returns-clause-joins
 returns-clause-joins g c =
