@@ -2,6 +2,7 @@
 use Rattle.std.proofs.Common.{◌≡◌, ◌∙◌, ℕ, zero, suc, ◌+◌, ◌*◌, ◌/◌, ◌%◌, ◌<◌, ◌≤◌, List, [], ◌∷◌, ◌++◌, length, get_or, take, drop, refl}
 use Rattle.std.proofs.Common.{ap, arith, append_assoc, drop-cons, set, sym}
 use Rattle.std.specs.Prelude.{Bool, true, false, Option, Some, None, ◌==◌, ◌||◌, if◌then◌else◌, bytes_eq, codes}
+pub use Rattle.std.proofs.lemmas.Bool.{false_from_ne_true as false-from}
 use Rattle.std.proofs.lemmas.Bool.Decides.{nat_tests}
 use Rattle.std.proofs.lemmas.Grind.{common_steps}
 use Rattle.std.proofs.lemmas.List.{take_more, take_more_set, drop_all, append-nil, length-set}
@@ -55,11 +56,6 @@ bytes_cons byte bytes small rest (suc k) d few = rest k d (omega arith)
 -- Tests that fail.
 pub isnt-eqb : (a b : ℕ) → (a ≡ b → ⊥) → (a == b) ≡ false
 isnt-eqb a b isnt = grind (arith, nat_tests)
-
--- A test that can't pass fails.
-pub false-from : (b : Bool) → (b ≡ true → ⊥) → b ≡ false
-false-from true isnt = absurd (isnt refl)
-false-from false isnt = refl
 
 -- What was read so far, in front of what is read behind it.
 abbrev pub onto : {A : Type 0} → List A → Option (List A) → Option (List A)

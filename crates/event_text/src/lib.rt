@@ -16,6 +16,3 @@ pub use valid::first_wrong;
 pub use word::first_line;
 pub use word::hex::{count_bytes, read_bytes};
 pub use word::number::{put_number, read_number};
-
-#[cfg(test)]
-mod tests;
