@@ -2,7 +2,7 @@
 use Rattle.std.proofs.Common.{◌≡◌, ℕ, ◌+◌, ◌-◌, Bool, true, false, not, ◌&&◌, ◌||◌, List, [], ◌∷◌, length, drop, Option, None, Some}
 use Rattle.std.proofs.Common.{refl, sym, ◌∙◌, ap, min, arith, unwrap_or, option_map}
 use Rattle.std.specs.Prelude.{slice_get, ◌==◌, nat_le, IfSome}
-use Rattle.std.proofs.lemmas.Bool.{false≢true}
+use Rattle.std.proofs.lemmas.Bool.{false≢true, not-false}
 use Rattle.std.proofs.lemmas.Bool.Decides.{leb_tells, eqb_tells}
 use Rattle.ring_core.specs.declared.world.call.TheConstants.{INVALID, BROKEN_PIPE, FILE_TOO_BIG}
 use Rattle.ring_core.specs.declared.world.TheConstants.{MOST_FILE}
@@ -28,11 +28,6 @@ bytes_of x = unwrap_or (option_map (λ handle. handle.input) x) []
 -- The messages that wait on a handle that was looked up.
 abbrev inbox_of : Option HandleState → List (ℕ × List ℕ)
 inbox_of x = unwrap_or (option_map (λ handle. handle.messages_in) x) []
-
--- A test whose opposite fails passes.
-not-fails : (b : Bool) → not b ≡ false → b ≡ true
-not-fails true h = refl
-not-fails false h = cc
 
 -- Two tests that pass pass together.
 and-both : (a b : Bool) → a ≡ true → b ≡ true → (a && b) ≡ true
@@ -161,10 +156,10 @@ record Passed (world : List HandleState) (call : Call) : Type 0 where
 
 -- The greatest count is allowed, where the tests before it failed.
 greatest-allowed : (world : List HandleState) (call : Call) → Passed world call → may_count world call (greatest world call) ≡ true
-greatest-allowed world (In h want) p = reads-there want (slice_get world h) p.fitting (not-fails _ p.ready)
+greatest-allowed world (In h want) p = reads-there want (slice_get world h) p.fitting (not-false _ p.ready)
 greatest-allowed world (Out h offered) p =
     sends-there offered (slice_get world h) (takes-there (slice_get world h) p.fitting p.whole)
-greatest-allowed world (MessageIn h want) p = receives-there want (slice_get world h) p.fitting (not-fails _ p.ready)
+greatest-allowed world (MessageIn h want) p = receives-there want (slice_get world h) p.fitting (not-false _ p.ready)
 greatest-allowed world (MessageOut h addr offered) p =
     passes-with (λ handle. is_datagram handle.kind) (λ handle. offered == offered) (slice_get world h) (λ t. equal-self offered) p.fitting
 greatest-allowed world (ReadAt h pos want) p = reads-file want pos (slice_get world h) p.fitting
@@ -174,7 +169,7 @@ greatest-allowed world (WriteAt h pos offered) p =
 greatest-allowed world (ToPipe h pipe want) p =
     and-three (not (h == pipe)) (passes (λ handle. gives_bytes handle.kind) (slice_get world h))
     (passes (λ handle. is_pipe handle.kind) (slice_get world pipe)) _ _ p.fitting
-    (λ gives. reads-there want (slice_get world h) gives (not-fails _ p.ready)) (λ is. open-there (slice_get world pipe) is p.whole)
+    (λ gives. reads-there want (slice_get world h) gives (not-false _ p.ready)) (λ is. open-there (slice_get world pipe) is p.whole)
 greatest-allowed world (FromPipe pipe h want) p =
     and-three (not (pipe == h)) (passes (λ handle. is_pipe handle.kind) (slice_get world pipe))
     (passes (λ handle. gives_bytes handle.kind) (slice_get world h)) _ _ p.fitting

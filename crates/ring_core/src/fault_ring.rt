@@ -139,6 +139,3 @@ impl Ring for FaultRing {
         self.ring.next()
     }
 }
-
-#[cfg(test)]
-mod tests;

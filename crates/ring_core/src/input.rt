@@ -226,23 +226,3 @@ fn cut_front(bytes: &mut Vec<u8>, count: usize)
     bytes.as_mut_slice().copy_within(count.., 0);
     bytes.truncate(left);
 }
-
-#[cfg(test)]
-mod tests {
-    use super::*;
-    use std::test::Fail;
-
-    #[test]
-    fn bytes_come_out_in_order(rt: HostRuntime) -> Result<(), Fail> {
-        let mut input = Input::new(rt.alloc());
-        input.append(b"abcd")?;
-        assert_eq!(rt; input.len(), 4);
-        if input.len() >= 3 {
-            input.consume(3);
-        }
-        input.append(b"ef")?;
-        assert_eq!(rt; input.as_slice(), b"def".as_slice());
-        assert!(rt; !input.is_empty());
-        Ok(())
-    }
-}

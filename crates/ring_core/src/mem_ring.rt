@@ -329,6 +329,3 @@ fn take_all(queue: &mut VecDeque<Entry>, flying: &mut Flights, done: &mut VecDeq
         take_entry(entry, flying, done);
     }
 }
-
-#[cfg(test)]
-mod tests;

@@ -323,6 +323,3 @@ impl Outcome {
         }
     }
 }
-
-#[cfg(test)]
-mod tests;

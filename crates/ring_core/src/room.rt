@@ -28,28 +28,3 @@ pub fn make_room<T: Drop>(queue: &mut VecDeque<T>, room: usize) -> Result<(), Ou
     grown?;
     Ok(())
 }
-
-#[cfg(test)]
-mod tests {
-    use super::*;
-    use std::alloc::Global;
-
-    // A queue of one element that isn't at the start of its memory.
-    fn turned(alloc: Global) -> Result<VecDeque<u32>, OutOfMemory> {
-        let mut queue = VecDeque::with_capacity(alloc, 4)?;
-        queue.push_back(1)?;
-        queue.push_back(2)?;
-        let _ = queue.pop_front();
-        Ok(queue)
-    }
-
-    #[test]
-    fn memory_doubles_at_least(rt: HostRuntime) {
-        let mut queue = turned(rt.alloc()).expect(&rt, "memory");
-        assert!(rt; make_room(&mut queue, 5).is_ok());
-        assert!(rt; queue.capacity() >= 8);
-        assert_eq!(rt; queue.pop_front(), Some(2));
-        assert!(rt; make_room(&mut queue, 9).is_ok());
-        assert!(rt; queue.capacity() >= 16);
-    }
-}

@@ -9,7 +9,7 @@ ghost use Rattle.ring_core.specs.Surroundings.{around, request_around};
 
 use crate::payloads::{append_first, append_first_parts, copy_first, copy_first_parts};
 use crate::request::{Call, MOST_ASKED, Request, Way};
-use rent_buf::{ByteList, Held, IoBufMut, IoVecBuf, IoVecBufMut, OutOfMemory, VecBuf};
+use rent_buf::{ByteList, Held, IoBufMut, IoVecBuf as _, IoVecBufMut as _, OutOfMemory, VecBuf};
 
 impl<B: IoBufMut> Request<B, VecBuf> {
     /// What it asks for. A reading one asks for what fits what it holds, a sending one offers the bytes that it shows, and a splice
