@@ -4,3 +4,4 @@ pub mod Headers
 pub mod Reading
 pub mod Steps
 pub mod Writing
+pub mod Encoded

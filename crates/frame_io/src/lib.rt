@@ -3,6 +3,7 @@
 
 mod channels;
 mod decoder;
+mod encode;
 pub mod fault;
 mod header;
 mod law;
@@ -10,9 +11,11 @@ pub mod limits;
 pub mod message;
 mod number;
 pub mod reader;
+pub mod writer;
 
 pub use fault::{BadFrame, FrameFault};
 pub use law::written_is_read;
 pub use limits::{Limits, MOST_CHANNELS, MOST_IN_MESSAGE, MOST_IN_PIECE};
 pub use message::{Message, MessagePoll};
 pub use reader::{FrameReader, MOST_OFFSET};
+pub use writer::FrameWriter;

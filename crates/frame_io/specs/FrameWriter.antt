@@ -1,0 +1,82 @@
+-- A writer of messages: what a send, a flush and a close of it do.
+use Rattle.std.specs.Prelude.{ℕ, ◌≡◌, ◌+◌, ◌<◌, ◌≤◌, List, [], ◌++◌, length, Ok, Err}
+use Rattle.rent_io.specs.Counts.{Counts, Rose}
+use Rattle.rent_io.specs.ItemSink.{ItemSink}
+use Rattle.rent_io.specs.Writer.{Writer}
+use Rattle.rent_io.specs.declared.sink.SinkDone.{SinkDone}
+use Rattle.rent_io.specs.declared.sink.SinkDone.TheVariants.{Ready as DoneReady, Pending as DonePending}
+use Rattle.rent_io.specs.declared.sink.SinkPoll.{SinkPoll}
+use Rattle.rent_io.specs.declared.sink.SinkPoll.TheVariants.{Ready, Pending}
+use Rattle.frame_io.specs.declared.fault.FrameFault.{FrameFault}
+use Rattle.frame_io.specs.declared.fault.FrameFault.TheVariants.{Number, Large, Flag, Channels, Long, Cut, Io, OutOfMemory}
+use Rattle.frame_io.specs.declared.limits.TheConstants.{MOST_IN_MESSAGE}
+use Rattle.frame_io.specs.declared.message.Message.{Message}
+use Rattle.frame_io.specs.Piece.{pieces_of}
+
+-- Such a writer is the stream inside, and the bytes of pieces that are buffered. It counts the messages that it refused and the writes that
+-- took no byte, which are faults, the writes that took some, which are pauses, and the messages that it took.
+pub record Writing (W : Type 0) : Type 0 where
+  pub inner : W
+  pub held : List ℕ
+  pub refused : ℕ
+  pub moved : ℕ
+  pub sends : ℕ
+
+-- A new one over a stream.
+abbrev pub fresh_writer : {W : Type 0} → W → Writing W
+fresh_writer inner = record { inner = inner; held = []; refused = 0; moved = 0; sends = 0 }
+
+-- Its counts, by those of the stream inside.
+abbrev pub counts_over : {W : Type 0} → Counts → Writing W → Counts
+counts_over counts w = record { faults = counts.faults + w.refused; pauses = counts.pauses + w.moved; calls = counts.calls }
+
+-- It as a sink of messages.
+abbrev pub sink_over : {W : Type 0} → Writer → Writing W → ItemSink
+sink_over inner w = record { counts = counts_over inner.counts w; sends = w.sends; flushes = inner.flushes }
+
+-- Why a message is refused: it is too long, or memory ran out.
+abbrev pub IsRefusal : ℕ → FrameFault → Type 0
+IsRefusal size Number = ⊥
+IsRefusal size Large = ⊥
+IsRefusal size Flag = ⊥
+IsRefusal size Channels = ⊥
+IsRefusal size Long = MOST_IN_MESSAGE < size
+IsRefusal size Cut = ⊥
+IsRefusal size (Io fault) = ⊥
+IsRefusal size OutOfMemory = size ≤ MOST_IN_MESSAGE
+
+-- A send: the message's pieces are buffered, or it is refused, and what is buffered stays. It never waits.
+abbrev pub Sends : {W : Type 0} → Writing W → Writing W → Message → SinkPoll Message FrameFault → Type 0
+Sends was now message (Ready (Ok done)) = (now.held ≡ was.held ++ pieces_of message.channel message.bytes)
+    × (length message.bytes ≤ MOST_IN_MESSAGE)
+Sends was now message (Ready (Err fault)) = (now.held ≡ was.held) × IsRefusal (length message.bytes) fault
+Sends was now message (Pending back) = ⊥
+
+-- A fault of the stream inside.
+abbrev pub IsIo : FrameFault → Type 0
+IsIo Number = ⊥
+IsIo Large = ⊥
+IsIo Flag = ⊥
+IsIo Channels = ⊥
+IsIo Long = ⊥
+IsIo Cut = ⊥
+IsIo (Io fault) = Unit {0}
+IsIo OutOfMemory = ⊥
+
+-- A flush or a close that is done leaves nothing buffered; one that fails has the stream's fault.
+abbrev pub Ends : List ℕ → SinkDone FrameFault → Type 0
+Ends held (DoneReady (Ok done)) = held ≡ []
+Ends held (DoneReady (Err fault)) = IsIo fault
+Ends held DonePending = Unit {0}
+
+-- The cause of what a write of the buffer answers. It is never done.
+abbrev pub IsPushCaused : Counts → Counts → SinkDone FrameFault → Type 0
+IsPushCaused before now (DoneReady (Ok done)) = ⊥
+IsPushCaused before now (DoneReady (Err fault)) = Rose before.faults now.faults
+IsPushCaused before now DonePending = Rose before.pauses now.pauses
+
+-- A close that is done shut the stream inside down.
+abbrev pub IfShut : ℕ → ℕ → SinkDone FrameFault → Type 0
+IfShut before now (DoneReady (Ok done)) = Rose before now
+IfShut before now (DoneReady (Err fault)) = now ≡ before
+IfShut before now DonePending = now ≡ before
