@@ -1,4 +1,4 @@
-use Rattle.session_core.proofs.wake.tests.senders_run_beside_each_other.Given as goal
+use Rattle.session_tests.proofs.tests.senders.senders_run_beside_each_other.Given as goal
 
 abbrev pub ghosts-wake_all-P-Ledger : goal.ghosts-wake_all-P-Ledger
 ghosts-wake_all-P-Ledger g a = record { name = a.pushes.name; parts = a.pushes.parts }

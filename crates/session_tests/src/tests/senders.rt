@@ -1,9 +1,13 @@
 // That senders run beside each other, and that each sends all its wakers through the gate.
-use super::*;
+use session_core::wake_all;
 use std::marker::Brand;
+use std::sync::Wait;
 use std::sync::atomic::{AtomicU64, Ordering};
+use std::sync::ledger::Blank;
 use std::test::Fail;
-use std::time::Duration;
+use std::thread;
+use std::time::{Clock, Duration};
+use wake_core::{Gate, PUSH_PARTS};
 
 // Holds each of two senders until both have paused.
 #[derive(Drop)]

@@ -1,10 +1,11 @@
-//! The one-read run with each of its calls failing in turn, and cut behind each of its bytes; a run of two pieces; the longest inputs.
-use super::tests::{failing, lines_of, run_top, split_words};
-use super::*;
-use rent_buf::ByteList;
-use rent_io::{MemSink, MemSource};
-use std::alloc::AllocError;
-use std::test::Fail;
+// The one-read run with each of its calls failing in turn, and cut behind each of its bytes; a run of two pieces; the longest inputs.
+use crate::tests::program::{Call, Why, calm, ends_long, ends_with};
+use crate::tests::text::lines_of;
+use session_core::Status;
+use std::alloc::{AllocError, Global};
+use std::rt::Clock;
+use std::sync::Wait;
+use std::thread::Threads;
 
 // The lines of the run, each ended by `;`, and their replies.
 const INPUT: &str = "give stream;submit recv 0 v 4 0 4 -;poll 0 7;feed 0 6162;turn;exec 0 ok 2;\
@@ -15,21 +16,6 @@ const REPLIES: [&str; 10] = [
     "handle 0\n", "op 0\n", "pending\n", "fed\n", "turned - - -\n", "executed op 0\n",
     "pending\n", "turned 0 - 7\n", "ready ok 2 v 4 0 4 6162\n", "refused NoOp\n",
 ];
-
-// Runs the words over these bytes, with a read and a write that fail, and gives the status and what was written.
-fn run_bytes<R: Threads + Wait + Clock + Sync>(
-    rt: &R,
-    alloc: Global,
-    words: &str,
-    bytes: Vec<u8>,
-    read: Option<u64>,
-    write: Option<u64>,
-) -> Result<(Status, MemSink), Fail> {
-    let words = split_words(alloc, words)?;
-    let source = MemSource::new(ByteList::from_vec(bytes), failing(alloc, read)?);
-    let ran = run_top(rt, alloc, words.as_slice(), source, write)?;
-    Ok(ran)
-}
 
 // The first bytes of the run's input.
 fn cut(alloc: Global, count: usize) -> Result<Vec<u8>, AllocError> {
@@ -62,21 +48,33 @@ const CALLS: [(Option<u64>, Option<u64>, Status, usize); 6] = [
     (None, Some(2), Status::Done, 10),
 ];
 
+// The run, of which a read and a write fail, ends with this status, and writes so many replies.
+fn replies_first<R: Threads + Wait + Clock + Sync>(
+    rt: &R,
+    alloc: Global,
+    (read, write, status, count): (Option<u64>, Option<u64>, Status, usize),
+) -> Result<(), Why> {
+    let input = cut(alloc, INPUT.len())?;
+    let written = first_replies(alloc, count)?;
+    let call = Call {
+        words: "run 1",
+        input: input.as_slice(),
+        read,
+        write,
+    };
+    ends_with(rt, alloc, call, status, written.as_slice())
+}
+
 #[test]
-fn each_call_fails_in_turn(rt: HostRuntime) -> Result<(), Fail> {
-    let alloc = rt.alloc();
-    for (read, write, status, count) in CALLS {
-        let input = cut(alloc, INPUT.len())?;
-        let (ended, sink) = run_bytes(&rt, alloc, "run 1", input, read, write)?;
-        let written = first_replies(alloc, count)?;
-        assert_eq!(rt; ended, status, "read {read:?}, write {write:?}");
+fn each_call_fails_in_turn(rt: HostRuntime) {
+    for row in CALLS {
+        let (read, write) = (row.0, row.1);
         assert_eq!(rt;
-            sink.taken(),
-            written.as_slice(),
+            replies_first(&rt, rt.alloc(), row),
+            Ok(()),
             "read {read:?}, write {write:?}"
         );
     }
-    Ok(())
 }
 
 // Lines whose replies are written in two pieces: `handle 0`, `fed` and the first `output`, then the second one.
@@ -97,15 +95,32 @@ const PIECES: [(u64, Status, usize); 4] = [
     (3, Status::Done, 131101),
 ];
 
+// The run of two pieces, of which a write or a flush fails, ends with this status, and writes so many bytes.
+fn writes_first<R: Threads + Wait + Clock + Sync>(
+    rt: &R,
+    alloc: Global,
+    (write, status, count): (u64, Status, usize),
+) -> Result<(), Why> {
+    let input = looks(alloc)?;
+    let call = Call {
+        words: "run 1",
+        input: input.as_slice(),
+        read: None,
+        write: Some(write),
+    };
+    ends_long(rt, alloc, call, status, count)
+}
+
 #[test]
-fn each_piece_fails_in_turn(rt: HostRuntime) -> Result<(), Fail> {
-    let alloc = rt.alloc();
-    for (call, status, count) in PIECES {
-        let (ended, sink) = run_bytes(&rt, alloc, "run 1", looks(alloc)?, None, Some(call))?;
-        assert_eq!(rt; ended, status, "at write {call}");
-        assert_eq!(rt; sink.taken().len(), count, "at write {call}");
+fn each_piece_fails_in_turn(rt: HostRuntime) {
+    for row in PIECES {
+        assert_eq!(rt;
+            writes_first(&rt, rt.alloc(), row),
+            Ok(()),
+            "at write {:?}",
+            row.0
+        );
     }
-    Ok(())
 }
 
 // The run cut behind so many bytes: from the first to the last such number it has this many replies, or this line of it is wrong.
@@ -137,29 +152,48 @@ const CUTS: [(usize, usize, Result<usize, u64>); 23] = [
     (105, 106, Ok(10)),
 ];
 
-// The status of a cut, and what is written.
-fn ends(alloc: Global, cut: Result<usize, u64>) -> Result<(Status, Vec<u8>), Fail> {
+// What is written of a cut: replies, or the line that is wrong.
+fn written(alloc: Global, cut: Result<usize, u64>) -> Result<Vec<u8>, AllocError> {
     match cut {
-        Ok(count) => Ok((Status::Done, first_replies(alloc, count)?)),
-        Err(line) => Ok((
-            Status::BadLine,
-            format!(in alloc; "line {line}\n")?.into_bytes(),
-        )),
+        Ok(count) => first_replies(alloc, count),
+        Err(line) => Ok(format!(in alloc; "line {line}\n")?.into_bytes()),
     }
 }
 
+// The run cut behind so many bytes ends so.
+fn cut_ends<R: Threads + Wait + Clock + Sync>(
+    rt: &R,
+    alloc: Global,
+    count: usize,
+    want: Result<usize, u64>,
+) -> Result<(), Why> {
+    let input = cut(alloc, count)?;
+    let output = written(alloc, want)?;
+    let status = if want.is_ok() {
+        Status::Done
+    } else {
+        Status::BadLine
+    };
+    ends_with(
+        rt,
+        alloc,
+        calm("run 1", input.as_slice()),
+        status,
+        output.as_slice(),
+    )
+}
+
 #[test]
-fn a_cut_run_is_done_or_has_a_wrong_line(rt: HostRuntime) -> Result<(), Fail> {
-    let alloc = rt.alloc();
+fn a_cut_run_is_done_or_has_a_wrong_line(rt: HostRuntime) {
     for (first, last, want) in CUTS {
         for count in first..=last {
-            let (ended, sink) = run_bytes(&rt, alloc, "run 1", cut(alloc, count)?, None, None)?;
-            let (status, written) = ends(alloc, want)?;
-            assert_eq!(rt; ended, status, "cut behind {count}");
-            assert_eq!(rt; sink.taken(), written.as_slice(), "cut behind {count}");
+            assert_eq!(rt;
+                cut_ends(&rt, rt.alloc(), count, want),
+                Ok(()),
+                "cut behind {count}"
+            );
         }
     }
-    Ok(())
 }
 
 // Words, how many newlines they read, the status, and how many bytes are written: `line 1` of a run.
@@ -173,14 +207,24 @@ const LONG: [(&str, usize, Status, usize); 6] = [
     ("copy 16777216 -", 16777217, Status::TooLong, 0),
 ];
 
+// A run of so many newlines ends with this status, and writes so many bytes.
+fn newlines_end<R: Threads + Wait + Clock + Sync>(
+    rt: &R,
+    alloc: Global,
+    (words, count, status, written): (&str, usize, Status, usize),
+) -> Result<(), Why> {
+    let input = vec![in alloc; b'\n'; count]?;
+    ends_long(rt, alloc, calm(words, input.as_slice()), status, written)
+}
+
 #[test]
-fn an_input_of_one_byte_too_many_is_refused(rt: HostRuntime) -> Result<(), Fail> {
-    let alloc = rt.alloc();
-    for (words, count, status, written) in LONG {
-        let input = vec![in alloc; b'\n'; count]?;
-        let (ended, sink) = run_bytes(&rt, alloc, words, input, None, None)?;
-        assert_eq!(rt; ended, status, "for {words:?}");
-        assert_eq!(rt; sink.taken().len(), written, "for {words:?}");
+fn an_input_of_one_byte_too_many_is_refused(rt: HostRuntime) {
+    for row in LONG {
+        assert_eq!(rt;
+            newlines_end(&rt, rt.alloc(), row),
+            Ok(()),
+            "for {:?}",
+            row.0
+        );
     }
-    Ok(())
 }

@@ -1,10 +1,13 @@
 // What the program tells a person, and the number with which it ends.
-use super::*;
-use driver_core::RunError;
+use crate::tests::text::split_words;
 use rent_io::Failed;
-use std::alloc::{AllocError, Global};
+use session_core::usage::{Asked, HELP, answer, asked_of, end_with};
+use session_core::{RunError, Status};
+use std::alloc::Global;
 use std::cell::Cell;
 use std::fmt::Display;
+use std::io;
+use std::process::ExitCode;
 use std::test::Fail;
 
 // A terminal that keeps the last line of each kind, and may refuse those of standard output.
@@ -155,15 +158,6 @@ fn the_help_and_the_version_are_these(rt: HostRuntime) -> Result<(), Fail> {
         );
     }
     Ok(())
-}
-
-// Words with one space between them.
-fn split_words(alloc: Global, text: &str) -> Result<Vec<String>, AllocError> {
-    let mut words = Vec::new(alloc);
-    for word in text.split(' ') {
-        words.push(String::from_str(alloc, word)?)?;
-    }
-    Ok(words)
 }
 
 // Words, and what they ask for in place of a command.

@@ -1,9 +1,14 @@
 // The standard source and sink over readers and writers that work or fail, through the top call.
-use crate::top::{Status, top};
-use rent_io::{StdSink, StdSource};
+use crate::tests::text::split_words;
+use rent_io::{ByteSink, ByteSource, StdSink, StdSource};
+use session_core::Status;
+use session_core::top::top;
 use std::alloc::{AllocError, Global};
 use std::io::{self, Read, Write};
+use std::rt::Clock;
+use std::sync::Wait;
 use std::test::Fail;
+use std::thread::Threads;
 
 // A reader that gives a line, then fails.
 #[derive(Drop)]
@@ -52,11 +57,17 @@ impl Write for FailingWriter {
     }
 }
 
-fn run_words(alloc: Global) -> Result<Vec<String>, AllocError> {
-    let mut words = Vec::new(alloc);
-    words.push(String::from_str(alloc, "run")?)?;
-    words.push(String::from_str(alloc, "1")?)?;
-    Ok(words)
+// Runs over a source and a sink with a queue of one entry: the status, and whether a session is kept.
+fn run<R: Threads + Wait + Clock + Sync, S: ByteSource, K: ByteSink>(
+    rt: &R,
+    alloc: Global,
+    source: &mut S,
+    sink: &mut K,
+) -> Result<(Status, bool), AllocError> {
+    let words = split_words(alloc, "run 1")?;
+    let mut kept = None;
+    let status = top(rt, alloc, words.as_slice(), source, sink, &mut kept);
+    Ok((status, kept.is_some()))
 }
 
 #[test]
@@ -64,18 +75,8 @@ fn what_std_reads_and_writes_goes_through(rt: HostRuntime) -> Result<(), Fail> {
     let input: &[u8] = b"turn\n";
     let mut source = StdSource::new(input);
     let mut sink = StdSink::new(Vec::new(rt.alloc()));
-    let mut kept = None;
-    let words = run_words(rt.alloc())?;
-    let status = top(
-        &rt,
-        rt.alloc(),
-        words.as_slice(),
-        &mut source,
-        &mut sink,
-        &mut kept,
-    );
-    assert_eq!(rt; status, Status::Done);
-    assert_eq!(rt; kept.is_some(), true);
+    let ran = run(&rt, rt.alloc(), &mut source, &mut sink)?;
+    assert_eq!(rt; ran, (Status::Done, true));
     assert_eq!(rt; sink.into_inner().as_slice(), b"turned - - -\n".as_slice());
     Ok(())
 }
@@ -84,16 +85,7 @@ fn what_std_reads_and_writes_goes_through(rt: HostRuntime) -> Result<(), Fail> {
 fn a_read_that_fails_is_no_end_of_input(rt: HostRuntime) -> Result<(), Fail> {
     let mut source = StdSource::new(FailingReader { line: true });
     let mut sink = StdSink::new(Vec::new(rt.alloc()));
-    let mut kept = None;
-    let words = run_words(rt.alloc())?;
-    let status = top(
-        &rt,
-        rt.alloc(),
-        words.as_slice(),
-        &mut source,
-        &mut sink,
-        &mut kept,
-    );
+    let (status, _) = run(&rt, rt.alloc(), &mut source, &mut sink)?;
     assert_eq!(rt; status, Status::ReadFault);
     assert_eq!(rt; sink.into_inner().len(), 0);
     Ok(())
@@ -105,18 +97,8 @@ fn a_write_or_a_flush_that_fails_is_not_done(rt: HostRuntime) -> Result<(), Fail
         let input: &[u8] = b"turn\n";
         let mut source = StdSource::new(input);
         let mut sink = StdSink::new(FailingWriter { fails });
-        let mut kept = None;
-        let words = run_words(rt.alloc())?;
-        let status = top(
-            &rt,
-            rt.alloc(),
-            words.as_slice(),
-            &mut source,
-            &mut sink,
-            &mut kept,
-        );
-        assert_eq!(rt; status, Status::WriteFault);
-        assert_eq!(rt; kept.is_none(), true);
+        let ran = run(&rt, rt.alloc(), &mut source, &mut sink)?;
+        assert_eq!(rt; ran, (Status::WriteFault, false));
     }
     Ok(())
 }
