@@ -4,4 +4,4 @@ use Rattle.session_core.proofs.Driven.{are_driven}
 use Rattle.session_tests.proofs.tests.sessions.replied.Goals as goal
 
 pub ready_replies-requires : goal.ready_replies-requires
-ready_replies-requires c = subst AreDriven (sym c.as_slice.ensures) (are_driven _ c.in-Ok.ensures.external)
+ready_replies-requires c = subst AreDriven (sym c.as_slice.ensures.value) (are_driven _ c.in-Ok.ensures.external)
