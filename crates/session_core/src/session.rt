@@ -416,6 +416,3 @@ fn plain_held(request: Request<Buf, VecBuf>) -> HeldBuf
         Held::Nothing => Held::Nothing,
     }
 }
-
-#[cfg(test)]
-mod tests;

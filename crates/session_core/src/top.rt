@@ -372,8 +372,3 @@ fn run_copy<R: Wait, S: ByteSource, K: ByteSink>(
         Ending::OutOfMemory => Status::OutOfMemory,
     }
 }
-
-#[cfg(test)]
-mod failing;
-#[cfg(test)]
-mod tests;

@@ -110,6 +110,3 @@ pub fn reason(status: Status) -> Option<&'static str> {
         Status::OutOfMemory => Some("session_run: out of memory"),
     }
 }
-
-#[cfg(test)]
-mod tests;

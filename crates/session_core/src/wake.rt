@@ -207,6 +207,3 @@ fn have_sent<P: Ledger, D: Ledger>(senders: &[RemoteSender<P, D>], count: u32) -
     }
     true
 }
-
-#[cfg(test)]
-mod tests;

@@ -1,5 +1,0 @@
-use Rattle.session_core.proofs.Parts.{parts_turned}
-use Rattle.session_core.proofs.session.tests.reap.Goals as goal
-
-pub returns : goal.returns
-returns c = parts_turned c.args.driver.now c.submit.new.self c.args.tokens.now c.submit.result c.requires c.submit.ensures.turns

@@ -1,0 +1,191 @@
+// What the program tells a person, and the number with which it ends.
+use crate::tests::text::split_words;
+use rent_io::Failed;
+use session_core::usage::{Asked, HELP, answer, asked_of, end_with};
+use session_core::{RunError, Status};
+use std::alloc::Global;
+use std::cell::Cell;
+use std::fmt::Display;
+use std::io;
+use std::process::ExitCode;
+use std::test::Fail;
+
+// A terminal that keeps the last line of each kind, and may refuse those of standard output.
+#[derive(Drop)]
+struct Terminal {
+    alloc: Global,
+    refuses: bool,
+    output: Cell<Option<String>>,
+    error: Cell<Option<String>>,
+}
+
+fn new_terminal(alloc: Global, refuses: bool) -> Terminal {
+    Terminal {
+        alloc,
+        refuses,
+        output: Cell::new(None),
+        error: Cell::new(None),
+    }
+}
+
+impl Print for Terminal {
+    fn print<D: Display + Drop>(&self, value: D) -> io::Result<()> {
+        self.println(value)
+    }
+
+    fn println<D: Display + Drop>(&self, value: D) -> io::Result<()> {
+        if self.refuses {
+            return Err(io::Error::from(io::ErrorKind::Unsupported));
+        }
+        self.output.set(Some(format!(in self.alloc; "{value}")?));
+        Ok(())
+    }
+
+    fn write_all(&self, bytes: &[u8]) -> io::Result<()> {
+        Err(io::Error::from(io::ErrorKind::Unsupported))
+    }
+
+    fn write_some(&self, bytes: &[u8]) -> io::Result<usize> {
+        Err(io::Error::from(io::ErrorKind::Unsupported))
+    }
+}
+
+impl Eprint for Terminal {
+    fn eprint<D: Display + Drop>(&self, value: D) -> io::Result<()> {
+        self.eprintln(value)
+    }
+
+    fn eprintln<D: Display + Drop>(&self, value: D) -> io::Result<()> {
+        self.error.set(Some(format!(in self.alloc; "{value}")?));
+        Ok(())
+    }
+}
+
+// What a terminal keeps is this line, or none.
+fn is_line(kept: &Cell<Option<String>>, line: Option<&str>) -> bool {
+    match (kept.take(), line) {
+        (Some(kept), Some(line)) => kept.as_str() == line,
+        (None, None) => true,
+        _ => false,
+    }
+}
+
+// Each status, its number, and the line that standard error gets.
+#[rattlefmt::skip]
+const STATUSES: [(Status, u8, Option<&str>); 7] = [
+    (Status::Done, 0, None),
+    (Status::BadWords, 1, Some("usage: session_run run CAP | ready | gen SEED COUNT | wake SENDERS COUNT | copy CAP PREFIXHEX")),
+    (Status::BadLine, 2, None),
+    (Status::TooLong, 3, Some("session_run: the input has more than 16777216 bytes")),
+    (Status::ReadFault, 4, Some("session_run: reading the input failed")),
+    (Status::WriteFault, 5, Some("session_run: writing the output failed")),
+    (Status::OutOfMemory, 6, Some("session_run: out of memory")),
+];
+
+#[test]
+fn each_status_has_its_number_and_line(rt: HostRuntime) -> Result<(), Fail> {
+    let terminal = new_terminal(rt.alloc(), false);
+    for (status, number, line) in STATUSES {
+        assert_eq!(rt; status.number(), number, "of {status:?}");
+        assert!(rt;
+            end_with(&terminal, status) == ExitCode::from(number),
+            "of {status:?}"
+        );
+        assert!(rt; is_line(&terminal.error, line), "of {status:?}");
+        assert!(rt; is_line(&terminal.output, None), "of {status:?}");
+    }
+    Ok(())
+}
+
+// The lines of the help.
+#[rattlefmt::skip]
+const LINES: [&str; 30] = [
+    "Runs an I/O engine with owned buffers on events that it reads.",
+    "",
+    "usage: session_run run CAP",
+    "       session_run ready",
+    "       session_run gen SEED COUNT",
+    "       session_run wake SENDERS COUNT",
+    "       session_run copy CAP PREFIXHEX",
+    "       session_run --help",
+    "       session_run --version",
+    "",
+    "run CAP              reads events from standard input, one a line, runs them",
+    "                     over a submission queue of CAP entries (1 to 4294967295),",
+    "                     and writes the reply to each, one a line",
+    "ready                does so on the readiness driver, which makes the call of an",
+    "                     operation when it is polled: turn and exec lines are",
+    "                     invalid here",
+    "gen SEED COUNT       runs COUNT rounds of seven events (0 to 100000) that SEED",
+    "                     generates (0 to 2147483647) over a queue of 8 entries, and",
+    "                     writes how many events there were, how many were refused,",
+    "                     and how many polls were ready",
+    "wake SENDERS COUNT   wakes a parked driver COUNT times (0 to 100000) from each",
+    "                     of SENDERS threads (0 to 64), and writes how many wake-ups",
+    "                     it drained",
+    "copy CAP PREFIXHEX   writes the bytes of PREFIXHEX (hexadecimal digits, or -",
+    "                     for none) and then standard input, by way of buffers of",
+    "                     CAP bytes (1 to 16777216)",
+    "",
+    "exit status: 0 success; 1 invalid command line; 2 invalid line, whose number",
+    "is printed; 3 more than 16777216 bytes of input; 4 reading failed; 5 writing",
+    "failed; 6 out of memory",
+];
+
+#[test]
+fn the_help_and_the_version_are_these(rt: HostRuntime) -> Result<(), Fail> {
+    let mut lines = HELP.split('\n');
+    for line in LINES {
+        assert_eq!(rt; lines.next(), Some(line));
+    }
+    assert_eq!(rt; lines.next(), None);
+    let works = new_terminal(rt.alloc(), false);
+    let refuses = new_terminal(rt.alloc(), true);
+    for (asked, text) in [(Asked::Help, HELP), (Asked::Version, "session_run 0.1.0")] {
+        assert!(rt; answer(&works, asked) == ExitCode::from(0), "of {asked:?}");
+        assert!(rt; is_line(&works.output, Some(text)), "of {asked:?}");
+        assert!(rt; is_line(&works.error, None), "of {asked:?}");
+        assert!(rt;
+            answer(&refuses, asked) == ExitCode::from(5),
+            "of {asked:?}"
+        );
+        assert!(rt;
+            is_line(
+                &refuses.error,
+                Some("session_run: writing the output failed")
+            ),
+            "of {asked:?}"
+        );
+    }
+    Ok(())
+}
+
+// Words, and what they ask for in place of a command.
+#[rattlefmt::skip]
+const ASKED: [(&str, Option<Asked>); 5] = [
+    ("--help", Some(Asked::Help)),
+    ("--version", Some(Asked::Version)),
+    ("--help --version", None),
+    ("-h", None),
+    ("run 4", None),
+];
+
+#[test]
+fn help_and_version_are_asked_for_alone(rt: HostRuntime) -> Result<(), Fail> {
+    for (text, asked) in ASKED {
+        let words = split_words(rt.alloc(), text)?;
+        assert_eq!(rt; asked_of(words.as_slice()), asked, "for {text:?}");
+    }
+    Ok(())
+}
+
+#[test]
+fn errors_are_written_as_their_names(rt: HostRuntime) -> Result<(), Fail> {
+    let alloc = rt.alloc();
+    assert_eq!(rt;
+        format!(in alloc; "{}", RunError::OutOfMemory)?.as_str(),
+        "OutOfMemory"
+    );
+    assert_eq!(rt; format!(in alloc; "{}", Failed)?.as_str(), "Failed");
+    Ok(())
+}
