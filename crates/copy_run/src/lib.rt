@@ -5,6 +5,3 @@ pub mod copying;
 mod lent;
 
 pub use copying::{Ending, copy_all};
-
-#[cfg(test)]
-mod tests;

@@ -63,6 +63,3 @@ pub use source::{ByteSink, ByteSource, Failed, StdSink, StdSource};
 pub use source_stream::{PIECE, SourceStream};
 pub use write_all::WriteAll;
 pub use write_vectored_all::WriteVectoredAll;
-
-#[cfg(test)]
-mod tests;

@@ -18,6 +18,3 @@ pub use prefixed_io::PrefixedReadIo;
 pub use splice::{MemPipe, SpliceDestination, SpliceSource};
 pub use split::{OwnedReadHalf, OwnedWriteHalf, Pairs, ReuniteError, Shutdown, Split, Splitable};
 pub use zero_copy::{MOST_SPLICED, ZeroCopy};
-
-#[cfg(test)]
-mod tests;

@@ -1,15 +1,19 @@
 // A chain: a copy from a buffered reader of a prefixed stream to a buffered writer, where one of the two streams fails, pauses
 // or is interrupted at one of its first twenty calls.
-use super::{made, resumed, stream};
-use crate::{BufReader, BufWriter, Copied, Copy, PrefixedReadIo};
+use crate::tests::base::{Why, made, stream};
+use crate::tests::copies::resumed;
 use rent_buf::{ByteList, IoFault, NumList};
 use rent_io::{AsyncWriteRent, MemSource, PollCount, ScriptedStream, Step, Turned1};
 use std::alloc::{AllocError, Global};
+use std::process::Abort;
 use std::test::Fail;
+use stream_util::{BufReader, BufWriter, Copied, Copy, PrefixedReadIo};
 
 // What disturbs a call: its name, the turn, and how many faults and how many pauses then come.
+type Disturbs = (&'static str, Turned1, u64, u64);
+
 #[rattlefmt::skip]
-const TURNS: [(&str, Turned1, u64, u64); 3] = [
+const TURNS: [Disturbs; 3] = [
     ("a fault", Turned1::Fault(5), 1, 0),
     ("a pause", Turned1::Pause, 0, 1),
     ("an interrupt", Turned1::Interrupt, 0, 0),
@@ -73,7 +77,7 @@ fn new_chain(
     reads: Option<usize>,
     writes: Option<usize>,
     turn: Turned1,
-) -> Result<Chain, Fail> {
+) -> Result<Chain, Why> {
     let (front, behind) = all.split_at(PREFIX.min(all.len()));
     let prefix = MemSource::new(
         ByteList::from_vec(front.to_vec(alloc)?),
@@ -116,7 +120,7 @@ fn joins(chain: &Chain, held: &[u8], all: &[u8]) -> bool {
 }
 
 // The copy that goes on after one that ended at a fault, or none after one that copied all.
-fn after(chain: &mut Chain, copied: Copied) -> Result<Option<Copy>, Fail> {
+fn after(chain: &mut Chain, copied: Copied) -> Result<Option<Copy>, Why> {
     let Copied { result, rest } = copied;
     match result {
         Ok(_) => Ok(None),
@@ -124,12 +128,12 @@ fn after(chain: &mut Chain, copied: Copied) -> Result<Option<Copy>, Fail> {
             chain.faults = chain.faults.saturating_add(1);
             Ok(Some(resumed(rest)?))
         }
-        Err(_) => Err(Fail::from("another fault")),
+        Err(_) => Err(Why::NotSo),
     }
 }
 
 // The copy after one poll, or none once it copied all.
-fn poll(chain: &mut Chain, copy: Copy) -> Result<Option<Copy>, Fail> {
+fn poll(chain: &mut Chain, copy: Copy) -> Result<Option<Copy>, Why> {
     match copy.poll(&mut chain.reader, &mut chain.writer, 0) {
         Step::Ready(copied) => after(chain, copied),
         Step::Again(next) => Ok(Some(next)),
@@ -141,7 +145,7 @@ fn poll(chain: &mut Chain, copy: Copy) -> Result<Option<Copy>, Fail> {
 }
 
 // Whether one poll flushed the writer.
-fn flush(chain: &mut Chain) -> Result<bool, Fail> {
+fn flush(chain: &mut Chain) -> Result<bool, Why> {
     match chain.writer.poll_flush(0) {
         PollCount::Ready(Ok(_)) => Ok(true),
         PollCount::Again => Ok(false),
@@ -153,12 +157,12 @@ fn flush(chain: &mut Chain) -> Result<bool, Fail> {
             chain.faults = chain.faults.saturating_add(1);
             Ok(false)
         }
-        PollCount::Ready(Err(_)) => Err(Fail::from("another fault")),
+        PollCount::Ready(Err(_)) => Err(Why::NotSo),
     }
 }
 
 // Polls a copy until it copied all, and whether these were the joined bytes before and after each poll.
-fn copies(chain: &mut Chain, copy: Copy, all: &[u8]) -> Result<bool, Fail> {
+fn copies(chain: &mut Chain, copy: Copy, all: &[u8]) -> Result<bool, Why> {
     let mut copy = copy;
     for _ in 0..200 {
         if !joins(chain, copy.held(), all) {
@@ -173,7 +177,7 @@ fn copies(chain: &mut Chain, copy: Copy, all: &[u8]) -> Result<bool, Fail> {
 }
 
 // Polls a flush until it is done, and whether these were the joined bytes after each poll, and all are delivered then.
-fn flushes(chain: &mut Chain, all: &[u8]) -> Result<bool, Fail> {
+fn flushes(chain: &mut Chain, all: &[u8]) -> Result<bool, Why> {
     for _ in 0..200 {
         let done = flush(chain)?;
         if !joins(chain, &[], all) {
@@ -194,7 +198,7 @@ fn run(
     reads: Option<usize>,
     writes: Option<usize>,
     turn: Turned1,
-) -> Result<(bool, u64, u64, bool), Fail> {
+) -> Result<(bool, u64, u64, bool), Why> {
     let mut chain = new_chain(alloc, all, reads, writes, turn)?;
     let kept = copies(&mut chain, Copy::new(alloc)?, all)? && flushes(&mut chain, all)?;
     let read = chain.reader.get_ref().get_ref().calls();
@@ -207,16 +211,45 @@ fn run(
     ))
 }
 
+// The run is as it is to be: each byte was kept, so many faults and pauses came, and each stream was called often enough.
+fn is_kept(
+    rt: &impl Abort,
+    (name, _, faults, pauses): Disturbs,
+    place: &str,
+    at: usize,
+    run: Result<(bool, u64, u64, bool), Why>,
+) {
+    assert_eq!(rt;
+        run,
+        Ok((true, faults, pauses, true)),
+        "{name} at the {place} {at}"
+    );
+}
+
+// The runs in which a call of this number is disturbed: one of the reader's stream, and one of the writer's.
+fn runs_at(rt: &impl Abort, alloc: Global, all: &[u8], each: Disturbs, at: usize) {
+    is_kept(
+        rt,
+        each,
+        "read",
+        at,
+        run(alloc, all, Some(at), None, each.1),
+    );
+    is_kept(
+        rt,
+        each,
+        "write",
+        at,
+        run(alloc, all, None, Some(at), each.1),
+    );
+}
+
 #[test]
 fn a_chain_keeps_each_byte(rt: HostRuntime) -> Result<(), Fail> {
     let all = bytes(rt.alloc())?;
-    for (name, turn, faults, pauses) in TURNS {
+    for each in TURNS {
         for at in 0..CALLS {
-            let want = (true, faults, pauses, true);
-            let read = run(rt.alloc(), &all, Some(at), None, turn)?;
-            assert_eq!(rt; read, want, "{name} at the read {at}");
-            let written = run(rt.alloc(), &all, None, Some(at), turn)?;
-            assert_eq!(rt; written, want, "{name} at the write {at}");
+            runs_at(&rt, rt.alloc(), &all, each, at);
         }
     }
     Ok(())
