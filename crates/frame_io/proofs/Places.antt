@@ -13,10 +13,12 @@ none_at false channel message channels none rest = rest none
 -- A channel that isn't open has no bytes.
 pub none_of : (channel : ℕ) (channels : List Message) → is_open channel channels ≡ false → bytes_of channel channels ≡ []
 none_of channel [] none = refl
-none_of channel (message ∷ channels) none = none_at (nat_eq message.channel channel) channel message channels none (λ h. none_of channel channels h)
+none_of channel (message ∷ channels) none =
+    none_at (nat_eq message.channel channel) channel message channels none (λ h. none_of channel channels h)
 
 without_at : (b : Bool) (channel : ℕ) (message : Message) (channels : List Message) → cond b true (is_open channel channels) ≡ false
-    → (is_open channel channels ≡ false → without channel channels ≡ channels) → cond b channels (message ∷ without channel channels) ≡ message ∷ channels
+    → (is_open channel channels ≡ false → without channel channels ≡ channels)
+    → cond b channels (message ∷ without channel channels) ≡ message ∷ channels
 without_at true channel message channels none rest = cc
 without_at false channel message channels none rest = ap (λ o. message ∷ o) (rest none)
 

@@ -1,5 +1,6 @@
 -- What is read, step by step.
-use Rattle.std.proofs.Common.{◌≡◌, ◌∙◌, ℕ, zero, suc, ◌+◌, ◌<◌, List, [], ◌∷◌, ◌++◌, Bool, true, false, length, take, drop, sym, ap, subst, refl, arith}
+use Rattle.std.proofs.Common.{◌≡◌, ◌∙◌, ℕ, zero, suc, ◌+◌, ◌<◌, List, [], ◌∷◌, ◌++◌, Bool, true, false, length}
+use Rattle.std.proofs.Common.{take, drop, sym, ap, subst, refl, arith}
 use Rattle.std.proofs.Common.{cond, append_assoc, append-nil, length-append}
 use Rattle.std.specs.Prelude.{Option, None, Some, nat_lt}
 use Rattle.std.proofs.Math.ListN.{drop_of_length-le}
@@ -17,7 +18,8 @@ use Rattle.frame_io.specs.declared.header.Header.TheVariants.{Whole, Cut as Head
 use Rattle.frame_io.specs.declared.limits.Limits.{Limits}
 use Rattle.frame_io.specs.declared.message.Message.{Message}
 use Rattle.frame_io.specs.Piece.{header_at, IsHeader}
-use Rattle.frame_io.specs.Frames.{Outcome, stops, gives, bytes_of, without, refusal, ended, inside, begun, ending_of, taken, reads_at, reads}
+use Rattle.frame_io.specs.Frames.{Outcome, stops, gives, bytes_of, without, refusal, ended, inside, begun, ending_of, taken}
+use Rattle.frame_io.specs.Frames.{reads_at, reads}
 use Rattle.frame_io.specs.Frames.{read_from}
 use Rattle.frame_io.specs.Decoder.{Polled, answer_of}
 use Rattle.frame_io.proofs.Headers.{HeaderGoes, header_goes, header_within}
@@ -34,7 +36,8 @@ stopped was (Fault Cut) nothing ends = record { nothing = nothing; ends = ends; 
 
 -- Two ways to read on that agree on shorter bytes.
 abbrev pub Agree : (List Message → ℕ → List ℕ → Outcome) → (List Message → ℕ → List ℕ → Outcome) → ℕ → Type 0
-Agree f g most = (channels : List Message) (offset : ℕ) (bytes : List ℕ) → length bytes < most → f channels offset bytes ≡ g channels offset bytes
+Agree f g most = (channels : List Message) (offset : ℕ) (bytes : List ℕ) → length bytes < most
+    → f channels offset bytes ≡ g channels offset bytes
 
 same_ended : (b : Bool) (message : Message) (x y u v : Outcome) → x ≡ y → u ≡ v → cond b (gives message x) u ≡ cond b (gives message y) v
 same_ended true message x y u v first second = ap (gives message) first
@@ -44,7 +47,8 @@ same_if : (b : Bool) (x y z : Outcome) → y ≡ z → cond b x y ≡ cond b x z
 same_if true x y z is = refl
 same_if false x y z is = is
 
-same_inside : (f g : List Message → ℕ → List ℕ → Outcome) (channels : List Message) (offset : ℕ) (p : Begun) (bytes rest : List ℕ) (most : ℕ)
+same_inside : (f g : List Message → ℕ → List ℕ → Outcome) (channels : List Message) (offset : ℕ) (p : Begun)
+    (bytes rest : List ℕ) (most : ℕ)
     → length rest < most → Agree f g most → inside f channels offset p bytes rest ≡ inside g channels offset p bytes rest
 same_inside f g channels offset p bytes rest most less agree =
     let message : Message = record { channel = p.channel; bytes = bytes ++ take p.lacks rest } in
@@ -53,7 +57,8 @@ same_inside f g channels offset p bytes rest most less agree =
     (ended (λ o r. f o (offset + p.size) r) channels p (bytes ++ take p.lacks rest) (drop p.lacks rest))
     (ended (λ o r. g o (offset + p.size) r) channels p (bytes ++ take p.lacks rest) (drop p.lacks rest))
     (same_ended p.last message (f channels (offset + p.size) (drop p.lacks rest)) (g channels (offset + p.size) (drop p.lacks rest))
-    (f (channels ++ message ∷ []) (offset + p.size) (drop p.lacks rest)) (g (channels ++ message ∷ []) (offset + p.size) (drop p.lacks rest))
+    (f (channels ++ message ∷ []) (offset + p.size) (drop p.lacks rest))
+    (g (channels ++ message ∷ []) (offset + p.size) (drop p.lacks rest))
     (agree channels (offset + p.size) (drop p.lacks rest) shorter)
     (agree (channels ++ message ∷ []) (offset + p.size) (drop p.lacks rest) shorter))
 
@@ -65,7 +70,8 @@ same_taken f g channels offset head count rest None most less agree =
     same_inside f g (without head.channel channels) offset (begun head count) (bytes_of head.channel channels) rest most less agree
 
 same_at : (f g : List Message → ℕ → List ℕ → Outcome) (limits : Limits) (channels : List Message) (offset : ℕ) (bytes : List ℕ) (h : Header)
-    → IsHeader (length bytes) h → Agree f g (length bytes) → reads_at f limits channels offset bytes h ≡ reads_at g limits channels offset bytes h
+    → IsHeader (length bytes) h → Agree f g (length bytes)
+    → reads_at f limits channels offset bytes h ≡ reads_at g limits channels offset bytes h
 same_at f g limits channels offset bytes (Whole head count) some agree =
     same_taken f g channels offset head count (drop count bytes) (refusal limits channels head) (length bytes)
     (omega (arith, length-drop count bytes, some.0, some.1)) agree
@@ -78,7 +84,8 @@ enough : (n m : ℕ) (limits : Limits) (channels : List Message) (offset : ℕ) 
 enough zero m limits channels offset bytes small less = absurd (omega arith)
 enough (suc n) zero limits channels offset bytes small less = absurd (omega arith)
 enough (suc n) (suc m) limits channels offset bytes small less =
-    same_at (λ o k b. reads n limits o k b) (λ o k b. reads m limits o k b) limits channels offset bytes (header_at bytes) (header_within bytes)
+    same_at (λ o k b. reads n limits o k b) (λ o k b. reads m limits o k b) limits channels offset bytes (header_at bytes)
+    (header_within bytes)
     (λ o k b shorter. enough n m limits o k b (omega arith) (omega arith))
 
 -- What is read from an offset on, by the piece that stands there.
@@ -93,7 +100,8 @@ reads_is limits channels offset bytes =
 pub read_bad : (limits : Limits) (channels : List Message) (offset : ℕ) (xs more : List ℕ) (fault : BadFrame) → header_at xs ≡ Bad fault
     → read_from limits channels offset (xs ++ more) ≡ stops (Fault fault) offset
 read_bad limits channels offset xs more fault is =
-    let goes : header_at (xs ++ more) ≡ Bad fault = subst (λ h. HeaderGoes (length xs) h (header_at (xs ++ more))) is (header_goes xs more) in
+    let goes : header_at (xs ++ more) ≡ Bad fault =
+    subst (λ h. HeaderGoes (length xs) h (header_at (xs ++ more))) is (header_goes xs more) in
     reads_is limits channels offset (xs ++ more)
     ∙ ap (λ h. reads_at (λ o n b. read_from limits o n b) limits channels offset (xs ++ more) h) goes
 

@@ -276,8 +276,8 @@ impl Decoder {
         requires size { head.size ≤ 65536 }
         requires count { count ≤ 11 }
         ensures own { IsOwn result ⊤ }
-        ensures answer { (left : List ℕ) → Polled (taken (λ o n b. read_from self.old.limits o n b) self.old.channels self.old.offset head count
-            left (refusal self.old.limits self.old.channels head)) (rest_of self.new left) result }
+        ensures answer { (left : List ℕ) → Polled (taken (λ o n b. read_from self.old.limits o n b) self.old.channels self.old.offset
+            head count left (refusal self.old.limits self.old.channels head)) (rest_of self.new left) result }
     {
         let already = self.channels.len();
         let (bytes, known) = opened(&mut self.channels, head.channel);

@@ -13,7 +13,8 @@ pub returns-in-Some-clause-answer : goal.returns-in-Some-clause-answer
 returns-in-Some-clause-answer c =
     let was = c.args.self.now in
     let there : was.piece ≡ Some c.in-Some.field-0 = ap (λ d. d.piece) (sym c.self.view_is) ∙ c.in-Some.is in
-    polled_by _ _ _ _ (ends_piece was c.in-Some.field-0 c.requires.stop there (subst (λ q. IfSome q (λ p. 0 < p.lacks)) there c.requires.lacks))
+    polled_by _ _ _ _ (ends_piece was c.in-Some.field-0 c.requires.stop there
+    (subst (λ q. IfSome q (λ p. 0 < p.lacks)) there c.requires.lacks))
     (c.stop_at.ensures.answer [])
 
 pub returns-then-not-is_empty-clause-answer : goal.returns-then-not-is_empty-clause-answer

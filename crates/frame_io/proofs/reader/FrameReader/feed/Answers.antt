@@ -17,8 +17,10 @@ returns-clause-answer g c = λ tells.
     left_after count bytes front.0 (reader i.inner).left (reader c.consume.new.self).left c.feed-count.ensures.within left
     (rw (sym c.buffered.ensures.value) at taken) in
     let polled = c.feed-count.ensures.answer front.0 in
-    subst (λ (r : Reading g.row.R.Denot). Polled (rest_of r.kept (reader r.inner).left) (rest_of c.feed-count.new.self (reader c.consume.new.self).left)
+    subst (λ (r : Reading g.row.R.Denot). Polled (rest_of r.kept (reader r.inner).left)
+    (rest_of c.feed-count.new.self (reader c.consume.new.self).left)
     c.feed-count.result.1) c.self.view_is
     (subst (λ l. Polled (rest_of i.decoder (reader i.inner).left) (rest_of c.feed-count.new.self l) c.feed-count.result.1) (sym now)
-    (subst (λ l. Polled (rest_of i.decoder l) (rest_of c.feed-count.new.self (drop count bytes ++ front.0)) c.feed-count.result.1) (sym left)
+    (subst (λ l. Polled (rest_of i.decoder l) (rest_of c.feed-count.new.self (drop count bytes ++ front.0)) c.feed-count.result.1)
+    (sym left)
     polled))
