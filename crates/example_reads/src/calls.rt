@@ -4,7 +4,7 @@ use anyhow::{Result, bail};
 use held_op::HeldOp;
 use rent_buf::{Rent, VecBuf};
 use ring_core::{HandleKind, MOST_HANDLES, MemRing, Outcome, Request, SharedFd, Told};
-use uring_driver::{Driver, IoUringDriver, MOST_GIVEN, PollOp, Submitted, Turned};
+use uring_driver::{Driver as _, IoUringDriver, MOST_GIVEN, PollOp, Submitted, Turned};
 
 /// The completion driver over the ring in memory, with buffers of a stated total.
 pub type Ring = IoUringDriver<MemRing, Rent>;

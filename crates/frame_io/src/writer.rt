@@ -1,5 +1,5 @@
 // A writer of messages.
-ghost use Rattle.std.specs.Prelude.{◌≡◌, ◌<◌, [], length, IsTrue};
+ghost use Rattle.std.specs.Prelude.{◌≡◌, ◌<◌, [], length};
 ghost use Rattle.rent_io.specs.Counts.{AfterCall};
 ghost use Rattle.rent_io.specs.ItemSink.{IsSent, IsDone, CausesDone};
 ghost use Rattle.rent_io.specs.Writer.{EndsStay};

@@ -8,8 +8,8 @@ use driver_core::Op;
 use std::marker::Model;
 
 /// The token of an operation, which may be let go at any time: then it is forgotten, and its operation stays as it is, with its buffer,
-/// until its driver ends. So `?` may stand where one is held, and a vector, a map or an option may hold some. A clause sees it as its token.
-/// (monoio: `Op`, whose drop drops the operation)
+/// until its driver ends. So `?` may stand where one is held, and a vector, a map or an option may hold some. A clause sees it as its
+/// token. (monoio: `Op`, whose drop drops the operation)
 #[derive(Debug)]
 pub struct HeldOp {
     op: Op,

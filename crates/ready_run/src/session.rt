@@ -15,7 +15,7 @@ ghost use Rattle.ready_run.specs.ReadySession.{driver_in, SessionStands, Session
 ghost use Rattle.ready_run.specs.ReadySession.{TakesNoMemory, is_live};
 ghost use Rattle.ready_run.specs.Runs.{OneReplyEach, PendingWhenBlocked, CanceledWhenAsked};
 
-use driver_core::{Driver, MOST_GIVEN, PollOp, RunError, Tokens};
+use driver_core::{Driver as _, MOST_GIVEN, PollOp, RunError, Tokens};
 use ready_driver::{LegacyDriver, MemIo};
 use rent_buf::{Buf, Held, HeldBuf, OutOfMemory, VecBuf};
 use ring_core::{

@@ -11,7 +11,7 @@ use crate::calls::{Plain, ReadCall};
 use crate::number::Number;
 use crate::poll::Step;
 use crate::read_exact::ReadExact;
-use rent_buf::{IoBuf, IoFault, OutOfMemory, Rent};
+use rent_buf::{IoBuf as _, IoFault, OutOfMemory, Rent};
 use std::alloc::Global;
 use std::marker::{Model, PhantomData};
 

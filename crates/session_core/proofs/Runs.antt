@@ -1,5 +1,5 @@
 -- The replies and the session along a run.
-use Rattle.std.proofs.Common.{◌≡◌, ◌<◌, ◌≤◌, ℕ, zero, suc, List, [], ◌∷◌, ◌++◌, length, get_or, take, drop, Some, refl, sym, ◌∙◌, ap}
+use Rattle.std.proofs.Common.{◌≡◌, ◌≤◌, ℕ, zero, suc, List, [], ◌∷◌, ◌++◌, length, take, drop, Some, refl, sym, ◌∙◌, ap}
 use Rattle.std.proofs.Common.{append_assoc, subst, arith}
 use Rattle.std.specs.Prelude.{slice_get}
 use Rattle.ring_core.specs.declared.ledger.Event.{Event}

@@ -25,7 +25,7 @@ use ring_core::{
     Told, WorldError,
 };
 use std::alloc::Global;
-use uring_driver::{Driver, Executed, IoUringDriver, MOST_GIVEN, PollOp};
+use uring_driver::{Driver as _, Executed, IoUringDriver, MOST_GIVEN, PollOp};
 
 mod groups;
 mod submission;

@@ -5,7 +5,7 @@ ghost use Rattle.rent_io.specs.Completeness.{TookNone};
 ghost use Rattle.rent_io.specs.Writer.{EndsStay};
 ghost use Rattle.stream_util.specs.Copy.{Copies, CopyCompletes, Runs, CopiesAll, OneCall, IsSameJoined, held_in};
 
-use rent_buf::{ByteList, IoBufMut, IoFault, OutOfMemory, Rent, Slice};
+use rent_buf::{ByteList, IoBufMut as _, IoFault, OutOfMemory, Rent, Slice};
 use rent_io::{AsyncReadRent, AsyncWriteRent, PollBuf, Step};
 use std::alloc::Global;
 use std::marker::Model;

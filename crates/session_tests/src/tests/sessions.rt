@@ -13,7 +13,7 @@ use ring_core::{Event, MemRing, Reply, Told};
 use session_core::{Session, Tokens};
 use std::alloc::Global;
 use std::test::Fail;
-use uring_driver::{Driver, IoUringDriver, MOST_GIVEN};
+use uring_driver::{Driver as _, IoUringDriver, MOST_GIVEN};
 
 impl From<OutOfMemory> for Why {
     fn from(_: OutOfMemory) -> Why {

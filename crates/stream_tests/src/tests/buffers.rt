@@ -135,7 +135,7 @@ fn prefixed(alloc: Global) -> Result<Prefixed, Why> {
 
 // The end of an exact read that is polled four times at most.
 fn read_exact(io: &mut Prefixed, buf: Rent) -> Result<BufResult<usize, Rent>, Why> {
-    ended(io.read_exact(buf).drive(io, 0, 4))
+    ended(AsyncReadRentExt::read_exact(io, buf).drive(io, 0, 4))
 }
 
 // The whole is read.
@@ -143,13 +143,18 @@ fn behind(alloc: Global) -> Result<(), Why> {
     let mut io = prefixed(alloc)?;
     let (outcome, buf) = read_exact(&mut io, room_of(alloc, 11)?)?;
     is_outcome(outcome, Ok(11))?;
-    are_bytes("the bytes that were read", buf.bytes(), "hello world")
+    are_bytes(
+        "the bytes that were read",
+        IoBuf::bytes(&buf),
+        "hello world",
+    )
 }
 
 // Reads into parts: the rest of the prefix, and then the stream.
 #[rattlefmt::skip]
 const BEHIND: [ReadStep; 3] = [
-    ReadStep::Parts(&["", "....", "."], Ready(Ok(4)), &["", "hell", "."]), ReadStep::Parts(&["....", "", ""], Ready(Ok(2)), &["o ", "", ""]),
+    ReadStep::Parts(&["", "....", "."], Ready(Ok(4)), &["", "hell", "."]),
+    ReadStep::Parts(&["....", "", ""], Ready(Ok(2)), &["o ", "", ""]),
     ReadStep::Parts(&["", "", "......"], Ready(Ok(5)), &["", "", "world"]),
 ];
 

@@ -3,7 +3,7 @@
 use crate::tests::base::{Why, made, stream};
 use crate::tests::copies::resumed;
 use rent_buf::{ByteList, IoFault, NumList};
-use rent_io::{AsyncWriteRent, MemSource, PollCount, ScriptedStream, Step, Turned1};
+use rent_io::{AsyncWriteRent as _, MemSource, PollCount, ScriptedStream, Step, Turned1};
 use std::alloc::{AllocError, Global};
 use std::process::Abort;
 use std::test::Fail;

@@ -7,7 +7,7 @@ use crate::tests::base::{
 use crate::tests::reads::is_outcome;
 use crate::tests::stage::Plain;
 use crate::tests::steps::{ReadStep, WriteStep, run_reads, run_writes};
-use rent_buf::{IoBuf, Rent};
+use rent_buf::{IoBuf as _, Rent};
 use rent_io::PollCount::Ready;
 use rent_io::{
     AsyncReadRentExt, AsyncWriteRentExt, BufResult, IoFault, MemSink, MemSource, SendAndFlush,

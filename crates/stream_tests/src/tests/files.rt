@@ -37,12 +37,12 @@ const ROWS: &[Row] = &[
 
 // One read.
 fn read(file: &mut MemFile, buf: Rent, pos: u64) -> (PollCount, Rent) {
-    parted(file.poll_read_at(buf, pos, 0))
+    parted(AsyncReadRentAt::poll_read_at(file, buf, pos, 0))
 }
 
 // One write.
 fn write(file: &mut MemFile, bytes: Vec<u8>, pos: u64) -> PollCount {
-    parted(file.poll_write_at(bytes, pos, 0)).0
+    parted(AsyncWriteRentAt::poll_write_at(file, bytes, pos, 0)).0
 }
 
 // A write is as its row says.
@@ -68,7 +68,7 @@ fn reads(
 ) -> Result<(), Why> {
     let (answer, buf) = read(file, room_of(alloc, room)?, pos);
     is_like("the answer", answer == want)?;
-    are_bytes("the bytes that were read", buf.bytes(), bytes)
+    are_bytes("the bytes that were read", IoBuf::bytes(&buf), bytes)
 }
 
 // One call.

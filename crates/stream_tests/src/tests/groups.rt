@@ -5,7 +5,7 @@ use crate::tests::base::{
 use crate::tests::noting::{Noting, handle, has_noted, stream_of};
 use crate::tests::reads::is_outcome;
 use cancel_core::CancelHandle;
-use rent_buf::{IoBuf, Ranges, Rent, VecBuf};
+use rent_buf::{IoBuf as _, Ranges, Rent, VecBuf};
 use rent_io::{
     BufResult, CancelableAsyncReadRentExt, CancelableAsyncWriteRentExt, CancelableWriteVectoredAll,
 };

@@ -2,7 +2,7 @@
 use crate::tests::base::{Why, are_bytes, ended, is_well, list_of};
 use crate::tests::reads::is_outcome;
 use rent_buf::ByteList;
-use rent_io::{AsyncBufReadExt, BufResult, IoFault};
+use rent_io::{AsyncBufReadExt as _, BufResult, IoFault};
 use std::alloc::Global;
 use std::test::Fail;
 

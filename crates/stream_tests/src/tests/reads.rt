@@ -5,7 +5,7 @@ use crate::tests::base::{
 };
 use crate::tests::stage::Plain;
 use crate::tests::steps::{ReadStep, run_reads};
-use rent_buf::{IoBuf, Rent, VecBuf};
+use rent_buf::{IoBuf as _, Rent, VecBuf};
 use rent_io::PollCount::Ready;
 use rent_io::Turned1::{Fault, Grant, Interrupt, Pause};
 use rent_io::{

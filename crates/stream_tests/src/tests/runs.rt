@@ -1,5 +1,5 @@
 // Copies of all that a source gives to a sink, behind a prefix.
-use crate::tests::base::{Why, are_bytes, is_like, is_well, list_of, nums_of};
+use crate::tests::base::{Why, is_like, is_well, list_of, nums_of};
 use copy_run::{Ending, copy_all};
 use rent_buf::ByteList;
 use rent_io::{MemSink, MemSource};
