@@ -2,4 +2,5 @@
 mod hostile;
 mod rows;
 mod schedules;
+mod sends;
 mod stage;
