@@ -1,0 +1,145 @@
+// What the server and its clients ask of a driver. Each call's condition is asked when the program runs, so nothing is to be shown.
+ghost use Rattle.std.specs.Prelude.{◌≡◌};
+
+use anyhow::{Result, bail};
+use driver_core::{Driver, MOST_GIVEN, PollOp, Submitted};
+use handle_core::SharedFd;
+use held_op::HeldOp;
+use ready_driver::{LegacyDriver, NonBlock};
+use rent_buf::{Rent, VecBuf};
+use ring_core::{MOST_HANDLES, Outcome, Request};
+use std::alloc::Global;
+use std::sync::Wait;
+use std::sync::ledger::{Blank, Ledger};
+use std::time::Clock;
+use wake_core::{PUSH_PARTS, Sleeper, WakeCell};
+
+/// A request with a buffer of a stated total.
+pub type Asked = Request<Rent, VecBuf>;
+
+/// What a poll answers.
+pub enum Polled {
+    /// The operation goes on.
+    Pending(HeldOp),
+    /// It has ended, and its request comes back.
+    Ready(Outcome, Asked),
+}
+
+/// A driver's calls.
+pub trait Calls {
+    /// Adopts a handle that was made before the driver.
+    fn adopt(&mut self, h: u64) -> Result<SharedFd>;
+
+    /// Submits a request.
+    fn submit(&mut self, request: Asked) -> Result<HeldOp>;
+
+    /// Polls an operation.
+    fn poll(&mut self, held: HeldOp) -> Result<Polled>;
+
+    /// Drops an operation, with its buffer.
+    fn drop_op(&mut self, held: HeldOp) -> Result<()>;
+
+    /// Closes a handle. Each operation on it has ended.
+    fn close(&mut self, fd: SharedFd) -> Result<()>;
+
+    /// A turn that waits a millisecond at most.
+    fn park(&mut self) -> Result<()>;
+
+    /// How many operations are live.
+    fn live(&self) -> usize;
+}
+
+/// A driver, and the sleeper that its parks are lent.
+#[derive(Drop)]
+pub struct Parking<'a, I: NonBlock, P: Ledger, D: Ledger, R> {
+    driver: LegacyDriver<I, Rent>,
+    sleeper: Sleeper<P, D>,
+    rt: &'a R,
+}
+
+impl<'a, I: NonBlock, P: Ledger, D: Ledger, R: Wait + Clock> Calls for Parking<'a, I, P, D, R> {
+    fn adopt(&mut self, h: u64) -> Result<SharedFd> {
+        if h >= MOST_HANDLES || self.driver.known(h) {
+            bail!("the handle is known");
+        }
+        Ok(self.driver.adopt(h)?)
+    }
+
+    fn submit(&mut self, request: Asked) -> Result<HeldOp> {
+        if !self.driver.holds_names(request.names()) || self.driver.given() >= MOST_GIVEN {
+            bail!("the handle isn't held");
+        }
+        match self.driver.submit_with(request, None) {
+            Ok(Submitted::Op(op)) => Ok(HeldOp::new(op)),
+            Ok(Submitted::Canceled(_)) => bail!("its group is canceled"),
+            Err(refused) => Err(refused.why.into()),
+        }
+    }
+
+    fn poll(&mut self, held: HeldOp) -> Result<Polled> {
+        if !self.driver.holds(held.op()) {
+            bail!("another driver's operation");
+        }
+        match self.driver.poll_op(held.into_op(), 0) {
+            Ok(PollOp::Pending(op)) => Ok(Polled::Pending(HeldOp::new(op))),
+            Ok(PollOp::Ready(done)) => Ok(Polled::Ready(done.outcome, done.request)),
+            Err((why, op)) => {
+                op.forget();
+                Err(why.into())
+            }
+        }
+    }
+
+    fn drop_op(&mut self, held: HeldOp) -> Result<()> {
+        if !self.driver.holds(held.op()) {
+            bail!("another driver's operation");
+        }
+        self.driver.drop_op(held.into_op());
+        Ok(())
+    }
+
+    fn close(&mut self, fd: SharedFd) -> Result<()> {
+        if !self.driver.user_holds(fd.number()) {
+            bail!("the handle isn't held");
+        }
+        let _ = self.driver.close(fd);
+        Ok(())
+    }
+
+    fn park(&mut self) -> Result<()> {
+        match self
+            .driver
+            .park_timeout(self.rt, &mut self.sleeper, 1)
+            .turned
+            .stop
+        {
+            None => Ok(()),
+            Some(why) => Err(why.into()),
+        }
+    }
+
+    fn live(&self) -> usize {
+        self.driver.num_operations()
+    }
+}
+
+/// A driver over an object, whose parks are lent a new sleeper. The two ledgers of a sleeper count what is sent to it and drained from it;
+/// a program that has one sleeper passes `Blank::new(PUSH_PARTS)` and `Blank::new(1)`.
+pub fn make_parking<'a, P: Ledger, D: Ledger, I: NonBlock, R>(
+    rt: &'a R,
+    alloc: Global,
+    io: I,
+    pushes: Blank,
+    drains: Blank,
+) -> Result<Parking<'a, I, P, D, R>>
+    requires pushes { (pushes.name ≡ P.name) × (pushes.parts ≡ P.parts) × (pushes.parts ≡ PUSH_PARTS) }
+    requires drains { (drains.name ≡ D.name) × (drains.parts ≡ D.parts) × (drains.parts ≡ 1) }
+{
+    let (_cell, sleeper) = WakeCell::<P, D>::new(alloc, pushes, drains)?;
+    let driver = LegacyDriver::over(alloc, io);
+    Ok(Parking {
+        driver,
+        sleeper,
+        rt,
+    })
+}
