@@ -2,7 +2,7 @@
 ghost use Rattle.std.specs.Prelude.{◌≡◌};
 
 use anyhow::{Result, bail};
-use driver_core::{Driver, MOST_GIVEN, PollOp, Submitted};
+use driver_core::{Driver as _, MOST_GIVEN, PollOp, Submitted};
 use handle_core::SharedFd;
 use held_op::HeldOp;
 use ready_driver::{LegacyDriver, NonBlock};

@@ -3,7 +3,7 @@ use super::rows::STANDARD;
 use super::stage::{are, read};
 use frame_io::{FrameFault, FrameWriter, MOST_IN_MESSAGE, Message};
 use rent_buf::ByteList;
-use rent_io::{AsyncWriteRent, ScriptedStream, Sink, SinkDone, SinkPoll, Turned1};
+use rent_io::{AsyncWriteRent, ScriptedStream, Sink as _, SinkDone, SinkPoll, Turned1};
 use std::alloc::{AllocError, Global};
 use std::test::Fail;
 
