@@ -21,6 +21,7 @@ number_high (suc count) less n is big =
     cond-false (nat_lt n 128) (n ∷ []) ((128 + n % 128) ∷ number_in count (n / 128)) (grind (arith, nat_tests))
     ∙ ap (λ c. (128 + n % 128) ∷ number_in c (n / 128)) (omega arith)
 
+-- A byte alone, or before so many bytes at most, makes one byte more at most.
 number_short_if : (b : Bool) (count n m : ℕ) (rest : List ℕ) → length rest ≤ count → length (cond b (n ∷ []) (m ∷ rest)) ≤ suc count
 number_short_if true count n m rest less = omega arith
 number_short_if false count n m rest less = omega arith
@@ -38,11 +39,12 @@ unfolding vnum
 piece_is old bytes channel last flag is =
     ap (λ f. (((old ++ number_in 5 channel) ++ number_in 5 (length bytes)) ++ f ∷ []) ++ bytes) is ∙ simp append_assoc
 
--- More pieces than there are bytes are enough.
+-- Choices with the same first branch are equal if their second ones are, where these are taken.
 enough_if : (b : Bool) (x y z : List ℕ) → (b ≡ false → y ≡ z) → cond b x y ≡ cond b x z
 enough_if true x y z same = refl
 enough_if false x y z same = same refl
 
+-- More pieces than there are bytes are enough.
 pieces_enough : (n m channel : ℕ) (bytes : List ℕ) → length bytes ≤ n → length bytes ≤ m
     → pieces_in n channel bytes ≡ pieces_in m channel bytes
 pieces_enough zero zero channel bytes small less = refl

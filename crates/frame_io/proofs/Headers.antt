@@ -34,16 +34,19 @@ TakesSome most (FieldWhole v count) = (0 < count) × (count ≤ most)
 TakesSome most FieldCut = Unit {0}
 TakesSome most FieldWrong = Unit {0}
 
+-- A number with a byte more before it is none, or takes at least one byte, and at most one more than so many.
 some_if : (b : Bool) (byte most v count : ℕ) → (0 < count) × (count ≤ most)
     → TakesSome (suc most) (cond b FieldWrong (FieldWhole (byte - 128 + 128 * v) (count + 1)))
 some_if true byte most v count some = tt
 some_if false byte most v count some = (omega arith, omega (arith, some.1))
 
+-- With a byte before it, a field takes at least one byte, and at most one more than so many.
 behind_some : (byte most : ℕ) (f : Field) → TakesSome most f → TakesSome (suc most) (behind byte f)
 behind_some byte most (FieldWhole v count) some = some_if (nat_eq v 0) byte most v count some
 behind_some byte most FieldCut some = tt
 behind_some byte most FieldWrong some = tt
 
+-- So does what stands at a first byte: this byte alone, no number, or the field.
 some_at : (p q r : Bool) (byte most : ℕ) (f : Field) → TakesSome (suc most) f
     → TakesSome (suc most) (cond p (cond q (FieldWhole byte 1) FieldWrong) (cond r FieldWrong f))
 some_at true true r byte most f some = (omega arith, omega arith)
@@ -51,6 +54,7 @@ some_at true false r byte most f some = tt
 some_at false q true byte most f some = tt
 some_at false q false byte most f some = some
 
+-- A number at the front of bytes takes at least one of them, and no more than there are.
 pub takes_some : (limit : ℕ) (bytes : List ℕ) → TakesSome (length bytes) (number_below limit bytes)
 takes_some limit [] = tt
 takes_some limit (byte ∷ bytes) = some_at (nat_lt byte 128) (nat_lt byte limit) (nat_le limit 128) byte (length bytes)
@@ -63,10 +67,12 @@ stays_if : (b : Bool) (n v count : ℕ)
 stays_if true n v count = refl
 stays_if false n v count = refl
 
+-- A number that was begun goes on as no number, or as a whole one that takes more bytes.
 begun_if : (b : Bool) (n v count : ℕ) → n < count → FieldGoes n FieldCut (cond b FieldWrong (FieldWhole v count))
 begun_if true n v count more = tt
 begun_if false n v count more = more
 
+-- What more bytes make of a field, they make of it with a byte before it too.
 behind_goes : (byte n : ℕ) (f g : Field) → FieldGoes n f g → FieldGoes (suc n) (behind byte f) (behind byte g)
 behind_goes byte n (FieldWhole v count) g goes =
     subst (λ x. FieldGoes (suc n) (behind byte (FieldWhole v count)) (behind byte x)) (sym goes)
@@ -77,6 +83,7 @@ behind_goes byte n FieldCut FieldCut goes = tt
 behind_goes byte n FieldCut FieldWrong goes = tt
 behind_goes byte n FieldWrong g goes = ap (behind byte) goes
 
+-- And of what stands at a first byte: this byte alone, no number, or the field.
 goes_at : (p q r : Bool) (byte n : ℕ) (f g : Field) → FieldGoes n f g
     → FieldGoes n (cond p (cond q (FieldWhole byte 1) FieldWrong) (cond r FieldWrong f))
     (cond p (cond q (FieldWhole byte 1) FieldWrong) (cond r FieldWrong g))
@@ -85,11 +92,13 @@ goes_at true false r byte n f g goes = refl
 goes_at false q true byte n f g goes = refl
 goes_at false q false byte n f g goes = goes
 
+-- Where no bytes were, any field may come that takes at least one byte if it is whole.
 none_goes : (most : ℕ) (g : Field) → TakesSome most g → FieldGoes 0 FieldCut g
 none_goes most (FieldWhole v count) some = some.0
 none_goes most FieldCut some = tt
 none_goes most FieldWrong some = tt
 
+-- With more bytes behind, a whole number and what is none stay, and a begun number that gets whole takes more bytes.
 pub number_goes : (limit : ℕ) (xs ys : List ℕ) → FieldGoes (length xs) (number_below limit xs) (number_below limit (xs ++ ys))
 number_goes limit [] ys = none_goes (length ys) (number_below limit ys) (takes_some limit ys)
 number_goes limit (x ∷ xs) ys = goes_at (nat_lt x 128) (nat_lt x limit) (nat_le limit 128) x (suc (length xs))
@@ -104,28 +113,34 @@ HeaderGoes n Cut Cut = Unit {0}
 HeaderGoes n Cut (Bad fault) = Unit {0}
 HeaderGoes n (Bad fault) later = later ≡ Bad fault
 
+-- A header that was begun goes on as one with a wrong flag, or as a whole one that takes more bytes.
 flag_more_if : (b : Bool) (n count : ℕ) (head : Head) → n < count → HeaderGoes n Cut (cond b (Bad Flag) (Whole head count))
 flag_more_if true n count head more = tt
 flag_more_if false n count head more = more
 
+-- A header of which no more bytes were there than its numbers' takes more with its flag.
 flag_more : (channel size count n : ℕ) (bytes : List ℕ) → n ≤ count → HeaderGoes n Cut (flag_then channel size count bytes)
 flag_more channel size count n [] more = tt
 flag_more channel size count n (flag ∷ bytes) more = flag_more_if (nat_lt 1 flag) n (count + 1) _ (omega arith)
 
+-- A header that has a wrong flag, or is whole, stays.
 flag_stays_if : (b : Bool) (n count : ℕ) (head : Head)
     → HeaderGoes n (cond b (Bad Flag) (Whole head count)) (cond b (Bad Flag) (Whole head count))
 flag_stays_if true n count head = refl
 flag_stays_if false n count head = refl
 
+-- With more bytes behind, what is there with a flag stays, and a header that lacks its flag takes more bytes if it gets whole.
 flag_goes : (channel size count n : ℕ) (xs ys : List ℕ) → n ≤ count + length xs
     → HeaderGoes n (flag_then channel size count xs) (flag_then channel size count (xs ++ ys))
 flag_goes channel size count n [] ys is = flag_more channel size count n ys (omega arith)
 flag_goes channel size count n (flag ∷ xs) ys is = flag_stays_if (nat_lt 1 flag) n (count + 1) _
 
+-- A header that was begun goes on as one that is too large, or as before.
 size_more_if : (b : Bool) (n : ℕ) (h : Header) → HeaderGoes n Cut h → HeaderGoes n Cut (cond b (Bad Large) h)
 size_more_if true n h goes = tt
 size_more_if false n h goes = goes
 
+-- A header that was begun takes more bytes if its length does.
 size_more : (channel count n : ℕ) (bytes : List ℕ) (f : Field) → FieldGoes (n - count) FieldCut f
     → HeaderGoes n Cut (size_then channel count bytes f)
 size_more channel count n bytes (FieldWhole size more) goes =
@@ -134,15 +149,18 @@ size_more channel count n bytes (FieldWhole size more) goes =
 size_more channel count n bytes FieldCut goes = tt
 size_more channel count n bytes FieldWrong goes = tt
 
+-- What more bytes make of a header, they make of it too where it may be too large.
 size_goes_if : (b : Bool) (n : ℕ) (h k : Header) → HeaderGoes n h k → HeaderGoes n (cond b (Bad Large) h) (cond b (Bad Large) k)
 size_goes_if true n h k goes = refl
 size_goes_if false n h k goes = goes
 
+-- A number that takes more than so many bytes takes more than fewer.
 cut_less : (m n : ℕ) (g : Field) → m ≤ n → FieldGoes n FieldCut g → FieldGoes m FieldCut g
 cut_less m n (FieldWhole v count) less goes = omega (arith, goes)
 cut_less m n FieldCut less goes = tt
 cut_less m n FieldWrong less goes = tt
 
+-- From its length on, a header stays, or takes more bytes, as its length does.
 size_goes : (channel count n : ℕ) (xs ys : List ℕ) (f g : Field) → n ≤ count + length xs → TakesSome (length xs) f
     → FieldGoes (length xs) f g → HeaderGoes n (size_then channel count xs f) (size_then channel count (xs ++ ys) g)
 size_goes channel count n xs ys (FieldWhole size more) g is some goes =
@@ -158,11 +176,13 @@ size_goes channel count n xs ys FieldCut g is some goes =
 size_goes channel count n xs ys FieldWrong g is some goes =
     subst (λ x. size_then channel count (xs ++ ys) x ≡ Bad Number) (sym goes) refl
 
+-- A header whose channel takes more bytes than were there takes more too.
 behind_channel : (channel count n : ℕ) (bytes : List ℕ) → n < count → HeaderGoes n Cut (size_then channel count bytes (number_at bytes))
 unfolding number_at
 behind_channel channel count n bytes more = size_more channel count n bytes (number_at bytes)
     (cut_less (n - count) 0 (number_at bytes) (omega arith) (none_goes (length bytes) (number_at bytes) (takes_some 4294967296 bytes)))
 
+-- From its channel on, a header stays, or takes more bytes, as its channel does.
 channel_goes : (xs ys : List ℕ) (f g : Field) → TakesSome (length xs) f → FieldGoes (length xs) f g
     → HeaderGoes (length xs) (channel_then xs f) (channel_then (xs ++ ys) g)
 unfolding number_at
@@ -179,6 +199,7 @@ channel_goes xs ys FieldCut FieldCut some goes = tt
 channel_goes xs ys FieldCut FieldWrong some goes = tt
 channel_goes xs ys FieldWrong g some goes = subst (λ x. channel_then (xs ++ ys) x ≡ Bad Number) (sym goes) refl
 
+-- With more bytes behind, a whole header and a fault stay, and a begun header that gets whole takes more bytes.
 pub header_goes : (xs ys : List ℕ) → HeaderGoes (length xs) (header_at xs) (header_at (xs ++ ys))
 unfolding header_at number_at
 header_goes xs ys = channel_goes xs ys (number_at xs) (number_at (xs ++ ys)) (takes_some 4294967296 xs) (number_goes 4294967296 xs ys)
@@ -194,20 +215,24 @@ Short most (FieldWhole v count) = count ≤ most
 Short most FieldCut = Unit {0}
 Short most FieldWrong = Unit {0}
 
+-- A number that takes so many bytes at most does so too where it may be none.
 short_if : (b : Bool) (most v count : ℕ) → count ≤ most → Short most (cond b FieldWrong (FieldWhole v count))
 short_if true most v count less = tt
 short_if false most v count less = less
 
+-- With a byte before it, a field takes at most one byte more.
 behind_short : (byte most : ℕ) (f : Field) → Short most f → Short (suc most) (behind byte f)
 behind_short byte most (FieldWhole v count) less =
     short_if (nat_eq v 0) (suc most) (byte - 128 + 128 * v) (count + 1) (omega (arith, less))
 behind_short byte most FieldCut less = tt
 behind_short byte most FieldWrong less = tt
 
+-- What one byte is alone, a number or none, takes one byte at most.
 one_short : (b : Bool) (most byte : ℕ) → Short (suc most) (cond b (FieldWhole byte 1) FieldWrong)
 one_short true most byte = omega arith
 one_short false most byte = tt
 
+-- A number below a limit within room k takes k bytes and one more at most.
 pub short : (k limit : ℕ) (bytes : List ℕ) → limit ≤ room k → Short (suc k) (number_below limit bytes)
 short k limit [] fits = tt
 short zero limit (byte ∷ bytes) fits =
@@ -228,18 +253,20 @@ pub short_number : (bytes : List ℕ) → Short 5 (number_at bytes)
 unfolding number_at
 short_number bytes = short 4 4294967296 bytes (omega arith)
 
--- A header takes at least one of the bytes, and eleven at most, and its piece has 65536 bytes at most.
+-- A header that has a wrong flag, or is whole within its bounds, is within them.
 flag_within_if : (b : Bool) (most count : ℕ) (head : Head) → 0 < count → count ≤ most → count ≤ 11 → head.size ≤ 65536
     → IsHeader most (cond b (Bad Flag) (Whole head count))
 flag_within_if true most count head some within few fits = tt
 flag_within_if false most count head some within few fits = (some, within, few, fits)
 
+-- From its flag on, a header is within its bounds, if its numbers take ten bytes at most, and its piece has 65536 at most.
 flag_within : (channel size count most : ℕ) (bytes : List ℕ) → count + length bytes ≤ most → count ≤ 10 → size ≤ 65536
     → IsHeader most (flag_then channel size count bytes)
 flag_within channel size count most [] within few fits = tt
 flag_within channel size count most (flag ∷ bytes) within few fits =
     flag_within_if (nat_lt 1 flag) most (count + 1) _ (omega arith) (omega arith) (omega arith) fits
 
+-- From its length on, it is so if its channel and its length take five bytes at most each.
 size_within : (channel count most : ℕ) (bytes : List ℕ) (f : Field) → count + length bytes ≤ most → count ≤ 5
     → TakesSome (length bytes) f → Short 5 f → IsHeader most (size_then channel count bytes f)
 size_within channel count most bytes (FieldWhole size more) within few some less =
@@ -249,6 +276,7 @@ size_within channel count most bytes (FieldWhole size more) within few some less
 size_within channel count most bytes FieldCut within few some less = tt
 size_within channel count most bytes FieldWrong within few some less = tt
 
+-- From its channel on, it is so if the channel takes five bytes at most.
 channel_within : (bytes : List ℕ) (f : Field) → TakesSome (length bytes) f → Short 5 f → IsHeader (length bytes) (channel_then bytes f)
 unfolding number_at
 channel_within bytes (FieldWhole channel count) some less =
@@ -257,6 +285,7 @@ channel_within bytes (FieldWhole channel count) some less =
 channel_within bytes FieldCut some less = tt
 channel_within bytes FieldWrong some less = tt
 
+-- A header takes at least one of the bytes, and eleven at most, and its piece has 65536 bytes at most.
 pub header_within : (bytes : List ℕ) → IsHeader (length bytes) (header_at bytes)
 unfolding header_at number_at
 header_within bytes = channel_within bytes (number_at bytes) (takes_some 4294967296 bytes) (short_number bytes)

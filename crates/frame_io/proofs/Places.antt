@@ -5,6 +5,7 @@ use Rattle.std.specs.Prelude.{nat_eq}
 use Rattle.frame_io.specs.declared.message.Message.{Message}
 use Rattle.frame_io.specs.Frames.{bytes_of, is_open, without}
 
+-- A channel that is neither the first nor open among the others has no bytes, if it has none there.
 none_at : (b : Bool) (channel : ℕ) (message : Message) (channels : List Message) → cond b true (is_open channel channels) ≡ false
     → (is_open channel channels ≡ false → bytes_of channel channels ≡ []) → cond b message.bytes (bytes_of channel channels) ≡ []
 none_at true channel message channels none rest = cc
@@ -16,6 +17,7 @@ none_of channel [] none = refl
 none_of channel (message ∷ channels) none =
     none_at (nat_eq message.channel channel) channel message channels none (λ h. none_of channel channels h)
 
+-- All stay without a channel that is neither the first nor open among the others, if these stay.
 without_at : (b : Bool) (channel : ℕ) (message : Message) (channels : List Message) → cond b true (is_open channel channels) ≡ false
     → (is_open channel channels ≡ false → without channel channels ≡ channels)
     → cond b channels (message ∷ without channel channels) ≡ message ∷ channels

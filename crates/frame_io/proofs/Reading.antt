@@ -39,14 +39,17 @@ abbrev pub Agree : (List Message → ℕ → List ℕ → Outcome) → (List Mes
 Agree f g most = (channels : List Message) (offset : ℕ) (bytes : List ℕ) → length bytes < most
     → f channels offset bytes ≡ g channels offset bytes
 
+-- Whether a message is given or not, what is read is the same if what follows is.
 same_ended : (b : Bool) (message : Message) (x y u v : Outcome) → x ≡ y → u ≡ v → cond b (gives message x) u ≡ cond b (gives message y) v
 same_ended true message x y u v first second = ap (gives message) first
 same_ended false message x y u v first second = second
 
+-- Choices with the same first branch are equal if their second ones are.
 same_if : (b : Bool) (x y z : Outcome) → y ≡ z → cond b x y ≡ cond b x z
 same_if true x y z is = refl
 same_if false x y z is = is
 
+-- Two ways to read on that agree on shorter bytes read the same inside a piece.
 same_inside : (f g : List Message → ℕ → List ℕ → Outcome) (channels : List Message) (offset : ℕ) (p : Begun)
     (bytes rest : List ℕ) (most : ℕ)
     → length rest < most → Agree f g most → inside f channels offset p bytes rest ≡ inside g channels offset p bytes rest
@@ -62,6 +65,7 @@ same_inside f g channels offset p bytes rest most less agree =
     (agree channels (offset + p.size) (drop p.lacks rest) shorter)
     (agree (channels ++ message ∷ []) (offset + p.size) (drop p.lacks rest) shorter))
 
+-- They read the same behind a header, whether its piece is refused or not.
 same_taken : (f g : List Message → ℕ → List ℕ → Outcome) (channels : List Message) (offset : ℕ) (head : Head) (count : ℕ) (rest : List ℕ)
     (why : Option BadFrame) (most : ℕ) → length rest < most → Agree f g most
     → taken f channels offset head count rest why ≡ taken g channels offset head count rest why
@@ -69,6 +73,7 @@ same_taken f g channels offset head count rest (Some fault) most less agree = re
 same_taken f g channels offset head count rest None most less agree =
     same_inside f g (without head.channel channels) offset (begun head count) (bytes_of head.channel channels) rest most less agree
 
+-- And from a place on where a header stands, less than one, or a fault.
 same_at : (f g : List Message → ℕ → List ℕ → Outcome) (limits : Limits) (channels : List Message) (offset : ℕ) (bytes : List ℕ) (h : Header)
     → IsHeader (length bytes) h → Agree f g (length bytes)
     → reads_at f limits channels offset bytes h ≡ reads_at g limits channels offset bytes h

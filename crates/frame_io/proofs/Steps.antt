@@ -9,7 +9,7 @@ use Rattle.std.proofs.lemmas.Bool.{cond-true, cond-false}
 use Rattle.std.proofs.lemmas.Bool.Decides.{nat_tests}
 use Rattle.std.proofs.lemmas.List.{take-append-drop}
 use Rattle.frame_io.specs.declared.fault.BadFrame.{BadFrame}
-use Rattle.frame_io.specs.declared.fault.BadFrame.TheVariants.{Number, Large, Flag, Channels, Long, Cut}
+use Rattle.frame_io.specs.declared.fault.BadFrame.TheVariants.{Channels, Long, Cut}
 use Rattle.frame_io.specs.declared.fault.Ending.{Ending}
 use Rattle.frame_io.specs.declared.fault.Ending.TheVariants.{Fault}
 use Rattle.frame_io.specs.declared.header.Begun.{Begun}
@@ -19,12 +19,9 @@ use Rattle.frame_io.specs.declared.limits.Limits.{Limits}
 use Rattle.frame_io.specs.declared.message.Message.{Message}
 use Rattle.frame_io.specs.declared.message.MessagePoll.{MessagePoll}
 use Rattle.frame_io.specs.Piece.{header_at}
-use Rattle.frame_io.specs.Frames.{Outcome, stops, gives, behind, bytes_of, is_open, is_one_more, refusal, inside, ending_of, taken}
+use Rattle.frame_io.specs.Frames.{Outcome, stops, bytes_of, is_open, is_one_more, refusal, inside, ending_of, taken}
 use Rattle.frame_io.specs.Frames.{read_from}
-use Rattle.frame_io.specs.Decoder.{Decoding, IsBounded, IsDecoding, Faults, Polled, Stops, rest_of, rest_at, rest_in}
-use Rattle.frame_io.specs.declared.fault.FrameFault.{FrameFault}
-use Rattle.frame_io.specs.declared.fault.FrameFault.TheVariants.{Number as AtNumber, Large as AtLarge, Flag as AtFlag}
-use Rattle.frame_io.specs.declared.fault.FrameFault.TheVariants.{Channels as AtChannels, Long as AtLong, Cut as AtCut, Io, OutOfMemory}
+use Rattle.frame_io.specs.Decoder.{Decoding, IsBounded, IsDecoding, Polled, Stops, rest_of, rest_at, rest_in}
 use Rattle.frame_io.proofs.Headers.{no_header}
 use Rattle.frame_io.proofs.Reading.{read_bad, read_whole, read_end, inside_more, inside_end}
 
@@ -65,15 +62,6 @@ fed_piece was p count front later bytes more stop piece is size within now =
     ∙ sym step ∙ ap (λ l. inside next was.channels was.offset p was.bytes l) (sym cut)
     ∙ sym (rest_piece was p (bytes ++ more) stop piece)
 
--- The bytes are less than a header.
-pub fed_part : (was : Decoding) (later bytes more : List ℕ) → was.stop ≡ None → was.piece ≡ None → later ≡ was.head ++ bytes
-    → rest_of (record was { head = later }) more ≡ rest_of was (bytes ++ more)
-fed_part was later bytes more stop piece now =
-    rest_head (record was { head = later }) more stop piece
-    ∙ ap (λ h. read_from was.limits was.channels was.offset (h ++ more)) now
-    ∙ ap (λ l. read_from was.limits was.channels was.offset l) (append_assoc was.head bytes more)
-    ∙ sym (rest_head was (bytes ++ more) stop piece)
-
 -- The bytes begin with a header.
 pub fed_whole : (was : Decoding) (head : Head) (count : ℕ) (bytes more : List ℕ) → was.stop ≡ None → was.piece ≡ None
     → header_at (was.head ++ bytes) ≡ Whole head count
@@ -100,10 +88,12 @@ polled_by was same now answer is polled = subst (λ o. Polled o now answer) (sym
 pub last_one : (limits : Limits) (channels : List Message) (head : Head) → not head.last ≡ false → is_one_more limits channels head ≡ false
 last_one limits channels head last = grind (arith, nat_tests)
 
+-- A piece whose channel is open opens no channel too many.
 pub was_open : (limits : Limits) (channels : List Message) (head : Head) → is_open head.channel channels ≡ true
     → is_one_more limits channels head ≡ false
 was_open limits channels head known = grind (arith, nat_tests)
 
+-- A piece opens no channel too many where fewer channels are open than may be.
 pub has_room : (limits : Limits) (channels : List Message) (head : Head) → length channels < limits.channels
     → is_one_more limits channels head ≡ false
 has_room limits channels head few = grind (arith, nat_tests)
@@ -151,6 +141,7 @@ decoding_none limits channels head piece bytes empty none bound = record {
   bound = bound;
 }
 
+-- What is left of one byte, and then others, is what is left of all of them, if one is taken at most.
 one_byte : (n byte : ℕ) (rest more : List ℕ) → n ≤ 1 → drop n (byte ∷ []) ++ (rest ++ more) ≡ drop n (byte ∷ rest) ++ more
 one_byte zero byte rest more less = refl
 one_byte (suc zero) byte rest more less = refl
@@ -172,6 +163,7 @@ ending_head [] [] some = absurd (some refl)
 ending_head [] (byte ∷ head) some = refl
 ending_head (message ∷ channels) head some = refl
 
+-- Behind the last bytes a channel is open: that is a cut too.
 pub ending_open : (channels : List Message) (head : List ℕ) → (channels ≡ [] → ⊥) → ending_of channels head ≡ Fault Cut
 ending_open [] head some = absurd (some refl)
 ending_open (message ∷ channels) head some = refl
@@ -181,6 +173,7 @@ pub some_open : (channels : List Message) (b : Bool) → b ≡ (length channels 
 some_open [] b is less none = cc
 some_open (message ∷ channels) b is less none = cc
 
+-- No channel is open where their number is 0.
 pub no_open : (channels : List Message) (b : Bool) → b ≡ (length channels == 0) → b ≡ true → channels ≡ []
 no_open [] b is more = refl
 no_open (message ∷ channels) b is more = absurd (grind (arith, nat_tests))
@@ -193,26 +186,10 @@ left_after n bytes rest left now within before after =
     sym (drop-append_seam (take n bytes) now) ∙ ap (drop l) (sym after ∙ before ∙ sym (cut_at n bytes rest))
     ∙ drop-append_seam (take n bytes) (drop n bytes ++ rest)
 
+-- A poll that answers an end leaves what is to be read, which is this end alone.
 pub stays : (was now : Outcome) (ending : Ending) → Stops ending was now → (now ≡ was) × Stops ending now now
 stays was now ending stops = (
   stops.same,
   subst (λ o. Stops ending o o) (sym stops.same)
       (record { nothing = stops.nothing; ends = stops.ends; same = refl }),
 )
-
--- A poll that gives no message leaves what is to be read, of which its answer says the same.
-pub fault_stays : (was now : Outcome) (fault : FrameFault) → Faults was now fault → (now ≡ was) × Faults now now fault
-fault_stays was now AtNumber stops = stays was now (Fault Number) stops
-fault_stays was now AtLarge stops = stays was now (Fault Large) stops
-fault_stays was now AtFlag stops = stays was now (Fault Flag) stops
-fault_stays was now AtChannels stops = stays was now (Fault Channels) stops
-fault_stays was now AtLong stops = stays was now (Fault Long) stops
-fault_stays was now AtCut stops = stays was now (Fault Cut) stops
-fault_stays was now (Io fault) same = (same, refl)
-fault_stays was now OutOfMemory same = (same, refl)
-
--- A message that is added to those before it comes before those that are to be read.
-pub behind_more : (messages : List Message) (message : Message) (was now : Outcome) → was ≡ gives message now
-    → behind messages was ≡ behind (messages ++ message ∷ []) now
-behind_more messages message was now is = ap (behind messages) is
-    ∙ ap (λ m. record now { messages = m }) (sym (append_assoc messages (message ∷ []) now.messages))

@@ -44,9 +44,11 @@ high limit b n count rest big more some is =
     ∙ ap (behind b) is
     ∙ cond-false (nat_eq n 0) FieldWrong (FieldWhole (b - 128 + 128 * n) (count + 1)) (grind (arith, nat_tests))
 
+-- A number below 128 is written as one byte.
 number_low : (k n : ℕ) → n < 128 → number_in (suc k) n ≡ n ∷ []
 number_low k n small = cond-true (nat_lt n 128) (n ∷ []) ((128 + n % 128) ∷ number_in k (n / 128)) (grind (arith, nat_tests))
 
+-- A number from 128 on is written as a byte of its lowest seven bits, and the number of the rest.
 number_high : (k n : ℕ) → 128 ≤ n → number_in (suc k) n ≡ (128 + n % 128) ∷ number_in k (n / 128)
 number_high k n big = cond-false (nat_lt n 128) (n ∷ []) ((128 + n % 128) ∷ number_in k (n / 128)) (grind (arith, nat_tests))
 
@@ -71,10 +73,12 @@ number_by false (suc k) limit n rest e is less =
     ∙ ap (λ v. FieldWhole v (length tail + 1)) value ∙ ap (λ l. FieldWhole n l) count
     ∙ sym (ap (λ l. FieldWhole n (length l)) form)
 
+-- A number below 2 ^ 32 is read as itself, whatever follows.
 vnum_again : (n : ℕ) (rest : List ℕ) → n < 4294967296 → number_at (vnum n ++ rest) ≡ FieldWhole n (length (vnum n))
 unfolding number_at vnum
 vnum_again n rest less = number_by (nat_lt n 128) 4 4294967296 n rest refl (omega arith) less
 
+-- A flag is read as itself, whatever follows, and makes its header whole.
 flag_again : (channel size count : ℕ) (last : Bool) (rest : List ℕ) → flag_then channel size count (flag_of last ∷ rest)
     ≡ Whole (record { channel = channel; size = size; last = last }) (count + 1)
 flag_again channel size count true rest = refl
@@ -84,6 +88,7 @@ flag_again channel size count false rest = refl
 abbrev header : ℕ → ℕ → Bool → List ℕ
 header channel size last = vnum channel ++ (vnum size ++ (flag_of last ∷ []))
 
+-- A header and what follows it, part by part.
 header_is : (channel size : ℕ) (last : Bool) (rest : List ℕ)
     → header channel size last ++ rest ≡ vnum channel ++ (vnum size ++ (flag_of last ∷ rest))
 header_is channel size last rest = append_assoc (vnum channel) (vnum size ++ (flag_of last ∷ [])) rest
@@ -106,6 +111,7 @@ header_again channel size last rest less small =
     ∙ ap (flag_then channel size (l + m)) (drop-append_seam (vnum size) (flag_of last ∷ rest))
     ∙ flag_again channel size (l + m) last rest
 
+-- A header takes the bytes of its two numbers, and one more.
 header_length : (channel size : ℕ) (last : Bool)
     → length (header channel size last) ≡ length (vnum channel) + length (vnum size) + 1
 header_length channel size last = omega (
@@ -152,19 +158,23 @@ abbrev opened : ℕ → Option (List ℕ) → List Message
 opened channel None = []
 opened channel (Some bytes) = record { channel = channel; bytes = bytes } ∷ []
 
+-- The channel's bytes so far: none if it isn't open.
 abbrev before : Option (List ℕ) → List ℕ
 before None = []
 before (Some bytes) = bytes
 
+-- They are its bytes among the open channels.
 opened_bytes : (channel : ℕ) (q : Option (List ℕ)) → bytes_of channel (opened channel q) ≡ before q
 opened_bytes channel None = refl
 opened_bytes channel (Some bytes) = cond-true (nat_eq channel channel) bytes [] (grind (arith, nat_tests))
 
+-- Without it, no channel is open.
 opened_without : (channel : ℕ) (q : Option (List ℕ)) → without channel (opened channel q) ≡ []
 opened_without channel None = refl
 opened_without channel (Some bytes) =
     cond-true (nat_eq channel channel) [] (record { channel = channel; bytes = bytes } ∷ []) (grind (arith, nat_tests))
 
+-- A piece of it opens no channel too many, where one may be open.
 opened_room : (limits : Limits) (channel size : ℕ) (last : Bool) (q : Option (List ℕ)) → 0 < limits.channels
     → is_one_more limits (opened channel q) (record { channel = channel; size = size; last = last }) ≡ false
 opened_room limits channel size last None some = has_room limits [] (record { channel = channel; size = size; last = last }) some
@@ -172,6 +182,7 @@ opened_room limits channel size last (Some bytes) some =
     was_open limits (opened channel (Some bytes)) (record { channel = channel; size = size; last = last })
     (cond-true (nat_eq channel channel) true false (grind (arith, nat_tests)))
 
+-- A piece of it isn't refused, where one may be open, if its bytes so far and those of the piece are within the limit.
 opened_kept : (limits : Limits) (channel : ℕ) (last : Bool) (q : Option (List ℕ)) (bytes : List ℕ) → 0 < limits.channels
     → length (before q) + length bytes ≤ limits.bytes
     → refusal limits (opened channel q) (record { channel = channel; size = length bytes; last = last }) ≡ None
@@ -244,6 +255,7 @@ pieces_by false (suc most) limits offset channel q bytes rest e less some small 
     ∙ ap (λ b. before q ++ b) joined)
     ∙ ap (λ m. gives message (read_from limits [] m rest)) end
 
+-- The pieces of a message, where no channel is open, are read as this message, and then as what follows them.
 pieces_read : (limits : Limits) (offset channel : ℕ) (bytes rest : List ℕ) → channel < 4294967296
     → 0 < limits.channels → length bytes ≤ limits.bytes
     → read_from limits [] offset (pieces_of channel bytes ++ rest)
@@ -252,6 +264,7 @@ unfolding pieces_of
 pieces_read limits offset channel bytes rest less some small =
     pieces_by (nat_le (length bytes) 65536) (length bytes) limits offset channel None bytes rest refl less some (omega arith) (omega arith)
 
+-- The pieces of messages are read from any offset as these messages, with an end behind them.
 all_read : (limits : Limits) (offset : ℕ) (messages : List Message) → 0 < limits.channels → AreWithin limits messages
     → read_from limits [] offset (pieces_of_all messages)
     ≡ record { messages = messages; ending = End; offset = offset + length (pieces_of_all messages) }
