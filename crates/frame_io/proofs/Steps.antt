@@ -185,11 +185,3 @@ left_after n bytes rest left now within before after =
     let l = length (take n bytes) in
     sym (drop-append_seam (take n bytes) now) ∙ ap (drop l) (sym after ∙ before ∙ sym (cut_at n bytes rest))
     ∙ drop-append_seam (take n bytes) (drop n bytes ++ rest)
-
--- A poll that answers an end leaves what is to be read, which is this end alone.
-pub stays : (was now : Outcome) (ending : Ending) → Stops ending was now → (now ≡ was) × Stops ending now now
-stays was now ending stops = (
-  stops.same,
-  subst (λ o. Stops ending o o) (sym stops.same)
-      (record { nothing = stops.nothing; ends = stops.ends; same = refl }),
-)
