@@ -55,15 +55,15 @@ fn accepts<S: Stage>(stage: &mut S, listener: u64) -> Result<u64, Why> {
     }
 }
 
-// Bytes go from one handle to the other.
+// Bytes, so many, go from one handle to the other.
 fn carries<S: Stage>(
     stage: &mut S,
     alloc: Global,
     from: u64,
     to: u64,
     bytes: &[u8],
+    count: u32,
 ) -> Result<(), Why> {
-    let count = bytes.len() as u32;
     moved(run(stage, send(from, filled(alloc, bytes)?))?, count)?;
     let buf = Rent::with_total(alloc, 16)?;
     let back = moved(run(stage, receive(to, buf))?, count)?;
@@ -103,8 +103,8 @@ pub(crate) fn dials_and_accepts<S: Stage>(stage: &mut S, alloc: Global) -> Resul
     let (listener, port) = listens(stage)?;
     let near = dials(stage, port)?;
     let far = accepts(stage, listener)?;
-    carries(stage, alloc, near, far, b"hello")?;
-    carries(stage, alloc, far, near, b"hello back")?;
+    carries(stage, alloc, near, far, b"hello", 5)?;
+    carries(stage, alloc, far, near, b"hello back", 10)?;
     waits(stage, alloc, near, far)?;
     is_like(stage.listen(port) == Err(NonBlockError::Fault(TAKEN)))?;
     stage.release(listener)?;
