@@ -5,9 +5,9 @@ use anyhow::{Result, bail};
 use driver_core::{Driver as _, MOST_GIVEN, PollOp, Submitted};
 use handle_core::SharedFd;
 use held_op::HeldOp;
-use ready_driver::{LegacyDriver, NonBlock};
+use ready_driver::{LegacyDriver, Sockets};
 use rent_buf::{Rent, VecBuf};
-use ring_core::{MOST_HANDLES, Outcome, Request};
+use ring_core::{Outcome, Request};
 use std::alloc::Global;
 use std::sync::Wait;
 use std::sync::ledger::{Blank, Ledger};
@@ -27,8 +27,11 @@ pub enum Polled {
 
 /// A driver's calls.
 pub trait Calls {
-    /// Adopts a handle that was made before the driver.
-    fn adopt(&mut self, h: u64) -> Result<SharedFd>;
+    /// A new handle that listens on a port; none if the port is taken.
+    fn listen(&mut self, port: u16) -> Option<SharedFd>;
+
+    /// A new connection to a port.
+    fn dial(&mut self, port: u16) -> Result<SharedFd>;
 
     /// Submits a request.
     fn submit(&mut self, request: Asked) -> Result<HeldOp>;
@@ -51,18 +54,19 @@ pub trait Calls {
 
 /// A driver, and the sleeper that its parks are lent.
 #[derive(Drop)]
-pub struct Parking<'a, I: NonBlock, P: Ledger, D: Ledger, R> {
+pub struct Parking<'a, I: Sockets, P: Ledger, D: Ledger, R> {
     driver: LegacyDriver<I, Rent>,
     sleeper: Sleeper<P, D>,
     rt: &'a R,
 }
 
-impl<'a, I: NonBlock, P: Ledger, D: Ledger, R: Wait + Clock> Calls for Parking<'a, I, P, D, R> {
-    fn adopt(&mut self, h: u64) -> Result<SharedFd> {
-        if h >= MOST_HANDLES || self.driver.known(h) {
-            bail!("the handle is known");
-        }
-        Ok(self.driver.adopt(h)?)
+impl<'a, I: Sockets, P: Ledger, D: Ledger, R: Wait + Clock> Calls for Parking<'a, I, P, D, R> {
+    fn listen(&mut self, port: u16) -> Option<SharedFd> {
+        self.driver.listen(port).ok()
+    }
+
+    fn dial(&mut self, port: u16) -> Result<SharedFd> {
+        Ok(self.driver.dial(port)?)
     }
 
     fn submit(&mut self, request: Asked) -> Result<HeldOp> {
@@ -125,7 +129,7 @@ impl<'a, I: NonBlock, P: Ledger, D: Ledger, R: Wait + Clock> Calls for Parking<'
 
 /// A driver over an object, whose parks are lent a new sleeper. The two ledgers of a sleeper count what is sent to it and drained from it;
 /// a program that has one sleeper passes `Blank::new(PUSH_PARTS)` and `Blank::new(1)`.
-pub fn make_parking<'a, P: Ledger, D: Ledger, I: NonBlock, R>(
+pub fn make_parking<'a, P: Ledger, D: Ledger, I: Sockets, R>(
     rt: &'a R,
     alloc: Global,
     io: I,

@@ -9,7 +9,7 @@ mod server;
 use anyhow::{Result, bail};
 use calls::{Asked, Calls, Polled, make_parking};
 use handle_core::SharedFd;
-use ready_driver::{NonBlock, Sockets};
+use ready_driver::Sockets;
 use rent_buf::Rent;
 use ring_core::Request;
 use server::{SIZE, Server};
@@ -28,13 +28,11 @@ const PORTS: u16 = 100;
 
 const STEPS: u32 = 10000;
 
-// The handle 0 listens, on the first port that is free, and the handles 1 and 2 dial it.
-fn connect<I: Sockets>(io: &mut I) -> Result<()> {
+// A handle that listens, on the first port that is free, and two that dial it.
+fn connect<C: Calls>(io: &mut C) -> Result<(SharedFd, SharedFd, SharedFd)> {
     for port in 40817..40817 + PORTS {
-        if io.listen(port).is_ok() {
-            io.dial(port)?;
-            io.dial(port)?;
-            return Ok(());
+        if let Some(listener) = io.listen(port) {
+            return Ok((listener, io.dial(port)?, io.dial(port)?));
         }
     }
     bail!("no port is free")
@@ -93,7 +91,7 @@ fn close_all<C: Calls>(io: &mut C, server: &mut Server) -> Result<()> {
 
 // Two clients, one after the other, and the end of the server.
 fn play<C: Calls, R: Print>(rt: &R, io: &mut C, alloc: Global) -> Result<()> {
-    let (listener, first, second) = (io.adopt(0)?, io.adopt(1)?, io.adopt(2)?);
+    let (listener, first, second) = connect(io)?;
     let mut server = Server::new(io, alloc, listener)?;
 
     // A socket that is closed before all that came was read resets its connection.
@@ -130,7 +128,7 @@ fn tell<R: Print>(rt: &R, name: &str, request: Asked) -> Result<()> {
 }
 
 // The same with a driver whose sleeper has these ledgers.
-fn play_over<P: Ledger, D: Ledger, I: NonBlock, R: Print + Wait + Clock>(
+fn play_over<P: Ledger, D: Ledger, I: Sockets, R: Print + Wait + Clock>(
     rt: &R,
     alloc: Global,
     io: I,
@@ -145,7 +143,7 @@ fn play_over<P: Ledger, D: Ledger, I: NonBlock, R: Print + Wait + Clock>(
 }
 
 // The same with two blank ledgers.
-fn play_new<I: NonBlock, R: Print + Wait + Clock>(rt: &R, alloc: Global, io: I) -> Result<()> {
+fn play_new<I: Sockets, R: Print + Wait + Clock>(rt: &R, alloc: Global, io: I) -> Result<()> {
     let pushes = Blank::new(PUSH_PARTS);
     let drains = Blank::new(1);
     play_over::<Brand, Brand, I, R>(rt, alloc, io, pushes, drains)
@@ -153,7 +151,5 @@ fn play_new<I: NonBlock, R: Print + Wait + Clock>(rt: &R, alloc: Global, io: I) 
 
 fn main(rt: HostRuntime) -> Result<()> {
     let alloc = rt.alloc();
-    let mut io = MioIo::new(&rt, alloc);
-    connect(&mut io)?;
-    play_new(&rt, alloc, io)
+    play_new(&rt, alloc, MioIo::new(&rt, alloc))
 }
