@@ -10,7 +10,6 @@ use Rattle.std.proofs.lemmas.Bool.Decides.{nat_tests}
 use Rattle.std.proofs.lemmas.List.{take-append-drop}
 use Rattle.frame_io.specs.declared.fault.BadFrame.{BadFrame}
 use Rattle.frame_io.specs.declared.fault.BadFrame.TheVariants.{Channels, Long, Cut}
-use Rattle.frame_io.specs.declared.fault.Ending.{Ending}
 use Rattle.frame_io.specs.declared.fault.Ending.TheVariants.{Fault}
 use Rattle.frame_io.specs.declared.header.Begun.{Begun}
 use Rattle.frame_io.specs.declared.header.Head.{Head}
@@ -21,7 +20,7 @@ use Rattle.frame_io.specs.declared.message.MessagePoll.{MessagePoll}
 use Rattle.frame_io.specs.Piece.{header_at}
 use Rattle.frame_io.specs.Frames.{Outcome, stops, bytes_of, is_open, is_one_more, refusal, inside, ending_of, taken}
 use Rattle.frame_io.specs.Frames.{read_from}
-use Rattle.frame_io.specs.Decoder.{Decoding, IsBounded, IsDecoding, Polled, Stops, rest_of, rest_at, rest_in}
+use Rattle.frame_io.specs.Decoder.{Decoding, IsBounded, IsDecoding, Polled, rest_of, rest_at, rest_in}
 use Rattle.frame_io.proofs.Headers.{no_header}
 use Rattle.frame_io.proofs.Reading.{read_bad, read_whole, read_end, inside_more, inside_end}
 
