@@ -20,8 +20,8 @@ use Rattle.frame_io.specs.declared.message.Message.{Message}
 use Rattle.frame_io.specs.declared.message.MessagePoll.TheVariants.{Message as Given, End as AtEnd, Pending, Again, Fault as AtFault}
 use Rattle.frame_io.specs.Frames.{Outcome, stops, gives, behind, bytes_of, without, refusal, ended, inside, begun, taken, read_from}
 use Rattle.frame_io.specs.Frames.{read_frames}
-use Rattle.frame_io.specs.Piece.{header_at, IsHeader}
-use Rattle.frame_io.specs.Received.{Begins, FirstIsRead, SentIsReceived, AllIsReceived, Reads, RunReceives}
+use Rattle.frame_io.specs.Piece.{header_at, IsHeader, pieces_of}
+use Rattle.frame_io.specs.Received.{Begins, FirstIsRead, SendKeeps, WriteKeeps, SentIsReceived, AllIsReceived, Reads, RunReceives}
 use Rattle.frame_io.specs.Written.{pieces_of_all, sent_with}
 use Rattle.frame_io.proofs.Headers.{header_within}
 use Rattle.frame_io.proofs.Reading.{read_bad, read_whole, read_end, inside_more, inside_whole}
@@ -119,6 +119,17 @@ all_go (suc most) limits channels offset front back less =
 -- The first bytes are read as the first messages.
 pub first_is_read : FirstIsRead
 first_is_read limits front back = all_go (suc (length front)) limits [] 0 front back (omega arith)
+
+-- A send keeps what was delivered, is buffered and isn't sent.
+pub send_keeps : SendKeeps
+send_keeps message unsent delivered held =
+    ap (λ l. delivered ++ l) (append_assoc held (pieces_of message.channel message.bytes) (pieces_of_all unsent))
+
+-- A write keeps it too.
+pub write_keeps : WriteKeeps
+write_keeps unsent delivered held sent later is =
+    append_assoc delivered sent (later ++ pieces_of_all unsent)
+    ∙ ap (λ l. delivered ++ l) (sym (append_assoc sent later (pieces_of_all unsent)) ∙ ap (λ l. l ++ pieces_of_all unsent) (sym is))
 
 -- Lists that begin alike go on alike.
 same_behind : (before first second : List ℕ) → before ++ first ≡ before ++ second → first ≡ second

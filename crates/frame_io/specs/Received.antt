@@ -1,5 +1,5 @@
 -- What a writer of messages delivered, a reader gives back. The laws of the format cite it, and the clause on a reader's whole run.
-use Rattle.std.specs.Prelude.{ℕ, ◌≡◌, ◌<◌, List, [], ◌++◌, length}
+use Rattle.std.specs.Prelude.{ℕ, ◌≡◌, ◌<◌, List, [], ◌∷◌, ◌++◌, length}
 use Rattle.frame_io.specs.declared.fault.Ending.TheVariants.{End}
 use Rattle.frame_io.specs.declared.fault.FrameFault.{FrameFault}
 use Rattle.frame_io.specs.declared.fault.FrameFault.TheVariants.{Number, Large, Flag, Channels, Long, Cut, Io, OutOfMemory}
@@ -9,6 +9,7 @@ use Rattle.frame_io.specs.declared.message.MessagePoll.{MessagePoll}
 use Rattle.frame_io.specs.declared.message.MessagePoll.TheVariants.{Message as Given, End as AtEnd, Pending, Again, Fault as AtFault}
 use Rattle.frame_io.specs.Decoder.{Polled}
 use Rattle.frame_io.specs.Frames.{Outcome, behind, read_frames}
+use Rattle.frame_io.specs.Piece.{pieces_of}
 use Rattle.frame_io.specs.Written.{AreWithin, sent_with}
 
 -- The first messages of a list.
@@ -20,6 +21,16 @@ pub record Begins (first messages : List Message) : Type 0 where
 abbrev pub FirstIsRead : Type 0
 FirstIsRead = (limits : Limits) (front back : List ℕ)
     → Begins (read_frames limits front).messages (read_frames limits (front ++ back)).messages
+
+-- A send buffers the pieces of the first message that isn't sent yet: what was delivered, is buffered and isn't sent stays the same, joined.
+abbrev pub SendKeeps : Type 0
+SendKeeps = (message : Message) (unsent : List Message) (delivered held : List ℕ)
+    → sent_with delivered (held ++ pieces_of message.channel message.bytes) unsent ≡ sent_with delivered held (message ∷ unsent)
+
+-- A write delivers the first bytes that are buffered: they stay the same too.
+abbrev pub WriteKeeps : Type 0
+WriteKeeps = (unsent : List Message) (delivered held sent later : List ℕ) → held ≡ sent ++ later
+    → sent_with (delivered ++ sent) later unsent ≡ sent_with delivered held unsent
 
 -- A writer that had nothing buffered was given messages. Whatever became of its calls, what its stream delivered since is read as the first
 -- of these; the bytes that are buffered and the pieces of the messages that aren't sent yet are what lacks.

@@ -1,5 +1,5 @@
 // What is written is read.
-ghost use Rattle.frame_io.specs.Received.{AllIsReceived, FirstIsRead, RunReceives, SentIsReceived};
+ghost use Rattle.frame_io.specs.Received.{AllIsReceived, FirstIsRead, RunReceives, SendKeeps, SentIsReceived, WriteKeeps};
 ghost use Rattle.frame_io.specs.Turns.{TurnsAreRead};
 ghost use Rattle.frame_io.specs.Written.{WrittenIsRead};
 
@@ -15,6 +15,11 @@ pub fn written_is_read()
 /// read them ends with all of them, or at no fault of a piece. It does nothing: its clauses are laws over what the
 /// clauses `pieces` and `pushes` of a writer's calls and `reads`, `run` and `end` of a reader's say.
 pub fn sent_is_received()
+    // A send, by `pieces`, and a write, by `pushes`, keep what was delivered, what is buffered and what isn't sent yet.
+    ensures send { SendKeeps }
+    ensures write { WriteKeeps }
+
+    // What was delivered is read as the first of what was sent, and in the end as all of it.
     ensures first { FirstIsRead }
     ensures sent { SentIsReceived }
     ensures all { AllIsReceived }
