@@ -5,3 +5,5 @@ pub mod Reading
 pub mod Steps
 pub mod Writing
 pub mod Encoded
+pub mod Received
+pub mod Turns

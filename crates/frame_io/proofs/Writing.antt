@@ -6,7 +6,8 @@ use Rattle.std.proofs.Math.Seq.{drop-append_seam}
 use Rattle.std.proofs.lemmas.Bool.{cond-true, cond-false, ltb-true, ltb-false, leb-true, leb-false}
 use Rattle.std.proofs.lemmas.Bool.Decides.{nat_tests}
 use Rattle.std.proofs.lemmas.List.{length-drop, take-append-drop}
-use Rattle.frame_io.specs.declared.fault.Ending.TheVariants.{End}
+use Rattle.frame_io.specs.declared.fault.BadFrame.{BadFrame}
+use Rattle.frame_io.specs.declared.fault.Ending.TheVariants.{End, Fault}
 use Rattle.frame_io.specs.declared.header.Head.{Head}
 use Rattle.frame_io.specs.declared.fault.BadFrame.TheVariants.{Large}
 use Rattle.frame_io.specs.declared.header.Header.TheVariants.{Whole, Bad}
@@ -15,7 +16,7 @@ use Rattle.frame_io.specs.declared.message.Message.{Message}
 use Rattle.frame_io.specs.declared.number.Field.TheVariants.{Whole as FieldWhole, Wrong as FieldWrong}
 use Rattle.frame_io.specs.Number.{behind, number_in, vnum, number_below, number_at}
 use Rattle.frame_io.specs.Piece.{flag_of, piece, pieces_in, pieces_of, flag_then, size_then, channel_then, header_at}
-use Rattle.frame_io.specs.Frames.{Outcome, gives, bytes_of, without, is_one_more, refusal, taken, reads_at}
+use Rattle.frame_io.specs.Frames.{Outcome, stops, gives, bytes_of, without, is_one_more, refusal, taken, reads_at}
 use Rattle.frame_io.specs.Frames.{read_from}
 use Rattle.frame_io.specs.Written.{pieces_of_all, AreWithin, WrittenIsRead}
 use Rattle.frame_io.proofs.Reading.{reads_is, inside_more, inside_whole, read_end}
@@ -120,8 +121,40 @@ header_length channel size last = omega (
   length-append (vnum size) (flag_of last ∷ []),
 )
 
+-- What is read of a piece, and of what follows it, by whether it is refused.
+piece_taken : (limits : Limits) (channels : List Message) (offset channel : ℕ) (bytes : List ℕ) (last : Bool) (rest : List ℕ)
+    → channel < 4294967296 → length bytes ≤ 65536
+    → read_from limits channels offset (piece channel bytes last ++ rest)
+    ≡ taken (λ o n b. read_from limits o n b) channels offset (record { channel = channel; size = length bytes; last = last })
+    (length (vnum channel) + length (vnum (length bytes)) + 1) (bytes ++ rest)
+    (refusal limits channels (record { channel = channel; size = length bytes; last = last }))
+piece_taken limits channels offset channel bytes last rest less small =
+    let next : List Message → ℕ → List ℕ → Outcome = λ o n b. read_from limits o n b in
+    let n = length bytes in
+    let h : List ℕ = header channel n last in
+    let k = length (vnum channel) + length (vnum n) + 1 in
+    let head : Head = record { channel = channel; size = n; last = last } in
+    let form : piece channel bytes last ++ rest ≡ h ++ (bytes ++ rest) =
+    ap (λ l. l ++ rest) (sym (header_is channel n last bytes)) ∙ append_assoc h bytes rest in
+    let behind_it : drop k (h ++ (bytes ++ rest)) ≡ bytes ++ rest =
+    ap (λ c. drop c (h ++ (bytes ++ rest))) (sym (header_length channel n last)) ∙ drop-append_seam h (bytes ++ rest) in
+    ap (λ l. read_from limits channels offset l) form
+    ∙ reads_is limits channels offset (h ++ (bytes ++ rest))
+    ∙ ap (λ x. reads_at next limits channels offset (h ++ (bytes ++ rest)) x) (header_again channel n last (bytes ++ rest) less small)
+    ∙ ap (λ l. taken next channels offset head k l (refusal limits channels head)) behind_it
+
+-- What is read of a piece that is refused.
+pub piece_refused : (limits : Limits) (channels : List Message) (offset channel : ℕ) (bytes : List ℕ) (last : Bool) (rest : List ℕ)
+    (fault : BadFrame) → channel < 4294967296 → length bytes ≤ 65536
+    → refusal limits channels (record { channel = channel; size = length bytes; last = last }) ≡ Some fault
+    → read_from limits channels offset (piece channel bytes last ++ rest) ≡ stops (Fault fault) offset
+piece_refused limits channels offset channel bytes last rest fault less small refused =
+    piece_taken limits channels offset channel bytes last rest less small
+    ∙ ap (λ w. taken (λ o n b. read_from limits o n b) channels offset (record { channel = channel; size = length bytes; last = last })
+    (length (vnum channel) + length (vnum (length bytes)) + 1) (bytes ++ rest) w) refused
+
 -- What is read of a piece that isn't refused, and of what follows it.
-piece_read : (limits : Limits) (channels : List Message) (offset channel : ℕ) (bytes : List ℕ) (last : Bool) (rest : List ℕ)
+pub piece_read : (limits : Limits) (channels : List Message) (offset channel : ℕ) (bytes : List ℕ) (last : Bool) (rest : List ℕ)
     → channel < 4294967296 → length bytes ≤ 65536
     → refusal limits channels (record { channel = channel; size = length bytes; last = last }) ≡ None
     → read_from limits channels offset (piece channel bytes last ++ rest)
@@ -135,18 +168,15 @@ piece_read limits channels offset channel bytes last rest less small kept =
     let h : List ℕ = header channel n last in
     let k = length (vnum channel) + length (vnum n) + 1 in
     let head : Head = record { channel = channel; size = n; last = last } in
-    let whole : piece channel bytes last ≡ h ++ bytes = sym (header_is channel n last bytes) in
-    let form : piece channel bytes last ++ rest ≡ h ++ (bytes ++ rest) = ap (λ l. l ++ rest) whole ∙ append_assoc h bytes rest in
-    let behind_it : drop k (h ++ (bytes ++ rest)) ≡ bytes ++ rest =
-    ap (λ c. drop c (h ++ (bytes ++ rest))) (sym (header_length channel n last)) ∙ drop-append_seam h (bytes ++ rest) in
-    let size : k + n ≡ length (piece channel bytes last) =
-    omega (arith, header_length channel n last, length-append h bytes, ap length whole) in
+    let size : k + n ≡ length (piece channel bytes last) = omega (
+      arith,
+      header_length channel n last,
+      length-append h bytes,
+      ap length (header_is channel n last bytes),
+    ) in
     let message : Message = record { channel = channel; bytes = bytes_of channel channels ++ bytes } in
-    ap (λ l. read_from limits channels offset l) form
-    ∙ reads_is limits channels offset (h ++ (bytes ++ rest))
-    ∙ ap (λ x. reads_at next limits channels offset (h ++ (bytes ++ rest)) x) (header_again channel n last (bytes ++ rest) less small)
-    ∙ ap (λ w. taken next channels offset head k (drop k (h ++ (bytes ++ rest))) w) kept
-    ∙ ap (λ l. taken next channels offset head k l None) behind_it
+    piece_taken limits channels offset channel bytes last rest less small
+    ∙ ap (λ w. taken next channels offset head k (bytes ++ rest) w) kept
     ∙ inside_more next (without channel channels) offset channel last n (k + n) 0 (bytes_of channel channels) bytes rest (omega arith)
     ∙ inside_whole next (without channel channels) offset (record { channel = channel; last = last; lacks = 0; size = k + n })
     (bytes_of channel channels ++ bytes) rest refl

@@ -5,4 +5,6 @@ pub mod FrameWriter
 pub mod Frames
 pub mod Number
 pub mod Piece
+pub mod Received
+pub mod Turns
 pub mod Written

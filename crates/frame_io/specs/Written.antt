@@ -11,6 +11,10 @@ abbrev pub pieces_of_all : List Message → List ℕ
 pieces_of_all [] = []
 pieces_of_all (message ∷ messages) = pieces_of message.channel message.bytes ++ pieces_of_all messages
 
+-- Bytes that were delivered, those that are buffered behind them, and the pieces of messages that are to follow, joined.
+abbrev pub sent_with : List ℕ → List ℕ → List Message → List ℕ
+sent_with delivered held messages = delivered ++ (held ++ pieces_of_all messages)
+
 -- Messages that a reader with these limits takes.
 abbrev pub AreWithin : Limits → List Message → Type 0
 AreWithin limits [] = Unit {0}

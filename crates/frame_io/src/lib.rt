@@ -14,7 +14,7 @@ pub mod reader;
 pub mod writer;
 
 pub use fault::{BadFrame, FrameFault};
-pub use law::written_is_read;
+pub use law::{sent_is_received, turns_are_read, written_is_read};
 pub use limits::{Limits, MOST_CHANNELS, MOST_IN_MESSAGE, MOST_IN_PIECE};
 pub use message::{Message, MessagePoll};
 pub use reader::{FrameReader, MOST_OFFSET};
