@@ -146,22 +146,20 @@ fn a_line_is_found_by_its_number(rt: HostRuntime) {
 
 // Words, and what is told of them.
 #[rattlefmt::skip]
-const WORDS: [(&str, &str); 22] = [
+const WORDS: [(&str, &str); 20] = [
     ("walk", "'walk' is no command"),
     ("", "'' is no command"),
     ("Run 8", "'Run' is no command"),
-    ("run", "run: takes CAP, or CAP -i"),
-    ("run 8 -x", "run: takes CAP, or CAP -i"),
-    ("run 8 -i -i", "run: takes CAP, or CAP -i"),
+    ("run", "run: takes CAP"),
+    ("run 8 8", "run: takes CAP"),
     ("run 0", "run: capacity '0' is not a number from 1 to 4294967295"),
     ("run 08", "run: capacity '08' is not a number from 1 to 4294967295"),
     ("run 4294967296", "run: capacity '4294967296' is not a number from 1 to 4294967295"),
-    ("run 0 -i", "run: capacity '0' is not a number from 1 to 4294967295"),
     ("ready 8", "ready: takes no further word"),
-    ("gen 1", "gen: takes SEED COUNT, or SEED COUNT --events"),
+    ("gen 1", "gen: takes SEED COUNT"),
     ("gen 2147483648 1", "gen: seed '2147483648' is not a number from 0 to 2147483647"),
     ("gen 1 100001", "gen: count '100001' is not a number from 0 to 100000"),
-    ("gen 1 x --events", "gen: count 'x' is not a number from 0 to 100000"),
+    ("gen 1 x", "gen: count 'x' is not a number from 0 to 100000"),
     ("wake 65 1", "wake: number of senders '65' is not a number from 0 to 64"),
     ("wake 1 -1", "wake: count '-1' is not a number from 0 to 100000"),
     ("wake 1 1 1", "wake: takes SENDERS COUNT"),

@@ -36,30 +36,23 @@ enum Param {
     Bytes(&'static str),
 }
 
-// A command: its name, what it takes in words, its words, and a last one that may be left out.
-type Form = (
-    &'static str,
-    &'static str,
-    &'static [Param],
-    Option<&'static str>,
-);
+// A command: its name, what it takes in words, and its words.
+type Form = (&'static str, &'static str, &'static [Param]);
 
 const FORMS: [Form; 7] = [
     (
         "run",
-        "CAP, or CAP -i",
+        "CAP",
         &[Param::Number("capacity", 1, 4294967295, "a number from 1 to 4294967295")],
-        Some("-i"),
     ),
-    ("ready", "no further word", &[], None),
+    ("ready", "no further word", &[]),
     (
         "gen",
-        "SEED COUNT, or SEED COUNT --events",
+        "SEED COUNT",
         &[
             Param::Number("seed", 0, 2147483647, "a number from 0 to 2147483647"),
             Param::Number("count", 0, 100000, "a number from 0 to 100000"),
         ],
-        Some("--events"),
     ),
     (
         "wake",
@@ -68,7 +61,6 @@ const FORMS: [Form; 7] = [
             Param::Number("number of senders", 0, 64, "a number from 0 to 64"),
             Param::Number("count", 0, 100000, "a number from 0 to 100000"),
         ],
-        None,
     ),
     (
         "copy",
@@ -77,10 +69,9 @@ const FORMS: [Form; 7] = [
             Param::Number("capacity", 1, 16777216, "a number from 1 to 16777216"),
             Param::Bytes("prefix"),
         ],
-        None,
     ),
-    ("--help", "no further word", &[], None),
-    ("--version", "no further word", &[], None),
+    ("--help", "no further word", &[]),
+    ("--version", "no further word", &[]),
 ];
 
 /// Why these words are no command's: of words that are one's, that their command takes no others. It takes no memory. (not in monoio)
@@ -98,10 +89,8 @@ pub fn usage_error(words: &[String]) -> UsageError<'_> {
 
 // Why the words behind a command's name are none of its.
 fn error_of(form: Form, words: &[String]) -> UsageError<'_> {
-    let (command, takes, params, last) = form;
-    let counts = words.len() == params.len()
-        || (words.len() == params.len() + 1 && is_last(words, last));
-    if !counts {
+    let (command, takes, params) = form;
+    if words.len() != params.len() {
         return UsageError::Takes(command, takes);
     }
     for (param, word) in params.iter().zip(words) {
@@ -110,14 +99,6 @@ fn error_of(form: Form, words: &[String]) -> UsageError<'_> {
         }
     }
     UsageError::Takes(command, takes)
-}
-
-// The last word is the one that may be left out.
-fn is_last(words: &[String], last: Option<&str>) -> bool {
-    match (words.last(), last) {
-        (Some(word), Some(last)) => word.as_str() == last,
-        _ => false,
-    }
 }
 
 // Why a word isn't what it is to be.

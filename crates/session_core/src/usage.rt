@@ -4,6 +4,7 @@ ghost use Rattle.std.specs.Process.{exit_status};
 ghost use Rattle.session_core.specs.Top.{exit_number};
 
 use crate::top::Status;
+use line_help::usage_error;
 use std::process::ExitCode;
 use std::rt::Env;
 use std::{env, io};
@@ -43,10 +44,6 @@ failed; 6 out of memory";
 /// What `--version` writes to standard output. (not in monoio)
 pub const VERSION: &str = "session_run 0.1.0";
 
-/// The line that standard error gets for an invalid command line. (not in monoio)
-pub const USAGE: &str =
-    "usage: session_run run CAP | ready | gen SEED COUNT | wake SENDERS COUNT | copy CAP PREFIXHEX";
-
 /// What a person may ask for in place of a command. (not in monoio)
 #[derive(Clone, Copy, Debug, PartialEq, Eq)]
 pub enum Asked {
@@ -65,13 +62,23 @@ pub fn asked_of(words: &[String]) -> Option<Asked> {
     }
 }
 
-/// The words behind the program's name; an error comes where the system has none, or memory runs out. (not in monoio)
+/// The words behind the program's name; an error of the kind `InvalidData` comes where one isn't UTF-8, and another where the system has
+/// none, or memory runs out. (not in monoio)
 pub fn words_of<R: Env + AllocGlobal>(rt: &R) -> io::Result<Vec<String>> {
     let mut words = Vec::new(rt.alloc());
     for word in env::args(rt)?.skip(1) {
         words.push(word)?;
     }
     Ok(words)
+}
+
+/// Ends the program where it has no words, with the reason on standard error. (not in monoio)
+pub fn end_unread<R: Eprint>(rt: &R, error: io::Error) -> ExitCode {
+    if error.kind() == io::ErrorKind::InvalidData {
+        let _ = rt.eprintln("session_run: an argument is not UTF-8; see --help");
+        return ExitCode::from(Status::BadWords.number());
+    }
+    end_with(rt, Status::OutOfMemory, Known::nothing())
 }
 
 /// Writes what was asked for to standard output, and ends as `Done`, or as `WriteFault`. (not in monoio)
@@ -81,32 +88,66 @@ pub fn answer<R: Print + Eprint>(rt: &R, asked: Asked) -> ExitCode {
         Asked::Version => VERSION,
     };
     match rt.println(text) {
-        Ok(()) => end_with(rt, Status::Done),
-        Err(_) => end_with(rt, Status::WriteFault),
+        Ok(()) => end_with(rt, Status::Done, Known::nothing()),
+        Err(error) => {
+            let mut known = Known::nothing();
+            known.write = Some(error);
+            end_with(rt, Status::WriteFault, known)
+        }
     }
 }
 
-/// Ends the program with the number of a status, and writes its reason to standard error. (not in monoio)
-pub fn end_with<R: Eprint>(rt: &R, status: Status) -> ExitCode
+/// What is known of why a command ended as it did. (not in monoio)
+#[derive(Drop)]
+pub struct Known<'a> {
+    /// The words of the command line.
+    pub words: &'a [String],
+    /// The last error of a read.
+    pub read: Option<io::Error>,
+    /// The last error of a write or a flush.
+    pub write: Option<io::Error>,
+}
+
+impl<'a> Known<'a> {
+    /// Nothing is known.
+    pub fn nothing() -> Known<'a> {
+        Known {
+            words: &[],
+            read: None,
+            write: None,
+        }
+    }
+}
+
+/// Ends the program with the number of a status, and writes its reason to standard error: a line for each status but `Done`, and but
+/// `BadLine`, which standard output tells. (not in monoio)
+pub fn end_with<R: Eprint>(rt: &R, status: Status, known: Known<'_>) -> ExitCode
     ensures { exit_status result ≡ exit_number status }
 {
-    match reason(status) {
-        Some(line) => {
-            let _ = rt.eprintln(line);
-        }
-        None => {}
-    }
+    let _ = tell(rt, status, known);
     ExitCode::from(status.number())
 }
 
-/// The line that standard error gets for a status; none for `Done`, nor for `BadLine`, which standard output tells. (not in monoio)
-pub fn reason(status: Status) -> Option<&'static str> {
+// Writes the reason of a status.
+fn tell<R: Eprint>(rt: &R, status: Status, known: Known<'_>) -> io::Result<()> {
     match status {
-        Status::Done | Status::BadLine => None,
-        Status::BadWords => Some(USAGE),
-        Status::TooLong => Some("session_run: the input has more than 16777216 bytes"),
-        Status::ReadFault => Some("session_run: reading the input failed"),
-        Status::WriteFault => Some("session_run: writing the output failed"),
-        Status::OutOfMemory => Some("session_run: out of memory"),
+        Status::Done | Status::BadLine => Ok(()),
+        Status::BadWords => {
+            eprintln!(rt; "session_run: {}; see --help", usage_error(known.words))
+        }
+        Status::TooLong => {
+            eprintln!(rt; "session_run: the input has more than 16777216 bytes")
+        }
+        Status::ReadFault => tell_fault(rt, "reading the input failed", known.read),
+        Status::WriteFault => tell_fault(rt, "writing the output failed", known.write),
+        Status::OutOfMemory => eprintln!(rt; "session_run: out of memory"),
+    }
+}
+
+// Writes what failed, and the system's reason.
+fn tell_fault<R: Eprint>(rt: &R, what: &str, error: Option<io::Error>) -> io::Result<()> {
+    match error {
+        Some(error) => eprintln!(rt; "session_run: {what}: {error}"),
+        None => eprintln!(rt; "session_run: {what}"),
     }
 }

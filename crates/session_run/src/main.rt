@@ -1,21 +1,25 @@
 //! The program: the top call over standard input and standard output.
 #![tactic(auto)]
 
+use line_help::{HeardRead, HeardWrite};
 use rent_io::{StdSink, StdSource};
+use session_core::Kept;
 use session_core::top::top;
-use session_core::usage::{answer, asked_of, end_with, words_of};
-use session_core::{Kept, Status};
+use session_core::usage::{Known, answer, asked_of, end_unread, end_with, words_of};
 use std::process::ExitCode;
 
 fn main(rt: HostRuntime) -> ExitCode {
-    let Ok(words) = words_of(&rt) else {
-        return end_with(&rt, Status::OutOfMemory);
+    let words = match words_of(&rt) {
+        Ok(words) => words,
+        Err(error) => return end_unread(&rt, error),
     };
     if let Some(asked) = asked_of(words.as_slice()) {
         return answer(&rt, asked);
     }
-    let mut source = StdSource::new(rt.stdin());
-    let mut sink = StdSink::new(rt.stdout());
+    let mut reader = HeardRead::new(rt.stdin());
+    let mut writer = HeardWrite::new(rt.stdout());
+    let mut source = StdSource::new(&mut reader);
+    let mut sink = StdSink::new(&mut writer);
     let mut kept: Option<Kept> = None;
     let status = top(
         &rt,
@@ -25,5 +29,10 @@ fn main(rt: HostRuntime) -> ExitCode {
         &mut sink,
         &mut kept,
     );
-    end_with(&rt, status)
+    let known = Known {
+        words: words.as_slice(),
+        read: reader.into_error(),
+        write: writer.into_error(),
+    };
+    end_with(&rt, status, known)
 }

@@ -1,7 +1,7 @@
 // What the program tells a person, and the number with which it ends.
 use crate::tests::text::split_words;
 use rent_io::Failed;
-use session_core::usage::{Asked, HELP, answer, asked_of, end_with};
+use session_core::usage::{Asked, HELP, Known, answer, asked_of, end_unread, end_with};
 use session_core::{RunError, Status};
 use std::alloc::Global;
 use std::cell::Cell;
@@ -70,11 +70,11 @@ fn is_line(kept: &Cell<Option<String>>, line: Option<&str>) -> bool {
     }
 }
 
-// Each status, its number, and the line that standard error gets.
+// Each status, its number, and the line that standard error gets where nothing more is known.
 #[rattlefmt::skip]
 const STATUSES: [(Status, u8, Option<&str>); 7] = [
     (Status::Done, 0, None),
-    (Status::BadWords, 1, Some("usage: session_run run CAP | ready | gen SEED COUNT | wake SENDERS COUNT | copy CAP PREFIXHEX")),
+    (Status::BadWords, 1, Some("session_run: no command is named; see --help")),
     (Status::BadLine, 2, None),
     (Status::TooLong, 3, Some("session_run: the input has more than 16777216 bytes")),
     (Status::ReadFault, 4, Some("session_run: reading the input failed")),
@@ -88,12 +88,38 @@ fn each_status_has_its_number_and_line(rt: HostRuntime) -> Result<(), Fail> {
     for (status, number, line) in STATUSES {
         assert_eq!(rt; status.number(), number, "of {status:?}");
         assert!(rt;
-            end_with(&terminal, status) == ExitCode::from(number),
+            end_with(&terminal, status, Known::nothing()) == ExitCode::from(number),
             "of {status:?}"
         );
         assert!(rt; is_line(&terminal.error, line), "of {status:?}");
         assert!(rt; is_line(&terminal.output, None), "of {status:?}");
     }
+    Ok(())
+}
+
+#[test]
+fn the_reason_is_told(rt: HostRuntime) -> Result<(), Fail> {
+    let terminal = new_terminal(rt.alloc(), false);
+    let words = split_words(rt.alloc(), "run 0")?;
+    let mut known = Known::nothing();
+    known.words = words.as_slice();
+    let _ = end_with(&terminal, Status::BadWords, known);
+    assert!(rt;
+        is_line(
+            &terminal.error,
+            Some("session_run: run: capacity '0' is not a number from 1 to 4294967295; see --help")
+        )
+    );
+    let mut known = Known::nothing();
+    known.read = Some(io::Error::from(io::ErrorKind::Unsupported));
+    let _ = end_with(&terminal, Status::ReadFault, known);
+    assert!(rt; is_line(&terminal.error, Some("session_run: reading the input failed: unsupported")));
+    let unread = io::Error::from(io::ErrorKind::InvalidData);
+    assert!(rt; end_unread(&terminal, unread) == ExitCode::from(1));
+    assert!(rt; is_line(&terminal.error, Some("session_run: an argument is not UTF-8; see --help")));
+    let unread = io::Error::from(io::ErrorKind::Unsupported);
+    assert!(rt; end_unread(&terminal, unread) == ExitCode::from(6));
+    assert!(rt; is_line(&terminal.error, Some("session_run: out of memory")));
     Ok(())
 }
 
@@ -152,7 +178,7 @@ fn the_help_and_the_version_are_these(rt: HostRuntime) -> Result<(), Fail> {
         assert!(rt;
             is_line(
                 &refuses.error,
-                Some("session_run: writing the output failed")
+                Some("session_run: writing the output failed: unsupported")
             ),
             "of {asked:?}"
         );
