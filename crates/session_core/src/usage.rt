@@ -135,9 +135,7 @@ fn tell<R: Eprint>(rt: &R, status: Status, known: Known<'_>) -> io::Result<()> {
         Status::BadWords => {
             eprintln!(rt; "session_run: {}; see --help", usage_error(known.words))
         }
-        Status::TooLong => {
-            eprintln!(rt; "session_run: the input has more than 16777216 bytes")
-        }
+        Status::TooLong => { eprintln!(rt; "session_run: the input has more than 16777216 bytes") }
         Status::ReadFault => tell_fault(rt, "reading the input failed", known.read),
         Status::WriteFault => tell_fault(rt, "writing the output failed", known.write),
         Status::OutOfMemory => eprintln!(rt; "session_run: out of memory"),

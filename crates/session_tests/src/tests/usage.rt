@@ -113,10 +113,20 @@ fn the_reason_is_told(rt: HostRuntime) -> Result<(), Fail> {
     let mut known = Known::nothing();
     known.read = Some(io::Error::from(io::ErrorKind::Unsupported));
     let _ = end_with(&terminal, Status::ReadFault, known);
-    assert!(rt; is_line(&terminal.error, Some("session_run: reading the input failed: unsupported")));
+    assert!(rt;
+        is_line(
+            &terminal.error,
+            Some("session_run: reading the input failed: unsupported")
+        )
+    );
     let unread = io::Error::from(io::ErrorKind::InvalidData);
     assert!(rt; end_unread(&terminal, unread) == ExitCode::from(1));
-    assert!(rt; is_line(&terminal.error, Some("session_run: an argument is not UTF-8; see --help")));
+    assert!(rt;
+        is_line(
+            &terminal.error,
+            Some("session_run: an argument is not UTF-8; see --help")
+        )
+    );
     let unread = io::Error::from(io::ErrorKind::Unsupported);
     assert!(rt; end_unread(&terminal, unread) == ExitCode::from(6));
     assert!(rt; is_line(&terminal.error, Some("session_run: out of memory")));
