@@ -169,6 +169,7 @@ no_more rest message is = omega (arith, ap (λ o. length o.messages) is)
 end_is : (bad : BadFrame) → End ≡ Fault bad → ⊥
 end_is bad is = cc
 
+-- So a run that was to read messages, and then an end, leaves no fault of a piece.
 no_bad : (messages before now : List Message) (was rest : Outcome) (bad : BadFrame) → Reads messages was
     → behind now rest ≡ behind before was → rest.ending ≡ Fault bad → ⊥
 no_bad messages before now was rest bad reads run fault = end_is bad (sym (ap (λ o. o.ending) run ∙ reads.1) ∙ fault)
@@ -180,12 +181,17 @@ run_receives messages before now was rest AtEnd reads run polled =
     sym (append-nil now) ∙ ap (λ l. now ++ l) (sym polled.nothing) ∙ ap (λ o. o.messages) run ∙ ap (λ l. before ++ l) reads.0
 run_receives messages before now was rest Pending reads run polled = tt
 run_receives messages before now was rest Again reads run polled = tt
-run_receives messages before now was rest (AtFault AtNumber) reads run polled = no_bad messages before now was rest Number reads run polled.ends
-run_receives messages before now was rest (AtFault AtLarge) reads run polled = no_bad messages before now was rest Large reads run polled.ends
-run_receives messages before now was rest (AtFault AtFlag) reads run polled = no_bad messages before now was rest Flag reads run polled.ends
+run_receives messages before now was rest (AtFault AtNumber) reads run polled =
+    no_bad messages before now was rest Number reads run polled.ends
+run_receives messages before now was rest (AtFault AtLarge) reads run polled =
+    no_bad messages before now was rest Large reads run polled.ends
+run_receives messages before now was rest (AtFault AtFlag) reads run polled =
+    no_bad messages before now was rest Flag reads run polled.ends
 run_receives messages before now was rest (AtFault AtChannels) reads run polled =
     no_bad messages before now was rest Channels reads run polled.ends
-run_receives messages before now was rest (AtFault AtLong) reads run polled = no_bad messages before now was rest Long reads run polled.ends
-run_receives messages before now was rest (AtFault AtCut) reads run polled = no_bad messages before now was rest Cut reads run polled.ends
+run_receives messages before now was rest (AtFault AtLong) reads run polled =
+    no_bad messages before now was rest Long reads run polled.ends
+run_receives messages before now was rest (AtFault AtCut) reads run polled =
+    no_bad messages before now was rest Cut reads run polled.ends
 run_receives messages before now was rest (AtFault (Io fault)) reads run polled = tt
 run_receives messages before now was rest (AtFault OutOfMemory) reads run polled = tt

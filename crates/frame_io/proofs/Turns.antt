@@ -14,6 +14,7 @@ use Rattle.frame_io.specs.Frames.{Outcome, gives, bytes_of, is_open, without, is
 use Rattle.frame_io.specs.Piece.{piece}
 use Rattle.frame_io.specs.Turns.{Part, pieces_of_parts, ArePieces, parts_of, made_of, messages_on, IsReadWhole, TurnsAreRead}
 use Rattle.frame_io.proofs.Headers.{no_header}
+use Rattle.frame_io.proofs.Places.{none_of}
 use Rattle.frame_io.proofs.Reading.{read_end}
 use Rattle.frame_io.proofs.Writing.{piece_read, piece_refused}
 
@@ -27,14 +28,6 @@ not_first : (b known : Bool) → cond b true known ≡ false → (b ≡ false) �
 not_first true known closed = absurd cc
 not_first false known closed = (refl, closed)
 
--- A channel that isn't open has no bytes.
-closed_bytes : (channel : ℕ) (channels : List Message) → is_open channel channels ≡ false → bytes_of channel channels ≡ []
-closed_bytes channel [] closed = refl
-closed_bytes channel (message ∷ channels) closed =
-    let both = not_first (nat_eq message.channel channel) (is_open channel channels) closed in
-    cond-false (nat_eq message.channel channel) message.bytes (bytes_of channel channels) both.0
-    ∙ closed_bytes channel channels both.1
-
 -- Without a channel, one that wasn't open still isn't.
 still_if : (b : Bool) (gone channel : ℕ) (message : Message) (channels : List Message)
     → (nat_eq message.channel channel ≡ false) × (is_open channel channels ≡ false) → is_open channel (without gone channels) ≡ false
@@ -43,6 +36,7 @@ still_if true gone channel message channels both next = both.1
 still_if false gone channel message channels both next =
     cond-false (nat_eq message.channel channel) true (is_open channel (without gone channels)) both.0 ∙ next
 
+-- So it is with each channel that wasn't open.
 still_closed : (gone channel : ℕ) (channels : List Message) → is_open channel channels ≡ false
     → is_open channel (without gone channels) ≡ false
 still_closed gone channel [] closed = refl
@@ -59,6 +53,7 @@ gone_if true channel message channels same apart next =
 gone_if false channel message channels other apart next =
     cond-false (nat_eq message.channel channel) true (is_open channel (without channel channels)) other ∙ next
 
+-- So it is with every channel, where none is open twice.
 gone_closed : (channel : ℕ) (channels : List Message) → AreApart channels → is_open channel (without channel channels) ≡ false
 gone_closed channel [] apart = refl
 gone_closed channel (message ∷ channels) apart =
@@ -71,6 +66,7 @@ apart_if : (b : Bool) (channel : ℕ) (message : Message) (channels : List Messa
 apart_if true channel message channels apart closed next = apart
 apart_if false channel message channels apart closed next = (closed, next)
 
+-- So it is with all of them.
 apart_without : (channel : ℕ) (channels : List Message) → AreApart channels → AreApart (without channel channels)
 apart_without channel [] apart = tt
 apart_without channel (message ∷ channels) apart =
@@ -103,6 +99,7 @@ other_if true gone channel message channels same other next =
 other_if false gone channel message channels same other next =
     ap (λ l. cond (nat_eq message.channel channel) message.bytes l) next
 
+-- So it is whatever the channels are.
 other_without : (gone channel : ℕ) (channels : List Message) → nat_eq gone channel ≡ false
     → bytes_of channel (without gone channels) ≡ bytes_of channel channels
 other_without gone channel [] other = refl
@@ -155,7 +152,7 @@ turn_by true true channel part parts channels x y last own apart whole first sec
     let rest : List Part = parts_of channel parts in
     let same : part.channel ≡ channel = grind (arith, nat_tests) in
     let none : bytes_of channel (without part.channel channels) ≡ [] =
-    closed_bytes channel (without part.channel channels)
+    none_of channel (without part.channel channels)
     (subst (λ c. is_open c (without part.channel channels) ≡ false) same (gone_closed part.channel channels apart)) in
     cond-true (nat_eq part.channel channel) ((bytes_of part.channel channels ++ part.bytes) ∷ messages_on channel x.messages)
     (messages_on channel x.messages) own

@@ -22,7 +22,8 @@ abbrev pub FirstIsRead : Type 0
 FirstIsRead = (limits : Limits) (front back : List ℕ)
     → Begins (read_frames limits front).messages (read_frames limits (front ++ back)).messages
 
--- A send buffers the pieces of the first message that isn't sent yet: what was delivered, is buffered and isn't sent stays the same, joined.
+-- A send buffers the pieces of the first message that isn't sent yet: what was delivered, is buffered and isn't sent stays the same,
+-- joined.
 abbrev pub SendKeeps : Type 0
 SendKeeps = (message : Message) (unsent : List Message) (delivered held : List ℕ)
     → sent_with delivered (held ++ pieces_of message.channel message.bytes) unsent ≡ sent_with delivered held (message ∷ unsent)

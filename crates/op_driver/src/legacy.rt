@@ -1,8 +1,12 @@
 // The readiness driver, over any object whose calls don't wait.
+ghost use Rattle.std.specs.Prelude.{◌≡◌, ◌<◌, IsTrue, Some, IfOk, IfErr};
+ghost use Rattle.ring_core.specs.Request.{named};
+ghost use Rattle.driver_core.specs.Op.{AddsToken, KeepsTokens};
+ghost use Rattle.driver_core.specs.Requests.{KeepsRequests, request_at};
 ghost use Rattle.ready_driver.specs.LegacyState.{holds_all, ops_in};
 
 use crate::op_driver::OpDriver;
-use driver_core::{Driver, Op, PollOp, SubmitError, Submitted, Turned};
+use driver_core::{Driver, MOST_GIVEN, Op, PollOp, SubmitError, Submitted, Turned};
 use ready_driver::{LegacyDriver, NonBlock};
 use rent_buf::{IoBufMut, OutOfMemory, VecBuf};
 use ring_core::{Names, Request};
@@ -24,7 +28,14 @@ impl<I: NonBlock, B: IoBufMut + Drop> OpDriver<B> for LegacyDriver<I, B> {
         self.holds(op)
     }
 
-    fn submit_op(&mut self, request: Request<B, VecBuf>) -> Result<Op, SubmitError<B>> {
+    fn submit_op(&mut self, request: Request<B, VecBuf>) -> Result<Op, SubmitError<B>>
+        requires held { IsTrue (holds_all self.old.handling.table (named request)) }
+        requires counter { (ops_in self.old).given < MOST_GIVEN }
+        ensures token { IfOk result (λ op. AddsToken (ops_in self.old) (ops_in self.new) op) }
+        ensures request { IfOk result (λ op. request_at (ops_in self.new) op ≡ Some request) }
+        ensures requests { KeepsRequests (ops_in self.old) (ops_in self.new) }
+        ensures err { IfErr result (λ refused. (refused.request ≡ request) × KeepsTokens (ops_in self.old) (ops_in self.new)) }
+    {
         match self.submit_with(request, None)? {
             Submitted::Op(op) => Ok(op),
             Submitted::Canceled(_) => unreachable!(),
@@ -44,6 +55,6 @@ impl<I: NonBlock, B: IoBufMut + Drop> OpDriver<B> for LegacyDriver<I, B> {
     }
 
     fn turn(&mut self) -> Turned {
-        self.submit()
+        Driver::submit(self)
     }
 }

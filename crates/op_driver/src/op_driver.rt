@@ -1,5 +1,5 @@
 //! What a program asks of a driver that isn't to matter to it.
-ghost use Rattle.std.specs.Prelude.{◌≡◌, ◌×◌, ◌<◌, ◌↔◌, Bool, IsTrue, List, ℕ, Some, IfOk, IfErr};
+ghost use Rattle.std.specs.Prelude.{◌≡◌, ◌<◌, ◌↔◌, Bool, IsTrue, List, ℕ, Some, IfOk, IfErr};
 ghost use Rattle.ring_core.specs.Request.{listed, named};
 ghost use Rattle.driver_core.specs.Op.{AddsToken, DropsToken, Holds, KeepsTokens};
 ghost use Rattle.driver_core.specs.Ops.{Ops};
