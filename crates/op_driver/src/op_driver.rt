@@ -62,7 +62,7 @@ pub trait OpDriver<B: IoBufMut + Drop>: Driver {
 
     /// A turn, as `Driver::submit`. It keeps every token.
     fn turn(&mut self) -> Turned
-        ensures turns { turns self.old self.new result }
+        ensures turns { Self.turns self.old self.new result }
         ensures tokens { KeepsTokens (ops self.old) (ops self.new) }
         ensures requests { KeepsRequests (ops self.old) (ops self.new) };
 }
