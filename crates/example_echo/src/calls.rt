@@ -1,6 +1,4 @@
 // What the server and its clients ask of a driver. Each call's condition is asked when the program runs, so nothing is to be shown.
-ghost use Rattle.std.specs.Prelude.{◌≡◌};
-
 use anyhow::{Result, bail};
 use driver_core::{Driver as _, MOST_GIVEN, PollOp, Submitted};
 use handle_core::SharedFd;
@@ -10,9 +8,9 @@ use rent_buf::{Rent, VecBuf};
 use ring_core::{Outcome, Request};
 use std::alloc::Global;
 use std::sync::Wait;
-use std::sync::ledger::{Blank, Ledger};
+use std::sync::ledger::Ledger;
 use std::time::Clock;
-use wake_core::{PUSH_PARTS, Sleeper, WakeCell};
+use wake_core::Sleeper;
 
 /// A request with a buffer of a stated total.
 pub type Asked = Request<Rent, VecBuf>;
@@ -45,7 +43,7 @@ pub trait Calls {
     /// Closes a handle. Each operation on it has ended.
     fn close(&mut self, fd: SharedFd) -> Result<()>;
 
-    /// A turn that waits a millisecond at most.
+    /// A turn that waits for sockets, a second at most.
     fn park(&mut self) -> Result<()>;
 
     /// How many operations are live.
@@ -113,7 +111,7 @@ impl<'a, I: Sockets, P: Ledger, D: Ledger, R: Wait + Clock> Calls for Parking<'a
     fn park(&mut self) -> Result<()> {
         match self
             .driver
-            .park_timeout(self.rt, &mut self.sleeper, 1)
+            .park_timeout(self.rt, &mut self.sleeper, 1000)
             .turned
             .stop
         {
@@ -127,23 +125,16 @@ impl<'a, I: Sockets, P: Ledger, D: Ledger, R: Wait + Clock> Calls for Parking<'a
     }
 }
 
-/// A driver over an object, whose parks are lent a new sleeper. The two ledgers of a sleeper count what is sent to it and drained from it;
-/// a program that has one sleeper passes `Blank::new(PUSH_PARTS)` and `Blank::new(1)`.
+/// A driver over an object, whose parks are lent this sleeper.
 pub fn make_parking<'a, P: Ledger, D: Ledger, I: Sockets, R>(
     rt: &'a R,
     alloc: Global,
     io: I,
-    pushes: Blank,
-    drains: Blank,
-) -> Result<Parking<'a, I, P, D, R>>
-    requires pushes { (pushes.name ≡ P.name) × (pushes.parts ≡ P.parts) × (pushes.parts ≡ PUSH_PARTS) }
-    requires drains { (drains.name ≡ D.name) × (drains.parts ≡ D.parts) × (drains.parts ≡ 1) }
-{
-    let (_cell, sleeper) = WakeCell::<P, D>::new(alloc, pushes, drains)?;
-    let driver = LegacyDriver::over(alloc, io);
-    Ok(Parking {
-        driver,
+    sleeper: Sleeper<P, D>,
+) -> Parking<'a, I, P, D, R> {
+    Parking {
+        driver: LegacyDriver::over(alloc, io),
         sleeper,
         rt,
-    })
+    }
 }

@@ -1,27 +1,24 @@
 //! An echo server and two clients, one of which resets its connection: over sockets of this machine, on one thread.
 #![tactic(auto)]
 
-ghost use Rattle.std.specs.Prelude.{◌≡◌};
-
 mod calls;
 mod server;
 
 use anyhow::{Result, bail};
 use calls::{Asked, Calls, Polled, make_parking};
 use handle_core::SharedFd;
-use ready_driver::Sockets;
 use rent_buf::Rent;
 use ring_core::Request;
 use server::{SIZE, Server};
 use socket_io::MioIo;
 use std::alloc::Global;
 use std::io::Print;
-use std::marker::Brand;
+use std::net::Net;
 use std::str;
 use std::sync::Wait;
-use std::sync::ledger::{Blank, Ledger};
+use std::sync::ledger::Ledger;
 use std::time::Clock;
-use wake_core::PUSH_PARTS;
+use wake_core::{Sleeper, WakeCell, Work, with_sleeper};
 
 // How many ports are tried, and how often the server is stepped at most before something has happened.
 const PORTS: u16 = 100;
@@ -127,29 +124,31 @@ fn tell<R: Print>(rt: &R, name: &str, request: Asked) -> Result<()> {
     Ok(())
 }
 
-// The same with a driver whose sleeper has these ledgers.
-fn play_over<P: Ledger, D: Ledger, I: Sockets, R: Print + Wait + Clock>(
-    rt: &R,
+// What is done with a new sleeper: a driver over sockets is lent it.
+#[derive(Drop)]
+struct Playing<'a, R> {
+    rt: &'a R,
     alloc: Global,
-    io: I,
-    pushes: Blank,
-    drains: Blank,
-) -> Result<()>
-    requires pushes { (pushes.name ≡ P.name) × (pushes.parts ≡ P.parts) × (pushes.parts ≡ PUSH_PARTS) }
-    requires drains { (drains.name ≡ D.name) × (drains.parts ≡ D.parts) × (drains.parts ≡ 1) }
-{
-    let mut io = make_parking::<P, D, I, R>(rt, alloc, io, pushes, drains)?;
-    play(rt, &mut io, alloc)
 }
 
-// The same with two blank ledgers.
-fn play_new<I: Sockets, R: Print + Wait + Clock>(rt: &R, alloc: Global, io: I) -> Result<()> {
-    let pushes = Blank::new(PUSH_PARTS);
-    let drains = Blank::new(1);
-    play_over::<Brand, Brand, I, R>(rt, alloc, io, pushes, drains)
+impl<'a, R: Net + Print + Wait + Clock> Work for Playing<'a, R> {
+    type Out = Result<()>;
+
+    // Nothing is known of it.
+    ghost gives = { λ work out. Unit {0} };
+
+    fn run<P: Ledger + Send + Sync, D: Ledger + Send + Sync>(
+        self,
+        _cell: WakeCell<P, D>,
+        sleeper: Sleeper<P, D>,
+    ) -> Result<()> {
+        let sockets = MioIo::new(self.rt, self.alloc);
+        let mut io = make_parking(self.rt, self.alloc, sockets, sleeper);
+        play(self.rt, &mut io, self.alloc)
+    }
 }
 
 fn main(rt: HostRuntime) -> Result<()> {
     let alloc = rt.alloc();
-    play_new(&rt, alloc, MioIo::new(&rt, alloc))
+    with_sleeper(alloc, Playing { rt: &rt, alloc })?
 }

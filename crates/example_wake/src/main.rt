@@ -1,21 +1,18 @@
 //! A driver parks without a limit, and a thread that sends a waker ends the park.
 #![tactic(auto)]
 
-ghost use Rattle.std.specs.Prelude.{◌≡◌};
-
 use anyhow::{Result, bail};
 use rent_buf::Rent;
 use ring_core::MemRing;
 use std::alloc::Global;
 use std::io::Print;
-use std::marker::Brand;
 use std::sync::Wait;
-use std::sync::ledger::{Blank, Ledger};
+use std::sync::ledger::Ledger;
 use std::thread;
 use std::thread::{Scope, Threads};
 use std::time::Clock;
 use uring_driver::{Driver, IoUringDriver};
-use wake_core::{MAX_PUSHED, PUSH_PARTS, RemoteSender, Sleeper, WakeCell};
+use wake_core::{MAX_PUSHED, RemoteSender, Sleeper, WakeCell, Work, with_sleeper};
 
 // The task that the thread wakes.
 const TASK: u64 = 7;
@@ -73,40 +70,33 @@ where
     Ok(())
 }
 
-// The same with a new sleeper of these ledgers, in a scope of threads.
-fn run<P, D, V, R>(
-    rt: &R,
+// What is done with a new sleeper: a driver parks beside a thread.
+#[derive(Drop)]
+struct ParkBeside<'a, R> {
+    rt: &'a R,
     alloc: Global,
-    driver: &mut V,
-    pushes: Blank,
-    drains: Blank,
-) -> Result<()>
-where
-    P: Ledger + Send + Sync,
-    D: Ledger + Send + Sync,
-    V: Driver,
-    R: Threads + Wait + Clock + Print + Sync,
-    requires pushes { (pushes.name ≡ P.name) × (pushes.parts ≡ P.parts) × (pushes.parts ≡ PUSH_PARTS) }
-    requires drains { (drains.name ≡ D.name) × (drains.parts ≡ D.parts) × (drains.parts ≡ 1) }
-{
-    let (_cell, sleeper) = WakeCell::<P, D>::new(alloc, pushes, drains)?;
-    thread::scope(thread::scope_env(), rt, move |scope| {
-        park_beside(rt, scope, driver, sleeper)
-    })
 }
 
-// The same with two blank ledgers.
-fn run_new<V: Driver, R: Threads + Wait + Clock + Print + Sync>(
-    rt: &R,
-    alloc: Global,
-    driver: &mut V,
-) -> Result<()> {
-    let pushes = Blank::new(PUSH_PARTS);
-    let drains = Blank::new(1);
-    run::<Brand, Brand, V, R>(rt, alloc, driver, pushes, drains)
+impl<'a, R: Threads + Wait + Clock + Print + Sync> Work for ParkBeside<'a, R> {
+    type Out = Result<()>;
+
+    // Nothing is known of it.
+    ghost gives = { λ work out. Unit {0} };
+
+    fn run<P: Ledger + Send + Sync, D: Ledger + Send + Sync>(
+        self,
+        _cell: WakeCell<P, D>,
+        sleeper: Sleeper<P, D>,
+    ) -> Result<()> {
+        let rt = self.rt;
+        let mut driver: IoUringDriver<MemRing, Rent> = IoUringDriver::new(self.alloc)?;
+        thread::scope(thread::scope_env(), rt, move |scope| {
+            park_beside(rt, scope, &mut driver, sleeper)
+        })
+    }
 }
 
 fn main(rt: HostRuntime) -> Result<()> {
-    let mut driver: IoUringDriver<MemRing, Rent> = IoUringDriver::new(rt.alloc())?;
-    run_new(&rt, rt.alloc(), &mut driver)
+    let alloc = rt.alloc();
+    with_sleeper(alloc, ParkBeside { rt: &rt, alloc })?
 }

@@ -7,3 +7,4 @@ pub mod Writing
 pub mod Encoded
 pub mod Received
 pub mod Turns
+pub mod Sending

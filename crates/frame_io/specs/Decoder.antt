@@ -87,6 +87,24 @@ Polled was now Pending = now ≡ was
 Polled was now Again = now ≡ was
 Polled was now (AtFault fault) = Faults was now fault
 
+-- A poll that answers an end, or a fault of a piece, has stopped the reader there: so its offset is that of the end.
+abbrev pub IsStopAt : Option Ending → FrameFault → Type 0
+IsStopAt stop AtNumber = stop ≡ Some (Fault Number)
+IsStopAt stop AtLarge = stop ≡ Some (Fault Large)
+IsStopAt stop AtFlag = stop ≡ Some (Fault Flag)
+IsStopAt stop AtChannels = stop ≡ Some (Fault Channels)
+IsStopAt stop AtLong = stop ≡ Some (Fault Long)
+IsStopAt stop AtCut = stop ≡ Some (Fault Cut)
+IsStopAt stop (Io fault) = Unit {0}
+IsStopAt stop OutOfMemory = Unit {0}
+
+abbrev pub IsStop : Option Ending → MessagePoll → Type 0
+IsStop stop (Given message) = Unit {0}
+IsStop stop AtEnd = stop ≡ Some End
+IsStop stop Pending = Unit {0}
+IsStop stop Again = Unit {0}
+IsStop stop (AtFault fault) = IsStopAt stop fault
+
 -- The answer that an end gives.
 abbrev pub fault_of : BadFrame → FrameFault
 fault_of Number = AtNumber

@@ -1,8 +1,12 @@
 -- A writer of messages: what a send, a flush and a close of it do.
-use Rattle.std.specs.Prelude.{ℕ, ◌≡◌, ◌+◌, ◌<◌, ◌≤◌, List, [], ◌++◌, length, Ok, Err}
+use Rattle.std.specs.Prelude.{ℕ, ◌≡◌, ◌+◌, ◌<◌, ◌≤◌, ◌⊎◌, Bool, List, [], ◌∷◌, ◌++◌, length, Ok, Err}
+use Rattle.rent_buf.specs.declared.fault.IoFault.{IoFault}
+use Rattle.rent_io.specs.Completeness.{TookNone}
 use Rattle.rent_io.specs.Counts.{Counts, Rose}
 use Rattle.rent_io.specs.ItemSink.{ItemSink}
 use Rattle.rent_io.specs.Writer.{Writer}
+use Rattle.rent_io.specs.declared.poll.PollCount.{PollCount}
+use Rattle.rent_io.specs.declared.poll.PollCount.TheVariants.{Ready as CountReady, Pending as CountPending, Again as CountAgain}
 use Rattle.rent_io.specs.declared.sink.SinkDone.{SinkDone}
 use Rattle.rent_io.specs.declared.sink.SinkDone.TheVariants.{Ready as DoneReady, Pending as DonePending}
 use Rattle.rent_io.specs.declared.sink.SinkPoll.{SinkPoll}
@@ -63,20 +67,56 @@ IsIo Cut = ⊥
 IsIo (Io fault) = Unit {0}
 IsIo OutOfMemory = ⊥
 
+-- Why the stream inside fails: its faults rose, or a write took none of the bytes that were buffered.
+abbrev pub IsStreamFailure : Bool → Writer → Writer → List ℕ → IoFault → Type 0
+IsStreamFailure tells before now held fault =
+    Rose before.counts.faults now.counts.faults ⊎ TookNone tells before.delivered now.delivered held fault
+
+-- What a poll that passes on what is buffered answers. When it is done nothing is buffered. At Pending the stream inside paused, and
+-- nothing was written; at Again it paused, or less is buffered.
+abbrev pub PassesOn : Bool → Writer → Writer → List ℕ → List ℕ → PollCount → Type 0
+PassesOn tells before now held later (CountReady (Ok n)) = later ≡ []
+PassesOn tells before now held later (CountReady (Err fault)) = IsStreamFailure tells before now held fault
+PassesOn tells before now held later CountPending = Rose before.counts.pauses now.counts.pauses × (later ≡ held)
+PassesOn tells before now held later CountAgain = Rose before.counts.pauses now.counts.pauses ⊎ (length later < length held)
+
+-- Why a flush or a close fails: the stream inside does.
+abbrev pub IsFailure : Bool → Writer → Writer → List ℕ → FrameFault → Type 0
+IsFailure tells before now held Number = ⊥
+IsFailure tells before now held Large = ⊥
+IsFailure tells before now held Flag = ⊥
+IsFailure tells before now held Channels = ⊥
+IsFailure tells before now held Long = ⊥
+IsFailure tells before now held Cut = ⊥
+IsFailure tells before now held (Io fault) = IsStreamFailure tells before now held fault
+IsFailure tells before now held OutOfMemory = ⊥
+
+-- A poll of a flush or a close that fails does so for one of these.
+abbrev pub FailsBy : Bool → Writer → Writer → List ℕ → SinkDone FrameFault → Type 0
+FailsBy tells before now held (DoneReady (Ok done)) = Unit {0}
+FailsBy tells before now held (DoneReady (Err fault)) = IsFailure tells before now held fault
+FailsBy tells before now held DonePending = Unit {0}
+
 -- A flush or a close that is done leaves nothing buffered; one that fails has the stream's fault.
 abbrev pub Ends : List ℕ → SinkDone FrameFault → Type 0
 Ends held (DoneReady (Ok done)) = held ≡ []
 Ends held (DoneReady (Err fault)) = IsIo fault
 Ends held DonePending = Unit {0}
 
--- The cause of what a write of the buffer answers. It is never done.
-abbrev pub IsPushCaused : Counts → Counts → SinkDone FrameFault → Type 0
-IsPushCaused before now (DoneReady (Ok done)) = ⊥
-IsPushCaused before now (DoneReady (Err fault)) = Rose before.faults now.faults
-IsPushCaused before now DonePending = Rose before.pauses now.pauses
-
 -- A close that is done shut the stream inside down.
 abbrev pub IfShut : ℕ → ℕ → SinkDone FrameFault → Type 0
 IfShut before now (DoneReady (Ok done)) = Rose before now
 IfShut before now (DoneReady (Err fault)) = now ≡ before
 IfShut before now DonePending = now ≡ before
+
+-- Why a list of messages isn't sent whole: its first one is refused, or all are buffered, and the stream inside has a fault.
+abbrev pub IsStuck : List Message → FrameFault → Type 0
+IsStuck [] fault = IsIo fault
+IsStuck (message ∷ messages) fault = IsRefusal (length message.bytes) fault
+
+-- The sending of a list of messages, by those that are left of it. When it is done none is left, nothing is buffered, and the stream inside
+-- was flushed.
+abbrev pub Drives : ItemSink → ItemSink → List ℕ → List Message → SinkDone FrameFault → Type 0
+Drives before now held messages (DoneReady (Ok done)) = (messages ≡ []) × (held ≡ []) × Rose before.flushes now.flushes
+Drives before now held messages (DoneReady (Err fault)) = IsStuck messages fault × Rose before.counts.faults now.counts.faults
+Drives before now held messages DonePending = messages ≡ []

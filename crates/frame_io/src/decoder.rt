@@ -1,6 +1,7 @@
 // The reading of pieces, apart from the stream that they come from.
 ghost use Rattle.std.specs.Prelude.{◌≡◌, ◌<◌, ◌≤◌, ◌^◌, ⊤, ℕ, List, [], ◌∷◌, ◌++◌, None, Some, IfSome, MatchOption, length, drop};
-ghost use Rattle.frame_io.specs.Decoder.{Decoding, IsBounded, Polled, IsOwn, answer_of as answer_to, fault_of as fault_to, fresh, rest_of};
+ghost use Rattle.frame_io.specs.Decoder.{Decoding, IsBounded, IsOwn, IsStop, Polled, fresh, rest_of};
+ghost use Rattle.frame_io.specs.Decoder.{answer_of as answer_to, fault_of as fault_to};
 ghost use Rattle.frame_io.specs.Frames.{read_from, refusal, stops, taken};
 ghost use Rattle.frame_io.specs.declared.fault.Ending.TheVariants.{Fault};
 
@@ -62,7 +63,8 @@ fn fault_of(bad: BadFrame) -> FrameFault
 
 // The answer at an end.
 fn answer_of(ending: Ending) -> MessagePoll
-    ensures { result ≡ answer_to ending }
+    ensures value { result ≡ answer_to ending }
+    ensures stop { IsStop (Some ending) result }
 {
     match ending {
         Ending::End => MessagePoll::End,
@@ -107,6 +109,7 @@ impl Decoder {
     pub(crate) fn ready(&mut self) -> Option<MessagePoll>
         requires { self.old.offset < 2 ^ 62 }
         ensures none { MatchOption result ((self.new.stop ≡ None) × IfSome self.new.piece (λ p. 0 < p.lacks)) (λ answer. IsOwn answer ⊥) }
+        ensures stop { IfSome result (λ answer. IsStop self.new.stop answer) }
         ensures answer { (left : List ℕ) → MatchOption result (rest_of self.new left ≡ rest_of self.old left)
             (λ answer. Polled (rest_of self.old left) (rest_of self.new left) answer) }
     {
@@ -131,6 +134,7 @@ impl Decoder {
         requires lacks { IfSome self.old.piece (λ p. 0 < p.lacks) }
         ensures within { result.0 ≤ length bytes.now }
         ensures own { IsOwn result.1 (0 < result.0) }
+        ensures stop { IsStop self.new.stop result.1 }
         ensures answer { (more : List ℕ) → Polled (rest_of self.old (bytes.now ++ more))
             (rest_of self.new (drop result.0 bytes.now ++ more)) result.1 }
     {
@@ -145,6 +149,7 @@ impl Decoder {
         requires stop { self.old.stop ≡ None }
         requires lacks { IfSome self.old.piece (λ p. 0 < p.lacks) }
         ensures own { IsOwn result ⊥ }
+        ensures stop { IsStop self.new.stop result }
         ensures answer { Polled (rest_of self.old []) (rest_of self.new []) result }
     {
         if let Some(_) = self.piece {
@@ -167,6 +172,7 @@ impl Decoder {
         requires whole { piece.lacks ≡ 0 }
         requires offset { self.old.offset < 2 ^ 62 }
         ensures none { MatchOption result ((self.new.stop ≡ None) × (self.new.piece ≡ None)) (λ answer. IsOwn answer ⊥) }
+        ensures stop { IfSome result (λ answer. IsStop self.new.stop answer) }
         ensures answer { (left : List ℕ) → MatchOption result (rest_of self.new left ≡ rest_of self.old left)
             (λ answer. Polled (rest_of self.old left) (rest_of self.new left) answer) }
     {
@@ -202,6 +208,7 @@ impl Decoder {
         requires lacks { 0 < piece.lacks }
         ensures within { result.0 ≤ length bytes.now }
         ensures own { IsOwn result.1 (0 < result.0) }
+        ensures stop { IsStop self.new.stop result.1 }
         ensures answer { (more : List ℕ) → Polled (rest_of self.old (bytes.now ++ more))
             (rest_of self.new (drop result.0 bytes.now ++ more)) result.1 }
     {
@@ -228,6 +235,7 @@ impl Decoder {
         requires piece { self.old.piece ≡ None }
         ensures within { result.0 ≤ length bytes.now }
         ensures own { IsOwn result.1 (0 < result.0) }
+        ensures stop { IsStop self.new.stop result.1 }
         ensures answer { (more : List ℕ) → Polled (rest_of self.old (bytes.now ++ more))
             (rest_of self.new (drop result.0 bytes.now ++ more)) result.1 }
     {
@@ -250,6 +258,7 @@ impl Decoder {
         requires piece { self.old.piece ≡ None }
         ensures within { result.0 ≤ 1 }
         ensures own { IsOwn result.1 (0 < result.0) }
+        ensures stop { IsStop self.new.stop result.1 }
         ensures answer { (more : List ℕ) → Polled (rest_of self.old (byte ∷ more))
             (rest_of self.new (drop result.0 (byte ∷ []) ++ more)) result.1 }
     {
@@ -276,6 +285,7 @@ impl Decoder {
         requires size { head.size ≤ 65536 }
         requires count { count ≤ 11 }
         ensures own { IsOwn result ⊤ }
+        ensures stop { IsStop self.new.stop result }
         ensures answer { (left : List ℕ) → Polled (taken (λ o n b. read_from self.old.limits o n b) self.old.channels self.old.offset
             head count left (refusal self.old.limits self.old.channels head)) (rest_of self.new left) result }
     {
@@ -301,6 +311,7 @@ impl Decoder {
     #[tactic(auto, using(crate::proofs::Reading::stopped))]
     fn stop_at(&mut self, bad: BadFrame) -> MessagePoll
         ensures own { IsOwn result ⊥ }
+        ensures stop { IsStop self.new.stop result }
         ensures rest { (left : List ℕ) → rest_of self.new left ≡ stops (Fault bad) self.old.offset }
         ensures answer { (left : List ℕ) → Polled (stops (Fault bad) self.old.offset) (rest_of self.new left) result }
     {

@@ -1,7 +1,7 @@
 // A reader of messages.
 ghost use Rattle.std.specs.Prelude.{◌≡◌, ◌<◌, ◌^◌, ◌++◌, ◌∷◌, [], ℕ, List, None, IfSome, IsTrue, length, vec_len, vec_capacity};
 ghost use Rattle.rent_io.specs.Counts.{AfterCall};
-ghost use Rattle.frame_io.specs.Decoder.{IsBounded, IsOwn, Polled, rest_of};
+ghost use Rattle.frame_io.specs.Decoder.{IsBounded, IsOwn, IsStop, Polled, rest_of};
 ghost use Rattle.frame_io.specs.FrameReader.{IsMessageCaused, fresh_reader, standard};
 ghost use Rattle.frame_io.specs.Frames.{behind, read_frames};
 
@@ -33,8 +33,8 @@ impl<R> Model for FrameReader<R> {
 }
 
 impl<R> FrameReader<R> {
-    /// A reader that keeps at most 256 channels open, and at most 1048576 bytes of each (not in monoio). It takes no
-    /// memory.
+    /// A reader that keeps at most 256 channels open, and at most 1048576 bytes of each: 256 MiB of messages that are begun
+    /// (not in monoio). It takes no memory. `with_limits` sets lower limits.
     pub fn new(alloc: Global, inner: R) -> FrameReader<R>
         ensures value { result ≡ fresh_reader inner standard }
         ensures reads { (left : List ℕ) → rest_of result.kept left ≡ read_frames standard left }
@@ -91,6 +91,8 @@ impl<R: AsyncBufRead> FrameReader<R> {
         // What is still to be read is the message, or the end, and what is still to be read after the poll.
         ensures answer { IsTrue R.tells → Polled (rest_of self.old.kept (R.reader self.old.inner).left)
             (rest_of self.new.kept (R.reader self.new.inner).left) result }
+        // At an end and at a fault of a piece the reader stops, so that its offset is that of what was to be read.
+        ensures stop { IsStop self.new.kept.stop result }
         ensures cause { IsMessageCaused R.tells (R.reader self.old.inner) (R.reader self.new.inner) result }
         ensures counts { AfterCall (R.reader self.old.inner).counts (R.reader self.new.inner).counts }
     {
@@ -143,6 +145,7 @@ impl<R: AsyncBufRead> FrameReader<R> {
         requires lacks { IfSome self.old.kept.piece (λ p. 0 < p.lacks) }
         ensures answer { IsTrue R.tells → Polled (rest_of self.old.kept (R.reader self.old.inner).left)
             (rest_of self.new.kept (R.reader self.new.inner).left) result }
+        ensures stop { IsStop self.new.kept.stop result }
         ensures own { IsOwn result (IsTrue R.tells → length (R.reader self.new.inner).left < length (R.reader self.old.inner).left) }
         ensures counts { (R.reader self.new.inner).counts ≡ (R.reader self.old.inner).counts }
     {

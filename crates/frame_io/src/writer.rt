@@ -1,10 +1,13 @@
 // A writer of messages.
-ghost use Rattle.std.specs.Prelude.{◌≡◌, ◌<◌, [], length};
-ghost use Rattle.rent_io.specs.Counts.{AfterCall};
+ghost use Rattle.std.specs.Prelude.{◌≡◌, ◌<◌, ◌≤◌, ◌++◌, [], IsTrue, IfErr, OnOk, OnErr, length};
+ghost use Rattle.rent_io.specs.Counts.{AfterCall, Rose};
 ghost use Rattle.rent_io.specs.ItemSink.{IsSent, IsDone, CausesDone};
-ghost use Rattle.rent_io.specs.Writer.{EndsStay};
-ghost use Rattle.stream_util.specs.BufWriter.{Pushes};
-ghost use Rattle.frame_io.specs.FrameWriter.{Ends, IsPushCaused, Sends, IfShut, counts_over, fresh_writer, sink_over};
+ghost use Rattle.rent_io.specs.declared.sink.SinkPoll.TheVariants.{Ready};
+ghost use Rattle.rent_io.specs.Polls.{IsCountCaused};
+ghost use Rattle.rent_io.specs.Writer.{CountsDone, EndsStay};
+ghost use Rattle.stream_util.specs.BufWriter.{IsPushCaused, Pushes};
+ghost use Rattle.frame_io.specs.FrameWriter.{Drives, Ends, FailsBy, IsStuck, PassesOn, Sends, IfShut, counts_over, fresh_writer, sink_over};
+ghost use Rattle.frame_io.specs.Written.{pieces_of_all, sent_with};
 
 use crate::encode::append_pieces;
 use crate::fault::FrameFault;
@@ -13,6 +16,7 @@ use crate::message::Message;
 use rent_buf::{IoFault, Slice};
 use rent_io::{AsyncWriteRent, PollBuf, PollCount, Sink, SinkDone, SinkPoll};
 use std::alloc::Global;
+use std::collections::VecDeque;
 use std::marker::Model;
 use std::mem;
 
@@ -69,6 +73,39 @@ impl<W> FrameWriter<W> {
         &self.buf.as_slice()[self.sent..]
     }
 
+    /// The stream inside, lent (not in monoio).
+    pub fn get_ref(&self) -> &W
+        ensures { result.now ≡ self.now.inner }
+    {
+        &self.inner
+    }
+
+    // Buffers the pieces of a message, which stays with its owner.
+    #[tactic(auto, using(crate::proofs::Encoded::held_behind))]
+    fn buffer(&mut self, message: &Message) -> Result<(), FrameFault>
+        ensures pieces { Sends self.old self.new message.now (Ready result) }
+        ensures inner { self.new.inner ≡ self.old.inner }
+        ensures moved { self.new.moved ≡ self.old.moved }
+        ensures stays { self.old.refused ≤ self.new.refused }
+        ensures ok { OnOk result (Rose self.old.sends self.new.sends × (self.new.refused ≡ self.old.refused)) }
+        ensures err { OnErr result (Rose self.old.refused self.new.refused × (self.new.sends ≡ self.old.sends)) }
+    {
+        if message.bytes.len() > MOST_IN_MESSAGE {
+            self.refused = self.refused.saturating_add(1);
+            return Err(FrameFault::Long);
+        }
+        match append_pieces(&mut self.buf, message.channel, message.bytes.as_slice()) {
+            Ok(()) => {
+                self.sends = self.sends.saturating_add(1);
+                Ok(())
+            }
+            Err(_) => {
+                self.refused = self.refused.saturating_add(1);
+                Err(FrameFault::OutOfMemory)
+            }
+        }
+    }
+
     /// The stream inside (not in monoio). What is buffered is lost.
     pub fn into_inner(self) -> W
         ensures { result ≡ self.inner }
@@ -86,13 +123,101 @@ impl<W> FrameWriter<W> {
 }
 
 impl<W: AsyncWriteRent> FrameWriter<W> {
+    /// Sends the messages of a list in order, and then flushes until that is done, `polls` polls at most (not in monoio).
+    /// Whatever the stream answers, the bytes that it delivered, those that are buffered and the pieces of the messages
+    /// that are left in the list, joined, stay the same. A message leaves the list once it is buffered: one that is
+    /// refused, with `Long` or `OutOfMemory`, stays its first. A fault of the stream comes as `poll_flush` has it.
+    /// `Pending` means that the polls are used up.
+    #[tactic(auto, using(crate::proofs::Sending::pushed_run, crate::proofs::Sending::drive_ends))]
+    pub fn drive(
+        &mut self,
+        messages: &mut VecDeque<Message>,
+        task: u64,
+        polls: u64,
+    ) -> SinkDone<FrameFault>
+        ensures run { IsTrue W.tells → sent_with (W.writer self.new.inner).delivered self.new.held messages.new.items
+            ≡ sent_with (W.writer self.old.inner).delivered self.old.held messages.old.items }
+        ensures end { Drives (sink_over (W.writer self.old.inner) self.old) (sink_over (W.writer self.new.inner) self.new)
+            self.new.held messages.new.items result }
+    {
+        if let Err(fault) = self.buffer_all(messages) {
+            return SinkDone::Ready(Err(fault));
+        }
+        for _ in 0..polls {
+            match self.poll_flush(task) {
+                SinkDone::Ready(outcome) => return SinkDone::Ready(outcome),
+                SinkDone::Pending => {}
+            }
+        }
+        SinkDone::Pending
+    }
+
+    // Buffers the messages of a list, until one is refused, which stays its first.
+    #[tactic(auto, using(crate::proofs::Sending::first_is, crate::proofs::Sending::one_more_sent, crate::proofs::Sending::stuck_first))]
+    fn buffer_all(&mut self, messages: &mut VecDeque<Message>) -> Result<(), FrameFault>
+        ensures joined { self.new.held ++ pieces_of_all messages.new.items ≡ self.old.held ++ pieces_of_all messages.old.items }
+        ensures inner { self.new.inner ≡ self.old.inner }
+        ensures moved { self.new.moved ≡ self.old.moved }
+        ensures ok { OnOk result (messages.new.items ≡ []) }
+        ensures stays { self.old.refused ≤ self.new.refused }
+        ensures err { IfErr result (λ fault. IsStuck messages.new.items fault × Rose self.old.refused self.new.refused) }
+    {
+        while let Some(message) = messages.front() {
+            self.buffer(message)?;
+            messages.pop_front();
+        }
+        Ok(())
+    }
+
+    /// Writes what is buffered, one write a poll, and then flushes the stream inside, as `poll_flush` does, which doesn't tell
+    /// a pause from a poll that got on (not in monoio). At `Pending` the stream paused, and wakes the task; nothing was
+    /// written. At `Again` bytes were written, or the stream answered `Again`: another poll may be made at once.
+    pub fn flush_once(&mut self, task: u64) -> PollCount
+        ensures answers { PassesOn W.tells (W.writer self.old.inner) (W.writer self.new.inner) self.old.held self.new.held result }
+        ensures pushes { Pushes W.tells (W.writer self.old.inner) (W.writer self.new.inner) self.old.held self.new.held }
+        ensures flushes { CountsDone (W.writer self.old.inner).flushes (W.writer self.new.inner).flushes result }
+        ensures sends { self.new.sends ≡ self.old.sends }
+        ensures cause { IsCountCaused (counts_over (W.writer self.old.inner).counts self.old)
+            (counts_over (W.writer self.new.inner).counts self.new) result }
+        ensures counts { AfterCall (counts_over (W.writer self.old.inner).counts self.old)
+            (counts_over (W.writer self.new.inner).counts self.new) }
+    {
+        if self.buf.len() > self.sent {
+            return self.push_out(task);
+        }
+        self.buf.truncate(0);
+        self.sent = 0;
+        self.inner.poll_flush(task)
+    }
+
+    /// Writes what is buffered, one write a poll, and then shuts the stream inside down, as `poll_close` does, which doesn't
+    /// tell a pause from a poll that got on (not in monoio). `Pending` and `Again` mean what they mean for `flush_once`.
+    pub fn close_once(&mut self, task: u64) -> PollCount
+        ensures answers { PassesOn W.tells (W.writer self.old.inner) (W.writer self.new.inner) self.old.held self.new.held result }
+        ensures pushes { Pushes W.tells (W.writer self.old.inner) (W.writer self.new.inner) self.old.held self.new.held }
+        ensures shutdowns { CountsDone (W.writer self.old.inner).shutdowns (W.writer self.new.inner).shutdowns result }
+        ensures flushes { (W.writer self.new.inner).flushes ≡ (W.writer self.old.inner).flushes }
+        ensures sends { self.new.sends ≡ self.old.sends }
+        ensures cause { IsCountCaused (counts_over (W.writer self.old.inner).counts self.old)
+            (counts_over (W.writer self.new.inner).counts self.new) result }
+        ensures counts { AfterCall (counts_over (W.writer self.old.inner).counts self.old)
+            (counts_over (W.writer self.new.inner).counts self.new) }
+    {
+        if self.buf.len() > self.sent {
+            return self.push_out(task);
+        }
+        self.buf.truncate(0);
+        self.sent = 0;
+        self.inner.poll_shutdown(task)
+    }
+
     // Writes what is buffered once. What the write took leaves the buffer.
-    fn push_out(&mut self, task: u64) -> SinkDone<FrameFault>
+    fn push_out(&mut self, task: u64) -> PollCount
         requires { 0 < length self.old.held }
+        ensures answers { PassesOn W.tells (W.writer self.old.inner) (W.writer self.new.inner) self.old.held self.new.held result }
         ensures pushes { Pushes W.tells (W.writer self.old.inner) (W.writer self.new.inner) self.old.held self.new.held }
         ensures sends { self.new.sends ≡ self.old.sends }
         ensures ends { EndsStay (W.writer self.old.inner) (W.writer self.new.inner) }
-        ensures done { Ends self.new.held result }
         ensures cause { IsPushCaused (counts_over (W.writer self.old.inner).counts self.old)
             (counts_over (W.writer self.new.inner).counts self.new) result }
         ensures counts { AfterCall (counts_over (W.writer self.old.inner).counts self.old)
@@ -106,23 +231,23 @@ impl<W: AsyncWriteRent> FrameWriter<W> {
                 self.buf = part.into_inner();
                 if n == 0 {
                     self.refused = self.refused.saturating_add(1);
-                    return SinkDone::Ready(Err(FrameFault::Io(IoFault::WriteZero)));
+                    return PollCount::Ready(Err(IoFault::WriteZero));
                 }
                 self.sent += n;
                 self.moved = self.moved.saturating_add(1);
-                SinkDone::Pending
+                PollCount::Again
             }
             PollBuf::Ready(Err(fault), part) => {
                 self.buf = part.into_inner();
-                SinkDone::Ready(Err(FrameFault::Io(fault)))
+                PollCount::Ready(Err(fault))
             }
             PollBuf::Pending(part) => {
                 self.buf = part.into_inner();
-                SinkDone::Pending
+                PollCount::Pending
             }
             PollBuf::Again(part) => {
                 self.buf = part.into_inner();
-                SinkDone::Pending
+                PollCount::Again
             }
         }
     }
@@ -135,7 +260,6 @@ impl<W: AsyncWriteRent> Sink<Message> for FrameWriter<W> {
 
     /// Buffers the pieces of a message. It is refused with `Long`, if it has more than 1048576 bytes, or if memory runs
     /// out: then what is buffered stays, and the message is dropped.
-    #[tactic(auto, using(crate::proofs::Encoded::held_behind))]
     fn poll_send(&mut self, item: Message, _task: u64) -> SinkPoll<Message, FrameFault>
         ensures sent { IsSent item (sink_over (W.writer self.old.inner) self.old) (sink_over (W.writer self.new.inner) self.new) result }
         ensures flushes { (W.writer self.new.inner).flushes ≡ (W.writer self.old.inner).flushes }
@@ -144,24 +268,12 @@ impl<W: AsyncWriteRent> Sink<Message> for FrameWriter<W> {
         ensures pieces { Sends self.old self.new item result }
         ensures inner { self.new.inner ≡ self.old.inner }
     {
-        if item.bytes.len() > MOST_IN_MESSAGE {
-            self.refused = self.refused.saturating_add(1);
-            return SinkPoll::Ready(Err(FrameFault::Long));
-        }
-        match append_pieces(&mut self.buf, item.channel, item.bytes.as_slice()) {
-            Ok(()) => {
-                self.sends = self.sends.saturating_add(1);
-                SinkPoll::Ready(Ok(()))
-            }
-            Err(_) => {
-                self.refused = self.refused.saturating_add(1);
-                SinkPoll::Ready(Err(FrameFault::OutOfMemory))
-            }
-        }
+        SinkPoll::Ready(self.buffer(&item))
     }
 
     /// Writes what is buffered, one write a poll, and then flushes the stream inside. When it is done nothing is buffered.
-    /// At a fault just what was written has left the buffer.
+    /// At a fault just what was written has left the buffer. `Pending` doesn't say that the task is woken: it comes also where
+    /// bytes were written, or the stream answered `Again`. `flush_once` tells these apart.
     fn poll_flush(&mut self, task: u64) -> SinkDone<FrameFault>
         ensures done { IsDone (sink_over (W.writer self.old.inner) self.old) (sink_over (W.writer self.new.inner) self.new) result }
         ensures sends { self.new.sends ≡ self.old.sends }
@@ -169,13 +281,10 @@ impl<W: AsyncWriteRent> Sink<Message> for FrameWriter<W> {
             (counts_over (W.writer self.new.inner).counts self.new) }
         ensures pushes { Pushes W.tells (W.writer self.old.inner) (W.writer self.new.inner) self.old.held self.new.held }
         ensures ends { Ends self.new.held result }
+        // A fault of the stream comes only where its own faults rose, and `WriteZero` else only from a write that took none.
+        ensures apart { FailsBy W.tells (W.writer self.old.inner) (W.writer self.new.inner) self.old.held result }
     {
-        if self.buf.len() > self.sent {
-            return self.push_out(task);
-        }
-        self.buf.truncate(0);
-        self.sent = 0;
-        match self.inner.poll_flush(task) {
+        match self.flush_once(task) {
             PollCount::Ready(Ok(_)) => SinkDone::Ready(Ok(())),
             PollCount::Ready(Err(fault)) => SinkDone::Ready(Err(FrameFault::Io(fault))),
             PollCount::Pending | PollCount::Again => SinkDone::Pending,
@@ -183,7 +292,8 @@ impl<W: AsyncWriteRent> Sink<Message> for FrameWriter<W> {
     }
 
     /// Writes what is buffered, one write a poll, and then shuts the stream inside down. When it is done nothing is
-    /// buffered. At a fault just what was written has left the buffer.
+    /// buffered. At a fault just what was written has left the buffer. `Pending` is as that of `poll_flush`; `close_once` tells
+    /// a pause apart.
     fn poll_close(&mut self, task: u64) -> SinkDone<FrameFault>
         ensures cause { CausesDone (counts_over (W.writer self.old.inner).counts self.old)
             (counts_over (W.writer self.new.inner).counts self.new) result }
@@ -193,14 +303,10 @@ impl<W: AsyncWriteRent> Sink<Message> for FrameWriter<W> {
             (counts_over (W.writer self.new.inner).counts self.new) }
         ensures pushes { Pushes W.tells (W.writer self.old.inner) (W.writer self.new.inner) self.old.held self.new.held }
         ensures ends { Ends self.new.held result }
+        ensures apart { FailsBy W.tells (W.writer self.old.inner) (W.writer self.new.inner) self.old.held result }
         ensures shutdowns { IfShut (W.writer self.old.inner).shutdowns (W.writer self.new.inner).shutdowns result }
     {
-        if self.buf.len() > self.sent {
-            return self.push_out(task);
-        }
-        self.buf.truncate(0);
-        self.sent = 0;
-        match self.inner.poll_shutdown(task) {
+        match self.close_once(task) {
             PollCount::Ready(Ok(_)) => SinkDone::Ready(Ok(())),
             PollCount::Ready(Err(fault)) => SinkDone::Ready(Err(FrameFault::Io(fault))),
             PollCount::Pending | PollCount::Again => SinkDone::Pending,

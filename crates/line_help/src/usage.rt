@@ -29,30 +29,39 @@ impl Display for UsageError<'_> {
     }
 }
 
-// What a word of a command is to be: a number with its name, its bounds and its range in words; or bytes.
+// What a word of a command is to be: a number with its name, its bounds and its range in words; bytes; or what enters of a ring
+// do.
 #[derive(Clone, Copy)]
 enum Param {
     Number(&'static str, u64, u64, &'static str),
     Bytes(&'static str),
+    Enters(&'static str),
 }
 
-// A command: its name, what it takes in words, and its words.
-type Form = (&'static str, &'static str, &'static [Param]);
+// A command: its name, what it takes in words, its words, and a last one that may be left out.
+type Form = (
+    &'static str,
+    &'static str,
+    &'static [Param],
+    Option<&'static str>,
+);
 
-const FORMS: [Form; 7] = [
+const FORMS: [Form; 10] = [
     (
         "run",
-        "CAP",
+        "CAP, or CAP -i",
         &[Param::Number("capacity", 1, 4294967295, "a number from 1 to 4294967295")],
+        Some("-i"),
     ),
-    ("ready", "no further word", &[]),
+    ("ready", "no further word", &[], None),
     (
         "gen",
-        "SEED COUNT",
+        "SEED COUNT, or SEED COUNT --events",
         &[
             Param::Number("seed", 0, 2147483647, "a number from 0 to 2147483647"),
             Param::Number("count", 0, 100000, "a number from 0 to 100000"),
         ],
+        Some("--events"),
     ),
     (
         "wake",
@@ -61,6 +70,7 @@ const FORMS: [Form; 7] = [
             Param::Number("number of senders", 0, 64, "a number from 0 to 64"),
             Param::Number("count", 0, 100000, "a number from 0 to 100000"),
         ],
+        None,
     ),
     (
         "copy",
@@ -69,9 +79,21 @@ const FORMS: [Form; 7] = [
             Param::Number("capacity", 1, 16777216, "a number from 1 to 16777216"),
             Param::Bytes("prefix"),
         ],
+        None,
     ),
-    ("--help", "no further word", &[]),
-    ("--version", "no further word", &[]),
+    (
+        "faults",
+        "CAP ENTERS",
+        &[
+            Param::Number("capacity", 1, 4294967295, "a number from 1 to 4294967295"),
+            Param::Enters("script"),
+        ],
+        None,
+    ),
+    ("unframe", "no further word", &[], None),
+    ("frame", "no further word", &[], None),
+    ("--help", "no further word", &[], None),
+    ("--version", "no further word", &[], None),
 ];
 
 /// Why these words are no command's: of words that are one's, that their command takes no others. It takes no memory. (not in monoio)
@@ -89,8 +111,10 @@ pub fn usage_error(words: &[String]) -> UsageError<'_> {
 
 // Why the words behind a command's name are none of its.
 fn error_of(form: Form, words: &[String]) -> UsageError<'_> {
-    let (command, takes, params) = form;
-    if words.len() != params.len() {
+    let (command, takes, params, last) = form;
+    let counts = words.len() == params.len()
+        || (words.len() == params.len() + 1 && is_last(words, last));
+    if !counts {
         return UsageError::Takes(command, takes);
     }
     for (param, word) in params.iter().zip(words) {
@@ -99,6 +123,14 @@ fn error_of(form: Form, words: &[String]) -> UsageError<'_> {
         }
     }
     UsageError::Takes(command, takes)
+}
+
+// The last word is the one that may be left out.
+fn is_last(words: &[String], last: Option<&str>) -> bool {
+    match (words.last(), last) {
+        (Some(word), Some(last)) => word.as_str() == last,
+        _ => false,
+    }
 }
 
 // Why a word isn't what it is to be.
@@ -117,5 +149,21 @@ fn error_of_word<'a>(command: &'static str, param: Param, word: &'a str) -> Opti
                 "pairs of the digits 0-9a-f, or - for no bytes",
             )),
         },
+        Param::Enters(name) => {
+            if is_script(word.as_bytes()) {
+                return None;
+            }
+            Some(UsageError::Outside(command, name, word, "letters f, b or -, one for each enter"))
+        }
     }
+}
+
+// Each byte is a letter of a script, and there is one.
+fn is_script(word: &[u8]) -> bool {
+    for letter in word {
+        if *letter != b'f' && *letter != b'b' && *letter != b'-' {
+            return false;
+        }
+    }
+    !word.is_empty()
 }

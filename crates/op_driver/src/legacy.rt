@@ -1,9 +1,10 @@
 // The readiness driver, over any object whose calls don't wait.
-ghost use Rattle.std.specs.Prelude.{◌≡◌, ◌<◌, IsTrue, Some, IfOk, IfErr};
+ghost use Rattle.std.specs.Prelude.{◌≡◌, ◌<◌, IsTrue, Some, IfOk, IfErr, OnErr};
 ghost use Rattle.ring_core.specs.Request.{named};
 ghost use Rattle.driver_core.specs.Op.{AddsToken, KeepsTokens};
 ghost use Rattle.driver_core.specs.Requests.{KeepsRequests, request_at};
 ghost use Rattle.ready_driver.specs.LegacyState.{holds_all, ops_in};
+ghost use Rattle.op_driver.specs.Legacy.{LegacySubmits, LegacyPolls, LegacyDrops, LegacyCancels};
 
 use crate::op_driver::OpDriver;
 use driver_core::{Driver, MOST_GIVEN, Op, PollOp, SubmitError, Submitted, Turned};
@@ -15,6 +16,14 @@ impl<I: NonBlock, B: IoBufMut + Drop> OpDriver<B> for LegacyDriver<I, B> {
     ghost ops = { ops_in };
 
     ghost held = { λ driver. holds_all driver.handling.table };
+
+    ghost submits = { LegacySubmits I.view I.tells I.memory };
+
+    ghost polls = { LegacyPolls I.files B.buffer I.called I.view I.tells I.memory };
+
+    ghost drops = { LegacyDrops I.view I.tells I.memory };
+
+    ghost cancels = { LegacyCancels };
 
     fn holds_names(&self, names: Names) -> bool {
         self.holds_names(names)
@@ -31,10 +40,12 @@ impl<I: NonBlock, B: IoBufMut + Drop> OpDriver<B> for LegacyDriver<I, B> {
     fn submit_op(&mut self, request: Request<B, VecBuf>) -> Result<Op, SubmitError<B>>
         requires held { IsTrue (holds_all self.old.handling.table (named request)) }
         requires counter { (ops_in self.old).given < MOST_GIVEN }
+        ensures submits { LegacySubmits I.view I.tells I.memory self.old self.new request result }
         ensures token { IfOk result (λ op. AddsToken (ops_in self.old) (ops_in self.new) op) }
         ensures request { IfOk result (λ op. request_at (ops_in self.new) op ≡ Some request) }
         ensures requests { KeepsRequests (ops_in self.old) (ops_in self.new) }
         ensures err { IfErr result (λ refused. (refused.request ≡ request) × KeepsTokens (ops_in self.old) (ops_in self.new)) }
+        ensures given { OnErr result ((ops_in self.new).given ≡ (ops_in self.old).given) }
     {
         match self.submit_with(request, None)? {
             Submitted::Op(op) => Ok(op),

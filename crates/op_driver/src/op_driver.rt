@@ -1,6 +1,12 @@
 //! What a program asks of a driver that isn't to matter to it.
-ghost use Rattle.std.specs.Prelude.{◌≡◌, ◌<◌, ◌↔◌, Bool, IsTrue, List, ℕ, Some, IfOk, IfErr};
+ghost use Rattle.std.specs.Prelude.{◌≡◌, ◌<◌, ◌↔◌, Bool, IsTrue, List, ℕ, Some, Result, IfOk, IfErr, OnErr};
+ghost use Rattle.rent_buf.specs.Parts.{Parts};
+ghost use Rattle.rent_buf.specs.declared.fault.OutOfMemory.{OutOfMemory as NoMemory};
 ghost use Rattle.ring_core.specs.Request.{listed, named};
+ghost use Rattle.ring_core.specs.declared.request.Request.{Request as Asked};
+ghost use Rattle.driver_core.specs.declared.op.Op.{Op as Token};
+ghost use Rattle.driver_core.specs.declared.op.PollOp.{PollOp as Polled};
+ghost use Rattle.driver_core.specs.declared.op.SubmitError.{SubmitError as Refused};
 ghost use Rattle.driver_core.specs.Op.{AddsToken, DropsToken, Holds, KeepsTokens};
 ghost use Rattle.driver_core.specs.Ops.{Ops};
 ghost use Rattle.driver_core.specs.Requests.{KeepsRequests, request_at};
@@ -11,14 +17,26 @@ use rent_buf::{IoBufMut, OutOfMemory, VecBuf};
 use ring_core::{Names, Request};
 
 /// A driver of operations: requests are submitted, polled, canceled and dropped, and turns are made. Both drivers are one, with buffers
-/// of the type `B`. Its clauses speak of tokens and their requests alone; what a driver says beyond them, its own calls say.
-/// (not in monoio)
+/// of the type `B`. Its clauses speak of tokens and their requests; what else a call does is the driver's own relation, which at a driver
+/// that is named stands for that driver's clauses. (not in monoio)
 pub trait OpDriver<B: IoBufMut + Drop>: Driver {
     // Its operations: their slots, and how many were submitted.
     ghost ops: { Self → Ops B };
 
     // Its user holds each of these handles.
     ghost held: { Self → List ℕ → Bool };
+
+    // What a submission does: the driver before it and after it, the request, and what it answers.
+    ghost submits: { Self → Self → Asked B Parts → Result Token (Refused B) → Type 0 };
+
+    // What a poll does: the driver before it and after it, the token, the task, and what it answers.
+    ghost polls: { Self → Self → Token → ℕ → Result (Polled B) (NoMemory × Token) → Type 0 };
+
+    // What a drop does: the driver before it and after it, and the token.
+    ghost drops: { Self → Self → Token → Type 0 };
+
+    // What asking for a cancel does: the driver before it and after it, the token, and what it answers.
+    ghost cancels: { Self → Self → Token → Result Unit NoMemory → Type 0 };
 
     /// The user holds each of these handles, as `submit_op` asks of those that its request names.
     fn holds_names(&self, names: Names) -> bool
@@ -33,36 +51,47 @@ pub trait OpDriver<B: IoBufMut + Drop>: Driver {
         ensures { IsTrue result ↔ Holds (ops self.now) op.now };
 
     /// Submits a request of handles that the user holds, under no group, and returns the new operation's token. Fewer than `MOST_GIVEN`
-    /// were submitted before. A refused one comes back as it was, with the reason (`SubmitFault`), and no token is made.
+    /// were submitted before. A refused one comes back as it was, with the reason (`SubmitFault`), and none is submitted.
     fn submit_op(&mut self, request: Request<B, VecBuf>) -> Result<Op, SubmitError<B>>
         requires held { IsTrue (held self.old (named request)) }
         requires counter { (ops self.old).given < MOST_GIVEN }
+        ensures submits { submits self.old self.new request result }
         ensures token { IfOk result (λ op. AddsToken (ops self.old) (ops self.new) op) }
         ensures request { IfOk result (λ op. request_at (ops self.new) op ≡ Some request) }
         ensures requests { KeepsRequests (ops self.old) (ops self.new) }
-        ensures err { IfErr result (λ refused. (refused.request ≡ request) × KeepsTokens (ops self.old) (ops self.new)) };
+        ensures err { IfErr result (λ refused. (refused.request ≡ request) × KeepsTokens (ops self.old) (ops self.new)) }
+        ensures given { OnErr result ((ops self.new).given ≡ (ops self.old).given) };
 
     /// Polls an operation of this driver for a task. `Pending` returns its token; `Ready` spends it, and its request comes back. The
-    /// completion driver never answers `Err`. The readiness driver does so if memory runs out, and the token comes back.
+    /// completion driver never answers `Err`. The readiness driver does so if memory runs out, and the token comes back. No operation is
+    /// submitted.
     fn poll_op(&mut self, op: Op, task: u64) -> Result<PollOp<B>, (OutOfMemory, Op)>
         requires { Holds (ops self.old) op }
-        ensures tokens { TokensFor (ops self.old) (ops self.new) op result };
+        ensures polls { polls self.old self.new op task result }
+        ensures tokens { TokensFor (ops self.old) (ops self.new) op result }
+        ensures given { (ops self.new).given ≡ (ops self.old).given };
 
-    /// Drops an operation of this driver. It takes no memory.
+    /// Drops an operation of this driver. No operation is submitted. It takes no memory.
     fn drop_op(&mut self, op: Op)
         requires { Holds (ops self.old) op }
+        ensures drops { drops self.old self.new op }
         ensures tokens { DropsToken (ops self.old) (ops self.new) op }
-        ensures requests { KeepsRequests (ops self.old) (ops self.new) };
+        ensures requests { KeepsRequests (ops self.old) (ops self.new) }
+        ensures given { (ops self.new).given ≡ (ops self.old).given };
 
-    /// Asks for the cancel of an operation of this driver. `OutOfMemory` comes if memory runs out; then nothing is asked.
+    /// Asks for the cancel of an operation of this driver. `OutOfMemory` comes if memory runs out. Either way every token stays, and no
+    /// operation is submitted.
     fn cancel_op(&mut self, op: &Op) -> Result<(), OutOfMemory>
         requires { Holds (ops self.old) op.now }
+        ensures cancels { cancels self.old self.new op.now result }
         ensures tokens { KeepsTokens (ops self.old) (ops self.new) }
-        ensures requests { KeepsRequests (ops self.old) (ops self.new) };
+        ensures requests { KeepsRequests (ops self.old) (ops self.new) }
+        ensures given { (ops self.new).given ≡ (ops self.old).given };
 
-    /// A turn, as `Driver::submit`. It keeps every token.
+    /// A turn, as `Driver::submit`. It keeps every token, and submits no operation.
     fn turn(&mut self) -> Turned
         ensures turns { Self.turns self.old self.new result }
         ensures tokens { KeepsTokens (ops self.old) (ops self.new) }
-        ensures requests { KeepsRequests (ops self.old) (ops self.new) };
+        ensures requests { KeepsRequests (ops self.old) (ops self.new) }
+        ensures given { (ops self.new).given ≡ (ops self.old).given };
 }

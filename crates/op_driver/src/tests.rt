@@ -70,25 +70,37 @@ fn run<D: OpDriver<Rent>>(driver: &mut D, buf: Rent) -> Option<Came> {
     }
 }
 
+type OnRing = IoUringDriver<MemRing, Rent>;
+
+type OnHandles = LegacyDriver<MemIo, Rent>;
+
+// The user gets the handle of a stream, which is 0, since it is the first.
+fn give_to_ring(driver: &mut OnRing) -> bool {
+    let next = driver.handles();
+    next < MOST_HANDLES && !driver.known(next) && driver.give(HandleKind::Stream).is_ok()
+}
+
+// The same on the readiness driver.
+fn give_to_handles(driver: &mut OnHandles) -> bool {
+    let next = driver.handles();
+    next < MOST_HANDLES && !driver.known(next) && driver.give(HandleKind::Stream).is_ok()
+}
+
 // On the completion driver, over the ring in memory with one stream. Nobody plays the kernel, so the read goes on.
 fn run_on_ring(alloc: Global) -> Option<Came> {
-    let mut driver: IoUringDriver<MemRing, Rent> = IoUringDriver::new_with_entries(alloc, 8).ok()?;
-    let next = driver.handles();
-    if next >= MOST_HANDLES || driver.known(next) {
+    let mut driver: OnRing = IoUringDriver::new_with_entries(alloc, 8).ok()?;
+    if !give_to_ring(&mut driver) {
         return None;
     }
-    driver.give(HandleKind::Stream).ok()?;
     run(&mut driver, Rent::with_total(alloc, 16).ok()?)
 }
 
 // On the readiness driver, over one stream in memory, to which nothing comes.
 fn run_on_handles(alloc: Global) -> Option<Came> {
-    let mut driver: LegacyDriver<MemIo, Rent> = LegacyDriver::over(alloc, MemIo::new(alloc));
-    let next = driver.handles();
-    if next >= MOST_HANDLES || driver.known(next) {
+    let mut driver: OnHandles = LegacyDriver::over(alloc, MemIo::new(alloc));
+    if !give_to_handles(&mut driver) {
         return None;
     }
-    driver.give(HandleKind::Stream).ok()?;
     run(&mut driver, Rent::with_total(alloc, 16).ok()?)
 }
 

@@ -1,10 +1,11 @@
 // The completion driver, over any ring.
-ghost use Rattle.std.specs.Prelude.{◌≡◌, ◌<◌, IsTrue, Some, IfOk, IfErr};
+ghost use Rattle.std.specs.Prelude.{◌≡◌, ◌<◌, IsTrue, Some, IfOk, IfErr, OnErr};
 ghost use Rattle.ring_core.specs.Request.{named};
 ghost use Rattle.driver_core.specs.Op.{AddsToken, KeepsTokens};
 ghost use Rattle.driver_core.specs.Requests.{KeepsRequests, request_at};
 ghost use Rattle.uring_driver.specs.Op.{ops_in};
 ghost use Rattle.uring_driver.specs.Uring.{holds_all};
+ghost use Rattle.op_driver.specs.Uring.{UringSubmits, UringPolls, UringDrops, UringCancels};
 
 use crate::op_driver::OpDriver;
 use driver_core::{Driver, MOST_GIVEN, Op, PollOp, SubmitError, Submitted, Turned};
@@ -16,6 +17,14 @@ impl<R: Ring, B: IoBufMut + Drop> OpDriver<B> for IoUringDriver<R, B> {
     ghost ops = { ops_in };
 
     ghost held = { holds_all };
+
+    ghost submits = { UringSubmits R.view B.buffer R.tells R.steady };
+
+    ghost polls = { UringPolls R.view R.tells };
+
+    ghost drops = { UringDrops R.view R.tells };
+
+    ghost cancels = { UringCancels R.view R.tells };
 
     fn holds_names(&self, names: Names) -> bool {
         self.holds_names(names)
@@ -32,10 +41,12 @@ impl<R: Ring, B: IoBufMut + Drop> OpDriver<B> for IoUringDriver<R, B> {
     fn submit_op(&mut self, request: Request<B, VecBuf>) -> Result<Op, SubmitError<B>>
         requires held { IsTrue (holds_all self.old (named request)) }
         requires counter { (ops_in self.old).given < MOST_GIVEN }
+        ensures submits { UringSubmits R.view B.buffer R.tells R.steady self.old self.new request result }
         ensures token { IfOk result (λ op. AddsToken (ops_in self.old) (ops_in self.new) op) }
         ensures request { IfOk result (λ op. request_at (ops_in self.new) op ≡ Some request) }
         ensures requests { KeepsRequests (ops_in self.old) (ops_in self.new) }
         ensures err { IfErr result (λ refused. (refused.request ≡ request) × KeepsTokens (ops_in self.old) (ops_in self.new)) }
+        ensures given { OnErr result ((ops_in self.new).given ≡ (ops_in self.old).given) }
     {
         match self.submit_with(request, None)? {
             Submitted::Op(op) => Ok(op),

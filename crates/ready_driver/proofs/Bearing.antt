@@ -1,22 +1,13 @@
 -- What showed handles of a world in memory shows them still, through each change of their records, their holders and their object.
-use Rattle.std.proofs.Common.{◌≡◌, ◌≢◌, inl, inr, ℕ, Bool, true, false, Option, Some, None, refl, sym, ◌∙◌, ap, subst}
-use Rattle.std.specs.Prelude.{IsTrue, bit_and, if◌then◌else◌, unwrap_or, option_map}
+use Rattle.std.proofs.Common.{◌≡◌, ◌≢◌, inl, inr, ℕ, Option, Some, None, refl, sym, ◌∙◌, ap, subst}
+use Rattle.std.specs.Prelude.{unwrap_or, option_map}
 use Rattle.ring_core.proofs.Numbers.{same-or-not}
-use Rattle.ready_driver.specs.declared.ready.Direction.{Direction}
 use Rattle.ready_driver.specs.declared.records.Record.{Record}
 use Rattle.ready_driver.specs.Io.{IoView, IsDue, IsShown, KeepsShown}
-use Rattle.ready_driver.specs.Ready.{meets, mask_of, bits_for}
-use Rattle.ready_driver.specs.Records.{Kept, quiet, record_at, io_at, changed}
+use Rattle.ready_driver.specs.Records.{Kept, quiet, record_at, io_at, changed, with_io}
+use Rattle.ready_driver.specs.ScheduledIo.{Scheduled}
 use Rattle.ready_driver.specs.Turns.{bits_after, KeepsBits}
 use Rattle.ready_driver.proofs.Recorded.{changed-at, changed-none, changed-other}
-
--- Bits of a direction that weren't found don't meet it.
-pub bits-unmet : (ready : ℕ) (dir : Direction) → None ≡ bits_for ready dir → meets ready (mask_of dir) ≡ false
-bits-unmet ready dir is = by (meets ready (mask_of dir)) is
-  where
-    by : (b : Bool) → None ≡ (if b then Some (bit_and ready (mask_of dir)) else None) → b ≡ false
-    by true is = (let f : ⊥ = cc in absurd f)
-    by false is = refl
 
 -- The record of a handle changed in what isn't its bits.
 pub bits-kept : (kept : Kept) (h : ℕ) (change : Record → Record) → ((one : Record) → (change one).io.ready ≡ one.io.ready) → (g : ℕ) →
@@ -52,13 +43,30 @@ keeps-due old new before after n keeps due same = λ h reports shown. elim (same
       subst (λ r. IsShown new h (bits_after h r reports)) (sym (same h e)) (keeps h (bits_after h (io_at before h).ready reports) shown)
 ]
 
--- Records of which one changed, and then perhaps once more: the bits of another handle.
-pub bits-twice : (old first cleared new : Kept) (h : ℕ) (f change : Record → Record) (P : Type 0) (met : Bool) → first ≡ old →
-    cleared ≡ changed first h f → (IsTrue met → P × (new ≡ cleared)) → (met ≡ false → new ≡ changed cleared h change) → (g : ℕ) → g ≢ h →
-    (io_at new g).ready ≡ (io_at old g).ready
-bits-twice old first cleared new h f change P met same is stays changes g e =
-    by met refl ∙ ap (λ k. (io_at k g).ready) is ∙ bits-beside first h f g e ∙ ap (λ k. (io_at k g).ready) same
-  where
-    by : (b : Bool) → met ≡ b → (io_at new g).ready ≡ (io_at cleared g).ready
-    by true m = ap (λ k. (io_at k g).ready) (stays m).1
-    by false m = ap (λ k. (io_at k g).ready) (changes m) ∙ bits-beside cleared h change g e
+-- A record was written with the bits that it had: all bits stay.
+pub bits-written : (kept new : Kept) (h : ℕ) (one : Record) (io : Scheduled) → record_at kept h ≡ Some one →
+    new ≡ changed kept h (with_io (λ old. io)) → io.ready ≡ one.io.ready → (g : ℕ) → (io_at new g).ready ≡ (io_at kept g).ready
+bits-written kept new h one io there is same g = ap (λ k. (io_at k g).ready) is ∙ elim (same-or-not g h) [
+  | inl e ↦ (
+      ap (λ k. (io_at (changed kept h (with_io (λ old. io))) k).ready) e
+      ∙ ap (λ x. (unwrap_or (option_map (λ r. r.io) x) quiet).ready) (changed-at kept h (with_io (λ old. io)) one there) ∙ same
+      ∙ ap (λ x. (unwrap_or (option_map (λ r. r.io) x) quiet).ready) (sym there) ∙ ap (λ k. (io_at kept k).ready) (sym e))
+  | inr e ↦ bits-beside kept h (with_io (λ old. io)) g e
+]
+
+-- So what showed the handles shows them still.
+pub keeps-written : (old new : IoView) (before after : Kept) (h : ℕ) (one : Record) (io : Scheduled) → record_at before h ≡ Some one →
+    after ≡ changed before h (with_io (λ x. io)) → KeepsShown old new → io.ready ≡ one.io.ready → KeepsBits old before new after
+keeps-written old new before after h one io there is keeps same =
+    keeps-bits old new before after keeps (bits-written before after h one io there is same)
+
+-- A record was written whose handle is due: what showed the handles shows them still.
+pub keeps-written-due : (old new : IoView) (before after : Kept) (h : ℕ) (io : Scheduled) → after ≡ changed before h (with_io (λ x. io)) →
+    KeepsShown old new → IsDue new h → KeepsBits old before new after
+keeps-written-due old new before after h io is keeps due =
+    keeps-due old new before after h keeps due (λ g e. ap (λ k. (io_at k g).ready) is ∙ bits-beside before h (with_io (λ x. io)) g e)
+
+-- Nothing was written, and the object is as it was.
+pub keeps-unwritten : (view : IoView) (before after : Kept) → after ≡ before → KeepsBits view before view after
+keeps-unwritten view before after is =
+    keeps-bits view view before after (λ h ready shown. shown) (λ h. ap (λ k. (io_at k h).ready) is)

@@ -1,11 +1,11 @@
 -- Sets of readiness bits, bit by bit.
 use Rattle.std.proofs.Common.{◌≡◌, ◌∙◌, ℕ, sym, ap, arith}
-use Rattle.std.specs.Prelude.{◌-◌, ◌<◌, ◌%◌, bit_and, bit_or, min}
+use Rattle.std.specs.Prelude.{◌-◌, ◌<◌, bit_and, bit_or, min}
 use Rattle.std.proofs.Common.{inl, inr}
 use Rattle.std.specs.Int.{bit_at, w8}
 use Rattle.std.proofs.lemmas.Bool.{cases_lt}
-use Rattle.std.proofs.lemmas.Nat.{or_lt, and_comm, and-not, le_or_l, and_le_l, and_le_r, and_mod}
-use Rattle.std.proofs.lemmas.Nat.Bits.{bit_at_and, bit_at_not, bit_at_above, bit_at-lt, bit_at-zero, same_from_bits}
+use Rattle.std.proofs.lemmas.Nat.{or_lt, and_comm, and-not, le_or_l}
+use Rattle.std.proofs.lemmas.Nat.Bits.{bit_at_and, bit_at_not, bit_at_above, bit_at-lt}
 use Rattle.ready_driver.specs.Ready.{without}
 
 -- The union of two sets is a set.
@@ -40,29 +40,3 @@ bits_without a b k a_set b_set = elim (cases_lt k 8) [
       let none_left = bit_at_above (without a b) 6 k (omega arith) (omega arith) in
       omega arith
 ]
-
--- What is left of a bit without itself shares nothing with it.
-bit_apart : (x y : ℕ) → x < 2 → y < 2 → min (x - y) y ≡ 0
-bit_apart x y x_bit y_bit = omega arith
-
--- A difference of sets shares no bit with what was taken away.
-difference_apart : (a b : ℕ) → a < 64 → b < 64 → bit_and (without a b) b ≡ 0
-difference_apart a b a_set b_set = same_from_bits _ _ (λ k.
-    bit_at_and (without a b) b k ∙ ap (λ n. min n (bit_at b k)) (bits_without a b k a_set b_set)
-    ∙ bit_apart (bit_at a k) (bit_at b k) (bit_at-lt a k) (bit_at-lt b k) ∙ sym (bit_at-zero k))
-
--- What a number shares with a set its lower bits share with it.
-shared_low : (a b : ℕ) → b < 64 → bit_and a b ≡ bit_and (a % 64) b
-shared_low a b b_set =
-    let within = and_le_r a b in
-    let low : bit_and a b ≡ bit_and a b % 64 = omega (arith, within, b_set) in
-    let same : b % 64 ≡ b = omega (arith, b_set) in
-    low ∙ and_mod a b 6 ∙ ap (bit_and (a % 64)) same
-
--- The same of any number.
-pub without_apart : (a b : ℕ) → b < 64 → bit_and (without a b) b ≡ 0
-without_apart a b b_set =
-    let shared = shared_low a b b_set in
-    let within = and_le_l (a % 64) b in
-    let low : without a b % 64 ≡ without (a % 64) b = omega (arith, shared, within) in
-    shared_low (without a b) b b_set ∙ ap (λ n. bit_and n b) low ∙ difference_apart (a % 64) b (omega arith) b_set

@@ -3,6 +3,7 @@ pub mod Waiting
 pub mod Places
 pub mod Memory
 pub mod Lists
+pub mod Looking
 pub mod Flat
 pub mod Closes
 pub mod Asks
@@ -45,3 +46,4 @@ pub mod Showing
 pub mod Exact
 pub mod Errors
 pub mod Dialing
+pub mod Calling

@@ -1,35 +1,26 @@
 -- The records of handles after that of one handle changed: what it has then, and what the others have.
-use Rattle.std.proofs.Common.{◌≡◌, ◌≢◌, inl, inr, ℕ, Bool, true, false, not, Option, Some, None, option_map, unwrap_or, refl, sym}
+use Rattle.std.proofs.Common.{◌≡◌, ◌≢◌, inl, inr, ℕ, Bool, true, false, Option, Some, None, option_map, unwrap_or, refl, sym}
 use Rattle.std.proofs.Common.{◌∙◌, ap, subst}
-use Rattle.std.proofs.Common.{arith}
-use Rattle.std.specs.Prelude.{◌==◌, bit_and, if◌then◌else◌, IsSome, is_some, OnOk, OnErr, Result, Ok, Err}
+use Rattle.std.specs.Prelude.{IsSome, is_some, Result, Ok, Err}
 use Rattle.ring_core.proofs.Numbers.{same-or-not}
-use Rattle.driver_core.proofs.Maps.{put-same, put-other, put-twice}
+use Rattle.driver_core.proofs.Maps.{put-same, put-other}
 use Rattle.ready_driver.specs.declared.ready.Direction.{Direction}
 use Rattle.ready_driver.specs.declared.ready.Direction.TheVariants.{Read, Write}
 use Rattle.ready_driver.specs.declared.records.Record.{Record}
 use Rattle.driver_core.specs.declared.op.Op.{Op}
-use Rattle.driver_core.specs.declared.op.PollOp.TheVariants.{Pending}
-use Rattle.ready_driver.specs.Awaits.{Leaves, LeavesIf, without_bits, with_waiter}
-use Rattle.ready_driver.specs.Ready.{meets, mask_of, without, bits_for}
-use Rattle.ready_driver.specs.ScheduledIo.{Scheduled, entry_of}
-use Rattle.ready_driver.specs.Records.{Kept, quiet, record_at, io_at, changed_if, changed, with_record, with_io}
-use Rattle.ready_driver.proofs.Bits.{without_apart}
-
--- What is said of an answer that is Ok implies more.
-pub on-ok-then : {A F P Q : Type 0} (r : Result A F) → OnOk r P → (P → Q) → OnOk r Q
-on-ok-then (Ok x) p f = f p
-on-ok-then (Err e) p f = p
-
--- What is said of an error implies more.
-pub on-err-then : {A F P Q : Type 0} (r : Result A F) → OnErr r P → (P → Q) → OnErr r Q
-on-err-then (Ok x) p f = p
-on-err-then (Err e) p f = f p
+use Rattle.driver_core.specs.declared.op.PollOp.{PollOp}
+use Rattle.rent_buf.specs.declared.fault.OutOfMemory.{OutOfMemory}
+use Rattle.ready_driver.specs.declared.scheduled_io.Waiter.{Waiter}
+use Rattle.driver_core.specs.declared.op.PollOp.TheVariants.{Pending, Ready}
+use Rattle.ready_driver.specs.Awaits.{LeavesIo, LeavesIf, Leaves, without_bits, with_waiter, without_waiter}
+use Rattle.ready_driver.specs.Ready.{meets, mask_of}
+use Rattle.ready_driver.specs.ScheduledIo.{Scheduled}
+use Rattle.ready_driver.specs.Records.{Kept, quiet, record_at, io_at, changed_if, changed, with_io}
 
 -- No bits meet no direction.
-pub none-meet : (dir : Direction) → (meets 0 (mask_of dir) ≡ false) × (bits_for 0 dir ≡ None)
-none-meet Read = (refl, refl)
-none-meet Write = (refl, refl)
+pub none-meet : (dir : Direction) → meets 0 (mask_of dir) ≡ false
+none-meet Read = refl
+none-meet Write = refl
 
 -- The record of the handle that changed.
 pub changed-at : (kept : Kept) (h : ℕ) (change : Record → Record) (one : Record) → record_at kept h ≡ Some one →
@@ -40,20 +31,6 @@ changed-at kept h change one there =
 -- A handle with no record has none then.
 pub changed-none : (kept : Kept) (h : ℕ) (change : Record → Record) → record_at kept h ≡ None → changed kept h change ≡ kept
 changed-none kept h change none = ap (λ x. changed_if x kept h change) none
-
--- Two changes of a handle's record are one.
-pub changed-twice : (kept : Kept) (h : ℕ) (f g : Record → Record) → changed (changed kept h f) h g ≡ changed kept h (λ r. g (f r))
-changed-twice kept h f g = by (record_at kept h) refl
-  where
-    by : (x : Option Record) → record_at kept h ≡ x → changed (changed kept h f) h g ≡ changed kept h (λ r. g (f r))
-    by None is =
-        let same = changed-none kept h f is in
-        changed-none (changed kept h f) h g (ap (λ k. record_at k h) same ∙ is) ∙ same ∙ sym (changed-none kept h (λ r. g (f r)) is)
-    by (Some one) is =
-        ap (λ x. changed_if x (changed kept h f) h g) (changed-at kept h f one is)
-        ∙ ap (λ x. with_record (changed_if x kept h f) h (g (f one))) is
-        ∙ ap (λ m. record kept { handles = m }) (put-twice kept.handles h (f one) (g (f one)))
-        ∙ sym (ap (λ x. changed_if x kept h (λ r. g (f r))) is)
 
 -- The records of other handles stay.
 pub changed-other : (kept : Kept) (h : ℕ) (change : Record → Record) (k : ℕ) → k ≢ h →
@@ -100,39 +77,32 @@ io-either P kept h f none some = by (record_at kept h) refl
     by None is = subst P (sym (ap read (ap (λ k. record_at k h) (changed-none kept h (with_io f) is) ∙ is))) none
     by (Some one) is = subst P (sym (io-changed kept h f (subst IsSome (sym is) refl))) some
 
--- The bits without those of a direction don't meet it.
-pub without-unmet : (ready : ℕ) (dir : Direction) → meets (without ready (mask_of dir)) (mask_of dir) ≡ false
-without-unmet ready Read = ap (λ n. not (n == 0)) (without_apart ready (mask_of Read) (omega arith))
-without-unmet ready Write = ap (λ n. not (n == 0)) (without_apart ready (mask_of Write) (omega arith))
+-- What a poll left of the record that was looked up, it left of the records.
+pub leaves-record : {B : Type 0} (met : Bool) (old : Kept) (h : ℕ) (was : Scheduled) (entry : Waiter) (new : Kept) (now : Scheduled)
+    (result : Result (PollOp B) (OutOfMemory × Op)) →
+    ((f : Scheduled → Scheduled) → now ≡ f was → new ≡ changed old h (with_io f)) → (now ≡ was → new ≡ old) →
+    LeavesIo met was entry now result → LeavesIf met old h entry new result
+leaves-record false old h was entry new now (Ok (Pending back)) writes same left = writes (with_waiter entry) left
+leaves-record false old h was entry new now (Ok (Ready done)) writes same left = left
+leaves-record false old h was entry new now (Err error) writes same left = same left
+leaves-record true old h was entry new now (Ok (Pending back)) writes same left =
+    writes (λ io. with_waiter entry (without_bits entry.direction io)) left
+leaves-record true old h was entry new now (Ok (Ready done)) writes same left = writes (without_waiter entry.serial) left
+leaves-record true old h was entry new now (Err error) writes same left = same left
 
--- No bit of a handle meets a direction whose bits were cleared.
-pub cleared-unmet : (kept : Kept) (h : ℕ) (dir : Direction) →
-    meets (io_at (changed kept h (with_io (without_bits dir))) h).ready (mask_of dir) ≡ false
-cleared-unmet kept h dir =
-    io-either (λ io. meets io.ready (mask_of dir) ≡ false) kept h (without_bits dir) (none-meet dir).0
-    (without-unmet (io_at kept h).ready dir)
+-- So it is where the record was found.
+pub leaves-found : {B : Type 0} (old : Kept) (h : ℕ) (one : Record) (entry : Waiter) (new : Kept) (now : Scheduled)
+    (result : Result (PollOp B) (OutOfMemory × Op)) → record_at old h ≡ Some one →
+    ((f : Scheduled → Scheduled) → now ≡ f one.io → new ≡ changed old h (with_io f)) → (now ≡ one.io → new ≡ old) →
+    LeavesIo (meets one.io.ready (mask_of entry.direction)) one.io entry now result → Leaves old h entry new result
+leaves-found old h one entry new now result there writes same left =
+    subst (λ (io : Scheduled). LeavesIf (meets io.ready (mask_of entry.direction)) old h entry new result) (sym (ap read there))
+    (leaves-record (meets one.io.ready (mask_of entry.direction)) old h one.io entry new now result writes same left)
 
--- Bits of a direction that were found meet it.
-pub bits-met : (ready : ℕ) (dir : Direction) (found : ℕ) → Some found ≡ bits_for ready dir → meets ready (mask_of dir) ≡ true
-bits-met ready dir found is = by (meets ready (mask_of dir)) is
-  where
-    by : (b : Bool) → Some found ≡ (if b then Some (bit_and ready (mask_of dir)) else None) → b ≡ true
-    by true is = refl
-    by false is = (let f : ⊥ = cc in absurd f)
-
--- An operation whose call would block waits, and the bits of its direction are cleared: they had been found, so they met it.
-pub blocked-leaves : (B : Type 0) (old first cleared new : Kept) (h : ℕ) (dir : Direction) (found mask serial n task : ℕ) (op : Op) →
-    Some found ≡ bits_for (io_at old h).ready dir → (meets (io_at old h).ready (mask_of dir) ≡ true → first ≡ old) →
-    cleared ≡ changed first h (with_io (λ io. record io { ready = without io.ready mask })) → mask ≡ mask_of dir →
-    (meets (io_at cleared h).ready (mask_of dir) ≡ false → new ≡ changed cleared h (with_io (with_waiter (entry_of n task dir)))) →
-    n ≡ serial → Leaves {B = B} old h (entry_of serial task dir) new (Ok (Pending op))
-blocked-leaves B old first cleared new h dir found mask serial n task op finds same clears masks waits number =
-    let met = bits-met (io_at old h).ready dir found finds in
-    let clear : cleared ≡ changed old h (with_io (without_bits dir)) =
-    clears ∙ ap (λ m. changed first h (with_io (λ io. record io { ready = without io.ready m }))) masks
-    ∙ ap (λ k. changed k h (with_io (without_bits dir))) (same met) in
-    let unmet = subst (λ k. meets (io_at k h).ready (mask_of dir) ≡ false) (sym clear) (cleared-unmet old h dir) in
-    let wait = waits unmet ∙ ap (λ m. changed cleared h (with_io (with_waiter (entry_of m task dir)))) number in
-    subst (λ b. LeavesIf {B = B} b old h (entry_of serial task dir) new (Ok (Pending op))) (sym met)
-    (wait ∙ ap (λ k. changed k h (with_io (with_waiter (entry_of serial task dir)))) clear
-    ∙ changed-twice old h (with_io (without_bits dir)) (with_io (with_waiter (entry_of serial task dir))))
+-- A handle with no record leaves its operation waiting, which changes nothing.
+pub leaves-unfound : (B : Type 0) (old : Kept) (h : ℕ) (entry : Waiter) (new : Kept) (op : Op) → record_at old h ≡ None → new ≡ old →
+    Leaves {B = B} old h entry new (Ok (Pending op))
+leaves-unfound B old h entry new op none same =
+    subst (λ met. LeavesIf {B = B} met old h entry new (Ok (Pending op)))
+    (sym (ap (λ x. meets (read x).ready (mask_of entry.direction)) none ∙ none-meet entry.direction))
+    (same ∙ sym (changed-none old h (with_io (with_waiter entry)) none))

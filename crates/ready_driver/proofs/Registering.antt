@@ -150,10 +150,7 @@ recorded-left table true old h entry new (Ok (Pending back)) all left =
     subst (AreRecorded table) (sym left) (recorded-changed table old all h _)
 recorded-left table true old h entry new (Ok (Ready done)) all left =
     subst (AreRecorded table) (sym left) (recorded-changed table old all h _)
-recorded-left table true old h entry new (Err error) all left = elim left [
-  | inl same ↦ subst (AreRecorded table) (sym same) all
-  | inr cleared ↦ subst (AreRecorded table) (sym cleared) (recorded-changed table old all h _)
-]
+recorded-left table true old h entry new (Err error) all left = subst (AreRecorded table) (sym left) all
 
 -- So it is, whatever the poll's operation waits for.
 pub recorded-leaves : {B : Type 0} (table : Table) (awaited : Option (ℕ × Direction)) (old : Kept) (serial task : ℕ) (new : Kept)
@@ -170,7 +167,7 @@ leaves-refused B None records serial task error = refl
 leaves-refused B (Some (h, dir)) records serial task error = by (meets (io_at records h).ready (mask_of dir))
   where
     by : (met : Bool) → LeavesIf {B = B} met records h (entry_of serial task dir) records (Err error)
-    by true = inl refl
+    by true = refl
     by false = refl
 
 -- A record that changes takes none of the memory that is reserved for one.
@@ -198,10 +195,7 @@ leaves-spare (Some (h, dir)) old serial task new result left =
     by false (Err error) left = ap (λ k. k.spare) left
     by true (Ok (Pending back)) left = same _ left
     by true (Ok (Ready done)) left = same _ left
-    by true (Err error) left = elim left [
-      | inl is ↦ ap (λ k. k.spare) is
-      | inr is ↦ same _ is
-    ]
+    by true (Err error) left = ap (λ k. k.spare) left
 
 -- A handle that a call made has the memory that was taken for one.
 pub made-room : {I : Type 0} (made : Option ℕ) (maker : Bool) (old new : Handling I) → (maker ≡ true → HasMadeRoom old) →

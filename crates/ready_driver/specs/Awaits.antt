@@ -60,6 +60,11 @@ slot_awaits (Some slot) = awaits_if (is_flying slot.life) slot.request
 abbrev pub IsUnmet : Kept → ℕ → Direction → Type 0
 IsUnmet kept h dir = meets (io_at kept h).ready (mask_of dir) ≡ false
 
+-- A poll may call: nothing is awaited, or a bit of the handle meets the direction.
+abbrev pub is_met_at : Kept → Option (ℕ × Direction) → Bool
+is_met_at kept None = true
+is_met_at kept (Some (h, dir)) = meets (io_at kept h).ready (mask_of dir)
+
 -- What is awaited is a direction that no bit of its handle meets.
 pub record IsUnmetAt (kept : Kept) (awaited : Option (ℕ × Direction)) : Type 0 where
   pub handle : ℕ
@@ -111,9 +116,18 @@ with_waiter entry io = record io { waiting = kept io.waiting entry }
 abbrev pub without_waiter : ℕ → Scheduled → Scheduled
 without_waiter serial io = record io { waiting = forgotten io.waiting serial }
 
--- What a poll by the bits of a handle leaves of the records, by whether a bit meets the direction of its operation's entry. Where none does
--- the operation waits. Else its call is made: one that would block clears the bits of the direction, and the operation waits; one that
--- ended leaves the bits, and the operation waits no longer. Where memory ran out the operation waits as before.
+-- What a poll by the bits of a handle leaves of these and of what waits, by whether a bit meets the direction of its operation's entry. Where
+-- none does the operation waits. Else its call is made: one that would block clears the bits of the direction, and the operation waits; one
+-- that ended leaves the bits, and the operation waits no longer. Where memory ran out nothing changes.
+abbrev pub LeavesIo : {B : Type 0} → Bool → Scheduled → Waiter → Scheduled → Result (PollOp B) (OutOfMemory × Op) → Type 0
+LeavesIo false old entry new (Ok (Pending back)) = new ≡ with_waiter entry old
+LeavesIo false old entry new (Ok (Ready done)) = ⊥
+LeavesIo false old entry new (Err error) = new ≡ old
+LeavesIo true old entry new (Ok (Pending back)) = new ≡ with_waiter entry (without_bits entry.direction old)
+LeavesIo true old entry new (Ok (Ready done)) = new ≡ without_waiter entry.serial old
+LeavesIo true old entry new (Err error) = new ≡ old
+
+-- The same of the records, where only that of the handle changes.
 abbrev pub LeavesIf : {B : Type 0} → Bool → Kept → ℕ → Waiter → Kept → Result (PollOp B) (OutOfMemory × Op) → Type 0
 LeavesIf false old h entry new (Ok (Pending back)) = new ≡ changed old h (with_io (with_waiter entry))
 LeavesIf false old h entry new (Ok (Ready done)) = ⊥
@@ -121,7 +135,7 @@ LeavesIf false old h entry new (Err error) = new ≡ old
 LeavesIf true old h entry new (Ok (Pending back)) =
     new ≡ changed old h (with_io (λ io. with_waiter entry (without_bits entry.direction io)))
 LeavesIf true old h entry new (Ok (Ready done)) = new ≡ changed old h (with_io (without_waiter entry.serial))
-LeavesIf true old h entry new (Err error) = (new ≡ old) ⊎ (new ≡ changed old h (with_io (without_bits entry.direction)))
+LeavesIf true old h entry new (Err error) = new ≡ old
 
 abbrev pub Leaves : {B : Type 0} → Kept → ℕ → Waiter → Kept → Result (PollOp B) (OutOfMemory × Op) → Type 0
 Leaves old h entry new result = LeavesIf (meets (io_at old h).ready (mask_of entry.direction)) old h entry new result

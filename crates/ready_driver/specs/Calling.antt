@@ -1,5 +1,5 @@
 -- Which call a poll made, over every object. Cited by `LegacyDriver`, and by the polls that it stands on.
-use Rattle.std.specs.Prelude.{◌≡◌, ◌⊎◌, true, Option, None, Some, Result, Ok, Err}
+use Rattle.std.specs.Prelude.{◌≡◌, ◌⊎◌, Bool, true, false, Option, None, Some, Result, Ok, Err}
 use Rattle.rent_buf.specs.Buffer.{Buffer}
 use Rattle.rent_buf.specs.Parts.{Parts}
 use Rattle.rent_buf.specs.declared.fault.OutOfMemory.{OutOfMemory as NoMemory}
@@ -38,20 +38,22 @@ pub record CallsInSlot {B I : Type 0} (buffer : B → Buffer) (called : Called I
   pub stays : request_in new ≡ Some now
   pub made : MakesCall buffer called slot before after answer now
 
--- No call was made: the object and the request are as they were.
+-- No call was made: the object and the slot are as they were.
 pub record MakesNone {B I : Type 0} (slot new : Option (Slot B)) (before after : I) : Type 0 where
   pub object : after ≡ before
-  pub request : request_in new ≡ request_in slot
+  pub slot_is : new ≡ slot
 
--- A poll of the operation in a slot made one call at most, and its answer is that of the call. One that is ready without a call was
--- completed before. Where memory ran out, that was before a call, by the call, or after one that would have blocked.
-abbrev pub CallsOnce : {B I : Type 0} → (B → Buffer) → Called I → Option (Slot B) → I → Option (Slot B) → I →
+-- What a poll of the operation in a slot called, by whether it may call: it may where its operation waits for nothing, or a bit of its handle
+-- meets its direction. One that may not is pending, and made no call. One that may made just one call, and its answer is that of the call;
+-- but one that was completed before is ready without a call. Where memory ran out no call was made, or the call itself answered that.
+abbrev pub CallsOnce : {B I : Type 0} → Bool → (B → Buffer) → Called I → Option (Slot B) → I → Option (Slot B) → I →
     Result (PollOp B) (NoMemory × Op) → Type 0
-CallsOnce buffer called slot before new after (Ok (Pending back)) =
-    MakesNone slot new before after ⊎ CallsInSlot buffer called slot new before after WouldBlock
-CallsOnce buffer called slot before new after (Ok (Ready done)) =
+CallsOnce false buffer called slot before new after (Ok (Pending back)) = MakesNone slot new before after
+CallsOnce false buffer called slot before new after (Ok (Ready done)) = ⊥
+CallsOnce false buffer called slot before new after (Err error) = MakesNone slot new before after
+CallsOnce true buffer called slot before new after (Ok (Pending back)) = CallsInSlot buffer called slot new before after WouldBlock
+CallsOnce true buffer called slot before new after (Ok (Ready done)) =
     ((after ≡ before) × IsCompleted slot done.outcome × (request_in slot ≡ Some done.request))
     ⊎ MakesCall buffer called slot before after (Done done.outcome) done.request
-CallsOnce buffer called slot before new after (Err error) =
-    MakesNone slot new before after ⊎ (CallsInSlot buffer called slot new before after WouldBlock
-    ⊎ CallsInSlot buffer called slot new before after OutOfMemory)
+CallsOnce true buffer called slot before new after (Err error) =
+    MakesNone slot new before after ⊎ CallsInSlot buffer called slot new before after OutOfMemory

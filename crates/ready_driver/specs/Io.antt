@@ -28,8 +28,9 @@ use Rattle.ready_driver.specs.declared.non_block.NonBlockError.TheVariants.{Faul
 use Rattle.ready_driver.specs.Reports.{with_key, with_made_key, ShowsBits}
 
 -- An object: how often a call of it failed as a whole, would have blocked, and ended with an error; how many handles it made; its handles;
--- by handle, the key that it is registered with, if it is; which handles are due, as the next wait reports them; and what it reports. Every
--- object shows its counts. The rest means something only where the object shows it.
+-- by handle, the key that it is registered with, if it is; which handles are due, as the next wait reports them; what it reports; and the
+-- limit of its last wait, in milliseconds. Every object shows its counts and that limit. The rest means something only where the object
+-- shows it.
 pub record IoView : Type 0 where
   pub faults : ℕ
   pub blocks : ℕ
@@ -39,6 +40,7 @@ pub record IoView : Type 0 where
   pub keys : List (Option ℕ)
   pub due : List ℕ
   pub reports : List Report
+  pub limit : Option ℕ
 
 -- A handle is due, if it is registered with its own number.
 abbrev pub IsDue : IoView → ℕ → Type 0
@@ -181,10 +183,12 @@ pub record IsClosed (tells memory : Bool) (old new : IoView) (outcome : Outcome)
   pub still : IsStill tells memory old new old.keys
   pub outcome_is : IsTrue memory → outcome ≡ Count 0
 
--- What a wait answers and leaves. An object that shows its reports puts just these into the list; after an error there is none. Of a world
--- in memory no handle is due any more, and after an error just those that were.
-abbrev pub WaitsFor : Bool → Bool → Bool → IoView → IoView → List Report → Result Unit NonBlockError → Type 0
-WaitsFor tells reporting memory old new reports (Ok done) =
+-- What a wait with a limit answers and leaves. An object that shows its reports puts just these into the list; after an error there is
+-- none. Of a world in memory no handle is due any more, and after an error just those that were. The object shows the limit, unless the
+-- wait ended with an error.
+abbrev pub WaitsFor : Bool → Bool → Bool → Option ℕ → IoView → IoView → List Report → Result Unit NonBlockError → Type 0
+WaitsFor tells reporting memory limit old new reports (Ok done) =
     IsWaited tells memory old new × (IsTrue reporting → reports ≡ old.reports) × (IsTrue memory → new.due ≡ [])
-WaitsFor tells reporting memory old new reports (Err why) =
+    × (new.limit ≡ limit)
+WaitsFor tells reporting memory limit old new reports (Err why) =
     IsWaited tells memory old new × FaultsFor memory old new why × (reports ≡ []) × (IsTrue memory → new.due ≡ old.due)

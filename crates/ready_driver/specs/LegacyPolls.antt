@@ -16,7 +16,7 @@ use Rattle.driver_core.specs.declared.op.PollOp.TheVariants.{Pending, Ready}
 use Rattle.driver_core.specs.declared.slot.Slot.{Slot}
 use Rattle.driver_core.specs.Holds.{without_ops, unheld_by}
 use Rattle.driver_core.specs.Members.{leaves}
-use Rattle.ready_driver.specs.Awaits.{slot_awaits, unless, LeavesFor}
+use Rattle.ready_driver.specs.Awaits.{slot_awaits, unless, is_met_at, LeavesFor}
 use Rattle.ready_driver.specs.Calling.{Called, CallsOnce}
 use Rattle.ready_driver.specs.Io.{IoView}
 use Rattle.ready_driver.specs.LegacyState.{LegacyState}
@@ -49,6 +49,12 @@ pub record PollsHandling {I B : Type 0} (files : I → ℕ → Bool) (old mid : 
   pub room : records.handles ≡ old.records.handles
   pub leaves : LeavesFor (unless (files old.io) (slot_awaits slot)) records number task mid.records result
 
+-- What a poll itself called: by whether its operation waits for nothing, or a bit of its handle, which is no file, meets its direction.
+abbrev pub PollsCall : {I B : Type 0} → (I → ℕ → Bool) → (B → Buffer) → Called I → Handling I → Option (Slot B) → Option (Slot B) → I →
+    Result (PollOp B) (NoMemory × Token) → Type 0
+PollsCall files buffer called old slot new after result =
+    CallsOnce (is_met_at old.records (unless (files old.io) (slot_awaits slot))) buffer called slot old.io new after result
+
 -- An operation was returned, by a call that ended so or without one: what it made is its user's, it holds its handles no more, and it is no
 -- member of its group.
 pub record EndsOp {I B : Type 0} (files : I → ℕ → Bool) (buffer : B → Buffer) (called : Called I) (view : I → IoView)
@@ -56,7 +62,7 @@ pub record EndsOp {I B : Type 0} (files : I → ℕ → Bool) (buffer : B → Bu
     (done : Done B) : Type 0 where
   pub mid : Handling I
   pub call : Outcome
-  pub calls : CallsOnce buffer called (map.get old.slots.values op.key) old.handling.io (map.get new.slots.values op.key) mid.io
+  pub calls : PollsCall files buffer called old.handling (map.get old.slots.values op.key) (map.get new.slots.values op.key) mid.io
       (Ok (Ready (record done { outcome = call })))
   pub polls : PollsHandling files old.handling mid (map.get old.slots.values op.key) op.number task
       (Ok (Ready (record done { outcome = call })))
@@ -74,12 +80,12 @@ abbrev pub EndsFor : {I B : Type 0} → (I → ℕ → Bool) → (B → Buffer) 
 EndsFor files buffer called view tells memory old new op task (Ok (Pending back)) =
     PollsHandling files old.handling new.handling (map.get old.slots.values op.key) op.number task (Ok (Pending back))
     × (new.members ≡ old.members)
-    × CallsOnce buffer called (map.get old.slots.values op.key) old.handling.io (map.get new.slots.values op.key) new.handling.io
+    × PollsCall files buffer called old.handling (map.get old.slots.values op.key) (map.get new.slots.values op.key) new.handling.io
     (Ok (Pending back))
 EndsFor files buffer called view tells memory old new op task (Ok (Ready done)) =
     EndsOp files buffer called view tells memory old new op task done
 EndsFor files buffer called view tells memory old new op task (Err error) =
     PollsHandling files old.handling new.handling (map.get old.slots.values op.key) op.number task (Err error)
     × (new.members ≡ old.members)
-    × CallsOnce buffer called (map.get old.slots.values op.key) old.handling.io (map.get new.slots.values op.key) new.handling.io
+    × PollsCall files buffer called old.handling (map.get old.slots.values op.key) (map.get new.slots.values op.key) new.handling.io
     (Err error)

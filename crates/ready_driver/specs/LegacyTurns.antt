@@ -1,10 +1,11 @@
 -- What a turn and a park of a readiness driver do. Cited by `LegacyDriver`.
-use Rattle.std.specs.Prelude.{ℕ, ◌≡◌, ◌⊎◌, ◌++◌, min, Bool, IsTrue, List, [], Option, Some, None}
+use Rattle.std.specs.Prelude.{ℕ, ◌≡◌, ◌⊎◌, ◌++◌, Bool, false, IsTrue, IfNone, List, [], Option, Some, None}
 use Rattle.rent_buf.specs.Buffer.{Buffer}
 use Rattle.rent_buf.specs.Counts.{Rose}
 use Rattle.ring_core.specs.Ledger.{Ledger}
 use Rattle.wake_core.specs.declared.park.Woken.{Woken}
-use Rattle.wake_core.specs.Sleeping.{Sleeping}
+use Rattle.wake_core.specs.Sleeping.{Sleeping, Waits, LooksOut, is_still, at_most_one}
+use Rattle.driver_core.specs.declared.driver.Parked.{Parked}
 use Rattle.driver_core.specs.declared.op.Stop.{Stop}
 use Rattle.driver_core.specs.declared.op.Stop.TheVariants.{RingFault, Busy, BadCompletion, OutOfMemory}
 use Rattle.driver_core.specs.declared.op.Turned.{Turned}
@@ -12,7 +13,7 @@ use Rattle.ready_driver.specs.declared.non_block.Report.{Report}
 use Rattle.ready_driver.specs.Io.{IoView, IsWaited}
 use Rattle.ready_driver.specs.Legacy.{Legacy}
 use Rattle.ready_driver.specs.LegacyStands.{LegacyStands}
-use Rattle.ready_driver.specs.LegacyState.{LegacyState}
+use Rattle.ready_driver.specs.LegacyState.{LegacyState, KeepsRequests}
 use Rattle.ready_driver.specs.Readiness.{Shows}
 use Rattle.ready_driver.specs.Registry.{Handling, AreKeyed}
 use Rattle.ready_driver.specs.Turns.{reported_each, woken_each, AreReported}
@@ -90,17 +91,35 @@ pub record ShowsLedger {I B : Type 0} (view : I → IoView) (buffer : B → Buff
   pub stands : LegacyStands view buffer driver driven
   pub shows : Shows driven L
 
--- The limit of a sleeper's wait in a park with a limit, or none: a millisecond at most.
-abbrev pub at_most_one : Option ℕ → ℕ
-at_most_one None = 1
-at_most_one (Some millis) = min millis 1
+-- What a look at the object does, which may wait with this limit: a turn that keeps the requests. Where it didn't stop, the object shows
+-- the limit, and over a world in memory the driver stands for the ledger that it stood for.
+pub record LooksWithin {I B : Type 0} (view : I → IoView) (buffer : B → Buffer) (tells reporting memory : Bool) (old : LegacyState I B)
+    (limit : Option ℕ) (new : LegacyState I B) (turned : Turned) : Type 0 where
+  pub turns : LegacyTurns view tells reporting memory old new turned
+  pub keeps : KeepsRequests old new
+  pub limited : IfNone turned.stop ((view new.handling.io).limit ≡ limit)
+  pub stands : IfNone turned.stop ((L : Ledger) → ShowsLedger view buffer memory old L → ShowsLedger view buffer memory new L)
 
--- A round of the sleeper was made: the lists are what its two drains gave, and it didn't wait, or waited a millisecond at most, and no
--- longer than this limit.
+-- A park with this limit looked out once, in the place of its wait. It came to its wait exactly when nothing was at hand before it and both
+-- drains gave nothing; and where nothing was at hand, no task was to be named, and no report was untreated.
+pub record ParksIn {I B : Type 0} (view : I → IoView) (buffer : B → Buffer) (tells reporting memory : Bool) (limit : Option ℕ)
+    (old new : LegacyState I B) (sleeper : Sleeping) (parked : Parked) : Type 0 where
+  -- something was at hand
+  pub ready : Bool
+  pub idle : ready ≡ false → (old.asked ≡ []) × (old.untreated ≡ [])
+  pub looks : LooksOut (LooksWithin view buffer tells reporting memory) (is_still ready parked.remote.first parked.remote.again) limit
+      sleeper old new parked.turned
+
+-- A round of the sleeper was made: the lists are what its two drains gave. It came to its wait exactly when nothing was at hand before it
+-- and both drains gave nothing, and waited exactly when the sleeper slept then: with this limit, in an object that has a bell; or beside
+-- one that has none, a millisecond at most, and no longer than this limit.
 pub record WalksSleeper (limit : Option ℕ) (new : Sleeping) (remote : Woken) : Type 0 where
   pub first : new.first ≡ remote.first
   pub again : new.again ≡ remote.again
-  pub waited : (new.waited ≡ None) ⊎ (new.waited ≡ Some (Some (at_most_one limit)))
+  -- something was at hand
+  pub ready : Bool
+  pub waits : Waits (is_still ready remote.first remote.again) limit new
+      ⊎ Waits (is_still ready remote.first remote.again) (Some (at_most_one limit)) new
 
 -- A park makes a round, however its turn stopped.
 abbrev pub DrainsFor : Option Stop → Option ℕ → Sleeping → Sleeping → Woken → Type 0

@@ -1,5 +1,5 @@
 -- Handles in memory as an object whose calls don't wait. Cited by `MemIo`.
-use Rattle.std.specs.Prelude.{ℕ, Bool, true, List, [], length, Option}
+use Rattle.std.specs.Prelude.{ℕ, Bool, true, List, [], length, Option, Some}
 use Rattle.ring_core.specs.declared.world.HandleState.{HandleState}
 use Rattle.ring_core.specs.Attempt.{is_file_at}
 use Rattle.ready_driver.specs.Calling.{Called}
@@ -7,13 +7,14 @@ use Rattle.ready_driver.specs.Io.{IoView, CallsFor}
 use Rattle.ready_driver.specs.Reports.{reports_of}
 
 -- Handles in memory; by handle, the key with which it is registered, if it is; which handles are due, in the order in which they became so;
--- and how often a call would have blocked, and ended with an error.
+-- how often a call would have blocked, and ended with an error; and the limit of the last wait.
 pub record Memory : Type 0 where
   pub world : List HandleState
   pub keys : List (Option ℕ)
   pub due : List ℕ
   pub blocks : ℕ
   pub fails : ℕ
+  pub limit : Option ℕ
 
 -- As an object it never fails, made each of its handles, and reports each handle that is due.
 abbrev pub memory_view : Memory → IoView
@@ -26,6 +27,7 @@ memory_view memory = record {
   keys = memory.keys;
   due = memory.due;
   reports = reports_of memory.world memory.keys memory.due;
+  limit = memory.limit;
 }
 
 -- A handle is a file.
@@ -38,4 +40,4 @@ memory_called old request new now answer = CallsFor true true (memory_view old) 
 
 -- No handles.
 abbrev pub no_handles : Memory
-no_handles = record { world = []; keys = []; due = []; blocks = 0; fails = 0 }
+no_handles = record { world = []; keys = []; due = []; blocks = 0; fails = 0; limit = Some 0 }

@@ -215,10 +215,12 @@ impl<I: NonBlock, B: IoBufMut + Drop> LegacyDriver<I, B> {
     /// Polls an operation of this driver for a task. (monoio: `poll_op`)
     ///
     /// Its call is made once a bit of its handle meets its direction; a request that waits for no direction is called at once, and so is
-    /// one of a file. It is `Pending` only where no bit meets its direction, or the call would have blocked. One whose cancel was asked for
-    /// is `Ready` with the error of a cancel. One that is `Ready` holds its handles no more, and is no member of its group. The handle that
-    /// it made is its user's from now on; one that can't be new, since somebody holds it or it isn't below `MOST_HANDLES`, isn't made, and
-    /// the outcome is the error `INVALID`. `OutOfMemory` comes if memory runs out: the token comes back, and no call was made.
+    /// one of a file. It is `Pending` where no bit meets its direction, and no call is made then; else only where the call would have
+    /// blocked. One whose cancel was asked for is `Ready` with the error of a cancel, without a call. One that is `Ready` holds its handles
+    /// no more, and is no member of its group. The handle that it made is its user's from now on; one that can't be new, since somebody
+    /// holds it or it isn't below `MOST_HANDLES`, isn't made, and the outcome is the error `INVALID`. `OutOfMemory` comes if memory runs
+    /// out, and the token comes back: no call was made, since the driver takes its own memory first, or the call itself answered that. No
+    /// bit and nothing that waits has changed.
     pub fn poll_op(&mut self, op: Op, task: u64) -> Result<PollOp<B>, (OutOfMemory, Op)>
         requires { Holds self.old op }
         ensures answers { IsTrue I.memory → (D : Legacy) → LegacyStands I.view B.buffer self.old D →

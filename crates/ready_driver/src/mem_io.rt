@@ -17,6 +17,7 @@ use rent_buf::{IoBufMut, OutOfMemory, VecBuf};
 use ring_core::{HandleKind, Look, Outcome, Request, World, WorldCall, WorldError};
 use std::alloc::Global;
 use std::marker::Model;
+use wake_core::Bell;
 
 /// A world of handles in memory, as an object whose calls don't wait: its faults never rise. (not in monoio)
 ///
@@ -31,6 +32,8 @@ pub struct MemIo {
     due: Due,
     blocks: u64,
     fails: u64,
+    // The limit of the last wait.
+    limit: Option<u64>,
 }
 
 impl Model for MemIo {
@@ -39,7 +42,14 @@ impl Model for MemIo {
 
     ghost Value = { Memory };
 
-    ghost view = { λ m. record { world = m.world; keys = m.keys.items; due = m.due.handles; blocks = m.blocks; fails = m.fails } };
+    ghost view = { λ m. record {
+      world = m.world;
+      keys = m.keys.items;
+      due = m.due.handles;
+      blocks = m.blocks;
+      fails = m.fails;
+      limit = m.limit;
+    } };
 
     ghost invariant = { λ m. (length m.keys.items ≡ length m.world) × (length m.keys.items ≤ m.due.count) };
 }
@@ -55,6 +65,7 @@ impl MemIo {
             due: Due::new(alloc),
             blocks: 0,
             fails: 0,
+            limit: Some(0),
         }
     }
 
@@ -322,6 +333,7 @@ impl NonBlock for MemIo {
         match self.report_all(reports) {
             Ok(()) => {
                 self.due.clear();
+                self.limit = limit;
                 Ok(())
             }
             Err(_) => {
@@ -329,5 +341,10 @@ impl NonBlock for MemIo {
                 Err(NonBlockError::OutOfMemory)
             }
         }
+    }
+
+    /// It has none, since its waits don't wait.
+    fn bell(&mut self) -> Option<Bell> {
+        None
     }
 }

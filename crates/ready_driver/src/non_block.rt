@@ -15,6 +15,7 @@ use ring_core::Outcome;
 use std::alloc::Global;
 use std::marker::Model;
 use thiserror::Error;
+use wake_core::Bell;
 
 /// Why an object did nothing. (monoio: an `io::Error`)
 #[derive(Clone, Copy, Debug, PartialEq, Eq, Error)]
@@ -96,9 +97,10 @@ impl Reports {
 /// An object whose calls don't wait: it makes the call of a request at once or answers that it would block, and reports which handles
 /// became ready. (monoio: the non-blocking file descriptors, and `mio::Poll`)
 ///
-/// Every object shows three counts, which never fall: how often it failed, would have blocked, and ended a call with an error. Some show
-/// their handles too, as a world has them, and some what a wait reports; and some are a world in memory, which is known in all: a wait
-/// reports each handle that is due, as it is from its registration on, from a call that would block on it, and from what arrives at it.
+/// Every object shows three counts, which never fall: how often it failed, would have blocked, and ended a call with an error; and behind a
+/// wait that didn't fail, the limit of that wait. Some show their handles too, as a world has them, and some what a wait reports; and some
+/// are a world in memory, which is known in all: a wait reports each handle that is due, as it is from its registration on, from a call
+/// that would block on it, and from what arrives at it.
 pub trait NonBlock: Calls + Drop {
     // The object as a value.
     ghost view: { Self → IoView };
@@ -132,10 +134,17 @@ pub trait NonBlock: Calls + Drop {
         ensures file { result ≡ files self.now h }
         ensures world { IsTrue memory → result ≡ is_file_at (view self.now).world h };
 
-    /// Waits for reports, no longer than so many milliseconds, and puts them into an empty list. (monoio: `Poll::poll`)
+    /// Waits for reports, no longer than so many milliseconds, and without end where there is no limit, and puts them into an empty list. A
+    /// driver asks it with another limit than 0 only behind a `bell`. (monoio: `Poll::poll`)
     fn wait(&mut self, limit: Option<u64>, reports: &mut Reports) -> Result<(), NonBlockError>
         requires { reports.old ≡ [] }
-        ensures { WaitsFor tells reporting memory (view self.old) (view self.new) reports.new result };
+        ensures { WaitsFor tells reporting memory limit (view self.old) (view self.new) reports.new result };
+
+    /// What ends a wait of this object from another thread: the wait that is under way, or else the next one. None where nothing does, or
+    /// nothing that does can be made now. Where there is one a park waits in the object, with its whole limit, and else beside it, a
+    /// millisecond at most. (mio: `Waker`)
+    fn bell(&mut self) -> Option<Bell>
+        ensures { self.new ≡ self.old };
 
     // A world in memory shows its handles.
     ghost memory_tells: { IsTrue memory → IsTrue tells };
@@ -185,5 +194,9 @@ impl<N: NonBlock> NonBlock for &mut N {
 
     fn wait(&mut self, limit: Option<u64>, reports: &mut Reports) -> Result<(), NonBlockError> {
         (**self).wait(limit, reports)
+    }
+
+    fn bell(&mut self) -> Option<Bell> {
+        (**self).bell()
     }
 }

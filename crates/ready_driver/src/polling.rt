@@ -56,7 +56,7 @@ pub fn poll<I: NonBlock, B: IoBufMut + Drop>(
     ensures blocks { BlocksFor (I.view io.old) (I.view io.new) result }
     ensures returns { ReturnsFor (map.get ops.old.slots.values (key_of op)) (I.view io.old) (I.view io.new) result }
     // It made one call at most, and its answer is that of the call.
-    ensures calls { CallsOnce B.buffer I.called (map.get ops.old.slots.values (key_of op)) io.old
+    ensures calls { CallsOnce true B.buffer I.called (map.get ops.old.slots.values (key_of op)) io.old
         (map.get ops.new.slots.values (key_of op)) io.new result }
     // Over every object the slots of all other operations stay.
     ensures slots { PollsSlotFor ops.old ops.new op result }

@@ -1,17 +1,18 @@
 //! What a driver keeps of each of its handles: what it is ready for, what waits for it, and whether it is registered.
-ghost use Rattle.std.specs.Prelude.{◌≡◌, ◌-◌, ◌<◌, true, false, max, length, bit_or, None, option_map, IsTrue, IsOk, IfOk, OnOk, OnErr};
+ghost use Rattle.std.specs.Prelude.{◌≡◌, ◌-◌, ◌<◌, true, max, length, bit_or, None, option_map, OnOk, OnErr};
 ghost use Rattle.std.specs.FinMap as map;
-ghost use Rattle.ready_driver.specs.Ready.{meets, mask_of, without, bits_for};
-ghost use Rattle.ready_driver.specs.ScheduledIo.{entry_of, waiter_of, kept, forgotten, taken, left, tasks_of};
+ghost use Rattle.ready_driver.specs.ScheduledIo.{waiter_of, forgotten, taken, left, tasks_of};
 ghost use Rattle.ready_driver.specs.Records.{fresh_record, record_at, io_at, is_registered, with_record, changed, without_record};
 ghost use Rattle.ready_driver.specs.Records.{with_io, with_registered};
 
-use crate::ready::{Direction, Ready};
+use crate::ready::Ready;
 use crate::scheduled_io::ScheduledIo;
 use rent_buf::{NumList, OutOfMemory};
 use std::alloc::Global;
 use std::collections::HashMap;
 use std::marker::Model;
+
+mod polls;
 
 /// What a driver keeps of a handle. (monoio: a `ScheduledIo` in the slab of the legacy driver)
 #[derive(Debug, Drop)]
@@ -132,38 +133,6 @@ impl Records {
             Some(one) => one.io.waiting(),
             None => 0,
         }
-    }
-
-    /// Takes bits of a handle away.
-    pub fn clear_readiness(&mut self, h: u64, gone: Ready)
-        ensures { self.new ≡ changed self.old h (with_io (λ io. record io { ready = without io.ready gone })) }
-    {
-        let Some(one) = self.handles.get_mut(&h) else {
-            return;
-        };
-        one.io.clear_readiness(gone);
-    }
-
-    /// The bits of a direction of a handle, or None exactly if there are none. Then the operation waits with this task, at its place if it
-    /// waited already; but for a handle with no record nothing waits. If memory runs out, nothing changes. (monoio:
-    /// `ScheduledIo::poll_readiness`)
-    pub fn poll_readiness(
-        &mut self,
-        h: u64,
-        serial: u64,
-        task: u64,
-        dir: Direction,
-    ) -> Result<Option<Ready>, OutOfMemory>
-        ensures value { IfOk result (λ found. found ≡ bits_for (io_at self.old h).ready dir) }
-        ensures ready { IsTrue (meets (io_at self.old h).ready (mask_of dir)) → IsOk result × (self.new ≡ self.old) }
-        ensures waits { meets (io_at self.old h).ready (mask_of dir) ≡ false → OnOk result (self.new ≡
-            changed self.old h (with_io (λ io. record io { waiting = kept io.waiting (entry_of serial task dir) }))) }
-        ensures err { OnErr result (self.new ≡ self.old) }
-    {
-        let Some(one) = self.handles.get_mut(&h) else {
-            return Ok(None);
-        };
-        one.io.poll_readiness(serial, task, dir)
     }
 
     /// An operation waits for a handle no longer: answers the task that waited, or None exactly if it didn't wait.

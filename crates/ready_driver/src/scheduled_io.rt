@@ -1,13 +1,16 @@
 //! The bits of one handle, and the operations that wait for them.
-ghost use Rattle.std.specs.Prelude.{◌≡◌, ◌≤◌, ℕ, [], Some, None, false, bit_or, length, option_map};
+ghost use Rattle.std.specs.Prelude.{◌≡◌, ◌≤◌, ◌<◌, ◌+◌, ℕ, [], Some, None, false, bit_or, length, option_map};
 ghost use Rattle.std.specs.Prelude.{All, Contains, IsTrue, IsOk, IfOk, IfSome, IfNone, OnOk, OnErr};
 ghost use Rattle.std.specs.List.{list_any};
-ghost use Rattle.std.specs.Vec.{vec_capacity};
+ghost use Rattle.std.specs.Vec.{vec_len, vec_capacity};
+ghost use Rattle.ready_driver.specs.declared.ready.Direction.{Direction};
+ghost use Rattle.ready_driver.specs.Rooms.{room_of};
 ghost use Rattle.ready_driver.specs.Ready.{meets, mask_of, without, bits_for};
 ghost use Rattle.ready_driver.specs.ScheduledIo.{entry_of, waiter_of, kept, forgotten, is_met, taken, left, tasks_of, unless_met};
 ghost use Rattle.ready_driver.specs.ScheduledIo.{IsWaitingIn, IsOnceEach, ChangesOnly, IsSound};
 ghost use Rattle.ready_driver.specs.Places.{IsPlace, IsAway};
 
+mod polls;
 mod rooms;
 
 use crate::ready::{Direction, Ready};
@@ -95,6 +98,13 @@ impl ScheduledIo {
             .iter()
             .copied()
             .find(|waiter| waiter.serial == serial)
+    }
+
+    // A bit meets a direction.
+    fn is_met(&self, dir: Direction) -> bool
+        ensures { result ≡ meets self.now.ready (mask_of dir) }
+    {
+        !(self.readiness & dir.mask()).is_empty()
     }
 
     /// Adds bits (monoio: `ScheduledIo::set_readiness`). It wakes nobody.
@@ -214,6 +224,34 @@ fn keep(waiting: &mut Vec<Waiter>, rooms: &mut Rooms, entry: Waiter) -> Result<(
         }
     }
     Ok(())
+}
+
+// Reserves memory for one entry more, and for the task of each entry in each direction. What waits stays.
+#[tactic(auto, using(crate::proofs::Memory::sound_grown))]
+fn make_room(waiting: &mut Vec<Waiter>, rooms: &mut Rooms) -> Result<(), OutOfMemory>
+    requires { IsSound waiting.old.items rooms.old }
+    ensures same { waiting.new.items ≡ waiting.old.items }
+    ensures sound { IsSound waiting.new.items rooms.new }
+    ensures place { OnOk result (vec_len waiting.new < vec_capacity waiting.new) }
+    ensures room { OnOk result ((d : Direction) → vec_len waiting.new + 1 ≤ room_of rooms.new d) }
+{
+    rooms.reserve_both(waiting.len() + 1)?;
+    waiting.reserve(1)?;
+    Ok(())
+}
+
+// Puts an entry among those that wait, in memory that was reserved.
+fn keep_reserved(waiting: &mut Vec<Waiter>, rooms: &Rooms, entry: Waiter)
+    requires sound { IsSound waiting.old.items rooms.now }
+    requires place { vec_len waiting.old < vec_capacity waiting.old }
+    requires room { (d : Direction) → vec_len waiting.old + 1 ≤ room_of rooms.now d }
+    ensures keeps { waiting.new.items ≡ kept waiting.old.items entry }
+    ensures sound { IsSound waiting.new.items rooms.now }
+{
+    match place_of(waiting, entry.serial) {
+        Some(at) => waiting[at] = entry,
+        None => waiting.push_reserved(entry),
+    }
 }
 
 // The place of an operation's entry, if it waits.

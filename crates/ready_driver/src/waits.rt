@@ -1,17 +1,16 @@
 //! The poll of an operation that makes its call only once a report meets its direction.
-ghost use Rattle.std.specs.Prelude.{◌≡◌, Some, None, IsTrue, option_copied};
+ghost use Rattle.std.specs.Prelude.{◌≡◌, None, IsTrue, option_copied};
 ghost use Rattle.std.specs.FinMap as map;
 ghost use Rattle.driver_core.specs.Holds.{made_in};
 ghost use Rattle.driver_core.specs.Op.{Holds, number_of, key_of};
-ghost use Rattle.ready_driver.specs.ScheduledIo.{entry_of};
 ghost use Rattle.ready_driver.specs.Legacy.{Legacy};
 ghost use Rattle.ready_driver.specs.Calling.{CallsOnce};
 ghost use Rattle.ready_driver.specs.Errors.{ReturnsFor};
 ghost use Rattle.ready_driver.specs.Io.{IsLater};
 ghost use Rattle.ready_driver.specs.Named.{PollsSlotFor};
 ghost use Rattle.ready_driver.specs.Polling.{PartsStand};
-ghost use Rattle.ready_driver.specs.Awaits.{awaits, slot_awaits, IsUnmet, IsSlotUnmet, IsWorldUnmet, PollsUnless, BlocksUnless, Leaves};
-ghost use Rattle.ready_driver.specs.Awaits.{LeavesFor, unless, KeysFor, TokensFor};
+ghost use Rattle.ready_driver.specs.Awaits.{awaits, slot_awaits, IsSlotUnmet, IsWorldUnmet, PollsUnless, BlocksUnless};
+ghost use Rattle.ready_driver.specs.Awaits.{LeavesFor, unless, is_met_at, KeysFor, TokensFor};
 ghost use Rattle.ready_driver.specs.Turns.{KeepsBits};
 
 use crate::non_block::NonBlock;
@@ -58,60 +57,8 @@ pub fn awaited<B>(slot: Option<&Slot<B>>) -> Option<(u64, Direction)>
     }
 }
 
-/// Polls an operation that waits for a direction of a handle. Where no bit meets the direction it is `Pending`, and no call is made; else
-/// its call is made (`polling::poll`). A call that would block clears the direction's bits. An operation that is `Pending` waits with this
-/// task from then on, and one that is returned waits no more. If memory runs out, its token comes back. (monoio: `poll_op` of the legacy
-/// driver)
-pub fn poll_at<I: NonBlock, B: IoBufMut + Drop>(
-    ops: &mut Operations<B>,
-    io: &mut I,
-    records: &mut Records,
-    op: Op,
-    task: u64,
-    h: u64,
-    dir: Direction,
-) -> Result<PollOp<B>, (OutOfMemory, Op)>
-    requires { Holds ops.old op }
-    ensures polls { IsTrue I.memory → (D : Legacy) → PartsStand B.buffer ops.old (I.view io.old).world D →
-        PollsUnless (IsUnmet records.old h dir) B.buffer D op ops.new (I.view io.new).world result }
-    ensures blocks { BlocksUnless (IsUnmet records.old h dir) (I.view io.old) (I.view io.new) result }
-    ensures calls { CallsOnce B.buffer I.called (map.get ops.old.slots.values (key_of op)) io.old
-        (map.get ops.new.slots.values (key_of op)) io.new result }
-    ensures returns { ReturnsFor (map.get ops.old.slots.values (key_of op)) (I.view io.old) (I.view io.new) result }
-    ensures leaves { Leaves records.old h (entry_of (number_of op) task dir) records.new result }
-    ensures keys { IsTrue I.memory → made_in (map.get ops.old.slots.values (key_of op)) ≡ None →
-        KeysFor (I.view io.old).keys (I.view io.new).keys result }
-    ensures later { IsLater (I.view io.old) (I.view io.new) }
-    ensures shown { IsTrue I.memory → slot_awaits (map.get ops.old.slots.values (key_of op)) ≡ Some (h, dir) →
-        KeepsBits (I.view io.old) records.old (I.view io.new) records.new }
-    ensures slots { PollsSlotFor ops.old ops.new op result }
-    ensures tokens { TokensFor ops.old ops.new op result }
-    ensures given { ops.new.given ≡ ops.old.given }
-{
-    let serial = op.number();
-    match records.poll_readiness(h, serial, task, dir) {
-        Ok(Some(_)) => {}
-        Ok(None) => return Ok(PollOp::Pending(op)),
-        Err(why) => return Err((why, op)),
-    }
-    match polling::poll(ops, io, op, task) {
-        Ok(PollOp::Ready(done)) => {
-            records.forget(h, serial);
-            Ok(PollOp::Ready(done))
-        }
-        Ok(PollOp::Pending(op)) => {
-            records.clear_readiness(h, dir.mask());
-            match records.poll_readiness(h, serial, task, dir) {
-                Ok(_) => Ok(PollOp::Pending(op)),
-                Err(why) => Err((why, op)),
-            }
-        }
-        Err(refused) => Err(refused),
-    }
-}
-
-/// Polls an operation: where it waits for a direction of a handle that is no file, by the bits of that handle (`poll_at`); else its call is
-/// made at once (`polling::poll`). (monoio: `poll_op` of the legacy driver)
+/// Polls an operation: where it waits for a direction of a handle that is no file, by the bits of that handle (`Records::poll_op`); else its
+/// call is made at once (`polling::poll`). (monoio: `poll_op` of the legacy driver)
 pub fn poll_op<I: NonBlock, B: IoBufMut + Drop>(
     ops: &mut Operations<B>,
     io: &mut I,
@@ -125,7 +72,8 @@ pub fn poll_op<I: NonBlock, B: IoBufMut + Drop>(
         B.buffer D op ops.new (I.view io.new).world result }
     ensures blocks { BlocksUnless (IsSlotUnmet records.old (map.get ops.old.slots.values (key_of op)))
         (I.view io.old) (I.view io.new) result }
-    ensures calls { CallsOnce B.buffer I.called (map.get ops.old.slots.values (key_of op)) io.old
+    ensures calls { CallsOnce (is_met_at records.old (unless (I.files io.old) (slot_awaits (map.get ops.old.slots.values (key_of op)))))
+        B.buffer I.called (map.get ops.old.slots.values (key_of op)) io.old
         (map.get ops.new.slots.values (key_of op)) io.new result }
     ensures returns { ReturnsFor (map.get ops.old.slots.values (key_of op)) (I.view io.old) (I.view io.new) result }
     ensures leaves { LeavesFor (unless (I.files io.old) (slot_awaits (map.get ops.old.slots.values (key_of op))))
@@ -139,7 +87,7 @@ pub fn poll_op<I: NonBlock, B: IoBufMut + Drop>(
     ensures given { ops.new.given ≡ ops.old.given }
 {
     match awaited(ops.peek(op.key())) {
-        Some((h, dir)) if !io.is_file(h) => poll_at(ops, io, records, op, task, h, dir),
+        Some((h, dir)) if !io.is_file(h) => records.poll_op(ops, io, op, task, h, dir),
         _ => polling::poll(ops, io, op, task),
     }
 }

@@ -14,3 +14,4 @@ mod sockets;
 mod stage;
 mod steps;
 mod waits;
+mod wakes;

@@ -3,8 +3,9 @@ use Rattle.std.proofs.Common.{◌≡◌, ◌≤◌, ◌<◌, ℕ, List, [], ◌�
 use Rattle.std.specs.Prelude.{◌^◌, codes, decimal, option_map}
 use Rattle.session_core.specs.declared.command.TheConstants.{MOST_CAPACITY, MOST_ENTRIES}
 use Rattle.session_core.specs.declared.command.Command.{Command}
-use Rattle.session_core.specs.declared.command.Command.TheVariants.{Run, Ready, Generate, Wake, Copy}
-use Rattle.session_core.specs.Command.{IsRun, IsReady, IsWake, IsGenerate, IsCopy, IsCopyOf, IsCapacity, IsNoCommand, ReadsUpTo}
+use Rattle.session_core.specs.declared.command.Command.TheVariants.{Run, Ready, Generate, Trace, Wake, Copy, Unframe}
+use Rattle.session_core.specs.Command.{IsRun, IsReady, IsWake, IsGenerate, IsTrace, IsCopy}
+use Rattle.session_core.specs.Command.{IsCopyOf, IsCapacity, IsNoCommand, IsUnframe, ReadsUpTo}
 use Rattle.session_core.specs.Command.{KeepsNothing, ReadsCommand, ReadsNothing}
 use Rattle.event_text.specs.TextReads.{number_of, bytes_of}
 use Rattle.event_text.specs.TextWords.{bytes_word}
@@ -61,6 +62,11 @@ three-no-run : (name first second : List ℕ) (capacity : ℕ) → IsRun (name �
 three-no-run name first second capacity run =
     (let all : name ∷ first ∷ second ∷ [] ≡ codes "run" ∷ decimal capacity ∷ [] = run.words_are in cc)
 
+-- Nor are they `gen SEED COUNT --events`.
+three-no-trace : (name first second : List ℕ) (seed rounds : ℕ) → IsTrace (name ∷ first ∷ second ∷ []) seed rounds → ⊥
+three-no-trace name first second seed rounds is =
+    (let all : name ∷ first ∷ second ∷ [] ≡ codes "gen" ∷ decimal seed ∷ decimal rounds ∷ codes "--events" ∷ [] = is.words_are in cc)
+
 -- Three words are `wake` only where the first is.
 wake-name : (name first second : List ℕ) (senders count : ℕ) → IsWake (name ∷ first ∷ second ∷ []) senders count → name ≡ codes "wake"
 wake-name name first second senders count is =
@@ -81,6 +87,10 @@ copy-words name first second capacity prefix is =
 pub many-no-ready : (name second : List ℕ) (more : List (List ℕ)) → IsReady (name ∷ second ∷ more) → ⊥
 many-no-ready name second more is = (let all : name ∷ second ∷ more ≡ codes "ready" ∷ [] = is in cc)
 
+-- Nor are they `unframe`.
+pub many-no-unframe : (name second : List ℕ) (more : List (List ℕ)) → IsUnframe (name ∷ second ∷ more) → ⊥
+many-no-unframe name second more is = (let all : name ∷ second ∷ more ≡ codes "unframe" ∷ [] = is in cc)
+
 -- The words `copy` and `wake` differ.
 copy-isnt-wake : codes "copy" ≡ codes "wake" → ⊥
 copy-isnt-wake same = (let first : ◌≡◌ {A = ℕ} 99 119 = ap (λ xs. get_or xs 0 0) same in absurd (omega arith))
@@ -93,8 +103,10 @@ copy-or-none first second none = record {
   no_run = three-no-run (codes "copy") first second;
   no_ready = many-no-ready (codes "copy") first (second ∷ []);
   no_generate = λ seed rounds is. (let never : codes "copy" ≡ codes "gen" = generate-name (codes "copy") first second seed rounds is in cc);
+  no_trace = three-no-trace (codes "copy") first second;
   no_wake = λ senders count is. copy-isnt-wake (wake-name (codes "copy") first second senders count is);
   no_copy = none;
+  no_unframe = many-no-unframe (codes "copy") first (second ∷ []);
 }
 
 -- Words of `copy` whose capacity is 0 are no command's.
@@ -175,6 +187,50 @@ same-rounds words a b m n first second =
       same-number m n (let small = first.small in omega arith) (let small = second.small in omega arith) (cc),
     )
 
+-- So have those of `gen SEED COUNT --events`.
+pub same-traced : (words : List (List ℕ)) (a b m n : ℕ) → IsTrace words a m → IsTrace words b n → (a ≡ b) × (m ≡ n)
+same-traced words a b m n first second =
+    let all : codes "gen" ∷ decimal a ∷ decimal m ∷ codes "--events" ∷ [] ≡ codes "gen" ∷ decimal b ∷ decimal n ∷ codes "--events" ∷ [] =
+    sym first.words_are ∙ second.words_are in (
+      same-number a b (let within = first.within in omega arith) (let within = second.within in omega arith) (cc),
+      same-number m n (let small = first.small in omega arith) (let small = second.small in omega arith) (cc),
+    )
+
+-- A command is that of a seed and rounds whose events are written.
+abbrev pub IsTraceOf : Command → ℕ → ℕ → Type 0
+IsTraceOf (Trace s r) seed rounds = (s ≡ seed) × (r ≡ rounds)
+IsTraceOf _ seed rounds = ⊥
+
+-- Words of another command aren't four, as those of `gen SEED COUNT --events` are.
+pub trace-alone : (words : List (List ℕ)) (seed rounds : ℕ) (command : Command) → IsTrace words seed rounds →
+    ReadsCommand words (Some command) → IsTraceOf command seed rounds
+trace-alone words seed rounds (Run c) is reads =
+    (let all : codes "gen" ∷ decimal seed ∷ decimal rounds ∷ codes "--events" ∷ [] ≡ codes "run" ∷ decimal c ∷ [] =
+    sym is.words_are ∙ reads.words_are in absurd (cc))
+trace-alone words seed rounds Ready is reads =
+    (let all : codes "gen" ∷ decimal seed ∷ decimal rounds ∷ codes "--events" ∷ [] ≡ codes "ready" ∷ [] =
+    sym is.words_are ∙ reads in absurd (cc))
+trace-alone words seed rounds (Generate s r) is reads =
+    (let all : codes "gen" ∷ decimal seed ∷ decimal rounds ∷ codes "--events" ∷ [] ≡ codes "gen" ∷ decimal s ∷ decimal r ∷ [] =
+    sym is.words_are ∙ reads.words_are in absurd (cc))
+trace-alone words seed rounds (Trace s r) is reads = same-traced words s seed r rounds reads is
+trace-alone words seed rounds (Wake s c) is reads =
+    (let all : codes "gen" ∷ decimal seed ∷ decimal rounds ∷ codes "--events" ∷ [] ≡ codes "wake" ∷ decimal s ∷ decimal c ∷ [] =
+    sym is.words_are ∙ reads.words_are in absurd (cc))
+trace-alone words seed rounds (Copy c word) is reads =
+    (let all : codes "gen" ∷ decimal seed ∷ decimal rounds ∷ codes "--events" ∷ [] ≡
+    codes "copy" ∷ decimal c ∷ bytes_word reads.prefix ∷ [] = sym is.words_are ∙ reads.is_copy.words_are in absurd (cc))
+trace-alone words seed rounds Unframe is reads =
+    (let all : codes "gen" ∷ decimal seed ∷ decimal rounds ∷ codes "--events" ∷ [] ≡ codes "unframe" ∷ [] =
+    sym is.words_are ∙ reads in absurd (cc))
+
+-- Nor are those of `copy`.
+pub not-copy-trace : (words : List (List ℕ)) (seed rounds capacity : ℕ) (prefix : List ℕ) → IsTrace words seed rounds →
+    IsCopy words capacity prefix → ⊥
+not-copy-trace words seed rounds capacity prefix trace copy =
+    (let all : codes "gen" ∷ decimal seed ∷ decimal rounds ∷ codes "--events" ∷ [] ≡
+    codes "copy" ∷ decimal capacity ∷ bytes_word prefix ∷ [] = sym trace.words_are ∙ copy.words_are in cc)
+
 -- Words don't ask for two commands.
 pub not-both : (words : List (List ℕ)) (capacity senders count : ℕ) → IsRun words capacity → IsWake words senders count → ⊥
 not-both words capacity senders count run wake =
@@ -237,6 +293,30 @@ not-generate-copy words seed rounds other prefix gen copy =
     sym gen.words_are ∙ copy.words_are in
     cc
 
+-- Words don't ask for both `run` and `unframe`,
+pub not-run-unframe : (words : List (List ℕ)) (capacity : ℕ) → IsRun words capacity → IsUnframe words → ⊥
+not-run-unframe words capacity run unframe =
+    (let all : codes "run" ∷ decimal capacity ∷ [] ≡ codes "unframe" ∷ [] = sym run.words_are ∙ unframe in cc)
+
+-- nor for `ready`,
+pub not-ready-unframe : (words : List (List ℕ)) → IsReady words → IsUnframe words → ⊥
+not-ready-unframe words ready unframe = (let all : codes "ready" ∷ [] ≡ codes "unframe" ∷ [] = sym ready ∙ unframe in cc)
+
+-- nor for `gen`,
+pub not-generate-unframe : (words : List (List ℕ)) (seed rounds : ℕ) → IsGenerate words seed rounds → IsUnframe words → ⊥
+not-generate-unframe words seed rounds gen unframe =
+    (let all : codes "gen" ∷ decimal seed ∷ decimal rounds ∷ [] ≡ codes "unframe" ∷ [] = sym gen.words_are ∙ unframe in cc)
+
+-- nor for `wake`,
+pub not-wake-unframe : (words : List (List ℕ)) (senders count : ℕ) → IsWake words senders count → IsUnframe words → ⊥
+not-wake-unframe words senders count wake unframe =
+    (let all : codes "wake" ∷ decimal senders ∷ decimal count ∷ [] ≡ codes "unframe" ∷ [] = sym wake.words_are ∙ unframe in cc)
+
+-- nor for `copy`.
+pub not-copy-unframe : (words : List (List ℕ)) (capacity : ℕ) (prefix : List ℕ) → IsCopy words capacity prefix → IsUnframe words → ⊥
+not-copy-unframe words capacity prefix copy unframe =
+    (let all : codes "copy" ∷ decimal capacity ∷ bytes_word prefix ∷ [] ≡ codes "unframe" ∷ [] = sym copy.words_are ∙ unframe in cc)
+
 -- The word of a prefix writes that prefix alone.
 pub same-prefix : (words : List (List ℕ)) (capacity other : ℕ) (word prefix : List ℕ) → IsCopyOf words capacity word →
     IsCopy words other prefix → bytes_of word ≡ Some prefix
@@ -252,8 +332,10 @@ pub reads-nothing : (words : List (List ℕ)) (command : Command) (senders count
 reads-nothing words (Run capacity) senders count reads wake = absurd (not-both words capacity senders count reads wake)
 reads-nothing words Ready senders count reads wake = absurd (not-wake-ready words senders count wake reads)
 reads-nothing words (Generate seed rounds) senders count reads wake = tt
+reads-nothing words (Trace s r) senders count reads wake = tt
 reads-nothing words (Wake s c) senders count reads wake = tt
 reads-nothing words (Copy c word) senders count reads wake = absurd (not-wake-copy words senders count c reads.prefix wake reads.is_copy)
+reads-nothing words Unframe senders count reads wake = absurd (not-wake-unframe words senders count wake reads)
 
 -- Nor does one that `gen` asks for.
 pub generate-nothing : (words : List (List ℕ)) (command : Command) (seed rounds : ℕ) → ReadsCommand words (Some command) →
@@ -261,8 +343,10 @@ pub generate-nothing : (words : List (List ℕ)) (command : Command) (seed round
 generate-nothing words (Run capacity) seed rounds reads gen = absurd (not-run-generate words capacity seed rounds reads gen)
 generate-nothing words Ready seed rounds reads gen = absurd (not-generate-ready words seed rounds gen reads)
 generate-nothing words (Generate s c) seed rounds reads gen = tt
+generate-nothing words (Trace s c) seed rounds reads gen = tt
 generate-nothing words (Wake s c) seed rounds reads gen = tt
 generate-nothing words (Copy c word) seed rounds reads gen = absurd (not-generate-copy words seed rounds c reads.prefix gen reads.is_copy)
+generate-nothing words Unframe seed rounds reads gen = absurd (not-generate-unframe words seed rounds gen reads)
 
 -- A command that `wake` asks for keeps nothing.
 pub wake-keeps : (words : List (List ℕ)) (command : Command) (senders count : ℕ) → ReadsCommand words (Some command) →
@@ -270,8 +354,10 @@ pub wake-keeps : (words : List (List ℕ)) (command : Command) (senders count : 
 wake-keeps words (Run capacity) senders count reads wake = absurd (not-both words capacity senders count reads wake)
 wake-keeps words Ready senders count reads wake = absurd (not-wake-ready words senders count wake reads)
 wake-keeps words (Generate seed rounds) senders count reads wake = absurd (not-wake-generate words senders count seed rounds wake reads)
+wake-keeps words (Trace s r) senders count reads wake = tt
 wake-keeps words (Wake s c) senders count reads wake = tt
 wake-keeps words (Copy c word) senders count reads wake = tt
+wake-keeps words Unframe senders count reads wake = tt
 
 -- Nor does one that `copy` asks for.
 pub copy-keeps : (words : List (List ℕ)) (command : Command) (capacity : ℕ) (prefix : List ℕ) → ReadsCommand words (Some command) →
@@ -279,5 +365,29 @@ pub copy-keeps : (words : List (List ℕ)) (command : Command) (capacity : ℕ) 
 copy-keeps words (Run c) capacity prefix reads copy = absurd (not-run-copy words c capacity prefix reads copy)
 copy-keeps words Ready capacity prefix reads copy = absurd (not-copy-ready words capacity prefix copy reads)
 copy-keeps words (Generate s r) capacity prefix reads copy = absurd (not-generate-copy words s r capacity prefix reads copy)
+copy-keeps words (Trace s r) capacity prefix reads copy = tt
 copy-keeps words (Wake s c) capacity prefix reads copy = tt
 copy-keeps words (Copy c word) capacity prefix reads copy = tt
+copy-keeps words Unframe capacity prefix reads copy = tt
+
+-- Nor does one that `unframe` asks for.
+pub unframe-keeps : (words : List (List ℕ)) (command : Command) → ReadsCommand words (Some command) → IsUnframe words →
+    KeepsNothing command
+unframe-keeps words (Run c) reads unframe = absurd (not-run-unframe words c reads unframe)
+unframe-keeps words Ready reads unframe = absurd (not-ready-unframe words reads unframe)
+unframe-keeps words (Generate s r) reads unframe = absurd (not-generate-unframe words s r reads unframe)
+unframe-keeps words (Trace s r) reads unframe = tt
+unframe-keeps words (Wake s c) reads unframe = tt
+unframe-keeps words (Copy c word) reads unframe = tt
+unframe-keeps words Unframe reads unframe = tt
+
+-- A command that writes generated events reads nothing, and keeps nothing.
+pub trace-nothing : (words : List (List ℕ)) (command : Command) (seed rounds : ℕ) → ReadsCommand words (Some command) →
+    IsTrace words seed rounds → ReadsNothing command × KeepsNothing command
+trace-nothing words (Run c) seed rounds reads is = absurd (trace-alone words seed rounds (Run c) is reads)
+trace-nothing words Ready seed rounds reads is = absurd (trace-alone words seed rounds Ready is reads)
+trace-nothing words (Generate s r) seed rounds reads is = absurd (trace-alone words seed rounds (Generate s r) is reads)
+trace-nothing words (Trace s r) seed rounds reads is = (tt, tt)
+trace-nothing words (Wake s c) seed rounds reads is = absurd (trace-alone words seed rounds (Wake s c) is reads)
+trace-nothing words (Copy c word) seed rounds reads is = absurd (trace-alone words seed rounds (Copy c word) is reads)
+trace-nothing words Unframe seed rounds reads is = absurd (trace-alone words seed rounds Unframe is reads)

@@ -8,15 +8,18 @@ use Rattle.session_core.specs.declared.command.Command.{Command}
 use Rattle.session_core.specs.declared.input.TheConstants.{MOST_INPUT}
 use Rattle.session_core.specs.declared.top.Kept.{Kept}
 use Rattle.session_core.specs.declared.top.Status.{Status}
-use Rattle.session_core.specs.declared.top.Status.TheVariants.{Done, BadWords, BadLine, TooLong, ReadFault, WriteFault, OutOfMemory}
+use Rattle.session_core.specs.declared.top.Status.TheVariants.{Done, BadWords, BadLine, TooLong}
+use Rattle.session_core.specs.declared.top.Status.TheVariants.{ReadFault, WriteFault, OutOfMemory, BadFrame}
 use Rattle.event_text.specs.TextLines.{lines, AreEventsFor, IsFirstWrongFor}
 use Rattle.session_core.specs.Command.{IsNoCommand, ReadsCommand}
 use Rattle.session_core.specs.Generated.{generated_events}
 use Rattle.session_core.specs.Top.{SumsFor, TookTooMany, WakesFor}
-use Rattle.session_core.specs.Complete.{HoldsEvents, IsDoneOrShort, NoneRose, TakesInput, of_events, of_generate, of_wake, of_copy}
+use Rattle.session_core.specs.Complete.{HoldsEvents, IsDoneOrShort, NoneRose, TakesInput, of_events, of_copy}
+use Rattle.session_core.specs.Complete.{of_generate, of_trace, of_wake}
 use Rattle.session_core.specs.Ends.{Reading, Writing, CommandEnds, CopiesFor, EventsEnd, StatusFor}
 use Rattle.session_core.specs.DriverKind.{DriverKind, StandsOn, completion, readiness, KeepsRun, KeepsReady}
-use Rattle.session_core.proofs.Endings.{run-ends, ready-ends, sum-ends, wake-ends, copy-ends}
+use Rattle.session_core.specs.Trace.{TracesFor}
+use Rattle.session_core.proofs.Endings.{run-ends, ready-ends, sum-ends, trace-ends, wake-ends, copy-ends}
 
 -- Where each line stands for an event, so does the one behind any others.
 right-behind : (driver : DriverKind) (before behind : List (List ℕ)) (line : List ℕ) (events : List Event) →
@@ -35,7 +38,7 @@ none-wrong driver all n right wrong =
     wrong.wrong found.0 found.1
 
 -- No more bytes are taken than there are.
-few-taken : (left rest : List ℕ) → length left ≤ MOST_INPUT → TookTooMany left rest → ⊥
+pub few-taken : (left rest : List ℕ) → length left ≤ MOST_INPUT → TookTooMany left rest → ⊥
 few-taken left rest within took = (let many = took.many in let there = took.there in omega arith)
 
 -- A run of lines of events, where nothing fails.
@@ -51,6 +54,7 @@ run-complete driver ts tk L source sink keeps TooLong told right calm ends =
 run-complete driver ts tk L source sink keeps ReadFault told right calm ends = absurd (calm.read ends.0)
 run-complete driver ts tk L source sink keeps WriteFault told right calm ends = absurd (calm.wrote ends.0)
 run-complete driver ts tk L source sink keeps OutOfMemory told right calm ends = inr refl
+run-complete driver ts tk L source sink keeps BadFrame told right calm ends = absurd ends
 
 -- A generated run, where nothing fails.
 sum-complete : (ts tk : Bool) (events : List Event) (source : Reading) (sink : Writing) (kept : Option Kept) (status : Status) →
@@ -62,6 +66,19 @@ sum-complete ts tk events source sink kept TooLong calm ends caused = absurd end
 sum-complete ts tk events source sink kept ReadFault calm ends caused = absurd ends
 sum-complete ts tk events source sink kept WriteFault calm ends caused = absurd (calm.wrote caused)
 sum-complete ts tk events source sink kept OutOfMemory calm ends caused = inr refl
+sum-complete ts tk events source sink kept BadFrame calm ends caused = absurd ends
+
+-- Generated events that are written, where nothing fails.
+trace-complete : (ts tk : Bool) (events : List Event) (source : Reading) (sink : Writing) (status : Status) →
+    NoneRose source sink → TracesFor tk events sink.taken sink.now status → StatusFor ts tk source sink status → IsDoneOrShort status
+trace-complete ts tk events source sink Done calm ends caused = inl refl
+trace-complete ts tk events source sink BadWords calm ends caused = absurd ends
+trace-complete ts tk events source sink BadLine calm ends caused = absurd ends
+trace-complete ts tk events source sink TooLong calm ends caused = absurd ends
+trace-complete ts tk events source sink ReadFault calm ends caused = absurd ends
+trace-complete ts tk events source sink WriteFault calm ends caused = absurd (calm.wrote caused)
+trace-complete ts tk events source sink OutOfMemory calm ends caused = inr refl
+trace-complete ts tk events source sink BadFrame calm ends caused = absurd ends
 
 -- Wakers that are sent, where nothing fails.
 wake-complete : (ts tk : Bool) (total : ℕ) (source : Reading) (sink : Writing) (status : Status) →
@@ -73,6 +90,7 @@ wake-complete ts tk total source sink TooLong calm ends caused = absurd ends
 wake-complete ts tk total source sink ReadFault calm ends caused = absurd ends
 wake-complete ts tk total source sink WriteFault calm ends caused = absurd (calm.wrote caused)
 wake-complete ts tk total source sink OutOfMemory calm ends caused = inr refl
+wake-complete ts tk total source sink BadFrame calm ends caused = absurd ends
 
 -- A copy of bytes that aren't too many, where nothing fails.
 copy-complete : (ts tk : Bool) (prefix : List ℕ) (source : Reading) (sink : Writing) (status : Status) → IsTrue ts →
@@ -84,6 +102,7 @@ copy-complete ts tk prefix source sink TooLong told few calm ends = absurd (few-
 copy-complete ts tk prefix source sink ReadFault told few calm ends = absurd (calm.read ends.0)
 copy-complete ts tk prefix source sink WriteFault told few calm ends = absurd (calm.wrote ends.0)
 copy-complete ts tk prefix source sink OutOfMemory told few calm ends = inr refl
+copy-complete ts tk prefix source sink BadFrame told few calm ends = absurd ends
 
 -- Any command, whose input is one that it takes.
 pub command-complete : (ts tk : Bool) (words : List (List ℕ)) (command : Command) (source : Reading) (sink : Writing) (kept : Option Kept)
@@ -99,6 +118,9 @@ command-complete ts tk words command source sink kept status reads ends caused (
 command-complete ts tk words command source sink kept status reads ends caused (of_generate seed rounds is) calm =
     sum-complete ts tk (generated_events seed rounds) source sink kept status calm
     (sum-ends ts tk words command seed rounds source sink kept status reads is ends) caused
+command-complete ts tk words command source sink kept status reads ends caused (of_trace seed rounds is) calm =
+    trace-complete ts tk (generated_events seed rounds) source sink status calm
+    (trace-ends ts tk words command seed rounds source sink kept status reads is ends) caused
 command-complete ts tk words command source sink kept status reads ends caused (of_wake senders count is) calm =
     wake-complete ts tk (senders * count) source sink status calm
     (wake-ends ts tk words command senders count source sink kept status reads is ends) caused
@@ -111,5 +133,6 @@ pub input-taken : (ts : Bool) (words : List (List ℕ)) (left : List ℕ) → Ta
 input-taken ts words left (of_events completion is told right) none = none.no_run is.0 is.1
 input-taken ts words left (of_events readiness is told right) none = none.no_ready is
 input-taken ts words left (of_generate seed rounds is) none = none.no_generate seed rounds is
+input-taken ts words left (of_trace seed rounds is) none = none.no_trace seed rounds is
 input-taken ts words left (of_wake senders count is) none = none.no_wake senders count is
 input-taken ts words left (of_copy capacity prefix is told few) none = none.no_copy capacity prefix is

@@ -4,24 +4,28 @@ use Rattle.std.specs.Prelude.{Result, Ok, Err}
 use Rattle.ring_core.specs.declared.ledger.Event.{Event}
 use Rattle.ring_core.specs.Ledger.{Ledger}
 use Rattle.session_core.specs.declared.command.Command.{Command}
-use Rattle.session_core.specs.declared.command.Command.TheVariants.{Run, Ready, Generate, Wake, Copy}
+use Rattle.session_core.specs.declared.command.Command.TheVariants.{Run, Ready, Generate, Trace, Wake, Copy, Unframe}
 use Rattle.session_core.specs.declared.input.NoEvents.{NoEvents}
 use Rattle.session_core.specs.declared.top.Kept.{Kept}
 use Rattle.session_core.specs.declared.top.Status.{Status}
-use Rattle.session_core.specs.declared.top.Status.TheVariants.{Done, BadWords, BadLine, TooLong, ReadFault, WriteFault, OutOfMemory}
-use Rattle.session_core.specs.Command.{IsRun, IsReady, IsGenerate, IsWake, IsCopy, ReadsCommand}
+use Rattle.session_core.specs.declared.top.Status.TheVariants.{Done, BadWords, BadLine, TooLong}
+use Rattle.session_core.specs.declared.top.Status.TheVariants.{ReadFault, WriteFault, OutOfMemory, BadFrame}
+use Rattle.session_core.specs.Command.{IsRun, IsReady, IsGenerate, IsTrace, IsWake, IsCopy, IsUnframe, ReadsCommand}
 use Rattle.session_core.specs.DriverKind.{DriverKind, completion, readiness, after_on, replies_on}
 use Rattle.session_core.specs.Generated.{generated_events}
 use Rattle.session_core.specs.Top.{SumsFor, WakesFor, WasRead, IsBadLine, all_right, of_replies, of_bad_line, bad_line_text}
 use Rattle.session_core.specs.Top.{reply_lines}
 use Rattle.session_core.specs.Reads.{WhyNoEvents}
+use Rattle.session_core.specs.Trace.{TracesFor}
 use Rattle.session_core.specs.Writes.{RefusesFor, WritesLine}
 use Rattle.session_core.specs.Ends.{Reading, Writing, RunEnds, ReadyEnds, EventsEnd, EventsGive, RunsEvents, RunsGive, CommandEnds}
 use Rattle.session_core.specs.Ends.{CommandRefused, CopiesFor, StatusFor}
 use Rattle.session_core.proofs.Commands.{same-capacity, same-rounds, same-counts, not-both, not-run-generate, not-wake-generate}
 use Rattle.session_core.proofs.Commands.{not-run-copy, not-wake-copy, not-generate-copy, same-prefix}
+use Rattle.session_core.proofs.Commands.{not-copy-trace, trace-alone}
 use Rattle.session_core.proofs.Commands.{not-run-ready, not-generate-ready, not-wake-ready, not-copy-ready}
-use Rattle.session_core.proofs.Reading.{few-read, never-wrong}
+use Rattle.session_core.proofs.Commands.{not-run-unframe, not-ready-unframe, not-generate-unframe, not-wake-unframe, not-copy-unframe}
+use Rattle.session_core.proofs.Reading.{few-read}
 
 -- What running the events of an input has done is what the command has done.
 pub ends-run : (driver : DriverKind) (ts tk : Bool) (L : Ledger) (source : Reading) (sink : Writing) (keeps : Ledger → Type 0)
@@ -44,6 +48,7 @@ ends-run driver ts tk L source sink keeps events OutOfMemory read calm runs = (
   },
   inr (record { text = reply_lines (replies_on driver L events); may = of_replies events read; prefix = λ told. (runs told).prefix }),
 )
+ends-run driver ts tk L source sink keeps events BadFrame read calm runs = absurd runs
 
 -- So is what writing the number of a wrong line has done.
 ends-line : (driver : DriverKind) (ts tk : Bool) (L : Ledger) (source : Reading) (sink : Writing) (keeps : Ledger → Type 0) (line : ℕ)
@@ -57,6 +62,7 @@ ends-line driver ts tk L source sink keeps line ReadFault bad writes = absurd wr
 ends-line driver ts tk L source sink keeps line WriteFault bad writes =
     (writes.0, record { text = bad_line_text line; may = of_bad_line line bad; prefix = writes.1 })
 ends-line driver ts tk L source sink keeps line OutOfMemory bad writes = absurd writes
+ends-line driver ts tk L source sink keeps line BadFrame bad writes = absurd writes
 
 -- So is what refusing it has done.
 pub ends-refused : (driver : DriverKind) (ts tk : Bool) (L : Ledger) (source : Reading) (sink : Writing) (keeps : Ledger → Type 0)
@@ -107,6 +113,7 @@ ends-kept driver ts tk L source sink keeps then TooLong more ends = ends
 ends-kept driver ts tk L source sink keeps then ReadFault more ends = ends
 ends-kept driver ts tk L source sink keeps then WriteFault more ends = ends
 ends-kept driver ts tk L source sink keeps then OutOfMemory more ends = ends
+ends-kept driver ts tk L source sink keeps then BadFrame more ends = ends
 
 -- What a command that runs events has done is what every command has done.
 pub ends-status : (driver : DriverKind) (ts tk : Bool) (L : Ledger) (source : Reading) (sink : Writing) (keeps : Ledger → Type 0)
@@ -117,11 +124,8 @@ ends-status driver ts tk L source sink keeps BadLine ends = tt
 ends-status driver ts tk L source sink keeps TooLong ends = ends.0
 ends-status driver ts tk L source sink keeps ReadFault ends = ends.0
 ends-status driver ts tk L source sink keeps WriteFault ends = ends.0
-ends-status driver ts tk L source sink keeps OutOfMemory ends = record {
-  few = ends.0.few;
-  lines = λ told. never-wrong driver source.left source.rest (ends.0.lines told);
-  calm = ends.0.calm;
-}
+ends-status driver ts tk L source sink keeps OutOfMemory ends = record { few = ends.0.few; calm = ends.0.calm }
+ends-status driver ts tk L source sink keeps BadFrame ends = absurd ends
 
 -- What a command has done where its words are those of `run`.
 pub run-ends : (ts tk : Bool) (words : List (List ℕ)) (command : Command) (capacity : ℕ) (source : Reading) (sink : Writing)
@@ -132,9 +136,12 @@ run-ends ts tk words (Run c) capacity source sink kept status reads run ends =
     subst (λ k. RunEnds ts tk k source sink kept status) (same-capacity words c capacity reads run) ends
 run-ends ts tk words Ready capacity source sink kept status reads run ends = absurd (not-run-ready words capacity run reads)
 run-ends ts tk words (Generate s r) capacity source sink kept status reads run ends = absurd (not-run-generate words capacity s r run reads)
+run-ends ts tk words (Trace s r) capacity source sink kept status reads run ends =
+    absurd (trace-alone words s r (Run capacity) reads run)
 run-ends ts tk words (Wake s c) capacity source sink kept status reads run ends = absurd (not-both words capacity s c run reads)
 run-ends ts tk words (Copy c word) capacity source sink kept status reads run ends =
     absurd (not-run-copy words capacity c reads.prefix run reads.is_copy)
+run-ends ts tk words Unframe capacity source sink kept status reads run ends = absurd (not-run-unframe words capacity run reads)
 
 -- The same of `ready`.
 pub ready-ends : (ts tk : Bool) (words : List (List ℕ)) (command : Command) (capacity : ℕ) (source : Reading) (sink : Writing)
@@ -145,9 +152,11 @@ ready-ends ts tk words (Run c) capacity source sink kept status reads ready ends
 ready-ends ts tk words Ready capacity source sink kept status reads ready ends = ends capacity
 ready-ends ts tk words (Generate s r) capacity source sink kept status reads ready ends =
     absurd (not-generate-ready words s r reads ready)
+ready-ends ts tk words (Trace s r) capacity source sink kept status reads ready ends = absurd (trace-alone words s r Ready reads ready)
 ready-ends ts tk words (Wake s c) capacity source sink kept status reads ready ends = absurd (not-wake-ready words s c reads ready)
 ready-ends ts tk words (Copy c word) capacity source sink kept status reads ready ends =
     absurd (not-copy-ready words c reads.prefix reads.is_copy ready)
+ready-ends ts tk words Unframe capacity source sink kept status reads ready ends = absurd (not-ready-unframe words ready reads)
 
 -- The same of `gen`.
 pub sum-ends : (ts tk : Bool) (words : List (List ℕ)) (command : Command) (seed rounds : ℕ) (source : Reading) (sink : Writing)
@@ -160,10 +169,14 @@ sum-ends ts tk words (Generate s r) seed rounds source sink kept status reads ge
     let same = same-rounds words s seed r rounds reads gen in
     subst (λ k. SumsFor tk (generated_events k rounds) sink.taken sink.now kept status) same.0
     (subst (λ k. SumsFor tk (generated_events s k) sink.taken sink.now kept status) same.1 ends)
+sum-ends ts tk words (Trace s r) seed rounds source sink kept status reads gen ends =
+    absurd (trace-alone words s r (Generate seed rounds) reads gen)
 sum-ends ts tk words (Wake s c) seed rounds source sink kept status reads gen ends =
     absurd (not-wake-generate words s c seed rounds reads gen)
 sum-ends ts tk words (Copy c word) seed rounds source sink kept status reads gen ends =
     absurd (not-generate-copy words seed rounds c reads.prefix gen reads.is_copy)
+sum-ends ts tk words Unframe seed rounds source sink kept status reads gen ends =
+    absurd (not-generate-unframe words seed rounds gen reads)
 
 -- The same of `wake`.
 pub wake-ends : (ts tk : Bool) (words : List (List ℕ)) (command : Command) (senders count : ℕ) (source : Reading) (sink : Writing)
@@ -174,12 +187,16 @@ wake-ends ts tk words (Run c) senders count source sink kept status reads wake e
 wake-ends ts tk words Ready senders count source sink kept status reads wake ends = absurd (not-wake-ready words senders count wake reads)
 wake-ends ts tk words (Generate s r) senders count source sink kept status reads wake ends =
     absurd (not-wake-generate words senders count s r wake reads)
+wake-ends ts tk words (Trace s r) senders count source sink kept status reads wake ends =
+    absurd (trace-alone words s r (Wake senders count) reads wake)
 wake-ends ts tk words (Wake s c) senders count source sink kept status reads wake ends =
     let same = same-counts words s senders c count reads wake in
     subst (λ k. WakesFor tk (k * count) sink.taken sink.now status) same.0
     (subst (λ k. WakesFor tk (s * k) sink.taken sink.now status) same.1 ends)
 wake-ends ts tk words (Copy c word) senders count source sink kept status reads wake ends =
     absurd (not-wake-copy words senders count c reads.prefix wake reads.is_copy)
+wake-ends ts tk words Unframe senders count source sink kept status reads wake ends =
+    absurd (not-wake-unframe words senders count wake reads)
 
 -- The same of `copy`.
 pub copy-ends : (ts tk : Bool) (words : List (List ℕ)) (command : Command) (capacity : ℕ) (prefix : List ℕ) (source : Reading)
@@ -192,34 +209,62 @@ copy-ends ts tk words Ready capacity prefix source sink kept status reads copy e
     absurd (not-copy-ready words capacity prefix copy reads)
 copy-ends ts tk words (Generate s r) capacity prefix source sink kept status reads copy ends =
     absurd (not-generate-copy words s r capacity prefix reads copy)
+copy-ends ts tk words (Trace s r) capacity prefix source sink kept status reads copy ends =
+    absurd (not-copy-trace words s r capacity prefix reads copy)
 copy-ends ts tk words (Wake s c) capacity prefix source sink kept status reads copy ends =
     absurd (not-wake-copy words s c capacity prefix reads copy)
 copy-ends ts tk words (Copy c word) capacity prefix source sink kept status reads copy ends =
     ends prefix (same-prefix words c capacity word.now prefix reads copy)
+copy-ends ts tk words Unframe capacity prefix source sink kept status reads copy ends =
+    absurd (not-copy-unframe words capacity prefix copy reads)
 
--- A command other than `copy` has written nothing, where too many bytes were read or a read failed.
+-- The same of `gen SEED COUNT --events`.
+pub trace-ends : (ts tk : Bool) (words : List (List ℕ)) (command : Command) (seed rounds : ℕ) (source : Reading) (sink : Writing)
+    (kept : Option Kept) (status : Status) →
+    ReadsCommand words (Some command) → IsTrace words seed rounds → CommandEnds ts tk command source sink kept status →
+    TracesFor tk (generated_events seed rounds) sink.taken sink.now status
+trace-ends ts tk words (Run c) seed rounds source sink kept status reads is ends = absurd (trace-alone words seed rounds (Run c) is reads)
+trace-ends ts tk words Ready seed rounds source sink kept status reads is ends = absurd (trace-alone words seed rounds Ready is reads)
+trace-ends ts tk words (Generate s r) seed rounds source sink kept status reads is ends =
+    absurd (trace-alone words seed rounds (Generate s r) is reads)
+trace-ends ts tk words (Trace s r) seed rounds source sink kept status reads is ends =
+    let same = trace-alone words seed rounds (Trace s r) is reads in
+    subst (λ k. TracesFor tk (generated_events k rounds) sink.taken sink.now status) same.0
+    (subst (λ k. TracesFor tk (generated_events s k) sink.taken sink.now status) same.1 ends)
+trace-ends ts tk words (Wake s c) seed rounds source sink kept status reads is ends =
+    absurd (trace-alone words seed rounds (Wake s c) is reads)
+trace-ends ts tk words (Copy c word) seed rounds source sink kept status reads is ends =
+    absurd (trace-alone words seed rounds (Copy c word) is reads)
+trace-ends ts tk words Unframe seed rounds source sink kept status reads is ends = absurd (trace-alone words seed rounds Unframe is reads)
+
+-- A command other than `copy` and `unframe` has written nothing, where too many bytes were read or a read failed.
 pub written-late : (ts tk : Bool) (words : List (List ℕ)) (command : Command) (source : Reading) (sink : Writing) (kept : Option Kept)
     (status : Status) →
     ReadsCommand words (Some command) → CommandEnds ts tk command source sink kept status →
-    ((capacity : ℕ) (prefix : List ℕ) → IsCopy words capacity prefix → ⊥) → (status ≡ TooLong) ⊎ (status ≡ ReadFault) → IsTrue tk →
-    sink.now ≡ sink.taken
-written-late ts tk words (Run c) source sink kept status reads ends other (inl is) =
+    ((capacity : ℕ) (prefix : List ℕ) → IsCopy words capacity prefix → ⊥) → (IsUnframe words → ⊥) →
+    (status ≡ TooLong) ⊎ (status ≡ ReadFault) → IsTrue tk → sink.now ≡ sink.taken
+written-late ts tk words (Run c) source sink kept status reads ends other last (inl is) =
     (subst (λ s. RunEnds ts tk c source sink kept s) is ends).1
-written-late ts tk words (Run c) source sink kept status reads ends other (inr is) =
+written-late ts tk words (Run c) source sink kept status reads ends other last (inr is) =
     (subst (λ s. RunEnds ts tk c source sink kept s) is ends).1
-written-late ts tk words Ready source sink kept status reads ends other (inl is) =
+written-late ts tk words Ready source sink kept status reads ends other last (inl is) =
     (subst (λ s. ReadyEnds ts tk 0 source sink kept s) is (ends 0)).1
-written-late ts tk words Ready source sink kept status reads ends other (inr is) =
+written-late ts tk words Ready source sink kept status reads ends other last (inr is) =
     (subst (λ s. ReadyEnds ts tk 0 source sink kept s) is (ends 0)).1
-written-late ts tk words (Generate s r) source sink kept status reads ends other (inl is) =
+written-late ts tk words (Generate s r) source sink kept status reads ends other last (inl is) =
     absurd (subst (λ x. SumsFor tk (generated_events s r) sink.taken sink.now kept x) is ends)
-written-late ts tk words (Generate s r) source sink kept status reads ends other (inr is) =
+written-late ts tk words (Generate s r) source sink kept status reads ends other last (inr is) =
     absurd (subst (λ x. SumsFor tk (generated_events s r) sink.taken sink.now kept x) is ends)
-written-late ts tk words (Wake s c) source sink kept status reads ends other (inl is) =
+written-late ts tk words (Trace s r) source sink kept status reads ends other last (inl is) =
+    absurd (subst (λ x. TracesFor tk (generated_events s r) sink.taken sink.now x) is ends)
+written-late ts tk words (Trace s r) source sink kept status reads ends other last (inr is) =
+    absurd (subst (λ x. TracesFor tk (generated_events s r) sink.taken sink.now x) is ends)
+written-late ts tk words (Wake s c) source sink kept status reads ends other last (inl is) =
     absurd (subst (λ x. WakesFor tk (s * c) sink.taken sink.now x) is ends)
-written-late ts tk words (Wake s c) source sink kept status reads ends other (inr is) =
+written-late ts tk words (Wake s c) source sink kept status reads ends other last (inr is) =
     absurd (subst (λ x. WakesFor tk (s * c) sink.taken sink.now x) is ends)
-written-late ts tk words (Copy c word) source sink kept status reads ends other why = absurd (other c reads.prefix reads.is_copy)
+written-late ts tk words (Copy c word) source sink kept status reads ends other last why = absurd (other c reads.prefix reads.is_copy)
+written-late ts tk words Unframe source sink kept status reads ends other last why = absurd (last reads)
 
 -- A line is wrong only for a command that runs events.
 line-ends : (ts tk : Bool) (words : List (List ℕ)) (command : Command) (source : Reading) (sink : Writing) (kept : Option Kept) →
@@ -228,8 +273,10 @@ line-ends : (ts tk : Bool) (words : List (List ℕ)) (command : Command) (source
 line-ends ts tk words (Run c) source sink kept reads ends = record { driver = completion; runs = (c, reads); refused = ends }
 line-ends ts tk words Ready source sink kept reads ends = record { driver = readiness; runs = reads; refused = ends 0 }
 line-ends ts tk words (Generate s r) source sink kept reads ends = absurd ends
+line-ends ts tk words (Trace s r) source sink kept reads ends = absurd ends
 line-ends ts tk words (Wake s c) source sink kept reads ends = absurd ends
 line-ends ts tk words (Copy c word) source sink kept reads ends = absurd (ends reads.prefix reads.writes)
+line-ends ts tk words Unframe source sink kept reads ends = absurd ends
 
 -- So it is where the status says so.
 pub line-refused : (ts tk : Bool) (words : List (List ℕ)) (command : Command) (source : Reading) (sink : Writing) (kept : Option Kept)

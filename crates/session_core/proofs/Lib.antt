@@ -1,5 +1,5 @@
 pub mod Driven
-mod Commands
+pub mod Commands
 mod KeptGroups
 mod Refusals
 mod Submitting
@@ -8,10 +8,13 @@ mod Single
 mod Steps
 mod Running
 mod Runs
-mod Writing
-mod Reading
+pub mod Writing
+pub mod Reading
 mod Replying
 mod Generating
 mod Endings
 pub mod Parts
 mod Completing
+mod Framing
+mod Stopping
+mod Tracing

@@ -29,7 +29,7 @@ replies-one_more L events k n event before now all reply next there is joined so
     ∙ so_far
 
 -- Past the end nothing is left.
-drop-past : {A : Type 0} (xs : List A) (k : ℕ) → length xs ≤ k → drop k xs ≡ []
+pub drop-past : {A : Type 0} (xs : List A) (k : ℕ) → length xs ≤ k → drop k xs ≡ []
 drop-past [] zero past = refl
 drop-past [] (suc k) past = refl
 drop-past (x ∷ xs) zero past = absurd (omega arith)

@@ -31,15 +31,15 @@ lines-next (suc k) (x ∷ rs) r within is =
     ap (λ xs. ended (reply_text x) ++ xs) (lines-next k rs r (omega (arith, within)) is)
     ∙ sym (append_assoc (ended (reply_text x)) (reply_lines (take k rs)) (ended (reply_text r)))
 
--- What was sent of a part is a prefix of the whole.
-pub prefix-sent : (part text rest taken now : List ℕ) → Starts part text → Sent part rest taken now → WrotePrefix text taken now
-prefix-sent part text rest taken now starts sent = record {
-  prefix = sent.prefix;
+-- A prefix of a part is one of the whole that the part begins.
+pub prefix-whole : (part text taken now : List ℕ) → Starts part text → WrotePrefix part taken now → WrotePrefix text taken now
+prefix-whole part text taken now starts wrote = record {
+  prefix = wrote.prefix;
   starts = record {
-    more = rest ++ starts.more;
-    is = starts.is ∙ ap (λ xs. xs ++ starts.more) sent.text_is ∙ append_assoc sent.prefix rest starts.more;
+    more = wrote.starts.more ++ starts.more;
+    is = starts.is ∙ ap (λ xs. xs ++ starts.more) wrote.starts.is ∙ append_assoc wrote.prefix wrote.starts.more starts.more;
   };
-  written = sent.now_is;
+  written = wrote.written;
 }
 
 -- Sending goes on: what was sent, then what is sent of what was left and more.
@@ -81,7 +81,7 @@ unwritten-next tells part more text rest taken now later f g h Unwritten.OutOfMe
     }
 
 -- A prefix of what comes behind a text that was written, behind that text.
-prefix-behind : (first more taken now later : List ℕ) → now ≡ taken ++ first → WrotePrefix more now later →
+pub prefix-behind : (first more taken now later : List ℕ) → now ≡ taken ++ first → WrotePrefix more now later →
     WrotePrefix (first ++ more) taken later
 prefix-behind first more taken now later is next = record {
   prefix = first ++ next.prefix;

@@ -2,7 +2,7 @@
 use Rattle.std.specs.Prelude.{ℕ, ◌≡◌, ◌≤◌, List, [], ◌∷◌, Option, Some, None, IsSome, ⊤, codes, decimal}
 use Rattle.session_core.specs.declared.command.TheConstants.{MOST_CAPACITY, MOST_COUNT, MOST_ENTRIES, MOST_ROUNDS, MOST_SEED, MOST_SENDERS}
 use Rattle.session_core.specs.declared.command.Command.{Command}
-use Rattle.session_core.specs.declared.command.Command.TheVariants.{Run, Ready, Generate, Wake, Copy}
+use Rattle.session_core.specs.declared.command.Command.TheVariants.{Run, Ready, Generate, Trace, Wake, Copy, Unframe}
 use Rattle.event_text.specs.TextWords.{AreBytes}
 use Rattle.event_text.specs.TextReads.{bytes_of}
 use Rattle.event_text.specs.TextWords.{bytes_word}
@@ -35,6 +35,12 @@ pub record IsGenerate (words : List (List ℕ)) (seed rounds : ℕ) : Type 0 whe
   pub small : rounds ≤ MOST_ROUNDS
   pub words_are : words ≡ codes "gen" ∷ decimal seed ∷ decimal rounds ∷ []
 
+-- The words are `gen SEED COUNT --events`, with the same bounds.
+pub record IsTrace (words : List (List ℕ)) (seed rounds : ℕ) : Type 0 where
+  pub within : seed ≤ MOST_SEED
+  pub small : rounds ≤ MOST_ROUNDS
+  pub words_are : words ≡ codes "gen" ∷ decimal seed ∷ decimal rounds ∷ codes "--events" ∷ []
+
 -- The words are `copy CAP PREFIXHEX`, with a capacity from 1 to 16777216, and the word of a prefix.
 pub record IsCopy (words : List (List ℕ)) (capacity : ℕ) (prefix : List ℕ) : Type 0 where
   pub positive : 1 ≤ capacity
@@ -42,13 +48,19 @@ pub record IsCopy (words : List (List ℕ)) (capacity : ℕ) (prefix : List ℕ)
   pub bytes : AreBytes prefix
   pub words_are : words ≡ codes "copy" ∷ decimal capacity ∷ bytes_word prefix ∷ []
 
+-- The words are `unframe`.
+abbrev pub IsUnframe : List (List ℕ) → Type 0
+IsUnframe words = words ≡ codes "unframe" ∷ []
+
 -- The words are no command's.
 pub record IsNoCommand (words : List (List ℕ)) : Type 0 where
   pub no_run : (capacity : ℕ) → IsRun words capacity → ⊥
   pub no_ready : IsReady words → ⊥
   pub no_generate : (seed rounds : ℕ) → IsGenerate words seed rounds → ⊥
+  pub no_trace : (seed rounds : ℕ) → IsTrace words seed rounds → ⊥
   pub no_wake : (senders count : ℕ) → IsWake words senders count → ⊥
   pub no_copy : (capacity : ℕ) (prefix : List ℕ) → IsCopy words capacity prefix → ⊥
+  pub no_unframe : IsUnframe words → ⊥
 
 -- The word is a capacity.
 pub record IsCapacity (word : List ℕ) (capacity : ℕ) : Type 0 where
@@ -105,29 +117,37 @@ ReadsCommand words None = IsNoCommand words
 ReadsCommand words (Some (Run capacity)) = IsRun words capacity
 ReadsCommand words (Some Ready) = IsReady words
 ReadsCommand words (Some (Generate seed rounds)) = IsGenerate words seed rounds
+ReadsCommand words (Some (Trace seed rounds)) = IsTrace words seed rounds
 ReadsCommand words (Some (Wake senders count)) = IsWake words senders count
 ReadsCommand words (Some (Copy capacity word)) = IsCopyOf words capacity word.now
+ReadsCommand words (Some Unframe) = IsUnframe words
 
 -- The numbers of a command are within its bounds, and the word of a prefix writes one.
 abbrev pub IsWithin : Command → Type 0
 IsWithin (Run capacity) = 1 ≤ capacity
 IsWithin Ready = ⊤
 IsWithin (Generate seed rounds) = rounds ≤ MOST_ROUNDS
+IsWithin (Trace seed rounds) = rounds ≤ MOST_ROUNDS
 IsWithin (Wake senders count) = senders ≤ MOST_SENDERS
 IsWithin (Copy capacity word) = IsSome (bytes_of word.now)
+IsWithin Unframe = ⊤
 
 -- The command reads no input.
 abbrev pub ReadsNothing : Command → Type 0
 ReadsNothing (Run capacity) = ⊥
 ReadsNothing Ready = ⊥
 ReadsNothing (Generate seed rounds) = ⊤
+ReadsNothing (Trace seed rounds) = ⊤
 ReadsNothing (Wake senders count) = ⊤
 ReadsNothing (Copy capacity word) = ⊥
+ReadsNothing Unframe = ⊥
 
 -- The command keeps nothing.
 abbrev pub KeepsNothing : Command → Type 0
 KeepsNothing (Run capacity) = ⊥
 KeepsNothing Ready = ⊥
 KeepsNothing (Generate seed rounds) = ⊥
+KeepsNothing (Trace seed rounds) = ⊤
 KeepsNothing (Wake senders count) = ⊤
 KeepsNothing (Copy capacity word) = ⊤
+KeepsNothing Unframe = ⊤

@@ -5,8 +5,8 @@ use Rattle.rent_io.specs.Call.{Reading, Writing}
 use Rattle.event_text.specs.TextLines.{lines, AreEventsFor}
 use Rattle.session_core.specs.declared.input.TheConstants.{MOST_INPUT}
 use Rattle.session_core.specs.declared.top.Status.{Status}
-use Rattle.session_core.specs.declared.top.Status.TheVariants.{Done, OutOfMemory}
-use Rattle.session_core.specs.Command.{RunsOn, IsGenerate, IsWake, IsCopy}
+use Rattle.session_core.specs.declared.top.Status.TheVariants.{Done, OutOfMemory, BadFrame}
+use Rattle.session_core.specs.Command.{RunsOn, IsGenerate, IsTrace, IsWake, IsCopy}
 use Rattle.session_core.specs.DriverKind.{DriverKind, StandsOn}
 
 -- An input of no more bytes than it may have, each of whose lines stands for an event that a driver takes.
@@ -19,6 +19,7 @@ pub record HoldsEvents (driver : DriverKind) (left : List ℕ) : Type 0 where
 pub data TakesInput (tells : Bool) (words : List (List ℕ)) (left : List ℕ) : Type 0 where
   of_events : (driver : DriverKind) → RunsOn driver words → IsTrue tells → HoldsEvents driver left → TakesInput tells words left
   of_generate : (seed rounds : ℕ) → IsGenerate words seed rounds → TakesInput tells words left
+  of_trace : (seed rounds : ℕ) → IsTrace words seed rounds → TakesInput tells words left
   of_wake : (senders count : ℕ) → IsWake words senders count → TakesInput tells words left
   of_copy : (capacity : ℕ) (prefix : List ℕ) → IsCopy words capacity prefix → IsTrue tells → length left ≤ MOST_INPUT
       → TakesInput tells words left
@@ -31,3 +32,7 @@ pub record NoneRose (source : Reading) (sink : Writing) : Type 0 where
 -- All was done, or memory ran out.
 abbrev pub IsDoneOrShort : Status → Type 0
 IsDoneOrShort status = (status ≡ Done) ⊎ (status ≡ OutOfMemory)
+
+-- All was done, or the input has a wrong piece, or memory ran out.
+abbrev pub IsReadOrShort : Status → Type 0
+IsReadOrShort status = (status ≡ Done) ⊎ (status ≡ BadFrame) ⊎ (status ≡ OutOfMemory)

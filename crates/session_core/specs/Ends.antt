@@ -8,18 +8,22 @@ use Rattle.ring_core.specs.Ledger.{Ledger, empty}
 pub use Rattle.rent_io.specs.Call.{Reading, Writing, reading, writing}
 use Rattle.copy_run.specs.Ending.{CopyEnds}
 use Rattle.copy_run.specs.declared.copying.Ending.{Ending}
+use Rattle.frame_run.specs.declared.unframing.Unframed.{Unframed}
+use Rattle.frame_run.specs.Unframing.{UnframeEnds}
 use Rattle.session_core.specs.declared.top.Status.{Status}
-use Rattle.session_core.specs.declared.top.Status.TheVariants.{Done, BadWords, BadLine, TooLong, ReadFault, WriteFault, OutOfMemory}
+use Rattle.session_core.specs.declared.top.Status.TheVariants.{Done, BadWords, BadLine, TooLong}
+use Rattle.session_core.specs.declared.top.Status.TheVariants.{ReadFault, WriteFault, OutOfMemory, BadFrame}
 use Rattle.session_core.specs.declared.input.TheConstants.{MOST_INPUT}
 use Rattle.session_core.specs.declared.top.Kept.{Kept}
 use Rattle.session_core.specs.declared.command.Command.{Command}
-use Rattle.session_core.specs.declared.command.Command.TheVariants.{Run as RunOf, Ready as ReadyOf, Generate, Wake, Copy}
+use Rattle.session_core.specs.declared.command.Command.TheVariants.{Run as RunOf, Ready as ReadyOf, Generate, Trace, Wake, Copy, Unframe}
 use Rattle.session_core.specs.Command.{RunsOn}
 use Rattle.session_core.specs.DriverKind.{DriverKind, completion, readiness, replies_on, after_on, KeepsRun, KeepsReady}
 use Rattle.session_core.specs.Generated.{generated_events}
 use Rattle.event_text.specs.TextReads.{bytes_of}
 use Rattle.session_core.specs.Top.{EventsDone, LineRefused, NoLineWrong, TookTooMany, WrotePrefix, WroteSome, SumsFor}
 use Rattle.session_core.specs.Top.{TookFew, WakesFor, reply_lines}
+use Rattle.session_core.specs.Trace.{TracesFor}
 use Rattle.session_core.specs.Writes.{WroteShort}
 
 -- No count of faults rose, as far as the source and the sink tell it.
@@ -61,6 +65,7 @@ EventsEnd driver tells_source tells_sink L source sink keeps WriteFault =
 EventsEnd driver tells_source tells_sink L source sink keeps OutOfMemory = RanShort driver tells_source tells_sink source sink
     × ((IsTrue tells_sink → sink.now ≡ sink.taken)
     ⊎ WroteSome driver tells_source tells_sink L source.left source.rest sink.taken sink.now)
+EventsEnd driver tells_source tells_sink L source sink keeps BadFrame = ⊥
 
 -- What a run of events gives: the session behind them, which stands for the ledger that they lead to; or a status other than Done.
 abbrev pub RunsGive : {S : Type 0} → DriverKind → Bool → Ledger → List Event → Writing → (S → Ledger → Type 0) → Result S Status →
@@ -100,6 +105,19 @@ CopiesFor tells_source tells_sink prefix source sink WriteFault =
     CopyEnds tells_source tells_sink MOST_INPUT prefix source sink Ending.WriteFault
 CopiesFor tells_source tells_sink prefix source sink OutOfMemory =
     CopyEnds tells_source tells_sink MOST_INPUT prefix source sink Ending.OutOfMemory
+CopiesFor tells_source tells_sink prefix source sink BadFrame = ⊥
+
+-- What `unframe` has done, by the status: what was done with the messages of the input that ends so.
+abbrev pub UnframesFor : Bool → Bool → Reading → Writing → Status → Type 0
+UnframesFor tells_source tells_sink source sink Done = UnframeEnds tells_source tells_sink MOST_INPUT source sink Unframed.Done
+UnframesFor tells_source tells_sink source sink BadWords = ⊥
+UnframesFor tells_source tells_sink source sink BadLine = ⊥
+UnframesFor tells_source tells_sink source sink TooLong = UnframeEnds tells_source tells_sink MOST_INPUT source sink Unframed.TooLong
+UnframesFor tells_source tells_sink source sink ReadFault = UnframeEnds tells_source tells_sink MOST_INPUT source sink Unframed.ReadFault
+UnframesFor tells_source tells_sink source sink WriteFault = UnframeEnds tells_source tells_sink MOST_INPUT source sink Unframed.WriteFault
+UnframesFor tells_source tells_sink source sink OutOfMemory =
+    UnframeEnds tells_source tells_sink MOST_INPUT source sink Unframed.OutOfMemory
+UnframesFor tells_source tells_sink source sink BadFrame = UnframeEnds tells_source tells_sink MOST_INPUT source sink Unframed.BadFrame
 
 -- What a command that reads nothing has done to a sink, by the status.
 abbrev pub SinkEnds : Bool → Writing → Status → Type 0
@@ -116,10 +134,18 @@ CommandEnds tells_source tells_sink ReadyOf source sink kept status =
     (capacity : ℕ) → ReadyEnds tells_source tells_sink capacity source sink kept status
 CommandEnds tells_source tells_sink (Generate seed rounds) source sink kept status =
     SumsFor tells_sink (generated_events seed rounds) sink.taken sink.now kept status
+CommandEnds tells_source tells_sink (Trace seed rounds) source sink kept status =
+    TracesFor tells_sink (generated_events seed rounds) sink.taken sink.now status
 CommandEnds tells_source tells_sink (Wake senders count) source sink kept status =
     WakesFor tells_sink (senders * count) sink.taken sink.now status
 CommandEnds tells_source tells_sink (Copy capacity word) source sink kept status =
     (prefix : List ℕ) → bytes_of word.now ≡ Some prefix → CopiesFor tells_source tells_sink prefix source sink status
+CommandEnds tells_source tells_sink Unframe source sink kept status = UnframesFor tells_source tells_sink source sink status
+
+-- Memory ran out: no more was taken than the input may have, and no count of faults rose.
+pub record RanLow (tells_source tells_sink : Bool) (source : Reading) (sink : Writing) : Type 0 where
+  pub few : IsTrue tells_source → TookFew source.left source.rest
+  pub calm : NoFaults tells_source tells_sink source sink
 
 -- What every command has done, by the status, but for its lines: which of them is wrong depends on the command.
 abbrev pub StatusFor : Bool → Bool → Reading → Writing → Status → Type 0
@@ -129,7 +155,8 @@ StatusFor tells_source tells_sink source sink BadLine = ⊤
 StatusFor tells_source tells_sink source sink TooLong = IsTrue tells_source → TookTooMany source.left source.rest
 StatusFor tells_source tells_sink source sink ReadFault = Rose source.faults source.later
 StatusFor tells_source tells_sink source sink WriteFault = Rose sink.faults sink.later
-StatusFor tells_source tells_sink source sink OutOfMemory = RanShort completion tells_source tells_sink source sink
+StatusFor tells_source tells_sink source sink OutOfMemory = RanLow tells_source tells_sink source sink
+StatusFor tells_source tells_sink source sink BadFrame = ⊤
 
 -- A line is wrong for the command of these words, which reads events: its number was written, and nothing else.
 pub record CommandRefused (words : List (List ℕ)) (tells_source tells_sink : Bool) (left rest taken now : List ℕ) : Type 0 where

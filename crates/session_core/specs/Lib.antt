@@ -9,3 +9,5 @@ pub mod Reads
 pub mod Writes
 pub mod Ends
 pub mod Complete
+pub mod Stops
+pub mod Trace

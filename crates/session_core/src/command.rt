@@ -31,11 +31,15 @@ pub enum Command<'a> {
     Ready,
     /// `gen SEED COUNT`: generates the events of so many rounds from a seed, and runs them.
     Generate(u32, u32),
+    /// `gen SEED COUNT --events`: generates the same events, and writes their texts.
+    Trace(u32, u32),
     /// `wake SENDERS COUNT`: so many senders, at most 64, send so many wakers each, at most 100000.
     Wake(u64, u32),
     /// `copy CAP PREFIXHEX`: writes the bytes that this word writes, and then the input, by way of buffers of so many bytes, at
     /// least one.
     Copy(u32, &'a [u8]),
+    /// `unframe`: writes the lines of the messages whose pieces are read.
+    Unframe,
 }
 
 /// The command that words write; `None` if they write none. Numbers have no sign and no leading zero. (not in monoio)
@@ -43,22 +47,30 @@ pub fn command_of(words: &[String]) -> Option<Command<'_>>
     ensures { ReadsCommand (map string_bytes words.now) result }
 {
     match words {
-        [name] => ready_of(name.as_str()),
+        [name] => single_of(name.as_str()),
         [name, capacity] => run_of(name.as_str(), capacity.as_str()),
         [name, first, second] => counted_of(name.as_str(), first.as_str(), second.as_str()),
+        [name, seed, rounds, last] => trace_of(
+            name.as_str(),
+            seed.as_str(),
+            rounds.as_str(),
+            last.as_str(),
+        ),
         _ => None,
     }
 }
 
-// The command `ready` of one word.
-fn ready_of<'a>(name: &str) -> Option<Command<'a>>
+// The command of one word: `ready` or `unframe`.
+fn single_of<'a>(name: &str) -> Option<Command<'a>>
     ensures { ReadsCommand (name.now ∷ []) result }
 {
     if name == "ready" {
-        Some(Command::Ready)
-    } else {
-        None
+        return Some(Command::Ready);
     }
+    if name == "unframe" {
+        return Some(Command::Unframe);
+    }
+    None
 }
 
 // The command `run` of two words.
@@ -116,6 +128,18 @@ fn generate_of<'a>(seed: &[u8], rounds: &[u8]) -> Option<Command<'a>>
     let seed = number_up_to(seed, MOST_SEED)?;
     let rounds = number_up_to(rounds, MOST_ROUNDS)?;
     Some(Command::Generate(seed as u32, rounds as u32))
+}
+
+// The command `gen` of four words.
+fn trace_of<'a>(name: &str, seed: &str, rounds: &str, last: &str) -> Option<Command<'a>>
+    ensures { ReadsCommand (name.now ∷ seed.now ∷ rounds.now ∷ last.now ∷ []) result }
+{
+    if name == "gen" && last == "--events" {
+        let seed = number_up_to(seed.as_bytes(), MOST_SEED)?;
+        let rounds = number_up_to(rounds.as_bytes(), MOST_ROUNDS)?;
+        return Some(Command::Trace(seed as u32, rounds as u32));
+    }
+    None
 }
 
 // The command of a capacity from 1 to 16777216, and the word of a prefix.

@@ -1,10 +1,13 @@
 //! Reading all lines of a source.
-ghost use Rattle.std.specs.Prelude.{◌≡◌, ◌≤◌, ◌<◌, ◌+◌, ◌++◌, length, IfOk, IfErr, OnOk, OnErr, IsTrue, vec_len, vec_capacity, []};
+ghost use Rattle.std.specs.Prelude.{◌≡◌, ◌≤◌, ◌<◌, ◌+◌, ◌++◌, length, IfOk, IfErr, None, OnOk, OnErr, IsTrue, vec_len, vec_capacity, []};
 ghost use Rattle.event_text.specs.TextLines.{AreEventsFor, lines};
 ghost use Rattle.session_core.specs.DriverKind.{DriverKind, StandsOn};
 ghost use Rattle.session_core.specs.Reads.{IsAll, WhyNoEvents, WhyStopped, WhyUnread};
+ghost use Rattle.session_core.specs.Stops.{ReadStops};
 
 use crate::stepping::Stepping;
+use crate::top::Stop;
+use rent_buf::ByteList;
 use rent_io::ByteSource;
 use std::alloc::{AllocError, Global};
 
@@ -29,16 +32,21 @@ pub(crate) enum NoEvents {
     OutOfMemory,
 }
 
-/// All that a source gives: lines that each stand for an event, of those that such a session takes.
+/// All that a source gives: lines that each stand for an event, of those that such a session takes. A wrong line is named, with the text
+/// that it stands in.
 pub(crate) fn read_input<M: Stepping, S: ByteSource>(
     alloc: Global,
     source: &mut S,
+    stop: &mut Option<Stop>,
 ) -> Result<Vec<u8>, NoEvents>
+    requires { stop.old ≡ None }
     ensures read { IfOk result (λ text. IsTrue S.tells → IsAll (S.left source.old) (S.left source.new) text.items) }
     ensures right { IfOk result (λ text. AreEventsFor (StandsOn M.kind) (lines text.items)) }
     ensures calm { OnOk result (IsTrue S.tells → S.faults source.new ≡ S.faults source.old) }
     ensures why { IfErr result (WhyNoEvents M.kind S.tells (S.left source.old) (S.left source.new) (S.faults source.old)
         (S.faults source.new)) }
+    ensures unnamed { OnOk result (stop.new ≡ None) }
+    ensures stops { IfErr result (ReadStops M.kind S.tells (S.left source.old) stop.new) }
 {
     let text = match read_all(alloc, source) {
         Ok(text) => text,
@@ -46,7 +54,10 @@ pub(crate) fn read_input<M: Stepping, S: ByteSource>(
     };
     match M::first_wrong(text.as_slice()) {
         None => Ok(text),
-        Some(line) => Err(NoEvents::BadLine(line)),
+        Some(line) => {
+            *stop = Some(Stop::Wrong(line, ByteList::from_vec(text)));
+            Err(NoEvents::BadLine(line))
+        }
     }
 }
 

@@ -1,21 +1,24 @@
 //! The top call: all that the program does, over any source and sink.
-ghost use Rattle.std.specs.Prelude.{◌≡◌, ◌≤◌, ◌<◌, ◌*◌, ◌⊎◌, ◌↔◌, map, string_bytes, List, None, Some, IfOk, IsSome, IsTrue, ℕ};
+ghost use Rattle.std.specs.Prelude.{◌≡◌, ◌≤◌, ◌<◌, ◌*◌, ◌⊎◌, ◌↔◌, map, string_bytes, List, None, Some, IfOk, IsSome, IsTrue, length, ℕ};
 ghost use Rattle.std.specs.List.{AllZip};
-ghost use Rattle.ring_core.specs.Ledger.{Ledger};
+ghost use Rattle.ring_core.specs.Ledger.{Ledger, empty};
 ghost use Rattle.ring_core.specs.declared.ledger.Event.{Event};
 ghost use Rattle.ring_core.specs.Run.{ledger};
 ghost use Rattle.session_core.specs.Session.{SessionStands};
 ghost use Rattle.ring_core.specs.Counts.{Rose};
-ghost use Rattle.session_core.specs.Command.{IsRun, IsReady, IsGenerate, IsWake, IsCopy, IsNoCommand, IsWithin, KeepsNothing, ReadsNothing};
-ghost use Rattle.session_core.specs.DriverKind.{StandsOn, completion};
+ghost use Rattle.session_core.specs.Command.{IsRun, IsReady, IsGenerate, IsTrace, IsWake, IsCopy};
+ghost use Rattle.session_core.specs.Command.{IsNoCommand, IsUnframe, IsWithin, KeepsNothing, ReadsNothing};
+ghost use Rattle.session_core.specs.DriverKind.{StandsOn, completion, readiness};
 ghost use Rattle.session_core.specs.Generated.{generated_events};
 ghost use Rattle.session_core.specs.Top.{SumsFor, TookTooMany, WakesFor, exit_number, summary_text};
 ghost use Rattle.event_text.specs.TextLines.{AreEventsFor, lines};
 ghost use Rattle.event_text.specs.TextReads.{bytes_of};
 ghost use Rattle.session_core.specs.Writes.{RefusesFor};
 ghost use Rattle.session_core.specs.Ends.{CommandEnds, CommandRefused, CopiesFor, EventsGive, RanShort, ReadyEnds, RunEnds, RunsGive};
-ghost use Rattle.session_core.specs.Ends.{SinkEnds, StatusFor, reading, writing};
-ghost use Rattle.session_core.specs.Complete.{IsDoneOrShort, NoneRose, TakesInput};
+ghost use Rattle.session_core.specs.Ends.{SinkEnds, StatusFor, UnframesFor, reading, writing};
+ghost use Rattle.session_core.specs.Complete.{IsDoneOrShort, IsReadOrShort, NoneRose, TakesInput};
+ghost use Rattle.session_core.specs.Stops.{CommandStops, EventsStop, ResultStops, RunStops};
+ghost use Rattle.session_core.specs.Trace.{TracesFor};
 
 use crate::command::{Command, MOST_SENDERS, command_of};
 use crate::generated::{ENTRIES, generated, run_counted};
@@ -23,11 +26,13 @@ use crate::input::{MOST_INPUT, NoEvents, read_input};
 use crate::output::{Unwritten, write_last, write_number, write_replies};
 use crate::session::Session;
 use crate::stepping::Stepping;
+use crate::trace::run_trace;
 use crate::wake::wake_all;
 use copy_run::{Ending, copy_all};
 use event_text::read_bytes;
+use frame_run::{Unframed, unframe_all};
 use ready_run::ReadySession;
-use rent_buf::OutOfMemory;
+use rent_buf::{ByteList, OutOfMemory};
 use rent_io::{ByteSink, ByteSource};
 use std::alloc::Global;
 use std::marker::Brand;
@@ -46,14 +51,18 @@ pub enum Status {
     BadWords,
     /// The whole input was read, and a line of it is no event's text. Nothing was run, and `line N` was written.
     BadLine,
-    /// More than 16777216 bytes were read. `run` and `ready` have written nothing, and `copy` only the first of its prefix and its input.
+    /// More than 16777216 bytes were read. `run` and `ready` have written nothing, `copy` only the first of its prefix and its input,
+    /// and `unframe` only the lines of the first messages.
     TooLong,
-    /// The source failed. `run` and `ready` have written nothing, and `copy` only the first of its prefix and what it read.
+    /// The source failed. `run` and `ready` have written nothing, `copy` only the first of its prefix and what it read, and `unframe`
+    /// only the lines of the first messages.
     ReadFault,
     /// The sink failed. A prefix of the text was written.
     WriteFault,
     /// Memory ran out, and nothing that was seen gives another status. A prefix of the text may have been written.
     OutOfMemory,
+    /// The input of `unframe` has a wrong piece. The lines of the messages before it were written, and `bad OFFSET NAME`.
+    BadFrame,
 }
 
 impl Status {
@@ -69,6 +78,7 @@ impl Status {
             Status::ReadFault => 4,
             Status::WriteFault => 5,
             Status::OutOfMemory => 6,
+            Status::BadFrame => 8,
         }
     }
 }
@@ -89,13 +99,27 @@ impl Drop for Kept {
     }
 }
 
+/// At which line a command stopped. (not in monoio)
+#[derive(Debug, Drop)]
+pub enum Stop {
+    /// The line of this number, counted from 1, is the first of this text, the input, that stands for no event that the command takes.
+    Wrong(u64, ByteList),
+    /// The line of this number stands for no event, and this is its text.
+    Line(u64, ByteList),
+    /// Memory ran out at the event of the line of this number, or at its reply. The replies to the lines before it were written.
+    Short(u64),
+}
+
 /// Does what the words say. `run CAP` reads lines, runs their events over a queue of `CAP` entries, and writes the text of
-/// each reply and a newline as it comes. `ready` does so on the readiness driver, where no line may be a turn or an execution.
+/// each reply and a newline. `ready` does so on the readiness driver, where no line may be a turn or an execution.
 /// `gen SEED COUNT` reads nothing: it runs the events that the seed generates over a queue of 8 entries, and writes how many
-/// there are, how many were refused, and how many polls were ready. `wake SENDERS COUNT` reads nothing: each sender sends so
+/// there are, how many were refused, and how many polls were ready; with `--events` behind its words it writes the text of each event
+/// and a newline, and runs none. `wake SENDERS COUNT` reads nothing: each sender sends so
 /// many wakers from a thread of its own, and `drained N` and a newline are written. `copy CAP PREFIXHEX` writes the bytes of
-/// `PREFIXHEX`, and then all that it reads, by way of buffers of `CAP` bytes. The condition is that nothing is kept yet.
-/// (not in monoio)
+/// `PREFIXHEX`, and then all that it reads, by way of buffers of `CAP` bytes. `unframe` reads pieces of messages, and writes
+/// `message C HEX` for each message, with its channel and its bytes; at a wrong piece it writes `bad OFFSET NAME`, and ends with
+/// BadFrame. The condition is that nothing is kept yet. Afterwards `stop` names the line of `run` or `ready` that is wrong, or at which
+/// memory ran out; it is `None` where there is none. (not in monoio)
 pub fn top<R: Threads + Wait + Clock + Sync, S: ByteSource, K: ByteSink>(
     rt: &R,
     alloc: Global,
@@ -103,6 +127,7 @@ pub fn top<R: Threads + Wait + Clock + Sync, S: ByteSource, K: ByteSink>(
     source: &mut S,
     sink: &mut K,
     kept: &mut Option<Kept>,
+    stop: &mut Option<Stop>,
 ) -> Status
     requires { kept.old ≡ None }
     // It is BadWords exactly when the words are no command's, and then nothing is read or written.
@@ -123,15 +148,35 @@ pub fn top<R: Threads + Wait + Clock + Sync, S: ByteSource, K: ByteSink>(
     ensures copies { (capacity : ℕ) (prefix : List ℕ) → IsCopy (map string_bytes words.now) capacity prefix →
         CopiesFor S.tells K.tells prefix (reading S.left S.faults source.old source.new)
         (writing K.taken K.faults K.is_flushed sink.old sink.new) result }
+    ensures unframes { IsUnframe (map string_bytes words.now) →
+        UnframesFor S.tells K.tells (reading S.left S.faults source.old source.new)
+        (writing K.taken K.faults K.is_flushed sink.old sink.new) result }
 
-    // `gen` and `wake` read nothing. Only Done keeps something, and `wake` and `copy` keep nothing.
+    ensures traces { (seed rounds : ℕ) → IsTrace (map string_bytes words.now) seed rounds →
+        TracesFor K.tells (generated_events seed rounds) (K.taken sink.old) (K.taken sink.new) result }
+
+    // Which line is named.
+    ensures stops_run { (capacity : ℕ) → IsRun (map string_bytes words.now) capacity →
+        EventsStop completion S.tells K.tells (empty capacity) (reading S.left S.faults source.old source.new)
+        (writing K.taken K.faults K.is_flushed sink.old sink.new) stop.new result }
+    ensures stops_ready { IsReady (map string_bytes words.now) → (capacity : ℕ) →
+        EventsStop readiness S.tells K.tells (empty capacity) (reading S.left S.faults source.old source.new)
+        (writing K.taken K.faults K.is_flushed sink.old sink.new) stop.new result }
+    ensures stops_none { ((capacity : ℕ) → IsRun (map string_bytes words.now) capacity → ⊥) →
+        (IsReady (map string_bytes words.now) → ⊥) → stop.new ≡ None }
+
+    // `gen` and `wake` read nothing. Only Done keeps something, and `gen` with `--events`, `wake`, `copy` and `unframe` keep nothing.
     ensures unread_sums { (seed rounds : ℕ) → IsGenerate (map string_bytes words.now) seed rounds → source.new ≡ source.old }
     ensures unread_wakes { (senders count : ℕ) → IsWake (map string_bytes words.now) senders count → (source.new ≡ source.old) ×
         (kept.new ≡ None) }
+    ensures unread_traces { (seed rounds : ℕ) → IsTrace (map string_bytes words.now) seed rounds → (source.new ≡ source.old) ×
+        (kept.new ≡ None) }
     ensures unkept_copies { (capacity : ℕ) (prefix : List ℕ) → IsCopy (map string_bytes words.now) capacity prefix → kept.new ≡ None }
+    ensures unkept_unframes { IsUnframe (map string_bytes words.now) → kept.new ≡ None }
     ensures kept { (result ≡ Status.Done → ⊥) → kept.new ≡ None }
 
-    // Done means that the sink is flushed. Each other status has its cause, whatever the command; `copy` alone writes before all is read.
+    // Done means that the sink is flushed. Each other status has its cause, whatever the command; `copy` and `unframe` alone write before
+    // all is read, and `unframe` reads no lines.
     ensures flushed { result ≡ Status.Done → IsTrue (K.is_flushed sink.new) }
     ensures bad_line { result ≡ Status.BadLine → CommandRefused (map string_bytes words.now) S.tells K.tells (S.left source.old)
         (S.left source.new) (K.taken sink.old) (K.taken sink.new) }
@@ -139,8 +184,10 @@ pub fn top<R: Threads + Wait + Clock + Sync, S: ByteSource, K: ByteSink>(
     ensures read_fault { result ≡ Status.ReadFault → Rose (S.faults source.old) (S.faults source.new) }
     ensures write_fault { result ≡ Status.WriteFault → Rose (K.faults sink.old) (K.faults sink.new) }
     ensures unwritten { ((capacity : ℕ) (prefix : List ℕ) → IsCopy (map string_bytes words.now) capacity prefix → ⊥) →
-        (result ≡ Status.TooLong) ⊎ (result ≡ Status.ReadFault) → IsTrue K.tells → K.taken sink.new ≡ K.taken sink.old }
-    ensures memory { result ≡ Status.OutOfMemory →
+        (IsUnframe (map string_bytes words.now) → ⊥) → (result ≡ Status.TooLong) ⊎ (result ≡ Status.ReadFault) → IsTrue K.tells →
+        K.taken sink.new ≡ K.taken sink.old }
+    ensures bad_frame { result ≡ Status.BadFrame → IsUnframe (map string_bytes words.now) }
+    ensures memory { (IsUnframe (map string_bytes words.now) → ⊥) → result ≡ Status.OutOfMemory →
         RanShort completion S.tells K.tells (reading S.left S.faults source.old source.new)
         (writing K.taken K.faults K.is_flushed sink.old sink.new) }
 
@@ -148,9 +195,14 @@ pub fn top<R: Threads + Wait + Clock + Sync, S: ByteSource, K: ByteSink>(
     ensures complete { TakesInput S.tells (map string_bytes words.now) (S.left source.old) →
         NoneRose (reading S.left S.faults source.old source.new) (writing K.taken K.faults K.is_flushed sink.old sink.new) →
         IsDoneOrShort result }
+    // `unframe` may also find a wrong piece.
+    ensures complete_unframes { IsUnframe (map string_bytes words.now) → IsTrue S.tells → length (S.left source.old) ≤ MOST_INPUT →
+        NoneRose (reading S.left S.faults source.old source.new) (writing K.taken K.faults K.is_flushed sink.old sink.new) →
+        IsReadOrShort result }
 {
+    *stop = None;
     match command_of(words) {
-        Some(command) => run_command(rt, alloc, command, source, sink, kept),
+        Some(command) => run_command(rt, alloc, command, source, sink, kept, stop),
         None => Status::BadWords,
     }
 }
@@ -163,9 +215,11 @@ fn run_command<R: Threads + Wait + Clock + Sync, S: ByteSource, K: ByteSink>(
     source: &mut S,
     sink: &mut K,
     kept: &mut Option<Kept>,
+    stop: &mut Option<Stop>,
 ) -> Status
     requires within { IsWithin command }
     requires fresh { kept.old ≡ None }
+    requires running { stop.old ≡ None }
     ensures ends { CommandEnds S.tells K.tells command.entry (reading S.left S.faults source.old source.new)
         (writing K.taken K.faults K.is_flushed sink.old sink.new) kept.new result }
     ensures status { StatusFor S.tells K.tells (reading S.left S.faults source.old source.new)
@@ -173,13 +227,17 @@ fn run_command<R: Threads + Wait + Clock + Sync, S: ByteSource, K: ByteSink>(
     ensures kept { (result ≡ Status.Done → ⊥) → kept.new ≡ None }
     ensures unread { ReadsNothing command.entry → source.new ≡ source.old }
     ensures unkept { KeepsNothing command.entry → kept.new ≡ None }
+    ensures stops { CommandStops S.tells K.tells command.entry (reading S.left S.faults source.old source.new)
+        (writing K.taken K.faults K.is_flushed sink.old sink.new) stop.new result }
 {
     match command {
-        Command::Run(capacity) => run_lines(alloc, capacity, source, sink, kept),
-        Command::Ready => run_ready(alloc, source, sink, kept),
+        Command::Run(capacity) => run_lines(alloc, capacity, source, sink, kept, stop),
+        Command::Ready => run_ready(alloc, source, sink, kept, stop),
         Command::Generate(seed, rounds) => run_generated(alloc, seed, rounds, sink, kept),
+        Command::Trace(seed, rounds) => run_trace(alloc, seed, rounds, sink),
         Command::Wake(senders, count) => run_wake(rt, alloc, senders, count, sink),
         Command::Copy(capacity, word) => run_copy(rt, alloc, capacity, word, source, sink),
+        Command::Unframe => run_unframe(rt, alloc, source, sink),
     }
 }
 
@@ -190,17 +248,21 @@ fn run_lines<S: ByteSource, K: ByteSink>(
     source: &mut S,
     sink: &mut K,
     kept: &mut Option<Kept>,
+    stop: &mut Option<Stop>,
 ) -> Status
     requires capacity { 0 < capacity }
     requires fresh { kept.old ≡ None }
+    requires running { stop.old ≡ None }
     ensures ends { RunEnds S.tells K.tells capacity (reading S.left S.faults source.old source.new)
         (writing K.taken K.faults K.is_flushed sink.old sink.new) kept.new result }
     ensures kept { (result ≡ Status.Done → ⊥) → kept.new ≡ None }
+    ensures stops { EventsStop completion S.tells K.tells (empty capacity) (reading S.left S.faults source.old source.new)
+        (writing K.taken K.faults K.is_flushed sink.old sink.new) stop.new result }
 {
     let Ok(session) = Session::new(alloc, capacity) else {
         return Status::OutOfMemory;
     };
-    match run_session(alloc, session, source, sink) {
+    match run_session(alloc, session, source, sink, stop) {
         Ok(session) => {
             *kept = Some(Kept::Run(session));
             Status::Done
@@ -215,13 +277,17 @@ fn run_ready<S: ByteSource, K: ByteSink>(
     source: &mut S,
     sink: &mut K,
     kept: &mut Option<Kept>,
+    stop: &mut Option<Stop>,
 ) -> Status
-    requires { kept.old ≡ None }
+    requires fresh { kept.old ≡ None }
+    requires running { stop.old ≡ None }
     ensures ends { (capacity : ℕ) → ReadyEnds S.tells K.tells capacity (reading S.left S.faults source.old source.new)
         (writing K.taken K.faults K.is_flushed sink.old sink.new) kept.new result }
     ensures kept { (result ≡ Status.Done → ⊥) → kept.new ≡ None }
+    ensures stops { (capacity : ℕ) → EventsStop readiness S.tells K.tells (empty capacity)
+        (reading S.left S.faults source.old source.new) (writing K.taken K.faults K.is_flushed sink.old sink.new) stop.new result }
 {
-    match run_session(alloc, ReadySession::new(alloc), source, sink) {
+    match run_session(alloc, ReadySession::new(alloc), source, sink, stop) {
         Ok(session) => {
             *kept = Some(Kept::Ready(session));
             Status::Done
@@ -236,12 +302,16 @@ fn run_session<M: Stepping + Drop, S: ByteSource, K: ByteSink>(
     session: M,
     source: &mut S,
     sink: &mut K,
+    stop: &mut Option<Stop>,
 ) -> Result<M, Status>
-    ensures { (L : Ledger) → M.stands session L → EventsGive M.kind S.tells K.tells L (reading S.left S.faults source.old source.new)
-        (writing K.taken K.faults K.is_flushed sink.old sink.new) M.stands result }
+    requires { stop.old ≡ None }
+    ensures gives { (L : Ledger) → M.stands session L → EventsGive M.kind S.tells K.tells L
+        (reading S.left S.faults source.old source.new) (writing K.taken K.faults K.is_flushed sink.old sink.new) M.stands result }
+    ensures stops { (L : Ledger) → M.stands session L → ResultStops M.kind S.tells K.tells L
+        (reading S.left S.faults source.old source.new) (writing K.taken K.faults K.is_flushed sink.old sink.new) stop.new result }
 {
-    match read_input::<M, S>(alloc, source) {
-        Ok(text) => run_events(alloc, session, text.as_slice(), sink),
+    match read_input::<M, S>(alloc, source, stop) {
+        Ok(text) => run_events(alloc, session, text.as_slice(), sink, stop),
         Err(why) => Err(refuse(why, sink)),
     }
 }
@@ -267,12 +337,16 @@ fn run_events<M: Stepping + Drop, K: ByteSink>(
     session: M,
     text: &[u8],
     sink: &mut K,
+    stop: &mut Option<Stop>,
 ) -> Result<M, Status>
-    requires { AreEventsFor (StandsOn M.kind) (lines text.now) }
-    ensures { (events : List Event) → AllZip (StandsOn M.kind) (lines text.now) events → (L : Ledger) → M.stands session L →
+    requires right { AreEventsFor (StandsOn M.kind) (lines text.now) }
+    requires running { stop.old ≡ None }
+    ensures gives { (events : List Event) → AllZip (StandsOn M.kind) (lines text.now) events → (L : Ledger) → M.stands session L →
         RunsGive M.kind K.tells L events (writing K.taken K.faults K.is_flushed sink.old sink.new) M.stands result }
+    ensures stops { (events : List Event) → AllZip (StandsOn M.kind) (lines text.now) events → (L : Ledger) → M.stands session L →
+        RunStops M.kind K.tells L events (writing K.taken K.faults K.is_flushed sink.old sink.new) stop.new result }
 {
-    match write_replies(alloc, session, text, sink) {
+    match write_replies(alloc, session, text, sink, stop) {
         Ok(session) => Ok(session),
         Err(Unwritten::Fault) => Err(Status::WriteFault),
         Err(Unwritten::OutOfMemory) => Err(Status::OutOfMemory),
@@ -370,5 +444,25 @@ fn run_copy<R: Wait, S: ByteSource, K: ByteSink>(
         Ending::ReadFault => Status::ReadFault,
         Ending::WriteFault => Status::WriteFault,
         Ending::OutOfMemory => Status::OutOfMemory,
+    }
+}
+
+// Writes the lines of the messages whose pieces are read.
+fn run_unframe<R: Wait, S: ByteSource, K: ByteSink>(
+    rt: &R,
+    alloc: Global,
+    source: &mut S,
+    sink: &mut K,
+) -> Status
+    ensures { UnframesFor S.tells K.tells (reading S.left S.faults source.old source.new)
+        (writing K.taken K.faults K.is_flushed sink.old sink.new) result }
+{
+    match unframe_all(rt, alloc, MOST_INPUT, source, sink) {
+        Unframed::Done => Status::Done,
+        Unframed::BadFrame => Status::BadFrame,
+        Unframed::TooLong => Status::TooLong,
+        Unframed::ReadFault => Status::ReadFault,
+        Unframed::WriteFault => Status::WriteFault,
+        Unframed::OutOfMemory => Status::OutOfMemory,
     }
 }

@@ -3,8 +3,8 @@ ghost use Rattle.std.specs.Prelude.{◌≡◌};
 ghost use Rattle.std.specs.Process.{exit_status};
 ghost use Rattle.session_core.specs.Top.{exit_number};
 
-use crate::top::Status;
-use line_help::usage_error;
+use crate::top::{Status, Stop};
+use line_help::{explain, line_of, usage_error};
 use std::process::ExitCode;
 use std::rt::Env;
 use std::{env, io};
@@ -12,34 +12,48 @@ use std::{env, io};
 /// What `--help` writes to standard output. (not in monoio)
 pub const HELP: &str = "Runs an I/O engine with owned buffers on events that it reads.
 
-usage: session_run run CAP
+usage: session_run run CAP [-i]
        session_run ready
-       session_run gen SEED COUNT
+       session_run gen SEED COUNT [--events]
        session_run wake SENDERS COUNT
+       session_run faults CAP ENTERS
        session_run copy CAP PREFIXHEX
+       session_run unframe
+       session_run frame
        session_run --help
        session_run --version
 
 run CAP              reads events from standard input, one a line, runs them
                      over a submission queue of CAP entries (1 to 4294967295),
-                     and writes the reply to each, one a line
+                     and writes the reply to each, one a line; with -i each
+                     reply is written before the next line is read
 ready                does so on the readiness driver, which makes the call of an
                      operation when it is polled: turn and exec lines are
                      invalid here
 gen SEED COUNT       runs COUNT rounds of seven events (0 to 100000) that SEED
                      generates (0 to 2147483647) over a queue of 8 entries, and
                      writes how many events there were, how many were refused,
-                     and how many polls were ready
+                     and how many polls were ready; with --events it writes the
+                     events, one a line, and runs none
 wake SENDERS COUNT   wakes a parked driver COUNT times (0 to 100000) from each
                      of SENDERS threads (0 to 64), and writes how many wake-ups
                      it drained
+faults CAP ENTERS    answers events over a ring of CAP entries (1 to 4294967295)
+                     whose enters do what the letters of ENTERS say: f fails, b
+                     is busy, - takes the queue; a line 'complete WORD ok K'
+                     makes a completion, and 'ring' shows the ring
 copy CAP PREFIXHEX   writes the bytes of PREFIXHEX (hexadecimal digits, or -
                      for none) and then standard input, by way of buffers of
                      CAP bytes (1 to 16777216)
+unframe              reads pieces of messages from standard input, and writes
+                     the channel and the bytes of each message, one a line
+frame                reads lines of a channel's number and bytes in hexadecimal
+                     digits (- for none), and writes the pieces of these
+                     messages
 
 exit status: 0 success; 1 invalid command line; 2 invalid line, whose number
 is printed; 3 more than 16777216 bytes of input; 4 reading failed; 5 writing
-failed; 6 out of memory";
+failed; 6 out of memory; 8 invalid piece, whose place and fault are printed";
 
 /// What `--version` writes to standard output. (not in monoio)
 pub const VERSION: &str = "session_run 0.1.0";
@@ -102,6 +116,8 @@ pub fn answer<R: Print + Eprint>(rt: &R, asked: Asked) -> ExitCode {
 pub struct Known<'a> {
     /// The words of the command line.
     pub words: &'a [String],
+    /// At which line it stopped, if at one.
+    pub stop: Option<Stop>,
     /// The last error of a read.
     pub read: Option<io::Error>,
     /// The last error of a write or a flush.
@@ -113,14 +129,15 @@ impl<'a> Known<'a> {
     pub fn nothing() -> Known<'a> {
         Known {
             words: &[],
+            stop: None,
             read: None,
             write: None,
         }
     }
 }
 
-/// Ends the program with the number of a status, and writes its reason to standard error: a line for each status but `Done`, and but
-/// `BadLine`, which standard output tells. (not in monoio)
+/// Ends the program with the number of a status, and writes its reason to standard error: a line for each status but `Done`.
+/// (not in monoio)
 pub fn end_with<R: Eprint>(rt: &R, status: Status, known: Known<'_>) -> ExitCode
     ensures { exit_status result ≡ exit_number status }
 {
@@ -131,14 +148,42 @@ pub fn end_with<R: Eprint>(rt: &R, status: Status, known: Known<'_>) -> ExitCode
 // Writes the reason of a status.
 fn tell<R: Eprint>(rt: &R, status: Status, known: Known<'_>) -> io::Result<()> {
     match status {
-        Status::Done | Status::BadLine => Ok(()),
+        Status::Done => Ok(()),
         Status::BadWords => {
             eprintln!(rt; "session_run: {}; see --help", usage_error(known.words))
         }
+        Status::BadLine => tell_line(rt, &known),
+        Status::BadFrame => eprintln!(rt; "session_run: the input has an invalid piece"),
         Status::TooLong => { eprintln!(rt; "session_run: the input has more than 16777216 bytes") }
         Status::ReadFault => tell_fault(rt, "reading the input failed", known.read),
         Status::WriteFault => tell_fault(rt, "writing the output failed", known.write),
-        Status::OutOfMemory => eprintln!(rt; "session_run: out of memory"),
+        Status::OutOfMemory => match known.stop {
+            Some(Stop::Short(line)) => eprintln!(rt; "session_run: line {line}: out of memory"),
+            _ => eprintln!(rt; "session_run: out of memory"),
+        },
+    }
+}
+
+// Writes which line is wrong, at which word, and what was expected there.
+fn tell_line<R: Eprint>(rt: &R, known: &Known<'_>) -> io::Result<()> {
+    let (number, line) = match &known.stop {
+        Some(Stop::Wrong(number, text)) => {
+            (*number, line_of(text.as_slice(), number.saturating_sub(1)))
+        }
+        Some(Stop::Line(number, text)) => (*number, text.as_slice()),
+        _ => return eprintln!(rt; "session_run: a line is no event"),
+    };
+    match explain(line, is_ready(known.words)) {
+        Some(complaint) => eprintln!(rt; "session_run: line {number}, {complaint}"),
+        None => eprintln!(rt; "session_run: line {number} is no event"),
+    }
+}
+
+// The words are those of `ready`.
+fn is_ready(words: &[String]) -> bool {
+    match words {
+        [word] => word.as_str() == "ready",
+        _ => false,
     }
 }
 

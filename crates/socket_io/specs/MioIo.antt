@@ -1,7 +1,7 @@
 -- Sockets of the system as an object whose calls don't wait. Cited by `MioIo`.
 use Rattle.std.specs.Prelude.{ℕ, suc, ◌≡◌, ◌≤◌, Bool, true, false, [], length, Option, Some, None, List, Result, Ok, Err, is_some, refl}
 use Rattle.std.specs.FinMap as finite
-use Rattle.std.specs.Coded.{Coded, code_by, coded×, coded_ℕ}
+use Rattle.std.specs.Coded.{Coded, code_by, coded×, coded_ℕ, coded_option}
 use Rattle.rent_buf.specs.Buffer.{Buffer}
 use Rattle.rent_buf.specs.Parts.{Parts}
 use Rattle.ring_core.specs.declared.request.Request.{Request}
@@ -22,30 +22,31 @@ use Rattle.ready_driver.specs.Io.{IoView, CallsFor}
 use Rattle.socket_io.specs.Counted.{IsCounted, SaysNothing}
 use Rattle.socket_io.specs.SocketTable.{Kinds, OpenSockets, is_listener, is_stream}
 
--- Sockets: how many handles were made, which are open, and the counts of their calls.
+-- Sockets: how many handles were made, which are open, the counts of their calls, and the limit of the last wait.
 pub record Host : Type 0 where
   pub made : ℕ
   pub kinds : Kinds
   pub counts : Counts
+  pub limit : Option ℕ
 
 -- They are stored as the tuple of their fields.
 abbrev pub host_code : Coded HandleKind → Coded Counts → Coded Host
 host_code kind counts = code_by
-    (Kinds × (ℕ × Counts))
-    (coded× (finite.code coded_ℕ kind) (coded× coded_ℕ counts))
-    (λ h. (h.kinds, (h.made, h.counts)))
-    (λ p. record { made = p.1.0; kinds = p.0; counts = p.1.1 })
+    (Kinds × (ℕ × (Counts × Option ℕ)))
+    (coded× (finite.code coded_ℕ kind) (coded× coded_ℕ (coded× counts (coded_option coded_ℕ))))
+    (λ h. (h.kinds, (h.made, (h.counts, h.limit))))
+    (λ p. record { made = p.1.0; kinds = p.0; counts = p.1.1.0; limit = p.1.1.1 })
     (λ _. refl)
 
--- A table of sockets, with counts.
-abbrev pub host_of : OpenSockets → Counts → Host
-host_of table counts = record { made = table.made; kinds = table.kinds; counts = counts }
+-- A table of sockets, with counts, and the limit of the last wait.
+abbrev pub host_of : OpenSockets → Counts → Option ℕ → Host
+host_of table counts limit = record { made = table.made; kinds = table.kinds; counts = counts; limit = limit }
 
 -- None, and no call so far.
 abbrev pub no_sockets : Host
-no_sockets = record { made = 0; kinds = finite.empty; counts = record { faults = 0; blocks = 0; fails = 0 } }
+no_sockets = record { made = 0; kinds = finite.empty; counts = record { faults = 0; blocks = 0; fails = 0 }; limit = Some 0 }
 
--- As an object they show their counts alone.
+-- As an object they show their counts, and the limit of the last wait, alone.
 abbrev pub host_view : Host → IoView
 host_view host = record {
   faults = host.counts.faults;
@@ -56,6 +57,7 @@ host_view host = record {
   keys = [];
   due = [];
   reports = [];
+  limit = host.limit;
 }
 
 -- The requests that are made on sockets: accepts, reads and sends of streams, and waits for readiness.

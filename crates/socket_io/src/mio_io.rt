@@ -23,13 +23,14 @@ use ring_core::{Call, INVALID, Outcome, Request};
 use std::alloc::Global;
 use std::marker::Model;
 use std::net::Net;
+use wake_core::Bell;
 
 mod counts;
 mod poller;
 mod socket;
 mod table;
 
-pub use poller::MOST_EVENTS;
+pub use poller::{BELL_KEY, MOST_EVENTS};
 pub use socket::NO_NUMBER;
 
 /// The most bytes that one call moves. (not in monoio)
@@ -56,6 +57,8 @@ pub struct MioIo<R> {
     // The bytes that are sent.
     sent: ByteList,
     counts: Counts,
+    // The limit of the last wait.
+    limit: Option<u64>,
 }
 
 impl<R> Model for MioIo<R> {
@@ -66,7 +69,7 @@ impl<R> Model for MioIo<R> {
 
     ghost coded = { host_code (Prim.hlevel codes) (Prim.hlevel codes) };
 
-    ghost view = { λ m. host_of m.table m.counts };
+    ghost view = { λ m. host_of m.table m.counts m.limit };
 }
 
 impl<R: Net> MioIo<R> {
@@ -82,6 +85,7 @@ impl<R: Net> MioIo<R> {
             room: Vec::new(alloc),
             sent: ByteList::new(alloc),
             counts: Counts::new(),
+            limit: Some(0),
         }
     }
 
@@ -278,22 +282,34 @@ impl<R: Net + Drop> NonBlock for MioIo<R> {
         false
     }
 
-    /// It reports at most `MOST_EVENTS` handles, and none where it was interrupted. Where memory runs out, the next wait reports them. It
-    /// makes the poll, where there is none yet.
+    /// It reports at most `MOST_EVENTS` handles, and none where it was interrupted. A ring of the bell ends it, and is reported with the
+    /// key `BELL_KEY`, which names no handle. Where memory runs out, the next wait reports them. It makes the poll, where there is none
+    /// yet.
     fn wait(&mut self, limit: Option<u64>, reports: &mut Reports) -> Result<(), NonBlockError>
         requires { reports.old ≡ [] }
-        ensures waits { WaitsFor false false false (host_view self.old) (host_view self.new) reports.new result }
+        ensures waits { WaitsFor false false false limit (host_view self.old) (host_view self.new) reports.new result }
         ensures few { length reports.new ≤ MOST_EVENTS }
         ensures counted { ResultCounted self.old.counts self.new.counts result }
         ensures kinds { self.new.kinds ≡ self.old.kinds }
     {
         match self.poller.wait(&self.rt, limit, reports) {
-            Ok(()) => Ok(()),
+            Ok(()) => {
+                self.limit = limit;
+                Ok(())
+            }
             Err(why) => {
                 reports.clear();
                 Err(self.counts.fault(why))
             }
         }
+    }
+
+    /// A waker of the poll, which is registered when a bell is first asked for, with the key `BELL_KEY`; the poll is made then too, where
+    /// there is none yet. None where the system, or memory, refuses one of them.
+    fn bell(&mut self) -> Option<Bell>
+        ensures { self.new ≡ self.old }
+    {
+        self.poller.bell(&self.rt)
     }
 }
 

@@ -6,3 +6,4 @@ mod StepLaws
 mod StepSafety
 mod TableLemmas
 mod ViewLemmas
+pub mod Waiting

@@ -1,7 +1,10 @@
 //! The wake state under its lock.
-ghost use Rattle.std.specs.Prelude.{◌≡◌, Some, IfOk};
-ghost use Rattle.wake_core.specs.Sleeping.{new_sleeper};
+ghost use Rattle.std.specs.Prelude.{◌≡◌, Some, None, true, IfOk};
+ghost use Rattle.wake_core.specs.Ends.{came_to_wait};
+ghost use Rattle.wake_core.specs.Sleeping.{new_sleeper, limit_of};
 
+use crate::bell::Lookout;
+use crate::calls::Calls;
 use crate::fault::OutOfMemory;
 use crate::locked;
 use crate::locked::handle::Nudging;
@@ -13,43 +16,77 @@ use crate::state::{PUSH_PARTS, WakeState};
 use crate::unpark::UnparkHandle;
 use std::alloc::Global;
 use std::sync::ledger::{Blank, Ledger};
-use std::sync::{Arc, Condvar, Mutex, Wait};
+use std::sync::{Arc, Mutex, Wait};
 use std::time::Clock;
 
 // The state under its lock, and what the sleeper waits on. Each method takes the lock once for each step.
 #[derive(Drop)]
 pub(crate) struct Shared<P: Ledger, D: Ledger> {
     pub(crate) state: Mutex<WakeState<P, D>>,
-    pub(crate) token_set: Condvar,
+    pub(crate) calls: Calls,
 }
 
 impl<P: Ledger, D: Ledger> Shared<P, D> {
-    // Ends a sender's send: it reads the flag, and if that was false it sets the token, under a lock of its own, and
-    // notifies the sleeper.
+    // Ends a sender's send: it reads the flag, and if that was false it sets the token, under a lock of its own, notifies the sleeper,
+    // and rings the bell that hangs.
     pub(crate) fn end_send<R: Wait>(&self, rt: &R, end: &mut SenderEnd<P>)
         requires { end.old.due ≡ SendDue.ReadFlag }
         ensures { end.new ≡ record end.old { due = SendDue.Nothing } }
     {
         if !locked::sender::read_flag(&mut self.state.lock(rt), end) {
             locked::sender::set_token(&mut self.state.lock(rt), end);
-            locked::sender::notify(&self.token_set, end);
+            locked::sender::notify(&self.calls, end);
+            locked::sender::ring(&self.calls.bell.lock(rt), end);
         }
     }
 
-    // Makes an unpark: sets the token where the flag is false, and notifies the sleeper.
+    // Makes an unpark: sets the token where the flag is false, notifies the sleeper, and rings the bell that hangs.
     pub(crate) fn nudge<R: Wait>(&self, rt: &R, mut nudging: Nudging)
         requires { nudging.due ≡ SendDue.SetToken }
     {
         locked::handle::nudge(&mut self.state.lock(rt), &mut nudging);
-        locked::handle::notify(&self.token_set, nudging);
+        locked::handle::notify(&self.calls, &mut nudging);
+        locked::handle::ring(&self.calls.bell.lock(rt), nudging);
     }
 
-    // Waits while the sleeper sleeps, and no longer than the limit, in milliseconds.
-    pub(crate) fn sleep<R: Wait + Clock>(&self, rt: &R, limit: Option<u64>, end: &mut SleeperEnd<D>)
-        requires { end.old.due ≡ RoundDue.Rouse }
-        ensures { end.new ≡ record end.old { waited = Some limit } }
+    // Looks at the token of a sleeper that fell asleep, and answers whether it sleeps on. If so, it waits while it does, and no longer than
+    // the limit, in milliseconds.
+    pub(crate) fn sleep<R: Wait + Clock>(
+        &self,
+        rt: &R,
+        limit: Option<u64>,
+        end: &mut SleeperEnd<D>,
+    ) -> bool
+        requires { (end.old.due ≡ RoundDue.Rouse) × (end.old.waited ≡ None) }
+        ensures { end.new ≡ came_to_wait end.old result limit }
     {
-        let _state = locked::sleeper::wait(rt, &self.token_set, self.state.lock(rt), limit, end);
+        let mut state = self.state.lock(rt);
+        let asleep = locked::sleeper::look_at_token(&mut state, end);
+        if asleep {
+            let _state = locked::sleeper::wait(rt, &self.calls, state, limit, end);
+        }
+        asleep
+    }
+
+    // The same, and it waits in a lookout whose bell hangs. It looks out once, and doesn't wait if it doesn't sleep on.
+    pub(crate) fn look<L: Lookout, R: Wait>(
+        &self,
+        rt: &R,
+        place: &mut L,
+        limit: Option<u64>,
+        end: &mut SleeperEnd<D>,
+    ) -> (bool, L::Sight)
+        requires due { (end.old.due ≡ RoundDue.Rouse) × (end.old.waited ≡ None) }
+        requires hung { end.old.hung ≡ true }
+        ensures end { end.new ≡ came_to_wait end.old result.0 limit }
+        ensures looked { L.looked place.old (limit_of end.new.waited) place.new result.1 }
+    {
+        if !locked::sleeper::look_at_token(&mut self.state.lock(rt), end) {
+            return (false, place.look(Some(0)));
+        }
+        let sight = locked::sleeper::look(place, limit, end);
+        let _on = locked::sleeper::take_token(&mut self.state.lock(rt));
+        (true, sight)
     }
 }
 
@@ -78,7 +115,7 @@ impl<P: Ledger, D: Ledger> WakeCell<P, D> {
         let (state, pushes_share, drains_share) = WakeState::new(alloc, pushes, drains);
         let shared = Shared {
             state: Mutex::new(state),
-            token_set: Condvar::new(),
+            calls: Calls::new(),
         };
         let shared = Arc::new(alloc, shared).map_err(|_| OutOfMemory)?;
         let other = Arc::try_clone(&shared).map_err(|_| OutOfMemory)?;

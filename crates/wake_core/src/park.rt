@@ -1,12 +1,13 @@
 //! The thread that drains wakers and sleeps.
-ghost use Rattle.std.specs.Prelude.{◌≡◌, ◌+◌, ◌↔◌, length, None, Some, if◌then◌else◌, IfOk, OnErr, Err};
+ghost use Rattle.std.specs.Prelude.{◌≡◌, ◌+◌, ◌↔◌, length, None, IfOk, OnErr, Err};
 ghost use Rattle.wake_core.specs.Remote.{new_remote, sent_by};
-ghost use Rattle.wake_core.specs.Sleeping.{new_sleeper};
+ghost use Rattle.wake_core.specs.Sleeping.{new_sleeper, is_still, Waits, LooksOut};
 ghost use Rattle.wake_core.specs.WakerList.{IsInOrder};
 
+use crate::bell::Lookout;
 use crate::cell::Shared;
 use crate::locked;
-use crate::locked::sleeper::SleeperEnd;
+use crate::locked::sleeper::{RoundDue, SleeperEnd};
 use crate::remote::{RemoteSender, gather};
 use crate::state::{MAX_SENDERS, PUSH_PARTS};
 use crate::waker::WakerList;
@@ -16,6 +17,9 @@ use std::sync::ledger::{Ledger, Share};
 use std::sync::{Arc, Wait};
 use std::time::Clock;
 use thiserror::Error;
+
+/// The longest wait of a park over what has no bell, in milliseconds: it looks out behind the wait. (not in monoio)
+pub const MOST_MILLIS: u64 = 1;
 
 /// Why no sender was made. The sleeper is as it was. (not in monoio)
 #[derive(Clone, Copy, Debug, PartialEq, Eq, Error)]
@@ -49,8 +53,8 @@ pub struct Settled {
 /// What drains wakers, and sleeps while there are none: it belongs to the thread of a driver.
 ///
 /// A contract sees how many senders it made, how many wakers its drains gave, what the two drains of its last round gave,
-/// what its last `settle` gave, and whether its last round waited, and with which limit. It makes at most `MAX_SENDERS`
-/// senders ever. (not in monoio, where a driver itself parks)
+/// what its last `settle` gave, whether it slept when its last round came to its wait, and whether the round waited, and with which limit.
+/// It makes at most `MAX_SENDERS` senders ever. (not in monoio, where a driver itself parks)
 #[derive(Drop)]
 pub struct Sleeper<P: Ledger, D: Ledger> {
     alloc: Global,
@@ -61,7 +65,7 @@ pub struct Sleeper<P: Ledger, D: Ledger> {
 }
 
 impl<P: Ledger, D: Ledger> Model for Sleeper<P, D> {
-    ghost use Rattle.std.specs.Prelude.{◌≡◌, ◌+◌, ◌≤◌};
+    ghost use Rattle.std.specs.Prelude.{◌≡◌, ◌+◌, ◌≤◌, false};
     ghost use Rattle.wake_core.specs.Sleeping.{Sleeping};
     ghost use Rattle.wake_core.specs.declared.locked.sleeper.RoundDue.TheVariants.{DrainFirst};
     ghost use Rattle.wake_core.specs.declared.state.TheConstants.{MAX_SENDERS, PUSH_PARTS};
@@ -74,12 +78,54 @@ impl<P: Ledger, D: Ledger> Model for Sleeper<P, D> {
       first = s.drains.first;
       again = s.drains.again;
       rest = s.drains.rest;
+      asleep = s.drains.asleep;
       waited = s.drains.waited;
     } };
 
-    // No call of a round is left out.
+    // No call of a round is left out, and no bell is left hanging.
     ghost invariant = { λ s. (P.parts ≡ PUSH_PARTS) × (D.parts ≡ 1) × (s.unmade.parts + s.made ≡ PUSH_PARTS)
-        × (s.made ≤ MAX_SENDERS) × (s.unmade.amount ≡ 0) × (s.drains.due ≡ DrainFirst) };
+        × (s.made ≤ MAX_SENDERS) × (s.unmade.amount ≡ 0) × (s.drains.due ≡ DrainFirst) × (s.drains.hung ≡ false) };
+}
+
+// The first half of a round: drains, clears the flag, drains again and falls asleep, each under a lock of its own.
+fn fall_asleep<P: Ledger, D: Ledger, R: Wait>(
+    rt: &R,
+    alloc: Global,
+    shared: &Shared<P, D>,
+    end: &mut SleeperEnd<D>,
+) -> Woken
+    requires { end.old.due ≡ RoundDue.DrainFirst }
+    ensures end { end.new ≡ record end.old {
+      taken = (end.old.taken + length result.first) + length result.again;
+      first = result.first;
+      again = result.again;
+      asleep = None;
+      waited = None;
+      due = RoundDue.Rouse;
+    } }
+    ensures order { IsInOrder result.first × IsInOrder result.again }
+{
+    let first = locked::sleeper::drain_first(alloc, &mut shared.state.lock(rt), end);
+    locked::sleeper::clear_flag(&mut shared.state.lock(rt), end);
+    let again = locked::sleeper::drain_again(alloc, &mut shared.state.lock(rt), end);
+    locked::sleeper::fall_asleep(&mut shared.state.lock(rt), end);
+    Woken { first, again }
+}
+
+// Nothing stands, so that the round may wait.
+fn is_still(ready: bool, woken: &Woken) -> bool
+    ensures { result ≡ is_still ready woken.now.first woken.now.again }
+{
+    !ready && woken.first.is_empty() && woken.again.is_empty()
+}
+
+// The second half of a round: gets up, and sets the flag, each under a lock of its own.
+fn get_up<P: Ledger, D: Ledger, R: Wait>(rt: &R, shared: &Shared<P, D>, end: &mut SleeperEnd<D>)
+    requires { end.old.due ≡ RoundDue.Rouse }
+    ensures { end.new ≡ record end.old { due = RoundDue.DrainFirst } }
+{
+    locked::sleeper::rouse(&mut shared.state.lock(rt), end);
+    locked::sleeper::set_flag(&mut shared.state.lock(rt), end);
 }
 
 impl<P: Ledger, D: Ledger> Sleeper<P, D> {
@@ -135,8 +181,8 @@ impl<P: Ledger, D: Ledger> Sleeper<P, D> {
     /// One round: drains, clears the flag, drains again, falls asleep, waits for the token, gets up, and sets the flag. Each
     /// of these calls is made, under a lock of its own, and makes its step if the stage that it finds admits it.
     ///
-    /// It doesn't wait if `ready` is true, nor if a drain gave something. Else it waits until a sender or a handle sets the
-    /// token, and no longer than `limit` milliseconds if there is a limit. Nothing else ends the wait: a completion that
+    /// It doesn't wait if `ready` is true, if a drain gave something, or if the token is set. Else it waits until a sender or a handle sets
+    /// the token, and no longer than `limit` milliseconds if there is a limit. Nothing else ends the wait: a completion that
     /// comes to a ring meanwhile doesn't. Takes no memory. (monoio: `Driver::park` and `park_timeout`, without the ring)
     pub fn park<R: Wait + Clock>(&mut self, rt: &R, limit: Option<u64>, ready: bool) -> Woken
         // The two lists are what the two drains of this round gave, and the share of drains grew by their lengths.
@@ -144,22 +190,61 @@ impl<P: Ledger, D: Ledger> Sleeper<P, D> {
         ensures taken { self.new.taken ≡ (self.old.taken + length result.first) + length result.again }
         ensures order { IsInOrder result.first × IsInOrder result.again }
 
-        // It waited exactly if it wasn't ready, with the limit that it was given.
-        ensures waited { self.new.waited ≡ (if ready then None else Some limit) }
+        // It came to its wait exactly if it wasn't ready and no drain gave something, and waited, with the limit that it was given, exactly
+        // if the token wasn't set then.
+        ensures waited { Waits (is_still ready result.first result.again) limit self.new }
         ensures kept { (self.new.made ≡ self.old.made) × (self.new.rest ≡ self.old.rest) }
     {
         let alloc = self.alloc;
         let (shared, end) = (&self.shared, &mut self.drains);
-        let first = locked::sleeper::drain_first(alloc, &mut shared.state.lock(rt), end);
-        locked::sleeper::clear_flag(&mut shared.state.lock(rt), end);
-        let again = locked::sleeper::drain_again(alloc, &mut shared.state.lock(rt), end);
-        locked::sleeper::fall_asleep(&mut shared.state.lock(rt), end);
-        if !ready {
+        let woken = fall_asleep(rt, alloc, shared, end);
+        if is_still(ready, &woken) {
             shared.sleep(rt, limit, end);
         }
-        locked::sleeper::rouse(&mut shared.state.lock(rt), end);
-        locked::sleeper::set_flag(&mut shared.state.lock(rt), end);
-        Woken { first, again }
+        get_up(rt, shared, end);
+        woken
+    }
+
+    /// A round as `park` makes it, which looks out once, in the place of the wait. The lookout is asked for its bell first. Where it has
+    /// one, the round waits in it, with the whole limit: each sender and each handle that sets the token rings the bell, which hangs from
+    /// before the first drain until the round is over. Where it has none, the round waits as `park` does, `MOST_MILLIS` at most, and then
+    /// looks out without a wait.
+    ///
+    /// It doesn't wait where `park` doesn't, but looks out all the same. It may come back with nothing. Takes no memory but what the
+    /// lookout takes. (monoio: `park` and `park_timeout` of its legacy driver)
+    pub fn park_in<L: Lookout, R: Wait + Clock>(
+        &mut self,
+        rt: &R,
+        place: &mut L,
+        limit: Option<u64>,
+        ready: bool,
+    ) -> (Woken, L::Sight)
+        ensures given { (self.new.first ≡ result.0.first) × (self.new.again ≡ result.0.again) }
+        ensures taken { self.new.taken ≡ (self.old.taken + length result.0.first) + length result.0.again }
+        ensures order { IsInOrder result.0.first × IsInOrder result.0.again }
+
+        // It came to its wait as `park` does. The look has the limit of the wait that it was, and 0 if it was none.
+        ensures looked { let still = is_still ready result.0.first result.0.again in
+            LooksOut L.looked still limit self.new place.old place.new result.1 }
+        ensures kept { (self.new.made ≡ self.old.made) × (self.new.rest ≡ self.old.rest) }
+    {
+        let Some(bell) = place.bell() else {
+            let most = limit.unwrap_or(MOST_MILLIS).min(MOST_MILLIS);
+            let woken = self.park(rt, Some(most), ready);
+            return (woken, place.look(Some(0)));
+        };
+        let alloc = self.alloc;
+        let (shared, end) = (&self.shared, &mut self.drains);
+        locked::sleeper::hang(&mut shared.calls.bell.lock(rt), bell, end);
+        let woken = fall_asleep(rt, alloc, shared, end);
+        let sight = if is_still(ready, &woken) {
+            shared.look(rt, place, limit, end).1
+        } else {
+            place.look(Some(0))
+        };
+        get_up(rt, shared, end);
+        locked::sleeper::take_down(&mut shared.calls.bell.lock(rt), end);
+        (woken, sight)
     }
 
     /// The last drain, once all senders are returned: what all drains gave is what these senders sent. Takes no memory.

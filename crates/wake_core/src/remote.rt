@@ -92,7 +92,7 @@ impl<P: Ledger, D: Ledger> RemoteSender<P, D> {
     }
 
     /// Sends a waker for a task, and wakes the sleeper if it sleeps: pushes the waker, reads the flag, and if that was false
-    /// sets the token and notifies the sleeper. Each of the first three is under a lock of its own.
+    /// sets the token, notifies the sleeper and rings the bell that hangs, if one does. Each of the first three is under a lock of its own.
     ///
     /// The sender sent fewer than `MAX_PUSHED` wakers, as `sent` says; afterwards it sent one more, and the last was for this
     /// task. `OutOfMemory`, the one error, comes if the queue can't grow: nothing was sent and the sender is as it was.

@@ -18,7 +18,8 @@ pub enum UnparkError {
 
 /// What wakes a sleeper. (monoio: `Unpark`)
 pub trait Unpark {
-    /// Wakes the sleeper if it sleeps or is about to. (monoio: `Unpark::unpark`)
+    /// Wakes the sleeper if it sleeps or is about to. It is kept for no later sleep: a condition is told by `RemoteSender::send`.
+    /// (monoio: `Unpark::unpark`)
     fn unpark<R: Wait>(&self, rt: &R) -> Result<(), UnparkError>;
 }
 
@@ -49,9 +50,11 @@ impl<P: Ledger, D: Ledger> UnparkHandle<P, D> {
 }
 
 impl<P: Ledger, D: Ledger> Unpark for UnparkHandle<P, D> {
-    /// Nudges the state once: if the flag is false, because the sleeper sleeps or is about to, it sets the token; then it
-    /// notifies the sleeper. If the sleeper is awake or was dropped, nothing changes. Takes no memory, and is always Ok.
-    /// (monoio: `UnparkHandle::unpark`)
+    /// Nudges the state once: if the flag is false, because the sleeper sleeps or is about to, it sets the token; then it notifies the
+    /// sleeper, and rings the bell that hangs, if one does. If the flag is true, because the sleeper is awake or was dropped, the state
+    /// stays as it is, and the unpark is kept for no later park; a ring that comes too late makes one wait in a poll come back with
+    /// nothing. So it is for ending a park that is under way, and a condition that the sleeper's thread is to see is told by
+    /// `RemoteSender::send`. Takes no memory, and is always Ok. (monoio: `UnparkHandle::unpark`)
     fn unpark<R: Wait>(&self, rt: &R) -> Result<(), UnparkError>
         ensures { IsOk result }
     {

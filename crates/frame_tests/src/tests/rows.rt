@@ -55,6 +55,47 @@ fn rows_are_read(rt: HostRuntime) -> Result<(), Fail> {
     Ok(())
 }
 
+// Whole pieces, and how many bytes they have.
+const FRONTS: &[(&[u8], u64)] = &[
+    (b"", 0),
+    (b"\x06\x01\x01a", 4),
+    (b"\x06\x01\x01a\x80\x01\x00\x01\x05\x02\x01ab", 13),
+];
+
+// What stands behind them, the fault that it is, and how many bytes the whole pieces among it have.
+#[rattlefmt::skip]
+const BAD: &[(&[u8], FrameFault, u64)] = &[
+    (b"\x80\x00", FrameFault::Number, 0),
+    (b"\x05\xff\xff\xff\xff\xff\xff\xff\xff\xff\x01", FrameFault::Number, 0),
+    (b"\x05\x81\x80\x04\x01", FrameFault::Large, 0),
+    (b"\x05\x00\x02", FrameFault::Flag, 0),
+    (b"\x05\x00\xff", FrameFault::Flag, 0),
+    (b"\x05\x01\x00a\x06\x01\x00b", FrameFault::Channels, 4),
+    (b"\x05\x03\x01abc", FrameFault::Long, 0),
+    (b"\x05\x02\x00ab\x05\x01\x01c", FrameFault::Long, 5),
+    (b"\x05", FrameFault::Cut, 0),
+    (b"\x05\x02\x01a", FrameFault::Cut, 0),
+    (b"\x05\x02\x00ab", FrameFault::Cut, 5),
+];
+
+#[test]
+fn each_fault_has_its_offset(rt: HostRuntime) -> Result<(), Fail> {
+    for &(front, size) in FRONTS {
+        for &(behind, fault, whole) in BAD {
+            let mut bytes = front.to_vec(rt.alloc())?;
+            bytes.extend_from_slice(behind)?;
+            let mut messages = Vec::new(rt.alloc());
+            let ended = read(rt.alloc(), SMALL, bytes.as_slice(), &mut messages)?;
+            assert_eq!(rt;
+                ended,
+                (Some(fault), size + whole),
+                "of {behind:?} behind {size} bytes"
+            );
+        }
+    }
+    Ok(())
+}
+
 // A stream, its messages, and how many bytes the whole pieces have, with how many messages and whether no channel is open.
 const WHOLE: &[u8] = b"\x05\x02\x00ab\x06\x01\x01x\x05\x01\x01c";
 

@@ -2,8 +2,8 @@
 use super::rows::STANDARD;
 use super::stage::{are, read};
 use frame_io::{FrameFault, FrameWriter, MOST_IN_MESSAGE, Message};
-use rent_buf::ByteList;
-use rent_io::{AsyncWriteRent, ScriptedStream, Sink as _, SinkDone, SinkPoll, Turned1};
+use rent_buf::{ByteList, IoFault};
+use rent_io::{AsyncWriteRent, PollCount, ScriptedStream, Sink as _, SinkDone, SinkPoll, Turned1};
 use std::alloc::{AllocError, Global};
 use std::test::Fail;
 
@@ -14,6 +14,9 @@ trait Post {
 
     // A poll of a flush: whether it is done, or a fault.
     fn flush(&mut self) -> Result<bool, FrameFault>;
+
+    // Polls that tell a pause, of flushes until one is done, and then of closes.
+    fn polls(&mut self, answers: &mut Vec<PollCount>) -> Result<(), AllocError>;
 
     // What is buffered.
     fn held(&self) -> &[u8];
@@ -33,6 +36,25 @@ impl<W: AsyncWriteRent> Post for FrameWriter<W> {
             SinkDone::Ready(Err(fault)) => Err(fault),
             SinkDone::Pending => Ok(false),
         }
+    }
+
+    fn polls(&mut self, answers: &mut Vec<PollCount>) -> Result<(), AllocError> {
+        let mut flushed = false;
+        for _ in 0..9 {
+            let answer = if flushed {
+                self.close_once(0)
+            } else {
+                self.flush_once(0)
+            };
+            answers.push(answer)?;
+            if let PollCount::Ready(Ok(_)) = answer {
+                if flushed {
+                    return Ok(());
+                }
+                flushed = true;
+            }
+        }
+        Ok(())
     }
 
     fn held(&self) -> &[u8] {
@@ -84,6 +106,32 @@ fn messages_are_sent(rt: HostRuntime) -> Result<(), Fail> {
         assert_eq!(rt;
             (stream.delivered(), faults),
             (want, wanted),
+            "in the row {name:?}"
+        );
+    }
+    Ok(())
+}
+
+// What the row shows, the script, and what polls of a writer of one message answer.
+#[rattlefmt::skip]
+const POLLS: &[(&str, &[Turned1], &[PollCount])] = &[
+    ("all is written", &[], &[PollCount::Again, PollCount::Ready(Ok(0)), PollCount::Ready(Ok(0))]),
+    ("a short write, a pause and an interrupt", &[Turned1::Grant(2), Turned1::Pause, Turned1::Interrupt],
+        &[PollCount::Again, PollCount::Pending, PollCount::Again, PollCount::Again, PollCount::Ready(Ok(0)), PollCount::Ready(Ok(0))]),
+    ("a pause of the flush, and a fault of the close", &[Turned1::Grant(9), Turned1::Pause, Turned1::Grant(0), Turned1::Fault(5)],
+        &[PollCount::Again, PollCount::Pending, PollCount::Ready(Ok(0)), PollCount::Ready(Err(IoFault::Os(5))), PollCount::Ready(Ok(0))]),
+];
+
+#[test]
+fn polls_tell_a_pause(rt: HostRuntime) -> Result<(), Fail> {
+    for &(name, script, want) in POLLS {
+        let mut writer = writer(rt.alloc(), script)?;
+        let mut answers = Vec::new(rt.alloc());
+        let refused = writer.send(5, ByteList::from_vec(b"ab".to_vec(rt.alloc())?));
+        writer.polls(&mut answers)?;
+        assert_eq!(rt;
+            (refused, answers.as_slice(), writer.get_ref().delivered()),
+            (None, want, b"\x05\x02\x01ab".as_slice()),
             "in the row {name:?}"
         );
     }

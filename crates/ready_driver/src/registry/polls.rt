@@ -6,7 +6,7 @@ ghost use Rattle.driver_core.specs.Op.{Holds, number_of, key_of};
 ghost use Rattle.ready_driver.specs.ScheduledIo.{waiter_of};
 ghost use Rattle.ready_driver.specs.Records.{io_at, changed, with_io};
 ghost use Rattle.ready_driver.specs.Legacy.{Legacy};
-ghost use Rattle.ready_driver.specs.Calling.{CallsOnce};
+ghost use Rattle.ready_driver.specs.LegacyPolls.{PollsCall};
 ghost use Rattle.ready_driver.specs.Errors.{ReturnsFor};
 ghost use Rattle.ready_driver.specs.Io.{IsLater};
 ghost use Rattle.ready_driver.specs.Named.{PollsSlotFor};
@@ -42,7 +42,7 @@ impl<I: NonBlock> Registry<I> {
             PollsFor B.buffer D op ops.new (I.view self.new.io).world result }
         ensures blocks { BlocksUnless (IsSlotUnmet self.old.records (map.get ops.old.slots.values (key_of op)))
             (I.view self.old.io) (I.view self.new.io) result }
-        ensures calls { CallsOnce B.buffer I.called (map.get ops.old.slots.values (key_of op)) self.old.io
+        ensures calls { PollsCall I.files B.buffer I.called self.old (map.get ops.old.slots.values (key_of op))
             (map.get ops.new.slots.values (key_of op)) self.new.io result }
         ensures returns { ReturnsFor (map.get ops.old.slots.values (key_of op)) (I.view self.old.io) (I.view self.new.io) result }
         ensures leaves { LeavesFor (unless (I.files self.old.io) (slot_awaits (map.get ops.old.slots.values (key_of op))))

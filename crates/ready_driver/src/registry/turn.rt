@@ -9,6 +9,7 @@ use crate::non_block::{NonBlock, NonBlockError, Report, Reports};
 use crate::records::Records;
 use crate::registry::Registry;
 use rent_buf::OutOfMemory;
+use wake_core::Bell;
 
 impl<I: NonBlock> Registry<I> {
     /// Waits for reports, no longer than so many milliseconds, and puts them into an empty list. `Fault` comes only where the object
@@ -16,10 +17,17 @@ impl<I: NonBlock> Registry<I> {
     /// driver)
     pub fn wait(&mut self, limit: Option<u64>, reports: &mut Reports) -> Result<(), NonBlockError>
         requires { reports.old ≡ [] }
-        ensures waits { WaitsFor I.tells I.reporting I.memory (I.view self.old.io) (I.view self.new.io) reports.new result }
+        ensures waits { WaitsFor I.tells I.reporting I.memory limit (I.view self.old.io) (I.view self.new.io) reports.new result }
         ensures rest { self.new ≡ record self.old { io = self.new.io } }
     {
         self.io.wait(limit, reports)
+    }
+
+    /// What ends a wait of the object from another thread, if something does. (not in monoio)
+    pub fn bell(&mut self) -> Option<Bell>
+        ensures { self.new ≡ self.old }
+    {
+        self.io.bell()
     }
 
     /// Treats reports, in order: the bits of each are added to those of the handle of its key, and the tasks that wait in a direction that

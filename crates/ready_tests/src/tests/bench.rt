@@ -14,7 +14,7 @@ use std::net::Net;
 use std::sync::Wait;
 use std::sync::ledger::Ledger;
 use std::time::Clock;
-use wake_core::Sleeper;
+use wake_core::{Sleeper, Woken};
 
 /// An object that tells how many of its handles are open.
 pub(crate) trait Opens {
@@ -230,6 +230,14 @@ impl<'a, I: Sockets + Opens, P: Ledger, D: Ledger, T: Wait + Clock> Stage
         let parked = self.driver.park_timeout(self.rt, self.sleeper, 1);
         match parked.turned.stop {
             None => Ok(()),
+            Some(_) => Err(Why::Unlike),
+        }
+    }
+
+    fn park_on(&mut self) -> Result<Woken, Why> {
+        let parked = self.driver.park(self.rt, self.sleeper);
+        match parked.turned.stop {
+            None => Ok(parked.remote),
             Some(_) => Err(Why::Unlike),
         }
     }

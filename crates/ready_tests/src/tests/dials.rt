@@ -27,8 +27,8 @@ fn filled(alloc: Global, bytes: &[u8]) -> Result<Rent, Why> {
     Ok(buf)
 }
 
-// A listener on the first port that is free, and the port.
-fn listens<S: Stage>(stage: &mut S) -> Result<(u64, u16), Why> {
+/// A listener on the first port that is free, and the port.
+pub(crate) fn listens<S: Stage>(stage: &mut S) -> Result<(u64, u16), Why> {
     for port in FIRST..FIRST + PORTS {
         match stage.listen(port) {
             Ok(h) => return Ok((h, port)),
@@ -97,8 +97,21 @@ fn meets_nobody<S: Stage>(stage: &mut S, alloc: Global, port: u16) -> Result<(),
     }
 }
 
+// An accept that waits holds its listener, of which its user drops the only hold, which isn't the last: a dial still comes through.
+fn outlives<S: Stage>(stage: &mut S, listener: u64, port: u16) -> Result<(), Why> {
+    let fd = SharedFd::new(listener);
+    pends(stage, 1, Request::Accept { fd })?;
+    is_like(stage.release(listener) == Err(Why::Unlike))?;
+    let near = dials(stage, port)?;
+    match finish(stage, 1)?.outcome {
+        Outcome::Made(far) => stage.release(far)?,
+        _ => return Err(Why::Unlike),
+    }
+    stage.release(near)
+}
+
 /// A driver listens, dials and accepts: bytes come over. A port that is taken, and one on which nobody listens, are told by their numbers.
-/// Nothing is left behind them.
+/// An accept that waits outlives its user's hold of the listener, which is closed behind it. Nothing is left behind them.
 pub(crate) fn dials_and_accepts<S: Stage>(stage: &mut S, alloc: Global) -> Result<(), Why> {
     let (listener, port) = listens(stage)?;
     let near = dials(stage, port)?;
@@ -107,7 +120,7 @@ pub(crate) fn dials_and_accepts<S: Stage>(stage: &mut S, alloc: Global) -> Resul
     carries(stage, alloc, far, near, b"hello back", 10)?;
     waits(stage, alloc, near, far)?;
     is_like(stage.listen(port) == Err(NonBlockError::Fault(TAKEN)))?;
-    stage.release(listener)?;
+    outlives(stage, listener, port)?;
     meets_nobody(stage, alloc, port)?;
     stage.release(near)?;
     stage.release(far)?;

@@ -1,8 +1,8 @@
 // Many connections that are open at once.
+use crate::tests::dials::listens;
 use crate::tests::scene::{Scene, play_on};
-use crate::tests::sockets::{listen, opens};
+use crate::tests::sockets::opens;
 use crate::tests::stage::{Stage, Why, is_like, moved, receive, run, send};
-use ready_driver::Sockets;
 use rent_buf::{IoBuf as _, IoBufMut as _, Rent};
 use ring_core::{Outcome, Request, SharedFd};
 use socket_io::MioIo;
@@ -24,20 +24,11 @@ fn most(rt: &HostRuntime, alloc: Global) -> u64 {
 }
 
 // The handle 0 listens, and so many handles from 1 on dial it.
-fn dials<I: Sockets>(io: &mut I, count: u64) -> bool {
-    let port = listen(io, 40617);
-    for _ in 0..count {
-        if io.dial(port).is_err() {
-            return false;
-        }
-    }
-    true
-}
-
-// The handles from 0 to a number, which isn't one of them, are adopted.
-fn adopts<S: Stage>(stage: &mut S, end: u64) -> Result<(), Why> {
-    for h in 0..end {
-        stage.adopt(h)?;
+fn dials<S: Stage>(stage: &mut S, count: u64) -> Result<(), Why> {
+    let (listener, port) = listens(stage)?;
+    is_like(listener == 0)?;
+    for h in 1..count.saturating_add(1) {
+        is_like(stage.dial(port) == Ok(h))?;
     }
     Ok(())
 }
@@ -80,10 +71,10 @@ fn tell_all<S: Stage>(stage: &mut S, alloc: Global, count: u64) -> Result<(), Wh
     is_like(sum == 0)
 }
 
-/// So many handles, from 1 on, dialled the handle 0: each connection is accepted, and all are open at once while a number is sent over
-/// each. Nothing is left behind them.
+/// A driver listens, and dials so often: each connection is accepted, and all are open at once while a number is sent over each. Nothing is
+/// left behind them.
 pub(crate) fn many<S: Stage>(stage: &mut S, alloc: Global, count: u64) -> Result<(), Why> {
-    adopts(stage, count.saturating_add(1))?;
+    dials(stage, count)?;
     for h in 1..count.saturating_add(1) {
         accepts(stage, count.saturating_add(h))?;
     }
@@ -98,8 +89,6 @@ pub(crate) fn many<S: Stage>(stage: &mut S, alloc: Global, count: u64) -> Result
 fn many_connections_are_open(rt: HostRuntime) -> Result<(), Fail> {
     let alloc = rt.alloc();
     let count = most(&rt, alloc);
-    let mut io = MioIo::new(&rt, alloc);
-    assert!(rt; dials(&mut io, count));
-    play_on(&rt, alloc, io, Scene::Many(count))?;
+    play_on(&rt, alloc, MioIo::new(&rt, alloc), Scene::Many(count))?;
     Ok(())
 }

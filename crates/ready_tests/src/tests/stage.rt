@@ -5,6 +5,7 @@ use ready_driver::{NonBlockError, Ready};
 use rent_buf::{OutOfMemory, Rent, VecBuf};
 use ring_core::{Outcome, Request, SharedFd};
 use thiserror::Error;
+use wake_core::Woken;
 
 /// A request with a buffer of a stated total.
 pub(crate) type Asked = Request<Rent, VecBuf>;
@@ -60,6 +61,9 @@ pub(crate) trait Stage {
 
     /// A park with a limit of a millisecond. Its turn doesn't stop.
     fn park(&mut self) -> Result<(), Why>;
+
+    /// A park without a limit, and what it drained. Its turn doesn't stop.
+    fn park_on(&mut self) -> Result<Woken, Why>;
 
     /// Whether the user holds a handle, it is known, and a request may name it.
     fn handle(&self, h: u64) -> (bool, bool, bool);

@@ -2,8 +2,8 @@
 use crate::tests::text::{lines_of, list_of, pairs_of, split_words};
 use rent_buf::NumList;
 use rent_io::{MemSink, MemSource};
-use session_core::Status;
 use session_core::top::top;
+use session_core::{Status, Stop};
 use std::alloc::{AllocError, Global};
 use std::rt::Clock;
 use std::sync::Wait;
@@ -29,11 +29,12 @@ pub(crate) fn calm<'a>(words: &'a str, input: &'a [u8]) -> Call<'a> {
     }
 }
 
-/// What a run left: its status, and what it wrote to.
+/// What a run left: its status, what it wrote to, and the line that it named.
 #[derive(Drop)]
 pub(crate) struct Ran {
     pub status: Status,
     pub sink: MemSink,
+    pub stop: Option<Stop>,
 }
 
 /// Why a run isn't as a row says.
@@ -73,8 +74,17 @@ fn run_top<R: Threads + Wait + Clock + Sync>(
     mut sink: MemSink,
 ) -> Ran {
     let mut kept = None;
-    let status = top(rt, alloc, words, &mut source, &mut sink, &mut kept);
-    Ran { status, sink }
+    let mut stop = None;
+    let status = top(
+        rt,
+        alloc,
+        words,
+        &mut source,
+        &mut sink,
+        &mut kept,
+        &mut stop,
+    );
+    Ran { status, sink, stop }
 }
 
 /// Runs the program over memory.

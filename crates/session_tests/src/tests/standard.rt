@@ -66,7 +66,16 @@ fn run<R: Threads + Wait + Clock + Sync, S: ByteSource, K: ByteSink>(
 ) -> Result<(Status, bool), AllocError> {
     let words = split_words(alloc, "run 1")?;
     let mut kept = None;
-    let status = top(rt, alloc, words.as_slice(), source, sink, &mut kept);
+    let mut stop = None;
+    let status = top(
+        rt,
+        alloc,
+        words.as_slice(),
+        source,
+        sink,
+        &mut kept,
+        &mut stop,
+    );
     Ok((status, kept.is_some()))
 }
 

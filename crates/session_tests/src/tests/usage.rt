@@ -1,14 +1,18 @@
 // What the program tells a person, and the number with which it ends.
-use crate::tests::text::split_words;
+use crate::tests::program::{calm, run};
+use crate::tests::text::{lines_of, split_words};
 use rent_io::Failed;
 use session_core::usage::{Asked, HELP, Known, answer, asked_of, end_unread, end_with};
 use session_core::{RunError, Status};
-use std::alloc::Global;
+use std::alloc::{AllocError, Global};
 use std::cell::Cell;
 use std::fmt::Display;
 use std::io;
 use std::process::ExitCode;
+use std::rt::Clock;
+use std::sync::Wait;
 use std::test::Fail;
+use std::thread::Threads;
 
 // A terminal that keeps the last line of each kind, and may refuse those of standard output.
 #[derive(Drop)]
@@ -72,14 +76,15 @@ fn is_line(kept: &Cell<Option<String>>, line: Option<&str>) -> bool {
 
 // Each status, its number, and the line that standard error gets where nothing more is known.
 #[rattlefmt::skip]
-const STATUSES: [(Status, u8, Option<&str>); 7] = [
+const STATUSES: [(Status, u8, Option<&str>); 8] = [
     (Status::Done, 0, None),
     (Status::BadWords, 1, Some("session_run: no command is named; see --help")),
-    (Status::BadLine, 2, None),
+    (Status::BadLine, 2, Some("session_run: a line is no event")),
     (Status::TooLong, 3, Some("session_run: the input has more than 16777216 bytes")),
     (Status::ReadFault, 4, Some("session_run: reading the input failed")),
     (Status::WriteFault, 5, Some("session_run: writing the output failed")),
     (Status::OutOfMemory, 6, Some("session_run: out of memory")),
+    (Status::BadFrame, 8, Some("session_run: the input has an invalid piece")),
 ];
 
 #[test]
@@ -97,26 +102,70 @@ fn each_status_has_its_number_and_line(rt: HostRuntime) -> Result<(), Fail> {
     Ok(())
 }
 
+// Words, an input in which `;` stands for a newline, and the line that standard error gets.
+#[rattlefmt::skip]
+const TOLD: [(&str, &str, &str); 9] = [
+    ("run 8", "give stream;turn;exec 0 no 1;turn;", "session_run: line 3, word 3: expected 'ok' or 'err'"),
+    ("run 8", "feed 0 6;", "session_run: line 1, word 3: expected bytes: pairs of the digits 0-9a-f, or '-' for none, but it has an odd number of digits"),
+    ("run 8", "cancel 0;canceller 0", "session_run: line 2, word 2: expected the end of the line"),
+    ("ready", "give stream;turn;", "session_run: line 2, word 1: expected an event other than turn and exec, which 'ready' doesn't take"),
+    ("ready", "give stream;end;", "session_run: line 2, word 2: expected the number of a handle (0 to 18446744073709551615), but the line ends before it"),
+    ("run 8", "give stream;submit recv 0 v 18446744073709551615 0 0 -;", "session_run: line 2: out of memory"),
+    ("ready", "give stream;look 0;submit recv 0 v 18446744073709551615 0 0 -;", "session_run: line 3: out of memory"),
+    ("run 0", "", "session_run: run: capacity '0' is not a number from 1 to 4294967295; see --help"),
+    ("walk", "", "session_run: 'walk' is no command; see --help"),
+];
+
+// What standard error gets behind a run.
+fn told<R: Threads + Wait + Clock + Sync>(
+    rt: &R,
+    alloc: Global,
+    words: &str,
+    input: &str,
+) -> Result<Option<String>, AllocError> {
+    let terminal = new_terminal(alloc, false);
+    let input = lines_of(alloc, input)?;
+    let ran = run(rt, alloc, calm(words, input.as_slice()))?;
+    let words = split_words(alloc, words)?;
+    let known = Known {
+        words: words.as_slice(),
+        stop: ran.stop,
+        read: None,
+        write: None,
+    };
+    let _ = end_with(&terminal, ran.status, known);
+    Ok(terminal.error.take())
+}
+
 #[test]
-fn the_reason_is_told(rt: HostRuntime) -> Result<(), Fail> {
+fn a_person_is_told_which_word_is_wrong(rt: HostRuntime) -> Result<(), Fail> {
+    for (words, input, wanted) in TOLD {
+        let line = told(&rt, rt.alloc(), words, input)?;
+        assert_eq!(rt; line.as_deref(), Some(wanted), "for {words:?} on {input:?}");
+    }
+    Ok(())
+}
+
+#[test]
+fn the_system_s_reason_is_told(rt: HostRuntime) -> Result<(), Fail> {
     let terminal = new_terminal(rt.alloc(), false);
-    let words = split_words(rt.alloc(), "run 0")?;
+    let unsupported = || io::Error::from(io::ErrorKind::Unsupported);
     let mut known = Known::nothing();
-    known.words = words.as_slice();
-    let _ = end_with(&terminal, Status::BadWords, known);
-    assert!(rt;
-        is_line(
-            &terminal.error,
-            Some("session_run: run: capacity '0' is not a number from 1 to 4294967295; see --help")
-        )
-    );
-    let mut known = Known::nothing();
-    known.read = Some(io::Error::from(io::ErrorKind::Unsupported));
+    known.read = Some(unsupported());
     let _ = end_with(&terminal, Status::ReadFault, known);
     assert!(rt;
         is_line(
             &terminal.error,
             Some("session_run: reading the input failed: unsupported")
+        )
+    );
+    let mut known = Known::nothing();
+    known.write = Some(unsupported());
+    let _ = end_with(&terminal, Status::WriteFault, known);
+    assert!(rt;
+        is_line(
+            &terminal.error,
+            Some("session_run: writing the output failed: unsupported")
         )
     );
     let unread = io::Error::from(io::ErrorKind::InvalidData);
@@ -127,45 +176,58 @@ fn the_reason_is_told(rt: HostRuntime) -> Result<(), Fail> {
             Some("session_run: an argument is not UTF-8; see --help")
         )
     );
-    let unread = io::Error::from(io::ErrorKind::Unsupported);
-    assert!(rt; end_unread(&terminal, unread) == ExitCode::from(6));
+    assert!(rt; end_unread(&terminal, unsupported()) == ExitCode::from(6));
     assert!(rt; is_line(&terminal.error, Some("session_run: out of memory")));
     Ok(())
 }
 
 // The lines of the help.
 #[rattlefmt::skip]
-const LINES: [&str; 30] = [
+const LINES: [&str; 44] = [
     "Runs an I/O engine with owned buffers on events that it reads.",
     "",
-    "usage: session_run run CAP",
+    "usage: session_run run CAP [-i]",
     "       session_run ready",
-    "       session_run gen SEED COUNT",
+    "       session_run gen SEED COUNT [--events]",
     "       session_run wake SENDERS COUNT",
+    "       session_run faults CAP ENTERS",
     "       session_run copy CAP PREFIXHEX",
+    "       session_run unframe",
+    "       session_run frame",
     "       session_run --help",
     "       session_run --version",
     "",
     "run CAP              reads events from standard input, one a line, runs them",
     "                     over a submission queue of CAP entries (1 to 4294967295),",
-    "                     and writes the reply to each, one a line",
+    "                     and writes the reply to each, one a line; with -i each",
+    "                     reply is written before the next line is read",
     "ready                does so on the readiness driver, which makes the call of an",
     "                     operation when it is polled: turn and exec lines are",
     "                     invalid here",
     "gen SEED COUNT       runs COUNT rounds of seven events (0 to 100000) that SEED",
     "                     generates (0 to 2147483647) over a queue of 8 entries, and",
     "                     writes how many events there were, how many were refused,",
-    "                     and how many polls were ready",
+    "                     and how many polls were ready; with --events it writes the",
+    "                     events, one a line, and runs none",
     "wake SENDERS COUNT   wakes a parked driver COUNT times (0 to 100000) from each",
     "                     of SENDERS threads (0 to 64), and writes how many wake-ups",
     "                     it drained",
+    "faults CAP ENTERS    answers events over a ring of CAP entries (1 to 4294967295)",
+    "                     whose enters do what the letters of ENTERS say: f fails, b",
+    "                     is busy, - takes the queue; a line 'complete WORD ok K'",
+    "                     makes a completion, and 'ring' shows the ring",
     "copy CAP PREFIXHEX   writes the bytes of PREFIXHEX (hexadecimal digits, or -",
     "                     for none) and then standard input, by way of buffers of",
     "                     CAP bytes (1 to 16777216)",
+    "unframe              reads pieces of messages from standard input, and writes",
+    "                     the channel and the bytes of each message, one a line",
+    "frame                reads lines of a channel's number and bytes in hexadecimal",
+    "                     digits (- for none), and writes the pieces of these",
+    "                     messages",
     "",
     "exit status: 0 success; 1 invalid command line; 2 invalid line, whose number",
     "is printed; 3 more than 16777216 bytes of input; 4 reading failed; 5 writing",
-    "failed; 6 out of memory",
+    "failed; 6 out of memory; 8 invalid piece, whose place and fault are printed",
 ];
 
 #[test]

@@ -38,7 +38,7 @@ const FAULTS: [Case; 8] = [
     ("run 4", "no event;", None, Some(0), Status::WriteFault, ""),
     ("run 4", "no event;", None, Some(1), Status::WriteFault, "line "),
     ("run 4", "no event;", None, Some(3), Status::WriteFault, "line 1;"),
-    ("run 4", "give stream;submit recv 0 v 18446744073709551615 0 0 -;", None, None, Status::OutOfMemory, ""),
+    ("run 4", "give stream;submit recv 0 v 18446744073709551615 0 0 -;", None, None, Status::OutOfMemory, "handle 0;"),
 ];
 
 #[test]
@@ -55,7 +55,7 @@ fn faults(rt: HostRuntime) {
 
 // The same of `gen` and `wake`, which read nothing, and of words that are no command's.
 #[rattlefmt::skip]
-const WORDS: [Case; 23] = [
+const WORDS: [Case; 31] = [
     ("gen 1 5", "", None, None, Status::Done, "events 36 refused 1 ready 4;"),
     ("gen 0 0", "", None, None, Status::Done, "events 1 refused 0 ready 0;"),
     ("gen 2147483647 0", "", None, None, Status::Done, "events 1 refused 0 ready 0;"),
@@ -63,11 +63,19 @@ const WORDS: [Case; 23] = [
     ("gen 0 100001", "", None, None, Status::BadWords, ""),
     ("gen 00 1", "", None, None, Status::BadWords, ""),
     ("gen 0", "", None, None, Status::BadWords, ""),
+    ("gen 1 1 --events", "", None, None, Status::Done, "give stream;feed 0 00000000000000;submit recv 0 v 8 0 8 -;poll 0 0;turn;exec 0 ok 7;turn;poll 0 0;"),
+    ("gen 0 0 --events", "", None, None, Status::Done, "give stream;"),
+    ("gen 0 0 --events", "", None, Some(0), Status::WriteFault, ""),
+    ("gen 0 0 --event", "", None, None, Status::BadWords, ""),
+    ("gen 0 100001 --events", "", None, None, Status::BadWords, ""),
+    ("run 0 0 --events", "", None, None, Status::BadWords, ""),
     ("gen 1 5", "", None, Some(0), Status::WriteFault, ""),
     ("gen 1 5", "", None, Some(1), Status::WriteFault, "events 36 refused 1 ready 4;"),
     ("run", "", None, None, Status::BadWords, ""),
     ("run 4 4", "", None, None, Status::BadWords, ""),
     ("ready 4", "", None, None, Status::BadWords, ""),
+    ("unframe 4", "", None, None, Status::BadWords, ""),
+    ("Unframe", "", None, None, Status::BadWords, ""),
     ("Ready", "", None, None, Status::BadWords, ""),
     ("Run 4", "", None, None, Status::BadWords, ""),
     ("wake 2 3", "", None, None, Status::Done, "drained 6;"),

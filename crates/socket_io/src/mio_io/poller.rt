@@ -6,16 +6,25 @@ ghost use Rattle.socket_io.specs.System.{bit_if, event_bits, event_report};
 
 use crate::mio_io::socket::{NO_NUMBER, fault_by};
 use mio::event::Event;
-use mio::{Events, Poll, Registry};
+use mio::{Events, Poll, Registry, Token, Waker};
 use ready_driver::{NonBlockError, Ready, Report, Reports};
 use rent_buf::OutOfMemory;
+use ring_core::MOST_HANDLES;
 use std::alloc::Global;
 use std::marker::Model;
 use std::net::Net;
+use std::sync::Arc;
 use std::time::Duration;
+use wake_core::Bell;
 
 /// The most events that a wait reports. (monoio: the same number, in `LegacyDriver::new`)
 pub const MOST_EVENTS: usize = 1024;
+
+/// The key with which a ring of the bell is reported. It is no handle's number, since those are below `MOST_HANDLES`.
+/// (monoio: `TOKEN_WAKEUP`, of its legacy driver)
+pub const BELL_KEY: usize = usize::MAX;
+
+const _: () = prove!(MOST_HANDLES < BELL_KEY as u64);
 
 /// A poll of the system, which is made when it is first needed. A contract sees the events of its last wait. (monoio: `mio::Poll`, and its
 /// `Events`)
@@ -31,6 +40,8 @@ struct Waits {
     poll: Poll,
     events: Events,
     unreported: bool,
+    // The waker of the poll, once a bell was asked for.
+    waker: Option<Arc<Waker>>,
     ghost sized: { capacity events ≡ MOST_EVENTS },
     ghost few: { length (items events) ≤ MOST_EVENTS },
 }
@@ -71,6 +82,18 @@ impl Poller {
         }
     }
 
+    /// The bell of the poll: it makes both, where there is none yet. None where the system, or memory, refuses one.
+    /// (monoio: the `EventWaker` of its legacy driver)
+    pub fn bell<R: Net>(&mut self, rt: &R) -> Option<Bell>
+        ensures { self.new ≡ self.old }
+    {
+        self.make(rt).ok()?;
+        match &mut self.waits {
+            Some(waits) => waits.bell(self.alloc),
+            None => None,
+        }
+    }
+
     /// Waits for events, no longer than so many milliseconds, and puts their reports into an empty list. Where memory runs out, the next
     /// wait reports them. (monoio: `Poll::poll`)
     pub fn wait<R: Net>(
@@ -104,9 +127,26 @@ impl Waits {
                 poll,
                 events,
                 unreported: false,
+                waker: None,
             }),
             Err(error) => Err(fault_by(&error)),
         }
+    }
+
+    // The bell of the poll, whose waker is registered when it is first asked for. None where the system, or memory, refuses one.
+    fn bell(&mut self, alloc: Global) -> Option<Bell>
+        ensures { items self.new.events ≡ items self.old.events }
+    {
+        let waker = match self.waker.take() {
+            Some(waker) => waker,
+            None => {
+                let waker = Waker::new(self.poll.registry(), Token(BELL_KEY)).ok()?;
+                Arc::new(alloc, waker).ok()?
+            }
+        };
+        let other = Arc::try_clone(&waker);
+        self.waker = Some(waker);
+        Some(Bell::over(other.ok()?))
     }
 
     // Waits for events, and puts their reports into an empty list.

@@ -1,6 +1,6 @@
 // What tests share: streams and buffers, what a poll answered, and why a row isn't as it says.
 use rent_buf::{ByteList, NumList, OutOfMemory, Rent, VecBuf};
-use rent_io::{IoFault, PollBuf, PollCount, ScriptedStream, Step, Turned1};
+use rent_io::{BufResult, IoFault, PollBuf, PollCount, ScriptedStream, Step, Turned1};
 use std::alloc::{AllocError, AllocFailed, Global};
 use std::process::Abort;
 
@@ -43,6 +43,14 @@ pub(crate) fn is_like(what: &'static str, like: bool) -> Result<(), Why> {
 /// The bytes are those that the row says.
 pub(crate) fn are_bytes(what: &'static str, bytes: &[u8], want: &str) -> Result<(), Why> {
     is_like(what, bytes == want.as_bytes())
+}
+
+/// The outcome of a read or a write of all is the one that the row says.
+pub(crate) fn is_outcome(
+    outcome: Result<usize, IoFault>,
+    want: Result<usize, IoFault>,
+) -> Result<(), Why> {
+    is_like("the outcome", outcome == want)
 }
 
 /// The row of this name is as it says.
@@ -173,5 +181,14 @@ pub(crate) fn parted<T>(poll: PollBuf<T>) -> (PollCount, T) {
         PollBuf::Ready(Err(fault), buf) => (PollCount::Ready(Err(fault)), buf),
         PollBuf::Pending(buf) => (PollCount::Pending, buf),
         PollBuf::Again(buf) => (PollCount::Again, buf),
+    }
+}
+
+/// How a read or a write of all ended, and the buffer.
+pub(crate) fn whole<S: Drop, T>(step: Step<S, BufResult<usize, T>>) -> Result<(PollCount, T), Why> {
+    match step {
+        Step::Ready((Ok(n), buf)) => Ok((PollCount::Ready(Ok(n as u64)), buf)),
+        Step::Ready((Err(fault), buf)) => Ok((PollCount::Ready(Err(fault)), buf)),
+        _ => Err(Why::NotSo),
     }
 }

@@ -2,16 +2,14 @@
 ghost use Rattle.rent_io.specs.Counts.{no_counts};
 
 use crate::tests::base::{
-    DONE, Why, again, are_bytes, ended, is_like, is_well, list_of, made, nums_of, room_of, vec_of,
+    DONE, Why, again, are_bytes, ended, is_like, is_well, list_of, made, nums_of,
 };
-use crate::tests::reads::is_outcome;
 use crate::tests::stage::Plain;
 use crate::tests::steps::{ReadStep, WriteStep, run_reads, run_writes};
-use rent_buf::{IoBuf as _, Rent};
 use rent_io::PollCount::Ready;
 use rent_io::{
-    AsyncReadRentExt, AsyncWriteRentExt, BufResult, IoFault, MemSink, MemSource, SendAndFlush,
-    Sink, SinkDone, SinkExt, SinkPoll, SinkStream, SourceStream,
+    IoFault, MemSink, MemSource, SendAndFlush, Sink, SinkDone, SinkExt, SinkPoll, SinkStream,
+    SourceStream,
 };
 use std::alloc::Global;
 use std::test::Fail;
@@ -22,21 +20,10 @@ fn source(alloc: Global) -> Result<SourceStream<MemSource>, Why> {
     made(SourceStream::new(alloc, source))
 }
 
-// An exact read.
-fn read_exact(io: &mut SourceStream<MemSource>, buf: Rent) -> Result<BufResult<usize, Rent>, Why> {
-    ended(io.read_exact(buf).drive(io, 0, 9))
-}
-
-// An exact read of two bytes.
-fn reads_two(alloc: Global, io: &mut SourceStream<MemSource>) -> Result<(), Why> {
-    let (outcome, buf) = read_exact(io, room_of(alloc, 2)?)?;
-    is_outcome(outcome, Ok(2))?;
-    are_bytes("the bytes that were read", buf.bytes(), "ab")
-}
-
 #[rattlefmt::skip]
-const READS: [ReadStep; 2] = [
-    ReadStep::Read(2, Ready(Err(IoFault::ReadFault)), ""), ReadStep::Parts(&["", "..", "."], Ready(Ok(2)), &["", "cd", "."]),
+const READS: &[ReadStep] = &[
+    ReadStep::Exact(2, Ready(Ok(2)), "ab"), ReadStep::Read(2, Ready(Err(IoFault::ReadFault)), ""),
+    ReadStep::Parts(&["", "..", "."], Ready(Ok(2)), &["", "cd", "."]),
 ];
 
 // What the source has left.
@@ -47,8 +34,7 @@ fn source_left(io: SourceStream<MemSource>, want: &str) -> Result<(), Why> {
 // A source as a stream.
 fn source_read(alloc: Global) -> Result<(), Why> {
     let mut stage = Plain { io: source(alloc)? };
-    reads_two(alloc, &mut stage.io)?;
-    run_reads(alloc, &mut stage, &READS)?;
+    run_reads(alloc, &mut stage, READS)?;
     source_left(stage.io, "e")
 }
 
@@ -58,21 +44,10 @@ fn a_source_is_read_as_a_stream(rt: HostRuntime) -> Result<(), Fail> {
     Ok(())
 }
 
-// A whole write.
-fn write_all(io: &mut SinkStream<MemSink>, buf: Vec<u8>) -> Result<BufResult<usize, Vec<u8>>, Why> {
-    ended(io.write_all(buf).drive(io, 0, 9))
-}
-
-// A whole write of `ab`.
-fn writes_two(alloc: Global, io: &mut SinkStream<MemSink>) -> Result<(), Why> {
-    let (outcome, _) = write_all(io, vec_of(alloc, "ab")?)?;
-    is_outcome(outcome, Ok(2))
-}
-
 #[rattlefmt::skip]
-const WRITES: [WriteStep; 4] = [
-    WriteStep::Parts(&["", "cd", "e"], Ready(Ok(2))), WriteStep::Write("ab", Ready(Err(IoFault::WriteFault))), WriteStep::Flush(DONE),
-    WriteStep::Shutdown(DONE),
+const WRITES: &[WriteStep] = &[
+    WriteStep::All("ab", Ready(Ok(2))), WriteStep::Parts(&["", "cd", "e"], Ready(Ok(2))),
+    WriteStep::Write("ab", Ready(Err(IoFault::WriteFault))), WriteStep::Flush(DONE), WriteStep::Shutdown(DONE),
 ];
 
 // What the sink took.
@@ -86,8 +61,7 @@ fn sink_written(alloc: Global) -> Result<(), Why> {
     let mut stage = Plain {
         io: SinkStream::new(sink),
     };
-    writes_two(alloc, &mut stage.io)?;
-    run_writes(alloc, &mut stage, &WRITES)?;
+    run_writes(alloc, &mut stage, WRITES)?;
     sink_taken(stage.io, "abcd")
 }
 

@@ -3,9 +3,9 @@ use crate::tests::base::{
     Why, are_bytes, has_delivered, has_left, is_like, is_well, list_of, made, nums_of, stream,
 };
 use crate::tests::noting::{Noting, handle, has_noted, stream_of};
+use crate::tests::scripted::{READS, WRITES};
 use crate::tests::stage::Under;
 use crate::tests::steps::{ReadStep, run_reads, run_writes};
-use crate::tests::turns::{READS, WRITES};
 use cancel_core::CancelHandle;
 use rent_io::PollCount::Ready;
 use rent_io::{MemSource, ScriptedStream, Step};
@@ -124,8 +124,8 @@ fn duplex_passes_on(alloc: Global) -> Result<(), Why> {
         io: noted(alloc)?,
         c: handle(alloc)?,
     };
-    run_reads(alloc, &mut stage, &READS)?;
-    run_writes(alloc, &mut stage, &WRITES)?;
+    run_reads(alloc, &mut stage, READS)?;
+    run_writes(alloc, &mut stage, WRITES)?;
     were_passed_on(stage.io)
 }
 
@@ -136,7 +136,7 @@ fn through_read(
     half: OwnedReadHalf<Noted>,
 ) -> (Result<(), Why>, OwnedReadHalf<Noted>) {
     let mut stage = Under { io: half, c };
-    let outcome = run_reads(alloc, &mut stage, &READS);
+    let outcome = run_reads(alloc, &mut stage, READS);
     (outcome, stage.io)
 }
 
@@ -147,7 +147,7 @@ fn through_write(
     half: OwnedWriteHalf<Noted>,
 ) -> (Result<(), Why>, OwnedWriteHalf<Noted>) {
     let mut stage = Under { io: half, c };
-    let outcome = run_writes(alloc, &mut stage, &WRITES);
+    let outcome = run_writes(alloc, &mut stage, WRITES);
     let Under { io, c: _ } = stage;
     (outcome, io)
 }
@@ -176,7 +176,7 @@ fn halves_pass_on(alloc: Global) -> Result<(), Why> {
 
 // Reads of a prefix `he`, which make no call of the stream behind it.
 #[rattlefmt::skip]
-const FRONT: [ReadStep; 2] = [ReadStep::Parts(&["", ".", ""], Ready(Ok(1)), &["", "h", ""]), ReadStep::Read(4, Ready(Ok(1)), "e")];
+const FRONT: &[ReadStep] = &[ReadStep::Parts(&["", ".", ""], Ready(Ok(1)), &["", "h", ""]), ReadStep::Read(4, Ready(Ok(1)), "e")];
 
 // Calls through a stream with a prefix.
 fn prefix_passes_on(alloc: Global) -> Result<(), Why> {
@@ -185,9 +185,9 @@ fn prefix_passes_on(alloc: Global) -> Result<(), Why> {
         io: PrefixedReadIo::new(stream_of(alloc, "abcd")?, prefix),
         c: handle(alloc)?,
     };
-    run_reads(alloc, &mut stage, &FRONT)?;
-    run_reads(alloc, &mut stage, &READS)?;
-    run_writes(alloc, &mut stage, &WRITES)?;
+    run_reads(alloc, &mut stage, FRONT)?;
+    run_reads(alloc, &mut stage, READS)?;
+    run_writes(alloc, &mut stage, WRITES)?;
     has_noted(stage.io.get_ref(), 6)
 }
 

@@ -1,8 +1,12 @@
-// Reads up to a delimiter and of lines.
-use crate::tests::base::{Why, are_bytes, ended, is_well, list_of};
-use crate::tests::reads::is_outcome;
-use rent_buf::ByteList;
-use rent_io::{AsyncBufReadExt as _, BufResult, IoFault};
+// Reads of a slice: into a buffer and into parts, up to a delimiter and of lines.
+use crate::tests::base::{
+    Why, are_bytes, ended, is_like, is_outcome, is_well, list_of, made, parted,
+};
+use crate::tests::stage::Plain;
+use crate::tests::steps::{ReadStep, run_reads};
+use rent_buf::{ByteList, IoBuf as _, Rent};
+use rent_io::PollCount::Ready;
+use rent_io::{AsyncBufReadExt as _, AsyncReadRent as _, BufResult, IoFault};
 use std::alloc::Global;
 use std::test::Fail;
 
@@ -81,5 +85,31 @@ fn lines_are_read_as_text(rt: HostRuntime) -> Result<(), Fail> {
     for each in LINES {
         is_well(&rt, each.0, line(rt.alloc(), *each));
     }
+    Ok(())
+}
+
+// A read of `ab` into a buffer of ten bytes, of which four were there before.
+fn slice_read(alloc: Global) -> Result<(), Why> {
+    let buf = made(Rent::from_vec(b"0123".to_vec(alloc)?, 10))?;
+    let (answer, buf) = parted(b"ab".as_slice().poll_read(buf, 0));
+    is_like("the answer", answer == Ready(Ok(2)))?;
+    are_bytes("the bytes that were read", buf.bytes(), "ab")
+}
+
+#[rattlefmt::skip]
+const SCATTERED: &[ReadStep] = &[ReadStep::Parts(&["", "..", "."], Ready(Ok(2)), &["", "xy", "."])];
+
+// A read of `xyz` into parts of the rooms 0, 2 and 1.
+fn slice_scattered(alloc: Global) -> Result<(), Why> {
+    let mut stage = Plain {
+        io: b"xyz".as_slice(),
+    };
+    run_reads(alloc, &mut stage, SCATTERED)
+}
+
+#[test]
+fn a_slice_is_read_into_a_rent(rt: HostRuntime) -> Result<(), Fail> {
+    is_well(&rt, "a slice", slice_read(rt.alloc()));
+    is_well(&rt, "a slice into parts", slice_scattered(rt.alloc()));
     Ok(())
 }

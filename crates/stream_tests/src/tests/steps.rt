@@ -12,15 +12,23 @@ pub(crate) enum ReadStep {
     Read(usize, PollCount, &'static str),
     /// Into parts that hold so many bytes as these, and then are these.
     Parts(&'static [&'static str], PollCount, &'static [&'static str]),
+    /// A read that fills a buffer.
+    Exact(usize, PollCount, &'static str),
+    /// A read that fills parts.
+    ExactParts(&'static [&'static str], PollCount, &'static [&'static str]),
 }
 
-/// One write, flush or shutdown, and what it is to answer.
+/// One write, flush or shutdown, and what it is to answer. The buffer comes back as it was.
 #[derive(Clone, Copy)]
 pub(crate) enum WriteStep {
     /// A write of a buffer.
     Write(&'static str, PollCount),
     /// A write of parts.
     Parts(&'static [&'static str], PollCount),
+    /// A write of all of a buffer.
+    All(&'static str, PollCount),
+    /// A write of all of the parts.
+    AllParts(&'static [&'static str], PollCount),
     /// A flush.
     Flush(PollCount),
     /// A shutdown.
@@ -36,11 +44,11 @@ fn answers(answer: PollCount, want: PollCount) -> Result<(), Why> {
 fn reads<S: Reads>(
     alloc: Global,
     stage: &mut S,
-    room: usize,
+    (room, exact): (usize, bool),
     want: PollCount,
     read: &str,
 ) -> Result<(), Why> {
-    let (answer, buf) = stage.read(room_of(alloc, room)?);
+    let (answer, buf) = stage.read(room_of(alloc, room)?, exact)?;
     answers(answer, want)?;
     are_bytes("the bytes that were read", buf.bytes(), read)
 }
@@ -49,11 +57,11 @@ fn reads<S: Reads>(
 fn reads_parts<S: Reads>(
     alloc: Global,
     stage: &mut S,
-    rooms: &[&str],
+    (rooms, exact): (&[&str], bool),
     want: PollCount,
     read: &[&str],
 ) -> Result<(), Why> {
-    let (answer, parts) = stage.read_parts(parts_of(alloc, rooms)?);
+    let (answer, parts) = stage.read_parts(parts_of(alloc, rooms)?, exact)?;
     answers(answer, want)?;
     are_parts(parts, read)
 }
@@ -61,16 +69,46 @@ fn reads_parts<S: Reads>(
 // One read.
 fn make_read<S: Reads>(alloc: Global, stage: &mut S, step: ReadStep) -> Result<(), Why> {
     match step {
-        ReadStep::Read(room, want, read) => reads(alloc, stage, room, want, read),
-        ReadStep::Parts(rooms, want, read) => reads_parts(alloc, stage, rooms, want, read),
+        ReadStep::Read(room, want, read) => reads(alloc, stage, (room, false), want, read),
+        ReadStep::Parts(rooms, want, read) => reads_parts(alloc, stage, (rooms, false), want, read),
+        ReadStep::Exact(room, want, read) => reads(alloc, stage, (room, true), want, read),
+        ReadStep::ExactParts(rooms, want, read) => {
+            reads_parts(alloc, stage, (rooms, true), want, read)
+        }
     }
+}
+
+// A write of a buffer.
+fn writes<S: Writes>(
+    alloc: Global,
+    stage: &mut S,
+    bytes: &str,
+    all: bool,
+    want: PollCount,
+) -> Result<(), Why> {
+    let (answer, buf) = stage.write(vec_of(alloc, bytes)?, all)?;
+    answers(answer, want)?;
+    are_bytes("the buffer", buf.as_slice(), bytes)
+}
+
+// A write of parts.
+fn writes_parts<S: Writes>(
+    alloc: Global,
+    stage: &mut S,
+    texts: &[&str],
+    all: bool,
+    want: PollCount,
+) -> Result<(), Why> {
+    answers(stage.write_parts(parts_of(alloc, texts)?, all)?, want)
 }
 
 // One write, flush or shutdown.
 fn make_write<S: Writes>(alloc: Global, stage: &mut S, step: WriteStep) -> Result<(), Why> {
     match step {
-        WriteStep::Write(bytes, want) => answers(stage.write(vec_of(alloc, bytes)?), want),
-        WriteStep::Parts(texts, want) => answers(stage.write_parts(parts_of(alloc, texts)?), want),
+        WriteStep::Write(bytes, want) => writes(alloc, stage, bytes, false, want),
+        WriteStep::Parts(texts, want) => writes_parts(alloc, stage, texts, false, want),
+        WriteStep::All(bytes, want) => writes(alloc, stage, bytes, true, want),
+        WriteStep::AllParts(texts, want) => writes_parts(alloc, stage, texts, true, want),
         WriteStep::Flush(want) => answers(stage.flush(), want),
         WriteStep::Shutdown(want) => answers(stage.shutdown(), want),
     }

@@ -3,9 +3,10 @@ ghost use Rattle.std.specs.Prelude.{◌≡◌, ◌∷◌, []};
 ghost use Rattle.wake_core.specs.Locked.{Makes};
 ghost use Rattle.wake_core.specs.Step.{Nudge};
 
+use crate::bell::Bell;
+use crate::calls::Calls;
 use crate::locked::sender::SendDue;
 use crate::state::WakeState;
-use std::sync::Condvar;
 use std::sync::ledger::Ledger;
 
 // What is left of an unpark. It may be dropped once nothing is due.
@@ -42,11 +43,22 @@ pub(crate) fn nudge<P: Ledger, D: Ledger>(state: &mut WakeState<P, D>, nudging: 
     nudging.due = SendDue::Notify;
 }
 
-// Notifies a sleeper that waits for the token, which ends the unpark.
-pub(crate) fn notify(token_set: &Condvar, nudging: Nudging)
-    requires { nudging.due ≡ SendDue.Notify }
+// Notifies a sleeper that waits on the condition variable. The bell is to be rung then.
+pub(crate) fn notify(calls: &Calls, nudging: &mut Nudging)
+    requires { nudging.old.due ≡ SendDue.Notify }
+    ensures { nudging.new.due ≡ SendDue.Ring }
 {
-    token_set.notify_one();
+    calls.notify();
+    nudging.due = SendDue::Ring;
+}
+
+// Rings the bell of a sleeper that waits in a poll, if one hangs, which ends the unpark.
+pub(crate) fn ring(hanging: &Option<Bell>, nudging: Nudging)
+    requires { nudging.due ≡ SendDue.Ring }
+{
+    if let Some(bell) = hanging {
+        bell.ring();
+    }
     let mut nudging = nudging;
     nudging.due = SendDue::Nothing;
 }

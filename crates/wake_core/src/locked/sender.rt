@@ -5,11 +5,12 @@ ghost use Rattle.wake_core.specs.Locked.{Makes, reading, has_ended, calling, end
 ghost use Rattle.wake_core.specs.SenderTable.{sender_of};
 ghost use Rattle.wake_core.specs.WakeState.{next_waker};
 
+use crate::bell::Bell;
+use crate::calls::Calls;
 use crate::fault::OutOfMemory;
 use crate::senders::SenderStage;
 use crate::state::{MAX_PUSHED, MAX_SENDERS, WakeState};
 use std::marker::Model;
-use std::sync::Condvar;
 use std::sync::ledger::{Ledger, Share};
 
 // What a sender is to do next to end the send that it is in.
@@ -23,6 +24,8 @@ pub(crate) enum SendDue {
     SetToken,
     // It set the token, and is to notify the sleeper.
     Notify,
+    // It notified the sleeper, and is to ring the bell that hangs.
+    Ring,
 }
 
 // A sender's own end: its share of pushes, the task that it sent last, and what is due of its send. Only the calls below
@@ -191,11 +194,22 @@ pub(crate) fn set_token<P: Ledger, D: Ledger>(state: &mut WakeState<P, D>, end: 
     end.due = SendDue::Notify;
 }
 
-// Notifies a sleeper that waits for the token, which ends the send.
-pub(crate) fn notify<P: Ledger>(token_set: &Condvar, end: &mut SenderEnd<P>)
+// Notifies a sleeper that waits on the condition variable. The bell is to be rung then.
+pub(crate) fn notify<P: Ledger>(calls: &Calls, end: &mut SenderEnd<P>)
     requires { end.old.due ≡ SendDue.Notify }
+    ensures { end.new ≡ record end.old { due = SendDue.Ring } }
+{
+    calls.notify();
+    end.due = SendDue::Ring;
+}
+
+// Rings the bell of a sleeper that waits in a poll, if one hangs, which ends the send.
+pub(crate) fn ring<P: Ledger>(hanging: &Option<Bell>, end: &mut SenderEnd<P>)
+    requires { end.old.due ≡ SendDue.Ring }
     ensures { end.new ≡ record end.old { due = SendDue.Nothing } }
 {
-    token_set.notify_one();
+    if let Some(bell) = hanging {
+        bell.ring();
+    }
     end.due = SendDue::Nothing;
 }

@@ -7,6 +7,8 @@ ghost use Rattle.wake_core.specs.Locked.{rousing, setting_flag};
 ghost use Rattle.wake_core.specs.Step.{DrainRest, drained_by_all};
 ghost use Rattle.wake_core.specs.WakerList.{IsInOrder};
 
+use crate::bell::{Bell, Lookout};
+use crate::calls::Calls;
 use crate::sleeper::SleeperStage;
 use crate::state::WakeState;
 use crate::waker::WakerList;
@@ -14,8 +16,8 @@ use std::alloc::Global;
 use std::marker::Model;
 use std::snapshot::Snapshot;
 use std::sync::ledger::{Ledger, Share};
-use std::sync::{Condvar, MutexGuard, Wait};
-use std::time::{Clock, Duration};
+use std::sync::{MutexGuard, Wait};
+use std::time::Clock;
 
 // What a sleeper is to do next in its round, whatever stage it finds.
 #[derive(Clone, Copy)]
@@ -34,15 +36,18 @@ pub(crate) enum RoundDue {
     SetFlag,
 }
 
-// A sleeper's own end: its share of drains, what its drains gave last (for clauses alone, in no bytes), the limit of the
-// round's wait, if it waited, and what is due of its round. Only the calls below change it.
+// A sleeper's own end: its share of drains, what its drains gave last (for clauses alone, in no bytes), whether it slept when its round
+// came to its wait, the limit of the wait, if it waited, whether a bell hangs, and what is due of its round. Only the calls below change
+// it.
 #[derive(Drop)]
 pub(crate) struct SleeperEnd<D: Ledger> {
     share: Share<D>,
     first: Snapshot<WakerList>,
     again: Snapshot<WakerList>,
     rest: Snapshot<WakerList>,
+    asleep: Option<bool>,
     waited: Option<Option<u64>>,
+    hung: bool,
     due: RoundDue,
 }
 
@@ -57,7 +62,9 @@ impl<D: Ledger> Model for SleeperEnd<D> {
       first = s.first.value;
       again = s.again.value;
       rest = s.rest.value;
+      asleep = s.asleep;
       waited = s.waited;
+      hung = s.hung;
       due = s.due;
     } };
 
@@ -76,7 +83,9 @@ impl<D: Ledger> SleeperEnd<D> {
             first: Snapshot::of(&empty),
             again: Snapshot::of(&empty),
             rest: Snapshot::of(&empty),
+            asleep: None,
             waited: None,
+            hung: false,
             due: RoundDue::DrainFirst,
         }
     }
@@ -182,11 +191,12 @@ pub(crate) fn fall_asleep<P: Ledger, D: Ledger>(
 )
     requires { end.old.due ≡ RoundDue.FallAsleep }
     ensures steps { Makes state.old (falling_asleep state.old.stage) state.new }
-    ensures due { end.new ≡ record end.old { waited = None; due = RoundDue.Rouse } }
+    ensures due { end.new ≡ record end.old { asleep = None; waited = None; due = RoundDue.Rouse } }
 {
     if let SleeperStage::Second(true) = state.stage() {
         state.fall_asleep();
     }
+    end.asleep = None;
     end.waited = None;
     end.due = RoundDue::Rouse;
 }
@@ -196,6 +206,7 @@ pub(crate) fn take_token<P: Ledger, D: Ledger>(state: &mut WakeState<P, D>) -> b
     ensures steps { Makes state.old (taking_token state.old.stage) state.new }
     ensures asleep { result ≡ sleeps_on state.old.stage state.old.token }
     ensures up { result ≡ false → state.new.stage ≢ SleeperStage.Asleep }
+    ensures on { result ≡ true → (state.new.stage ≡ SleeperStage.Asleep) × (state.new.token ≡ false) }
 {
     match state.stage() {
         SleeperStage::Asleep => !state.take_token(),
@@ -203,33 +214,77 @@ pub(crate) fn take_token<P: Ledger, D: Ledger>(state: &mut WakeState<P, D>) -> b
     }
 }
 
-// Waits while the sleeper sleeps, and no longer than the limit, in milliseconds. With no limit it comes back once the
-// sleeper doesn't sleep.
+// The round comes to its wait: takes the token of a sleeper that sleeps. Answers whether it sleeps on.
+pub(crate) fn look_at_token<P: Ledger, D: Ledger>(
+    state: &mut WakeState<P, D>,
+    end: &mut SleeperEnd<D>,
+) -> bool
+    requires { end.old.due ≡ RoundDue.Rouse }
+    ensures steps { Makes state.old (taking_token state.old.stage) state.new }
+    ensures asleep { result ≡ sleeps_on state.old.stage state.old.token }
+    ensures on { result ≡ true → (state.new.stage ≡ SleeperStage.Asleep) × (state.new.token ≡ false) }
+    ensures end { end.new ≡ record end.old { asleep = Some result } }
+{
+    let asleep = take_token(state);
+    end.asleep = Some(asleep);
+    asleep
+}
+
+// Waits on the condition variable while the sleeper sleeps, and no longer than the limit, in milliseconds. With no limit it comes back
+// once the sleeper doesn't sleep. It sleeps when it begins, and the token isn't set.
 pub(crate) fn wait<'b, P: Ledger, D: Ledger, R: Wait + Clock>(
     rt: &R,
-    token_set: &Condvar,
+    calls: &Calls,
     state: MutexGuard<'b, WakeState<P, D>>,
     limit: Option<u64>,
     end: &mut SleeperEnd<D>,
 ) -> MutexGuard<'b, WakeState<P, D>>
-    requires { end.old.due ≡ RoundDue.Rouse }
+    requires due { end.old.due ≡ RoundDue.Rouse }
+    requires asleep { end.old.asleep ≡ Some true }
+    requires stage { (mutex_guard_value state).stage ≡ SleeperStage.Asleep }
+    requires token { (mutex_guard_value state).token ≡ false }
     ensures waited { end.new ≡ record end.old { waited = Some limit } }
     ensures up { limit ≡ None → (mutex_guard_value result).stage ≢ SleeperStage.Asleep }
 {
     end.waited = Some(limit);
-    match limit {
-        Some(limit) => {
-            let limit = Duration::from_millis(limit);
-            let (state, _) = token_set.wait_timeout_while(
-                rt,
-                state,
-                limit,
-                |state| take_token(state),
-            );
-            state
-        }
-        None => token_set.wait_while(rt, state, |state| take_token(state)),
-    }
+    calls.wait(rt, state, limit)
+}
+
+// Hangs up the bell of the poll that the round may wait in, before the round begins: whoever sets the token from then on rings it.
+pub(crate) fn hang<D: Ledger>(hanging: &mut Option<Bell>, bell: Bell, end: &mut SleeperEnd<D>)
+    requires { end.old.due ≡ RoundDue.DrainFirst }
+    ensures hangs { hanging.new ≡ Some bell }
+    ensures hung { end.new ≡ record end.old { hung = true } }
+{
+    *hanging = Some(bell);
+    end.hung = true;
+}
+
+// Looks out once, outside the lock, and waits no longer than the limit, in milliseconds. The bell hangs since before the sleeper fell
+// asleep, and it slept, with the token not set, when the round came to its wait.
+pub(crate) fn look<L: Lookout, D: Ledger>(
+    place: &mut L,
+    limit: Option<u64>,
+    end: &mut SleeperEnd<D>,
+) -> L::Sight
+    requires due { end.old.due ≡ RoundDue.Rouse }
+    requires hung { end.old.hung ≡ true }
+    requires asleep { end.old.asleep ≡ Some true }
+    ensures looked { L.looked place.old limit place.new result }
+    ensures waited { end.new ≡ record end.old { waited = Some limit } }
+{
+    end.waited = Some(limit);
+    place.look(limit)
+}
+
+// Takes the bell down, once the round is over.
+pub(crate) fn take_down<D: Ledger>(hanging: &mut Option<Bell>, end: &mut SleeperEnd<D>)
+    requires { end.old.due ≡ RoundDue.DrainFirst }
+    ensures none { hanging.new ≡ None }
+    ensures hung { end.new ≡ record end.old { hung = false } }
+{
+    *hanging = None;
+    end.hung = false;
 }
 
 // Gets a sleeper up that sleeps.

@@ -302,9 +302,9 @@ returns-in-WouldBlock-clause-calls g c =
     c.call.new.self.slots.values c.call.new.caller WouldBlock =
     subst (λ key. CallsSlot g.B.IoBufMut.buffer g.I.Calls.called c.poll.new.self.slots.values key c.args.io.now
     c.call.new.self.slots.values c.call.new.caller WouldBlock) same c.in-WouldBlock.ensures.calls in
-    inr (calls-in-slot c.args.ops.now.slots.values c.args.op.key c.args.op.number c.requires g.B.IoBufMut.buffer
+    calls-in-slot c.args.ops.now.slots.values c.args.op.key c.args.op.number c.requires g.B.IoBufMut.buffer
     g.I.Calls.called c.args.task
-    c.poll.new.self.slots.values c.call.new.self.slots.values c.args.io.now c.call.new.caller WouldBlock c.in-Pending.ensures.polls calls)
+    c.poll.new.self.slots.values c.call.new.self.slots.values c.args.io.now c.call.new.caller WouldBlock c.in-Pending.ensures.polls calls
 
 pub returns-in-OutOfMemory-clause-calls : goal.returns-in-OutOfMemory-clause-calls
 returns-in-OutOfMemory-clause-calls g c =
@@ -313,6 +313,6 @@ returns-in-OutOfMemory-clause-calls g c =
     c.call.new.self.slots.values c.call.new.caller OutOfMemory =
     subst (λ key. CallsSlot g.B.IoBufMut.buffer g.I.Calls.called c.poll.new.self.slots.values key c.args.io.now
     c.call.new.self.slots.values c.call.new.caller OutOfMemory) same c.in-OutOfMemory.ensures.calls in
-    inr (inr (calls-in-slot c.args.ops.now.slots.values c.args.op.key c.args.op.number c.requires g.B.IoBufMut.buffer
+    inr (calls-in-slot c.args.ops.now.slots.values c.args.op.key c.args.op.number c.requires g.B.IoBufMut.buffer
     g.I.Calls.called c.args.task
-    c.poll.new.self.slots.values c.call.new.self.slots.values c.args.io.now c.call.new.caller OutOfMemory c.in-Pending.ensures.polls calls))
+    c.poll.new.self.slots.values c.call.new.self.slots.values c.args.io.now c.call.new.caller OutOfMemory c.in-Pending.ensures.polls calls)

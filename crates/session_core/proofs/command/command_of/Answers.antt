@@ -14,4 +14,4 @@ returns-in-len2 c =
 pub returns-in-len1 : goal.returns-in-len1
 returns-in-len1 c =
     let words = ap (map string_bytes) (one-word c.args.words.now c.name-item.result (omega arith) (omega arith) c.name-item.is) in
-    subst (λ ws. ReadsCommand ws c.ready_of.result) (ap (λ x. x ∷ []) c.as_str.ensures.value ∙ sym words) c.ready_of.ensures
+    subst (λ ws. ReadsCommand ws c.single_of.result) (ap (λ x. x ∷ []) c.as_str.ensures.value ∙ sym words) c.single_of.ensures

@@ -1,4 +1,4 @@
-use Rattle.std.proofs.Common.{◌≡◌, ◌≤◌, List, length, IsTrue}
+use Rattle.std.proofs.Common.{◌≡◌, ◌≤◌, ◌+◌, List, length, IsTrue, None}
 use Rattle.std.specs.List.{AllZip}
 use Rattle.ring_core.specs.declared.ledger.Event.{Event}
 use Rattle.event_text.specs.TextLines.{AreEventsFor, lines}
@@ -12,9 +12,11 @@ invariant-loop-rest g l = record {
   right : AreEventsFor (StandsOn g.M.Stepping.kind) (lines l.rest);
   ran : (events : List Event) → AllZip (StandsOn g.M.Stepping.kind) (lines l.text) events
       → Ran g.M.Stepping.stands g.M.Stepping.kind g.K.ByteSink.tells l.fn.session l.running l.rest l.out.items
-      (g.K.ByteSink.taken l.initial.sink) (g.K.ByteSink.taken l.sink) events;
+      (g.K.ByteSink.taken l.initial.sink) (g.K.ByteSink.taken l.sink) events l.number;
+  few : l.number + length l.rest ≤ length l.text;
   faults : g.K.ByteSink.faults l.initial.sink ≤ g.K.ByteSink.faults l.sink;
   calm : IsTrue g.K.ByteSink.tells → g.K.ByteSink.faults l.sink ≡ g.K.ByteSink.faults l.initial.sink;
+  unnamed : l.stop ≡ None;
 }
 
 abbrev pub decreases-loop-rest : goal.decreases-loop-rest

@@ -1,5 +1,6 @@
 use Rattle.session_core.specs.DriverKind.{completion, readiness, KeepsRun, KeepsReady}
 use Rattle.session_core.proofs.Endings.{ends-status}
+use Rattle.session_core.proofs.Framing.{unframe-status}
 use Rattle.session_core.proofs.top.run_command.Goals as goal
 
 pub returns-in-Run-clause-status : goal.returns-in-Run-clause-status
@@ -9,3 +10,6 @@ returns-in-Run-clause-status g c =
 pub returns-in-Ready-clause-status : goal.returns-in-Ready-clause-status
 returns-in-Ready-clause-status g c =
     ends-status readiness g.S.ByteSource.tells g.K.ByteSink.tells _ _ _ (KeepsReady c.run_ready.new.kept) _ (c.run_ready.ensures.ends 0)
+
+pub returns-in-Unframe-clause-status : goal.returns-in-Unframe-clause-status
+returns-in-Unframe-clause-status g c = unframe-status g.S.ByteSource.tells g.K.ByteSink.tells _ _ _ c.run_unframe.ensures

@@ -1,5 +1,5 @@
 use Rattle.session_core.proofs.top.run_events.Goals as goal
 
-pub returns-in-Ok : goal.returns-in-Ok
-returns-in-Ok g c = λ events stand L begun.
+pub returns-in-Ok-clause-gives : goal.returns-in-Ok-clause-gives
+returns-in-Ok-clause-gives g c = λ events stand L begun.
     (c.in-Ok.ensures.ok events stand L begun, c.in-Ok.ensures.flushed, c.in-Ok.ensures.stands events stand L begun)

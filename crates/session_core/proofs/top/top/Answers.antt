@@ -1,6 +1,9 @@
-use Rattle.session_core.proofs.Commands.{reads-nothing, generate-nothing, wake-keeps, copy-keeps}
-use Rattle.session_core.proofs.Endings.{run-ends, ready-ends, sum-ends, wake-ends, copy-ends, line-refused, written-late}
+use Rattle.std.proofs.Common.{ap}
+use Rattle.session_core.proofs.Commands.{reads-nothing, generate-nothing, trace-nothing, wake-keeps, copy-keeps, unframe-keeps}
+use Rattle.session_core.proofs.Endings.{run-ends, ready-ends, sum-ends, trace-ends, wake-ends, copy-ends, line-refused, written-late}
 use Rattle.session_core.proofs.Completing.{command-complete, input-taken}
+use Rattle.session_core.proofs.Framing.{frame-refused, ran-short-of, unframe-complete, unframe-ends}
+use Rattle.session_core.proofs.Stopping.{run-stops, ready-stops, none-stops}
 use Rattle.session_core.proofs.top.top.Goals as goal
 
 pub returns-in-Some-clause-runs : goal.returns-in-Some-clause-runs
@@ -46,8 +49,31 @@ returns-in-Some-clause-unkept_copies g c = λ capacity prefix copy.
     c.run_command.ensures.unkept (copy-keeps _ c.in-Some.command capacity prefix c.in-Some.ensures copy)
 
 pub returns-in-Some-clause-unwritten : goal.returns-in-Some-clause-unwritten
-returns-in-Some-clause-unwritten g c = λ other why.
-    written-late g.S.ByteSource.tells g.K.ByteSink.tells _ c.in-Some.command _ _ _ _ c.in-Some.ensures c.run_command.ensures.ends other why
+returns-in-Some-clause-unwritten g c = λ other last why.
+    written-late g.S.ByteSource.tells g.K.ByteSink.tells _ c.in-Some.command _ _ _ _ c.in-Some.ensures c.run_command.ensures.ends other last
+    why
+
+pub returns-in-Some-clause-unframes : goal.returns-in-Some-clause-unframes
+returns-in-Some-clause-unframes g c = λ unframe.
+    unframe-ends g.S.ByteSource.tells g.K.ByteSink.tells _ c.in-Some.command _ _ _ _ c.in-Some.ensures unframe c.run_command.ensures.ends
+
+pub returns-in-Some-clause-unkept_unframes : goal.returns-in-Some-clause-unkept_unframes
+returns-in-Some-clause-unkept_unframes g c = λ unframe.
+    c.run_command.ensures.unkept (unframe-keeps _ c.in-Some.command c.in-Some.ensures unframe)
+
+pub returns-in-Some-clause-bad_frame : goal.returns-in-Some-clause-bad_frame
+returns-in-Some-clause-bad_frame g c = λ is.
+    frame-refused g.S.ByteSource.tells g.K.ByteSink.tells _ c.in-Some.command _ _ _ _ c.in-Some.ensures c.run_command.ensures.ends is
+
+pub returns-in-Some-clause-memory : goal.returns-in-Some-clause-memory
+returns-in-Some-clause-memory g c = λ other is.
+    ran-short-of g.S.ByteSource.tells g.K.ByteSink.tells _ c.in-Some.command _ _ _ _ c.in-Some.ensures c.run_command.ensures.ends
+    c.run_command.ensures.status (λ none. ap g.S.ByteSource.left (c.run_command.ensures.unread none)) other is
+
+pub returns-in-Some-clause-complete_unframes : goal.returns-in-Some-clause-complete_unframes
+returns-in-Some-clause-complete_unframes g c = λ unframe told few calm.
+    unframe-complete g.S.ByteSource.tells g.K.ByteSink.tells _ _ _ told few calm
+    (unframe-ends g.S.ByteSource.tells g.K.ByteSink.tells _ c.in-Some.command _ _ _ _ c.in-Some.ensures unframe c.run_command.ensures.ends)
 
 pub returns-in-Some-clause-complete : goal.returns-in-Some-clause-complete
 returns-in-Some-clause-complete g c = λ takes calm.
@@ -56,3 +82,31 @@ returns-in-Some-clause-complete g c = λ takes calm.
 
 pub returns-in-None-clause-complete : goal.returns-in-None-clause-complete
 returns-in-None-clause-complete g c = λ takes calm. absurd (input-taken g.S.ByteSource.tells _ _ takes c.in-None.ensures)
+
+pub returns-in-None-clause-complete_unframes : goal.returns-in-None-clause-complete_unframes
+returns-in-None-clause-complete_unframes g c = λ unframe told few calm. absurd (c.in-None.ensures.no_unframe unframe)
+
+pub returns-in-Some-clause-traces : goal.returns-in-Some-clause-traces
+returns-in-Some-clause-traces g c = λ seed rounds trace.
+    trace-ends g.S.ByteSource.tells g.K.ByteSink.tells _ c.in-Some.command seed rounds _ _ _ _ c.in-Some.ensures trace
+    c.run_command.ensures.ends
+
+pub returns-in-Some-clause-unread_traces : goal.returns-in-Some-clause-unread_traces
+returns-in-Some-clause-unread_traces g c = λ seed rounds trace.
+    let nothing = trace-nothing _ c.in-Some.command seed rounds c.in-Some.ensures trace in
+    (c.run_command.ensures.unread nothing.0, c.run_command.ensures.unkept nothing.1)
+
+pub returns-in-Some-clause-stops_run : goal.returns-in-Some-clause-stops_run
+returns-in-Some-clause-stops_run g c = λ capacity run.
+    run-stops g.S.ByteSource.tells g.K.ByteSink.tells _ c.in-Some.command capacity _ _ _ _ c.in-Some.ensures run
+    c.run_command.ensures.stops
+
+pub returns-in-Some-clause-stops_ready : goal.returns-in-Some-clause-stops_ready
+returns-in-Some-clause-stops_ready g c = λ ready capacity.
+    ready-stops g.S.ByteSource.tells g.K.ByteSink.tells _ c.in-Some.command capacity _ _ _ _ c.in-Some.ensures ready
+    c.run_command.ensures.stops
+
+pub returns-in-Some-clause-stops_none : goal.returns-in-Some-clause-stops_none
+returns-in-Some-clause-stops_none g c = λ no_run no_ready.
+    none-stops g.S.ByteSource.tells g.K.ByteSink.tells _ c.in-Some.command _ _ _ _ c.in-Some.ensures no_run no_ready
+    c.run_command.ensures.stops

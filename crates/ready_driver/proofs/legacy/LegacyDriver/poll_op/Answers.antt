@@ -1,4 +1,4 @@
-use Rattle.std.proofs.Common.{◌≡◌, Some, inl, ◌⊎◌, refl, sym, ap, subst, ◌∙◌}
+use Rattle.std.proofs.Common.{◌≡◌, Some, ◌⊎◌, refl, sym, ap, subst, ◌∙◌}
 use Rattle.std.specs.Prelude.{Ok, Err}
 use Rattle.std.specs.FinMap.{get}
 use Rattle.ring_core.specs.Request.{named, listed, plain_request, held_of}
@@ -11,9 +11,9 @@ use Rattle.driver_core.specs.Members.{leaves, leaves as leaves_of}
 use Rattle.driver_core.specs.Op.{KeepsTokens, DropsToken}
 use Rattle.driver_core.specs.Slot.{number_at}
 use Rattle.driver_core.proofs.Placing.{in-slots-left}
-use Rattle.ready_driver.specs.Awaits.{slot_awaits, unless, IsWorldUnmet, LeavesFor, PollsUnless, KeysFor, TokensFor}
-use Rattle.ready_driver.specs.Calling.{CallsOnce}
+use Rattle.ready_driver.specs.Awaits.{slot_awaits, unless, is_met_at, IsWorldUnmet, LeavesFor, PollsUnless, KeysFor, TokensFor}
 use Rattle.ready_driver.specs.Errors.{IsCounted, ReturnsFor}
+use Rattle.ready_driver.specs.LegacyPolls.{PollsCall}
 use Rattle.ready_driver.specs.LegacyState.{LegacyState, Holds}
 use Rattle.ready_driver.specs.LegacyStep.{poll_slot}
 use Rattle.ready_driver.specs.Legacy.{slot_at}
@@ -23,6 +23,7 @@ use Rattle.ready_driver.specs.Polling.{PartsStand, PollsFor}
 use Rattle.ready_driver.specs.Turns.{AreReported}
 use Rattle.ready_driver.specs.Registry.{LetsGo}
 use Rattle.ready_driver.specs.Reports.{with_made_key}
+use Rattle.ready_driver.proofs.Calling.{refused-calls, calls-room}
 use Rattle.ready_driver.proofs.Driven.{by_parts}
 use Rattle.ready_driver.proofs.Errors.{error-caused}
 use Rattle.ready_driver.proofs.Naming.{naming-room, naming-kept, naming-leave, naming-left, in-slots-tokens}
@@ -239,6 +240,9 @@ returns-in-Ok-Ready-clause-answers g c =
 
 pub returns-in-Err-clause-ends : goal.returns-in-Err-clause-ends
 returns-in-Err-clause-ends g c =
+    let d : LegacyState g.row.I.Denot g.row.B.Denot =
+    by_parts c.self.inside.registry c.self.inside.ops c.self.inside.members c.self.inside.asked.items c.self.inside.untreated in
+    let slot = get d.slots.values c.args.op.key in
     let same = c.reserve.ensures.same in
     rw (← c.self.view_is) (
       record {
@@ -248,7 +252,8 @@ returns-in-Err-clause-ends g c =
         leaves = leaves-refused _ _ c.reserve.new.registry.records c.args.op.number c.args.task _;
       },
       refl,
-      inl (record { object = same.io; request = refl }),
+      refused-calls (is_met_at d.handling.records (unless (g.I.NonBlock.files d.handling.io) (slot_awaits slot))) g.B.IoBufMut.buffer
+          g.I.Calls.called slot slot d.handling.io c.reserve.new.registry.io _ (record { object = same.io; slot_is = refl }),
     )
 
 pub returns-in-Ok-Pending-clause-ends : goal.returns-in-Ok-Pending-clause-ends
@@ -269,10 +274,11 @@ returns-in-Ok-Pending-clause-ends g c =
             c.poll_op.new.self.records (Ok x)) c.in-Ok-Pending.field-0-is c.in-Ok-Pending.ensures.leaves);
       },
       refl,
-      subst (λ io. CallsOnce g.B.IoBufMut.buffer g.I.Calls.called slot io (get c.poll_op.new.ops.slots.values c.args.op.key)
-          c.poll_op.new.self.io (Ok (Pending c.in-Ok-Pending.op))) same.io
-          (subst (λ x. CallsOnce g.B.IoBufMut.buffer g.I.Calls.called slot room.io (get c.poll_op.new.ops.slots.values c.args.op.key)
-          c.poll_op.new.self.io (Ok x)) c.in-Ok-Pending.field-0-is c.in-Ok-Pending.ensures.calls),
+      calls-room g.I.NonBlock.files g.B.IoBufMut.buffer g.I.Calls.called d.handling room slot
+          (get c.poll_op.new.ops.slots.values c.args.op.key) c.poll_op.new.self.io (Ok (Pending c.in-Ok-Pending.op)) same
+          (subst (λ x. PollsCall g.I.NonBlock.files g.B.IoBufMut.buffer g.I.Calls.called room slot
+          (get c.poll_op.new.ops.slots.values c.args.op.key) c.poll_op.new.self.io (Ok x)) c.in-Ok-Pending.field-0-is
+          c.in-Ok-Pending.ensures.calls),
     )
 
 pub returns-in-Err-poll_op-clause-ends : goal.returns-in-Err-poll_op-clause-ends
@@ -288,9 +294,9 @@ returns-in-Err-poll_op-clause-ends g c =
             c.in-Err-poll_op.ensures.leaves;
       },
       refl,
-      subst (λ io. CallsOnce g.B.IoBufMut.buffer g.I.Calls.called (get c.self.inside.ops.slots.values c.args.op.key) io
-          (get c.poll_op.new.ops.slots.values c.args.op.key) c.poll_op.new.self.io (Err c.in-Err-poll_op.refused)) same.io
-          c.in-Err-poll_op.ensures.calls,
+      calls-room g.I.NonBlock.files g.B.IoBufMut.buffer g.I.Calls.called c.self.inside.registry c.reserve.new.registry
+          (get c.self.inside.ops.slots.values c.args.op.key) (get c.poll_op.new.ops.slots.values c.args.op.key) c.poll_op.new.self.io
+          (Err c.in-Err-poll_op.refused) same c.in-Err-poll_op.ensures.calls,
     )
 
 pub returns-in-Ok-Ready-clause-ends : goal.returns-in-Ok-Ready-clause-ends
@@ -321,13 +327,14 @@ returns-in-Ok-Ready-clause-ends g c =
     rw (← c.self.view_is) (record {
       mid = c.poll_op.new.self;
       call = done.outcome;
-      calls = subst (λ r. CallsOnce g.B.IoBufMut.buffer g.I.Calls.called slot d.handling.io
+      calls = subst (λ r. PollsCall g.I.NonBlock.files g.B.IoBufMut.buffer g.I.Calls.called d.handling slot
           (get c.poll_op.new.ops.slots.values op.key) c.poll_op.new.self.io
           (Ok (Ready (record { outcome = done.outcome; request = r })))) (sym c.hand_over-done.ensures.request)
-          (subst (λ io. CallsOnce g.B.IoBufMut.buffer g.I.Calls.called slot io (get c.poll_op.new.ops.slots.values op.key)
-          c.poll_op.new.self.io (Ok (Ready done))) same.io
-          (subst (λ x. CallsOnce g.B.IoBufMut.buffer g.I.Calls.called slot room.io (get c.poll_op.new.ops.slots.values op.key)
-          c.poll_op.new.self.io (Ok x)) c.in-Ok-Ready.field-0-is c.in-Ok-Ready.ensures.calls));
+          (calls-room g.I.NonBlock.files g.B.IoBufMut.buffer g.I.Calls.called d.handling room slot
+          (get c.poll_op.new.ops.slots.values op.key) c.poll_op.new.self.io (Ok (Ready done)) same
+          (subst (λ x. PollsCall g.I.NonBlock.files g.B.IoBufMut.buffer g.I.Calls.called room slot
+          (get c.poll_op.new.ops.slots.values op.key) c.poll_op.new.self.io (Ok x)) c.in-Ok-Ready.field-0-is
+          c.in-Ok-Ready.ensures.calls));
       polls = record {
         table = ap (λ t. t.holders) c.poll_op.ensures.table ∙ same.table;
         records = room.records;

@@ -28,6 +28,7 @@ returns-clause-shown c =
       due = c.self.inside.due.handles;
       blocks = c.self.inside.blocks;
       fails = c.self.inside.fails;
+      limit = c.self.inside.limit;
     } in
     let new : Memory = record old { world = c.end.new.self; due = c.add.new.self.handles } in
     rw (← c.self.view_is) (changed-shown old new c.self.inside.due c.args.h _ refl c.self.invariant.1 refl c.in_ok-end.ensures.1

@@ -72,6 +72,7 @@ returns-in-Done-clause-called g c =
       due = c.self.inside.due.handles;
       blocks = c.self.inside.blocks;
       fails = c.self.inside.fails;
+      limit = c.self.inside.limit;
     } in
     let new : Memory = record {
       world = c.call.new.self;
@@ -79,6 +80,7 @@ returns-in-Done-clause-called g c =
       due = c.add_names.new.self.handles;
       blocks = c.self.inside.blocks;
       fails = c.count_fail-self-inside.result;
+      limit = c.self.inside.limit;
     } in
     let request = plain_request g.B.IoBufMut.buffer c.args.request.now in
     let now = plain_request g.B.IoBufMut.buffer c.call.new.request in
@@ -100,6 +102,7 @@ returns-in-WouldBlock-clause-called g c =
       due = c.self.inside.due.handles;
       blocks = c.self.inside.blocks;
       fails = c.self.inside.fails;
+      limit = c.self.inside.limit;
     } in
     let new : Memory = record {
       world = c.call.new.self;
@@ -107,6 +110,7 @@ returns-in-WouldBlock-clause-called g c =
       due = c.add_names-in-WouldBlock.new.self.handles;
       blocks = c.count_block-self-inside.result;
       fails = c.self.inside.fails;
+      limit = c.self.inside.limit;
     } in
     let request = plain_request g.B.IoBufMut.buffer c.args.request.now in
     let now = plain_request g.B.IoBufMut.buffer c.call.new.request in

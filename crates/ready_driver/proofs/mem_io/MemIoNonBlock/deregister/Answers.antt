@@ -22,6 +22,7 @@ returns c =
       due = c.self.inside.due.handles;
       blocks = c.self.inside.blocks;
       fails = c.self.inside.fails;
+      limit = c.self.inside.limit;
     } in
     let new : Memory = record old { keys = c.set_key.new.keys.items } in
     let shown = unkeyed-shown old new c.args.h c.set_key.ensures refl refl in

@@ -24,6 +24,7 @@ returns c =
       due = c.self.inside.due.handles;
       blocks = c.self.inside.blocks;
       fails = c.self.inside.fails;
+      limit = c.self.inside.limit;
     } in
     let new : Memory = record old { keys = c.set_key.new.keys.items; due = c.add.new.self.handles } in
     let shown = keyed-shown old new c.self.inside.due c.args.h (Some c.args.key) refl now c.set_key.ensures refl

@@ -1,0 +1,7 @@
+mod Answering
+mod Cutting
+mod Ends
+mod Putting
+mod Reading
+mod Running
+mod Words

@@ -1,0 +1,9 @@
+pub mod Lines
+pub mod Texts
+pub mod Calls
+pub mod Steps
+pub mod Events
+pub mod Script
+pub mod Writes
+pub mod Runs
+pub mod Running

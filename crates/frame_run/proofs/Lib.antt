@@ -1,0 +1,4 @@
+mod Endings
+mod Sources
+mod Lined
+mod Sendings

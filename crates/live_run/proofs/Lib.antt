@@ -1,0 +1,4 @@
+mod Cutting
+mod Living
+mod Taking
+mod Giving

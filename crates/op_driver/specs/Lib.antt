@@ -1,0 +1,2 @@
+pub mod Uring
+pub mod Legacy
