@@ -8,11 +8,9 @@ use std::alloc::Global;
 use std::io::Print;
 use std::sync::Wait;
 use std::sync::ledger::Ledger;
-use std::thread;
-use std::thread::{Scope, Threads};
 use std::time::Clock;
-use uring_driver::{Driver, IoUringDriver};
-use wake_core::{MAX_PUSHED, RemoteSender, Sleeper, WakeCell, Work, with_sleeper};
+use uring_driver::{Driver as _, IoUringDriver};
+use wake_core::{MAX_PUSHED, Parks, RemoteSender, Sends, Sleeper, UnparkHandle, with_senders};
 
 // The task that the thread wakes.
 const TASK: u64 = 7;
@@ -20,83 +18,54 @@ const TASK: u64 = 7;
 // How often the driver parks at most: a park may come back with nothing.
 const PARKS: u32 = 1000;
 
-// Sends the waker of a task, from whatever thread. It wakes the sleeper if that sleeps.
-fn wake<P: Ledger, D: Ledger, R: Wait>(rt: &R, mut sender: RemoteSender<P, D>) -> bool {
-    sender.sent() < MAX_PUSHED && sender.send(rt, TASK).is_ok()
-}
+// What the thread does: it sends the waker of the task, which wakes the sleeper if that sleeps.
+struct Wakes;
 
-// Parks until a waker has come, and answers its task.
-fn park<V: Driver, P: Ledger, D: Ledger, R: Wait + Clock>(
-    rt: &R,
-    driver: &mut V,
-    sleeper: &mut Sleeper<P, D>,
-) -> Option<u64> {
-    for _ in 0..PARKS {
-        let remote = driver.park(rt, sleeper).remote;
-        if let Some(waker) = remote.first.as_slice().first() {
-            return Some(waker.task);
-        }
-        if let Some(waker) = remote.again.as_slice().first() {
-            return Some(waker.task);
+impl Sends for Wakes {
+    fn send<P: Ledger, D: Ledger, R: Wait + Clock>(
+        &self,
+        rt: &R,
+        mut sender: RemoteSender<P, D>,
+        _handle: UnparkHandle<P, D>,
+    ) {
+        if sender.sent() < MAX_PUSHED {
+            let _ = sender.send(rt, TASK);
         }
     }
-    None
 }
 
-// Starts the thread, parks, and joins the thread.
-fn park_beside<'s, E, V, P, D, R>(
-    rt: &'s R,
-    scope: &Scope<'s, E>,
-    driver: &mut V,
-    mut sleeper: Sleeper<P, D>,
-) -> Result<()>
-where
-    V: Driver,
-    P: Ledger + Send + Sync + 's,
-    D: Ledger + Send + Sync + 's,
-    R: Threads + Wait + Clock + Print + Sync,
-{
-    let sender = sleeper.sender()?;
-    let Ok(thread) = scope.spawn(move || wake(rt, sender)) else {
-        bail!("no thread");
-    };
-    let task = park(rt, driver, &mut sleeper);
-    let sent = thread.join(rt);
-    match task {
-        Some(task) => println!(rt; "the park is over: task {task} is woken")?,
-        None => bail!("nothing came"),
-    }
-    println!(rt; "the waker was sent: {sent}")?;
-    Ok(())
-}
-
-// What is done with a new sleeper: a driver parks beside a thread.
+// What is done meanwhile: a driver parks until a waker has come.
 #[derive(Drop)]
-struct ParkBeside<'a, R> {
+struct ParksOnce<'a, R> {
     rt: &'a R,
     alloc: Global,
 }
 
-impl<'a, R: Threads + Wait + Clock + Print + Sync> Work for ParkBeside<'a, R> {
-    type Out = Result<()>;
+impl<'a, R: Wait + Clock> Parks for ParksOnce<'a, R> {
+    type Out = Result<u64>;
 
     // Nothing is known of it.
     ghost gives = { λ work out. Unit {0} };
 
-    fn run<P: Ledger + Send + Sync, D: Ledger + Send + Sync>(
-        self,
-        _cell: WakeCell<P, D>,
-        sleeper: Sleeper<P, D>,
-    ) -> Result<()> {
-        let rt = self.rt;
+    fn park<P: Ledger, D: Ledger>(self, mut sleeper: Sleeper<P, D>) -> Result<u64> {
         let mut driver: IoUringDriver<MemRing, Rent> = IoUringDriver::new(self.alloc)?;
-        thread::scope(thread::scope_env(), rt, move |scope| {
-            park_beside(rt, scope, &mut driver, sleeper)
-        })
+        for _ in 0..PARKS {
+            let remote = driver.park(self.rt, &mut sleeper).remote;
+            if let Some(waker) = remote.first.as_slice().first() {
+                return Ok(waker.task);
+            }
+            if let Some(waker) = remote.again.as_slice().first() {
+                return Ok(waker.task);
+            }
+        }
+        bail!("nothing came")
     }
 }
 
 fn main(rt: HostRuntime) -> Result<()> {
     let alloc = rt.alloc();
-    with_sleeper(alloc, ParkBeside { rt: &rt, alloc })?
+    let parks = ParksOnce { rt: &rt, alloc };
+    let task = with_senders(&rt, alloc, 1, &Wakes, parks)??;
+    println!(&rt; "the park is over: task {task} is woken")?;
+    Ok(())
 }

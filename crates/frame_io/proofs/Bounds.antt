@@ -49,7 +49,7 @@ one_less_if true channel first channels known less = omega arith
 one_less_if false channel first channels known less = let one = less known in omega arith
 
 -- Without a channel that is open, there are fewer channels.
-one_less : (channel : ℕ) (channels : List Message) → is_open channel channels ≡ true → length (without channel channels) < length channels
+pub one_less : (channel : ℕ) (channels : List Message) → is_open channel channels ≡ true → length (without channel channels) < length channels
 one_less channel [] known = absurd (cc)
 one_less channel (first ∷ channels) known =
     one_less_if (nat_eq first.channel channel) channel first channels known (λ k. one_less channel channels k)

@@ -3,6 +3,7 @@ pub mod Places
 pub mod Headers
 pub mod Reading
 pub mod Steps
+pub mod Extending
 pub mod Writing
 pub mod Encoded
 pub mod Received

@@ -1,12 +1,12 @@
 -- What is read, step by step.
-use Rattle.std.proofs.Common.{◌≡◌, ◌∙◌, ℕ, zero, suc, ◌+◌, ◌<◌, List, [], ◌∷◌, ◌++◌, Bool, true, false, length}
+use Rattle.std.proofs.Common.{◌≡◌, ◌∙◌, ℕ, zero, suc, ◌+◌, ◌<◌, ◌≤◌, List, [], ◌∷◌, ◌++◌, Bool, true, false, length}
 use Rattle.std.proofs.Common.{take, drop, sym, ap, subst, refl, arith}
 use Rattle.std.proofs.Common.{cond, append_assoc, append-nil, length-append}
 use Rattle.std.specs.Prelude.{Option, None, Some, nat_lt}
 use Rattle.std.proofs.Math.ListN.{drop_of_length-le}
 use Rattle.std.proofs.Math.Seq.{take-append-add, drop-append-add}
 use Rattle.std.proofs.lemmas.Bool.Decides.{nat_tests}
-use Rattle.std.proofs.lemmas.List.{length-drop, drop-append-le}
+use Rattle.std.proofs.lemmas.List.{length-drop, drop-append-le, drop-drop}
 use Rattle.frame_io.specs.declared.fault.BadFrame.{BadFrame}
 use Rattle.frame_io.specs.declared.fault.BadFrame.TheVariants.{Number, Large, Flag, Channels, Long, Cut}
 use Rattle.frame_io.specs.declared.fault.Ending.{Ending}
@@ -21,8 +21,35 @@ use Rattle.frame_io.specs.Piece.{header_at, IsHeader}
 use Rattle.frame_io.specs.Frames.{Outcome, stops, gives, bytes_of, without, refusal, ended, inside, begun, ending_of, taken}
 use Rattle.frame_io.specs.Frames.{reads_at, reads}
 use Rattle.frame_io.specs.Frames.{read_from}
-use Rattle.frame_io.specs.Decoder.{Polled, answer_of}
+use Rattle.frame_io.specs.declared.message.MessagePoll.{MessagePoll}
+use Rattle.frame_io.specs.declared.message.MessagePoll.TheVariants.{Message as Given, End as AtEnd, Pending, Again, Fault as AtFault}
+use Rattle.frame_io.specs.Decoder.{IsOwn, Polled, answer_of}
 use Rattle.frame_io.proofs.Headers.{HeaderGoes, header_goes, header_within}
+
+-- A poll that answered that it goes on has left what is to be read.
+pub again-same : (was now : Outcome) (answer : MessagePoll) → answer ≡ Again → Polled was now answer → now ≡ was
+again-same was now answer is polled = subst (λ a. Polled was now a) is polled
+
+-- A poll behind one that went on is a poll of what was to be read before both.
+pub polled-on : (was mid now : Outcome) (answer : MessagePoll) → mid ≡ was → Polled mid now answer → Polled was now answer
+polled-on was mid now answer same polled = subst (λ o. Polled o now answer) same polled
+
+-- The same of a poll over what is behind the first bytes, where those were taken and others behind them.
+pub polled-behind : (was mid now : List ℕ → Outcome) (count next : ℕ) (bytes behind more : List ℕ) (answer : MessagePoll)
+    → behind ≡ drop count bytes → mid (drop count bytes ++ more) ≡ was more
+    → Polled (mid (behind ++ more)) (now (drop next behind ++ more)) answer
+    → Polled (was more) (now (drop (count + next) bytes ++ more)) answer
+polled-behind was mid now count next bytes behind more answer is same polled =
+    subst (λ xs. Polled (was more) (now (xs ++ more)) answer) (ap (drop next) is ∙ drop-drop next count bytes)
+    (polled-on (was more) (mid (behind ++ more)) (now (drop next behind ++ more)) answer (ap (λ xs. mid (xs ++ more)) is ∙ same) polled)
+
+-- What a reader answers by itself after it has taken bytes it answers so after it has taken more.
+pub own-more : (answer : MessagePoll) (n m : ℕ) → n ≤ m → IsOwn answer (0 < n) → IsOwn answer (0 < m)
+own-more (Given message) n m more own = own
+own-more AtEnd n m more own = own
+own-more Pending n m more own = own
+own-more Again n m more own = omega arith
+own-more (AtFault fault) n m more own = own
 
 -- An end is answered by its name.
 pub stopped : (was : Outcome) (ending : Ending) → was.messages ≡ [] → was.ending ≡ ending → Polled was was (answer_of ending)

@@ -1,6 +1,6 @@
 // The open channels of a reader.
-ghost use Rattle.std.specs.Prelude.{◌≡◌, ◌<◌, false, true, remove, MatchOption};
-ghost use Rattle.frame_io.specs.Channels.{HasPlace};
+ghost use Rattle.std.specs.Prelude.{◌≡◌, ◌<◌, ◌++◌, ◌∷◌, [], false, true, remove, IsTrue, MatchOption};
+ghost use Rattle.frame_io.specs.Channels.{Extends, HasPlace};
 ghost use Rattle.frame_io.specs.Frames.{bytes_of, is_open, without};
 
 use crate::message::Message;
@@ -32,4 +32,23 @@ pub(crate) fn opened(channels: &mut Vec<Message>, channel: u32) -> (ByteList, bo
         }
         None => (ByteList::new(*channels.allocator()), false),
     }
+}
+
+// Adds bytes to the channel that was opened last, if it is this one and has then at most so many bytes. Answers whether it did so: else
+// nothing has changed, for want of memory too.
+pub(crate) fn extended(channels: &mut Vec<Message>, channel: u32, more: &[u8], most: usize) -> bool
+    ensures done { IsTrue result → Extends channel more.now most channels.old.items channels.new.items }
+    ensures same { result ≡ false → channels.new.items ≡ channels.old.items }
+{
+    let Some(place) = place_of(channels.as_slice(), channel) else {
+        return false;
+    };
+    if place + 1 != channels.len() {
+        return false;
+    }
+    let have = channels[place].bytes.len();
+    if have > most || more.len() > most - have {
+        return false;
+    }
+    channels[place].bytes.append(more).is_ok()
 }

@@ -1,15 +1,18 @@
 // The reading of pieces, apart from the stream that they come from.
-ghost use Rattle.std.specs.Prelude.{◌≡◌, ◌<◌, ◌≤◌, ◌^◌, ⊤, ℕ, List, [], ◌∷◌, ◌++◌, None, Some, IfSome, MatchOption, length, drop};
+ghost use Rattle.std.specs.Prelude.{◌≡◌, ◌<◌, ◌≤◌, ◌^◌, ⊤, ℕ, List, [], ◌∷◌, ◌++◌, None, Some, IfSome, IsTrue, MatchOption, false, length, drop};
 ghost use Rattle.frame_io.specs.Decoder.{Decoding, IsBounded, IsOwn, IsStop, Polled, fresh, rest_of};
 ghost use Rattle.frame_io.specs.Decoder.{answer_of as answer_to, fault_of as fault_to};
 ghost use Rattle.frame_io.specs.Frames.{read_from, refusal, stops, taken};
+ghost use Rattle.frame_io.specs.Piece.{IsHeader, header_at};
 ghost use Rattle.frame_io.specs.declared.fault.Ending.TheVariants.{Fault};
+ghost use Rattle.frame_io.specs.declared.header.Header.TheVariants.{Whole};
 
-use crate::channels::opened;
+use crate::channels::{extended, opened};
 use crate::fault::{BadFrame, Ending, FrameFault};
 use crate::header::{Begun, Head, Header, header_of};
 use crate::limits::Limits;
 use crate::message::{Message, MessagePoll};
+use crate::reader::MOST_OFFSET;
 use rent_buf::ByteList;
 use std::alloc::Global;
 use std::marker::Model;
@@ -140,7 +143,7 @@ impl Decoder {
     {
         match self.piece {
             Some(piece) => self.feed_piece(piece, bytes),
-            None => self.feed_header(bytes),
+            None => self.feed_start(bytes),
         }
     }
 
@@ -200,6 +203,74 @@ impl Decoder {
         }
     }
 
+    // Takes the headers that the bytes begin with, and their pieces, as far as no message is whole.
+    fn feed_start(&mut self, bytes: &[u8]) -> (usize, MessagePoll)
+        requires some { 0 < length bytes.now }
+        requires stop { self.old.stop ≡ None }
+        requires piece { self.old.piece ≡ None }
+        ensures within { result.0 ≤ length bytes.now }
+        ensures own { IsOwn result.1 (0 < result.0) }
+        ensures stop { IsStop self.new.stop result.1 }
+        ensures answer { (more : List ℕ) → Polled (rest_of self.old (bytes.now ++ more))
+            (rest_of self.new (drop result.0 bytes.now ++ more)) result.1 }
+    {
+        let (count, answer) = self.feed_header(bytes);
+        match answer {
+            MessagePoll::Again => self.go_on(bytes, count),
+            _ => (count, answer),
+        }
+    }
+
+    // Goes on behind so many of the bytes, as far as no message is whole. Answers how many bytes are taken then.
+    fn go_on(&mut self, bytes: &[u8], count: usize) -> (usize, MessagePoll)
+        requires some { 0 < count }
+        requires count { count ≤ length bytes.now }
+        ensures within { result.0 ≤ length bytes.now }
+        ensures own { IsOwn result.1 (0 < result.0) }
+        ensures stop { IsStop self.new.stop result.1 }
+        ensures answer { (more : List ℕ) → Polled (rest_of self.old (drop count bytes.now ++ more))
+            (rest_of self.new (drop result.0 bytes.now ++ more)) result.1 }
+    {
+        let mut done = count;
+        while done < bytes.len() && self.is_between() {
+            let (_, rest) = bytes.split_at(done);
+            let (more, answer) = self.feed_header(rest);
+            done += more;
+            let MessagePoll::Again = answer else {
+                return (done, answer);
+            };
+        }
+        let Some(piece) = self.lacking() else {
+            return (done, MessagePoll::Again);
+        };
+        let (_, rest) = bytes.split_at(done);
+        if rest.is_empty() {
+            return (done, MessagePoll::Again);
+        }
+        let (more, answer) = self.feed_piece(piece, rest);
+        (done + more, answer)
+    }
+
+    // It is between two pieces, or inside a header, and the reading goes on.
+    fn is_between(&self) -> bool
+        ensures { IsTrue result → (self.now.stop ≡ None) × (self.now.piece ≡ None) }
+    {
+        self.stop.is_none() && self.piece.is_none()
+    }
+
+    // The piece that lacks bytes, unless the reading ended.
+    fn lacking(&self) -> Option<Begun>
+        ensures { IfSome result (λ p. (self.now.stop ≡ None) × (self.now.piece ≡ Some p) × 0 < p.lacks) }
+    {
+        if let Some(_) = self.stop {
+            return None;
+        }
+        match self.piece {
+            Some(piece) if piece.lacks > 0 => Some(piece),
+            _ => None,
+        }
+    }
+
     // Takes bytes of a piece that is begun.
     fn feed_piece(&mut self, piece: Begun, bytes: &[u8]) -> (usize, MessagePoll)
         requires some { 0 < length bytes.now }
@@ -243,13 +314,60 @@ impl Decoder {
             return self.feed_byte(bytes[0]);
         }
         match header_of(bytes) {
-            Header::Whole(head, count) => (count, self.begin(head, count)),
+            Header::Whole(head, count) => self.feed_whole(head, count, bytes),
             Header::Bad(bad) => (0, self.stop_at(bad)),
             Header::Cut => match self.head.append(bytes) {
                 Ok(()) => (bytes.len(), MessagePoll::Again),
                 Err(_) => (0, MessagePoll::Fault(FrameFault::OutOfMemory)),
             },
         }
+    }
+
+    // Takes the piece that the bytes begin with, if it is whole and goes on with the message of the channel that was opened last; else its
+    // header.
+    fn feed_whole(&mut self, head: Head, count: usize, bytes: &[u8]) -> (usize, MessagePoll)
+        requires stop { self.old.stop ≡ None }
+        requires piece { self.old.piece ≡ None }
+        requires begun { self.old.head ≡ [] }
+        requires is { header_at bytes.now ≡ Whole head count }
+        requires within { IsHeader (length bytes.now) (Whole head count) }
+        ensures within { result.0 ≤ length bytes.now }
+        ensures own { IsOwn result.1 (0 < result.0) }
+        ensures stop { IsStop self.new.stop result.1 }
+        ensures answer { (more : List ℕ) → Polled (rest_of self.old (bytes.now ++ more))
+            (rest_of self.new (drop result.0 bytes.now ++ more)) result.1 }
+    {
+        let (_, rest) = bytes.split_at(count);
+        if head.size <= rest.len() {
+            let (front, _) = rest.split_at(head.size);
+            if self.extend(head, count, front) {
+                return (count + head.size, MessagePoll::Again);
+            }
+        }
+        (count, self.begin(head, count))
+    }
+
+    // Takes a whole piece that isn't the last one of its message, if its channel was opened last. Answers whether it did: else nothing has
+    // changed.
+    fn extend(&mut self, head: Head, count: usize, bytes: &[u8]) -> bool
+        requires stop { self.old.stop ≡ None }
+        requires piece { self.old.piece ≡ None }
+        requires begun { self.old.head ≡ [] }
+        requires size { length bytes.now ≡ head.size }
+        requires small { head.size ≤ 65536 }
+        requires count { count ≤ 11 }
+        ensures same { result ≡ false → self.new ≡ self.old }
+        ensures rest { IsTrue result → (left : List ℕ) → rest_of self.new left ≡ taken (λ o n b. read_from self.old.limits o n b)
+            self.old.channels self.old.offset head count (bytes.now ++ left) (refusal self.old.limits self.old.channels head) }
+    {
+        if head.last || self.offset >= MOST_OFFSET {
+            return false;
+        }
+        if !extended(&mut self.channels, head.channel, bytes, self.limits.bytes) {
+            return false;
+        }
+        self.offset += count as u64 + head.size as u64;
+        true
     }
 
     // Takes one more byte of a header that is begun.

@@ -7,7 +7,7 @@ mod line;
 mod usage;
 
 pub use heard::{HeardRead, HeardWrite};
-pub use line::{Complaint, explain, line_of};
+pub use line::{Complaint, explain, explain_fault, line_of};
 pub use usage::{UsageError, usage_error};
 
 #[cfg(test)]

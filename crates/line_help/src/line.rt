@@ -49,6 +49,10 @@ cancelall, turn or exec";
 
 const EXTERNAL: &str = "an event other than turn and exec, which 'ready' doesn't take";
 
+const OF_FAULTS: &str =
+    "a line of 'faults': give, close, submit, poll, drop, cancel, canceller, newhandle, under, cancelall, turn, complete \
+or ring";
+
 const REQUEST: &str =
     "a request: recv, readv, send, writev, recvmsg, sendmsg, read, write, spliceto, splicefrom, accept, open, \
 connect, fsync, polladd, mkdir, rename or unlink";
@@ -118,6 +122,20 @@ const EVENTS: [Form; 16] = [
     ),
 ];
 
+// The events that `faults` doesn't take, and the lines that it alone takes.
+const UNTAKEN: &[&str] = &["feed", "message", "end", "look", "exec"];
+
+const OF_RING: [Form; 2] = [
+    (
+        "complete",
+        &[
+            Field::Number("a data word (0 to 18446744073709551615)"),
+            Field::Told,
+        ],
+    ),
+    ("ring", &[]),
+];
+
 const REQUESTS: [Form; 18] = [
     ("recv", &[HANDLE, Field::Buffer]),
     ("readv", &[HANDLE, Field::Parts]),
@@ -161,6 +179,15 @@ pub fn explain(line: &[u8], external: bool) -> Option<Complaint> {
     }
 }
 
+/// What is wrong with a line, with no newline in it, as one of `faults`; `None` if nothing is. It takes no memory. (not in monoio)
+pub fn explain_fault(line: &[u8]) -> Option<Complaint> {
+    let mut words = Words::of(line);
+    match line_of_faults(&mut words) {
+        Ok(()) => None,
+        Err(complaint) => Some(complaint),
+    }
+}
+
 /// The line of a number, counted from 0, of a text; empty if there are fewer. (not in monoio)
 pub fn line_of(text: &[u8], number: u64) -> &[u8] {
     let mut rest = text;
@@ -196,6 +223,28 @@ fn event(words: &mut Words<'_>, external: bool) -> Result<(), Complaint> {
     let Some(fields) = fields_of(name, &EVENTS) else {
         return Err(words.wrong(EVENT, of_word(name)));
     };
+    rest(words, fields)
+}
+
+// All words of a line of `faults`.
+fn line_of_faults(words: &mut Words<'_>) -> Result<(), Complaint> {
+    let name = words.next(OF_FAULTS)?;
+    for text in UNTAKEN {
+        if is_word(name, text) {
+            return Err(words.wrong(OF_FAULTS, ""));
+        }
+    }
+    if let Some(fields) = fields_of(name, &OF_RING) {
+        return rest(words, fields);
+    }
+    let Some(fields) = fields_of(name, &EVENTS) else {
+        return Err(words.wrong(OF_FAULTS, of_word(name)));
+    };
+    rest(words, fields)
+}
+
+// The words behind a name, and the end of the line.
+fn rest(words: &mut Words<'_>, fields: &'static [Field]) -> Result<(), Complaint> {
     for field in fields {
         take(words, *field)?;
     }

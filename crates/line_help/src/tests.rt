@@ -1,5 +1,5 @@
 // Wrong lines and wrong words, each with what a person is told of it.
-use crate::{Complaint, explain, line_of, usage_error};
+use crate::{Complaint, explain, explain_fault, line_of, usage_error};
 use std::alloc::{AllocError, Global};
 use std::process::Abort;
 use std::test::Fail;
@@ -190,6 +190,40 @@ fn a_turn_and_an_execution_are_wrong_under_ready(rt: HostRuntime) -> Result<(), 
     for line in INTERNAL {
         is_right(&rt, rt.alloc(), false, line)?;
         is_wrong(&rt, rt.alloc(), true, (line, 1, EXTERNAL, ""))?;
+    }
+    Ok(())
+}
+
+const OF_FAULTS: &str =
+    "a line of 'faults': give, close, submit, poll, drop, cancel, canceller, newhandle, under, cancelall, turn, complete \
+or ring";
+
+const DATA_WORD: &str = "a data word (0 to 18446744073709551615)";
+
+// Lines of 'faults', and what is told of them; of a right one nothing.
+#[rattlefmt::skip]
+const FAULTS: &[(&str, Option<(u64, &str, &str)>)] = &[
+    ("ring", None),
+    ("complete 7 err 5", None),
+    ("submit recv 0 v 1 0 1 -", None),
+    ("turn", None),
+    ("exec 0 ok 1", Some((1, OF_FAULTS, ""))),
+    ("feed 0 61", Some((1, OF_FAULTS, ""))),
+    ("Ring", Some((1, OF_FAULTS, ", but it has a capital letter"))),
+    ("ring 1", Some((2, END, ""))),
+    ("complete", Some((2, DATA_WORD, ", but the line ends before it"))),
+    ("complete 0 made 1", Some((3, "'ok' or 'err'", ""))),
+    ("give socket", Some((2, KIND, ""))),
+];
+
+#[test]
+fn a_wrong_line_of_faults_is_told_by_its_word(rt: HostRuntime) -> Result<(), Fail> {
+    for (line, wanted) in FAULTS {
+        let is = match explain_fault(line.as_bytes()) {
+            Some(complaint) => Some((complaint.word, complaint.expected, complaint.but)),
+            None => None,
+        };
+        assert!(rt; is == *wanted, "for {line:?}");
     }
     Ok(())
 }

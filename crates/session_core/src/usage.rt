@@ -4,7 +4,7 @@ ghost use Rattle.std.specs.Process.{exit_status};
 ghost use Rattle.session_core.specs.Top.{exit_number};
 
 use crate::top::{Status, Stop};
-use line_help::{explain, line_of, usage_error};
+use line_help::{Complaint, explain, explain_fault, line_of, usage_error};
 use std::process::ExitCode;
 use std::rt::Env;
 use std::{env, io};
@@ -173,17 +173,21 @@ fn tell_line<R: Eprint>(rt: &R, known: &Known<'_>) -> io::Result<()> {
         Some(Stop::Line(number, text)) => (*number, text.as_slice()),
         _ => return eprintln!(rt; "session_run: a line is no event"),
     };
-    match explain(line, is_ready(known.words)) {
+    match complaint_of(line, known.words) {
         Some(complaint) => eprintln!(rt; "session_run: line {number}, {complaint}"),
         None => eprintln!(rt; "session_run: line {number} is no event"),
     }
 }
 
-// The words are those of `ready`.
-fn is_ready(words: &[String]) -> bool {
+// What is wrong with a line of the command that the words name.
+fn complaint_of(line: &[u8], words: &[String]) -> Option<Complaint> {
     match words {
-        [word] => word.as_str() == "ready",
-        _ => false,
+        [name, ..] => match name.as_str() {
+            "faults" => explain_fault(line),
+            "ready" => explain(line, true),
+            _ => explain(line, false),
+        },
+        [] => explain(line, false),
     }
 }
 

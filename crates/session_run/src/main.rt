@@ -17,11 +17,8 @@ use std::sync::Wait;
 use std::thread::Threads;
 use std::time::Clock;
 
-// A line that is wrong, by its number, and what was expected there.
-struct WrongLine {
-    number: u64,
-    expected: &'static str,
-}
+// The number of a line that is no message of `frame`.
+struct WrongLine(u64);
 
 fn main(rt: HostRuntime) -> ExitCode {
     let words = match words_of(&rt) {
@@ -46,8 +43,10 @@ fn main(rt: HostRuntime) -> ExitCode {
     ) {
         Ok(status) => status,
         Err(wrong) => {
-            let WrongLine { number, expected } = wrong;
-            let _ = eprintln!(&rt; "session_run: line {number}: expected {expected}");
+            let WrongLine(number) = wrong;
+            let _ = eprintln!(&rt;
+                "session_run: line {number}: expected a channel and bytes, as '5 6162' or '5 -'"
+            );
             return ExitCode::from(Status::BadLine.number());
         }
     };
@@ -75,7 +74,7 @@ fn run<R: Threads + Wait + Clock + Sync, S: ByteSource, K: ByteSink>(
         return of_frames(frame_all(rt, alloc, MOST_INPUT, source, sink));
     }
     if let Some((capacity, enters)) = faults_of(words) {
-        return of_faults(run_faults(alloc, capacity, enters, source, sink), stop);
+        return Ok(of_faults(run_faults(alloc, capacity, enters, source, sink), stop));
     }
     if let Some(capacity) = live_of(words) {
         return match run_live(alloc, capacity, source, sink, stop) {
@@ -99,10 +98,7 @@ fn is_frame(words: &[String]) -> bool {
 fn of_frames(framed: Framed) -> Result<Status, WrongLine> {
     match framed {
         Framed::Done => Ok(Status::Done),
-        Framed::BadLine(number) => Err(WrongLine {
-            number,
-            expected: "a channel and bytes, as '5 6162' or '5 -'",
-        }),
+        Framed::BadLine(number) => Err(WrongLine(number)),
         Framed::TooLong => Ok(Status::TooLong),
         Framed::ReadFault => Ok(Status::ReadFault),
         Framed::WriteFault => Ok(Status::WriteFault),
@@ -111,19 +107,19 @@ fn of_frames(framed: Framed) -> Result<Status, WrongLine> {
 }
 
 // How a run over a faulty ring ended. Where memory ran out, it was at the line behind those that were answered.
-fn of_faults(ending: Ending, stop: &mut Option<Stop>) -> Result<Status, WrongLine> {
+fn of_faults(ending: Ending, stop: &mut Option<Stop>) -> Status {
     match ending {
-        Ending::Done => Ok(Status::Done),
-        Ending::BadLine(number, _) => Err(WrongLine {
-            number,
-            expected: "an event that 'faults' takes, 'complete' or 'ring'",
-        }),
-        Ending::TooLong => Ok(Status::TooLong),
-        Ending::ReadFault => Ok(Status::ReadFault),
-        Ending::WriteFault => Ok(Status::WriteFault),
+        Ending::Done => Status::Done,
+        Ending::BadLine(number, text) => {
+            *stop = Some(Stop::Line(number, text));
+            Status::BadLine
+        }
+        Ending::TooLong => Status::TooLong,
+        Ending::ReadFault => Status::ReadFault,
+        Ending::WriteFault => Status::WriteFault,
         Ending::OutOfMemory(count) => {
             *stop = Some(Stop::Short(count.saturating_add(1)));
-            Ok(Status::OutOfMemory)
+            Status::OutOfMemory
         }
     }
 }

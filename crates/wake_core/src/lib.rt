@@ -4,6 +4,7 @@
 pub mod bell;
 pub(crate) mod calls;
 pub mod cell;
+pub mod crew;
 pub mod fault;
 pub mod gate;
 pub mod law;
@@ -19,6 +20,7 @@ pub mod work;
 
 pub use bell::{Bell, Lookout};
 pub use cell::WakeCell;
+pub use crew::{Parks, Sends, StartError, with_senders};
 pub use fault::OutOfMemory;
 pub use gate::{Gate, OpenGate};
 pub use park::{MOST_MILLIS, SenderError, Settled, Sleeper, Woken};

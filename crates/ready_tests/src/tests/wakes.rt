@@ -1,9 +1,7 @@
 // Sends of eight threads that end parks without a limit, over sockets that are silent or busy: no wake-up is lost.
-ghost use Rattle.std.specs.Prelude.{Unit};
-
 use crate::tests::bench::{Bench, Opens};
 use crate::tests::sockets::connects;
-use crate::tests::stage::{Stage, Why, is_like, moved, pends, receive, send};
+use crate::tests::stage::{Stage, Why, is_like, moved, receive, send};
 use ready_driver::Sockets;
 use rent_buf::{IoBufMut as _, Rent};
 use socket_io::MioIo;
@@ -13,11 +11,10 @@ use std::sync::atomic::{AtomicU64, Ordering};
 use std::sync::ledger::Ledger;
 use std::test::Fail;
 use std::thread;
-use std::thread::{Scope, Threads};
+use std::thread::Threads;
 use std::time::{Clock, Duration};
 use wake_core::{
-    MAX_PUSHED, RemoteSender, Sleeper, Unpark, UnparkHandle, WakeCell, WakerList, Work,
-    with_sleeper,
+    MAX_PUSHED, Parks, RemoteSender, Sends, Sleeper, Unpark, UnparkHandle, WakerList, with_senders,
 };
 
 // How many threads send, and how often each of them.
@@ -155,101 +152,81 @@ fn first_byte<S: Stage>(stage: &mut S, alloc: Global) -> Result<(), Why> {
     stage.submit(0, send(1, buf))
 }
 
-// Starts the senders.
-fn start<'s, E, P, D, R>(
-    rt: &'s R,
-    scope: &Scope<'s, E>,
-    cell: &WakeCell<P, D>,
-    sleeper: &mut Sleeper<P, D>,
-    meeting: &'s Meeting,
-    handle: &'s UnparkHandle<P, D>,
-) -> Result<(), Why>
-where
-    P: Ledger + Send + Sync + 's,
-    D: Ledger + Send + Sync + 's,
-    R: Threads + Wait + Clock + Sync,
-{
-    for _ in 0..SENDERS {
-        let Ok(sender) = sleeper.sender() else {
-            return Err(Why::OutOfMemory);
-        };
-        if scope
-            .spawn(move || send_all(rt, sender, handle, meeting))
-            .is_err()
-        {
-            return Err(Why::Unmet);
-        }
+impl Sends for Meeting {
+    fn send<P: Ledger, D: Ledger, R: Wait + Clock>(
+        &self,
+        rt: &R,
+        sender: RemoteSender<P, D>,
+        handle: UnparkHandle<P, D>,
+    ) {
+        send_all(rt, sender, &handle, self);
     }
-    Ok(())
 }
 
-// What is done with a new sleeper: a driver over sockets is lent it, and eight threads send to it.
+// What is done meanwhile: a driver over sockets parks.
 #[derive(Drop)]
-struct Wakes<'a, I, R> {
+struct Drives<'a, 'b, I, R> {
     rt: &'a R,
     alloc: Global,
     io: I,
     busy: bool,
+    meeting: &'b Meeting,
 }
 
-impl<'a, I: Sockets + Opens, R: Threads + Wait + Clock + Sync> Work for Wakes<'a, I, R> {
+impl<'a, 'b, I: Sockets + Opens, R: Wait + Clock> Parks for Drives<'a, 'b, I, R> {
     type Out = Result<(), Why>;
 
     // Nothing is known of it.
     ghost gives = { λ work out. Unit {0} };
 
-    fn run<P: Ledger + Send + Sync, D: Ledger + Send + Sync>(
-        self,
-        cell: WakeCell<P, D>,
-        mut sleeper: Sleeper<P, D>,
-    ) -> Result<(), Why> {
-        let Wakes {
+    fn park<P: Ledger, D: Ledger>(self, mut sleeper: Sleeper<P, D>) -> Result<(), Why> {
+        let Drives {
             rt,
             alloc,
             io,
             busy,
+            meeting,
         } = self;
-        let meeting = new_meeting(alloc)?;
-        let Ok(handle) = cell.unpark_handle() else {
-            return Err(Why::OutOfMemory);
-        };
-        let (seen, by) = (&meeting, &handle);
-        thread::scope(thread::scope_env(), rt, |scope| {
-            start(rt, scope, &cell, &mut sleeper, seen, by)?;
-            let mut bench = Bench::new(alloc, io, &mut sleeper, rt)?;
-            first_byte(&mut bench, alloc)?;
-            park_all(&mut bench, seen, busy)
-        })?;
-        is_like(meeting.late.load(Ordering::SeqCst) == 0)
+        let mut bench = Bench::new(alloc, io, &mut sleeper, rt)?;
+        first_byte(&mut bench, alloc)?;
+        park_all(&mut bench, meeting, busy)
     }
+}
+
+// Senders wake a driver over these sockets.
+fn wakes<I: Sockets + Opens, R: Threads + Wait + Clock + Sync>(
+    rt: &R,
+    alloc: Global,
+    io: I,
+    busy: bool,
+) -> Result<(), Why> {
+    let meeting = new_meeting(alloc)?;
+    let drives = Drives {
+        rt,
+        alloc,
+        io,
+        busy,
+        meeting: &meeting,
+    };
+    match with_senders(rt, alloc, SENDERS, &meeting, drives) {
+        Ok(done) => done?,
+        Err(_) => return Err(Why::OutOfMemory),
+    }
+    is_like(meeting.late.load(Ordering::SeqCst) == 0)
 }
 
 #[test]
 fn each_send_wakes_over_silent_sockets(rt: HostRuntime) -> Result<(), Fail> {
-    let alloc = rt.alloc();
-    let mut io = MioIo::new(&rt, alloc);
+    let mut io = MioIo::new(&rt, rt.alloc());
     assert!(rt; connects(&rt, &mut io, 41017)?);
-    let work = Wakes {
-        rt: &rt,
-        alloc,
-        io,
-        busy: false,
-    };
-    with_sleeper(alloc, work)??;
+    wakes(&rt, rt.alloc(), io, false)?;
     Ok(())
 }
 
 #[test]
 fn each_send_wakes_over_busy_sockets(rt: HostRuntime) -> Result<(), Fail> {
-    let alloc = rt.alloc();
-    let mut io = MioIo::new(&rt, alloc);
+    let mut io = MioIo::new(&rt, rt.alloc());
     assert!(rt; connects(&rt, &mut io, 41117)?);
-    let work = Wakes {
-        rt: &rt,
-        alloc,
-        io,
-        busy: true,
-    };
-    with_sleeper(alloc, work)??;
+    wakes(&rt, rt.alloc(), io, true)?;
     Ok(())
 }
