@@ -1,22 +1,26 @@
 -- A scripted stream as a value.
-use Rattle.std.specs.Prelude.{ℕ, ◌≡◌, List, []}
+use Rattle.std.specs.Prelude.{ℕ, ◌≡◌, ◌-◌, ◌^◌, Option, List, [], ◌∷◌}
+use Rattle.rent_buf.specs.declared.fault.IoFault.TheVariants.{Os}
 use Rattle.rent_io.specs.declared.scripted.Turned1.{Turned1}
 use Rattle.rent_io.specs.declared.scripted.Turned1.TheVariants.{Grant, Pause, Interrupt, Fault}
 use Rattle.rent_io.specs.Counts.{Counts, AfterCall, Rose, no_counts}
+use Rattle.rent_io.specs.Polls.{Fails, Pauses}
 use Rattle.rent_io.specs.Reader.{Reader}
 use Rattle.rent_io.specs.Writer.{Writer}
 
--- It is the bytes that are left, those that were delivered, its counts, and how many flushes and shutdowns succeeded.
+-- It is the turns that its script still has, the bytes that are left, those that were delivered, its counts, and how many flushes and
+-- shutdowns succeeded.
 pub record Scripted : Type 0 where
+  pub script : List Turned1
   pub left : List ℕ
   pub delivered : List ℕ
   pub counts : Counts
   pub flushes : ℕ
   pub shutdowns : ℕ
 
--- A new one over some input.
-abbrev pub fresh : List ℕ → Scripted
-fresh input = record { left = input; delivered = []; counts = no_counts; flushes = 0; shutdowns = 0 }
+-- A new one over some input, with a script.
+abbrev pub fresh : List ℕ → List Turned1 → Scripted
+fresh input script = record { script = script; left = input; delivered = []; counts = no_counts; flushes = 0; shutdowns = 0 }
 
 -- It as a reader, and as a writer.
 abbrev pub as_reader : Scripted → Reader
@@ -25,15 +29,22 @@ as_reader s = record { left = s.left; counts = s.counts }
 abbrev pub as_writer : Scripted → Writer
 as_writer s = record { delivered = s.delivered; counts = s.counts; flushes = s.flushes; shutdowns = s.shutdowns }
 
--- The count that a turn makes rise: faults at a fault, pauses at a pause and an interrupt.
-abbrev pub Rises : Turned1 → Counts → Counts → Type 0
-Rises (Grant most) before now = Unit {0}
-Rises Pause before now = Rose before.pauses now.pauses
-Rises Interrupt before now = Rose before.pauses now.pauses
-Rises (Fault error) before now = Rose before.faults now.faults
+-- What a turn of the script makes of the counts: a fault is counted, and is the last; a pause is counted, for the task of the call; and an
+-- interrupt is counted.
+abbrev pub Rises : Turned1 → ℕ → Counts → Counts → Type 0
+Rises (Grant most) task before now = Unit {0}
+Rises Pause task before now = Pauses task before now
+Rises Interrupt task before now = Rose before.interrupts now.interrupts
+Rises (Fault error) task before now = Fails before now (Os error)
 
--- What taking the next turn of the script does.
-pub record Turns (before now : Scripted) (turn : Turned1) : Type 0 where
-  pub same : now ≡ record before { counts = now.counts }
-  pub counts : AfterCall before.counts now.counts
-  pub rises : Rises turn before.counts now.counts
+-- The next turn of a script: its first one, or one that grants all, where it is used up.
+abbrev pub IsNext : List Turned1 → List Turned1 → Turned1 → Type 0
+IsNext [] later turn = (later ≡ []) × (turn ≡ Grant (2 ^ 64 - 1))
+IsNext (first ∷ script) later turn = (later ≡ script) × (turn ≡ first)
+
+-- What taking the next turn of the script does, for a call of this task, plain or under this cancel group.
+pub record Turns (task : ℕ) (group : Option ℕ) (before now : Scripted) (turn : Turned1) : Type 0 where
+  pub same : now ≡ record before { script = now.script; counts = now.counts }
+  pub counts : AfterCall group before.counts now.counts
+  pub rises : Rises turn task before.counts now.counts
+  pub next : IsNext before.script now.script turn

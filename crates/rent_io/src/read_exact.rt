@@ -1,5 +1,5 @@
 // A read that fills its buffer.
-ghost use Rattle.std.specs.Prelude.{◌≡◌, ◌+◌, ◌<◌, ◌≤◌, length};
+ghost use Rattle.std.specs.Prelude.{◌≡◌, ◌+◌, ◌<◌, ◌≤◌, length, None};
 ghost use Rattle.rent_io.specs.Completeness.{Completes, IsShort};
 ghost use Rattle.rent_io.specs.Counts.{AfterCall};
 ghost use Rattle.rent_io.specs.ReadExact.{ReadsExact, filling, lacks};
@@ -49,10 +49,10 @@ impl<T: IoBufMut> ReadExact<T> {
         io: &mut A,
         task: u64,
     ) -> Step<ReadExact<T>, BufResult<usize, T>>
-        ensures answer { ReadsExact A.tells (A.reader io.old) (A.reader io.new) T.buffer T.under T.beside self result }
-        ensures counts { AfterCall (A.reader io.old).counts (A.reader io.new).counts }
+        ensures answer { ReadsExact A.tells task (A.reader io.old) (A.reader io.new) T.buffer T.under T.beside self result }
+        ensures counts { AfterCall None (A.reader io.old).counts (A.reader io.new).counts }
         ensures complete { Completes (A.reader io.old).counts (A.reader io.new).counts result (λ end. end.0)
-            (IsShort A.tells (A.reader io.old).left (lacks self)) (λ next. self.filled < next.filled) }
+            (IsShort A.tells (A.reader io.old) (A.reader io.new) (lacks self)) (λ next. self.filled < next.filled) }
     {
         self.poll_by(io, &Plain, task)
     }
@@ -69,7 +69,7 @@ impl<T: IoBufMut> ReadExact<T> {
         ensures run { RunsExact A.tells (A.reader io.old) (A.reader io.new) T.buffer T.under T.beside self result }
         ensures used { IfGoesOn result (λ next. AreUsed polls self.filled next.filled
             (A.reader io.old).counts (A.reader io.new).counts) }
-        ensures counts { AfterCalls polls (A.reader io.old).counts (A.reader io.new).counts }
+        ensures counts { AfterCalls None polls (A.reader io.old).counts (A.reader io.new).counts }
     {
         self.keeps_bounds();
         let mut state = self;
@@ -98,8 +98,8 @@ impl<T: IoBufMut> ReadExact<T> {
         call: &C,
         task: u64,
     ) -> Step<ReadExact<T>, BufResult<usize, T>>
-        ensures answer { ReadsExact A.tells (A.reader io.old) (A.reader io.new) T.buffer T.under T.beside self result }
-        ensures counts { AfterCall (A.reader io.old).counts (A.reader io.new).counts }
+        ensures answer { ReadsExact A.tells task (A.reader io.old) (A.reader io.new) T.buffer T.under T.beside self result }
+        ensures counts { AfterCall (C.group call.now) (A.reader io.old).counts (A.reader io.new).counts }
     {
         let ReadExact { buf, filled } = self;
         let total = buf.bytes_total();

@@ -1,5 +1,5 @@
 // A read of a line.
-ghost use Rattle.std.specs.Prelude.{◌≡◌, ◌<◌, ◌≤◌, [], IsUtf8, MatchBool, length, take, drop, string_bytes};
+ghost use Rattle.std.specs.Prelude.{◌≡◌, ◌<◌, ◌≤◌, [], IsUtf8, MatchBool, length, take, drop, string_bytes, None};
 ghost use Rattle.rent_io.specs.Completeness.{Completes, IsNoLine};
 ghost use Rattle.rent_io.specs.Counts.{AfterCall};
 ghost use Rattle.rent_io.specs.LineRuns.{RunsLine};
@@ -92,8 +92,8 @@ impl ReadLine {
         io: &mut A,
         task: u64,
     ) -> Step<ReadLine, BufResult<usize, String>>
-        ensures answer { ReadsLine A.tells (A.reader io.old) (A.reader io.new) string_bytes self result }
-        ensures counts { AfterCall (A.reader io.old).counts (A.reader io.new).counts }
+        ensures answer { ReadsLine A.tells task (A.reader io.old) (A.reader io.new) string_bytes self result }
+        ensures counts { AfterCall None (A.reader io.old).counts (A.reader io.new).counts }
         ensures complete { Completes (A.reader io.old).counts (A.reader io.new).counts result (λ end. end.0)
             (IsNoLine A.tells self.added (A.reader io.old).left) (λ next. length self.added < length next.added) }
     {
@@ -118,7 +118,7 @@ impl ReadLine {
         ensures run { RunsLine A.tells (A.reader io.old) (A.reader io.new) string_bytes self result }
         ensures used { IfGoesOn result (λ next. AreUsed polls (length self.added) (length next.added)
             (A.reader io.old).counts (A.reader io.new).counts) }
-        ensures counts { AfterCalls polls (A.reader io.old).counts (A.reader io.new).counts }
+        ensures counts { AfterCalls None polls (A.reader io.old).counts (A.reader io.new).counts }
     {
         let mut state = self;
         for _ in 0..polls {

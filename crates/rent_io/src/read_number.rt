@@ -1,5 +1,5 @@
 // A read of a number.
-ghost use Rattle.std.specs.Prelude.{◌≡◌, ◌-◌, ◌<◌, length, IfOk};
+ghost use Rattle.std.specs.Prelude.{◌≡◌, ◌-◌, ◌<◌, length, IfOk, None};
 ghost use Rattle.rent_io.specs.Completeness.{Completes, IsShort};
 ghost use Rattle.rent_io.specs.Counts.{AfterCall};
 ghost use Rattle.rent_io.specs.LineRuns.{RunsNumber};
@@ -58,10 +58,10 @@ impl<N: Number> ReadNumber<N> {
         io: &mut A,
         task: u64,
     ) -> Step<ReadNumber<N>, Result<N, IoFault>>
-        ensures answer { ReadsNumber A.tells (A.reader io.old) (A.reader io.new) N.value self result }
-        ensures counts { AfterCall (A.reader io.old).counts (A.reader io.new).counts }
+        ensures answer { ReadsNumber A.tells task (A.reader io.old) (A.reader io.new) N.value self result }
+        ensures counts { AfterCall None (A.reader io.old).counts (A.reader io.new).counts }
         ensures complete { Completes (A.reader io.old).counts (A.reader io.new).counts result (λ end. end)
-            (IsShort A.tells (A.reader io.old).left (self.size - length self.bytes)) (λ next. length self.bytes < length next.bytes) }
+            (IsShort A.tells (A.reader io.old) (A.reader io.new) (self.size - length self.bytes)) (λ next. length self.bytes < length next.bytes) }
     {
         self.poll_by(io, &Plain, task)
     }
@@ -79,7 +79,7 @@ impl<N: Number> ReadNumber<N> {
         ensures run { RunsNumber A.tells (A.reader io.old) (A.reader io.new) N.value self result }
         ensures used { IfGoesOn result (λ next. AreUsed polls (length self.bytes) (length next.bytes)
             (A.reader io.old).counts (A.reader io.new).counts) }
-        ensures counts { AfterCalls polls (A.reader io.old).counts (A.reader io.new).counts }
+        ensures counts { AfterCalls None polls (A.reader io.old).counts (A.reader io.new).counts }
     {
         let mut state = self;
         for _ in 0..polls {
@@ -99,8 +99,8 @@ impl<N: Number> ReadNumber<N> {
         call: &C,
         task: u64,
     ) -> Step<ReadNumber<N>, Result<N, IoFault>>
-        ensures answer { ReadsNumber A.tells (A.reader io.old) (A.reader io.new) N.value self result }
-        ensures counts { AfterCall (A.reader io.old).counts (A.reader io.new).counts }
+        ensures answer { ReadsNumber A.tells task (A.reader io.old) (A.reader io.new) N.value self result }
+        ensures counts { AfterCall (C.group call.now) (A.reader io.old).counts (A.reader io.new).counts }
     {
         let ReadNumber {
             exact,

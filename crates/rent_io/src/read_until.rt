@@ -1,5 +1,5 @@
 // A read up to a delimiter.
-ghost use Rattle.std.specs.Prelude.{◌≡◌, ◌+◌, ◌<◌, ◌≤◌, length, take, MatchBool};
+ghost use Rattle.std.specs.Prelude.{◌≡◌, ◌+◌, ◌<◌, ◌≤◌, length, take, MatchBool, None};
 ghost use Rattle.rent_buf.specs.declared.fault.IoFault.TheVariants.{OutOfMemory};
 ghost use Rattle.rent_io.specs.Completeness.{Completes};
 ghost use Rattle.rent_io.specs.Counts.{AfterCall};
@@ -80,8 +80,8 @@ impl ReadUntil {
         io: &mut A,
         task: u64,
     ) -> Step<ReadUntil, BufResult<usize, ByteList>>
-        ensures answer { ReadsUntil A.tells (A.reader io.old) (A.reader io.new) self result }
-        ensures counts { AfterCall (A.reader io.old).counts (A.reader io.new).counts }
+        ensures answer { ReadsUntil A.tells task (A.reader io.old) (A.reader io.new) self result }
+        ensures counts { AfterCall None (A.reader io.old).counts (A.reader io.new).counts }
         ensures complete { Completes (A.reader io.old).counts (A.reader io.new).counts result (λ end. end.0)
             (λ fault. fault ≡ OutOfMemory) (λ next. self.added < next.added) }
     {
@@ -127,7 +127,7 @@ impl ReadUntil {
         ensures run { RunsUntil A.tells (A.reader io.old) (A.reader io.new) self result }
         ensures used { IfGoesOn result (λ next. AreUsed polls self.added next.added
             (A.reader io.old).counts (A.reader io.new).counts) }
-        ensures counts { AfterCalls polls (A.reader io.old).counts (A.reader io.new).counts }
+        ensures counts { AfterCalls None polls (A.reader io.old).counts (A.reader io.new).counts }
     {
         let mut state = self;
         for _ in 0..polls {

@@ -1,5 +1,5 @@
 // A read that fills all parts of a vector of buffers.
-ghost use Rattle.std.specs.Prelude.{◌≡◌, ◌<◌, ◌≤◌, length, IsOk, IfOk};
+ghost use Rattle.std.specs.Prelude.{◌≡◌, ◌<◌, ◌≤◌, length, IsOk, IfOk, None};
 ghost use Rattle.rent_buf.specs.Parts.{part_at};
 ghost use Rattle.rent_io.specs.Completeness.{Completes, IsShort};
 ghost use Rattle.rent_io.specs.Counts.{AfterCall};
@@ -65,10 +65,10 @@ impl<T: IoVecBufMut> ReadVectoredExact<T> {
         io: &mut A,
         task: u64,
     ) -> Step<ReadVectoredExact<T>, BufResult<usize, T>>
-        ensures answer { ReadsScattered A.tells (A.reader io.old) (A.reader io.new) T.held self result }
-        ensures counts { AfterCall (A.reader io.old).counts (A.reader io.new).counts }
+        ensures answer { ReadsScattered A.tells task (A.reader io.old) (A.reader io.new) T.held self result }
+        ensures counts { AfterCall None (A.reader io.old).counts (A.reader io.new).counts }
         ensures complete { Completes (A.reader io.old).counts (A.reader io.new).counts result (λ end. end.0)
-            (IsShort A.tells (A.reader io.old).left (wanted self)) (λ next. length (has_read self) < length (has_read next)) }
+            (IsShort A.tells (A.reader io.old) (A.reader io.new) (wanted self)) (λ next. length (has_read self) < length (has_read next)) }
     {
         self.poll_by(io, &Plain, task)
     }
@@ -86,7 +86,7 @@ impl<T: IoVecBufMut> ReadVectoredExact<T> {
         ensures run { RunsScattered A.tells (A.reader io.old) (A.reader io.new) T.held self result }
         ensures used { IfGoesOn result (λ next. AreUsed polls (length (has_read self)) (length (has_read next))
             (A.reader io.old).counts (A.reader io.new).counts) }
-        ensures counts { AfterCalls polls (A.reader io.old).counts (A.reader io.new).counts }
+        ensures counts { AfterCalls None polls (A.reader io.old).counts (A.reader io.new).counts }
     {
         let mut state = self;
         for _ in 0..polls {
@@ -106,8 +106,8 @@ impl<T: IoVecBufMut> ReadVectoredExact<T> {
         call: &C,
         task: u64,
     ) -> Step<ReadVectoredExact<T>, BufResult<usize, T>>
-        ensures answer { ReadsScattered A.tells (A.reader io.old) (A.reader io.new) T.held self result }
-        ensures counts { AfterCall (A.reader io.old).counts (A.reader io.new).counts }
+        ensures answer { ReadsScattered A.tells task (A.reader io.old) (A.reader io.new) T.held self result }
+        ensures counts { AfterCall (C.group call.now) (A.reader io.old).counts (A.reader io.new).counts }
     {
         let ReadVectoredExact {
             buf,

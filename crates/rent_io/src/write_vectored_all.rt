@@ -1,7 +1,8 @@
 // A write of all bytes of a vector of buffers.
-ghost use Rattle.std.specs.Prelude.{◌≡◌, ◌^◌, ◌<◌, ◌≤◌, [], length, sum_by, slice_index_or, IsOk, IfOk};
-ghost use Rattle.rent_io.specs.Completeness.{Completes, TookNone};
+ghost use Rattle.std.specs.Prelude.{◌≡◌, ◌^◌, ◌<◌, ◌≤◌, [], length, sum_by, slice_index_or, IsOk, IfOk, None};
+ghost use Rattle.rent_io.specs.Completeness.{Completes};
 ghost use Rattle.rent_io.specs.Counts.{AfterCall};
+ghost use Rattle.rent_io.specs.Polls.{TookNone};
 ghost use Rattle.rent_io.specs.Runs.{AfterCalls, AreUsed, IfGoesOn, RunsAll};
 ghost use Rattle.rent_io.specs.WriteAll.{WritesAll, sending_parts};
 ghost use Rattle.rent_io.specs.WriteVectoredAll.{rest_from};
@@ -66,11 +67,11 @@ impl<T: IoVecBuf> WriteVectoredAll<T> {
         io: &mut A,
         task: u64,
     ) -> Step<WriteVectoredAll<T>, BufResult<usize, T>>
-        ensures answer { WritesAll A.tells (A.writer io.old) (A.writer io.new) self result }
+        ensures answer { WritesAll A.tells task (A.writer io.old) (A.writer io.new) self result }
         ensures ends { EndsStay (A.writer io.old) (A.writer io.new) }
-        ensures counts { AfterCall (A.writer io.old).counts (A.writer io.new).counts }
+        ensures counts { AfterCall None (A.writer io.old).counts (A.writer io.new).counts }
         ensures complete { Completes (A.writer io.old).counts (A.writer io.new).counts result (λ end. end.0)
-            (TookNone A.tells (A.writer io.old).delivered (A.writer io.new).delivered self.rest)
+            (TookNone (A.writer io.old).counts (A.writer io.new).counts)
             (λ next. length next.rest < length self.rest) }
     {
         self.poll_by(io, &Plain, task)
@@ -90,7 +91,7 @@ impl<T: IoVecBuf> WriteVectoredAll<T> {
         ensures ends { EndsStay (A.writer io.old) (A.writer io.new) }
         ensures used { IfGoesOn result (λ next. AreUsed polls (length next.rest) (length self.rest)
             (A.writer io.old).counts (A.writer io.new).counts) }
-        ensures counts { AfterCalls polls (A.writer io.old).counts (A.writer io.new).counts }
+        ensures counts { AfterCalls None polls (A.writer io.old).counts (A.writer io.new).counts }
     {
         let mut state = self;
         for _ in 0..polls {
@@ -110,9 +111,9 @@ impl<T: IoVecBuf> WriteVectoredAll<T> {
         call: &C,
         task: u64,
     ) -> Step<WriteVectoredAll<T>, BufResult<usize, T>>
-        ensures answer { WritesAll A.tells (A.writer io.old) (A.writer io.new) self result }
+        ensures answer { WritesAll A.tells task (A.writer io.old) (A.writer io.new) self result }
         ensures ends { EndsStay (A.writer io.old) (A.writer io.new) }
-        ensures counts { AfterCall (A.writer io.old).counts (A.writer io.new).counts }
+        ensures counts { AfterCall (C.group call.now) (A.writer io.old).counts (A.writer io.new).counts }
     {
         let WriteVectoredAll {
             buf,

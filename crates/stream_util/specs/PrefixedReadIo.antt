@@ -1,5 +1,7 @@
 -- A stream with a prefix in front of its reads.
-use Rattle.std.specs.Prelude.{ℕ, ◌+◌, Bool, true, false, List, [], ◌++◌}
+use Rattle.std.specs.Prelude.{ℕ, ◌+◌, Bool, true, false, Option, Some, List, [], ◌++◌}
+use Rattle.rent_buf.specs.declared.fault.IoFault.{IoFault}
+use Rattle.rent_buf.specs.declared.fault.IoFault.TheVariants.{ReadFault}
 use Rattle.rent_io.specs.declared.poll.PollBuf.{PollBuf}
 use Rattle.rent_io.specs.Reader.{Reader}
 use Rattle.stream_util.specs.declared.prefixed_io.Front.{Front}
@@ -16,10 +18,16 @@ abbrev pub prefix_left : Bool → List ℕ → List ℕ
 prefix_left true left = []
 prefix_left false left = left
 
+-- The last fault of a read: before the prefix has ended it was the prefix's.
+abbrev pub fault_of : Bool → Option IoFault → Option IoFault
+fault_of true fault = fault
+fault_of false fault = Some ReadFault
+
 -- It as a reader: what is left of the prefix comes before what is left of the one inside, and faults of both count.
 abbrev pub reader_behind : Bool → List ℕ → ℕ → Reader → Reader
 reader_behind finished left faults inner = record
-    { left = prefix_left finished left ++ inner.left; counts = record inner.counts { faults = inner.counts.faults + faults } }
+    { left = prefix_left finished left ++ inner.left; counts = record inner.counts
+    { faults = inner.counts.faults + faults; fault = fault_of finished inner.counts.fault } }
 
 -- A fact of a read that the prefix answered, and one of a read that is behind it.
 abbrev pub IfAnswered : {T : Type 0} → Front T → (PollBuf T → Type 0) → Type 0

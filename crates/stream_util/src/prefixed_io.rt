@@ -1,8 +1,9 @@
 // A stream whose reads give a prefix first.
-ghost use Rattle.std.specs.Prelude.{◌≡◌, ◌&&◌, [], true, false, IsTrue};
+ghost use Rattle.std.specs.Prelude.{◌≡◌, ◌&&◌, ℕ, Option, [], true, false, IsTrue};
+ghost use Rattle.rent_buf.specs.Buffer.{room};
 ghost use Rattle.rent_io.specs.Counts.{AfterCall};
-ghost use Rattle.rent_io.specs.Polls.{IsCaused};
-ghost use Rattle.rent_io.specs.Reader.{Reads, ReadsParts};
+ghost use Rattle.rent_io.specs.Polls.{CountsNone, IsCaused};
+ghost use Rattle.rent_io.specs.Reader.{Reads, ReadsParts, first_room as room_of};
 ghost use Rattle.stream_util.specs.PrefixedReadIo.{Prefixed, prefix_left, reader_behind, IfAnswered, IfBehind};
 
 use crate::split::Split;
@@ -96,10 +97,12 @@ impl<I: AsyncReadRent, P: ByteSource> PrefixedReadIo<I, P> {
             (reader_behind self.old.finished (P.left self.old.prefix) (P.faults self.old.prefix) (I.reader self.old.io)).left
             (reader_behind self.new.finished (P.left self.new.prefix) (P.faults self.new.prefix) (I.reader self.new.io)).left
             T.buffer T.under T.beside buf answer) }
-        ensures cause { IfAnswered result (λ answer. IsCaused
+        ensures none { IfAnswered result (λ answer. CountsNone (room (T.buffer buf)) (I.reader self.old.io).counts
+            (I.reader self.new.io).counts answer) }
+        ensures cause { IfAnswered result (λ answer. (task : ℕ) → IsCaused task
             (reader_behind self.old.finished (P.left self.old.prefix) (P.faults self.old.prefix) (I.reader self.old.io)).counts
             (reader_behind self.new.finished (P.left self.new.prefix) (P.faults self.new.prefix) (I.reader self.new.io)).counts answer) }
-        ensures counts { AfterCall
+        ensures counts { (group : Option ℕ) → AfterCall group
             (reader_behind self.old.finished (P.left self.old.prefix) (P.faults self.old.prefix) (I.reader self.old.io)).counts
             (reader_behind self.new.finished (P.left self.new.prefix) (P.faults self.new.prefix) (I.reader self.new.io)).counts }
         ensures behind { IfBehind result (λ back. (back ≡ buf) × (self.new.finished ≡ true)
@@ -138,10 +141,12 @@ impl<I: AsyncReadRent, P: ByteSource> PrefixedReadIo<I, P> {
             (reader_behind self.old.finished (P.left self.old.prefix) (P.faults self.old.prefix) (I.reader self.old.io)).left
             (reader_behind self.new.finished (P.left self.new.prefix) (P.faults self.new.prefix) (I.reader self.new.io)).left
             T.held buf answer) }
-        ensures cause { IfAnswered result (λ answer. IsCaused
+        ensures none { IfAnswered result (λ answer. CountsNone (room_of (T.held buf)) (I.reader self.old.io).counts
+            (I.reader self.new.io).counts answer) }
+        ensures cause { IfAnswered result (λ answer. (task : ℕ) → IsCaused task
             (reader_behind self.old.finished (P.left self.old.prefix) (P.faults self.old.prefix) (I.reader self.old.io)).counts
             (reader_behind self.new.finished (P.left self.new.prefix) (P.faults self.new.prefix) (I.reader self.new.io)).counts answer) }
-        ensures counts { AfterCall
+        ensures counts { (group : Option ℕ) → AfterCall group
             (reader_behind self.old.finished (P.left self.old.prefix) (P.faults self.old.prefix) (I.reader self.old.io)).counts
             (reader_behind self.new.finished (P.left self.new.prefix) (P.faults self.new.prefix) (I.reader self.new.io)).counts }
         ensures behind { IfBehind result (λ back. (back ≡ buf) × (self.new.finished ≡ true)

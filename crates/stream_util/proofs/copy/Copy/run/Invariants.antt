@@ -9,7 +9,7 @@ abbrev pub invariant-loop-turn : goal.invariant-loop-turn
 invariant-loop-turn g l =
     let reader = g.R.AsyncReadRent.reader in
     let writer = g.W.AsyncWriteRent.writer in
-    Ran g.R.AsyncReadRent.tells g.W.AsyncWriteRent.tells (record { reader = reader l.fn.reader; writer = writer l.fn.writer })
+    Ran l.counter g.R.AsyncReadRent.tells g.W.AsyncWriteRent.tells (record { reader = reader l.fn.reader; writer = writer l.fn.writer })
     (record { reader = reader l.reader; writer = writer l.writer }) l.fn.self l.copy
     × EndsStay (writer l.fn.writer) (writer l.writer)
     × (length l.copy.held ≤ MOST_HELD)
