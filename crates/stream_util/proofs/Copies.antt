@@ -1,10 +1,10 @@
 -- What polls of a copy move.
-use Rattle.std.proofs.Common.{◌≡◌, ◌∙◌, ℕ, ◌+◌, ◌^◌, ◌<◌, ◌≤◌, ◌≢◌, ◌⊎◌, inl, inr, refl, List, [], ◌++◌, Bool, length, take, drop}
+use Rattle.std.proofs.Common.{◌≡◌, ◌∙◌, ℕ, ◌+◌, ◌-◌, ◌^◌, ◌<◌, ◌≤◌, ◌≢◌, ◌⊎◌, inl, inr, refl, List, [], ◌++◌, Bool, length, take, drop}
 use Rattle.std.proofs.Common.{sym, ap, subst, arith}
 use Rattle.std.proofs.Common.{append_assoc, append-nil, length-append}
 use Rattle.std.specs.Prelude.{IsTrue, None, Result, Ok, Err}
 use Rattle.std.specs.List.{slice_range}
-use Rattle.std.proofs.lemmas.List.{length-take, take-append-drop, drop-drop}
+use Rattle.std.proofs.lemmas.List.{length-take, length-drop, take-append-drop, drop-drop}
 use Rattle.rent_buf.specs.declared.fault.IoFault.{IoFault}
 use Rattle.rent_buf.specs.Rent.{Rented, buffer_of_rent}
 use Rattle.rent_buf.specs.Slice.{Cut}
@@ -92,7 +92,7 @@ moves_none reads writes before now copy next bounded same left delivered = recor
 }
 
 -- What moved in some polls and then in others moved in all of them.
-pub moves_then : (reads writes : Bool) (before mid now : Ends) (copy next later : Copying) → Moves reads writes before mid copy next
+abbrev pub moves_then : (reads writes : Bool) (before mid now : Ends) (copy next later : Copying) → Moves reads writes before mid copy next
     → Moves reads writes mid now next later → Moves reads writes before now copy later
 moves_then reads writes before mid now copy next later m n = record {
   got = m.got ++ n.got;
@@ -157,21 +157,27 @@ uses_break : (turns : ℕ) (reads writes : Bool) (before mid now : Ends) (copy n
     → UsesAll (turns + 1) reads writes before now copy later
 uses_break turns reads writes before mid now copy next later ran call none (inl rose) =
     let u = ran.uses in
+    let moved : Moves reads writes before now copy later = moves_then reads writes before mid now copy next later u.moves none in
+    let got : length moved.got ≡ length u.moves.got + length none.got = length-append u.moves.got none.got in
+    let sent : length moved.sent ≡ length u.moves.sent + length none.sent = length-append u.moves.sent none.sent in
     record {
-      moves = moves_then reads writes before mid now copy next later u.moves none;
+      moves = moved;
       reader = u.reader + 1;
       writer = u.writer;
-      each = omega (arith, u.each, length-append u.moves.got none.got, length-append u.moves.sent none.sent);
+      each = omega (arith, u.each, got, sent);
       reads_break = omega (arith, u.reads_break, rose);
       writes_break = omega (arith, u.writes_break, call.writer.interrupts_stay);
     }
 uses_break turns reads writes before mid now copy next later ran call none (inr rose) =
     let u = ran.uses in
+    let moved : Moves reads writes before now copy later = moves_then reads writes before mid now copy next later u.moves none in
+    let got : length moved.got ≡ length u.moves.got + length none.got = length-append u.moves.got none.got in
+    let sent : length moved.sent ≡ length u.moves.sent + length none.sent = length-append u.moves.sent none.sent in
     record {
-      moves = moves_then reads writes before mid now copy next later u.moves none;
+      moves = moved;
       reader = u.reader;
       writer = u.writer + 1;
-      each = omega (arith, u.each, length-append u.moves.got none.got, length-append u.moves.sent none.sent);
+      each = omega (arith, u.each, got, sent);
       reads_break = omega (arith, u.reads_break, call.reader.interrupts_stay);
       writes_break = omega (arith, u.writes_break, rose);
     }
@@ -183,11 +189,14 @@ uses_some : (turns : ℕ) (reads writes : Bool) (before mid now : Ends) (copy ne
 uses_some turns reads writes before mid now copy next later ran call some =
     let u = ran.uses in
     let m = some.moves in
+    let moved : Moves reads writes before now copy later = moves_then reads writes before mid now copy next later u.moves m in
+    let got : length moved.got ≡ length u.moves.got + length m.got = length-append u.moves.got m.got in
+    let sent : length moved.sent ≡ length u.moves.sent + length m.sent = length-append u.moves.sent m.sent in
     record {
-      moves = moves_then reads writes before mid now copy next later u.moves m;
+      moves = moved;
       reader = u.reader;
       writer = u.writer;
-      each = omega (arith, u.each, some.some, length-append u.moves.got m.got, length-append u.moves.sent m.sent);
+      each = omega (arith, u.each, some.some, got, sent);
       reads_break = omega (arith, u.reads_break, call.reader.interrupts_stay);
       writes_break = omega (arith, u.writes_break, call.writer.interrupts_stay);
     }
@@ -239,9 +248,19 @@ run-end turns reads writes before mid now copy next rest (Err fault) ran same le
 run-end turns reads writes before mid now copy next rest (Err fault) ran same left (inr (inr none)) =
     inr (inr (
       omega (arith, none.0, ap length same),
-      none.1.0,
-      rose_later before.writer.counts.zeros mid.writer.counts.zeros now.writer.counts.zeros ran.writer.zeros none.1.1,
+      (none.1.0, rose_later before.writer.counts.zeros mid.writer.counts.zeros now.writer.counts.zeros ran.writer.zeros none.1.1),
     ))
+
+-- A write of none of a slice's bytes was counted, where the slice has some.
+pub slice_counted : {T : Type 0} (content : T → List ℕ) (buf : T) (slice : Cut T) (sent total n : ℕ) (before now : ℕ)
+    → slice ≡ record { inner = buf; begin = sent; end = total } → sent < total → total ≡ length (content buf) → n ≡ 0
+    → (n ≡ 0 → (length (slice_range (content slice.inner) slice.begin slice.end) ≡ 0) ⊎ Rose before now) → Rose before now
+slice_counted content buf slice sent total n before now cut some end none counted =
+    elim (subst (λ sl. (length (slice_range (content sl.inner) sl.begin sl.end) ≡ 0) ⊎ Rose before now) cut (counted none)) [
+      | inl empty ↦ absurd (omega (arith, empty, some, end, length-take (total - sent) (drop sent (content buf)),
+          length-drop sent (content buf)))
+      | inr rose ↦ rose
+    ]
 
 -- What a write that failed of some bytes that are held says of the copy.
 pub write_failed : (before now : Ends) (held : List ℕ) (fault : IoFault) → 0 < length held
@@ -266,7 +285,7 @@ all-of : (reads writes : Bool) (before now : Ends) (copy : Copying) (count : ℕ
     → Moves reads writes before now copy (record { held = rest; count = count }) → IsRunEnd reads before now count rest outcome
     → IsTrue reads → IsTrue writes → HasAll before now copy outcome
 all-of reads writes before now copy count rest (Ok n) m end r w =
-    let none : before.reader.left ≡ m.got = m.front r ∙ ap (λ l. m.got ++ l) (end.2.0 r) ∙ append-nil m.got in
+    let none : before.reader.left ≡ m.got = m.front r ∙ ap (λ l. m.got ++ l) (end.2 r) ∙ append-nil m.got in
     let all : m.sent ≡ copy.held ++ before.reader.left = sym (append-nil m.sent) ∙ ap (λ l. m.sent ++ l) (sym end.1) ∙ sym m.kept
     ∙ ap (λ l. copy.held ++ l) (sym none) in (
       m.delivered w ∙ ap (λ l. before.writer.delivered ++ l) all,

@@ -114,7 +114,7 @@ impl Copy {
         let _ = self.count();
         let _ = self.held();
         let mut copy = self;
-        for _turn in 0..turns {
+        for _ in 0..turns {
             match copy.poll(reader, writer, task) {
                 Step::Again(next) => copy = next,
                 Step::Pending(next) => return Step::Pending(next),

@@ -74,6 +74,7 @@ impl ZeroCopy {
         ensures ends { EndsStay (D.destination writer.old) (D.destination writer.new) }
         ensures joined { IsSameJoined S.tells D.tells (record { reader = S.source reader.old; writer = D.destination writer.old })
             (record { reader = S.source reader.new; writer = D.destination writer.new }) self.held (held_in result) }
+        ensures within { length (held_in result) ≤ MOST_SPLICED }
         ensures complete { CopyCompletes S.tells D.tells (record { reader = S.source reader.old; writer = D.destination writer.old })
             (record { reader = S.source reader.new; writer = D.destination writer.new }) self result
             (SplicesNone (record { reader = S.source reader.old; writer = D.destination writer.old })

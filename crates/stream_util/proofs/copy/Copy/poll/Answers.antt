@@ -3,7 +3,7 @@ use Rattle.std.proofs.lemmas.List.{length-drop}
 use Rattle.std.proofs.Math.ListN.{drop_of_length-le}
 use Rattle.rent_io.specs.declared.poll.Step.TheVariants.{Again}
 use Rattle.stream_util.proofs.Completeness.{copy_completes}
-use Rattle.stream_util.proofs.Copies.{fetched, delivered, same_joined}
+use Rattle.stream_util.proofs.Copies.{fetched, delivered, same_joined, slice_counted}
 use Rattle.stream_util.proofs.copy.Copy.poll.Goals as goal
 
 pub returns-else-n-eq0-clause-answer : goal.returns-else-n-eq0-clause-answer
@@ -45,7 +45,11 @@ returns-then-n-eq0-2-clause-answer g c =
       c.self.invariant.0,
     ) in
     let none = rw c.if-n-eq0-2.true at writes.2 in
-    rw c.ended-then-n-eq0-2.ensures (is, (λ _. refl, λ w. none w ∙ append-nil _), inr (inr (some, refl, some_of _ _ _ (rw c.if-n-eq0-2.true at (rw a.field-0-is at a.ensures.none)))))
+    let writer = g.W.AsyncWriteRent.writer in
+    let counted = slice_counted (λ r. r.bytes) i.buf c.new.result i.sent c.len-len.result a.n (writer c.args.writer.now).counts.zeros
+    (writer c.poll_write.new.self).counts.zeros c.new.ensures (omega (arith, c.if-sent-len.false, c.len-len.ensures, c.self.invariant.0))
+    c.len-len.ensures c.if-n-eq0-2.true (rw a.field-0-is at a.ensures.none) in
+    rw c.ended-then-n-eq0-2.ensures (is, (λ _. refl, λ w. none w ∙ append-nil _), inr (inr (some, (refl, counted))))
 
 pub returns-else-n-eq0-2-clause-answer : goal.returns-else-n-eq0-2-clause-answer
 returns-else-n-eq0-2-clause-answer g c =
