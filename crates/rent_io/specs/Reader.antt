@@ -1,5 +1,5 @@
 -- A stream that is read, and what a poll of a read does. Each clause on readers cites it.
-use Rattle.std.specs.Prelude.{ℕ, ◌≡◌, ◌≤◌, ◌⊎◌, nat_eq, if◌then◌else◌, Bool, IsTrue, List, [], ◌∷◌, ◌++◌, length, Option, Some, Ok, Err}
+use Rattle.std.specs.Prelude.{ℕ, ◌≡◌, ◌≤◌, ◌⊎◌, nat_eq, min, if◌then◌else◌, Bool, IsTrue, List, [], ◌∷◌, ◌++◌, length, Option, Some, Ok, Err}
 use Rattle.rent_buf.specs.Buffer.{Buffer, room, stored}
 use Rattle.rent_buf.specs.Parts.{Parts, parts_stored}
 use Rattle.rent_buf.specs.declared.fault.IoFault.TheVariants.{ReadFault}
@@ -58,6 +58,13 @@ ReadsParts tells left rest held buf (Ready (Ok n) back) = Scattered tells left r
 ReadsParts tells left rest held buf (Ready (Err fault) back) = (back ≡ buf) × (IsTrue tells → left ≡ rest)
 ReadsParts tells left rest held buf (Pending back) = (back ≡ buf) × (IsTrue tells → left ≡ rest)
 ReadsParts tells left rest held buf (Again back) = (back ≡ buf) × (IsTrue tells → left ≡ rest)
+
+-- A poll of a read gave the lesser of what there is and what there is room for.
+abbrev pub GivesUpTo : {T : Type 0} → ℕ → ℕ → PollBuf T → Type 0
+GivesUpTo there space (Ready (Ok n) back) = n ≡ min there space
+GivesUpTo there space (Ready (Err fault) back) = ⊥
+GivesUpTo there space (Pending back) = ⊥
+GivesUpTo there space (Again back) = ⊥
 
 -- A source as a reader: it never pauses, its faults are `ReadFault`, and it counts no calls, nor those that gave nothing.
 abbrev pub source_reader : List ℕ → ℕ → Reader

@@ -1,9 +1,9 @@
 // Streams that are read into a buffer which they are given for the time of a poll.
-ghost use Rattle.std.specs.Prelude.{Bool, true, None};
+ghost use Rattle.std.specs.Prelude.{Bool, true, None, length};
 ghost use Rattle.rent_buf.specs.Buffer.{room};
 ghost use Rattle.rent_io.specs.Counts.{AfterCall, slice_counts};
 ghost use Rattle.rent_io.specs.Polls.{IsCaused, CountsNone};
-ghost use Rattle.rent_io.specs.Reader.{Reader, Reads, ReadsParts, first_room};
+ghost use Rattle.rent_io.specs.Reader.{Reader, Reads, ReadsParts, GivesUpTo, first_room as room_of};
 
 use crate::poll::PollBuf;
 use crate::vectored::first_room;
@@ -31,7 +31,7 @@ pub trait AsyncReadRent {
     /// and answers their number: 0 only where no part has room, or at the end of the stream.
     fn poll_readv<T: IoVecBufMut>(&mut self, buf: T, task: u64) -> PollBuf<T>
         ensures reads { ReadsParts tells (reader self.old).left (reader self.new).left T.held buf result }
-        ensures none { CountsNone (first_room (T.held buf)) (reader self.old).counts (reader self.new).counts result }
+        ensures none { CountsNone (room_of (T.held buf)) (reader self.old).counts (reader self.new).counts result }
         ensures cause { IsCaused task (reader self.old).counts (reader self.new).counts result }
         ensures counts { AfterCall None (reader self.old).counts (reader self.new).counts };
 }
@@ -57,7 +57,13 @@ impl AsyncReadRent for &[u8] {
     ghost reader = { λ s. record { left = s.now; counts = slice_counts } };
 
     #[tactic(auto, using(crate::proofs::Fronts::taken_front))]
-    fn poll_read<T: IoBufMut>(&mut self, buf: T, _task: u64) -> PollBuf<T> {
+    fn poll_read<T: IoBufMut>(&mut self, buf: T, _task: u64) -> PollBuf<T>
+        ensures reads { Reads true self.old.now self.new.now T.buffer T.under T.beside buf result }
+        ensures none { CountsNone (room (T.buffer buf)) slice_counts slice_counts result }
+        ensures cause { IsCaused _task slice_counts slice_counts result }
+        ensures counts { AfterCall None slice_counts slice_counts }
+        ensures lesser { GivesUpTo (length self.old.now) (room (T.buffer buf)) result }
+    {
         let mut buf = buf;
         let left = *self;
         let count = buf.bytes_total().min(left.len());
@@ -68,7 +74,13 @@ impl AsyncReadRent for &[u8] {
     }
 
     #[tactic(auto, using(crate::proofs::Fronts::scattered_front))]
-    fn poll_readv<T: IoVecBufMut>(&mut self, buf: T, _task: u64) -> PollBuf<T> {
+    fn poll_readv<T: IoVecBufMut>(&mut self, buf: T, _task: u64) -> PollBuf<T>
+        ensures reads { ReadsParts true self.old.now self.new.now T.held buf result }
+        ensures none { CountsNone (room_of (T.held buf)) slice_counts slice_counts result }
+        ensures cause { IsCaused _task slice_counts slice_counts result }
+        ensures counts { AfterCall None slice_counts slice_counts }
+        ensures lesser { GivesUpTo (length self.old.now) (room_of (T.held buf)) result }
+    {
         let mut buf = buf;
         let left = *self;
         let count = first_room(&buf).min(left.len());

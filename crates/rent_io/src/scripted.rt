@@ -1,5 +1,5 @@
 // A stream in memory whose answers follow a script.
-ghost use Rattle.std.specs.Prelude.{◌≡◌, ◌+◌, ◌≤◌, ◌++◌, true, None, Some, length, drop};
+ghost use Rattle.std.specs.Prelude.{◌≡◌, ◌+◌, ◌≤◌, ◌++◌, true, None, Some, length, drop, min};
 ghost use Rattle.std.specs.List.{concat};
 ghost use Rattle.std.specs.Bool.{OnTrue, OnFalse};
 ghost use Rattle.rent_buf.specs.Buffer.{room};
@@ -7,18 +7,16 @@ ghost use Rattle.rent_buf.specs.declared.fault.IoFault.TheVariants.{OutOfMemory 
 ghost use Rattle.rent_io.specs.Counts.{Rose, AfterCall};
 ghost use Rattle.rent_io.specs.Polls.{CountsNone, Fails, IsCaused, IsWriteCaused, IsFlushCaused};
 ghost use Rattle.rent_io.specs.Reader.{Reads, ReadsParts, first_room as room_of};
-ghost use Rattle.rent_io.specs.Scripted.{fresh, as_reader, as_writer, Turns};
-ghost use Rattle.rent_io.specs.Writer.{EndsStay, Writes, CountsDone};
+ghost use Rattle.rent_io.specs.Scripted.{fresh, as_reader, as_writer, EndsBy, Follows, ReadsBy, Turns, WritesBy};
+ghost use Rattle.rent_io.specs.Writer.{EndsStay, Writes, CountsDone, first_part as part_of};
 
-use crate::async_read_rent::AsyncReadRent;
-use crate::async_rent_cancelable::{CancelableAsyncReadRent, CancelableAsyncWriteRent};
-use crate::async_write_rent::AsyncWriteRent;
 use crate::poll::{PollBuf, PollCount};
 use crate::vectored::{first_part, first_room};
-use cancel_core::CancelHandle;
 use rent_buf::{ByteList, IoBuf, IoBufMut, IoFault, IoVecBuf, IoVecBufMut};
 use std::alloc::Global;
 use std::marker::Model;
+
+mod streams;
 
 /// What one call of a scripted stream does (not in monoio).
 #[derive(Clone, Copy, Debug, PartialEq, Eq)]
@@ -203,6 +201,7 @@ impl ScriptedStream {
         ensures left { self.new.left ≡ self.old.left }
         ensures cause { IsWriteCaused task self.old.counts self.new.counts result }
         ensures counts { AfterCall group self.old.counts self.new.counts }
+        ensures follows { Follows self.old self.new (λ turn. WritesBy turn (length bytes.now) result) }
     {
         match self.turn(task, group) {
             Turned1::Grant(most) => {
@@ -227,6 +226,7 @@ impl ScriptedStream {
         ensures none { CountsNone (room (T.buffer buf)) self.old.counts self.new.counts result }
         ensures cause { IsCaused task self.old.counts self.new.counts result }
         ensures counts { AfterCall group self.old.counts self.new.counts }
+        ensures follows { Follows self.old self.new (λ turn. ReadsBy turn (min (room (T.buffer buf)) (length self.old.left)) result) }
     {
         match self.turn(task, group) {
             Turned1::Grant(most) => {
@@ -253,6 +253,7 @@ impl ScriptedStream {
         ensures none { CountsNone (room_of (T.held buf)) self.old.counts self.new.counts result }
         ensures cause { IsCaused task self.old.counts self.new.counts result }
         ensures counts { AfterCall group self.old.counts self.new.counts }
+        ensures follows { Follows self.old self.new (λ turn. ReadsBy turn (min (room_of (T.held buf)) (length self.old.left)) result) }
     {
         match self.turn(task, group) {
             Turned1::Grant(most) => {
@@ -277,6 +278,7 @@ impl ScriptedStream {
         ensures same { self.new ≡ record self.old { script = self.new.script; counts = self.new.counts } }
         ensures cause { IsFlushCaused task self.old.counts self.new.counts result }
         ensures counts { AfterCall group self.old.counts self.new.counts }
+        ensures follows { Follows self.old self.new (λ turn. EndsBy turn result) }
     {
         match self.turn(task, group) {
             Turned1::Grant(_) => PollCount::Ready(Ok(0)),
@@ -293,6 +295,7 @@ impl ScriptedStream {
         ensures ends { EndsStay (as_writer self.old) (as_writer self.new) }
         ensures cause { IsWriteCaused task self.old.counts self.new.counts result }
         ensures counts { AfterCall group self.old.counts self.new.counts }
+        ensures follows { Follows self.old self.new (λ turn. WritesBy turn (length (T.content buf)) result) }
     {
         match self.write(buf.bytes(), group, task) {
             PollBuf::Ready(outcome, ()) => PollBuf::Ready(outcome, buf),
@@ -309,6 +312,7 @@ impl ScriptedStream {
         ensures ends { EndsStay (as_writer self.old) (as_writer self.new) }
         ensures cause { IsWriteCaused task self.old.counts self.new.counts result }
         ensures counts { AfterCall group self.old.counts self.new.counts }
+        ensures follows { Follows self.old self.new (λ turn. WritesBy turn (length (part_of (T.parts buf))) result) }
     {
         match self.write(first_part(&buf), group, task) {
             PollBuf::Ready(outcome, ()) => PollBuf::Ready(outcome, buf),
@@ -323,6 +327,7 @@ impl ScriptedStream {
         ensures flushes { CountsDone self.old.flushes self.new.flushes result }
         ensures cause { IsFlushCaused task self.old.counts self.new.counts result }
         ensures counts { AfterCall group self.old.counts self.new.counts }
+        ensures follows { Follows self.old self.new (λ turn. EndsBy turn result) }
     {
         let answer = self.end(group, task);
         if let PollCount::Ready(Ok(_)) = answer {
@@ -337,96 +342,12 @@ impl ScriptedStream {
         ensures shutdowns { CountsDone self.old.shutdowns self.new.shutdowns result }
         ensures cause { IsFlushCaused task self.old.counts self.new.counts result }
         ensures counts { AfterCall group self.old.counts self.new.counts }
+        ensures follows { Follows self.old self.new (λ turn. EndsBy turn result) }
     {
         let answer = self.end(group, task);
         if let PollCount::Ready(Ok(_)) = answer {
             self.shutdowns = self.shutdowns.saturating_add(1);
         }
         answer
-    }
-}
-
-impl AsyncReadRent for ScriptedStream {
-    ghost tells = { true };
-
-    ghost reader = { as_reader };
-
-    fn poll_read<T: IoBufMut>(&mut self, buf: T, task: u64) -> PollBuf<T> {
-        self.read(buf, None, task)
-    }
-
-    fn poll_readv<T: IoVecBufMut>(&mut self, buf: T, task: u64) -> PollBuf<T> {
-        self.readv(buf, None, task)
-    }
-}
-
-impl AsyncWriteRent for ScriptedStream {
-    ghost tells = { true };
-
-    ghost writer = { as_writer };
-
-    fn poll_write<T: IoBuf>(&mut self, buf: T, task: u64) -> PollBuf<T> {
-        self.write_buf(buf, None, task)
-    }
-
-    fn poll_writev<T: IoVecBuf>(&mut self, buf: T, task: u64) -> PollBuf<T> {
-        self.write_parts(buf, None, task)
-    }
-
-    fn poll_flush(&mut self, task: u64) -> PollCount {
-        self.flush(None, task)
-    }
-
-    fn poll_shutdown(&mut self, task: u64) -> PollCount {
-        self.shut(None, task)
-    }
-}
-
-// A handle changes nothing but the group that is remembered.
-impl CancelableAsyncReadRent for ScriptedStream {
-    fn poll_cancelable_read<T: IoBufMut>(
-        &mut self,
-        buf: T,
-        c: CancelHandle,
-        task: u64,
-    ) -> PollBuf<T> {
-        self.read(buf, Some(c.group()), task)
-    }
-
-    fn poll_cancelable_readv<T: IoVecBufMut>(
-        &mut self,
-        buf: T,
-        c: CancelHandle,
-        task: u64,
-    ) -> PollBuf<T> {
-        self.readv(buf, Some(c.group()), task)
-    }
-}
-
-impl CancelableAsyncWriteRent for ScriptedStream {
-    fn poll_cancelable_write<T: IoBuf>(
-        &mut self,
-        buf: T,
-        c: CancelHandle,
-        task: u64,
-    ) -> PollBuf<T> {
-        self.write_buf(buf, Some(c.group()), task)
-    }
-
-    fn poll_cancelable_writev<T: IoVecBuf>(
-        &mut self,
-        buf: T,
-        c: CancelHandle,
-        task: u64,
-    ) -> PollBuf<T> {
-        self.write_parts(buf, Some(c.group()), task)
-    }
-
-    fn poll_cancelable_flush(&mut self, c: CancelHandle, task: u64) -> PollCount {
-        self.flush(Some(c.group()), task)
-    }
-
-    fn poll_cancelable_shutdown(&mut self, c: CancelHandle, task: u64) -> PollCount {
-        self.shut(Some(c.group()), task)
     }
 }
