@@ -1,5 +1,5 @@
 -- Counts that a stream, a source or a sink keeps. Each clause that gives an answer its cause cites it.
-use Rattle.std.specs.Prelude.{ℕ, ◌≡◌, ◌+◌, ◌-◌, ◌^◌, ◌≤◌, ◌⊎◌, Option, None}
+use Rattle.std.specs.Prelude.{ℕ, ◌≡◌, ◌+◌, ◌-◌, ◌^◌, ◌≤◌, ◌⊎◌, min, Option, None}
 use Rattle.rent_buf.specs.declared.fault.IoFault.{IoFault}
 pub use Rattle.rent_buf.specs.Counts.{Rose}
 
@@ -35,3 +35,7 @@ no_counts = record
 -- each call.
 abbrev pub slice_counts : Counts
 slice_counts = record no_counts { zeros = 2 ^ 64 - 1 }
+
+-- A count once more. It stays at the last value of a `u64`.
+abbrev pub once_more : ℕ → ℕ
+once_more count = min (count + 1) (2 ^ 64 - 1)

@@ -1,5 +1,5 @@
 -- A source and a sink in memory as contracts see them: they fail at the calls that they are told to.
-use Rattle.std.specs.Prelude.{ℕ, ◌+◌, ◌-◌, ◌^◌, ◌==◌, min, Bool, true, List, []}
+use Rattle.std.specs.Prelude.{ℕ, ◌==◌, Bool, true, List, []}
 use Rattle.std.specs.List.{list_any}
 
 -- What is left, the numbers of the reads that fail, how many reads were made, and how often it failed.
@@ -29,7 +29,3 @@ fresh_sink failing = record { taken = []; failing = failing; calls = 0; faults =
 -- The call of this number is one of those that fail.
 abbrev pub is_to_fail : List ℕ → ℕ → Bool
 is_to_fail failing call = list_any (λ number. number == call) failing
-
--- A count once more. It stays at the last value of a `u64`.
-abbrev pub once_more : ℕ → ℕ
-once_more count = min (count + 1) (2 ^ 64 - 1)

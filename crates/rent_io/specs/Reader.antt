@@ -66,6 +66,13 @@ GivesUpTo there space (Ready (Err fault) back) = ⊥
 GivesUpTo there space (Pending back) = ⊥
 GivesUpTo there space (Again back) = ⊥
 
+-- A fact of a poll of a read that gave so many bytes.
+abbrev pub IfGiven : {T : Type 0} → PollBuf T → (ℕ → Type 0) → Type 0
+IfGiven (Ready (Ok n) back) P = P n
+IfGiven (Ready (Err fault) back) P = Unit {0}
+IfGiven (Pending back) P = Unit {0}
+IfGiven (Again back) P = Unit {0}
+
 -- A source as a reader: it never pauses, its faults are `ReadFault`, and it counts no calls, nor those that gave nothing.
 abbrev pub source_reader : List ℕ → ℕ → Reader
 source_reader left faults = record { left = left; counts = record slice_counts { faults = faults; fault = Some ReadFault } }

@@ -7,7 +7,7 @@ use Rattle.rent_io.specs.declared.poll.PollCount.{PollCount}
 use Rattle.rent_io.specs.declared.poll.PollCount.TheVariants.{Ready as CountReady, Pending as CountPending, Again as CountAgain}
 use Rattle.rent_io.specs.declared.scripted.Turned1.{Turned1}
 use Rattle.rent_io.specs.declared.scripted.Turned1.TheVariants.{Grant, Pause, Interrupt, Fault}
-use Rattle.rent_io.specs.Counts.{Counts, AfterCall, Rose, no_counts}
+use Rattle.rent_io.specs.Counts.{Counts, AfterCall, Rose, no_counts, once_more}
 use Rattle.rent_io.specs.Polls.{Fails, Pauses}
 use Rattle.rent_io.specs.Reader.{Reader}
 use Rattle.rent_io.specs.Writer.{Writer}
@@ -68,10 +68,13 @@ EndsBy turn (CountReady (Err fault)) = (error : ℕ) × (turn ≡ Fault error) �
 EndsBy turn CountPending = turn ≡ Pause
 EndsBy turn CountAgain = turn ≡ Interrupt
 
--- A call took the next turn of the script, and answered by it.
-pub record Follows (before now : Scripted) (answers : Turned1 → Type 0) : Type 0 where
+-- A call, plain or under this cancel group, took the next turn of the script, and answered by it. It is counted, and the group is
+-- remembered.
+pub record Follows (group : Option ℕ) (before now : Scripted) (answers : Turned1 → Type 0) : Type 0 where
   pub turn : Turned1
   pub next : IsNext before.script now.script turn
+  pub called : now.counts.calls ≡ once_more before.counts.calls
+  pub under : now.counts.group ≡ group
   pub answer : answers turn
 
 -- What taking the next turn of the script does, for a call of this task, plain or under this cancel group.
@@ -80,3 +83,5 @@ pub record Turns (task : ℕ) (group : Option ℕ) (before now : Scripted) (turn
   pub counts : AfterCall group before.counts now.counts
   pub rises : Rises turn task before.counts now.counts
   pub next : IsNext before.script now.script turn
+  pub called : now.counts.calls ≡ once_more before.counts.calls
+  pub under : now.counts.group ≡ group

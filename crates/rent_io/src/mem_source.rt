@@ -1,7 +1,7 @@
 //! Sources and sinks in memory, which fail at the calls that they are told to.
 ghost use Rattle.std.specs.Prelude.{◌≡◌, ◌≤◌, ◌++◌, length, take, true, false, IfOk, IsTrue, OnOk, OnErr};
-ghost use Rattle.rent_io.specs.Counts.{Rose};
-ghost use Rattle.rent_io.specs.MemSource.{fresh_source, fresh_sink, is_to_fail, once_more};
+ghost use Rattle.rent_io.specs.Counts.{Rose, once_more};
+ghost use Rattle.rent_io.specs.MemSource.{fresh_source, fresh_sink, is_to_fail};
 ghost use Rattle.rent_io.specs.Sink.{WritesFor, FlushesFor};
 ghost use Rattle.rent_io.specs.Source.{ReadsFor};
 

@@ -201,7 +201,7 @@ impl ScriptedStream {
         ensures left { self.new.left ≡ self.old.left }
         ensures cause { IsWriteCaused task self.old.counts self.new.counts result }
         ensures counts { AfterCall group self.old.counts self.new.counts }
-        ensures follows { Follows self.old self.new (λ turn. WritesBy turn (length bytes.now) result) }
+        ensures follows { Follows group self.old self.new (λ turn. WritesBy turn (length bytes.now) result) }
     {
         match self.turn(task, group) {
             Turned1::Grant(most) => {
@@ -226,7 +226,7 @@ impl ScriptedStream {
         ensures none { CountsNone (room (T.buffer buf)) self.old.counts self.new.counts result }
         ensures cause { IsCaused task self.old.counts self.new.counts result }
         ensures counts { AfterCall group self.old.counts self.new.counts }
-        ensures follows { Follows self.old self.new (λ turn. ReadsBy turn (min (room (T.buffer buf)) (length self.old.left)) result) }
+        ensures follows { Follows group self.old self.new (λ turn. ReadsBy turn (min (room (T.buffer buf)) (length self.old.left)) result) }
     {
         match self.turn(task, group) {
             Turned1::Grant(most) => {
@@ -253,7 +253,7 @@ impl ScriptedStream {
         ensures none { CountsNone (room_of (T.held buf)) self.old.counts self.new.counts result }
         ensures cause { IsCaused task self.old.counts self.new.counts result }
         ensures counts { AfterCall group self.old.counts self.new.counts }
-        ensures follows { Follows self.old self.new (λ turn. ReadsBy turn (min (room_of (T.held buf)) (length self.old.left)) result) }
+        ensures follows { Follows group self.old self.new (λ turn. ReadsBy turn (min (room_of (T.held buf)) (length self.old.left)) result) }
     {
         match self.turn(task, group) {
             Turned1::Grant(most) => {
@@ -278,7 +278,7 @@ impl ScriptedStream {
         ensures same { self.new ≡ record self.old { script = self.new.script; counts = self.new.counts } }
         ensures cause { IsFlushCaused task self.old.counts self.new.counts result }
         ensures counts { AfterCall group self.old.counts self.new.counts }
-        ensures follows { Follows self.old self.new (λ turn. EndsBy turn result) }
+        ensures follows { Follows group self.old self.new (λ turn. EndsBy turn result) }
     {
         match self.turn(task, group) {
             Turned1::Grant(_) => PollCount::Ready(Ok(0)),
@@ -295,7 +295,7 @@ impl ScriptedStream {
         ensures ends { EndsStay (as_writer self.old) (as_writer self.new) }
         ensures cause { IsWriteCaused task self.old.counts self.new.counts result }
         ensures counts { AfterCall group self.old.counts self.new.counts }
-        ensures follows { Follows self.old self.new (λ turn. WritesBy turn (length (T.content buf)) result) }
+        ensures follows { Follows group self.old self.new (λ turn. WritesBy turn (length (T.content buf)) result) }
     {
         match self.write(buf.bytes(), group, task) {
             PollBuf::Ready(outcome, ()) => PollBuf::Ready(outcome, buf),
@@ -312,7 +312,7 @@ impl ScriptedStream {
         ensures ends { EndsStay (as_writer self.old) (as_writer self.new) }
         ensures cause { IsWriteCaused task self.old.counts self.new.counts result }
         ensures counts { AfterCall group self.old.counts self.new.counts }
-        ensures follows { Follows self.old self.new (λ turn. WritesBy turn (length (part_of (T.parts buf))) result) }
+        ensures follows { Follows group self.old self.new (λ turn. WritesBy turn (length (part_of (T.parts buf))) result) }
     {
         match self.write(first_part(&buf), group, task) {
             PollBuf::Ready(outcome, ()) => PollBuf::Ready(outcome, buf),
@@ -327,7 +327,7 @@ impl ScriptedStream {
         ensures flushes { CountsDone self.old.flushes self.new.flushes result }
         ensures cause { IsFlushCaused task self.old.counts self.new.counts result }
         ensures counts { AfterCall group self.old.counts self.new.counts }
-        ensures follows { Follows self.old self.new (λ turn. EndsBy turn result) }
+        ensures follows { Follows group self.old self.new (λ turn. EndsBy turn result) }
     {
         let answer = self.end(group, task);
         if let PollCount::Ready(Ok(_)) = answer {
@@ -342,7 +342,7 @@ impl ScriptedStream {
         ensures shutdowns { CountsDone self.old.shutdowns self.new.shutdowns result }
         ensures cause { IsFlushCaused task self.old.counts self.new.counts result }
         ensures counts { AfterCall group self.old.counts self.new.counts }
-        ensures follows { Follows self.old self.new (λ turn. EndsBy turn result) }
+        ensures follows { Follows group self.old self.new (λ turn. EndsBy turn result) }
     {
         let answer = self.end(group, task);
         if let PollCount::Ready(Ok(_)) = answer {

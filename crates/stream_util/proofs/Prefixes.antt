@@ -1,5 +1,5 @@
 -- Reads of a prefix.
-use Rattle.std.proofs.Common.{◌≡◌, ◌∙◌, ℕ, ◌+◌, ◌≤◌, ◌≢◌, List, ◌++◌, Bool, true, false, length, take, ap, append_assoc, arith, min, subst}
+use Rattle.std.proofs.Common.{◌≡◌, ◌∙◌, ℕ, ◌+◌, ◌≤◌, ◌≢◌, List, ◌++◌, Bool, true, false, length, take, ap, append_assoc, arith, min, subst, sym}
 use Rattle.std.specs.Prelude.{IsTrue, ◌&&◌, Option, Ok, Err}
 use Rattle.std.proofs.lemmas.Bool.{false≢true}
 use Rattle.rent_buf.specs.Buffer.{Buffer, room, put}
@@ -11,7 +11,7 @@ use Rattle.rent_io.specs.Polls.{IsCaused}
 use Rattle.rent_io.specs.Reader.{Taken, Scattered, first_room}
 use Rattle.rent_io.specs.Source.{Gives}
 use Rattle.rent_io.specs.declared.source_stream.TheConstants.{PIECE}
-use Rattle.stream_util.specs.PrefixedReadIo.{counts_behind, fault_of, prefix_left}
+use Rattle.stream_util.specs.PrefixedReadIo.{Prefixed, PrefixEnds, PrefixRule, counts_behind, fault_of, prefix_left}
 use Rattle.rent_io.proofs.Pieces.{taken_piece, scattered_piece}
 
 -- Where both tell, the second does.
@@ -82,3 +82,14 @@ called_behind group finished ended faults later before mid now same grew called 
       one_call = call.one_call;
       under = call.under;
     }
+
+-- A read behind a prefix that has ended keeps to the rule.
+pub rule_behind : {I P T : Type 0} (tells : Bool) (left : P → List ℕ) (before mid now : Prefixed I P) (space : ℕ) (result : PollBuf T)
+    → PrefixEnds tells left before mid → now.finished ≡ mid.finished → now.prefix ≡ mid.prefix
+    → PrefixRule tells left before now space result
+rule_behind tells left before mid now space result ended finished prefix = record {
+  first = λ going. absurd (false≢true (sym going ∙ finished ∙ ended.finished));
+  some = λ going. absurd (false≢true (sym going ∙ finished ∙ ended.finished));
+  ends = λ going _. ended.none_left going;
+  stays = λ over. (finished ∙ ended.finished, prefix ∙ ended.stays over);
+}

@@ -4,7 +4,7 @@ use Rattle.rent_io.specs.declared.poll.PollBuf.{PollBuf}
 use Rattle.rent_io.specs.declared.poll.PollBuf.TheVariants.{Ready, Pending, Again}
 use Rattle.rent_io.specs.declared.poll.PollCount.{PollCount}
 use Rattle.rent_io.specs.declared.poll.PollCount.TheVariants.{Ready as CountReady, Pending as CountPending, Again as CountAgain}
-use Rattle.rent_io.specs.Reader.{Reader, WasFront}
+use Rattle.rent_io.specs.Reader.{Reader, WasFront, GivesUpTo, IfGiven}
 
 -- Such a reader is the one inside, the bytes that are buffered, and how many it buffers at most.
 pub record Reading (R : Type 0) : Type 0 where
@@ -26,13 +26,6 @@ GivesUpTo there space (Ready (Ok n) back) = n ≡ min there space
 GivesUpTo there space (Ready (Err fault) back) = ⊥
 GivesUpTo there space (Pending back) = ⊥
 GivesUpTo there space (Again back) = ⊥
-
--- A fact of a poll of a read that gave so many bytes.
-abbrev pub IfGiven : {T : Type 0} → PollBuf T → (ℕ → Type 0) → Type 0
-IfGiven (Ready (Ok n) back) P = P n
-IfGiven (Ready (Err fault) back) P = Unit {0}
-IfGiven (Pending back) P = Unit {0}
-IfGiven (Again back) P = Unit {0}
 
 -- A read that filled the empty buffer first: of what came, at most as much as the buffer takes, it gave the first bytes.
 pub record FillsFirst {R : Type 0} (inner : R → Reader) (tells : Bool) (before now : Reading R) (space n : ℕ) : Type 0 where

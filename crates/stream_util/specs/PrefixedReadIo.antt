@@ -1,10 +1,10 @@
 -- A stream with a prefix in front of its reads.
-use Rattle.std.specs.Prelude.{ℕ, ◌+◌, Bool, true, false, Option, Some, List, [], ◌++◌}
+use Rattle.std.specs.Prelude.{ℕ, ◌≡◌, ◌+◌, Bool, true, false, IsTrue, Option, Some, List, [], ◌++◌}
 use Rattle.rent_buf.specs.declared.fault.IoFault.{IoFault}
 use Rattle.rent_buf.specs.declared.fault.IoFault.TheVariants.{ReadFault}
 use Rattle.rent_io.specs.declared.poll.PollBuf.{PollBuf}
 use Rattle.rent_io.specs.Counts.{Counts}
-use Rattle.rent_io.specs.Reader.{Reader}
+use Rattle.rent_io.specs.Reader.{Reader, IfGiven}
 use Rattle.stream_util.specs.declared.prefixed_io.Front.{Front}
 use Rattle.stream_util.specs.declared.prefixed_io.Front.TheVariants.{Answered, Behind}
 
@@ -41,3 +41,19 @@ IfAnswered (Behind buf) P = Unit {0}
 abbrev pub IfBehind : {T : Type 0} → Front T → (T → Type 0) → Type 0
 IfBehind (Answered answer) P = Unit {0}
 IfBehind (Behind buf) P = P buf
+
+-- The rule for a read that the prefix may answer. Until the prefix has ended the stream inside is left alone, and a read gives no byte only
+-- where there is no room: so the first read of the prefix that gives none ends it. Where it tells its bytes none was left then. Once it has
+-- ended it is read no more.
+pub record PrefixRule {I P T : Type 0} (tells : Bool) (left : P → List ℕ) (before now : Prefixed I P) (space : ℕ) (result : PollBuf T) : Type 0
+  where
+    pub first : now.finished ≡ false → now.io ≡ before.io
+    pub some : now.finished ≡ false → IfGiven result (λ n. n ≡ 0 → space ≡ 0)
+    pub ends : before.finished ≡ false → now.finished ≡ true → IsTrue tells → left before.prefix ≡ []
+    pub stays : before.finished ≡ true → (now.finished ≡ true) × (now.prefix ≡ before.prefix)
+
+-- Such a read of the prefix was made, and the prefix has ended: the stream inside is to be read.
+pub record PrefixEnds {I P : Type 0} (tells : Bool) (left : P → List ℕ) (before now : Prefixed I P) : Type 0 where
+  pub finished : now.finished ≡ true
+  pub none_left : before.finished ≡ false → IsTrue tells → left before.prefix ≡ []
+  pub stays : before.finished ≡ true → now.prefix ≡ before.prefix

@@ -26,7 +26,7 @@ impl AsyncReadRent for ScriptedStream {
         ensures none { CountsNone (room (T.buffer buf)) self.old.counts self.new.counts result }
         ensures cause { IsCaused task self.old.counts self.new.counts result }
         ensures counts { AfterCall None self.old.counts self.new.counts }
-        ensures follows { Follows self.old self.new (λ turn. ReadsBy turn (min (room (T.buffer buf)) (length self.old.left)) result) }
+        ensures follows { Follows None self.old self.new (λ turn. ReadsBy turn (min (room (T.buffer buf)) (length self.old.left)) result) }
     {
         self.read(buf, None, task)
     }
@@ -36,7 +36,7 @@ impl AsyncReadRent for ScriptedStream {
         ensures none { CountsNone (room_of (T.held buf)) self.old.counts self.new.counts result }
         ensures cause { IsCaused task self.old.counts self.new.counts result }
         ensures counts { AfterCall None self.old.counts self.new.counts }
-        ensures follows { Follows self.old self.new (λ turn. ReadsBy turn (min (room_of (T.held buf)) (length self.old.left)) result) }
+        ensures follows { Follows None self.old self.new (λ turn. ReadsBy turn (min (room_of (T.held buf)) (length self.old.left)) result) }
     {
         self.readv(buf, None, task)
     }
@@ -53,7 +53,7 @@ impl AsyncWriteRent for ScriptedStream {
         ensures ends { EndsStay (as_writer self.old) (as_writer self.new) }
         ensures cause { IsWriteCaused task self.old.counts self.new.counts result }
         ensures counts { AfterCall None self.old.counts self.new.counts }
-        ensures follows { Follows self.old self.new (λ turn. WritesBy turn (length (T.content buf)) result) }
+        ensures follows { Follows None self.old self.new (λ turn. WritesBy turn (length (T.content buf)) result) }
     {
         self.write_buf(buf, None, task)
     }
@@ -64,7 +64,7 @@ impl AsyncWriteRent for ScriptedStream {
         ensures ends { EndsStay (as_writer self.old) (as_writer self.new) }
         ensures cause { IsWriteCaused task self.old.counts self.new.counts result }
         ensures counts { AfterCall None self.old.counts self.new.counts }
-        ensures follows { Follows self.old self.new (λ turn. WritesBy turn (length (part_of (T.parts buf))) result) }
+        ensures follows { Follows None self.old self.new (λ turn. WritesBy turn (length (part_of (T.parts buf))) result) }
     {
         self.write_parts(buf, None, task)
     }
@@ -75,7 +75,7 @@ impl AsyncWriteRent for ScriptedStream {
         ensures shutdowns { self.new.shutdowns ≡ self.old.shutdowns }
         ensures cause { IsFlushCaused task self.old.counts self.new.counts result }
         ensures counts { AfterCall None self.old.counts self.new.counts }
-        ensures follows { Follows self.old self.new (λ turn. EndsBy turn result) }
+        ensures follows { Follows None self.old self.new (λ turn. EndsBy turn result) }
     {
         self.flush(None, task)
     }
@@ -86,7 +86,7 @@ impl AsyncWriteRent for ScriptedStream {
         ensures shutdowns { CountsDone self.old.shutdowns self.new.shutdowns result }
         ensures cause { IsFlushCaused task self.old.counts self.new.counts result }
         ensures counts { AfterCall None self.old.counts self.new.counts }
-        ensures follows { Follows self.old self.new (λ turn. EndsBy turn result) }
+        ensures follows { Follows None self.old self.new (λ turn. EndsBy turn result) }
     {
         self.shut(None, task)
     }
@@ -104,7 +104,7 @@ impl CancelableAsyncReadRent for ScriptedStream {
         ensures none { CountsNone (room (T.buffer buf)) self.old.counts self.new.counts result }
         ensures cause { IsCaused task self.old.counts self.new.counts result }
         ensures counts { AfterCall (Some c) self.old.counts self.new.counts }
-        ensures follows { Follows self.old self.new (λ turn. ReadsBy turn (min (room (T.buffer buf)) (length self.old.left)) result) }
+        ensures follows { Follows (Some c) self.old self.new (λ turn. ReadsBy turn (min (room (T.buffer buf)) (length self.old.left)) result) }
     {
         self.read(buf, Some(c.group()), task)
     }
@@ -119,7 +119,7 @@ impl CancelableAsyncReadRent for ScriptedStream {
         ensures none { CountsNone (room_of (T.held buf)) self.old.counts self.new.counts result }
         ensures cause { IsCaused task self.old.counts self.new.counts result }
         ensures counts { AfterCall (Some c) self.old.counts self.new.counts }
-        ensures follows { Follows self.old self.new (λ turn. ReadsBy turn (min (room_of (T.held buf)) (length self.old.left)) result) }
+        ensures follows { Follows (Some c) self.old self.new (λ turn. ReadsBy turn (min (room_of (T.held buf)) (length self.old.left)) result) }
     {
         self.readv(buf, Some(c.group()), task)
     }
@@ -137,7 +137,7 @@ impl CancelableAsyncWriteRent for ScriptedStream {
         ensures ends { EndsStay (as_writer self.old) (as_writer self.new) }
         ensures cause { IsWriteCaused task self.old.counts self.new.counts result }
         ensures counts { AfterCall (Some c) self.old.counts self.new.counts }
-        ensures follows { Follows self.old self.new (λ turn. WritesBy turn (length (T.content buf)) result) }
+        ensures follows { Follows (Some c) self.old self.new (λ turn. WritesBy turn (length (T.content buf)) result) }
     {
         self.write_buf(buf, Some(c.group()), task)
     }
@@ -153,7 +153,7 @@ impl CancelableAsyncWriteRent for ScriptedStream {
         ensures ends { EndsStay (as_writer self.old) (as_writer self.new) }
         ensures cause { IsWriteCaused task self.old.counts self.new.counts result }
         ensures counts { AfterCall (Some c) self.old.counts self.new.counts }
-        ensures follows { Follows self.old self.new (λ turn. WritesBy turn (length (part_of (T.parts buf))) result) }
+        ensures follows { Follows (Some c) self.old self.new (λ turn. WritesBy turn (length (part_of (T.parts buf))) result) }
     {
         self.write_parts(buf, Some(c.group()), task)
     }
@@ -164,7 +164,7 @@ impl CancelableAsyncWriteRent for ScriptedStream {
         ensures shutdowns { self.new.shutdowns ≡ self.old.shutdowns }
         ensures cause { IsFlushCaused task self.old.counts self.new.counts result }
         ensures counts { AfterCall (Some c) self.old.counts self.new.counts }
-        ensures follows { Follows self.old self.new (λ turn. EndsBy turn result) }
+        ensures follows { Follows (Some c) self.old self.new (λ turn. EndsBy turn result) }
     {
         self.flush(Some(c.group()), task)
     }
@@ -175,7 +175,7 @@ impl CancelableAsyncWriteRent for ScriptedStream {
         ensures shutdowns { CountsDone self.old.shutdowns self.new.shutdowns result }
         ensures cause { IsFlushCaused task self.old.counts self.new.counts result }
         ensures counts { AfterCall (Some c) self.old.counts self.new.counts }
-        ensures follows { Follows self.old self.new (λ turn. EndsBy turn result) }
+        ensures follows { Follows (Some c) self.old self.new (λ turn. EndsBy turn result) }
     {
         self.shut(Some(c.group()), task)
     }
