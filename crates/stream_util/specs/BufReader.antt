@@ -4,7 +4,7 @@ use Rattle.rent_io.specs.declared.poll.PollBuf.{PollBuf}
 use Rattle.rent_io.specs.declared.poll.PollBuf.TheVariants.{Ready, Pending, Again}
 use Rattle.rent_io.specs.declared.poll.PollCount.{PollCount}
 use Rattle.rent_io.specs.declared.poll.PollCount.TheVariants.{Ready as CountReady, Pending as CountPending, Again as CountAgain}
-use Rattle.rent_io.specs.Reader.{Reader, WasFront}
+use Rattle.rent_io.specs.Reader.{Reader, WasFront, GivesUpTo}
 
 -- Such a reader is the one inside, the bytes that are buffered, and how many it buffers at most.
 pub record Reading (R : Type 0) : Type 0 where
@@ -19,13 +19,6 @@ fresh_reader inner capacity = record { inner = inner; held = []; capacity = capa
 -- It as a reader: the bytes that are left are those that are buffered, and then those that are left of the one inside.
 abbrev pub reader_over : {R : Type 0} → Reader → Reading R → Reader
 reader_over inner r = record { left = r.held ++ inner.left; counts = inner.counts }
-
--- A poll of a read gave the lesser of what there is and what there is room for.
-abbrev pub GivesUpTo : {T : Type 0} → ℕ → ℕ → PollBuf T → Type 0
-GivesUpTo there space (Ready (Ok n) back) = n ≡ min there space
-GivesUpTo there space (Ready (Err fault) back) = ⊥
-GivesUpTo there space (Pending back) = ⊥
-GivesUpTo there space (Again back) = ⊥
 
 -- A fact of a poll of a read that gave so many bytes.
 abbrev pub IfGiven : {T : Type 0} → PollBuf T → (ℕ → Type 0) → Type 0
