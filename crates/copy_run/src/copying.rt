@@ -1,5 +1,5 @@
 //! The copy, and how it ends.
-ghost use Rattle.std.specs.Prelude.{◌≡◌, ◌≤◌, ◌++◌, IfOk, IfErr, IsTrue, true, false, length, max, take};
+ghost use Rattle.std.specs.Prelude.{◌≡◌, ◌≤◌, ◌++◌, [], IfOk, IfErr, IsTrue, true, false, length, max, take};
 ghost use Rattle.rent_io.specs.Call.{reading, writing};
 ghost use Rattle.rent_io.specs.MemSource.{fresh_source};
 ghost use Rattle.stream_util.specs.BufReader.{fresh_reader};
@@ -122,7 +122,7 @@ fn reader_of<S: ByteSource>(
     prefix: ByteList,
     source: S,
 ) -> Result<Reader<S>, S>
-    ensures ok { IfOk result (λ reader. reader ≡ fresh_reader (record { io = source; prefix = fresh_source prefix; finished = false })
+    ensures ok { IfOk result (λ reader. reader ≡ fresh_reader (record { io = source; prefix = fresh_source prefix []; finished = false })
         (max capacity 1)) }
     ensures err { IfErr result (λ back. back ≡ source) }
 {

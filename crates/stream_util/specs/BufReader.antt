@@ -20,13 +20,6 @@ fresh_reader inner capacity = record { inner = inner; held = []; capacity = capa
 abbrev pub reader_over : {R : Type 0} → Reader → Reading R → Reader
 reader_over inner r = record { left = r.held ++ inner.left; counts = inner.counts }
 
--- A poll of a read gave the lesser of what there is and what there is room for.
-abbrev pub GivesUpTo : {T : Type 0} → ℕ → ℕ → PollBuf T → Type 0
-GivesUpTo there space (Ready (Ok n) back) = n ≡ min there space
-GivesUpTo there space (Ready (Err fault) back) = ⊥
-GivesUpTo there space (Pending back) = ⊥
-GivesUpTo there space (Again back) = ⊥
-
 -- A read that filled the empty buffer first: of what came, at most as much as the buffer takes, it gave the first bytes.
 pub record FillsFirst {R : Type 0} (inner : R → Reader) (tells : Bool) (before now : Reading R) (space n : ℕ) : Type 0 where
   pub filled : List ℕ
