@@ -35,7 +35,8 @@ IsFaultCaused before now Cut = Unit {0}
 IsFaultCaused before now (Io fault) = Fails before.counts now.counts fault
 IsFaultCaused before now OutOfMemory = Unit {0}
 
--- The cause of what a poll answers: Pending comes only by a pause, for this task, and Again only by an interrupt, or where bytes were taken.
+-- The cause of what a poll answers: Pending comes only by a pause, for this task, and Again only by an interrupt, or where bytes were
+-- taken.
 abbrev pub IsMessageCaused : Bool → ℕ → Reader → Reader → MessagePoll → Type 0
 IsMessageCaused tells task before now (Given message) = Unit {0}
 IsMessageCaused tells task before now End = Unit {0}

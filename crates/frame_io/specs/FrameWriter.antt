@@ -17,8 +17,8 @@ use Rattle.frame_io.specs.declared.limits.TheConstants.{MOST_IN_MESSAGE}
 use Rattle.frame_io.specs.declared.message.Message.{Message}
 use Rattle.frame_io.specs.Piece.{pieces_of}
 
--- Such a writer is the stream inside, and the bytes of pieces that are buffered. It counts the messages that it refused, which are faults, the
--- writes that took bytes, which are pauses, and the messages that it took.
+-- Such a writer is the stream inside, and the bytes of pieces that are buffered. It counts the messages that it refused, which are faults,
+-- the writes that took bytes, which are pauses, and the messages that it took.
 pub record Writing (W : Type 0) : Type 0 where
   pub inner : W
   pub held : List ℕ
@@ -30,8 +30,8 @@ pub record Writing (W : Type 0) : Type 0 where
 abbrev pub fresh_writer : {W : Type 0} → W → Writing W
 fresh_writer inner = record { inner = inner; held = []; refused = 0; moved = 0; sends = 0 }
 
--- Its counts, by those of the stream inside. A sink knows neither a write that took none nor an interrupt: the one is a fault of it, and the
--- other a pause.
+-- Its counts, by those of the stream inside. A sink knows neither a write that took none nor an interrupt: the one is a fault of it, and
+-- the other a pause.
 abbrev pub counts_over : {W : Type 0} → Counts → Writing W → Counts
 counts_over counts w = record counts
     { faults = counts.faults + counts.zeros + w.refused; pauses = counts.pauses + counts.interrupts + w.moved }

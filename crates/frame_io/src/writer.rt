@@ -5,7 +5,8 @@ ghost use Rattle.rent_io.specs.ItemSink.{IsSent, IsDone, CausesDone};
 ghost use Rattle.rent_io.specs.declared.sink.SinkPoll.TheVariants.{Ready};
 ghost use Rattle.rent_io.specs.Writer.{CountsDone, EndsStay};
 ghost use Rattle.stream_util.specs.BufWriter.{Pushes};
-ghost use Rattle.frame_io.specs.FrameWriter.{Drives, Ends, FailsBy, IsCounted, IsPushCounted, IsStuck, PassesOn, Sends, IfShut, counts_over, fresh_writer, sink_over};
+ghost use Rattle.frame_io.specs.FrameWriter.{Drives, Ends, FailsBy, IsCounted, IsPushCounted, IsStuck, PassesOn, Sends, IfShut};
+ghost use Rattle.frame_io.specs.FrameWriter.{counts_over, fresh_writer, sink_over};
 ghost use Rattle.frame_io.specs.Written.{pieces_of_all, sent_with};
 
 use crate::encode::append_pieces;

@@ -46,7 +46,8 @@ nothing_room (part ∷ parts) (suc k) at = nothing_room parts k at
 
 -- What a fault leaves, behind bytes that were read before.
 scatter_stops : (tells : Bool) (before mid now : Reader) (s g : Scattering) (back : Parts) (fault : IoFault)
-    → before.counts.faults ≤ mid.counts.faults → before.counts.zeros ≤ mid.counts.zeros → HasScattered tells before.left mid.left s g → (IsTrue tells → mid.left ≡ now.left)
+    → before.counts.faults ≤ mid.counts.faults → before.counts.zeros ≤ mid.counts.zeros → HasScattered tells before.left mid.left s g
+        → (IsTrue tells → mid.left ≡ now.left)
     → (back ≡ g.parts) × Fails mid.counts now.counts fault ⊎ ScatterEndsEarly tells mid now g back fault
     → StopsScattering tells before now s back fault
 scatter_stops tells before mid now s g back fault stay zeros has same (inl failed) = record {
@@ -77,7 +78,8 @@ scatter_stops tells before mid now s g back fault stay zeros has same (inr early
 
 -- How a poll ends is how the polls end.
 pub scatter_ends : (tells : Bool) (before mid now : Reader) (s g : Scattering) (back : Parts) (end : Result ℕ IoFault)
-    → before.counts.faults ≤ mid.counts.faults → before.counts.zeros ≤ mid.counts.zeros → HasScattered tells before.left mid.left s g → IsScatterEnd tells mid now g back end
+    → before.counts.faults ≤ mid.counts.faults → before.counts.zeros ≤ mid.counts.zeros → HasScattered tells before.left mid.left s g
+        → IsScatterEnd tells mid now g back end
     → ScatterRunEnd tells before now s back end
 scatter_ends tells before mid now s g back (Ok n) stay zeros has full = record {
   got = has.got ++ full.got;

@@ -90,4 +90,5 @@ abbrev pub ReadsScattered : {T : Type 0} → Bool → ℕ → Reader → Reader 
     → Type 0
 ReadsScattered tells task before now held s (Ready end) = IsScatterEnd tells before now s (held end.1) end.0
 ReadsScattered tells task before now held s (Pending next) = Paused tells task before now s next
-ReadsScattered tells task before now held s (Again next) = Interrupted tells before now s next ⊎ ScatterGoesOn tells before.left now.left s next
+ReadsScattered tells task before now held s (Again next) = Interrupted tells before now s next
+    ⊎ ScatterGoesOn tells before.left now.left s next

@@ -18,9 +18,9 @@ pub trait AsyncReadRent {
     ghost reader: { Self → Reader };
 
     /// Reads the next bytes into a buffer (monoio: `read`), at most as many as its range has room for, and answers
-    /// their number: 0 only where there is no room, or at the end of the stream, which is counted. At `Pending`, `Again`
-    /// and a fault nothing was read. `Pending` comes only by a pause, and the stream remembers that it is to wake this
-    /// task; `Again` only by an interrupt; and a fault is the last one of the stream.
+    /// their number: 0 only where there is no room, or at the end of the stream, which is counted. At `Pending`,
+    /// `Again` and a fault nothing was read. `Pending` comes only by a pause, and the stream remembers that it is to
+    /// wake this task; `Again` only by an interrupt; and a fault is the last one of the stream.
     fn poll_read<T: IoBufMut>(&mut self, buf: T, task: u64) -> PollBuf<T>
         ensures reads { Reads tells (reader self.old).left (reader self.new).left T.buffer T.under T.beside buf result }
         ensures none { CountsNone (room (T.buffer buf)) (reader self.old).counts (reader self.new).counts result }

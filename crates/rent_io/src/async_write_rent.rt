@@ -17,9 +17,9 @@ pub trait AsyncWriteRent {
     ghost writer: { Self → Writer };
 
     /// Writes the first bytes of a buffer (monoio: `write`), and answers their number: none of some is counted. At
-    /// `Pending`, `Again` and a fault nothing was written. `Pending` comes only by a pause, and the stream remembers that
-    /// it is to wake this task; `Again` only by an interrupt; and a fault is the last one of the stream, or `WriteZero`
-    /// where a write took none of some bytes.
+    /// `Pending`, `Again` and a fault nothing was written. `Pending` comes only by a pause, and the stream remembers
+    /// that it is to wake this task; `Again` only by an interrupt; and a fault is the last one of the stream, or
+    /// `WriteZero` where a write took none of some bytes.
     fn poll_write<T: IoBuf>(&mut self, buf: T, task: u64) -> PollBuf<T>
         ensures writes { Writes tells (writer self.old).delivered (writer self.new).delivered (T.content buf) buf result }
         ensures none { CountsNone (length (T.content buf)) (writer self.old).counts (writer self.new).counts result }

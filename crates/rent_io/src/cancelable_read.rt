@@ -109,7 +109,8 @@ impl<T: IoVecBufMut> CancelableReadVectoredExact<T> {
         ensures group { KeepsGroup self.group result }
         ensures counts { AfterCall (Some self.group) (A.reader io.old).counts (A.reader io.new).counts }
         ensures complete { Completes (A.reader io.old).counts (A.reader io.new).counts (plainly result) (λ end. end.0)
-            (IsShort A.tells (A.reader io.old) (A.reader io.new) (wanted self.state)) (λ next. length (has_read self.state) < length (has_read next)) }
+            (IsShort A.tells (A.reader io.old) (A.reader io.new) (wanted self.state))
+                (λ next. length (has_read self.state) < length (has_read next)) }
     {
         let CancelableReadVectoredExact { state, handle } = self;
         match state.poll_by(io, &handle, task) {
@@ -164,7 +165,8 @@ impl<N: Number> CancelableReadNumber<N> {
         ensures group { KeepsGroup self.group result }
         ensures counts { AfterCall (Some self.group) (A.reader io.old).counts (A.reader io.new).counts }
         ensures complete { Completes (A.reader io.old).counts (A.reader io.new).counts (plainly result) (λ end. end)
-            (IsShort A.tells (A.reader io.old) (A.reader io.new) (self.state.size - length self.state.bytes)) (λ next. length self.state.bytes < length next.bytes) }
+            (IsShort A.tells (A.reader io.old) (A.reader io.new) (self.state.size - length self.state.bytes))
+                (λ next. length self.state.bytes < length next.bytes) }
     {
         let CancelableReadNumber { state, handle } = self;
         match state.poll_by(io, &handle, task) {

@@ -42,7 +42,7 @@ impl<T: IoBufMut> ReadExact<T> {
 
     /// Makes one read at most. It is done with the number of the bytes that the range has room for, once it is full;
     /// with `UnexpectedEof`, where a read gave no byte though there is room; or with the stream's fault. At `Pending`
-    /// nothing was read, and at `Again` the stream paused too, or some bytes were read and more are to come.
+    /// nothing was read, and at `Again` the stream was interrupted, or some bytes were read and more are to come.
     #[tactic(auto, using(crate::proofs::Completeness::exact_completes))]
     pub fn poll<A: AsyncReadRent>(
         self,
@@ -57,9 +57,9 @@ impl<T: IoBufMut> ReadExact<T> {
         self.poll_by(io, &Plain, task)
     }
 
-    /// Polls it until it is done, `polls` times at most: again at once also after a pause, so it is for tests and proofs
-    /// (not in monoio). Whatever the stream answered, the bytes that left
-    /// it are stored in the range, one behind the other, each once. `Again` means that the polls are used up.
+    /// Polls it until it is done, `polls` times at most: again at once also after a pause, so it is for tests and
+    /// proofs (not in monoio). Whatever the stream answered, the bytes that left it are stored in the range, one behind
+    /// the other, each once. `Again` means that the polls are used up.
     pub fn drive<A: AsyncReadRent>(
         self,
         io: &mut A,

@@ -85,7 +85,7 @@ impl ReadLine {
     /// Makes one fill at most, and adds what is buffered, up to and with the newline. It is done with the number of
     /// the bytes that were added, once the newline came or the stream ended; with `InvalidData`, where they aren't
     /// UTF-8; with `OutOfMemory`; or with the stream's fault. Bytes that aren't UTF-8 are taken back. At `Pending`
-    /// nothing was added, and at `Again` the stream paused too, or bytes were added that aren't a newline.
+    /// nothing was added, and at `Again` the stream was interrupted, or bytes were added that aren't a newline.
     #[tactic(auto, using(crate::proofs::Completeness::line_completes))]
     pub fn poll<A: AsyncBufRead>(
         self,
@@ -105,10 +105,9 @@ impl ReadLine {
         }
     }
 
-    /// Polls it until it is done, `polls` times at most: again at once also after a pause, so it is for tests and proofs
-    /// (not in monoio). Whatever the stream answered, the bytes that left
-    /// it were added, up to and with the first newline, and are taken back where they aren't UTF-8.
-    /// `Again` means that the polls are used up.
+    /// Polls it until it is done, `polls` times at most: again at once also after a pause, so it is for tests and
+    /// proofs (not in monoio). Whatever the stream answered, the bytes that left it were added, up to and with the
+    /// first newline, and are taken back where they aren't UTF-8. `Again` means that the polls are used up.
     pub fn drive<A: AsyncBufRead>(
         self,
         io: &mut A,

@@ -51,7 +51,7 @@ impl<N: Number> ReadNumber<N> {
 
     /// Makes one read at most. It is done with the number, once all its bytes are there; with `UnexpectedEof`, where
     /// the stream ended before; or with the stream's fault. At `Pending` nothing was read, and at `Again` the stream
-    /// paused too, or some bytes were read and more are to come.
+    /// was interrupted, or some bytes were read and more are to come.
     #[tactic(auto, using(crate::proofs::Completeness::number_completes))]
     pub fn poll<A: AsyncReadRent>(
         self,
@@ -61,15 +61,15 @@ impl<N: Number> ReadNumber<N> {
         ensures answer { ReadsNumber A.tells task (A.reader io.old) (A.reader io.new) N.value self result }
         ensures counts { AfterCall None (A.reader io.old).counts (A.reader io.new).counts }
         ensures complete { Completes (A.reader io.old).counts (A.reader io.new).counts result (λ end. end)
-            (IsShort A.tells (A.reader io.old) (A.reader io.new) (self.size - length self.bytes)) (λ next. length self.bytes < length next.bytes) }
+            (IsShort A.tells (A.reader io.old) (A.reader io.new) (self.size - length self.bytes))
+                (λ next. length self.bytes < length next.bytes) }
     {
         self.poll_by(io, &Plain, task)
     }
 
-    /// Polls it until it is done, `polls` times at most: again at once also after a pause, so it is for tests and proofs
-    /// (not in monoio). Whatever the stream answered, the number is that
-    /// of the bytes that left it.
-    /// `Again` means that the polls are used up.
+    /// Polls it until it is done, `polls` times at most: again at once also after a pause, so it is for tests and
+    /// proofs (not in monoio). Whatever the stream answered, the number is that of the bytes that left it. `Again`
+    /// means that the polls are used up.
     pub fn drive<A: AsyncReadRent>(
         self,
         io: &mut A,

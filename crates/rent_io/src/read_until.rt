@@ -70,10 +70,10 @@ impl ReadUntil {
         buf
     }
 
-    /// Makes one fill at most, and adds what is buffered, up to and with the delimiter. It is done with the number
-    /// of the bytes that were added, once the delimiter came or the stream ended; with `OutOfMemory`; or with the
-    /// stream's fault: what was added stays. At `Pending` nothing was added, and at `Again` the stream paused too, or
-    /// bytes were added that aren't the delimiter.
+    /// Makes one fill at most, and adds what is buffered, up to and with the delimiter. It is done with the number of
+    /// the bytes that were added, once the delimiter came or the stream ended; with `OutOfMemory`; or with the stream's
+    /// fault: what was added stays. At `Pending` nothing was added, and at `Again` the stream was interrupted, or bytes
+    /// were added that aren't the delimiter.
     #[tactic(auto, using(crate::proofs::Completeness::until_completes))]
     pub fn poll<A: AsyncBufRead>(
         self,
@@ -114,10 +114,9 @@ impl ReadUntil {
         }
     }
 
-    /// Polls it until it is done, `polls` times at most: again at once also after a pause, so it is for tests and proofs
-    /// (not in monoio). Whatever the stream answered, the bytes that left
-    /// it were added, up to and with the first delimiter.
-    /// `Again` means that the polls are used up.
+    /// Polls it until it is done, `polls` times at most: again at once also after a pause, so it is for tests and
+    /// proofs (not in monoio). Whatever the stream answered, the bytes that left it were added, up to and with the
+    /// first delimiter. `Again` means that the polls are used up.
     pub fn drive<A: AsyncBufRead>(
         self,
         io: &mut A,

@@ -56,9 +56,9 @@ impl<T: IoVecBufMut> ReadVectoredExact<T> {
     }
 
     /// Makes one read at most, into the first part that isn't full. It is done with the sum of the rooms, once every
-    /// part is full; with `UnexpectedEof`, where a read gave no byte though there is room; or with the stream's
-    /// fault. At `Pending` nothing was read, and at `Again` the stream paused too, or some bytes were read and more
-    /// are to come.
+    /// part is full; with `UnexpectedEof`, where a read gave no byte though there is room; or with the stream's fault.
+    /// At `Pending` nothing was read, and at `Again` the stream was interrupted, or some bytes were read and more are
+    /// to come.
     #[tactic(auto, using(crate::proofs::Completeness::scatter_completes))]
     pub fn poll<A: AsyncReadRent>(
         self,
@@ -73,10 +73,9 @@ impl<T: IoVecBufMut> ReadVectoredExact<T> {
         self.poll_by(io, &Plain, task)
     }
 
-    /// Polls it until it is done, `polls` times at most: again at once also after a pause, so it is for tests and proofs
-    /// (not in monoio). Whatever the stream answered, the bytes that left
-    /// it stand in the parts, one behind the other, each once.
-    /// `Again` means that the polls are used up.
+    /// Polls it until it is done, `polls` times at most: again at once also after a pause, so it is for tests and
+    /// proofs (not in monoio). Whatever the stream answered, the bytes that left it stand in the parts, one behind the
+    /// other, each once. `Again` means that the polls are used up.
     pub fn drive<A: AsyncReadRent>(
         self,
         io: &mut A,

@@ -253,7 +253,8 @@ impl ScriptedStream {
         ensures none { CountsNone (room_of (T.held buf)) self.old.counts self.new.counts result }
         ensures cause { IsCaused task self.old.counts self.new.counts result }
         ensures counts { AfterCall group self.old.counts self.new.counts }
-        ensures follows { Follows group self.old self.new (λ turn. ReadsBy turn (min (room_of (T.held buf)) (length self.old.left)) result) }
+        ensures follows { Follows group self.old self.new (λ turn. ReadsBy turn (min (room_of (T.held buf)) (length self.old.left))
+            result) }
     {
         match self.turn(task, group) {
             Turned1::Grant(most) => {
@@ -305,7 +306,8 @@ impl ScriptedStream {
     }
 
     // One write of the first part that has bytes.
-    #[tactic(auto, using(crate::proofs::FirstParts::parts_written, crate::proofs::FirstParts::parts_within, crate::proofs::FirstParts::none_of_all))]
+    #[tactic(auto, using(crate::proofs::FirstParts::parts_written, crate::proofs::FirstParts::parts_within,
+        crate::proofs::FirstParts::none_of_all))]
     fn write_parts<T: IoVecBuf>(&mut self, buf: T, group: Option<u64>, task: u64) -> PollBuf<T>
         ensures writes { Writes true self.old.delivered self.new.delivered (concat (T.parts buf)) buf result }
         ensures none { CountsNone (length (concat (T.parts buf))) self.old.counts self.new.counts result }

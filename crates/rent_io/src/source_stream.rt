@@ -71,9 +71,12 @@ impl<S: ByteSource> AsyncReadRent for SourceStream<S> {
     #[tactic(auto, using(crate::proofs::Pieces::taken_piece))]
     fn poll_read<T: IoBufMut>(&mut self, buf: T, _task: u64) -> PollBuf<T>
         ensures reads { Reads S.tells (S.left self.old) (S.left self.new) T.buffer T.under T.beside buf result }
-        ensures none { CountsNone (room (T.buffer buf)) (source_reader (S.left self.old) (S.faults self.old)).counts (source_reader (S.left self.new) (S.faults self.new)).counts result }
-        ensures cause { IsCaused _task (source_reader (S.left self.old) (S.faults self.old)).counts (source_reader (S.left self.new) (S.faults self.new)).counts result }
-        ensures counts { AfterCall None (source_reader (S.left self.old) (S.faults self.old)).counts (source_reader (S.left self.new) (S.faults self.new)).counts }
+        ensures none { CountsNone (room (T.buffer buf)) (source_reader (S.left self.old) (S.faults self.old)).counts
+            (source_reader (S.left self.new) (S.faults self.new)).counts result }
+        ensures cause { IsCaused _task (source_reader (S.left self.old) (S.faults self.old)).counts
+            (source_reader (S.left self.new) (S.faults self.new)).counts result }
+        ensures counts { AfterCall None (source_reader (S.left self.old) (S.faults self.old)).counts
+            (source_reader (S.left self.new) (S.faults self.new)).counts }
         ensures most { IfGiven result (λ n. n ≤ PIECE) }
     {
         let mut buf = buf;
@@ -93,9 +96,12 @@ impl<S: ByteSource> AsyncReadRent for SourceStream<S> {
     #[tactic(auto, using(crate::proofs::Pieces::scattered_piece))]
     fn poll_readv<T: IoVecBufMut>(&mut self, buf: T, _task: u64) -> PollBuf<T>
         ensures reads { ReadsParts S.tells (S.left self.old) (S.left self.new) T.held buf result }
-        ensures none { CountsNone (room_of (T.held buf)) (source_reader (S.left self.old) (S.faults self.old)).counts (source_reader (S.left self.new) (S.faults self.new)).counts result }
-        ensures cause { IsCaused _task (source_reader (S.left self.old) (S.faults self.old)).counts (source_reader (S.left self.new) (S.faults self.new)).counts result }
-        ensures counts { AfterCall None (source_reader (S.left self.old) (S.faults self.old)).counts (source_reader (S.left self.new) (S.faults self.new)).counts }
+        ensures none { CountsNone (room_of (T.held buf)) (source_reader (S.left self.old) (S.faults self.old)).counts
+            (source_reader (S.left self.new) (S.faults self.new)).counts result }
+        ensures cause { IsCaused _task (source_reader (S.left self.old) (S.faults self.old)).counts
+            (source_reader (S.left self.new) (S.faults self.new)).counts result }
+        ensures counts { AfterCall None (source_reader (S.left self.old) (S.faults self.old)).counts
+            (source_reader (S.left self.new) (S.faults self.new)).counts }
         ensures most { IfGiven result (λ n. n ≤ PIECE) }
     {
         let mut buf = buf;

@@ -43,7 +43,7 @@ impl<T: IoBuf> WriteAll<T> {
 
     /// Makes one write at most. It is done with the number of the buffer's bytes, once all are delivered; with
     /// `WriteZero`, where a write took none of some bytes; or with the stream's fault. At `Pending` nothing was
-    /// written, and at `Again` the stream paused too, or some bytes were written and more are to be.
+    /// written, and at `Again` the stream was interrupted, or some bytes were written and more are to be.
     #[tactic(auto, using(crate::proofs::Completeness::all_completes))]
     pub fn poll<A: AsyncWriteRent>(
         self,
@@ -60,10 +60,9 @@ impl<T: IoBuf> WriteAll<T> {
         self.poll_by(io, &Plain, task)
     }
 
-    /// Polls it until it is done, `polls` times at most: again at once also after a pause, so it is for tests and proofs
-    /// (not in monoio). Whatever the stream answered, the bytes that it
-    /// took are the first ones, each once and in order.
-    /// `Again` means that the polls are used up.
+    /// Polls it until it is done, `polls` times at most: again at once also after a pause, so it is for tests and
+    /// proofs (not in monoio). Whatever the stream answered, the bytes that it took are the first ones, each once and
+    /// in order. `Again` means that the polls are used up.
     pub fn drive<A: AsyncWriteRent>(
         self,
         io: &mut A,

@@ -59,8 +59,8 @@ impl<T: IoVecBuf> WriteVectoredAll<T> {
 
     /// Makes one write at most, of a part that has bytes left. It is done with the number of the vector's bytes, once
     /// all are delivered; with `WriteZero`, where a write took none of some bytes; or with the stream's fault. At
-    /// `Pending` nothing was written, and at `Again` the stream paused too, or some bytes were written and more are
-    /// to be.
+    /// `Pending` nothing was written, and at `Again` the stream was interrupted, or some bytes were written and more
+    /// are to be.
     #[tactic(auto, using(crate::proofs::Completeness::all_completes))]
     pub fn poll<A: AsyncWriteRent>(
         self,
@@ -77,10 +77,9 @@ impl<T: IoVecBuf> WriteVectoredAll<T> {
         self.poll_by(io, &Plain, task)
     }
 
-    /// Polls it until it is done, `polls` times at most: again at once also after a pause, so it is for tests and proofs
-    /// (not in monoio). Whatever the stream answered, the bytes that it
-    /// took are the first ones, each once and in order.
-    /// `Again` means that the polls are used up.
+    /// Polls it until it is done, `polls` times at most: again at once also after a pause, so it is for tests and
+    /// proofs (not in monoio). Whatever the stream answered, the bytes that it took are the first ones, each once and
+    /// in order. `Again` means that the polls are used up.
     pub fn drive<A: AsyncWriteRent>(
         self,
         io: &mut A,

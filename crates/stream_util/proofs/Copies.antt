@@ -15,7 +15,8 @@ use Rattle.rent_io.specs.Counts.{AfterCall, Counts, Rose}
 use Rattle.rent_io.specs.Polls.{WriteFails}
 use Rattle.rent_io.proofs.Runs.{fails_later, rose_later}
 use Rattle.rent_io.proofs.Sends.{SliceSent, range-to_end}
-use Rattle.stream_util.specs.Copy.{Breaks, CopyFails, Copying, Ends, OneCall, Copies, UsesAll, Waits, Moves, MovesSome, IsCopyEnd, IsSameJoined, count_more}
+use Rattle.stream_util.specs.Copy.{Breaks, CopyFails, Copying, Ends, OneCall, Copies, UsesAll, Waits, Moves, MovesSome, IsCopyEnd}
+use Rattle.stream_util.specs.Copy.{IsSameJoined, count_more}
 use Rattle.stream_util.specs.Copy.{HasCopied, IsRunEnd, Runs, CopiesAll, HasAll}
 use Rattle.stream_util.specs.declared.copy.Copied.{Copied}
 

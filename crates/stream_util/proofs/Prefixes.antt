@@ -1,5 +1,6 @@
 -- Reads of a prefix.
-use Rattle.std.proofs.Common.{◌≡◌, ◌∙◌, ℕ, ◌+◌, ◌≤◌, ◌≢◌, List, ◌++◌, Bool, true, false, length, take, ap, append_assoc, arith, min, subst, sym}
+use Rattle.std.proofs.Common.{◌≡◌, ◌∙◌, ℕ, ◌+◌, ◌≤◌, ◌≢◌, List, ◌++◌, Bool, true, false, length, take, ap, append_assoc, arith, min}
+use Rattle.std.proofs.Common.{subst, sym}
 use Rattle.std.specs.Prelude.{IsTrue, ◌&&◌, Option, Ok, Err}
 use Rattle.std.proofs.lemmas.Bool.{false≢true}
 use Rattle.rent_buf.specs.Buffer.{Buffer, room, put}

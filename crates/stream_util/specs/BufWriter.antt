@@ -39,8 +39,8 @@ pub record Pushes (tells : Bool) (before now : Writer) (held later : List ℕ) :
   pub cut : held ≡ sent ++ later
   pub delivered : IsTrue tells → now.delivered ≡ before.delivered ++ sent
 
--- The cause of what a write of the buffer answers: a fault, or a pause of the stream inside, or an interrupt or that bytes moved. It is never
--- done.
+-- The cause of what a write of the buffer answers: a fault, or a pause of the stream inside, or an interrupt or that bytes moved. It is
+-- never done.
 abbrev pub IsPushCaused : ℕ → Counts → Counts → PollCount → Type 0
 IsPushCaused task before now (CountReady (Ok n)) = ⊥
 IsPushCaused task before now (CountReady (Err fault)) = WriteFails before now fault

@@ -45,7 +45,8 @@ IfBehind (Behind buf) P = P buf
 -- The rule for a read that the prefix may answer. Until the prefix has ended the stream inside is left alone, and a read gives no byte only
 -- where there is no room: so the first read of the prefix that gives none ends it. Where it tells its bytes none was left then. Once it has
 -- ended it is read no more.
-pub record PrefixRule {I P T : Type 0} (tells : Bool) (left : P → List ℕ) (before now : Prefixed I P) (space : ℕ) (result : PollBuf T) : Type 0
+pub record PrefixRule {I P T : Type 0} (tells : Bool) (left : P → List ℕ) (before now : Prefixed I P) (space : ℕ) (result : PollBuf T) :
+    Type 0
   where
     pub first : now.finished ≡ false → now.io ≡ before.io
     pub some : now.finished ≡ false → IfGiven result (λ n. n ≡ 0 → space ≡ 0)

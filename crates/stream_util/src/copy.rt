@@ -127,7 +127,7 @@ impl Copy {
     /// Makes one call at most: a write of what it holds, or a read where it holds nothing. It is done with the number
     /// of the bytes that it delivered, once a read gives none; with `WriteZero`, where a write took none of some bytes;
     /// or with the reader's or the writer's fault. What it then held is the rest. At `Pending` nothing moved, and at
-    /// `Again` a stream paused too, or some bytes moved. It never flushes.
+    /// `Again` a stream was interrupted, or some bytes moved. It never flushes.
     #[tactic(auto, using(crate::proofs::Completeness::copy_completes))]
     pub fn poll<R: AsyncReadRent, W: AsyncWriteRent>(
         self,

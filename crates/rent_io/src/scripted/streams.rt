@@ -104,7 +104,8 @@ impl CancelableAsyncReadRent for ScriptedStream {
         ensures none { CountsNone (room (T.buffer buf)) self.old.counts self.new.counts result }
         ensures cause { IsCaused task self.old.counts self.new.counts result }
         ensures counts { AfterCall (Some c) self.old.counts self.new.counts }
-        ensures follows { Follows (Some c) self.old self.new (λ turn. ReadsBy turn (min (room (T.buffer buf)) (length self.old.left)) result) }
+        ensures follows { Follows (Some c) self.old self.new (λ turn. ReadsBy turn (min (room (T.buffer buf)) (length self.old.left))
+            result) }
     {
         self.read(buf, Some(c.group()), task)
     }
@@ -119,7 +120,8 @@ impl CancelableAsyncReadRent for ScriptedStream {
         ensures none { CountsNone (room_of (T.held buf)) self.old.counts self.new.counts result }
         ensures cause { IsCaused task self.old.counts self.new.counts result }
         ensures counts { AfterCall (Some c) self.old.counts self.new.counts }
-        ensures follows { Follows (Some c) self.old self.new (λ turn. ReadsBy turn (min (room_of (T.held buf)) (length self.old.left)) result) }
+        ensures follows { Follows (Some c) self.old self.new (λ turn. ReadsBy turn (min (room_of (T.held buf)) (length self.old.left))
+            result) }
     {
         self.readv(buf, Some(c.group()), task)
     }

@@ -12,7 +12,8 @@ returns-in-Ready-clause-run g c =
     let has = c.loop.invariant.0 in
     let answer = c.in-Ready.ensures.answer in (
       fill_ends g.A.AsyncReadRent.tells (reader c.args.io.now) (reader c.loop.io) (reader c.poll.new.io) c.args.self c.loop.state
-          (g.T.IoBufMut.buffer c.in-Ready.buf) c.in-Ready.outcome c.keeps_bounds.ensures c.loop.invariant.1.faults_stay c.loop.invariant.1.zeros_stay has answer.0,
+          (g.T.IoBufMut.buffer c.in-Ready.buf) c.in-Ready.outcome c.keeps_bounds.ensures c.loop.invariant.1.faults_stay
+              c.loop.invariant.1.zeros_stay has answer.0,
       answer.1 ∙ ap (λ (f : Filling). f.under) has.is_next,
       answer.2 ∙ ap (λ (f : Filling). f.beside) has.is_next,
     )
@@ -29,9 +30,11 @@ loop-preserved g c =
     let used = fill_used g.A.AsyncReadRent.tells before mid now None c.loop.counter c.args.self c.loop.state in
     elim c.match-poll.branch [
       | in-Pending w ↦ (
-        rw w.state-is (goes w.in-Pending.next c.keeps_bounds.ensures c.loop.invariant.0 (pausing _ _ mid now _ _ _ w.in-Pending.ensures.answer)),
+        rw w.state-is (goes w.in-Pending.next c.keeps_bounds.ensures c.loop.invariant.0
+            (pausing _ _ mid now _ _ _ w.in-Pending.ensures.answer)),
         calls,
-        rw w.state-is (used w.in-Pending.next c.loop.invariant.2 c.poll.ensures.counts (pausing _ _ mid now _ _ _ w.in-Pending.ensures.answer)),
+        rw w.state-is (used w.in-Pending.next c.loop.invariant.2 c.poll.ensures.counts
+            (pausing _ _ mid now _ _ _ w.in-Pending.ensures.answer)),
       )
       | in-Again w ↦ (
         rw w.state-is (goes w.in-Again.next c.keeps_bounds.ensures c.loop.invariant.0 (breaking _ mid now _ _ _ w.in-Again.ensures.answer)),

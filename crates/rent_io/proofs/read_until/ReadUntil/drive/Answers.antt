@@ -28,7 +28,8 @@ loop-preserved g c =
       | in-Pending w ↦ (
         rw w.state-is (goes w.in-Pending.next c.loop.invariant.0 (pausing _ _ mid now _ _ _ w.in-Pending.ensures.answer)),
         calls,
-        rw w.state-is (used w.in-Pending.next c.loop.invariant.2 c.poll.ensures.counts (pausing _ _ mid now _ _ _ w.in-Pending.ensures.answer)),
+        rw w.state-is (used w.in-Pending.next c.loop.invariant.2 c.poll.ensures.counts
+            (pausing _ _ mid now _ _ _ w.in-Pending.ensures.answer)),
       )
       | in-Again w ↦ (
         rw w.state-is (goes w.in-Again.next c.loop.invariant.0 (breaking _ mid now _ _ _ w.in-Again.ensures.answer)),

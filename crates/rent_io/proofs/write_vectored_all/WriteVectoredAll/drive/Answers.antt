@@ -32,12 +32,14 @@ loop-preserved g c =
         rw w.state-is (goes w.in-Pending.next c.loop.invariant.0 (pausing_all _ _ mid now _ _ _ w.in-Pending.ensures.answer)),
         calls,
         ends,
-        rw w.state-is (used w.in-Pending.next c.loop.invariant.3 c.poll.ensures.counts (pausing_all _ _ mid now _ _ _ w.in-Pending.ensures.answer)),
+        rw w.state-is (used w.in-Pending.next c.loop.invariant.3 c.poll.ensures.counts
+            (pausing_all _ _ mid now _ _ _ w.in-Pending.ensures.answer)),
       )
       | in-Again w ↦ (
         rw w.state-is (goes w.in-Again.next c.loop.invariant.0 (breaking_all _ mid now _ _ _ w.in-Again.ensures.answer)),
         calls,
         ends,
-        rw w.state-is (used w.in-Again.next c.loop.invariant.3 c.poll.ensures.counts (breaking_all _ mid now _ _ _ w.in-Again.ensures.answer)),
+        rw w.state-is (used w.in-Again.next c.loop.invariant.3 c.poll.ensures.counts
+            (breaking_all _ mid now _ _ _ w.in-Again.ensures.answer)),
       )
     ]

@@ -11,7 +11,8 @@ loop-init g c = (
 )
 
 pub returns-in-Pending-clause-answer : goal.returns-in-Pending-clause-answer
-returns-in-Pending-clause-answer g c = ran_waits c.loop.counter c.args.turns _ _ _ _ _ _ _ _ _ c.loop.invariant.0 c.in-Pending.ensures.answer
+returns-in-Pending-clause-answer g c = ran_waits c.loop.counter c.args.turns _ _ _ _ _ _ _ _ _ c.loop.invariant.0
+    c.in-Pending.ensures.answer
 
 pub returns-in-Pending-clause-joined : goal.returns-in-Pending-clause-joined
 returns-in-Pending-clause-joined g c =
