@@ -1,5 +1,5 @@
 -- A writer of messages: what a send, a flush and a close of it do.
-use Rattle.std.specs.Prelude.{ℕ, ◌≡◌, ◌+◌, ◌<◌, ◌≤◌, ◌⊎◌, Bool, List, [], ◌∷◌, ◌++◌, length, Ok, Err}
+use Rattle.std.specs.Prelude.{ℕ, ◌≡◌, ◌+◌, ◌<◌, ◌≤◌, ◌⊎◌, Bool, IsTrue, List, [], ◌∷◌, ◌++◌, length, Ok, Err}
 use Rattle.rent_buf.specs.declared.fault.IoFault.{IoFault}
 use Rattle.rent_io.specs.Counts.{Counts, Rose}
 use Rattle.rent_io.specs.ItemSink.{ItemSink}
@@ -69,14 +69,17 @@ IsIo Cut = ⊥
 IsIo (Io fault) = Unit {0}
 IsIo OutOfMemory = ⊥
 
--- What a poll that passes on what is buffered answers. When it is done nothing is buffered. A fault is the last one of the stream inside,
--- or `WriteZero`, where a write took none of some bytes. At Pending the stream inside paused, and will wake this task, and nothing was
--- written; at Again it was interrupted, or less is buffered.
-abbrev pub PassesOn : ℕ → Writer → Writer → List ℕ → List ℕ → PollCount → Type 0
-PassesOn task before now held later (CountReady (Ok n)) = later ≡ []
-PassesOn task before now held later (CountReady (Err fault)) = WriteFails before.counts now.counts fault
-PassesOn task before now held later CountPending = Pauses task before.counts now.counts × (later ≡ held)
-PassesOn task before now held later CountAgain =
+-- The stream inside failed, this was its last fault, or `WriteZero`, where a write took none of some bytes; and it was delivered nothing.
+abbrev pub Fails : Bool → Writer → Writer → IoFault → Type 0
+Fails tells before now fault = WriteFails before.counts now.counts fault × (IsTrue tells → now.delivered ≡ before.delivered)
+
+-- What a poll that passes on what is buffered answers. When it is done nothing is buffered. At a fault nothing was written. At Pending the
+-- stream inside paused, and will wake this task, and nothing was written; at Again it was interrupted, or less is buffered.
+abbrev pub PassesOn : Bool → ℕ → Writer → Writer → List ℕ → List ℕ → PollCount → Type 0
+PassesOn tells task before now held later (CountReady (Ok n)) = later ≡ []
+PassesOn tells task before now held later (CountReady (Err fault)) = Fails tells before now fault
+PassesOn tells task before now held later CountPending = Pauses task before.counts now.counts × (later ≡ held)
+PassesOn tells task before now held later CountAgain =
     Rose before.counts.interrupts now.counts.interrupts ⊎ (length later < length held)
 
 -- What such a poll makes of the writer's own counts: a fault is counted, and what isn't done is a pause.
@@ -94,21 +97,21 @@ IsPushCounted before now CountPending = Rose before.pauses now.pauses
 IsPushCounted before now CountAgain = Rose before.pauses now.pauses
 
 -- Why a flush or a close fails: the stream inside does.
-abbrev pub IsFailure : Writer → Writer → FrameFault → Type 0
-IsFailure before now Number = ⊥
-IsFailure before now Large = ⊥
-IsFailure before now Flag = ⊥
-IsFailure before now Channels = ⊥
-IsFailure before now Long = ⊥
-IsFailure before now Cut = ⊥
-IsFailure before now (Io fault) = WriteFails before.counts now.counts fault
-IsFailure before now OutOfMemory = ⊥
+abbrev pub IsFailure : Bool → Writer → Writer → FrameFault → Type 0
+IsFailure tells before now Number = ⊥
+IsFailure tells before now Large = ⊥
+IsFailure tells before now Flag = ⊥
+IsFailure tells before now Channels = ⊥
+IsFailure tells before now Long = ⊥
+IsFailure tells before now Cut = ⊥
+IsFailure tells before now (Io fault) = Fails tells before now fault
+IsFailure tells before now OutOfMemory = ⊥
 
 -- A poll of a flush or a close that fails does so for one of these.
-abbrev pub FailsBy : Writer → Writer → SinkDone FrameFault → Type 0
-FailsBy before now (DoneReady (Ok done)) = Unit {0}
-FailsBy before now (DoneReady (Err fault)) = IsFailure before now fault
-FailsBy before now DonePending = Unit {0}
+abbrev pub FailsBy : Bool → Writer → Writer → SinkDone FrameFault → Type 0
+FailsBy tells before now (DoneReady (Ok done)) = Unit {0}
+FailsBy tells before now (DoneReady (Err fault)) = IsFailure tells before now fault
+FailsBy tells before now DonePending = Unit {0}
 
 -- A flush or a close that is done leaves nothing buffered; one that fails has the stream's fault.
 abbrev pub Ends : List ℕ → SinkDone FrameFault → Type 0

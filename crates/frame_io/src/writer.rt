@@ -173,7 +173,7 @@ impl<W: AsyncWriteRent> FrameWriter<W> {
     /// a pause from a poll that got on (not in monoio). At `Pending` the stream paused, and wakes the task; nothing was
     /// written. At `Again` bytes were written, or the stream answered `Again`: another poll may be made at once.
     pub fn flush_once(&mut self, task: u64) -> PollCount
-        ensures answers { PassesOn task (W.writer self.old.inner) (W.writer self.new.inner) self.old.held self.new.held result }
+        ensures answers { PassesOn W.tells task (W.writer self.old.inner) (W.writer self.new.inner) self.old.held self.new.held result }
         ensures pushes { Pushes W.tells (W.writer self.old.inner) (W.writer self.new.inner) self.old.held self.new.held }
         ensures flushes { CountsDone (W.writer self.old.inner).flushes (W.writer self.new.inner).flushes result }
         ensures sends { self.new.sends ≡ self.old.sends }
@@ -193,7 +193,7 @@ impl<W: AsyncWriteRent> FrameWriter<W> {
     /// Writes what is buffered, one write a poll, and then shuts the stream inside down, as `poll_close` does, which doesn't
     /// tell a pause from a poll that got on (not in monoio). `Pending` and `Again` mean what they mean for `flush_once`.
     pub fn close_once(&mut self, task: u64) -> PollCount
-        ensures answers { PassesOn task (W.writer self.old.inner) (W.writer self.new.inner) self.old.held self.new.held result }
+        ensures answers { PassesOn W.tells task (W.writer self.old.inner) (W.writer self.new.inner) self.old.held self.new.held result }
         ensures pushes { Pushes W.tells (W.writer self.old.inner) (W.writer self.new.inner) self.old.held self.new.held }
         ensures shutdowns { CountsDone (W.writer self.old.inner).shutdowns (W.writer self.new.inner).shutdowns result }
         ensures flushes { (W.writer self.new.inner).flushes ≡ (W.writer self.old.inner).flushes }
@@ -212,9 +212,10 @@ impl<W: AsyncWriteRent> FrameWriter<W> {
     }
 
     // Writes what is buffered once. What the write took leaves the buffer.
+    #[tactic(auto, using(stream_util::proofs::Buffered::nothing_taken))]
     fn push_out(&mut self, task: u64) -> PollCount
         requires { 0 < length self.old.held }
-        ensures answers { PassesOn task (W.writer self.old.inner) (W.writer self.new.inner) self.old.held self.new.held result }
+        ensures answers { PassesOn W.tells task (W.writer self.old.inner) (W.writer self.new.inner) self.old.held self.new.held result }
         ensures pushes { Pushes W.tells (W.writer self.old.inner) (W.writer self.new.inner) self.old.held self.new.held }
         ensures sends { self.new.sends ≡ self.old.sends }
         ensures ends { EndsStay (W.writer self.old.inner) (W.writer self.new.inner) }
@@ -281,7 +282,7 @@ impl<W: AsyncWriteRent> Sink<Message> for FrameWriter<W> {
         ensures pushes { Pushes W.tells (W.writer self.old.inner) (W.writer self.new.inner) self.old.held self.new.held }
         ensures ends { Ends self.new.held result }
         // A fault of the stream is the last one that it gave, or `WriteZero`, where a write took none of some bytes.
-        ensures apart { FailsBy (W.writer self.old.inner) (W.writer self.new.inner) result }
+        ensures apart { FailsBy W.tells (W.writer self.old.inner) (W.writer self.new.inner) result }
     {
         match self.flush_once(task) {
             PollCount::Ready(Ok(_)) => SinkDone::Ready(Ok(())),
@@ -302,7 +303,7 @@ impl<W: AsyncWriteRent> Sink<Message> for FrameWriter<W> {
             (counts_over (W.writer self.new.inner).counts self.new) }
         ensures pushes { Pushes W.tells (W.writer self.old.inner) (W.writer self.new.inner) self.old.held self.new.held }
         ensures ends { Ends self.new.held result }
-        ensures apart { FailsBy (W.writer self.old.inner) (W.writer self.new.inner) result }
+        ensures apart { FailsBy W.tells (W.writer self.old.inner) (W.writer self.new.inner) result }
         ensures shutdowns { IfShut (W.writer self.old.inner).shutdowns (W.writer self.new.inner).shutdowns result }
     {
         match self.close_once(task) {

@@ -38,9 +38,6 @@ abbrev pub IsShort : Bool → Reader → Reader → ℕ → IoFault → Type 0
 IsShort tells before now wanted fault = (fault ≡ UnexpectedEof) × (IsTrue tells → length before.left < wanted)
     × Rose before.counts.zeros now.counts.zeros
 
--- Writing: `TookNone` of Polls. A write took none of some bytes, which a stream that takes a byte of each write never counts. So such a
--- stream never ends a write with a fault.
-
 -- The line that these bytes begin is UTF-8: they, and those that are left, up to and with the first newline, or all where there is none.
 abbrev pub BeginText : List ℕ → List ℕ → Type 0
 BeginText bytes left = (line rest : List ℕ) → left ≡ line ++ rest → IsWholeLine true 10 line rest → IsUtf8 (bytes ++ line)

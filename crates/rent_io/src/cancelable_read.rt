@@ -5,6 +5,9 @@ ghost use Rattle.rent_io.specs.Counts.{AfterCall};
 ghost use Rattle.rent_io.specs.ReadExact.{ReadsExact, filling, lacks};
 ghost use Rattle.rent_io.specs.ReadNumber.{number_of, ReadsNumber};
 ghost use Rattle.rent_io.specs.ReadVectoredExact.{ReadsScattered, has_read, scattering, wanted};
+ghost use Rattle.rent_io.specs.LineRuns.{RunsNumber};
+ghost use Rattle.rent_io.specs.Runs.{AfterCalls, AreUsed, IfGoesOn, RunsExact};
+ghost use Rattle.rent_io.specs.ScatterRuns.{RunsScattered};
 ghost use Rattle.rent_io.specs.Under.{KeepsGroup, plainly, under};
 
 use crate::async_rent_cancelable::CancelableAsyncReadRent;
@@ -67,6 +70,27 @@ impl<T: IoBufMut> CancelableReadExact<T> {
             Step::Again(state) => Step::Again(CancelableReadExact { state, handle }),
         }
     }
+
+    /// As `ReadExact::drive`, by cancelable reads (not in monoio).
+    pub fn drive<A: CancelableAsyncReadRent>(
+        self,
+        io: &mut A,
+        task: u64,
+        polls: u64,
+    ) -> Step<CancelableReadExact<T>, BufResult<usize, T>>
+        ensures run { RunsExact A.tells (A.reader io.old) (A.reader io.new) T.buffer T.under T.beside self.state (plainly result) }
+        ensures group { KeepsGroup self.group result }
+        ensures used { IfGoesOn (plainly result) (λ next. AreUsed polls self.state.filled next.filled
+            (A.reader io.old).counts (A.reader io.new).counts) }
+        ensures counts { AfterCalls (Some self.group) polls (A.reader io.old).counts (A.reader io.new).counts }
+    {
+        let CancelableReadExact { state, handle } = self;
+        match state.drive_by(io, &handle, task, polls) {
+            Step::Ready(end) => Step::Ready(end),
+            Step::Pending(state) => Step::Pending(CancelableReadExact { state, handle }),
+            Step::Again(state) => Step::Again(CancelableReadExact { state, handle }),
+        }
+    }
 }
 
 /// A `ReadVectoredExact` whose reads are put under a cancel group (monoio: the future of
@@ -114,6 +138,27 @@ impl<T: IoVecBufMut> CancelableReadVectoredExact<T> {
     {
         let CancelableReadVectoredExact { state, handle } = self;
         match state.poll_by(io, &handle, task) {
+            Step::Ready(end) => Step::Ready(end),
+            Step::Pending(state) => Step::Pending(CancelableReadVectoredExact { state, handle }),
+            Step::Again(state) => Step::Again(CancelableReadVectoredExact { state, handle }),
+        }
+    }
+
+    /// As `ReadVectoredExact::drive`, by cancelable reads (not in monoio).
+    pub fn drive<A: CancelableAsyncReadRent>(
+        self,
+        io: &mut A,
+        task: u64,
+        polls: u64,
+    ) -> Step<CancelableReadVectoredExact<T>, BufResult<usize, T>>
+        ensures run { RunsScattered A.tells (A.reader io.old) (A.reader io.new) T.held self.state (plainly result) }
+        ensures group { KeepsGroup self.group result }
+        ensures used { IfGoesOn (plainly result) (λ next. AreUsed polls (length (has_read self.state)) (length (has_read next))
+            (A.reader io.old).counts (A.reader io.new).counts) }
+        ensures counts { AfterCalls (Some self.group) polls (A.reader io.old).counts (A.reader io.new).counts }
+    {
+        let CancelableReadVectoredExact { state, handle } = self;
+        match state.drive_by(io, &handle, task, polls) {
             Step::Ready(end) => Step::Ready(end),
             Step::Pending(state) => Step::Pending(CancelableReadVectoredExact { state, handle }),
             Step::Again(state) => Step::Again(CancelableReadVectoredExact { state, handle }),
@@ -170,6 +215,27 @@ impl<N: Number> CancelableReadNumber<N> {
     {
         let CancelableReadNumber { state, handle } = self;
         match state.poll_by(io, &handle, task) {
+            Step::Ready(end) => Step::Ready(end),
+            Step::Pending(state) => Step::Pending(CancelableReadNumber { state, handle }),
+            Step::Again(state) => Step::Again(CancelableReadNumber { state, handle }),
+        }
+    }
+
+    /// As `ReadNumber::drive`, by cancelable reads (not in monoio).
+    pub fn drive<A: CancelableAsyncReadRent>(
+        self,
+        io: &mut A,
+        task: u64,
+        polls: u64,
+    ) -> Step<CancelableReadNumber<N>, Result<N, IoFault>>
+        ensures run { RunsNumber A.tells (A.reader io.old) (A.reader io.new) N.value self.state (plainly result) }
+        ensures group { KeepsGroup self.group result }
+        ensures used { IfGoesOn (plainly result) (λ next. AreUsed polls (length self.state.bytes) (length next.bytes)
+            (A.reader io.old).counts (A.reader io.new).counts) }
+        ensures counts { AfterCalls (Some self.group) polls (A.reader io.old).counts (A.reader io.new).counts }
+    {
+        let CancelableReadNumber { state, handle } = self;
+        match state.drive_by(io, &handle, task, polls) {
             Step::Ready(end) => Step::Ready(end),
             Step::Pending(state) => Step::Pending(CancelableReadNumber { state, handle }),
             Step::Again(state) => Step::Again(CancelableReadNumber { state, handle }),

@@ -3,6 +3,7 @@ ghost use Rattle.std.specs.Prelude.{◌≡◌, ◌^◌, ◌<◌, length, sum_by,
 ghost use Rattle.rent_io.specs.Completeness.{Completes};
 ghost use Rattle.rent_io.specs.Counts.{AfterCall};
 ghost use Rattle.rent_io.specs.Polls.{TookNone};
+ghost use Rattle.rent_io.specs.Runs.{AfterCalls, AreUsed, IfGoesOn, RunsAll};
 ghost use Rattle.rent_io.specs.Under.{KeepsGroup, plainly, under};
 ghost use Rattle.rent_io.specs.WriteAll.{WritesAll, sending, sending_parts};
 ghost use Rattle.rent_io.specs.Writer.{EndsStay};
@@ -66,6 +67,28 @@ impl<T: IoBuf> CancelableWriteAll<T> {
             Step::Again(state) => Step::Again(CancelableWriteAll { state, handle }),
         }
     }
+
+    /// As `WriteAll::drive`, by cancelable writes (not in monoio).
+    pub fn drive<A: CancelableAsyncWriteRent>(
+        self,
+        io: &mut A,
+        task: u64,
+        polls: u64,
+    ) -> Step<CancelableWriteAll<T>, BufResult<usize, T>>
+        ensures run { RunsAll A.tells (A.writer io.old) (A.writer io.new) self.state (plainly result) }
+        ensures group { KeepsGroup self.group result }
+        ensures ends { EndsStay (A.writer io.old) (A.writer io.new) }
+        ensures used { IfGoesOn (plainly result) (λ next. AreUsed polls (length next.rest) (length self.state.rest)
+            (A.writer io.old).counts (A.writer io.new).counts) }
+        ensures counts { AfterCalls (Some self.group) polls (A.writer io.old).counts (A.writer io.new).counts }
+    {
+        let CancelableWriteAll { state, handle } = self;
+        match state.drive_by(io, &handle, task, polls) {
+            Step::Ready(end) => Step::Ready(end),
+            Step::Pending(state) => Step::Pending(CancelableWriteAll { state, handle }),
+            Step::Again(state) => Step::Again(CancelableWriteAll { state, handle }),
+        }
+    }
 }
 
 /// A `WriteVectoredAll` whose writes are put under a cancel group (monoio: the future of `write_vectored_all` of
@@ -115,6 +138,28 @@ impl<T: IoVecBuf> CancelableWriteVectoredAll<T> {
     {
         let CancelableWriteVectoredAll { state, handle } = self;
         match state.poll_by(io, &handle, task) {
+            Step::Ready(end) => Step::Ready(end),
+            Step::Pending(state) => Step::Pending(CancelableWriteVectoredAll { state, handle }),
+            Step::Again(state) => Step::Again(CancelableWriteVectoredAll { state, handle }),
+        }
+    }
+
+    /// As `WriteVectoredAll::drive`, by cancelable writes (not in monoio).
+    pub fn drive<A: CancelableAsyncWriteRent>(
+        self,
+        io: &mut A,
+        task: u64,
+        polls: u64,
+    ) -> Step<CancelableWriteVectoredAll<T>, BufResult<usize, T>>
+        ensures run { RunsAll A.tells (A.writer io.old) (A.writer io.new) self.state (plainly result) }
+        ensures group { KeepsGroup self.group result }
+        ensures ends { EndsStay (A.writer io.old) (A.writer io.new) }
+        ensures used { IfGoesOn (plainly result) (λ next. AreUsed polls (length next.rest) (length self.state.rest)
+            (A.writer io.old).counts (A.writer io.new).counts) }
+        ensures counts { AfterCalls (Some self.group) polls (A.writer io.old).counts (A.writer io.new).counts }
+    {
+        let CancelableWriteVectoredAll { state, handle } = self;
+        match state.drive_by(io, &handle, task, polls) {
             Step::Ready(end) => Step::Ready(end),
             Step::Pending(state) => Step::Pending(CancelableWriteVectoredAll { state, handle }),
             Step::Again(state) => Step::Again(CancelableWriteVectoredAll { state, handle }),

@@ -71,10 +71,26 @@ impl<T: IoBufMut> ReadExact<T> {
             (A.reader io.old).counts (A.reader io.new).counts) }
         ensures counts { AfterCalls None polls (A.reader io.old).counts (A.reader io.new).counts }
     {
+        self.drive_by(io, &Plain, task, polls)
+    }
+
+    // So many polls at most by this call.
+    pub(crate) fn drive_by<A: AsyncReadRent, C: ReadCall<A>>(
+        self,
+        io: &mut A,
+        call: &C,
+        task: u64,
+        polls: u64,
+    ) -> Step<ReadExact<T>, BufResult<usize, T>>
+        ensures run { RunsExact A.tells (A.reader io.old) (A.reader io.new) T.buffer T.under T.beside self result }
+        ensures used { IfGoesOn result (λ next. AreUsed polls self.filled next.filled
+            (A.reader io.old).counts (A.reader io.new).counts) }
+        ensures counts { AfterCalls (C.group call.now) polls (A.reader io.old).counts (A.reader io.new).counts }
+    {
         self.keeps_bounds();
         let mut state = self;
         for _ in 0..polls {
-            match state.poll(io, task) {
+            match state.poll_by(io, call, task) {
                 Step::Ready((outcome, buf)) => return Step::Ready((outcome, buf)),
                 Step::Pending(next) => state = next,
                 Step::Again(next) => state = next,

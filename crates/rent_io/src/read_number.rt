@@ -81,9 +81,25 @@ impl<N: Number> ReadNumber<N> {
             (A.reader io.old).counts (A.reader io.new).counts) }
         ensures counts { AfterCalls None polls (A.reader io.old).counts (A.reader io.new).counts }
     {
+        self.drive_by(io, &Plain, task, polls)
+    }
+
+    // So many polls at most by this call.
+    pub(crate) fn drive_by<A: AsyncReadRent, C: ReadCall<A>>(
+        self,
+        io: &mut A,
+        call: &C,
+        task: u64,
+        polls: u64,
+    ) -> Step<ReadNumber<N>, Result<N, IoFault>>
+        ensures run { RunsNumber A.tells (A.reader io.old) (A.reader io.new) N.value self result }
+        ensures used { IfGoesOn result (λ next. AreUsed polls (length self.bytes) (length next.bytes)
+            (A.reader io.old).counts (A.reader io.new).counts) }
+        ensures counts { AfterCalls (C.group call.now) polls (A.reader io.old).counts (A.reader io.new).counts }
+    {
         let mut state = self;
         for _ in 0..polls {
-            match state.poll(io, task) {
+            match state.poll_by(io, call, task) {
                 Step::Ready(outcome) => return Step::Ready(outcome),
                 Step::Pending(next) => state = next,
                 Step::Again(next) => state = next,

@@ -92,9 +92,26 @@ impl<T: IoVecBuf> WriteVectoredAll<T> {
             (A.writer io.old).counts (A.writer io.new).counts) }
         ensures counts { AfterCalls None polls (A.writer io.old).counts (A.writer io.new).counts }
     {
+        self.drive_by(io, &Plain, task, polls)
+    }
+
+    // So many polls at most by this call.
+    pub(crate) fn drive_by<A: AsyncWriteRent, C: WriteCall<A>>(
+        self,
+        io: &mut A,
+        call: &C,
+        task: u64,
+        polls: u64,
+    ) -> Step<WriteVectoredAll<T>, BufResult<usize, T>>
+        ensures run { RunsAll A.tells (A.writer io.old) (A.writer io.new) self result }
+        ensures ends { EndsStay (A.writer io.old) (A.writer io.new) }
+        ensures used { IfGoesOn result (λ next. AreUsed polls (length next.rest) (length self.rest)
+            (A.writer io.old).counts (A.writer io.new).counts) }
+        ensures counts { AfterCalls (C.group call.now) polls (A.writer io.old).counts (A.writer io.new).counts }
+    {
         let mut state = self;
         for _ in 0..polls {
-            match state.poll(io, task) {
+            match state.poll_by(io, call, task) {
                 Step::Ready((outcome, buf)) => return Step::Ready((outcome, buf)),
                 Step::Pending(next) => state = next,
                 Step::Again(next) => state = next,

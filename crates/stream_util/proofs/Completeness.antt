@@ -11,8 +11,8 @@ use Rattle.rent_io.specs.declared.poll.PollBuf.TheVariants.{Ready as BufReady, P
 use Rattle.rent_io.specs.Completeness.{IsQuiet, CountGetsOn, Completes}
 use Rattle.rent_io.specs.Counts.{Counts}
 use Rattle.rent_io.specs.Polls.{IsFlushCaused, IsWriteCaused, TookNone}
-use Rattle.rent_io.specs.Writer.{Writer}
-use Rattle.stream_util.specs.BufWriter.{WriteGetsOn}
+use Rattle.rent_io.specs.Writer.{Writer, Writes}
+use Rattle.stream_util.specs.BufWriter.{TakesNothing, WriteGetsOn}
 use Rattle.stream_util.specs.Copy.{Breaks, CopyFails, Copying, Ends, Waits, IsCopyEnd, Copies, CopyCompletes}
 use Rattle.stream_util.specs.Split.{IsShutdownEnd, ShutsDown, part_in}
 use Rattle.stream_util.specs.ZeroCopy.{IsZeroCopyEnd, ZeroCopies, SplicesNone}
@@ -94,20 +94,24 @@ shutdown_completes writer tells task part (Ready end) is quiet = shutdown-end (w
 shutdown_completes writer tells task part (Pending next) is quiet = quiet.1 is.1.0
 shutdown_completes writer tells task part (Again next) is quiet = quiet.2 is.1
 
--- A poll that has its cause in the counts gets on.
-pub count_gets_on : (task : ℕ) (before now : Counts) (result : PollCount) (further : Type 0)
-    → IsFlushCaused task before now result → IsQuiet before now → CountGetsOn result (TookNone before now) further
-count_gets_on task before now (CountReady (Ok n)) further cause quiet = tt
-count_gets_on task before now (CountReady (Err fault)) further (inl failed) quiet = absurd (quiet.0 failed.0)
-count_gets_on task before now (CountReady (Err fault)) further (inr none) quiet = none
-count_gets_on task before now CountPending further cause quiet = quiet.1 cause.0
-count_gets_on task before now CountAgain further cause quiet = absurd (quiet.2 cause)
+-- A poll that has its cause in the counts, and delivers nothing, gets on.
+pub count_gets_on : (tells : Bool) (task : ℕ) (before now : Writer) (result : PollCount) (further : Type 0)
+    → IsFlushCaused task before.counts now.counts result → (IsTrue tells → now.delivered ≡ before.delivered)
+    → IsQuiet before.counts now.counts → CountGetsOn result (TakesNothing tells before now) further
+count_gets_on tells task before now (CountReady (Ok n)) further cause same quiet = tt
+count_gets_on tells task before now (CountReady (Err fault)) further (inl failed) same quiet = absurd (quiet.0 failed.0)
+count_gets_on tells task before now (CountReady (Err fault)) further (inr none) same quiet = (none, same)
+count_gets_on tells task before now CountPending further cause same quiet = quiet.1 cause.0
+count_gets_on tells task before now CountAgain further cause same quiet = absurd (quiet.2 cause)
 
 -- The same of a write.
-pub write_gets_on : {T : Type 0} (task : ℕ) (before now : Counts) (result : PollBuf T) (further : Type 0)
-    → IsWriteCaused task before now result → IsQuiet before now → WriteGetsOn result (TookNone before now) further
-write_gets_on task before now (BufReady (Ok n) back) further cause quiet = tt
-write_gets_on task before now (BufReady (Err fault) back) further (inl failed) quiet = absurd (quiet.0 failed.0)
-write_gets_on task before now (BufReady (Err fault) back) further (inr none) quiet = none
-write_gets_on task before now (BufPending back) further cause quiet = quiet.1 cause.0
-write_gets_on task before now (BufAgain back) further cause quiet = absurd (quiet.2 cause)
+pub write_gets_on : {T : Type 0} (tells : Bool) (task : ℕ) (before now : Writer) (bytes : List ℕ) (buf : T) (result : PollBuf T)
+    (further : Type 0) → IsWriteCaused task before.counts now.counts result
+    → Writes tells before.delivered now.delivered bytes buf result → IsQuiet before.counts now.counts
+    → WriteGetsOn result (TakesNothing tells before now) further
+write_gets_on tells task before now bytes buf (BufReady (Ok n) back) further cause writes quiet = tt
+write_gets_on tells task before now bytes buf (BufReady (Err fault) back) further (inl failed) writes quiet =
+    absurd (quiet.0 failed.0)
+write_gets_on tells task before now bytes buf (BufReady (Err fault) back) further (inr none) writes quiet = (none, writes.1)
+write_gets_on tells task before now bytes buf (BufPending back) further cause writes quiet = quiet.1 cause.0
+write_gets_on tells task before now bytes buf (BufAgain back) further cause writes quiet = absurd (quiet.2 cause)

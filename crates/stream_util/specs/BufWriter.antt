@@ -47,11 +47,15 @@ IsPushCaused task before now (CountReady (Err fault)) = WriteFails before now fa
 IsPushCaused task before now CountPending = Pauses task before now
 IsPushCaused task before now CountAgain = Rose before.interrupts now.interrupts
 
+-- A write took none of some bytes, and the stream inside was delivered nothing.
+abbrev pub TakesNothing : Bool → Writer → Writer → IoFault → Type 0
+TakesNothing tells before now fault = TookNone before.counts now.counts fault × (IsTrue tells → now.delivered ≡ before.delivered)
+
 -- A poll of a flush or a shutdown in which no count of the stream inside rose got on: it is done, or less is buffered, or it ended since a
 -- write took none of what is buffered.
-abbrev pub FlushCompletes : Writer → Writer → List ℕ → List ℕ → PollCount → Type 0
-FlushCompletes before now held later result = IsQuiet before.counts now.counts
-    → CountGetsOn result (TookNone before.counts now.counts) (length later < length held)
+abbrev pub FlushCompletes : Bool → Writer → Writer → List ℕ → List ℕ → PollCount → Type 0
+FlushCompletes tells before now held later result = IsQuiet before.counts now.counts
+    → CountGetsOn result (TakesNothing tells before now) (length later < length held)
 
 -- A poll of a write got on: it took bytes, or ended with one of these faults; or it answers Again, and this is so.
 abbrev pub WriteGetsOn : {T : Type 0} → PollBuf T → (IoFault → Type 0) → Type 0 → Type 0
@@ -61,9 +65,9 @@ WriteGetsOn (BufAgain back) faults further = further
 
 -- A poll of a write in which no count of the stream inside rose got on: it took bytes, or less is buffered, or it ended since a write took
 -- none of what is buffered.
-abbrev pub WriteCompletes : {T : Type 0} → Writer → Writer → List ℕ → List ℕ → PollBuf T → Type 0
-WriteCompletes before now held later result = IsQuiet before.counts now.counts
-    → WriteGetsOn result (TookNone before.counts now.counts) (length later < length held)
+abbrev pub WriteCompletes : {T : Type 0} → Bool → Writer → Writer → List ℕ → List ℕ → PollBuf T → Type 0
+WriteCompletes tells before now held later result = IsQuiet before.counts now.counts
+    → WriteGetsOn result (TakesNothing tells before now) (length later < length held)
 
 -- Bytes don't fit behind some that are buffered.
 abbrev pub IsFull : {W : Type 0} → Writing W → List ℕ → Type 0
@@ -91,13 +95,13 @@ IfPushed (Fault fault) P = P
 
 -- An offer at which no count of the stream inside rose: it was taken or is to be passed on, or less is buffered, or a write took none of
 -- what is buffered.
-abbrev pub OfferCompletes : Writer → Writer → List ℕ → List ℕ → Offered → Type 0
-OfferCompletes before now held later Taken = Unit {0}
-OfferCompletes before now held later PassOn = Unit {0}
-OfferCompletes before now held later Pending = IsQuiet before.counts now.counts → ⊥
-OfferCompletes before now held later Again = IsQuiet before.counts now.counts → length later < length held
-OfferCompletes before now held later (Fault fault) =
-    IsQuiet before.counts now.counts → TookNone before.counts now.counts fault
+abbrev pub OfferCompletes : Bool → Writer → Writer → List ℕ → List ℕ → Offered → Type 0
+OfferCompletes tells before now held later Taken = Unit {0}
+OfferCompletes tells before now held later PassOn = Unit {0}
+OfferCompletes tells before now held later Pending = IsQuiet before.counts now.counts → ⊥
+OfferCompletes tells before now held later Again = IsQuiet before.counts now.counts → length later < length held
+OfferCompletes tells before now held later (Fault fault) =
+    IsQuiet before.counts now.counts → TakesNothing tells before now fault
 
 -- A poll of a write took the bytes of a buffer whole.
 abbrev pub TakesWhole : {T : Type 0} → List ℕ → PollBuf T → Type 0

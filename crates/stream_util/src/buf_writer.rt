@@ -178,7 +178,7 @@ impl<W: AsyncWriteRent> BufWriter<W> {
         ensures ends { EndsStay (W.writer self.old.inner) (W.writer self.new.inner) }
         ensures counts { AfterCall None (counts_over (W.writer self.old.inner).counts self.old)
             (counts_over (W.writer self.new.inner).counts self.new) }
-        ensures complete { OfferCompletes (W.writer self.old.inner) (W.writer self.new.inner) self.old.held self.new.held result }
+        ensures complete { OfferCompletes W.tells (W.writer self.old.inner) (W.writer self.new.inner) self.old.held self.new.held result }
     {
         let held = self.buf.len() - self.sent;
         if bytes.len() <= self.capacity - held {
@@ -196,6 +196,7 @@ impl<W: AsyncWriteRent> BufWriter<W> {
     }
 
     // Writes what is buffered once. What the write took leaves the buffer.
+    #[tactic(auto, using(crate::proofs::Buffered::nothing_taken))]
     fn push_out(&mut self, task: u64) -> PollCount
         requires { 0 < length self.old.held }
         ensures pushes { Pushes W.tells (W.writer self.old.inner) (W.writer self.new.inner) self.old.held self.new.held }
@@ -205,7 +206,7 @@ impl<W: AsyncWriteRent> BufWriter<W> {
             (counts_over (W.writer self.new.inner).counts self.new) result }
         ensures counts { AfterCall None (counts_over (W.writer self.old.inner).counts self.old)
             (counts_over (W.writer self.new.inner).counts self.new) }
-        ensures complete { FlushCompletes (W.writer self.old.inner) (W.writer self.new.inner) self.old.held self.new.held result }
+        ensures complete { FlushCompletes W.tells (W.writer self.old.inner) (W.writer self.new.inner) self.old.held self.new.held result }
     {
         let alloc = *self.buf.allocator();
         let buf = mem::replace(&mut self.buf, Vec::new(alloc));
@@ -255,7 +256,7 @@ impl<W: AsyncWriteRent> AsyncWriteRent for BufWriter<W> {
         ensures counts { AfterCall None (counts_over (W.writer self.old.inner).counts self.old)
             (counts_over (W.writer self.new.inner).counts self.new) }
         ensures rule { WriteRule W.writer W.tells self.old self.new (T.content buf) result }
-        ensures complete { WriteCompletes (W.writer self.old.inner) (W.writer self.new.inner) self.old.held self.new.held result }
+        ensures complete { WriteCompletes W.tells (W.writer self.old.inner) (W.writer self.new.inner) self.old.held self.new.held result }
     {
         let count = buf.bytes_init();
         match self.offer(buf.bytes(), task) {
@@ -280,7 +281,7 @@ impl<W: AsyncWriteRent> AsyncWriteRent for BufWriter<W> {
         ensures counts { AfterCall None (counts_over (W.writer self.old.inner).counts self.old)
             (counts_over (W.writer self.new.inner).counts self.new) }
         ensures rule { WriteRule W.writer W.tells self.old self.new (write.first_part (T.parts buf)) result }
-        ensures complete { WriteCompletes (W.writer self.old.inner) (W.writer self.new.inner) self.old.held self.new.held result }
+        ensures complete { WriteCompletes W.tells (W.writer self.old.inner) (W.writer self.new.inner) self.old.held self.new.held result }
     {
         let part = first_part(&buf);
         let count = part.len();
@@ -307,7 +308,7 @@ impl<W: AsyncWriteRent> AsyncWriteRent for BufWriter<W> {
             (counts_over (W.writer self.new.inner).counts self.new) }
         ensures pushes { Pushes W.tells (W.writer self.old.inner) (W.writer self.new.inner) self.old.held self.new.held }
         ensures empty { IfDone result (self.new.held ≡ []) }
-        ensures complete { FlushCompletes (W.writer self.old.inner) (W.writer self.new.inner) self.old.held self.new.held result }
+        ensures complete { FlushCompletes W.tells (W.writer self.old.inner) (W.writer self.new.inner) self.old.held self.new.held result }
     {
         if self.buf.len() == self.sent {
             return self.inner.poll_flush(task);
@@ -329,7 +330,7 @@ impl<W: AsyncWriteRent> AsyncWriteRent for BufWriter<W> {
             (counts_over (W.writer self.new.inner).counts self.new) }
         ensures pushes { Pushes W.tells (W.writer self.old.inner) (W.writer self.new.inner) self.old.held self.new.held }
         ensures empty { IfDone result (self.new.held ≡ []) }
-        ensures complete { FlushCompletes (W.writer self.old.inner) (W.writer self.new.inner) self.old.held self.new.held result }
+        ensures complete { FlushCompletes W.tells (W.writer self.old.inner) (W.writer self.new.inner) self.old.held self.new.held result }
     {
         if self.buf.len() == self.sent {
             return self.inner.poll_shutdown(task);
