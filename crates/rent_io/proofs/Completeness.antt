@@ -33,7 +33,7 @@ exact-end tells before now f back (Err fault) quiet (same, inr early) =
 -- An exact read gets on.
 pub exact_completes : {T : Type 0} (tells : Bool) (task : ℕ) (before now : Reader) (buffer : T → Buffer) (under : T → List (ℕ × ℕ))
     (beside : T → Parts) (f : Filling) (step : Step Filling (Result ℕ IoFault × T))
-        → ReadsExact tells task before now buffer under beside f step
+    → ReadsExact tells task before now buffer under beside f step
     → Completes before.counts now.counts step (λ end. end.0) (IsShort tells before now (lacks f)) (λ next. f.filled < next.filled)
 exact_completes tells task before now buffer under beside f (Ready end) is quiet =
     exact-end tells before now f (buffer end.1) end.0 quiet is.0

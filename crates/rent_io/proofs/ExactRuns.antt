@@ -105,7 +105,7 @@ pub fill_used : (tells : Bool) (before mid now : Reader) (group : Option ℕ) (k
 fill_used tells before mid now group k f g next used call (inl paused) =
     let same : next.filled ≡ g.filled = ap (λ (x : Filling). x.filled) paused.0 in
     used_paused k f.filled g.filled f.filled next.filled before.counts mid.counts now.counts used (omega (arith, same)) call.pauses_stay
-        call.interrupts_stay paused.2
+    call.interrupts_stay paused.2
 fill_used tells before mid now group k f g next used call (inr goes) =
     let more : next.filled ≡ g.filled + length goes.got = ap (λ x. x.filled) goes.is_next in
     used_moved k f.filled g.filled f.filled next.filled

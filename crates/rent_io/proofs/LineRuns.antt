@@ -146,7 +146,7 @@ pub until_used : (tells : Bool) (before mid now : Reader) (group : Option ℕ) (
 until_used tells before mid now group k u g next used call (inl paused) =
     let same : next.added ≡ g.added = ap (λ (x : Until). x.added) paused.0 in
     used_paused k u.added g.added u.added next.added before.counts mid.counts now.counts used (omega (arith, same)) call.pauses_stay
-        call.interrupts_stay paused.2
+    call.interrupts_stay paused.2
 until_used tells before mid now group k u g next used call (inr goes) =
     let more : next.added ≡ g.added + length goes.got = ap (λ x. x.added) goes.is_next in
     used_moved k u.added g.added u.added next.added

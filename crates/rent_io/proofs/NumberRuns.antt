@@ -35,7 +35,7 @@ number_goes_on tells before mid now r g next has (inr more) = record {
 -- How a poll ends is how the polls end.
 pub number_ends : {N : Type 0} (tells : Bool) (before mid now : Reader) (value : Bool → List ℕ → N) (r g : Numbering)
     (end : Result N IoFault) → before.counts.faults ≤ mid.counts.faults → before.counts.zeros ≤ mid.counts.zeros
-        → HasDigits tells before.left mid.left r g
+    → HasDigits tells before.left mid.left r g
     → IsNumberEnd tells mid now value g end → NumberRunEnd tells before now value r end
 number_ends tells before mid now value r g (Ok n) stay zeros has number =
     let all = ap (λ x. with_digits x number.got) has.is_next ∙ digits_twice r has.got number.got in

@@ -47,7 +47,7 @@ nothing_room (part ∷ parts) (suc k) at = nothing_room parts k at
 -- What a fault leaves, behind bytes that were read before.
 scatter_stops : (tells : Bool) (before mid now : Reader) (s g : Scattering) (back : Parts) (fault : IoFault)
     → before.counts.faults ≤ mid.counts.faults → before.counts.zeros ≤ mid.counts.zeros → HasScattered tells before.left mid.left s g
-        → (IsTrue tells → mid.left ≡ now.left)
+    → (IsTrue tells → mid.left ≡ now.left)
     → (back ≡ g.parts) × Fails mid.counts now.counts fault ⊎ ScatterEndsEarly tells mid now g back fault
     → StopsScattering tells before now s back fault
 scatter_stops tells before mid now s g back fault stay zeros has same (inl failed) = record {
@@ -72,14 +72,18 @@ scatter_stops tells before mid now s g back fault stay zeros has same (inr early
       is_read = ap (λ l. read_of l into at) put_is ∙ nothing_read g.parts into at ∙ early.same_read ∙ has.is_read;
       same_rooms = ap rooms put_is ∙ put_rooms g.parts into at [] ∙ has.same_rooms;
       front = front_paused tells before.left mid.left now.left has.got has.front same;
-      cause = inr (early.is_eof, subst (λ n. at < n) (sym total) early.more, (λ t. sym (same t) ∙ early.at_end.0 t),
-      rose_later before.counts.zeros mid.counts.zeros now.counts.zeros zeros early.at_end.1);
+      cause = inr (
+        early.is_eof,
+        subst (λ n. at < n) (sym total) early.more,
+        (λ t. sym (same t) ∙ early.at_end.0 t),
+        rose_later before.counts.zeros mid.counts.zeros now.counts.zeros zeros early.at_end.1,
+      );
     }
 
 -- How a poll ends is how the polls end.
 pub scatter_ends : (tells : Bool) (before mid now : Reader) (s g : Scattering) (back : Parts) (end : Result ℕ IoFault)
     → before.counts.faults ≤ mid.counts.faults → before.counts.zeros ≤ mid.counts.zeros → HasScattered tells before.left mid.left s g
-        → IsScatterEnd tells mid now g back end
+    → IsScatterEnd tells mid now g back end
     → ScatterRunEnd tells before now s back end
 scatter_ends tells before mid now s g back (Ok n) stay zeros has full = record {
   got = has.got ++ full.got;

@@ -47,7 +47,7 @@ send_goes_on tells before mid now s g next has (inr sends) = record {
 -- How a poll ends is how the polls end.
 pub send_ends : {T : Type 0} (tells : Bool) (before mid now : Writer) (s g : Sending T) (end : Result ℕ IoFault)
     → before.counts.faults ≤ mid.counts.faults → before.counts.zeros ≤ mid.counts.zeros → HasSent tells before.delivered mid.delivered s g
-        → IsAllEnd tells mid now g end
+    → IsAllEnd tells mid now g end
     → AllRunEnd tells before now s end
 send_ends tells before mid now s g (Ok n) stay zeros has all = (
   all.0 ∙ has.same_total,

@@ -1,5 +1,5 @@
 -- The causes of what a poll answers.
-use Rattle.std.specs.Prelude.{ℕ, ◌≡◌, ◌⊎◌, Option, Some, Ok, Err}
+use Rattle.std.specs.Prelude.{ℕ, ◌≡◌, ◌⊎◌, Some, Ok, Err}
 use Rattle.rent_buf.specs.declared.fault.IoFault.{IoFault}
 use Rattle.rent_buf.specs.declared.fault.IoFault.TheVariants.{WriteZero}
 use Rattle.rent_io.specs.declared.poll.PollBuf.{PollBuf}

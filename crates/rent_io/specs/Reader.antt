@@ -1,5 +1,5 @@
 -- A stream that is read, and what a poll of a read does. Each clause on readers cites it.
-use Rattle.std.specs.Prelude.{ℕ, ◌≡◌, ◌≤◌, ◌⊎◌, nat_eq, min, if◌then◌else◌, Bool, IsTrue, List, [], ◌∷◌, ◌++◌, length, Option, Some, Ok}
+use Rattle.std.specs.Prelude.{ℕ, ◌≡◌, ◌≤◌, ◌⊎◌, nat_eq, min, if◌then◌else◌, Bool, IsTrue, List, [], ◌∷◌, ◌++◌, length, Some, Ok}
 use Rattle.std.specs.Prelude.{Err}
 use Rattle.rent_buf.specs.Buffer.{Buffer, room, stored}
 use Rattle.rent_buf.specs.Parts.{Parts, parts_stored}

@@ -134,7 +134,7 @@ impl<T: IoVecBufMut> CancelableReadVectoredExact<T> {
         ensures counts { AfterCall (Some self.group) (A.reader io.old).counts (A.reader io.new).counts }
         ensures complete { Completes (A.reader io.old).counts (A.reader io.new).counts (plainly result) (λ end. end.0)
             (IsShort A.tells (A.reader io.old) (A.reader io.new) (wanted self.state))
-                (λ next. length (has_read self.state) < length (has_read next)) }
+            (λ next. length (has_read self.state) < length (has_read next)) }
     {
         let CancelableReadVectoredExact { state, handle } = self;
         match state.poll_by(io, &handle, task) {
@@ -211,7 +211,7 @@ impl<N: Number> CancelableReadNumber<N> {
         ensures counts { AfterCall (Some self.group) (A.reader io.old).counts (A.reader io.new).counts }
         ensures complete { Completes (A.reader io.old).counts (A.reader io.new).counts (plainly result) (λ end. end)
             (IsShort A.tells (A.reader io.old) (A.reader io.new) (self.state.size - length self.state.bytes))
-                (λ next. length self.state.bytes < length next.bytes) }
+            (λ next. length self.state.bytes < length next.bytes) }
     {
         let CancelableReadNumber { state, handle } = self;
         match state.poll_by(io, &handle, task) {

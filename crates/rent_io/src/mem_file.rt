@@ -28,8 +28,11 @@ impl Model for MemFile {
 
     ghost Value = { FileAt };
 
-    ghost view = { λ f. record { bytes = f.bytes.items; counts = record no_counts
-      { faults = f.faults; fault = f.fault; calls = f.calls } } };
+    ghost view = { λ f. record {
+      bytes = f.bytes.items;
+      counts = record no_counts
+          { faults = f.faults; fault = f.fault; calls = f.calls };
+    } };
 }
 
 impl MemFile {

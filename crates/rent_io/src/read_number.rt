@@ -62,7 +62,7 @@ impl<N: Number> ReadNumber<N> {
         ensures counts { AfterCall None (A.reader io.old).counts (A.reader io.new).counts }
         ensures complete { Completes (A.reader io.old).counts (A.reader io.new).counts result (λ end. end)
             (IsShort A.tells (A.reader io.old) (A.reader io.new) (self.size - length self.bytes))
-                (λ next. length self.bytes < length next.bytes) }
+            (λ next. length self.bytes < length next.bytes) }
     {
         self.poll_by(io, &Plain, task)
     }

@@ -7,7 +7,7 @@ ghost use Rattle.rent_buf.specs.declared.fault.IoFault.TheVariants.{OutOfMemory 
 ghost use Rattle.rent_io.specs.Counts.{Rose, AfterCall};
 ghost use Rattle.rent_io.specs.Polls.{CountsNone, Fails, IsCaused, IsWriteCaused, IsFlushCaused};
 ghost use Rattle.rent_io.specs.Reader.{Reads, ReadsParts, first_room as room_of};
-ghost use Rattle.rent_io.specs.Scripted.{fresh, as_reader, as_writer, EndsBy, Follows, ReadsBy, Turns, WritesBy};
+ghost use Rattle.rent_io.specs.Scripted.{fresh, as_writer, EndsBy, Follows, ReadsBy, Turns, WritesBy};
 ghost use Rattle.rent_io.specs.Writer.{EndsStay, Writes, CountsDone, first_part as part_of};
 
 use crate::poll::{PollBuf, PollCount};
@@ -306,8 +306,7 @@ impl ScriptedStream {
     }
 
     // One write of the first part that has bytes.
-    #[tactic(auto, using(crate::proofs::FirstParts::parts_written, crate::proofs::FirstParts::parts_within,
-        crate::proofs::FirstParts::none_of_all))]
+    #[tactic(auto, using(crate::proofs::FirstParts::parts_written, crate::proofs::FirstParts::parts_within, crate::proofs::FirstParts::none_of_all))]
     fn write_parts<T: IoVecBuf>(&mut self, buf: T, group: Option<u64>, task: u64) -> PollBuf<T>
         ensures writes { Writes true self.old.delivered self.new.delivered (concat (T.parts buf)) buf result }
         ensures none { CountsNone (length (concat (T.parts buf))) self.old.counts self.new.counts result }

@@ -74,8 +74,7 @@ impl<K: ByteSink> AsyncWriteRent for SinkStream<K> {
     }
 
     /// One write of the sink, of the first part that has bytes. `WriteFault` where it failed.
-    #[tactic(auto, using(crate::proofs::FirstParts::parts_written, crate::proofs::FirstParts::parts_within,
-        crate::proofs::FirstParts::none_at_all))]
+    #[tactic(auto, using(crate::proofs::FirstParts::parts_written, crate::proofs::FirstParts::parts_within, crate::proofs::FirstParts::none_at_all))]
     fn poll_writev<T: IoVecBuf>(&mut self, buf: T, _task: u64) -> PollBuf<T> {
         match self.sink.write(first_part(&buf)) {
             Ok(count) => PollBuf::Ready(Ok(count), buf),

@@ -128,12 +128,7 @@ impl CancelableAsyncReadRent for ScriptedStream {
 }
 
 impl CancelableAsyncWriteRent for ScriptedStream {
-    fn poll_cancelable_write<T: IoBuf>(
-        &mut self,
-        buf: T,
-        c: CancelHandle,
-        task: u64,
-    ) -> PollBuf<T>
+    fn poll_cancelable_write<T: IoBuf>(&mut self, buf: T, c: CancelHandle, task: u64) -> PollBuf<T>
         ensures writes { Writes true self.old.delivered self.new.delivered (T.content buf) buf result }
         ensures none { CountsNone (length (T.content buf)) self.old.counts self.new.counts result }
         ensures ends { EndsStay (as_writer self.old) (as_writer self.new) }

@@ -12,7 +12,7 @@ returns-in-Ready-clause-run g c =
     let answer = c.in-Ready.ensures.answer in (
       fill_ends g.A.AsyncReadRent.tells (reader c.args.io.now) (reader c.loop.io) (reader c.poll_by.new.io) c.args.self c.loop.state
           (g.T.IoBufMut.buffer c.in-Ready.buf) c.in-Ready.outcome c.keeps_bounds.ensures c.loop.invariant.1.faults_stay
-              c.loop.invariant.1.zeros_stay has answer.0,
+          c.loop.invariant.1.zeros_stay has answer.0,
       answer.1 ∙ ap (λ (f : Filling). f.under) has.is_next,
       answer.2 ∙ ap (λ (f : Filling). f.beside) has.is_next,
     )

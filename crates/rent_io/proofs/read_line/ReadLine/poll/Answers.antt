@@ -23,7 +23,7 @@ pub returns-in-Ready-clause-complete : goal.returns-in-Ready-clause-complete
 returns-in-Ready-clause-complete g c =
     let reader = g.A.AsyncReadRent.reader in
     line_completes g.A.AsyncReadRent.tells c.args.task (reader c.args.io.now) (reader c.poll.new.io) string_bytes c.args.self
-        (Ready c.into_text.result)
+    (Ready c.into_text.result)
     (returns-in-Ready-clause-answer g c)
 
 pub returns-in-Again-clause-answer : goal.returns-in-Again-clause-answer
