@@ -70,14 +70,14 @@ IsIo (Io fault) = Unit {0}
 IsIo OutOfMemory = ⊥
 
 -- The stream inside failed, this was its last fault, or `WriteZero`, where a write took none of some bytes; and it was delivered nothing.
-abbrev pub Fails : Bool → Writer → Writer → IoFault → Type 0
-Fails tells before now fault = WriteFails before.counts now.counts fault × (IsTrue tells → now.delivered ≡ before.delivered)
+abbrev pub IsStreamFailure : Bool → Writer → Writer → IoFault → Type 0
+IsStreamFailure tells before now fault = WriteFails before.counts now.counts fault × (IsTrue tells → now.delivered ≡ before.delivered)
 
 -- What a poll that passes on what is buffered answers. When it is done nothing is buffered. At a fault nothing was written. At Pending the
 -- stream inside paused, and will wake this task, and nothing was written; at Again it was interrupted, or less is buffered.
 abbrev pub PassesOn : Bool → ℕ → Writer → Writer → List ℕ → List ℕ → PollCount → Type 0
 PassesOn tells task before now held later (CountReady (Ok n)) = later ≡ []
-PassesOn tells task before now held later (CountReady (Err fault)) = Fails tells before now fault
+PassesOn tells task before now held later (CountReady (Err fault)) = IsStreamFailure tells before now fault
 PassesOn tells task before now held later CountPending = Pauses task before.counts now.counts × (later ≡ held)
 PassesOn tells task before now held later CountAgain =
     Rose before.counts.interrupts now.counts.interrupts ⊎ (length later < length held)
@@ -104,7 +104,7 @@ IsFailure tells before now Flag = ⊥
 IsFailure tells before now Channels = ⊥
 IsFailure tells before now Long = ⊥
 IsFailure tells before now Cut = ⊥
-IsFailure tells before now (Io fault) = Fails tells before now fault
+IsFailure tells before now (Io fault) = IsStreamFailure tells before now fault
 IsFailure tells before now OutOfMemory = ⊥
 
 -- A poll of a flush or a close that fails does so for one of these.

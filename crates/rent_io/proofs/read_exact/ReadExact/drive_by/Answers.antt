@@ -38,6 +38,7 @@ loop-preserved g c =
       | in-Again w ↦ (
         rw w.state-is (goes w.in-Again.next c.keeps_bounds.ensures c.loop.invariant.0 (breaking _ mid now _ _ _ w.in-Again.ensures.answer)),
         calls,
-        rw w.state-is (used w.in-Again.next c.loop.invariant.2 c.poll_by.ensures.counts (breaking _ mid now _ _ _ w.in-Again.ensures.answer)),
+        rw w.state-is (used w.in-Again.next c.loop.invariant.2 c.poll_by.ensures.counts
+            (breaking _ mid now _ _ _ w.in-Again.ensures.answer)),
       )
     ]
