@@ -1,5 +1,5 @@
 -- What a copy has taken and written.
-use Rattle.std.proofs.Common.{zero, suc, subst, append-nil, append_assoc, ◌≡◌, ◌∙◌, ◌≤◌, ◌<◌, ◌+◌, ◌-◌, ◌⊎◌, inr, ℕ, List, [], ◌∷◌}
+use Rattle.std.proofs.Common.{zero, suc, subst, append-nil, append_assoc, ◌≡◌, ◌∙◌, ◌≤◌, ◌+◌, ◌-◌, ◌⊎◌, inr, ℕ, List, [], ◌∷◌}
 use Rattle.std.proofs.Common.{◌++◌, length, take, drop, refl, sym, ap, arith}
 use Rattle.std.proofs.lemmas.List.{length-take, length-drop, drop-take, drop-drop, take-take, take_all, take-append-drop}
 use Rattle.std.proofs.lemmas.List.{append_cancel_left}

@@ -1,5 +1,5 @@
 -- Polls in which the counts of the streams don't rise get on.
-use Rattle.std.proofs.Common.{◌≡◌, ℕ, inl, inr, List, ◌<◌, length, Bool}
+use Rattle.std.proofs.Common.{◌≡◌, ℕ, inl, inr, List, Bool}
 use Rattle.std.specs.Prelude.{IsTrue, Result, Ok, Err, IfErr}
 use Rattle.rent_buf.specs.declared.fault.IoFault.{IoFault}
 use Rattle.rent_io.specs.declared.poll.Step.{Step}
@@ -9,7 +9,6 @@ use Rattle.rent_io.specs.declared.poll.PollCount.TheVariants.{Ready as CountRead
 use Rattle.rent_io.specs.declared.poll.PollBuf.{PollBuf}
 use Rattle.rent_io.specs.declared.poll.PollBuf.TheVariants.{Ready as BufReady, Pending as BufPending, Again as BufAgain}
 use Rattle.rent_io.specs.Completeness.{IsQuiet, CountGetsOn, Completes}
-use Rattle.rent_io.specs.Counts.{Counts}
 use Rattle.rent_io.specs.Polls.{IsFlushCaused, IsWriteCaused, TookNone}
 use Rattle.rent_io.specs.Writer.{Writer, Writes}
 use Rattle.stream_util.specs.BufWriter.{TakesNothing, WriteGetsOn}

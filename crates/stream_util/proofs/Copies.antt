@@ -258,8 +258,14 @@ pub slice_counted : {T : Type 0} (content : T → List ℕ) (buf : T) (slice : C
     → (n ≡ 0 → (length (slice_range (content slice.inner) slice.begin slice.end) ≡ 0) ⊎ Rose before now) → Rose before now
 slice_counted content buf slice sent total n before now cut some end none counted =
     elim (subst (λ sl. (length (slice_range (content sl.inner) sl.begin sl.end) ≡ 0) ⊎ Rose before now) cut (counted none)) [
-      | inl empty ↦ absurd (omega (arith, empty, some, end, length-take (total - sent) (drop sent (content buf)),
-          length-drop sent (content buf)))
+      | inl empty ↦ absurd (omega (
+        arith,
+        empty,
+        some,
+        end,
+        length-take (total - sent) (drop sent (content buf)),
+        length-drop sent (content buf),
+      ))
       | inr rose ↦ rose
     ]
 

@@ -1,7 +1,6 @@
 -- A reader with a buffer: what a read and a fill of it do.
 use Rattle.std.specs.Prelude.{ℕ, ◌≡◌, ◌<◌, ◌≤◌, min, Bool, List, [], ◌++◌, length, drop, Ok, Err}
 use Rattle.rent_io.specs.declared.poll.PollBuf.{PollBuf}
-use Rattle.rent_io.specs.declared.poll.PollBuf.TheVariants.{Ready, Pending, Again}
 use Rattle.rent_io.specs.declared.poll.PollCount.{PollCount}
 use Rattle.rent_io.specs.declared.poll.PollCount.TheVariants.{Ready as CountReady, Pending as CountPending, Again as CountAgain}
 use Rattle.rent_io.specs.Reader.{Reader, WasFront, GivesUpTo, IfGiven}

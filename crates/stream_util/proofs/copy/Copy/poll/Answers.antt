@@ -25,7 +25,7 @@ returns-else-n-eq0-clause-complete g c =
     let reader = g.R.AsyncReadRent.reader in
     let writer = g.W.AsyncWriteRent.writer c.args.writer.now in
     copy_completes g.R.AsyncReadRent.tells g.W.AsyncWriteRent.tells c.args.task
-        (record { reader = reader c.args.reader.now; writer = writer })
+    (record { reader = reader c.args.reader.now; writer = writer })
     (record { reader = reader c.poll_read.new.self; writer = writer }) c.args.self (Again _) (returns-else-n-eq0-clause-answer g c)
 
 pub returns-then-n-eq0-2-clause-answer : goal.returns-then-n-eq0-2-clause-answer
@@ -69,7 +69,7 @@ returns-then-n-eq0-2-clause-complete g c =
     let reader = g.R.AsyncReadRent.reader c.args.reader.now in
     let writer = g.W.AsyncWriteRent.writer in
     copy_completes g.R.AsyncReadRent.tells g.W.AsyncWriteRent.tells c.args.task
-        (record { reader = reader; writer = writer c.args.writer.now })
+    (record { reader = reader; writer = writer c.args.writer.now })
     (record { reader = reader; writer = writer c.poll_write.new.self }) c.args.self c.ended-then-n-eq0-2.result
     (returns-then-n-eq0-2-clause-answer g c)
 
@@ -78,7 +78,7 @@ returns-else-n-eq0-2-clause-complete g c =
     let reader = g.R.AsyncReadRent.reader c.args.reader.now in
     let writer = g.W.AsyncWriteRent.writer in
     copy_completes g.R.AsyncReadRent.tells g.W.AsyncWriteRent.tells c.args.task
-        (record { reader = reader; writer = writer c.args.writer.now })
+    (record { reader = reader; writer = writer c.args.writer.now })
     (record { reader = reader; writer = writer c.poll_write.new.self }) c.args.self (Again _) (returns-else-n-eq0-2-clause-answer g c)
 
 pub returns-else-n-eq0-2-clause-joined : goal.returns-else-n-eq0-2-clause-joined

@@ -10,7 +10,7 @@ invariant-loop g l =
     let reader = g.R.AsyncReadRent.reader in
     let writer = g.W.AsyncWriteRent.writer in
     Ran l.counter g.R.AsyncReadRent.tells g.W.AsyncWriteRent.tells
-        (record { reader = reader l.initial.reader; writer = writer l.initial.writer })
+    (record { reader = reader l.initial.reader; writer = writer l.initial.writer })
     (record { reader = reader l.reader; writer = writer l.writer }) l.initial.copy l.copy
     × EndsStay (writer l.initial.writer) (writer l.writer)
     × (length l.copy.held ≤ MOST_HELD)

@@ -18,10 +18,15 @@ returns-in-Behind-clause-cause g c =
     let call = c.readv_prefix.ensures.counts None in
     let same = ap (λ s. (reader s.io).counts) is ∙ ap (λ io. (reader io).counts) c.readv_prefix.ensures.io in
     let grew : g.P.ByteSource.faults old.prefix ≤ g.P.ByteSource.faults mid.prefix =
-    omega (arith, call.faults_stay, ap (λ io. (reader io).counts.faults) c.readv_prefix.ensures.io, ap
-        (λ s. g.P.ByteSource.faults s.prefix) is) in
+    omega (
+      arith,
+      call.faults_stay,
+      ap (λ io. (reader io).counts.faults) c.readv_prefix.ensures.io,
+      ap
+          (λ s. g.P.ByteSource.faults s.prefix) is,
+    ) in
     caused_behind c.args.task old.finished mid.finished (g.P.ByteSource.faults old.prefix) (g.P.ByteSource.faults mid.prefix)
-        (reader old.io).counts
+    (reader old.io).counts
     (reader mid.io).counts (reader c.poll_cancelable_readv.new.self).counts c.poll_cancelable_readv.result same
     (ap (λ s. s.finished) is ∙ c.in-Behind.ensures.behind.1) grew c.poll_cancelable_readv.ensures.cause
 
@@ -34,8 +39,13 @@ returns-in-Behind-clause-counts g c =
     let call = c.readv_prefix.ensures.counts None in
     let same = ap (λ s. (reader s.io).counts) is ∙ ap (λ io. (reader io).counts) c.readv_prefix.ensures.io in
     let grew : g.P.ByteSource.faults old.prefix ≤ g.P.ByteSource.faults mid.prefix =
-    omega (arith, call.faults_stay, ap (λ io. (reader io).counts.faults) c.readv_prefix.ensures.io, ap
-        (λ s. g.P.ByteSource.faults s.prefix) is) in
+    omega (
+      arith,
+      call.faults_stay,
+      ap (λ io. (reader io).counts.faults) c.readv_prefix.ensures.io,
+      ap
+          (λ s. g.P.ByteSource.faults s.prefix) is,
+    ) in
     called_behind (Some c.args.c) old.finished mid.finished (g.P.ByteSource.faults old.prefix) (g.P.ByteSource.faults mid.prefix)
-        (reader old.io).counts
+    (reader old.io).counts
     (reader mid.io).counts (reader c.poll_cancelable_readv.new.self).counts same grew c.poll_cancelable_readv.ensures.counts
