@@ -150,8 +150,8 @@ fn source_of<S: ByteSource>(reader: Reader<S>) -> S
     reader.into_inner().into_inner().into_inner()
 }
 
-// Copies until an end is reached or a call has failed. A copy that stopped for another reason goes on: a write took none of
-// some bytes, or a stream paused, which no source and no sink leads to.
+// Copies until an end is reached or a call has failed. A copy that stopped for another reason goes on: its turns were used up, or
+// the prefix failed, which neither comes to.
 fn pump<'a, 'b, R: Wait, S: ByteSource, K: ByteSink, P: Places>(
     rt: &R,
     copy: Copy,
