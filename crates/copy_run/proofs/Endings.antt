@@ -1,5 +1,5 @@
 -- What a copy has taken and written.
-use Rattle.std.proofs.Common.{zero, suc, subst, append-nil, append_assoc, ◌≡◌, ◌∙◌, ◌≤◌, ◌<◌, ◌+◌, ◌-◌, ◌⊎◌, inr, ℕ, List, [], ◌∷◌}
+use Rattle.std.proofs.Common.{zero, suc, subst, append-nil, append_assoc, ◌≡◌, ◌∙◌, ◌≤◌, ◌+◌, ◌-◌, ◌⊎◌, inr, ℕ, List, [], ◌∷◌}
 use Rattle.std.proofs.Common.{◌++◌, length, take, drop, refl, sym, ap, arith}
 use Rattle.std.proofs.lemmas.List.{length-take, length-drop, drop-take, drop-drop, take-take, take_all, take-append-drop}
 use Rattle.std.proofs.lemmas.List.{append_cancel_left}
@@ -7,8 +7,6 @@ use Rattle.std.specs.Prelude.{◌&&◌, true, false, Bool, IsTrue, Result, Ok, E
 use Rattle.rent_buf.specs.Counts.{Rose}
 use Rattle.rent_buf.specs.declared.fault.IoFault.{IoFault}
 use Rattle.rent_io.specs.Call.{Reading, Writing, Took, TookMore}
-use Rattle.rent_io.specs.Counts.{Counts}
-use Rattle.rent_io.specs.Polls.{IsCountCaused}
 use Rattle.rent_io.specs.Source.{Gives, ReadsFor}
 use Rattle.rent_io.specs.Writer.{IfDone}
 use Rattle.rent_io.specs.declared.poll.PollCount.TheVariants.{Ready}
@@ -94,12 +92,6 @@ wrote-first taken now tail text more all grew same whole =
 pub did : (P : Type 0) (result : Result ℕ IoFault) (n : ℕ) → result ≡ Ok n → IfDone (Ready result) P → P
 did P (Ok m) n is done = done
 did P (Err fault) n is done = (let never : ◌≡◌ {A = Result ℕ IoFault} (Err fault) (Ok n) = is in cc)
-
--- A poll that is done with a fault counted one.
-pub counted : (before now : Counts) (result : Result ℕ IoFault) (fault : IoFault) → result ≡ Err fault →
-    IsCountCaused before now (Ready result) → 0 < now.faults
-counted before now (Ok m) fault is cause = (let never : ◌≡◌ {A = Result ℕ IoFault} (Ok m) (Err fault) = is in cc)
-counted before now (Err other) fault is cause = omega (arith, cause)
 
 -- What tells with something that tells does so if it does alone.
 pub tells-both : (tells : Bool) → IsTrue tells → IsTrue (tells && true)

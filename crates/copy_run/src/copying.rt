@@ -1,5 +1,5 @@
 //! The copy, and how it ends.
-ghost use Rattle.std.specs.Prelude.{◌≡◌, ◌≤◌, ◌++◌, IfOk, IfErr, IsTrue, true, false, length, max, take};
+ghost use Rattle.std.specs.Prelude.{◌≡◌, ◌≤◌, ◌++◌, [], IfOk, IfErr, IsTrue, true, false, length, max, take};
 ghost use Rattle.rent_io.specs.Call.{reading, writing};
 ghost use Rattle.rent_io.specs.MemSource.{fresh_source};
 ghost use Rattle.stream_util.specs.BufReader.{fresh_reader};
@@ -122,7 +122,7 @@ fn reader_of<S: ByteSource>(
     prefix: ByteList,
     source: S,
 ) -> Result<Reader<S>, S>
-    ensures ok { IfOk result (λ reader. reader ≡ fresh_reader (record { io = source; prefix = fresh_source prefix; finished = false })
+    ensures ok { IfOk result (λ reader. reader ≡ fresh_reader (record { io = source; prefix = fresh_source prefix []; finished = false })
         (max capacity 1)) }
     ensures err { IfErr result (λ back. back ≡ source) }
 {
@@ -150,8 +150,8 @@ fn source_of<S: ByteSource>(reader: Reader<S>) -> S
     reader.into_inner().into_inner().into_inner()
 }
 
-// Copies until an end is reached or a call has failed. A copy that stopped for another reason goes on: a write took none of
-// some bytes, or a stream paused, which no source and no sink leads to.
+// Copies until an end is reached or a call has failed. A copy that stopped for another reason goes on: its turns were used up, or
+// the prefix failed, which neither comes to.
 fn pump<'a, 'b, R: Wait, S: ByteSource, K: ByteSink, P: Places>(
     rt: &R,
     copy: Copy,

@@ -1,6 +1,7 @@
 -- A reader of messages: what each poll of it does.
-use Rattle.std.specs.Prelude.{◌<◌, ◌⊎◌, Bool, IsTrue, length}
+use Rattle.std.specs.Prelude.{ℕ, ◌<◌, ◌⊎◌, Bool, IsTrue, length}
 use Rattle.rent_io.specs.Counts.{Rose}
+use Rattle.rent_io.specs.Polls.{Fails, Pauses}
 use Rattle.rent_io.specs.Reader.{Reader}
 use Rattle.frame_io.specs.declared.fault.FrameFault.{FrameFault}
 use Rattle.frame_io.specs.declared.fault.FrameFault.TheVariants.{Number, Large, Flag, Channels, Long, Cut, Io, OutOfMemory}
@@ -23,7 +24,7 @@ fresh_reader inner limits = record { inner = inner; kept = fresh limits }
 abbrev pub standard : Limits
 standard = record { channels = MOST_CHANNELS; bytes = MOST_IN_MESSAGE }
 
--- The cause of a fault: the stream's own comes only where its faults rose.
+-- The cause of a fault: the stream's own is the last one that it gave.
 abbrev pub IsFaultCaused : Reader → Reader → FrameFault → Type 0
 IsFaultCaused before now Number = Unit {0}
 IsFaultCaused before now Large = Unit {0}
@@ -31,14 +32,15 @@ IsFaultCaused before now Flag = Unit {0}
 IsFaultCaused before now Channels = Unit {0}
 IsFaultCaused before now Long = Unit {0}
 IsFaultCaused before now Cut = Unit {0}
-IsFaultCaused before now (Io fault) = Rose before.counts.faults now.counts.faults
+IsFaultCaused before now (Io fault) = Fails before.counts now.counts fault
 IsFaultCaused before now OutOfMemory = Unit {0}
 
--- The cause of what a poll answers: Pending comes only where the pauses rose, and Again only where they rose or bytes were taken.
-abbrev pub IsMessageCaused : Bool → Reader → Reader → MessagePoll → Type 0
-IsMessageCaused tells before now (Given message) = Unit {0}
-IsMessageCaused tells before now End = Unit {0}
-IsMessageCaused tells before now Pending = Rose before.counts.pauses now.counts.pauses
-IsMessageCaused tells before now Again =
-    Rose before.counts.pauses now.counts.pauses ⊎ (IsTrue tells → length now.left < length before.left)
-IsMessageCaused tells before now (Fault fault) = IsFaultCaused before now fault
+-- The cause of what a poll answers: Pending comes only by a pause, for this task, and Again only by an interrupt, or where bytes were
+-- taken.
+abbrev pub IsMessageCaused : Bool → ℕ → Reader → Reader → MessagePoll → Type 0
+IsMessageCaused tells task before now (Given message) = Unit {0}
+IsMessageCaused tells task before now End = Unit {0}
+IsMessageCaused tells task before now Pending = Pauses task before.counts now.counts
+IsMessageCaused tells task before now Again =
+    Rose before.counts.interrupts now.counts.interrupts ⊎ (IsTrue tells → length now.left < length before.left)
+IsMessageCaused tells task before now (Fault fault) = IsFaultCaused before now fault

@@ -93,8 +93,8 @@ impl<R: AsyncBufRead> FrameReader<R> {
             (rest_of self.new.kept (R.reader self.new.inner).left) result }
         // At an end and at a fault of a piece the reader stops, so that its offset is that of what was to be read.
         ensures stop { IsStop self.new.kept.stop result }
-        ensures cause { IsMessageCaused R.tells (R.reader self.old.inner) (R.reader self.new.inner) result }
-        ensures counts { AfterCall (R.reader self.old.inner).counts (R.reader self.new.inner).counts }
+        ensures cause { IsMessageCaused R.tells task (R.reader self.old.inner) (R.reader self.new.inner) result }
+        ensures counts { AfterCall None (R.reader self.old.inner).counts (R.reader self.new.inner).counts }
     {
         if let Some(answer) = self.decoder.ready() {
             return answer;

@@ -1,12 +1,12 @@
 // A writer of messages.
-ghost use Rattle.std.specs.Prelude.{◌≡◌, ◌<◌, ◌≤◌, ◌++◌, [], IsTrue, IfErr, OnOk, OnErr, length};
+ghost use Rattle.std.specs.Prelude.{◌≡◌, ◌<◌, ◌≤◌, ◌++◌, [], IsTrue, IfErr, OnOk, OnErr, None, length};
 ghost use Rattle.rent_io.specs.Counts.{AfterCall, Rose};
 ghost use Rattle.rent_io.specs.ItemSink.{IsSent, IsDone, CausesDone};
 ghost use Rattle.rent_io.specs.declared.sink.SinkPoll.TheVariants.{Ready};
-ghost use Rattle.rent_io.specs.Polls.{IsCountCaused};
 ghost use Rattle.rent_io.specs.Writer.{CountsDone, EndsStay};
-ghost use Rattle.stream_util.specs.BufWriter.{IsPushCaused, Pushes};
-ghost use Rattle.frame_io.specs.FrameWriter.{Drives, Ends, FailsBy, IsStuck, PassesOn, Sends, IfShut, counts_over, fresh_writer, sink_over};
+ghost use Rattle.stream_util.specs.BufWriter.{Pushes};
+ghost use Rattle.frame_io.specs.FrameWriter.{Drives, Ends, FailsBy, IsCounted, IsPushCounted, IsStuck, PassesOn, Sends, IfShut};
+ghost use Rattle.frame_io.specs.FrameWriter.{counts_over, fresh_writer, sink_over};
 ghost use Rattle.frame_io.specs.Written.{pieces_of_all, sent_with};
 
 use crate::encode::append_pieces;
@@ -28,7 +28,7 @@ pub struct FrameWriter<W> {
     buf: Vec<u8>,
     // How many bytes at its start were written.
     sent: usize,
-    // How many messages were refused and writes took no byte, how many writes took some, and how many messages were taken.
+    // How many messages were refused, how many writes took bytes, and how many messages were taken.
     refused: u64,
     moved: u64,
     sends: u64,
@@ -173,13 +173,13 @@ impl<W: AsyncWriteRent> FrameWriter<W> {
     /// a pause from a poll that got on (not in monoio). At `Pending` the stream paused, and wakes the task; nothing was
     /// written. At `Again` bytes were written, or the stream answered `Again`: another poll may be made at once.
     pub fn flush_once(&mut self, task: u64) -> PollCount
-        ensures answers { PassesOn W.tells (W.writer self.old.inner) (W.writer self.new.inner) self.old.held self.new.held result }
+        ensures answers { PassesOn W.tells task (W.writer self.old.inner) (W.writer self.new.inner) self.old.held self.new.held result }
         ensures pushes { Pushes W.tells (W.writer self.old.inner) (W.writer self.new.inner) self.old.held self.new.held }
         ensures flushes { CountsDone (W.writer self.old.inner).flushes (W.writer self.new.inner).flushes result }
         ensures sends { self.new.sends ≡ self.old.sends }
-        ensures cause { IsCountCaused (counts_over (W.writer self.old.inner).counts self.old)
+        ensures cause { IsCounted (counts_over (W.writer self.old.inner).counts self.old)
             (counts_over (W.writer self.new.inner).counts self.new) result }
-        ensures counts { AfterCall (counts_over (W.writer self.old.inner).counts self.old)
+        ensures counts { AfterCall None (counts_over (W.writer self.old.inner).counts self.old)
             (counts_over (W.writer self.new.inner).counts self.new) }
     {
         if self.buf.len() > self.sent {
@@ -193,14 +193,14 @@ impl<W: AsyncWriteRent> FrameWriter<W> {
     /// Writes what is buffered, one write a poll, and then shuts the stream inside down, as `poll_close` does, which doesn't
     /// tell a pause from a poll that got on (not in monoio). `Pending` and `Again` mean what they mean for `flush_once`.
     pub fn close_once(&mut self, task: u64) -> PollCount
-        ensures answers { PassesOn W.tells (W.writer self.old.inner) (W.writer self.new.inner) self.old.held self.new.held result }
+        ensures answers { PassesOn W.tells task (W.writer self.old.inner) (W.writer self.new.inner) self.old.held self.new.held result }
         ensures pushes { Pushes W.tells (W.writer self.old.inner) (W.writer self.new.inner) self.old.held self.new.held }
         ensures shutdowns { CountsDone (W.writer self.old.inner).shutdowns (W.writer self.new.inner).shutdowns result }
         ensures flushes { (W.writer self.new.inner).flushes ≡ (W.writer self.old.inner).flushes }
         ensures sends { self.new.sends ≡ self.old.sends }
-        ensures cause { IsCountCaused (counts_over (W.writer self.old.inner).counts self.old)
+        ensures cause { IsCounted (counts_over (W.writer self.old.inner).counts self.old)
             (counts_over (W.writer self.new.inner).counts self.new) result }
-        ensures counts { AfterCall (counts_over (W.writer self.old.inner).counts self.old)
+        ensures counts { AfterCall None (counts_over (W.writer self.old.inner).counts self.old)
             (counts_over (W.writer self.new.inner).counts self.new) }
     {
         if self.buf.len() > self.sent {
@@ -212,15 +212,16 @@ impl<W: AsyncWriteRent> FrameWriter<W> {
     }
 
     // Writes what is buffered once. What the write took leaves the buffer.
+    #[tactic(auto, using(stream_util::proofs::Buffered::nothing_taken))]
     fn push_out(&mut self, task: u64) -> PollCount
         requires { 0 < length self.old.held }
-        ensures answers { PassesOn W.tells (W.writer self.old.inner) (W.writer self.new.inner) self.old.held self.new.held result }
+        ensures answers { PassesOn W.tells task (W.writer self.old.inner) (W.writer self.new.inner) self.old.held self.new.held result }
         ensures pushes { Pushes W.tells (W.writer self.old.inner) (W.writer self.new.inner) self.old.held self.new.held }
         ensures sends { self.new.sends ≡ self.old.sends }
         ensures ends { EndsStay (W.writer self.old.inner) (W.writer self.new.inner) }
-        ensures cause { IsPushCaused (counts_over (W.writer self.old.inner).counts self.old)
+        ensures cause { IsPushCounted (counts_over (W.writer self.old.inner).counts self.old)
             (counts_over (W.writer self.new.inner).counts self.new) result }
-        ensures counts { AfterCall (counts_over (W.writer self.old.inner).counts self.old)
+        ensures counts { AfterCall None (counts_over (W.writer self.old.inner).counts self.old)
             (counts_over (W.writer self.new.inner).counts self.new) }
     {
         let alloc = *self.buf.allocator();
@@ -230,7 +231,6 @@ impl<W: AsyncWriteRent> FrameWriter<W> {
             PollBuf::Ready(Ok(n), part) => {
                 self.buf = part.into_inner();
                 if n == 0 {
-                    self.refused = self.refused.saturating_add(1);
                     return PollCount::Ready(Err(IoFault::WriteZero));
                 }
                 self.sent += n;
@@ -263,7 +263,7 @@ impl<W: AsyncWriteRent> Sink<Message> for FrameWriter<W> {
     fn poll_send(&mut self, item: Message, _task: u64) -> SinkPoll<Message, FrameFault>
         ensures sent { IsSent item (sink_over (W.writer self.old.inner) self.old) (sink_over (W.writer self.new.inner) self.new) result }
         ensures flushes { (W.writer self.new.inner).flushes ≡ (W.writer self.old.inner).flushes }
-        ensures counts { AfterCall (counts_over (W.writer self.old.inner).counts self.old)
+        ensures counts { AfterCall None (counts_over (W.writer self.old.inner).counts self.old)
             (counts_over (W.writer self.new.inner).counts self.new) }
         ensures pieces { Sends self.old self.new item result }
         ensures inner { self.new.inner ≡ self.old.inner }
@@ -277,12 +277,12 @@ impl<W: AsyncWriteRent> Sink<Message> for FrameWriter<W> {
     fn poll_flush(&mut self, task: u64) -> SinkDone<FrameFault>
         ensures done { IsDone (sink_over (W.writer self.old.inner) self.old) (sink_over (W.writer self.new.inner) self.new) result }
         ensures sends { self.new.sends ≡ self.old.sends }
-        ensures counts { AfterCall (counts_over (W.writer self.old.inner).counts self.old)
+        ensures counts { AfterCall None (counts_over (W.writer self.old.inner).counts self.old)
             (counts_over (W.writer self.new.inner).counts self.new) }
         ensures pushes { Pushes W.tells (W.writer self.old.inner) (W.writer self.new.inner) self.old.held self.new.held }
         ensures ends { Ends self.new.held result }
-        // A fault of the stream comes only where its own faults rose, and `WriteZero` else only from a write that took none.
-        ensures apart { FailsBy W.tells (W.writer self.old.inner) (W.writer self.new.inner) self.old.held result }
+        // A fault of the stream is the last one that it gave, or `WriteZero`, where a write took none of some bytes.
+        ensures apart { FailsBy W.tells (W.writer self.old.inner) (W.writer self.new.inner) result }
     {
         match self.flush_once(task) {
             PollCount::Ready(Ok(_)) => SinkDone::Ready(Ok(())),
@@ -299,11 +299,11 @@ impl<W: AsyncWriteRent> Sink<Message> for FrameWriter<W> {
             (counts_over (W.writer self.new.inner).counts self.new) result }
         ensures sends { self.new.sends ≡ self.old.sends }
         ensures flushes { (W.writer self.new.inner).flushes ≡ (W.writer self.old.inner).flushes }
-        ensures counts { AfterCall (counts_over (W.writer self.old.inner).counts self.old)
+        ensures counts { AfterCall None (counts_over (W.writer self.old.inner).counts self.old)
             (counts_over (W.writer self.new.inner).counts self.new) }
         ensures pushes { Pushes W.tells (W.writer self.old.inner) (W.writer self.new.inner) self.old.held self.new.held }
         ensures ends { Ends self.new.held result }
-        ensures apart { FailsBy W.tells (W.writer self.old.inner) (W.writer self.new.inner) self.old.held result }
+        ensures apart { FailsBy W.tells (W.writer self.old.inner) (W.writer self.new.inner) result }
         ensures shutdowns { IfShut (W.writer self.old.inner).shutdowns (W.writer self.new.inner).shutdowns result }
     {
         match self.close_once(task) {

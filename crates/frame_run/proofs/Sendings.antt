@@ -2,11 +2,7 @@
 use Rattle.std.proofs.Common.{◌≡◌, ◌∙◌, ◌≤◌, ◌<◌, ◌+◌, ℕ, List, [], ◌∷◌, ◌++◌, Bool, IsTrue, length, drop, refl, sym, ap, subst, arith}
 use Rattle.std.proofs.Common.{append_assoc, length-append, zero, suc}
 use Rattle.std.proofs.lemmas.List.{append_cancel_left}
-use Rattle.std.specs.Prelude.{Some, Result, Ok, Err}
-use Rattle.rent_buf.specs.declared.fault.IoFault.{IoFault}
-use Rattle.rent_io.specs.Counts.{Counts}
-use Rattle.rent_io.specs.Polls.{IsCountCaused}
-use Rattle.rent_io.specs.declared.poll.PollCount.TheVariants.{Ready}
+use Rattle.std.specs.Prelude.{Some}
 use Rattle.rent_io.specs.Call.{Took}
 use Rattle.rent_io.proofs.Runs.{rose_later}
 use Rattle.event_text.specs.TextLines.{lines}
@@ -75,12 +71,6 @@ line_sent taken held now whole all behind line message cut is sent same =
     ap (λ l. taken ++ l) (one_more_sent held now message (messages_of all) (messages_of behind)
     (messages_more all behind line message cut is) sent)
     ∙ same
-
--- A poll that is done with a fault counted one.
-pub counted : (before now : Counts) (result : Result ℕ IoFault) (fault : IoFault) → result ≡ Err fault →
-    IsCountCaused before now (Ready result) → 0 < now.faults
-counted before now (Ok n) fault is cause = (let never : ◌≡◌ {A = Result ℕ IoFault} (Ok n) (Err fault) = is in cc)
-counted before now (Err other) fault is cause = omega (arith, cause)
 
 -- What becomes of a sink that is given back.
 pub sink_back : {K : Type 0} (taken : K → List ℕ) (counts : K → ℕ) (flushed : K → Bool) (tk : Bool) (text had : List ℕ) (wrote : ℕ)

@@ -1,15 +1,16 @@
 -- Polls of an exact read, one behind the other.
 use Rattle.std.proofs.Common.{◌≡◌, ◌∙◌, ℕ, ◌+◌, ◌-◌, ◌≤◌, ◌⊎◌, inl, inr, List, [], ◌++◌, Bool, length, take, sym, ap, arith}
 use Rattle.std.proofs.Common.{length-append}
-use Rattle.std.specs.Prelude.{IsTrue, Result, Ok, Err}
+use Rattle.std.specs.Prelude.{IsTrue, Option, Result, Ok, Err}
 use Rattle.std.proofs.lemmas.List.{length-take, length-drop}
 use Rattle.rent_buf.specs.Buffer.{Buffer, BufferBounds, room, put, shown}
 use Rattle.rent_buf.specs.declared.fault.IoFault.{IoFault}
-use Rattle.rent_io.specs.Counts.{AfterCall, Rose}
+use Rattle.rent_io.specs.Counts.{AfterCall}
+use Rattle.rent_io.specs.Polls.{Fails}
 use Rattle.rent_io.specs.Reader.{Reader}
-use Rattle.rent_io.specs.ReadExact.{Filling, lacks, with_more, filled_with, GoesOn, IsFilled, EndsEarly, IsExactEnd, Paused}
+use Rattle.rent_io.specs.ReadExact.{Filling, lacks, with_more, filled_with, GoesOn, IsFilled, EndsEarly, IsExactEnd}
 use Rattle.rent_io.specs.Runs.{AreUsed, HasFilled, StopsFilling, ExactRunEnd}
-use Rattle.rent_io.proofs.Runs.{rose_later, front_twice, front_paused, used_paused, used_moved}
+use Rattle.rent_io.proofs.Runs.{Stays, fails_later, rose_later, front_twice, front_paused, used_paused, used_moved}
 use Rattle.rent_io.proofs.Stored.{more_twice, filled_twice, nothing_behind, room_more}
 
 -- What is lacking behind u.
@@ -18,7 +19,7 @@ lacks_behind f u = omega (arith, room_more f u)
 
 -- A poll that goes on adds its bytes.
 pub fill_goes_on : (tells : Bool) (before mid now : Reader) (f g next : Filling) → f.buffer.begin + f.filled ≤ length f.buffer.bytes
-    → HasFilled tells before.left mid.left f g → Paused tells mid now g next ⊎ GoesOn tells mid.left now.left g next
+    → HasFilled tells before.left mid.left f g → Stays tells mid now g next ⊎ GoesOn tells mid.left now.left g next
     → HasFilled tells before.left now.left f next
 fill_goes_on tells before mid now f g next bound has (inl paused) = record {
   got = has.got;
@@ -55,19 +56,19 @@ fill_is_done tells before mid now f g back n bound has done =
 
 -- What a fault leaves, behind bytes that were read before.
 fill_cause : (tells : Bool) (before mid now : Reader) (f g : Filling) (back : Buffer) (fault : IoFault)
-    → f.buffer.begin + f.filled ≤ length f.buffer.bytes → before.counts.faults ≤ mid.counts.faults
+    → f.buffer.begin + f.filled ≤ length f.buffer.bytes → before.counts.faults ≤ mid.counts.faults → before.counts.zeros ≤ mid.counts.zeros
     → (has : HasFilled tells before.left mid.left f g) → (IsTrue tells → mid.left ≡ now.left)
-    → (back ≡ g.buffer) × Rose mid.counts.faults now.counts.faults ⊎ EndsEarly tells mid.left g back fault
+    → (back ≡ g.buffer) × Fails mid.counts now.counts fault ⊎ EndsEarly tells mid now g back fault
     → StopsFilling tells before now f back fault
-fill_cause tells before mid now f g back fault bound stay has same (inl failed) = record {
+fill_cause tells before mid now f g back fault bound stay zeros has same (inl failed) = record {
   got = has.got;
   front = front_paused tells before.left mid.left now.left has.got has.front same;
   cause = inl (
     failed.0 ∙ ap (λ x. x.buffer) has.is_next,
-    rose_later before.counts.faults mid.counts.faults now.counts.faults stay failed.1,
+    fails_later before.counts mid.counts now.counts fault stay failed.1,
   );
 }
-fill_cause tells before mid now f g back fault bound stay has same (inr early) =
+fill_cause tells before mid now f g back fault bound stay zeros has same (inr early) =
     let u = has.got in
     let lacking : lacks g ≡ lacks f - length u = ap lacks has.is_next ∙ lacks_behind f u in
     let nothing = early.nothing ∙ ap (λ (x : Filling). put x.buffer (x.buffer.begin + x.filled) []) has.is_next
@@ -75,16 +76,22 @@ fill_cause tells before mid now f g back fault bound stay has same (inr early) =
     record {
       got = u;
       front = front_paused tells before.left mid.left now.left u has.front same;
-      cause = inr (early.is_eof, omega (arith, early.more, lacking), (λ t. sym (same t) ∙ early.none_left t), nothing);
+      cause = inr (
+        early.is_eof,
+        omega (arith, early.more, lacking),
+        (λ t. sym (same t) ∙ early.at_end.0 t),
+        rose_later before.counts.zeros mid.counts.zeros now.counts.zeros zeros early.at_end.1,
+        nothing,
+      );
     }
 
 -- How a poll ends is how the polls end.
 pub fill_ends : (tells : Bool) (before mid now : Reader) (f g : Filling) (back : Buffer) (end : Result ℕ IoFault)
-    → f.buffer.begin + f.filled ≤ length f.buffer.bytes → before.counts.faults ≤ mid.counts.faults
+    → f.buffer.begin + f.filled ≤ length f.buffer.bytes → before.counts.faults ≤ mid.counts.faults → before.counts.zeros ≤ mid.counts.zeros
     → HasFilled tells before.left mid.left f g → IsExactEnd tells mid now g back end → ExactRunEnd tells before now f back end
-fill_ends tells before mid now f g back (Ok n) bound stay has end = fill_is_done tells before mid now f g back n bound has end
-fill_ends tells before mid now f g back (Err fault) bound stay has end =
-    fill_cause tells before mid now f g back fault bound stay has end.0 end.1
+fill_ends tells before mid now f g back (Ok n) bound stay zeros has end = fill_is_done tells before mid now f g back n bound has end
+fill_ends tells before mid now f g back (Err fault) bound stay zeros has end =
+    fill_cause tells before mid now f g back fault bound stay zeros has end.0 end.1
 
 -- Bytes that a range shows are among the buffer's.
 pub filled_within : (b : Buffer) (n : ℕ) → BufferBounds b → n ≤ length (shown b) → b.begin + n ≤ length b.bytes
@@ -92,13 +99,14 @@ filled_within b n bounds among =
     omega (arith, bounds.within, among, length-drop b.begin (take b.end b.bytes), length-take b.end b.bytes)
 
 -- Each poll of an exact read that goes on is used.
-pub fill_used : (tells : Bool) (before mid now : Reader) (k : ℕ) (f g next : Filling)
-    → AreUsed k f.filled g.filled before.counts mid.counts → AfterCall mid.counts now.counts
-    → Paused tells mid now g next ⊎ GoesOn tells mid.left now.left g next → AreUsed (k + 1) f.filled next.filled before.counts now.counts
-fill_used tells before mid now k f g next used call (inl paused) =
+pub fill_used : (tells : Bool) (before mid now : Reader) (group : Option ℕ) (k : ℕ) (f g next : Filling)
+    → AreUsed k f.filled g.filled before.counts mid.counts → AfterCall group mid.counts now.counts
+    → Stays tells mid now g next ⊎ GoesOn tells mid.left now.left g next → AreUsed (k + 1) f.filled next.filled before.counts now.counts
+fill_used tells before mid now group k f g next used call (inl paused) =
     let same : next.filled ≡ g.filled = ap (λ (x : Filling). x.filled) paused.0 in
-    used_paused k f.filled g.filled f.filled next.filled before.counts mid.counts now.counts used (omega (arith, same)) paused.2
-fill_used tells before mid now k f g next used call (inr goes) =
+    used_paused k f.filled g.filled f.filled next.filled before.counts mid.counts now.counts used (omega (arith, same)) call.pauses_stay
+    call.interrupts_stay paused.2
+fill_used tells before mid now group k f g next used call (inr goes) =
     let more : next.filled ≡ g.filled + length goes.got = ap (λ x. x.filled) goes.is_next in
     used_moved k f.filled g.filled f.filled next.filled
-    before.counts mid.counts now.counts used (omega (arith, goes.some, more)) call.pauses_stay
+    before.counts mid.counts now.counts used (omega (arith, goes.some, more)) call.pauses_stay call.interrupts_stay

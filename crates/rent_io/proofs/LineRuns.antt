@@ -1,17 +1,16 @@
 -- Polls of reads of lines, one behind the other.
 use Rattle.std.proofs.Common.{◌≡◌, ◌∙◌, ℕ, ◌+◌, ◌≤◌, ◌⊎◌, inl, inr, List, [], ◌∷◌, ◌++◌, Bool, length, sym, ap, subst, arith}
 use Rattle.std.proofs.Common.{append_assoc, append-nil, length-append}
-use Rattle.std.specs.Prelude.{◌≢◌, IsTrue, Result, Ok, Err}
+use Rattle.std.specs.Prelude.{◌≢◌, IsTrue, Option, Result, Ok, Err}
 use Rattle.std.proofs.lemmas.List.Elements.{All-append}
 use Rattle.rent_buf.specs.declared.fault.IoFault.{IoFault}
 use Rattle.rent_io.specs.Counts.{AfterCall}
-use Rattle.rent_io.specs.Reader.{Reader, WasFront}
-use Rattle.rent_io.specs.ReadExact.{Paused}
+use Rattle.rent_io.specs.Reader.{AtEnd, Reader, WasFront}
 use Rattle.rent_io.specs.ReadUntil.{Until, Lacks, IsLine, ReadsOn, IsUntilEnd}
 use Rattle.rent_io.specs.ReadLine.{Lining, TextOf, LineGoesOn, HasLine, LineFails}
 use Rattle.rent_io.specs.LineRuns.{IsWholeLine, HasAdded, UntilRunEnd, HasLined, EndsLine, StopsLine}
 use Rattle.rent_io.specs.Runs.{AreUsed}
-use Rattle.rent_io.proofs.Runs.{rose_later, front_twice, front_paused, used_paused, used_moved}
+use Rattle.rent_io.proofs.Runs.{Stays, fails_later, front_twice, front_paused, used_paused, used_moved}
 
 -- Bytes without a delimiter, and then others without it.
 lacks_both : (d : ℕ) (u v : List ℕ) → Lacks d u → Lacks d v → Lacks d (u ++ v)
@@ -30,6 +29,12 @@ whole_line tells d u v mid rest others front (inr end) = inr (
   λ t. sym (front t ∙ ap (λ l. l ++ rest) end.0) ∙ end.1 t,
 )
 
+-- A line, or nothing where nothing was left.
+line_or_end : (tells : Bool) (d : ℕ) (v : List ℕ) (mid now : Reader) → IsLine d v ⊎ ((v ≡ []) × AtEnd tells mid now)
+    → IsLine d v ⊎ ((v ≡ []) × (IsTrue tells → mid.left ≡ []))
+line_or_end tells d v mid now (inl line) = inl line
+line_or_end tells d v mid now (inr end) = inr (end.0, end.1.0)
+
 -- A read up to a delimiter that added these bytes.
 abbrev pub added_to : Until → List ℕ → Until
 added_to u got = record u { bytes = u.bytes ++ got; added = u.added + length got }
@@ -44,7 +49,7 @@ added_twice u got more =
 
 -- A poll that goes on adds its bytes.
 pub until_goes_on : (tells : Bool) (before mid now : Reader) (u g next : Until) → HasAdded tells before.left mid.left u g
-    → Paused tells mid now g next ⊎ ReadsOn tells mid.left now.left g next → HasAdded tells before.left now.left u next
+    → Stays tells mid now g next ⊎ ReadsOn tells mid.left now.left g next → HasAdded tells before.left now.left u next
 until_goes_on tells before mid now u g next has (inl paused) = record {
   got = has.got;
   others = has.others;
@@ -64,7 +69,7 @@ pub until_ends : (tells : Bool) (before mid now : Reader) (u g : Until) (back : 
     → UntilRunEnd tells before now u back end
 until_ends tells before mid now u g back (Ok n) stay has read =
     let line = subst (λ d. IsLine d read.got ⊎ ((read.got ≡ []) × (IsTrue tells → mid.left ≡ []))) (ap (λ x. x.delim) has.is_next)
-    read.is_line in
+    (line_or_end tells g.delim read.got mid now read.is_line) in
     let all = added_twice u has.got read.got in
     record {
       got = has.got ++ read.got;
@@ -79,7 +84,7 @@ until_ends tells before mid now u g back (Err fault) stay has failed = record {
   is_back = failed.0 ∙ ap (λ x. x.bytes) has.is_next;
   front = front_paused tells before.left mid.left now.left has.got has.front failed.1;
   cause = elim failed.2 [
-    | inl rose ↦ inl (rose_later before.counts.faults mid.counts.faults now.counts.faults stay rose)
+    | inl rose ↦ inl (fails_later before.counts mid.counts now.counts fault stay rose)
     | inr none ↦ inr none
   ];
 }
@@ -94,7 +99,7 @@ lined_twice l got more = ap (λ b. record l { added = b }) (append_assoc l.added
 
 -- A poll that goes on adds its bytes to the line.
 pub line_runs_on : (tells : Bool) (before mid now : Reader) (l g next : Lining) → HasLined tells before.left mid.left l g
-    → Paused tells mid now g next ⊎ LineGoesOn tells mid.left now.left g next → HasLined tells before.left now.left l next
+    → Stays tells mid now g next ⊎ LineGoesOn tells mid.left now.left g next → HasLined tells before.left now.left l next
 line_runs_on tells before mid now l g next has (inl paused) = record {
   got = has.got;
   others = has.others;
@@ -111,13 +116,14 @@ line_runs_on tells before mid now l g next has (inr goes) = record {
 -- How a poll of a line ends is how its polls end.
 pub line_run_ends : (tells : Bool) (before mid now : Reader) (l g : Lining) (back : List ℕ) (end : Result ℕ IoFault)
     → before.counts.faults ≤ mid.counts.faults → HasLined tells before.left mid.left l g
-    → HasLine tells mid.left now.left g back end ⊎ LineFails tells mid now g back end
+    → HasLine tells mid now g back end ⊎ LineFails tells mid now g back end
     → EndsLine tells before.left now.left l back end ⊎ StopsLine tells before now l back end
 line_run_ends tells before mid now l g back end stay has (inl line) =
     let all = ap (λ x. lined x line.got) has.is_next ∙ lined_twice l has.got line.got in
     inl (record {
       got = has.got ++ line.got;
-      is_line = whole_line tells 10 has.got line.got mid.left now.left has.others line.front line.is_line;
+      is_line = whole_line tells 10 has.got line.got mid.left now.left has.others line.front
+          (line_or_end tells 10 line.got mid now line.is_line);
       is_text = subst (λ (x : Lining). TextOf x.text x.added (Ok (length x.added)) end back) all line.is_text;
       front = front_twice tells before.left mid.left now.left has.got line.got has.front line.front;
     })
@@ -126,7 +132,7 @@ line_run_ends tells before mid now l g back end stay has (inr failed) = inr (rec
   fault = failed.fault;
   others = has.others;
   cause = elim failed.cause [
-    | inl rose ↦ inl (rose_later before.counts.faults mid.counts.faults now.counts.faults stay rose)
+    | inl rose ↦ inl (fails_later before.counts mid.counts now.counts failed.fault stay rose)
     | inr none ↦ inr none
   ];
   is_text = subst (λ (x : Lining). TextOf x.text x.added (Err failed.fault) end back) has.is_next failed.is_text;
@@ -134,28 +140,29 @@ line_run_ends tells before mid now l g back end stay has (inr failed) = inr (rec
 })
 
 -- Each poll of a read up to a delimiter that goes on is used.
-pub until_used : (tells : Bool) (before mid now : Reader) (k : ℕ) (u g next : Until)
-    → AreUsed k u.added g.added before.counts mid.counts → AfterCall mid.counts now.counts
-    → Paused tells mid now g next ⊎ ReadsOn tells mid.left now.left g next → AreUsed (k + 1) u.added next.added before.counts now.counts
-until_used tells before mid now k u g next used call (inl paused) =
+pub until_used : (tells : Bool) (before mid now : Reader) (group : Option ℕ) (k : ℕ) (u g next : Until)
+    → AreUsed k u.added g.added before.counts mid.counts → AfterCall group mid.counts now.counts
+    → Stays tells mid now g next ⊎ ReadsOn tells mid.left now.left g next → AreUsed (k + 1) u.added next.added before.counts now.counts
+until_used tells before mid now group k u g next used call (inl paused) =
     let same : next.added ≡ g.added = ap (λ (x : Until). x.added) paused.0 in
-    used_paused k u.added g.added u.added next.added before.counts mid.counts now.counts used (omega (arith, same)) paused.2
-until_used tells before mid now k u g next used call (inr goes) =
+    used_paused k u.added g.added u.added next.added before.counts mid.counts now.counts used (omega (arith, same)) call.pauses_stay
+    call.interrupts_stay paused.2
+until_used tells before mid now group k u g next used call (inr goes) =
     let more : next.added ≡ g.added + length goes.got = ap (λ x. x.added) goes.is_next in
     used_moved k u.added g.added u.added next.added
-    before.counts mid.counts now.counts used (omega (arith, goes.some, more)) call.pauses_stay
+    before.counts mid.counts now.counts used (omega (arith, goes.some, more)) call.pauses_stay call.interrupts_stay
 
 -- Each poll of a read of a line that goes on is used.
-pub line_used : (tells : Bool) (before mid now : Reader) (k : ℕ) (l g next : Lining)
-    → AreUsed k (length l.added) (length g.added) before.counts mid.counts → AfterCall mid.counts now.counts
-    → Paused tells mid now g next ⊎ LineGoesOn tells mid.left now.left g next
+pub line_used : (tells : Bool) (before mid now : Reader) (group : Option ℕ) (k : ℕ) (l g next : Lining)
+    → AreUsed k (length l.added) (length g.added) before.counts mid.counts → AfterCall group mid.counts now.counts
+    → Stays tells mid now g next ⊎ LineGoesOn tells mid.left now.left g next
     → AreUsed (k + 1) (length l.added) (length next.added) before.counts now.counts
-line_used tells before mid now k l g next used call (inl paused) =
+line_used tells before mid now group k l g next used call (inl paused) =
     let same : length next.added ≡ length g.added = ap (λ (x : Lining). length x.added) paused.0 in
     used_paused k (length l.added) (length g.added) (length l.added) (length next.added)
-    before.counts mid.counts now.counts used (omega (arith, same)) paused.2
-line_used tells before mid now k l g next used call (inr goes) =
+    before.counts mid.counts now.counts used (omega (arith, same)) call.pauses_stay call.interrupts_stay paused.2
+line_used tells before mid now group k l g next used call (inr goes) =
     let more : length next.added ≡ length g.added + length goes.got =
     ap (λ (x : Lining). length x.added) goes.is_next ∙ length-append g.added goes.got in
     used_moved k (length l.added) (length g.added) (length l.added) (length next.added)
-    before.counts mid.counts now.counts used (omega (arith, goes.some, more)) call.pauses_stay
+    before.counts mid.counts now.counts used (omega (arith, goes.some, more)) call.pauses_stay call.interrupts_stay

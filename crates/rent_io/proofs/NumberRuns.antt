@@ -1,15 +1,14 @@
 -- Polls of a read of a number, one behind the other.
 use Rattle.std.proofs.Common.{◌≡◌, ◌∙◌, ℕ, ◌≤◌, ◌⊎◌, inl, inr, List, ◌++◌, Bool, length, sym, ap, arith}
 use Rattle.std.proofs.Common.{append_assoc, length-append, ◌+◌}
-use Rattle.std.specs.Prelude.{Result, Ok, Err}
+use Rattle.std.specs.Prelude.{Option, Result, Ok, Err}
 use Rattle.rent_buf.specs.declared.fault.IoFault.{IoFault}
 use Rattle.rent_io.specs.Counts.{AfterCall}
 use Rattle.rent_io.specs.Reader.{Reader}
-use Rattle.rent_io.specs.ReadExact.{Paused}
 use Rattle.rent_io.specs.ReadNumber.{Numbering, HasMore, IsNumberEnd}
 use Rattle.rent_io.specs.LineRuns.{HasDigits, NumberRunEnd}
 use Rattle.rent_io.specs.Runs.{AreUsed}
-use Rattle.rent_io.proofs.Runs.{rose_later, front_twice, front_paused, used_paused, used_moved}
+use Rattle.rent_io.proofs.Runs.{Stays, fails_later, rose_later, front_twice, front_paused, used_paused, used_moved}
 
 -- A read of a number that has these bytes too.
 abbrev pub with_digits : Numbering → List ℕ → Numbering
@@ -21,7 +20,7 @@ digits_twice r got more = ap (λ b. record r { bytes = b }) (append_assoc r.byte
 
 -- A poll that goes on adds its bytes.
 pub number_goes_on : (tells : Bool) (before mid now : Reader) (r g next : Numbering) → HasDigits tells before.left mid.left r g
-    → Paused tells mid now g next ⊎ HasMore tells mid.left now.left g next → HasDigits tells before.left now.left r next
+    → Stays tells mid now g next ⊎ HasMore tells mid.left now.left g next → HasDigits tells before.left now.left r next
 number_goes_on tells before mid now r g next has (inl paused) = record {
   got = has.got;
   is_next = paused.0 ∙ has.is_next;
@@ -35,9 +34,10 @@ number_goes_on tells before mid now r g next has (inr more) = record {
 
 -- How a poll ends is how the polls end.
 pub number_ends : {N : Type 0} (tells : Bool) (before mid now : Reader) (value : Bool → List ℕ → N) (r g : Numbering)
-    (end : Result N IoFault) → before.counts.faults ≤ mid.counts.faults → HasDigits tells before.left mid.left r g
+    (end : Result N IoFault) → before.counts.faults ≤ mid.counts.faults → before.counts.zeros ≤ mid.counts.zeros
+    → HasDigits tells before.left mid.left r g
     → IsNumberEnd tells mid now value g end → NumberRunEnd tells before now value r end
-number_ends tells before mid now value r g (Ok n) stay has number =
+number_ends tells before mid now value r g (Ok n) stay zeros has number =
     let all = ap (λ x. with_digits x number.got) has.is_next ∙ digits_twice r has.got number.got in
     let bytes = ap length (ap (λ x. x.bytes) has.is_next) in
     record {
@@ -53,32 +53,33 @@ number_ends tells before mid now value r g (Ok n) stay has number =
       is_value = number.is_value ∙ ap (λ x. value x.little x.bytes) all;
       front = front_twice tells before.left mid.left now.left has.got number.got has.front number.front;
     }
-number_ends tells before mid now value r g (Err fault) stay has failed =
+number_ends tells before mid now value r g (Err fault) stay zeros has failed =
     let bytes = ap length (ap (λ x. x.bytes) has.is_next) in
     record {
       got = has.got;
       front = front_paused tells before.left mid.left now.left has.got has.front failed.0;
       cause = elim failed.1 [
-        | inl rose ↦ inl (rose_later before.counts.faults mid.counts.faults now.counts.faults stay rose)
+        | inl rose ↦ inl (fails_later before.counts mid.counts now.counts fault stay rose)
         | inr early ↦ inr (
           early.0,
           omega (arith, early.1, bytes, length-append r.bytes has.got, ap (λ x. x.size) has.is_next),
-          λ t. sym (failed.0 t) ∙ early.2 t,
+          (λ t. sym (failed.0 t) ∙ early.2.0 t),
+          rose_later before.counts.zeros mid.counts.zeros now.counts.zeros zeros early.2.1,
         )
       ];
     }
 
 -- Each poll of a read of a number that goes on is used.
-pub number_used : (tells : Bool) (before mid now : Reader) (k : ℕ) (r g next : Numbering)
-    → AreUsed k (length r.bytes) (length g.bytes) before.counts mid.counts → AfterCall mid.counts now.counts
-    → Paused tells mid now g next ⊎ HasMore tells mid.left now.left g next
+pub number_used : (tells : Bool) (before mid now : Reader) (group : Option ℕ) (k : ℕ) (r g next : Numbering)
+    → AreUsed k (length r.bytes) (length g.bytes) before.counts mid.counts → AfterCall group mid.counts now.counts
+    → Stays tells mid now g next ⊎ HasMore tells mid.left now.left g next
     → AreUsed (k + 1) (length r.bytes) (length next.bytes) before.counts now.counts
-number_used tells before mid now k r g next used call (inl paused) =
+number_used tells before mid now group k r g next used call (inl paused) =
     let same : length next.bytes ≡ length g.bytes = ap (λ (x : Numbering). length x.bytes) paused.0 in
     used_paused k (length r.bytes) (length g.bytes) (length r.bytes) (length next.bytes)
-    before.counts mid.counts now.counts used (omega (arith, same)) paused.2
-number_used tells before mid now k r g next used call (inr goes) =
+    before.counts mid.counts now.counts used (omega (arith, same)) call.pauses_stay call.interrupts_stay paused.2
+number_used tells before mid now group k r g next used call (inr goes) =
     let more : length next.bytes ≡ length g.bytes + length goes.got =
     ap (λ (x : Numbering). length x.bytes) goes.is_next ∙ length-append g.bytes goes.got in
     used_moved k (length r.bytes) (length g.bytes) (length r.bytes) (length next.bytes)
-    before.counts mid.counts now.counts used (omega (arith, goes.some, more)) call.pauses_stay
+    before.counts mid.counts now.counts used (omega (arith, goes.some, more)) call.pauses_stay call.interrupts_stay

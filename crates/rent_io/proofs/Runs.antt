@@ -1,17 +1,31 @@
 -- Calls of a stream, one behind the other.
-use Rattle.std.proofs.Common.{◌≡◌, ◌∙◌, ℕ, ◌+◌, ◌≤◌, List, ◌++◌, Bool, sym, ap, arith, append_assoc}
-use Rattle.std.specs.Prelude.{IsTrue}
+use Rattle.std.proofs.Common.{◌≡◌, ◌∙◌, ℕ, ◌+◌, ◌<◌, ◌≤◌, List, ◌++◌, ◌⊎◌, inl, inr, Bool, sym, ap, arith, append_assoc}
+use Rattle.std.specs.Prelude.{IsTrue, Option, Result, Ok, Err}
+use Rattle.rent_buf.specs.declared.fault.IoFault.{IoFault}
 use Rattle.rent_io.specs.Counts.{Counts, AfterCall, Rose}
-use Rattle.rent_io.specs.Reader.{WasFront}
+use Rattle.rent_io.specs.Polls.{Fails, IsFlushCaused}
+use Rattle.rent_io.specs.declared.poll.PollCount.TheVariants.{Ready}
+use Rattle.rent_io.specs.Reader.{Reader, WasFront}
+use Rattle.rent_io.specs.ReadExact.{Paused, Interrupted}
 use Rattle.rent_io.specs.Runs.{AfterCalls, AreUsed}
 
+-- The group of the last call that was made.
+under_more : (group before mid now : Option ℕ) → (mid ≡ before) ⊎ (mid ≡ group) → (now ≡ mid) ⊎ (now ≡ group)
+    → (now ≡ before) ⊎ (now ≡ group)
+under_more group before mid now first (inr is) = inr is
+under_more group before mid now (inl same) (inl is) = inl (is ∙ same)
+under_more group before mid now (inr same) (inl is) = inr (is ∙ same)
+
 -- One call more.
-pub one_more : (i most : ℕ) (before mid now : Counts) → i + 1 ≤ most → AfterCalls i before mid → AfterCall mid now
-    → AfterCalls most before now
-one_more i most before mid now less calls call = record {
+pub one_more : (group : Option ℕ) (i most : ℕ) (before mid now : Counts) → i + 1 ≤ most → AfterCalls group i before mid
+    → AfterCall group mid now → AfterCalls group most before now
+one_more group i most before mid now less calls call = record {
   faults_stay = omega (arith, calls.faults_stay, call.faults_stay);
   pauses_stay = omega (arith, calls.pauses_stay, call.pauses_stay);
+  interrupts_stay = omega (arith, calls.interrupts_stay, call.interrupts_stay);
+  zeros_stay = omega (arith, calls.zeros_stay, call.zeros_stay);
   most_calls = omega (arith, calls.most_calls, call.one_call, less);
+  under = under_more group before.group mid.group now.group calls.under call.under;
 }
 
 -- Faults that rose later rose.
@@ -28,20 +42,60 @@ pub front_paused : (tells : Bool) (left mid rest u : List ℕ) → WasFront tell
     → WasFront tells left u rest
 front_paused tells left mid rest u first same = λ t. first t ∙ ap (λ l. u ++ l) (same t)
 
--- One poll more that paused, and moved nothing back.
+-- One poll more that paused or was interrupted, and moved nothing back.
 pub used_paused : (polls from upto from' upto' : ℕ) (before mid now : Counts) → AreUsed polls from upto before mid
-    → from' + upto ≤ from + upto' → Rose mid.pauses now.pauses → AreUsed (polls + 1) from' upto' before now
-used_paused polls from upto from' upto' before mid now used stay rose = record {
+    → from' + upto ≤ from + upto' → mid.pauses ≤ now.pauses → mid.interrupts ≤ now.interrupts
+    → Rose mid.pauses now.pauses ⊎ Rose mid.interrupts now.interrupts → AreUsed (polls + 1) from' upto' before now
+used_paused polls from upto from' upto' before mid now used moved pauses interrupts (inl rose) = record {
   paused = used.paused + 1;
-  each = omega (arith, used.each, stay);
+  interrupted = used.interrupted;
+  each = omega (arith, used.each, moved);
   pauses = omega (arith, used.pauses, rose);
+  interrupts = omega (arith, used.interrupts, interrupts);
+}
+used_paused polls from upto from' upto' before mid now used moved pauses interrupts (inr rose) = record {
+  paused = used.paused;
+  interrupted = used.interrupted + 1;
+  each = omega (arith, used.each, moved);
+  pauses = omega (arith, used.pauses, pauses);
+  interrupts = omega (arith, used.interrupts, rose);
 }
 
 -- One poll more that moved a byte at least.
 pub used_moved : (polls from upto from' upto' : ℕ) (before mid now : Counts) → AreUsed polls from upto before mid
-    → from' + upto + 1 ≤ from + upto' → mid.pauses ≤ now.pauses → AreUsed (polls + 1) from' upto' before now
-used_moved polls from upto from' upto' before mid now used moved stay = record {
+    → from' + upto + 1 ≤ from + upto' → mid.pauses ≤ now.pauses → mid.interrupts ≤ now.interrupts
+    → AreUsed (polls + 1) from' upto' before now
+used_moved polls from upto from' upto' before mid now used moved pauses interrupts = record {
   paused = used.paused;
+  interrupted = used.interrupted;
   each = omega (arith, used.each, moved);
-  pauses = omega (arith, used.pauses, stay);
+  pauses = omega (arith, used.pauses, pauses);
+  interrupts = omega (arith, used.interrupts, interrupts);
 }
+
+-- It is as it was, since the stream paused or was interrupted.
+abbrev pub Stays : {S : Type 0} → Bool → Reader → Reader → S → S → Type 0
+Stays tells before now f next = (next ≡ f) × (IsTrue tells → before.left ≡ now.left)
+    × (Rose before.counts.pauses now.counts.pauses ⊎ Rose before.counts.interrupts now.counts.interrupts)
+
+-- A poll that answers Pending stays so.
+pub pausing : {S : Type 0} (tells : Bool) (task : ℕ) (before now : Reader) (f next : S) (G : Type 0)
+    → Paused tells task before now f next → Stays tells before now f next ⊎ G
+pausing tells task before now f next G is = inl (is.0, is.1, inl is.2.0)
+
+-- And one that was interrupted.
+pub breaking : {S : Type 0} (tells : Bool) (before now : Reader) (f next : S) (G : Type 0)
+    → Interrupted tells before now f next ⊎ G → Stays tells before now f next ⊎ G
+breaking tells before now f next G (inl is) = inl (is.0, is.1, inr is.2)
+breaking tells before now f next G (inr goes) = inr goes
+
+-- Faults that came later came.
+pub fails_later : (before mid now : Counts) (fault : IoFault) → before.faults ≤ mid.faults → Fails mid now fault → Fails before now fault
+fails_later before mid now fault stay is = (rose_later before.faults mid.faults now.faults stay is.0, is.1)
+
+-- A flush that ends with a fault counted one, where no write took none of some bytes.
+pub fault_counted : (task : ℕ) (before now : Counts) (result : Result ℕ IoFault) (fault : IoFault) → result ≡ Err fault → now.zeros ≡ 0
+    → IsFlushCaused task before now (Ready result) → 0 < now.faults
+fault_counted task before now (Ok n) fault is none cause = (let never : ◌≡◌ {A = Result ℕ IoFault} (Ok n) (Err fault) = is in cc)
+fault_counted task before now (Err other) fault is none (inl failed) = omega (arith, failed.0)
+fault_counted task before now (Err other) fault is none (inr zero) = absurd (omega (arith, zero.1, none))

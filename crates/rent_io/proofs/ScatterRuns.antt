@@ -1,22 +1,22 @@
 -- Polls of a read into all parts of a vector, one behind the other.
 use Rattle.std.proofs.Common.{◌≡◌, ◌∙◌, ℕ, zero, suc, ◌<◌, ◌≤◌, ◌⊎◌, inl, inr, [], ◌∷◌, ◌++◌, Bool, take, refl, sym, ap, subst, arith}
 use Rattle.std.proofs.Common.{append_assoc, append-nil, ◌+◌, length, length-append}
-use Rattle.std.specs.Prelude.{IsTrue, Result, Ok, Err}
+use Rattle.std.specs.Prelude.{IsTrue, Option, Result, Ok, Err}
 use Rattle.std.proofs.lemmas.List.{take-take}
 use Rattle.rent_buf.specs.Parts.{Parts, part_at, part_put}
 use Rattle.rent_buf.specs.declared.fault.IoFault.{IoFault}
-use Rattle.rent_io.specs.Counts.{AfterCall, Rose}
+use Rattle.rent_io.specs.Counts.{AfterCall}
+use Rattle.rent_io.specs.Polls.{Fails}
 use Rattle.rent_io.specs.Reader.{Reader}
-use Rattle.rent_io.specs.ReadExact.{Paused}
 use Rattle.rent_io.specs.ReadVectoredExact.{Scattering, has_read, read_of, rooms, ScatterGoesOn, ScatterEndsEarly, IsScatterEnd}
 use Rattle.rent_io.specs.ScatterRuns.{HasScattered, StopsScattering, ScatterRunEnd}
 use Rattle.rent_io.specs.Runs.{AreUsed}
-use Rattle.rent_io.proofs.Runs.{rose_later, front_twice, front_paused, used_paused, used_moved}
+use Rattle.rent_io.proofs.Runs.{Stays, fails_later, rose_later, front_twice, front_paused, used_paused, used_moved}
 use Rattle.rent_io.proofs.Scatters.{put_rooms}
 
 -- A poll that goes on adds its bytes.
 pub scatter_goes_on : (tells : Bool) (before mid now : Reader) (s g next : Scattering) → HasScattered tells before.left mid.left s g
-    → Paused tells mid now g next ⊎ ScatterGoesOn tells mid.left now.left g next → HasScattered tells before.left now.left s next
+    → Stays tells mid now g next ⊎ ScatterGoesOn tells mid.left now.left g next → HasScattered tells before.left now.left s next
 scatter_goes_on tells before mid now s g next has (inl paused) = record {
   got = has.got;
   is_read = ap has_read paused.0 ∙ has.is_read;
@@ -46,19 +46,20 @@ nothing_room (part ∷ parts) (suc k) at = nothing_room parts k at
 
 -- What a fault leaves, behind bytes that were read before.
 scatter_stops : (tells : Bool) (before mid now : Reader) (s g : Scattering) (back : Parts) (fault : IoFault)
-    → before.counts.faults ≤ mid.counts.faults → HasScattered tells before.left mid.left s g → (IsTrue tells → mid.left ≡ now.left)
-    → (back ≡ g.parts) × Rose mid.counts.faults now.counts.faults ⊎ ScatterEndsEarly tells mid.left g back fault
+    → before.counts.faults ≤ mid.counts.faults → before.counts.zeros ≤ mid.counts.zeros → HasScattered tells before.left mid.left s g
+    → (IsTrue tells → mid.left ≡ now.left)
+    → (back ≡ g.parts) × Fails mid.counts now.counts fault ⊎ ScatterEndsEarly tells mid now g back fault
     → StopsScattering tells before now s back fault
-scatter_stops tells before mid now s g back fault stay has same (inl failed) = record {
+scatter_stops tells before mid now s g back fault stay zeros has same (inl failed) = record {
   got = has.got;
   into = g.part;
   at = g.filled;
   is_read = ap (λ l. read_of l g.part g.filled) failed.0 ∙ has.is_read;
   same_rooms = ap rooms failed.0 ∙ has.same_rooms;
   front = front_paused tells before.left mid.left now.left has.got has.front same;
-  cause = inl (rose_later before.counts.faults mid.counts.faults now.counts.faults stay failed.1);
+  cause = inl (fails_later before.counts mid.counts now.counts fault stay failed.1);
 }
-scatter_stops tells before mid now s g back fault stay has same (inr early) =
+scatter_stops tells before mid now s g back fault stay zeros has same (inr early) =
     let put_is = early.nothing in
     let into = early.into in
     let at = early.at in
@@ -71,14 +72,20 @@ scatter_stops tells before mid now s g back fault stay has same (inr early) =
       is_read = ap (λ l. read_of l into at) put_is ∙ nothing_read g.parts into at ∙ early.same_read ∙ has.is_read;
       same_rooms = ap rooms put_is ∙ put_rooms g.parts into at [] ∙ has.same_rooms;
       front = front_paused tells before.left mid.left now.left has.got has.front same;
-      cause = inr (early.is_eof, subst (λ n. at < n) (sym total) early.more, λ t. sym (same t) ∙ early.none_left t);
+      cause = inr (
+        early.is_eof,
+        subst (λ n. at < n) (sym total) early.more,
+        (λ t. sym (same t) ∙ early.at_end.0 t),
+        rose_later before.counts.zeros mid.counts.zeros now.counts.zeros zeros early.at_end.1,
+      );
     }
 
 -- How a poll ends is how the polls end.
 pub scatter_ends : (tells : Bool) (before mid now : Reader) (s g : Scattering) (back : Parts) (end : Result ℕ IoFault)
-    → before.counts.faults ≤ mid.counts.faults → HasScattered tells before.left mid.left s g → IsScatterEnd tells mid now g back end
+    → before.counts.faults ≤ mid.counts.faults → before.counts.zeros ≤ mid.counts.zeros → HasScattered tells before.left mid.left s g
+    → IsScatterEnd tells mid now g back end
     → ScatterRunEnd tells before now s back end
-scatter_ends tells before mid now s g back (Ok n) stay has full = record {
+scatter_ends tells before mid now s g back (Ok n) stay zeros has full = record {
   got = has.got ++ full.got;
   is_read = full.is_read ∙ ap (λ l. l ++ full.got) has.is_read ∙ append_assoc (has_read s) has.got full.got;
   full = full.full;
@@ -86,20 +93,20 @@ scatter_ends tells before mid now s g back (Ok n) stay has full = record {
   total = full.total ∙ has.same_total;
   front = front_twice tells before.left mid.left now.left has.got full.got has.front full.front;
 }
-scatter_ends tells before mid now s g back (Err fault) stay has failed =
-    scatter_stops tells before mid now s g back fault stay has failed.0 failed.1
+scatter_ends tells before mid now s g back (Err fault) stay zeros has failed =
+    scatter_stops tells before mid now s g back fault stay zeros has failed.0 failed.1
 
 -- Each poll of a read into all parts that goes on is used.
-pub scatter_used : (tells : Bool) (before mid now : Reader) (k : ℕ) (s g next : Scattering)
-    → AreUsed k (length (has_read s)) (length (has_read g)) before.counts mid.counts → AfterCall mid.counts now.counts
-    → Paused tells mid now g next ⊎ ScatterGoesOn tells mid.left now.left g next
+pub scatter_used : (tells : Bool) (before mid now : Reader) (group : Option ℕ) (k : ℕ) (s g next : Scattering)
+    → AreUsed k (length (has_read s)) (length (has_read g)) before.counts mid.counts → AfterCall group mid.counts now.counts
+    → Stays tells mid now g next ⊎ ScatterGoesOn tells mid.left now.left g next
     → AreUsed (k + 1) (length (has_read s)) (length (has_read next)) before.counts now.counts
-scatter_used tells before mid now k s g next used call (inl paused) =
+scatter_used tells before mid now group k s g next used call (inl paused) =
     let same : length (has_read next) ≡ length (has_read g) = ap (λ (x : Scattering). length (has_read x)) paused.0 in
     used_paused k (length (has_read s)) (length (has_read g)) (length (has_read s)) (length (has_read next))
-    before.counts mid.counts now.counts used (omega (arith, same)) paused.2
-scatter_used tells before mid now k s g next used call (inr goes) =
+    before.counts mid.counts now.counts used (omega (arith, same)) call.pauses_stay call.interrupts_stay paused.2
+scatter_used tells before mid now group k s g next used call (inr goes) =
     let more : length (has_read next) ≡ length (has_read g) + length goes.got =
     ap length goes.is_read ∙ length-append (has_read g) goes.got in
     used_moved k (length (has_read s)) (length (has_read g)) (length (has_read s)) (length (has_read next))
-    before.counts mid.counts now.counts used (omega (arith, goes.some, more)) call.pauses_stay
+    before.counts mid.counts now.counts used (omega (arith, goes.some, more)) call.pauses_stay call.interrupts_stay

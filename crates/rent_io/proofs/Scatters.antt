@@ -1,5 +1,6 @@
 -- Places in parts before which all is full.
-use Rattle.std.proofs.Common.{◌≡◌, ◌∙◌, ℕ, zero, suc, ◌+◌, ◌<◌, ◌≤◌, ◌≢◌, Bool, List, [], ◌∷◌, ◌++◌, length, take, refl, sym, ap, subst}
+use Rattle.std.proofs.Common.{◌≡◌, ◌∙◌, ℕ, zero, suc, ◌+◌, ◌<◌, ◌≤◌, ◌≢◌, ◌⊎◌, inl, inr, Bool, List, [], ◌∷◌, ◌++◌, length, take, refl}
+use Rattle.std.proofs.Common.{sym, ap, subst}
 use Rattle.std.proofs.Common.{arith, add-one, append-nil, append_assoc, length-append}
 use Rattle.std.specs.Prelude.{All, IsTrue}
 use Rattle.std.specs.List.{concat}
@@ -12,7 +13,8 @@ use Rattle.rent_buf.specs.Parts.{Parts, IsParts, bytes_of, rooms_of, part_at, pa
 use Rattle.rent_io.specs.PartRoom.{PartTaken}
 use Rattle.rent_io.specs.ReadVectoredExact.{Scattering, has_read, read_of, AreFullBefore, rooms}
 use Rattle.rent_io.specs.ReadVectoredExact.{IsScattered, ScatterGoesOn, ScatterEndsEarly}
-use Rattle.rent_io.specs.Reader.{WasFront}
+use Rattle.rent_io.specs.Counts.{Rose}
+use Rattle.rent_io.specs.Reader.{Reader, WasFront}
 
 -- Behind a part whose bytes are all filled the same bytes were read.
 passed : (parts : Parts) (k n : ℕ) → k < length parts → n ≤ length (part_at parts k).bytes → length (part_at parts k).bytes ≤ n
@@ -111,16 +113,22 @@ ends_full tells left rest got s parts back part filled k n total is read behind 
   front = front;
 }
 
+-- A count of what moved none of some bytes rose.
+rose_of : (before now : ℕ) → ◌≡◌ {A = ℕ} 1 0 ⊎ Rose before now → Rose before now
+rose_of before now (inl is) = absurd cc
+rose_of before now (inr rose) = rose
+
 -- A read of no byte into a part that has room at a place is the stream's end.
-pub ends_early : (tells : Bool) (left rest : List ℕ) (s : Scattering) (parts back : Parts) (part filled k n m total : ℕ)
+pub ends_early : (tells : Bool) (before now : Reader) (s : Scattering) (parts back : Parts) (part filled k n m total : ℕ)
     → scatter_at parts part filled total ≡ s → k < length parts → AreFullBefore parts k → n < (part_at parts k).total
-    → read_of parts k n ≡ read_of parts part filled → PartTaken tells left rest parts back k n m → m ≡ 0
-    → (IsTrue tells → left ≡ rest) × ScatterEndsEarly tells left s back UnexpectedEof
-ends_early tells left rest s parts back part filled k n m total is there full less same taken none =
+    → read_of parts k n ≡ read_of parts part filled → PartTaken tells before.left now.left parts back k n m → m ≡ 0
+    → (m ≡ 0 → ◌≡◌ {A = ℕ} 1 0 ⊎ Rose before.counts.zeros now.counts.zeros)
+    → (IsTrue tells → before.left ≡ now.left) × ScatterEndsEarly tells before now s back UnexpectedEof
+ends_early tells before now s parts back part filled k n m total is there full less same taken none counted =
     let nothing : taken.got ≡ [] = nil_from_length taken.got (taken.count ∙ none) in
     let held = ap (λ x. x.parts) is in
     let read : read_of parts k n ≡ has_read s = same ∙ ap has_read is in (
-      λ t. taken.front t ∙ ap (λ l. l ++ rest) nothing,
+      λ t. taken.front t ∙ ap (λ l. l ++ now.left) nothing,
       record {
         into = k;
         at = n;
@@ -128,7 +136,7 @@ ends_early tells left rest s parts back part filled k n m total is there full le
         more = subst (λ l. n < (part_at l k).total) held less;
         lacks = subst (λ l. length (has_read s) < rooms_of l) held (omega (arith, read_less parts k n there full less, ap length read));
         same_read = subst (λ l. read_of l k n ≡ has_read s) held read;
-        none_left = λ t. taken.at_end t none;
+        at_end = ((λ t. taken.at_end t none), rose_of _ _ (counted none));
         nothing = taken.is_put ∙ ap (part_put parts k n) nothing ∙ ap (λ l. part_put l k n []) held;
       },
     )

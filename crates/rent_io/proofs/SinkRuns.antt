@@ -56,19 +56,21 @@ unsent-some None some = absurd cc
 unsent-some (Some item) some = refl
 
 -- A poll that waits is used.
-pub waits_used : {I : Type 0} (before mid now : ItemSink) (k : ℕ) (item g next : Option I)
-    → AreUsed k (unsent g) (unsent item) before.counts mid.counts → next ≡ g → Rose mid.counts.pauses now.counts.pauses
+pub waits_used : {I : Type 0} (before mid now : ItemSink) (group : Option ℕ) (k : ℕ) (item g next : Option I)
+    → AreUsed k (unsent g) (unsent item) before.counts mid.counts → next ≡ g → AfterCall group mid.counts now.counts
+    → Rose mid.counts.pauses now.counts.pauses
     → AreUsed (k + 1) (unsent next) (unsent item) before.counts now.counts
-waits_used before mid now k item g next used same rose =
+waits_used before mid now group k item g next used same call rose =
     let stays : unsent next ≡ unsent g = ap unsent same in
-    used_paused k (unsent g) (unsent item) (unsent next) (unsent item) before.counts mid.counts now.counts used (omega (arith, stays)) rose
+    used_paused k (unsent g) (unsent item) (unsent next) (unsent item) before.counts mid.counts now.counts used (omega (arith, stays))
+    call.pauses_stay call.interrupts_stay (inl rose)
 
 -- A poll that takes the item is used.
-pub takes_used : {I : Type 0} (before mid now : ItemSink) (k : ℕ) (item g next : Option I)
-    → AreUsed k (unsent g) (unsent item) before.counts mid.counts → IsSome g → next ≡ None → AfterCall mid.counts now.counts
+pub takes_used : {I : Type 0} (before mid now : ItemSink) (group : Option ℕ) (k : ℕ) (item g next : Option I)
+    → AreUsed k (unsent g) (unsent item) before.counts mid.counts → IsSome g → next ≡ None → AfterCall group mid.counts now.counts
     → AreUsed (k + 1) (unsent next) (unsent item) before.counts now.counts
-takes_used before mid now k item g next used some none call =
+takes_used before mid now group k item g next used some none call =
     let one = unsent-some g some in
     let gone : unsent next ≡ 0 = ap unsent none in
     used_moved k (unsent g) (unsent item) (unsent next) (unsent item) before.counts mid.counts now.counts used (omega (arith, one, gone))
-    call.pauses_stay
+    call.pauses_stay call.interrupts_stay

@@ -5,7 +5,7 @@ use Rattle.std.proofs.lemmas.List.{take-append-drop}
 use Rattle.std.proofs.lemmas.Str.{IsUtf8-append}
 use Rattle.rent_buf.specs.declared.fault.IoFault.{IoFault}
 use Rattle.rent_io.specs.Reader.{Reader}
-use Rattle.rent_io.specs.ReadExact.{Paused}
+use Rattle.rent_io.specs.ReadExact.{Interrupted}
 use Rattle.rent_io.specs.ReadUntil.{Until, Lacks, IsLine, ReadsOn, IsUntilEnd}
 use Rattle.rent_io.specs.ReadLine.{Lining, IsLining, TextOf, LineGoesOn, HasLine, LineFails}
 use Rattle.rent_io.proofs.FirstParts.{take-first}
@@ -39,10 +39,10 @@ line_goes tells left rest u next start is goes = record {
   front = goes.front;
 }
 
--- Where the read up to a newline pauses or goes on, so does that of the line.
-pub line_again : (tells : Bool) (before now : Reader) (u next : Until) (start : ℕ) → IsLining u start → Paused tells before now u next
+-- Where the read up to a newline is interrupted or goes on, so does that of the line.
+pub line_again : (tells : Bool) (before now : Reader) (u next : Until) (start : ℕ) → IsLining u start → Interrupted tells before now u next
     ⊎ ReadsOn tells before.left now.left u next
-    → Paused tells before now (lining u start) (lining next start)
+    → Interrupted tells before now (lining u start) (lining next start)
     ⊎ LineGoesOn tells before.left now.left (lining u start) (lining next start)
 line_again tells before now u next start is (inl paused) = inl (ap (λ x. lining x start) paused.0, paused.1, paused.2)
 line_again tells before now u next start is (inr goes) = inr (line_goes tells before.left now.left u next start is goes)
@@ -55,7 +55,7 @@ line_of d got E same (inr end) = inr end
 -- Where it ends, so does the read of the line: with its text.
 pub line_ends : (tells : Bool) (before now : Reader) (u : Until) (start : ℕ) (bytes back : List ℕ) (outcome end : Result ℕ IoFault)
     → IsLining u start → IsUntilEnd tells before now u bytes outcome
-    → TextOf (take start bytes) (drop start bytes) outcome end back → HasLine tells before.left now.left (lining u start) back end
+    → TextOf (take start bytes) (drop start bytes) outcome end back → HasLine tells before now (lining u start) back end
     ⊎ LineFails tells before now (lining u start) back end
 line_ends tells before now u start bytes back (Ok n) end is has text =
     let next : Until = record u { bytes = bytes } in

@@ -2,17 +2,19 @@
 -- `complete` of each state's `poll` cites `Completes`, with the faults that its state may still end with.
 use Rattle.std.specs.Prelude.{ℕ, ◌≡◌, ◌<◌, ◌⊎◌, Bool, true, IsTrue, List, ◌++◌, length, IsUtf8, Result, IfErr}
 use Rattle.rent_buf.specs.declared.fault.IoFault.{IoFault}
-use Rattle.rent_buf.specs.declared.fault.IoFault.TheVariants.{UnexpectedEof, WriteZero, OutOfMemory, InvalidData}
+use Rattle.rent_buf.specs.declared.fault.IoFault.TheVariants.{UnexpectedEof, OutOfMemory, InvalidData}
 use Rattle.rent_io.specs.declared.poll.Step.{Step}
 use Rattle.rent_io.specs.declared.poll.Step.TheVariants.{Ready, Pending, Again}
 use Rattle.rent_io.specs.declared.poll.PollCount.{PollCount}
 use Rattle.rent_io.specs.declared.poll.PollCount.TheVariants.{Ready as CountReady, Pending as CountPending, Again as CountAgain}
 use Rattle.rent_io.specs.Counts.{Counts, Rose}
+use Rattle.rent_io.specs.Reader.{Reader}
 use Rattle.rent_io.specs.LineRuns.{IsWholeLine}
 
--- Neither the count of faults nor the count of pauses rose.
+-- None of the counts of faults, of pauses and of interrupts rose.
 abbrev pub IsQuiet : Counts → Counts → Type 0
-IsQuiet before now = (¬ Rose before.faults now.faults) × (¬ Rose before.pauses now.pauses)
+IsQuiet before now =
+    (¬ Rose before.faults now.faults) × (¬ Rose before.pauses now.pauses) × (¬ Rose before.interrupts now.interrupts)
 
 -- A poll got on: it ended, with Ok or with one of these faults; or it answers Again, with a state that is further. It didn't wait.
 abbrev pub GetsOn : {S R N E : Type 0} → Step S R → (R → Result N E) → (E → Type 0) → (S → Type 0) → Type 0
@@ -26,19 +28,15 @@ CountGetsOn (CountReady end) faults further = IfErr end faults
 CountGetsOn CountPending faults further = ⊥
 CountGetsOn CountAgain faults further = further
 
--- A poll in which neither count rose got on.
+-- A poll in which none of them rose got on.
 abbrev pub Completes : {S R N E : Type 0} → Counts → Counts → Step S R → (R → Result N E) → (E → Type 0) → (S → Type 0) → Type 0
 Completes before now step outcome faults further = IsQuiet before now → GetsOn step outcome faults further
 
--- Reading: the stream ended, and a stream that tells its bytes had fewer left than were wanted. So one that has enough left never ends a
--- read with a fault.
-abbrev pub IsShort : Bool → List ℕ → ℕ → IoFault → Type 0
-IsShort tells left wanted fault = (fault ≡ UnexpectedEof) × (IsTrue tells → length left < wanted)
-
--- Writing: a write took none of some bytes, and a stream that tells its bytes was delivered none. So one that takes a byte of each write
--- never ends a write with a fault.
-abbrev pub TookNone : Bool → List ℕ → List ℕ → List ℕ → IoFault → Type 0
-TookNone tells before now bytes fault = (fault ≡ WriteZero) × (0 < length bytes) × (IsTrue tells → now ≡ before)
+-- Reading: a read gave none of some room, and a stream that tells its bytes had fewer left than were wanted. So one that has enough left
+-- never ends a read with a fault.
+abbrev pub IsShort : Bool → Reader → Reader → ℕ → IoFault → Type 0
+IsShort tells before now wanted fault = (fault ≡ UnexpectedEof) × (IsTrue tells → length before.left < wanted)
+    × Rose before.counts.zeros now.counts.zeros
 
 -- The line that these bytes begin is UTF-8: they, and those that are left, up to and with the first newline, or all where there is none.
 abbrev pub BeginText : List ℕ → List ℕ → Type 0

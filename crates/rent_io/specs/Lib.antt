@@ -19,6 +19,7 @@ pub mod ScatterRuns
 pub mod Scripted
 pub mod Sink
 pub mod Source
+pub mod Under
 pub mod WriteAll
 pub mod WriteVectoredAll
 pub mod Writer

@@ -6,6 +6,7 @@ use Rattle.rent_buf.specs.declared.fault.IoFault.TheVariants.{UnexpectedEof, Out
 use Rattle.rent_io.specs.declared.poll.Step.{Step}
 use Rattle.rent_io.specs.declared.poll.Step.TheVariants.{Ready, Pending, Again}
 use Rattle.rent_io.specs.Counts.{Rose}
+use Rattle.rent_io.specs.Polls.{Fails}
 use Rattle.rent_io.specs.Reader.{Reader, WasFront}
 use Rattle.rent_io.specs.ReadUntil.{Until, Lacks, IsLine}
 use Rattle.rent_io.specs.ReadLine.{Lining, TextOf}
@@ -36,7 +37,7 @@ pub record StopsAdding (tells : Bool) (before now : Reader) (u : Until) (back : 
   pub others : Lacks u.delim got
   pub is_back : back ≡ u.bytes ++ got
   pub front : WasFront tells before.left got now.left
-  pub cause : Rose before.counts.faults now.counts.faults ⊎ (fault ≡ OutOfMemory)
+  pub cause : Fails before.counts now.counts fault ⊎ (fault ≡ OutOfMemory)
 
 -- How polls of a read up to a delimiter end: with the line, or at a fault.
 abbrev pub UntilRunEnd : Bool → Reader → Reader → Until → List ℕ → Result ℕ IoFault → Type 0
@@ -68,7 +69,7 @@ pub record StopsLine (tells : Bool) (before now : Reader) (l : Lining) (back : L
   pub got : List ℕ
   pub fault : IoFault
   pub others : Lacks 10 got
-  pub cause : Rose before.counts.faults now.counts.faults ⊎ (fault ≡ OutOfMemory)
+  pub cause : Fails before.counts now.counts fault ⊎ (fault ≡ OutOfMemory)
   pub is_text : TextOf l.text (l.added ++ got) (Err fault) end back
   pub front : WasFront tells before.left got now.left
 
@@ -89,8 +90,9 @@ pub record HasDigits (tells : Bool) (left rest : List ℕ) (r next : Numbering) 
 pub record StopsNumber (tells : Bool) (before now : Reader) (r : Numbering) (fault : IoFault) : Type 0 where
   pub got : List ℕ
   pub front : WasFront tells before.left got now.left
-  pub cause : Rose before.counts.faults now.counts.faults
-      ⊎ ((fault ≡ UnexpectedEof) × (length r.bytes + length got < r.size) × (IsTrue tells → now.left ≡ []))
+  pub cause : Fails before.counts now.counts fault
+      ⊎ ((fault ≡ UnexpectedEof) × (length r.bytes + length got < r.size) × (IsTrue tells → now.left ≡ [])
+      × Rose before.counts.zeros now.counts.zeros)
 
 -- How polls of a read of a number end: with the number of its bytes, or at a fault.
 abbrev pub NumberRunEnd : {N : Type 0} → Bool → Reader → Reader → (Bool → List ℕ → N) → Numbering → Result N IoFault → Type 0

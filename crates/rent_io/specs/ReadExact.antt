@@ -7,7 +7,8 @@ use Rattle.rent_buf.specs.declared.fault.IoFault.TheVariants.{UnexpectedEof}
 use Rattle.rent_io.specs.declared.poll.Step.{Step}
 use Rattle.rent_io.specs.declared.poll.Step.TheVariants.{Ready, Pending, Again}
 use Rattle.rent_io.specs.Counts.{Rose}
-use Rattle.rent_io.specs.Reader.{Reader, WasFront}
+use Rattle.rent_io.specs.Polls.{Fails, Pauses}
+use Rattle.rent_io.specs.Reader.{AtEnd, Reader, WasFront}
 
 -- Such a read is its buffer, the ranges under that and the parts beside it, and how many bytes of the range it has filled.
 pub record Filling : Type 0 where
@@ -50,10 +51,10 @@ pub record IsFilled (tells : Bool) (left rest : List ℕ) (f : Filling) (back : 
   pub front : WasFront tells left got rest
 
 -- A read gave no byte though more are to come: it stored nothing.
-pub record EndsEarly (tells : Bool) (left : List ℕ) (f : Filling) (back : Buffer) (fault : IoFault) : Type 0 where
+pub record EndsEarly (tells : Bool) (before now : Reader) (f : Filling) (back : Buffer) (fault : IoFault) : Type 0 where
   pub is_eof : fault ≡ UnexpectedEof
   pub more : 0 < lacks f
-  pub none_left : IsTrue tells → left ≡ []
+  pub at_end : AtEnd tells before now
   pub nothing : back ≡ put f.buffer (f.buffer.begin + f.filled) []
 
 -- How it ends: full, or at a fault, at which this poll read nothing.
@@ -61,17 +62,22 @@ abbrev pub IsExactEnd : Bool → Reader → Reader → Filling → Buffer → Re
 IsExactEnd tells before now f back (Ok n) = IsFilled tells before.left now.left f back n
 IsExactEnd tells before now f back (Err fault) =
     (IsTrue tells → before.left ≡ now.left) ×
-    ((back ≡ f.buffer) × Rose before.counts.faults now.counts.faults ⊎ EndsEarly tells before.left f back fault)
+    ((back ≡ f.buffer) × Fails before.counts now.counts fault ⊎ EndsEarly tells before now f back fault)
 
--- It is as it was, since the stream paused.
-abbrev pub Paused : {S : Type 0} → Bool → Reader → Reader → S → S → Type 0
-Paused tells before now f next = (next ≡ f) × (IsTrue tells → before.left ≡ now.left) × Rose before.counts.pauses now.counts.pauses
+-- It is as it was, since the stream paused, and will wake this task.
+abbrev pub Paused : {S : Type 0} → Bool → ℕ → Reader → Reader → S → S → Type 0
+Paused tells task before now f next = (next ≡ f) × (IsTrue tells → before.left ≡ now.left) × Pauses task before.counts now.counts
+
+-- It is as it was, since the stream was interrupted.
+abbrev pub Interrupted : {S : Type 0} → Bool → Reader → Reader → S → S → Type 0
+Interrupted tells before now f next =
+    (next ≡ f) × (IsTrue tells → before.left ≡ now.left) × Rose before.counts.interrupts now.counts.interrupts
 
 -- A poll of it.
-abbrev pub ReadsExact : {T : Type 0} → Bool → Reader → Reader → (T → Buffer) → (T → List (ℕ × ℕ)) → (T → Parts) → Filling
+abbrev pub ReadsExact : {T : Type 0} → Bool → ℕ → Reader → Reader → (T → Buffer) → (T → List (ℕ × ℕ)) → (T → Parts) → Filling
     → Step Filling (Result ℕ IoFault × T) → Type 0
-ReadsExact tells before now buffer under beside f (Ready end) =
+ReadsExact tells task before now buffer under beside f (Ready end) =
     IsExactEnd tells before now f (buffer end.1) end.0 × (under end.1 ≡ f.under) × (beside end.1 ≡ f.beside)
-ReadsExact tells before now buffer under beside f (Pending next) = Paused tells before now f next
-ReadsExact tells before now buffer under beside f (Again next) = Paused tells before now f next
+ReadsExact tells task before now buffer under beside f (Pending next) = Paused tells task before now f next
+ReadsExact tells task before now buffer under beside f (Again next) = Interrupted tells before now f next
     ⊎ GoesOn tells before.left now.left f next

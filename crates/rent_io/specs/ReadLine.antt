@@ -4,9 +4,9 @@ use Rattle.rent_buf.specs.declared.fault.IoFault.{IoFault}
 use Rattle.rent_buf.specs.declared.fault.IoFault.TheVariants.{OutOfMemory, InvalidData}
 use Rattle.rent_io.specs.declared.poll.Step.{Step}
 use Rattle.rent_io.specs.declared.poll.Step.TheVariants.{Ready, Pending, Again}
-use Rattle.rent_io.specs.Counts.{Rose}
-use Rattle.rent_io.specs.Reader.{Reader, WasFront}
-use Rattle.rent_io.specs.ReadExact.{Paused}
+use Rattle.rent_io.specs.Polls.{Fails}
+use Rattle.rent_io.specs.Reader.{AtEnd, Reader, WasFront}
+use Rattle.rent_io.specs.ReadExact.{Paused, Interrupted}
 use Rattle.rent_io.specs.ReadUntil.{Until, Lacks, IsLine}
 
 -- Such a read is the bytes of the text before it, and those that it added.
@@ -40,22 +40,22 @@ pub record LineGoesOn (tells : Bool) (left rest : List ℕ) (l next : Lining) : 
   pub front : WasFront tells left got rest
 
 -- It added the rest of the line, or nothing, since the stream ended.
-pub record HasLine (tells : Bool) (left rest : List ℕ) (l : Lining) (back : List ℕ) (end : Result ℕ IoFault) : Type 0 where
+pub record HasLine (tells : Bool) (before now : Reader) (l : Lining) (back : List ℕ) (end : Result ℕ IoFault) : Type 0 where
   pub got : List ℕ
-  pub is_line : IsLine 10 got ⊎ ((got ≡ []) × (IsTrue tells → left ≡ []))
+  pub is_line : IsLine 10 got ⊎ ((got ≡ []) × AtEnd tells before now)
   pub is_text : TextOf l.text (l.added ++ got) (Ok (length (l.added ++ got))) end back
-  pub front : WasFront tells left got rest
+  pub front : WasFront tells before.left got now.left
 
 -- A fault came, and this poll added nothing.
 pub record LineFails (tells : Bool) (before now : Reader) (l : Lining) (back : List ℕ) (end : Result ℕ IoFault) : Type 0 where
   pub fault : IoFault
-  pub cause : Rose before.counts.faults now.counts.faults ⊎ (fault ≡ OutOfMemory)
+  pub cause : Fails before.counts now.counts fault ⊎ (fault ≡ OutOfMemory)
   pub is_text : TextOf l.text l.added (Err fault) end back
   pub same : IsTrue tells → before.left ≡ now.left
 
 -- A poll of it.
-abbrev pub ReadsLine : {T : Type 0} → Bool → Reader → Reader → (T → List ℕ) → Lining → Step Lining (Result ℕ IoFault × T) → Type 0
-ReadsLine tells before now bytes l (Ready end) = HasLine tells before.left now.left l (bytes end.1) end.0
+abbrev pub ReadsLine : {T : Type 0} → Bool → ℕ → Reader → Reader → (T → List ℕ) → Lining → Step Lining (Result ℕ IoFault × T) → Type 0
+ReadsLine tells task before now bytes l (Ready end) = HasLine tells before now l (bytes end.1) end.0
     ⊎ LineFails tells before now l (bytes end.1) end.0
-ReadsLine tells before now bytes l (Pending next) = Paused tells before now l next
-ReadsLine tells before now bytes l (Again next) = Paused tells before now l next ⊎ LineGoesOn tells before.left now.left l next
+ReadsLine tells task before now bytes l (Pending next) = Paused tells task before now l next
+ReadsLine tells task before now bytes l (Again next) = Interrupted tells before now l next ⊎ LineGoesOn tells before.left now.left l next

@@ -4,11 +4,11 @@ use Rattle.rent_buf.specs.declared.fault.IoFault.{IoFault}
 use Rattle.rent_buf.specs.declared.fault.IoFault.TheVariants.{UnexpectedEof}
 use Rattle.rent_io.specs.declared.poll.Step.{Step}
 use Rattle.rent_io.specs.declared.poll.Step.TheVariants.{Ready, Pending, Again}
-use Rattle.rent_io.specs.Counts.{Rose}
-use Rattle.rent_io.specs.Reader.{Reader, WasFront}
+use Rattle.rent_io.specs.Polls.{Fails}
+use Rattle.rent_io.specs.Reader.{AtEnd, Reader, WasFront}
 use Rattle.rent_buf.specs.Buffer.{whole_of}
 use Rattle.rent_buf.specs.declared.kind.Kind.TheVariants.{Vector}
-use Rattle.rent_io.specs.ReadExact.{Filling, Paused}
+use Rattle.rent_io.specs.ReadExact.{Filling, Paused, Interrupted}
 
 -- Such a read is the order of the bytes, those that it has, and how many there will be.
 pub record Numbering : Type 0 where
@@ -36,15 +36,14 @@ abbrev pub IsNumberEnd : {N : Type 0} → Bool → Reader → Reader → (Bool �
 IsNumberEnd tells before now value r (Ok n) = IsNumber tells before.left now.left r value n
 IsNumberEnd tells before now value r (Err fault) =
     (IsTrue tells → before.left ≡ now.left) ×
-    (Rose before.counts.faults now.counts.faults
-    ⊎ ((fault ≡ UnexpectedEof) × (length r.bytes < r.size) × (IsTrue tells → before.left ≡ [])))
+    (Fails before.counts now.counts fault ⊎ ((fault ≡ UnexpectedEof) × (length r.bytes < r.size) × AtEnd tells before now))
 
 -- A poll of it.
-abbrev pub ReadsNumber : {N : Type 0} → Bool → Reader → Reader → (Bool → List ℕ → N) → Numbering → Step Numbering (Result N IoFault)
+abbrev pub ReadsNumber : {N : Type 0} → Bool → ℕ → Reader → Reader → (Bool → List ℕ → N) → Numbering → Step Numbering (Result N IoFault)
     → Type 0
-ReadsNumber tells before now value r (Ready end) = IsNumberEnd tells before now value r end
-ReadsNumber tells before now value r (Pending next) = Paused tells before now r next
-ReadsNumber tells before now value r (Again next) = Paused tells before now r next ⊎ HasMore tells before.left now.left r next
+ReadsNumber tells task before now value r (Ready end) = IsNumberEnd tells before now value r end
+ReadsNumber tells task before now value r (Pending next) = Paused tells task before now r next
+ReadsNumber tells task before now value r (Again next) = Interrupted tells before now r next ⊎ HasMore tells before.left now.left r next
 
 -- A read that starts.
 abbrev pub number_of : Bool → ℕ → Numbering

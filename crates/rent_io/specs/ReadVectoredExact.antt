@@ -6,9 +6,9 @@ use Rattle.rent_buf.specs.declared.fault.IoFault.{IoFault}
 use Rattle.rent_buf.specs.declared.fault.IoFault.TheVariants.{UnexpectedEof}
 use Rattle.rent_io.specs.declared.poll.Step.{Step}
 use Rattle.rent_io.specs.declared.poll.Step.TheVariants.{Ready, Pending, Again}
-use Rattle.rent_io.specs.Counts.{Rose}
-use Rattle.rent_io.specs.Reader.{Reader, WasFront}
-use Rattle.rent_io.specs.ReadExact.{Paused}
+use Rattle.rent_io.specs.Polls.{Fails}
+use Rattle.rent_io.specs.Reader.{AtEnd, Reader, WasFront}
+use Rattle.rent_io.specs.ReadExact.{Paused, Interrupted}
 
 -- Such a read is its parts, the number of one before which all are full, how many bytes of that one are filled, and the rooms' sum.
 pub record Scattering : Type 0 where
@@ -68,14 +68,14 @@ pub record IsScattered (tells : Bool) (left rest : List ℕ) (s : Scattering) (b
   pub front : WasFront tells left got rest
 
 -- A read gave no byte though a part has room: it stored nothing, behind the bytes that it had read.
-pub record ScatterEndsEarly (tells : Bool) (left : List ℕ) (s : Scattering) (back : Parts) (fault : IoFault) : Type 0 where
+pub record ScatterEndsEarly (tells : Bool) (before now : Reader) (s : Scattering) (back : Parts) (fault : IoFault) : Type 0 where
   pub into : ℕ
   pub at : ℕ
   pub is_eof : fault ≡ UnexpectedEof
   pub more : at < (part_at s.parts into).total
   pub lacks : length (has_read s) < rooms_of s.parts
   pub same_read : read_of s.parts into at ≡ has_read s
-  pub none_left : IsTrue tells → left ≡ []
+  pub at_end : AtEnd tells before now
   pub nothing : back ≡ part_put s.parts into at []
 
 -- How it ends: full, or at a fault, at which this poll read nothing.
@@ -83,11 +83,12 @@ abbrev pub IsScatterEnd : Bool → Reader → Reader → Scattering → Parts �
 IsScatterEnd tells before now s back (Ok n) = IsScattered tells before.left now.left s back n
 IsScatterEnd tells before now s back (Err fault) =
     (IsTrue tells → before.left ≡ now.left)
-    × ((back ≡ s.parts) × Rose before.counts.faults now.counts.faults ⊎ ScatterEndsEarly tells before.left s back fault)
+    × ((back ≡ s.parts) × Fails before.counts now.counts fault ⊎ ScatterEndsEarly tells before now s back fault)
 
 -- A poll of it.
-abbrev pub ReadsScattered : {T : Type 0} → Bool → Reader → Reader → (T → Parts) → Scattering → Step Scattering (Result ℕ IoFault × T)
+abbrev pub ReadsScattered : {T : Type 0} → Bool → ℕ → Reader → Reader → (T → Parts) → Scattering → Step Scattering (Result ℕ IoFault × T)
     → Type 0
-ReadsScattered tells before now held s (Ready end) = IsScatterEnd tells before now s (held end.1) end.0
-ReadsScattered tells before now held s (Pending next) = Paused tells before now s next
-ReadsScattered tells before now held s (Again next) = Paused tells before now s next ⊎ ScatterGoesOn tells before.left now.left s next
+ReadsScattered tells task before now held s (Ready end) = IsScatterEnd tells before now s (held end.1) end.0
+ReadsScattered tells task before now held s (Pending next) = Paused tells task before now s next
+ReadsScattered tells task before now held s (Again next) = Interrupted tells before now s next
+    ⊎ ScatterGoesOn tells before.left now.left s next

@@ -1,10 +1,12 @@
 -- A stream that is read, and what a poll of a read does. Each clause on readers cites it.
-use Rattle.std.specs.Prelude.{ℕ, ◌≡◌, ◌≤◌, ◌⊎◌, nat_eq, if◌then◌else◌, Bool, IsTrue, List, [], ◌∷◌, ◌++◌, length, Ok, Err}
+use Rattle.std.specs.Prelude.{ℕ, ◌≡◌, ◌≤◌, ◌⊎◌, nat_eq, min, if◌then◌else◌, Bool, IsTrue, List, [], ◌∷◌, ◌++◌, length, Some, Ok}
+use Rattle.std.specs.Prelude.{Err}
 use Rattle.rent_buf.specs.Buffer.{Buffer, room, stored}
 use Rattle.rent_buf.specs.Parts.{Parts, parts_stored}
+use Rattle.rent_buf.specs.declared.fault.IoFault.TheVariants.{ReadFault}
 use Rattle.rent_io.specs.declared.poll.PollBuf.{PollBuf}
 use Rattle.rent_io.specs.declared.poll.PollBuf.TheVariants.{Ready, Pending, Again}
-use Rattle.rent_io.specs.Counts.{Counts}
+use Rattle.rent_io.specs.Counts.{Counts, Rose, slice_counts}
 
 -- A reader is the bytes still to come, and its counts.
 pub record Reader : Type 0 where
@@ -58,6 +60,24 @@ ReadsParts tells left rest held buf (Ready (Err fault) back) = (back ≡ buf) ×
 ReadsParts tells left rest held buf (Pending back) = (back ≡ buf) × (IsTrue tells → left ≡ rest)
 ReadsParts tells left rest held buf (Again back) = (back ≡ buf) × (IsTrue tells → left ≡ rest)
 
--- A source as a reader: it never pauses, and counts no calls.
+-- A poll of a read gave the lesser of what there is and what there is room for.
+abbrev pub GivesUpTo : {T : Type 0} → ℕ → ℕ → PollBuf T → Type 0
+GivesUpTo there space (Ready (Ok n) back) = n ≡ min there space
+GivesUpTo there space (Ready (Err fault) back) = ⊥
+GivesUpTo there space (Pending back) = ⊥
+GivesUpTo there space (Again back) = ⊥
+
+-- A fact of a poll of a read that gave so many bytes.
+abbrev pub IfGiven : {T : Type 0} → PollBuf T → (ℕ → Type 0) → Type 0
+IfGiven (Ready (Ok n) back) P = P n
+IfGiven (Ready (Err fault) back) P = Unit {0}
+IfGiven (Pending back) P = Unit {0}
+IfGiven (Again back) P = Unit {0}
+
+-- A source as a reader: it never pauses, its faults are `ReadFault`, and it counts no calls, nor those that gave nothing.
 abbrev pub source_reader : List ℕ → ℕ → Reader
-source_reader left faults = record { left = left; counts = record { faults = faults; pauses = 0; calls = 0 } }
+source_reader left faults = record { left = left; counts = record slice_counts { faults = faults; fault = Some ReadFault } }
+
+-- A read gave none of some room: nothing was left, where the reader tells that, and it is counted.
+abbrev pub AtEnd : Bool → Reader → Reader → Type 0
+AtEnd tells before now = (IsTrue tells → before.left ≡ []) × Rose before.counts.zeros now.counts.zeros

@@ -1,6 +1,6 @@
 -- What a state has done after many polls: one law for every schedule of pauses, short calls, interrupts and faults. The clause `run` of
 -- each `drive` cites it.
-use Rattle.std.specs.Prelude.{ℕ, ◌≡◌, ◌+◌, ◌-◌, ◌^◌, ◌<◌, ◌≤◌, ◌⊎◌, min, Bool, IsTrue, List, [], ◌++◌, length, Result, Ok, Err}
+use Rattle.std.specs.Prelude.{ℕ, ◌≡◌, ◌+◌, ◌-◌, ◌^◌, ◌<◌, ◌≤◌, ◌⊎◌, min, Bool, IsTrue, List, [], ◌++◌, length, Option, Result, Ok, Err}
 use Rattle.rent_buf.specs.Buffer.{Buffer, put}
 use Rattle.rent_buf.specs.Parts.{Parts}
 use Rattle.rent_buf.specs.declared.fault.IoFault.{IoFault}
@@ -8,23 +8,29 @@ use Rattle.rent_buf.specs.declared.fault.IoFault.TheVariants.{UnexpectedEof, Wri
 use Rattle.rent_io.specs.declared.poll.Step.{Step}
 use Rattle.rent_io.specs.declared.poll.Step.TheVariants.{Ready, Pending, Again}
 use Rattle.rent_io.specs.Counts.{Counts, Rose}
+use Rattle.rent_io.specs.Polls.{Fails}
 use Rattle.rent_io.specs.Reader.{Reader, WasFront}
 use Rattle.rent_io.specs.Writer.{Writer}
 use Rattle.rent_io.specs.ReadExact.{Filling, lacks, with_more, filled_with, IsFilled}
 use Rattle.rent_io.specs.WriteAll.{Sending}
 
--- What so many calls at most make of the counts: no fault and no pause is forgotten, and each call counts once.
-pub record AfterCalls (most : ℕ) (before now : Counts) : Type 0 where
+-- What so many calls at most, plain or under this cancel group, make of the counts: none falls, and each call counts once.
+pub record AfterCalls (group : Option ℕ) (most : ℕ) (before now : Counts) : Type 0 where
   pub faults_stay : before.faults ≤ now.faults
   pub pauses_stay : before.pauses ≤ now.pauses
+  pub interrupts_stay : before.interrupts ≤ now.interrupts
+  pub zeros_stay : before.zeros ≤ now.zeros
   pub most_calls : now.calls ≤ before.calls + most
+  pub under : (now.group ≡ before.group) ⊎ (now.group ≡ group)
 
--- So many polls, none of which was the end: each made a measure grow, from one number to another, or the pauses rise, as far as a `u64`
--- counts.
+-- So many polls, none of which was the end: each made a measure grow, from one number to another, or the pauses or the interrupts rise, as
+-- far as a `u64` counts.
 pub record AreUsed (polls from upto : ℕ) (before now : Counts) : Type 0 where
   pub paused : ℕ
-  pub each : polls + from ≤ upto + paused
+  pub interrupted : ℕ
+  pub each : polls + from ≤ upto + paused + interrupted
   pub pauses : min (before.pauses + paused) (2 ^ 64 - 1) ≤ now.pauses
+  pub interrupts : min (before.interrupts + interrupted) (2 ^ 64 - 1) ≤ now.interrupts
 
 -- A fact of a state that isn't done.
 abbrev pub IfGoesOn : {S R : Type 0} → Step S R → (S → Type 0) → Type 0
@@ -43,9 +49,9 @@ pub record HasFilled (tells : Bool) (left rest : List ℕ) (f next : Filling) : 
 pub record StopsFilling (tells : Bool) (before now : Reader) (f : Filling) (back : Buffer) (fault : IoFault) : Type 0 where
   pub got : List ℕ
   pub front : WasFront tells before.left got now.left
-  pub cause : (back ≡ with_more f got) × Rose before.counts.faults now.counts.faults
+  pub cause : (back ≡ with_more f got) × Fails before.counts now.counts fault
       ⊎ ((fault ≡ UnexpectedEof) × (length got < lacks f) × (IsTrue tells → now.left ≡ [])
-      × (back ≡ put f.buffer (f.buffer.begin + f.filled) got))
+      × Rose before.counts.zeros now.counts.zeros × (back ≡ put f.buffer (f.buffer.begin + f.filled) got))
 
 -- How polls of an exact read end: with the full range, or at a fault.
 abbrev pub ExactRunEnd : Bool → Reader → Reader → Filling → Buffer → Result ℕ IoFault → Type 0
@@ -74,7 +80,8 @@ pub record StopsSending {T : Type 0} (tells : Bool) (before now : Writer) (s : S
   pub unsent : List ℕ
   pub cut : s.rest ≡ sent ++ unsent
   pub joined : IsTrue tells → now.delivered ≡ before.delivered ++ sent
-  pub cause : Rose before.counts.faults now.counts.faults ⊎ ((fault ≡ WriteZero) × (0 < length unsent))
+  pub cause : Fails before.counts now.counts fault
+      ⊎ ((fault ≡ WriteZero) × (0 < length unsent) × Rose before.counts.zeros now.counts.zeros)
 
 -- How polls of a write of all bytes end: with all delivered, or at a fault.
 abbrev pub AllRunEnd : {T : Type 0} → Bool → Writer → Writer → Sending T → Result ℕ IoFault → Type 0

@@ -7,6 +7,7 @@ use Rattle.rent_buf.specs.declared.fault.IoFault.TheVariants.{UnexpectedEof}
 use Rattle.rent_io.specs.declared.poll.Step.{Step}
 use Rattle.rent_io.specs.declared.poll.Step.TheVariants.{Ready, Pending, Again}
 use Rattle.rent_io.specs.Counts.{Rose}
+use Rattle.rent_io.specs.Polls.{Fails}
 use Rattle.rent_io.specs.Reader.{Reader, WasFront}
 use Rattle.rent_io.specs.ReadVectoredExact.{Scattering, has_read, read_of, rooms, IsScattered}
 
@@ -27,8 +28,9 @@ pub record StopsScattering (tells : Bool) (before now : Reader) (s : Scattering)
   pub is_read : read_of back into at ≡ has_read s ++ got
   pub same_rooms : rooms back ≡ rooms s.parts
   pub front : WasFront tells before.left got now.left
-  pub cause : Rose before.counts.faults now.counts.faults
-      ⊎ ((fault ≡ UnexpectedEof) × (at < (part_at back into).total) × (IsTrue tells → now.left ≡ []))
+  pub cause : Fails before.counts now.counts fault
+      ⊎ ((fault ≡ UnexpectedEof) × (at < (part_at back into).total) × (IsTrue tells → now.left ≡ [])
+      × Rose before.counts.zeros now.counts.zeros)
 
 -- How its polls end: with all parts full, or at a fault.
 abbrev pub ScatterRunEnd : Bool → Reader → Reader → Scattering → Parts → Result ℕ IoFault → Type 0

@@ -6,6 +6,7 @@ use Rattle.rent_buf.specs.declared.fault.IoFault.TheVariants.{WriteZero}
 use Rattle.rent_io.specs.declared.poll.Step.{Step}
 use Rattle.rent_io.specs.declared.poll.Step.TheVariants.{Ready, Pending, Again}
 use Rattle.rent_io.specs.Counts.{Rose}
+use Rattle.rent_io.specs.Polls.{Fails, Pauses}
 use Rattle.rent_io.specs.Writer.{Writer}
 
 -- Such a write is its buffer, the bytes that are still to be written, and how many bytes the buffer has.
@@ -36,15 +37,21 @@ abbrev pub IsAllEnd : {T : Type 0} → Bool → Writer → Writer → Sending T 
 IsAllEnd tells before now s (Ok n) = (n ≡ s.total) × (IsTrue tells → now.delivered ≡ before.delivered ++ s.rest)
 IsAllEnd tells before now s (Err fault) =
     (IsTrue tells → now.delivered ≡ before.delivered)
-    × (Rose before.counts.faults now.counts.faults ⊎ ((fault ≡ WriteZero) × (0 < length s.rest)))
+    × (Fails before.counts now.counts fault
+    ⊎ ((fault ≡ WriteZero) × (0 < length s.rest) × Rose before.counts.zeros now.counts.zeros))
 
--- It is as it was, since the stream paused.
-abbrev pub WaitsAll : {T : Type 0} → Bool → Writer → Writer → Sending T → Sending T → Type 0
-WaitsAll tells before now s next = (next ≡ s) × (IsTrue tells → now.delivered ≡ before.delivered)
-    × Rose before.counts.pauses now.counts.pauses
+-- It is as it was, since the stream paused, and will wake this task.
+abbrev pub WaitsAll : {T : Type 0} → Bool → ℕ → Writer → Writer → Sending T → Sending T → Type 0
+WaitsAll tells task before now s next = (next ≡ s) × (IsTrue tells → now.delivered ≡ before.delivered)
+    × Pauses task before.counts now.counts
+
+-- It is as it was, since the stream was interrupted.
+abbrev pub BreaksAll : {T : Type 0} → Bool → Writer → Writer → Sending T → Sending T → Type 0
+BreaksAll tells before now s next = (next ≡ s) × (IsTrue tells → now.delivered ≡ before.delivered)
+    × Rose before.counts.interrupts now.counts.interrupts
 
 -- A poll of it.
-abbrev pub WritesAll : {T : Type 0} → Bool → Writer → Writer → Sending T → Step (Sending T) (Result ℕ IoFault × T) → Type 0
-WritesAll tells before now s (Ready end) = IsAllEnd tells before now s end.0 × (end.1 ≡ s.buf)
-WritesAll tells before now s (Pending next) = WaitsAll tells before now s next
-WritesAll tells before now s (Again next) = WaitsAll tells before now s next ⊎ SendsOn tells before.delivered now.delivered s next
+abbrev pub WritesAll : {T : Type 0} → Bool → ℕ → Writer → Writer → Sending T → Step (Sending T) (Result ℕ IoFault × T) → Type 0
+WritesAll tells task before now s (Ready end) = IsAllEnd tells before now s end.0 × (end.1 ≡ s.buf)
+WritesAll tells task before now s (Pending next) = WaitsAll tells task before now s next
+WritesAll tells task before now s (Again next) = BreaksAll tells before now s next ⊎ SendsOn tells before.delivered now.delivered s next

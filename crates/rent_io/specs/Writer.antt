@@ -1,10 +1,11 @@
 -- A stream that is written, and what a poll of a write does. Each clause on writers cites it.
-use Rattle.std.specs.Prelude.{ℕ, ◌≡◌, ◌≤◌, Bool, IsTrue, List, [], ◌∷◌, ◌++◌, length, take, Ok, Err}
+use Rattle.std.specs.Prelude.{ℕ, ◌≡◌, ◌≤◌, Bool, IsTrue, List, [], ◌∷◌, ◌++◌, length, take, Some, Ok, Err}
 use Rattle.rent_io.specs.declared.poll.PollBuf.{PollBuf}
 use Rattle.rent_io.specs.declared.poll.PollBuf.TheVariants.{Ready, Pending, Again}
 use Rattle.rent_io.specs.declared.poll.PollCount.{PollCount}
 use Rattle.rent_io.specs.declared.poll.PollCount.TheVariants.{Ready as CountReady, Pending as CountPending, Again as CountAgain}
-use Rattle.rent_io.specs.Counts.{Counts, Rose}
+use Rattle.rent_buf.specs.declared.fault.IoFault.TheVariants.{WriteFault}
+use Rattle.rent_io.specs.Counts.{Counts, Rose, no_counts}
 
 -- A writer is the bytes that were delivered, its counts, and how many flushes and shutdowns succeeded.
 pub record Writer : Type 0 where
@@ -38,15 +39,20 @@ first_part [] = []
 first_part ([] ∷ parts) = first_part parts
 first_part ((byte ∷ bytes) ∷ parts) = byte ∷ bytes
 
--- A sink as a writer, flushed and shut down so often: it never pauses, and counts no calls.
+-- A sink as a writer, flushed and shut down so often: it never pauses, its faults are `WriteFault`, each write takes a byte of some, and it
+-- counts no calls.
 pub record SinkWriting (K : Type 0) : Type 0 where
   pub sink : K
   pub flushes : ℕ
   pub shutdowns : ℕ
 
 abbrev pub sink_writer : {K : Type 0} → List ℕ → ℕ → SinkWriting K → Writer
-sink_writer taken faults s = record
-    { delivered = taken; counts = record { faults = faults; pauses = 0; calls = 0 }; flushes = s.flushes; shutdowns = s.shutdowns }
+sink_writer taken faults s = record {
+  delivered = taken;
+  counts = record no_counts { faults = faults; fault = Some WriteFault };
+  flushes = s.flushes;
+  shutdowns = s.shutdowns;
+}
 
 -- A fact of a poll that is done.
 abbrev pub IfDone : PollCount → Type 0 → Type 0

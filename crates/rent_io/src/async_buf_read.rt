@@ -1,8 +1,8 @@
 // Streams that are read through a buffer of their own.
-ghost use Rattle.std.specs.Prelude.{◌≡◌, ◌++◌, List, ℕ, IsTrue, take, drop};
+ghost use Rattle.std.specs.Prelude.{◌≡◌, ◌++◌, List, ℕ, IsTrue, take, drop, None};
 ghost use Rattle.rent_io.specs.BufReader.{Fills, IsFront};
 ghost use Rattle.rent_io.specs.Counts.{AfterCall};
-ghost use Rattle.rent_io.specs.Polls.{IsCountCaused};
+ghost use Rattle.rent_io.specs.Polls.{CountsEnd, IsCountCaused};
 
 use crate::async_read_rent::AsyncReadRent;
 use crate::poll::PollCount;
@@ -18,8 +18,9 @@ pub trait AsyncBufRead: AsyncReadRent {
     fn poll_fill(&mut self, task: u64) -> PollCount
         ensures left { IsTrue Self.tells → (Self.reader self.new).left ≡ (Self.reader self.old).left }
         ensures fills { Fills Self.tells (Self.reader self.new).left (buffered self.new) result }
-        ensures cause { IsCountCaused (Self.reader self.old).counts (Self.reader self.new).counts result }
-        ensures counts { AfterCall (Self.reader self.old).counts (Self.reader self.new).counts };
+        ensures none { CountsEnd (Self.reader self.old).counts (Self.reader self.new).counts result }
+        ensures cause { IsCountCaused task (Self.reader self.old).counts (Self.reader self.new).counts result }
+        ensures counts { AfterCall None (Self.reader self.old).counts (Self.reader self.new).counts };
 
     /// The bytes that are buffered (monoio: part of `fill_buf`).
     fn buffered(&self) -> &[u8]

@@ -3,6 +3,7 @@ ghost use Rattle.std.specs.Prelude.{◌≡◌, true, false, IfOk, IsOk};
 ghost use Rattle.rent_io.specs.ReadExact.{filling};
 ghost use Rattle.rent_io.specs.ReadNumber.{number_of};
 ghost use Rattle.rent_io.specs.ReadVectoredExact.{scattering};
+ghost use Rattle.rent_io.specs.Under.{under};
 
 use crate::async_rent_cancelable::CancelableAsyncReadRent;
 use crate::cancelable_read::{
@@ -16,7 +17,7 @@ use std::alloc::Global;
 pub trait CancelableAsyncReadRentExt: CancelableAsyncReadRent {
     /// A read that fills this buffer's range from its start, under the group of `c` (monoio: `cancelable_read_exact`).
     fn cancelable_read_exact<T: IoBufMut>(&self, buf: T, c: CancelHandle) -> CancelableReadExact<T>
-        ensures { result ≡ filling (T.buffer buf) (T.under buf) (T.beside buf) }
+        ensures { result ≡ under c (filling (T.buffer buf) (T.under buf) (T.beside buf)) }
     {
         CancelableReadExact::new(buf, c)
     }
@@ -29,7 +30,7 @@ pub trait CancelableAsyncReadRentExt: CancelableAsyncReadRent {
         c: CancelHandle,
     ) -> Result<CancelableReadVectoredExact<T>, (OutOfMemory, T)>
         ensures made { IsOk result }
-        ensures value { IfOk result (λ s. s ≡ scattering (T.held buf)) }
+        ensures value { IfOk result (λ s. s ≡ under c (scattering (T.held buf))) }
     {
         CancelableReadVectoredExact::new(buf, c)
     }
@@ -40,7 +41,7 @@ pub trait CancelableAsyncReadRentExt: CancelableAsyncReadRent {
         alloc: Global,
         c: CancelHandle,
     ) -> Result<CancelableReadNumber<u8>, OutOfMemory>
-        ensures { IfOk result (λ r. r ≡ number_of false 1) }
+        ensures { IfOk result (λ r. r ≡ under c (number_of false 1)) }
     {
         CancelableReadNumber::<u8>::new(alloc, false, c)
     }
@@ -51,7 +52,7 @@ pub trait CancelableAsyncReadRentExt: CancelableAsyncReadRent {
         alloc: Global,
         c: CancelHandle,
     ) -> Result<CancelableReadNumber<u8>, OutOfMemory>
-        ensures { IfOk result (λ r. r ≡ number_of true 1) }
+        ensures { IfOk result (λ r. r ≡ under c (number_of true 1)) }
     {
         CancelableReadNumber::<u8>::new(alloc, true, c)
     }
@@ -62,7 +63,7 @@ pub trait CancelableAsyncReadRentExt: CancelableAsyncReadRent {
         alloc: Global,
         c: CancelHandle,
     ) -> Result<CancelableReadNumber<u16>, OutOfMemory>
-        ensures { IfOk result (λ r. r ≡ number_of false 2) }
+        ensures { IfOk result (λ r. r ≡ under c (number_of false 2)) }
     {
         CancelableReadNumber::<u16>::new(alloc, false, c)
     }
@@ -73,7 +74,7 @@ pub trait CancelableAsyncReadRentExt: CancelableAsyncReadRent {
         alloc: Global,
         c: CancelHandle,
     ) -> Result<CancelableReadNumber<u16>, OutOfMemory>
-        ensures { IfOk result (λ r. r ≡ number_of true 2) }
+        ensures { IfOk result (λ r. r ≡ under c (number_of true 2)) }
     {
         CancelableReadNumber::<u16>::new(alloc, true, c)
     }
@@ -84,7 +85,7 @@ pub trait CancelableAsyncReadRentExt: CancelableAsyncReadRent {
         alloc: Global,
         c: CancelHandle,
     ) -> Result<CancelableReadNumber<u32>, OutOfMemory>
-        ensures { IfOk result (λ r. r ≡ number_of false 4) }
+        ensures { IfOk result (λ r. r ≡ under c (number_of false 4)) }
     {
         CancelableReadNumber::<u32>::new(alloc, false, c)
     }
@@ -95,7 +96,7 @@ pub trait CancelableAsyncReadRentExt: CancelableAsyncReadRent {
         alloc: Global,
         c: CancelHandle,
     ) -> Result<CancelableReadNumber<u32>, OutOfMemory>
-        ensures { IfOk result (λ r. r ≡ number_of true 4) }
+        ensures { IfOk result (λ r. r ≡ under c (number_of true 4)) }
     {
         CancelableReadNumber::<u32>::new(alloc, true, c)
     }
@@ -106,7 +107,7 @@ pub trait CancelableAsyncReadRentExt: CancelableAsyncReadRent {
         alloc: Global,
         c: CancelHandle,
     ) -> Result<CancelableReadNumber<u64>, OutOfMemory>
-        ensures { IfOk result (λ r. r ≡ number_of false 8) }
+        ensures { IfOk result (λ r. r ≡ under c (number_of false 8)) }
     {
         CancelableReadNumber::<u64>::new(alloc, false, c)
     }
@@ -117,7 +118,7 @@ pub trait CancelableAsyncReadRentExt: CancelableAsyncReadRent {
         alloc: Global,
         c: CancelHandle,
     ) -> Result<CancelableReadNumber<u64>, OutOfMemory>
-        ensures { IfOk result (λ r. r ≡ number_of true 8) }
+        ensures { IfOk result (λ r. r ≡ under c (number_of true 8)) }
     {
         CancelableReadNumber::<u64>::new(alloc, true, c)
     }
@@ -128,7 +129,7 @@ pub trait CancelableAsyncReadRentExt: CancelableAsyncReadRent {
         alloc: Global,
         c: CancelHandle,
     ) -> Result<CancelableReadNumber<u128>, OutOfMemory>
-        ensures { IfOk result (λ r. r ≡ number_of false 16) }
+        ensures { IfOk result (λ r. r ≡ under c (number_of false 16)) }
     {
         CancelableReadNumber::<u128>::new(alloc, false, c)
     }
@@ -139,7 +140,7 @@ pub trait CancelableAsyncReadRentExt: CancelableAsyncReadRent {
         alloc: Global,
         c: CancelHandle,
     ) -> Result<CancelableReadNumber<u128>, OutOfMemory>
-        ensures { IfOk result (λ r. r ≡ number_of true 16) }
+        ensures { IfOk result (λ r. r ≡ under c (number_of true 16)) }
     {
         CancelableReadNumber::<u128>::new(alloc, true, c)
     }
@@ -150,7 +151,7 @@ pub trait CancelableAsyncReadRentExt: CancelableAsyncReadRent {
         alloc: Global,
         c: CancelHandle,
     ) -> Result<CancelableReadNumber<i8>, OutOfMemory>
-        ensures { IfOk result (λ r. r ≡ number_of false 1) }
+        ensures { IfOk result (λ r. r ≡ under c (number_of false 1)) }
     {
         CancelableReadNumber::<i8>::new(alloc, false, c)
     }
@@ -161,7 +162,7 @@ pub trait CancelableAsyncReadRentExt: CancelableAsyncReadRent {
         alloc: Global,
         c: CancelHandle,
     ) -> Result<CancelableReadNumber<i8>, OutOfMemory>
-        ensures { IfOk result (λ r. r ≡ number_of true 1) }
+        ensures { IfOk result (λ r. r ≡ under c (number_of true 1)) }
     {
         CancelableReadNumber::<i8>::new(alloc, true, c)
     }
@@ -172,7 +173,7 @@ pub trait CancelableAsyncReadRentExt: CancelableAsyncReadRent {
         alloc: Global,
         c: CancelHandle,
     ) -> Result<CancelableReadNumber<i16>, OutOfMemory>
-        ensures { IfOk result (λ r. r ≡ number_of false 2) }
+        ensures { IfOk result (λ r. r ≡ under c (number_of false 2)) }
     {
         CancelableReadNumber::<i16>::new(alloc, false, c)
     }
@@ -183,7 +184,7 @@ pub trait CancelableAsyncReadRentExt: CancelableAsyncReadRent {
         alloc: Global,
         c: CancelHandle,
     ) -> Result<CancelableReadNumber<i16>, OutOfMemory>
-        ensures { IfOk result (λ r. r ≡ number_of true 2) }
+        ensures { IfOk result (λ r. r ≡ under c (number_of true 2)) }
     {
         CancelableReadNumber::<i16>::new(alloc, true, c)
     }
@@ -194,7 +195,7 @@ pub trait CancelableAsyncReadRentExt: CancelableAsyncReadRent {
         alloc: Global,
         c: CancelHandle,
     ) -> Result<CancelableReadNumber<i32>, OutOfMemory>
-        ensures { IfOk result (λ r. r ≡ number_of false 4) }
+        ensures { IfOk result (λ r. r ≡ under c (number_of false 4)) }
     {
         CancelableReadNumber::<i32>::new(alloc, false, c)
     }
@@ -205,7 +206,7 @@ pub trait CancelableAsyncReadRentExt: CancelableAsyncReadRent {
         alloc: Global,
         c: CancelHandle,
     ) -> Result<CancelableReadNumber<i32>, OutOfMemory>
-        ensures { IfOk result (λ r. r ≡ number_of true 4) }
+        ensures { IfOk result (λ r. r ≡ under c (number_of true 4)) }
     {
         CancelableReadNumber::<i32>::new(alloc, true, c)
     }
@@ -216,7 +217,7 @@ pub trait CancelableAsyncReadRentExt: CancelableAsyncReadRent {
         alloc: Global,
         c: CancelHandle,
     ) -> Result<CancelableReadNumber<i64>, OutOfMemory>
-        ensures { IfOk result (λ r. r ≡ number_of false 8) }
+        ensures { IfOk result (λ r. r ≡ under c (number_of false 8)) }
     {
         CancelableReadNumber::<i64>::new(alloc, false, c)
     }
@@ -227,7 +228,7 @@ pub trait CancelableAsyncReadRentExt: CancelableAsyncReadRent {
         alloc: Global,
         c: CancelHandle,
     ) -> Result<CancelableReadNumber<i64>, OutOfMemory>
-        ensures { IfOk result (λ r. r ≡ number_of true 8) }
+        ensures { IfOk result (λ r. r ≡ under c (number_of true 8)) }
     {
         CancelableReadNumber::<i64>::new(alloc, true, c)
     }
@@ -238,7 +239,7 @@ pub trait CancelableAsyncReadRentExt: CancelableAsyncReadRent {
         alloc: Global,
         c: CancelHandle,
     ) -> Result<CancelableReadNumber<i128>, OutOfMemory>
-        ensures { IfOk result (λ r. r ≡ number_of false 16) }
+        ensures { IfOk result (λ r. r ≡ under c (number_of false 16)) }
     {
         CancelableReadNumber::<i128>::new(alloc, false, c)
     }
@@ -249,7 +250,7 @@ pub trait CancelableAsyncReadRentExt: CancelableAsyncReadRent {
         alloc: Global,
         c: CancelHandle,
     ) -> Result<CancelableReadNumber<i128>, OutOfMemory>
-        ensures { IfOk result (λ r. r ≡ number_of true 16) }
+        ensures { IfOk result (λ r. r ≡ under c (number_of true 16)) }
     {
         CancelableReadNumber::<i128>::new(alloc, true, c)
     }

@@ -1,8 +1,9 @@
 // Streams that are read into a buffer which they are given for the time of a poll.
-ghost use Rattle.std.specs.Prelude.{Bool, true};
-ghost use Rattle.rent_io.specs.Counts.{AfterCall, no_counts};
-ghost use Rattle.rent_io.specs.Polls.{IsCaused};
-ghost use Rattle.rent_io.specs.Reader.{Reader, Reads, ReadsParts};
+ghost use Rattle.std.specs.Prelude.{Bool, true, None, length};
+ghost use Rattle.rent_buf.specs.Buffer.{room};
+ghost use Rattle.rent_io.specs.Counts.{AfterCall, slice_counts};
+ghost use Rattle.rent_io.specs.Polls.{IsCaused, CountsNone};
+ghost use Rattle.rent_io.specs.Reader.{Reader, Reads, ReadsParts, GivesUpTo, first_room as room_of};
 
 use crate::poll::PollBuf;
 use crate::vectored::first_room;
@@ -17,19 +18,22 @@ pub trait AsyncReadRent {
     ghost reader: { Self → Reader };
 
     /// Reads the next bytes into a buffer (monoio: `read`), at most as many as its range has room for, and answers
-    /// their number: 0 only where there is no room, or at the end of the stream. At `Pending`, `Again` and a fault
-    /// nothing was read.
+    /// their number: 0 only where there is no room, or at the end of the stream, which is counted. At `Pending`,
+    /// `Again` and a fault nothing was read. `Pending` comes only by a pause, and the stream remembers that it is to
+    /// wake this task; `Again` only by an interrupt; and a fault is the last one of the stream.
     fn poll_read<T: IoBufMut>(&mut self, buf: T, task: u64) -> PollBuf<T>
         ensures reads { Reads tells (reader self.old).left (reader self.new).left T.buffer T.under T.beside buf result }
-        ensures cause { IsCaused (reader self.old).counts (reader self.new).counts result }
-        ensures counts { AfterCall (reader self.old).counts (reader self.new).counts };
+        ensures none { CountsNone (room (T.buffer buf)) (reader self.old).counts (reader self.new).counts result }
+        ensures cause { IsCaused task (reader self.old).counts (reader self.new).counts result }
+        ensures counts { AfterCall None (reader self.old).counts (reader self.new).counts };
 
     /// Reads the next bytes into the first part that has room (monoio: `readv`), at most as many as it has room for,
     /// and answers their number: 0 only where no part has room, or at the end of the stream.
     fn poll_readv<T: IoVecBufMut>(&mut self, buf: T, task: u64) -> PollBuf<T>
         ensures reads { ReadsParts tells (reader self.old).left (reader self.new).left T.held buf result }
-        ensures cause { IsCaused (reader self.old).counts (reader self.new).counts result }
-        ensures counts { AfterCall (reader self.old).counts (reader self.new).counts };
+        ensures none { CountsNone (room_of (T.held buf)) (reader self.old).counts (reader self.new).counts result }
+        ensures cause { IsCaused task (reader self.old).counts (reader self.new).counts result }
+        ensures counts { AfterCall None (reader self.old).counts (reader self.new).counts };
 }
 
 impl<A: AsyncReadRent> AsyncReadRent for &mut A {
@@ -50,10 +54,16 @@ impl<A: AsyncReadRent> AsyncReadRent for &mut A {
 impl AsyncReadRent for &[u8] {
     ghost tells = { true };
 
-    ghost reader = { λ s. record { left = s.now; counts = no_counts } };
+    ghost reader = { λ s. record { left = s.now; counts = slice_counts } };
 
     #[tactic(auto, using(crate::proofs::Fronts::taken_front))]
-    fn poll_read<T: IoBufMut>(&mut self, buf: T, _task: u64) -> PollBuf<T> {
+    fn poll_read<T: IoBufMut>(&mut self, buf: T, _task: u64) -> PollBuf<T>
+        ensures reads { Reads true self.old.now self.new.now T.buffer T.under T.beside buf result }
+        ensures none { CountsNone (room (T.buffer buf)) slice_counts slice_counts result }
+        ensures cause { IsCaused _task slice_counts slice_counts result }
+        ensures counts { AfterCall None slice_counts slice_counts }
+        ensures lesser { GivesUpTo (length self.old.now) (room (T.buffer buf)) result }
+    {
         let mut buf = buf;
         let left = *self;
         let count = buf.bytes_total().min(left.len());
@@ -64,7 +74,13 @@ impl AsyncReadRent for &[u8] {
     }
 
     #[tactic(auto, using(crate::proofs::Fronts::scattered_front))]
-    fn poll_readv<T: IoVecBufMut>(&mut self, buf: T, _task: u64) -> PollBuf<T> {
+    fn poll_readv<T: IoVecBufMut>(&mut self, buf: T, _task: u64) -> PollBuf<T>
+        ensures reads { ReadsParts true self.old.now self.new.now T.held buf result }
+        ensures none { CountsNone (room_of (T.held buf)) slice_counts slice_counts result }
+        ensures cause { IsCaused _task slice_counts slice_counts result }
+        ensures counts { AfterCall None slice_counts slice_counts }
+        ensures lesser { GivesUpTo (length self.old.now) (room_of (T.held buf)) result }
+    {
         let mut buf = buf;
         let left = *self;
         let count = first_room(&buf).min(left.len());

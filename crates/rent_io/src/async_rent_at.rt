@@ -1,8 +1,8 @@
 // Files that are read and written at a position.
-ghost use Rattle.std.specs.Prelude.{◌≡◌, Bool, IsTrue};
+ghost use Rattle.std.specs.Prelude.{◌≡◌, Bool, IsTrue, None};
 ghost use Rattle.rent_io.specs.Counts.{AfterCall};
 ghost use Rattle.rent_io.specs.FileAt.{FileAt, ReadsAt, WritesAt};
-ghost use Rattle.rent_io.specs.Polls.{IsCaused};
+ghost use Rattle.rent_io.specs.Polls.{IsCaused, IsWriteCaused};
 
 use crate::poll::PollBuf;
 use rent_buf::{IoBuf, IoBufMut};
@@ -21,8 +21,8 @@ pub trait AsyncReadRentAt {
     fn poll_read_at<T: IoBufMut>(&mut self, buf: T, pos: u64, task: u64) -> PollBuf<T>
         ensures reads { ReadsAt tells (file self.old).bytes pos T.buffer T.under T.beside buf result }
         ensures same { IsTrue tells → (file self.new).bytes ≡ (file self.old).bytes }
-        ensures cause { IsCaused (file self.old).counts (file self.new).counts result }
-        ensures counts { AfterCall (file self.old).counts (file self.new).counts };
+        ensures cause { IsCaused task (file self.old).counts (file self.new).counts result }
+        ensures counts { AfterCall None (file self.old).counts (file self.new).counts };
 }
 
 impl<A: AsyncReadRentAt> AsyncReadRentAt for &mut A {
@@ -47,8 +47,8 @@ pub trait AsyncWriteRentAt {
     /// bytes that are missing before `pos` are 0 from then on. At `Pending`, `Again` and a fault nothing was written.
     fn poll_write_at<T: IoBuf>(&mut self, buf: T, pos: u64, task: u64) -> PollBuf<T>
         ensures writes { WritesAt tells (file self.old).bytes (file self.new).bytes pos (T.content buf) buf result }
-        ensures cause { IsCaused (file self.old).counts (file self.new).counts result }
-        ensures counts { AfterCall (file self.old).counts (file self.new).counts };
+        ensures cause { IsWriteCaused task (file self.old).counts (file self.new).counts result }
+        ensures counts { AfterCall None (file self.old).counts (file self.new).counts };
 }
 
 impl<A: AsyncWriteRentAt> AsyncWriteRentAt for &mut A {

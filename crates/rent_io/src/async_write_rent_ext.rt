@@ -1,5 +1,6 @@
 // The whole writes of a stream, as calls of the stream.
 ghost use Rattle.std.specs.Prelude.{◌≡◌, ◌^◌, ◌<◌, length, sum_by, IsOk, IfOk};
+ghost use Rattle.rent_io.specs.Under.{under};
 ghost use Rattle.rent_io.specs.WriteAll.{sending, sending_parts};
 
 use crate::async_rent_cancelable::CancelableAsyncWriteRent;
@@ -40,7 +41,7 @@ impl<A: AsyncWriteRent> AsyncWriteRentExt for A {}
 pub trait CancelableAsyncWriteRentExt: CancelableAsyncWriteRent {
     /// A write of this buffer's bytes, under the group of `c` (monoio: `write_all`).
     fn write_all<T: IoBuf>(&self, buf: T, c: CancelHandle) -> CancelableWriteAll<T>
-        ensures { result ≡ sending buf (T.content buf) }
+        ensures { result ≡ under c (sending buf (T.content buf)) }
     {
         CancelableWriteAll::new(buf, c)
     }
@@ -54,7 +55,7 @@ pub trait CancelableAsyncWriteRentExt: CancelableAsyncWriteRent {
     ) -> Result<CancelableWriteVectoredAll<T>, (OutOfMemory, T)>
         requires { sum_by length (T.parts buf) < 2 ^ 64 }
         ensures made { IsOk result }
-        ensures value { IfOk result (λ s. s ≡ sending_parts buf (T.parts buf)) }
+        ensures value { IfOk result (λ s. s ≡ under c (sending_parts buf (T.parts buf))) }
     {
         CancelableWriteVectoredAll::new(buf, c)
     }

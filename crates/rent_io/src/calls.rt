@@ -1,6 +1,8 @@
 // The one call that a state makes of its stream: the plain one, or the one under a cancel group.
+ghost use Rattle.std.specs.Prelude.{ℕ, Option, None, Some, length};
+ghost use Rattle.rent_buf.specs.Buffer.{room};
 ghost use Rattle.rent_io.specs.Counts.{AfterCall};
-ghost use Rattle.rent_io.specs.Polls.{IsCaused};
+ghost use Rattle.rent_io.specs.Polls.{CountsNone, IsCaused, IsWriteCaused};
 ghost use Rattle.rent_io.specs.Reader.{Reads};
 ghost use Rattle.rent_io.specs.Writer.{EndsStay, Writes};
 
@@ -16,20 +18,28 @@ pub(crate) struct Plain;
 
 /// A read of a stream.
 pub(crate) trait ReadCall<A: AsyncReadRent> {
+    /// The cancel group that it is put under, if any.
+    ghost group: { Self → Option ℕ };
+
     /// As `poll_read`.
     fn read<T: IoBufMut>(&self, io: &mut A, buf: T, task: u64) -> PollBuf<T>
         ensures reads { Reads A.tells (A.reader io.old).left (A.reader io.new).left T.buffer T.under T.beside buf result }
-        ensures cause { IsCaused (A.reader io.old).counts (A.reader io.new).counts result }
-        ensures counts { AfterCall (A.reader io.old).counts (A.reader io.new).counts };
+        ensures none { CountsNone (room (T.buffer buf)) (A.reader io.old).counts (A.reader io.new).counts result }
+        ensures cause { IsCaused task (A.reader io.old).counts (A.reader io.new).counts result }
+        ensures counts { AfterCall (group self.now) (A.reader io.old).counts (A.reader io.new).counts };
 }
 
 impl<A: AsyncReadRent> ReadCall<A> for Plain {
+    ghost group = { λ call. None };
+
     fn read<T: IoBufMut>(&self, io: &mut A, buf: T, task: u64) -> PollBuf<T> {
         io.poll_read(buf, task)
     }
 }
 
 impl<A: CancelableAsyncReadRent> ReadCall<A> for CancelHandle {
+    ghost group = { λ c. Some c };
+
     fn read<T: IoBufMut>(&self, io: &mut A, buf: T, task: u64) -> PollBuf<T> {
         io.poll_cancelable_read(buf, *self, task)
     }
@@ -37,21 +47,29 @@ impl<A: CancelableAsyncReadRent> ReadCall<A> for CancelHandle {
 
 /// A write to a stream.
 pub(crate) trait WriteCall<A: AsyncWriteRent> {
+    /// The cancel group that it is put under, if any.
+    ghost group: { Self → Option ℕ };
+
     /// As `poll_write`.
     fn write<T: IoBuf>(&self, io: &mut A, buf: T, task: u64) -> PollBuf<T>
         ensures writes { Writes A.tells (A.writer io.old).delivered (A.writer io.new).delivered (T.content buf) buf result }
+        ensures none { CountsNone (length (T.content buf)) (A.writer io.old).counts (A.writer io.new).counts result }
         ensures ends { EndsStay (A.writer io.old) (A.writer io.new) }
-        ensures cause { IsCaused (A.writer io.old).counts (A.writer io.new).counts result }
-        ensures counts { AfterCall (A.writer io.old).counts (A.writer io.new).counts };
+        ensures cause { IsWriteCaused task (A.writer io.old).counts (A.writer io.new).counts result }
+        ensures counts { AfterCall (group self.now) (A.writer io.old).counts (A.writer io.new).counts };
 }
 
 impl<A: AsyncWriteRent> WriteCall<A> for Plain {
+    ghost group = { λ call. None };
+
     fn write<T: IoBuf>(&self, io: &mut A, buf: T, task: u64) -> PollBuf<T> {
         io.poll_write(buf, task)
     }
 }
 
 impl<A: CancelableAsyncWriteRent> WriteCall<A> for CancelHandle {
+    ghost group = { λ c. Some c };
+
     fn write<T: IoBuf>(&self, io: &mut A, buf: T, task: u64) -> PollBuf<T> {
         io.poll_cancelable_write(buf, *self, task)
     }

@@ -1,10 +1,14 @@
 // Reads whose calls are put under a cancel group.
-ghost use Rattle.std.specs.Prelude.{◌≡◌, ◌-◌, ◌<◌, length, IfOk, IsOk};
+ghost use Rattle.std.specs.Prelude.{◌≡◌, ◌-◌, ◌<◌, length, IfOk, IsOk, Some};
 ghost use Rattle.rent_io.specs.Completeness.{Completes, IsShort};
 ghost use Rattle.rent_io.specs.Counts.{AfterCall};
 ghost use Rattle.rent_io.specs.ReadExact.{ReadsExact, filling, lacks};
 ghost use Rattle.rent_io.specs.ReadNumber.{number_of, ReadsNumber};
 ghost use Rattle.rent_io.specs.ReadVectoredExact.{ReadsScattered, has_read, scattering, wanted};
+ghost use Rattle.rent_io.specs.LineRuns.{RunsNumber};
+ghost use Rattle.rent_io.specs.Runs.{AfterCalls, AreUsed, IfGoesOn, RunsExact};
+ghost use Rattle.rent_io.specs.ScatterRuns.{RunsScattered};
+ghost use Rattle.rent_io.specs.Under.{KeepsGroup, plainly, under};
 
 use crate::async_rent_cancelable::CancelableAsyncReadRent;
 use crate::number::Number;
@@ -18,7 +22,7 @@ use std::alloc::Global;
 use std::marker::Model;
 
 /// A `ReadExact` whose reads are put under a cancel group (monoio: the future of `cancelable_read_exact`). A clause
-/// sees the `ReadExact`.
+/// sees the `ReadExact`, and the group.
 #[derive(Drop)]
 #[must_use]
 pub struct CancelableReadExact<T: IoBufMut> {
@@ -28,16 +32,17 @@ pub struct CancelableReadExact<T: IoBufMut> {
 
 impl<T: IoBufMut> Model for CancelableReadExact<T> {
     ghost use Rattle.rent_io.specs.ReadExact.{Filling};
+    ghost use Rattle.rent_io.specs.Under.{Under};
 
-    ghost Value = { Filling };
+    ghost Value = { Under Filling };
 
-    ghost view = { λ s. s.state };
+    ghost view = { λ s. record { state = s.state; group = s.handle } };
 }
 
 impl<T: IoBufMut> CancelableReadExact<T> {
     /// A read that fills this buffer's range from its start, under the group of `c`.
     pub fn new(buf: T, c: CancelHandle) -> CancelableReadExact<T>
-        ensures { result ≡ filling (T.buffer buf) (T.under buf) (T.beside buf) }
+        ensures { result ≡ under c (filling (T.buffer buf) (T.under buf) (T.beside buf)) }
     {
         CancelableReadExact {
             state: ReadExact::new(buf),
@@ -52,13 +57,35 @@ impl<T: IoBufMut> CancelableReadExact<T> {
         io: &mut A,
         task: u64,
     ) -> Step<CancelableReadExact<T>, BufResult<usize, T>>
-        ensures answer { ReadsExact A.tells (A.reader io.old) (A.reader io.new) T.buffer T.under T.beside self result }
-        ensures counts { AfterCall (A.reader io.old).counts (A.reader io.new).counts }
-        ensures complete { Completes (A.reader io.old).counts (A.reader io.new).counts result (λ end. end.0)
-            (IsShort A.tells (A.reader io.old).left (lacks self)) (λ next. self.filled < next.filled) }
+        ensures answer { ReadsExact A.tells task (A.reader io.old) (A.reader io.new) T.buffer T.under T.beside self.state (plainly result) }
+        ensures group { KeepsGroup self.group result }
+        ensures counts { AfterCall (Some self.group) (A.reader io.old).counts (A.reader io.new).counts }
+        ensures complete { Completes (A.reader io.old).counts (A.reader io.new).counts (plainly result) (λ end. end.0)
+            (IsShort A.tells (A.reader io.old) (A.reader io.new) (lacks self.state)) (λ next. self.state.filled < next.filled) }
     {
         let CancelableReadExact { state, handle } = self;
         match state.poll_by(io, &handle, task) {
+            Step::Ready(end) => Step::Ready(end),
+            Step::Pending(state) => Step::Pending(CancelableReadExact { state, handle }),
+            Step::Again(state) => Step::Again(CancelableReadExact { state, handle }),
+        }
+    }
+
+    /// As `ReadExact::drive`, by cancelable reads (not in monoio).
+    pub fn drive<A: CancelableAsyncReadRent>(
+        self,
+        io: &mut A,
+        task: u64,
+        polls: u64,
+    ) -> Step<CancelableReadExact<T>, BufResult<usize, T>>
+        ensures run { RunsExact A.tells (A.reader io.old) (A.reader io.new) T.buffer T.under T.beside self.state (plainly result) }
+        ensures group { KeepsGroup self.group result }
+        ensures used { IfGoesOn (plainly result) (λ next. AreUsed polls self.state.filled next.filled
+            (A.reader io.old).counts (A.reader io.new).counts) }
+        ensures counts { AfterCalls (Some self.group) polls (A.reader io.old).counts (A.reader io.new).counts }
+    {
+        let CancelableReadExact { state, handle } = self;
+        match state.drive_by(io, &handle, task, polls) {
             Step::Ready(end) => Step::Ready(end),
             Step::Pending(state) => Step::Pending(CancelableReadExact { state, handle }),
             Step::Again(state) => Step::Again(CancelableReadExact { state, handle }),
@@ -77,10 +104,11 @@ pub struct CancelableReadVectoredExact<T: IoVecBufMut> {
 
 impl<T: IoVecBufMut> Model for CancelableReadVectoredExact<T> {
     ghost use Rattle.rent_io.specs.ReadVectoredExact.{Scattering};
+    ghost use Rattle.rent_io.specs.Under.{Under};
 
-    ghost Value = { Scattering };
+    ghost Value = { Under Scattering };
 
-    ghost view = { λ s. s.state };
+    ghost view = { λ s. record { state = s.state; group = s.handle } };
 }
 
 impl<T: IoVecBufMut> CancelableReadVectoredExact<T> {
@@ -88,7 +116,7 @@ impl<T: IoVecBufMut> CancelableReadVectoredExact<T> {
     /// always `Ok`.
     pub fn new(buf: T, c: CancelHandle) -> Result<CancelableReadVectoredExact<T>, (OutOfMemory, T)>
         ensures made { IsOk result }
-        ensures value { IfOk result (λ s. s ≡ scattering (T.held buf)) }
+        ensures value { IfOk result (λ s. s ≡ under c (scattering (T.held buf))) }
     {
         let state = ReadVectoredExact::new(buf)?;
         Ok(CancelableReadVectoredExact { state, handle: c })
@@ -101,10 +129,12 @@ impl<T: IoVecBufMut> CancelableReadVectoredExact<T> {
         io: &mut A,
         task: u64,
     ) -> Step<CancelableReadVectoredExact<T>, BufResult<usize, T>>
-        ensures answer { ReadsScattered A.tells (A.reader io.old) (A.reader io.new) T.held self result }
-        ensures counts { AfterCall (A.reader io.old).counts (A.reader io.new).counts }
-        ensures complete { Completes (A.reader io.old).counts (A.reader io.new).counts result (λ end. end.0)
-            (IsShort A.tells (A.reader io.old).left (wanted self)) (λ next. length (has_read self) < length (has_read next)) }
+        ensures answer { ReadsScattered A.tells task (A.reader io.old) (A.reader io.new) T.held self.state (plainly result) }
+        ensures group { KeepsGroup self.group result }
+        ensures counts { AfterCall (Some self.group) (A.reader io.old).counts (A.reader io.new).counts }
+        ensures complete { Completes (A.reader io.old).counts (A.reader io.new).counts (plainly result) (λ end. end.0)
+            (IsShort A.tells (A.reader io.old) (A.reader io.new) (wanted self.state))
+            (λ next. length (has_read self.state) < length (has_read next)) }
     {
         let CancelableReadVectoredExact { state, handle } = self;
         match state.poll_by(io, &handle, task) {
@@ -113,10 +143,31 @@ impl<T: IoVecBufMut> CancelableReadVectoredExact<T> {
             Step::Again(state) => Step::Again(CancelableReadVectoredExact { state, handle }),
         }
     }
+
+    /// As `ReadVectoredExact::drive`, by cancelable reads (not in monoio).
+    pub fn drive<A: CancelableAsyncReadRent>(
+        self,
+        io: &mut A,
+        task: u64,
+        polls: u64,
+    ) -> Step<CancelableReadVectoredExact<T>, BufResult<usize, T>>
+        ensures run { RunsScattered A.tells (A.reader io.old) (A.reader io.new) T.held self.state (plainly result) }
+        ensures group { KeepsGroup self.group result }
+        ensures used { IfGoesOn (plainly result) (λ next. AreUsed polls (length (has_read self.state)) (length (has_read next))
+            (A.reader io.old).counts (A.reader io.new).counts) }
+        ensures counts { AfterCalls (Some self.group) polls (A.reader io.old).counts (A.reader io.new).counts }
+    {
+        let CancelableReadVectoredExact { state, handle } = self;
+        match state.drive_by(io, &handle, task, polls) {
+            Step::Ready(end) => Step::Ready(end),
+            Step::Pending(state) => Step::Pending(CancelableReadVectoredExact { state, handle }),
+            Step::Again(state) => Step::Again(CancelableReadVectoredExact { state, handle }),
+        }
+    }
 }
 
 /// A `ReadNumber` whose reads are put under a cancel group (monoio: the future of `cancelable_read_u16` and its like).
-/// A clause sees the `ReadNumber`.
+/// A clause sees the `ReadNumber`, and the group.
 #[derive(Drop)]
 #[must_use]
 pub struct CancelableReadNumber<N: Number> {
@@ -126,10 +177,11 @@ pub struct CancelableReadNumber<N: Number> {
 
 impl<N: Number> Model for CancelableReadNumber<N> {
     ghost use Rattle.rent_io.specs.ReadNumber.{Numbering};
+    ghost use Rattle.rent_io.specs.Under.{Under};
 
-    ghost Value = { Numbering };
+    ghost Value = { Under Numbering };
 
-    ghost view = { λ s. s.state };
+    ghost view = { λ s. record { state = s.state; group = s.handle } };
 }
 
 impl<N: Number> CancelableReadNumber<N> {
@@ -139,7 +191,7 @@ impl<N: Number> CancelableReadNumber<N> {
         little: bool,
         c: CancelHandle,
     ) -> Result<CancelableReadNumber<N>, OutOfMemory>
-        ensures { IfOk result (λ r. r ≡ number_of little N.SIZE) }
+        ensures { IfOk result (λ r. r ≡ under c (number_of little N.SIZE)) }
     {
         Ok(CancelableReadNumber {
             state: ReadNumber::new(alloc, little)?,
@@ -154,13 +206,36 @@ impl<N: Number> CancelableReadNumber<N> {
         io: &mut A,
         task: u64,
     ) -> Step<CancelableReadNumber<N>, Result<N, IoFault>>
-        ensures answer { ReadsNumber A.tells (A.reader io.old) (A.reader io.new) N.value self result }
-        ensures counts { AfterCall (A.reader io.old).counts (A.reader io.new).counts }
-        ensures complete { Completes (A.reader io.old).counts (A.reader io.new).counts result (λ end. end)
-            (IsShort A.tells (A.reader io.old).left (self.size - length self.bytes)) (λ next. length self.bytes < length next.bytes) }
+        ensures answer { ReadsNumber A.tells task (A.reader io.old) (A.reader io.new) N.value self.state (plainly result) }
+        ensures group { KeepsGroup self.group result }
+        ensures counts { AfterCall (Some self.group) (A.reader io.old).counts (A.reader io.new).counts }
+        ensures complete { Completes (A.reader io.old).counts (A.reader io.new).counts (plainly result) (λ end. end)
+            (IsShort A.tells (A.reader io.old) (A.reader io.new) (self.state.size - length self.state.bytes))
+            (λ next. length self.state.bytes < length next.bytes) }
     {
         let CancelableReadNumber { state, handle } = self;
         match state.poll_by(io, &handle, task) {
+            Step::Ready(end) => Step::Ready(end),
+            Step::Pending(state) => Step::Pending(CancelableReadNumber { state, handle }),
+            Step::Again(state) => Step::Again(CancelableReadNumber { state, handle }),
+        }
+    }
+
+    /// As `ReadNumber::drive`, by cancelable reads (not in monoio).
+    pub fn drive<A: CancelableAsyncReadRent>(
+        self,
+        io: &mut A,
+        task: u64,
+        polls: u64,
+    ) -> Step<CancelableReadNumber<N>, Result<N, IoFault>>
+        ensures run { RunsNumber A.tells (A.reader io.old) (A.reader io.new) N.value self.state (plainly result) }
+        ensures group { KeepsGroup self.group result }
+        ensures used { IfGoesOn (plainly result) (λ next. AreUsed polls (length self.state.bytes) (length next.bytes)
+            (A.reader io.old).counts (A.reader io.new).counts) }
+        ensures counts { AfterCalls (Some self.group) polls (A.reader io.old).counts (A.reader io.new).counts }
+    {
+        let CancelableReadNumber { state, handle } = self;
+        match state.drive_by(io, &handle, task, polls) {
             Step::Ready(end) => Step::Ready(end),
             Step::Pending(state) => Step::Pending(CancelableReadNumber { state, handle }),
             Step::Again(state) => Step::Again(CancelableReadNumber { state, handle }),

@@ -1,7 +1,10 @@
 // Writes whose calls are put under a cancel group.
-ghost use Rattle.std.specs.Prelude.{◌≡◌, ◌^◌, ◌<◌, length, sum_by, IsOk, IfOk};
-ghost use Rattle.rent_io.specs.Completeness.{Completes, TookNone};
+ghost use Rattle.std.specs.Prelude.{◌≡◌, ◌^◌, ◌<◌, length, sum_by, IsOk, IfOk, Some};
+ghost use Rattle.rent_io.specs.Completeness.{Completes};
 ghost use Rattle.rent_io.specs.Counts.{AfterCall};
+ghost use Rattle.rent_io.specs.Polls.{TookNone};
+ghost use Rattle.rent_io.specs.Runs.{AfterCalls, AreUsed, IfGoesOn, RunsAll};
+ghost use Rattle.rent_io.specs.Under.{KeepsGroup, plainly, under};
 ghost use Rattle.rent_io.specs.WriteAll.{WritesAll, sending, sending_parts};
 ghost use Rattle.rent_io.specs.Writer.{EndsStay};
 
@@ -14,7 +17,7 @@ use rent_buf::{BufResult, IoBuf, IoVecBuf, OutOfMemory};
 use std::marker::Model;
 
 /// A `WriteAll` whose writes are put under a cancel group (monoio: the future of `write_all` of
-/// `CancelableAsyncWriteRentExt`). A clause sees the `WriteAll`.
+/// `CancelableAsyncWriteRentExt`). A clause sees the `WriteAll`, and the group.
 #[derive(Drop)]
 #[must_use]
 pub struct CancelableWriteAll<T: IoBuf> {
@@ -24,16 +27,17 @@ pub struct CancelableWriteAll<T: IoBuf> {
 
 impl<T: IoBuf> Model for CancelableWriteAll<T> {
     ghost use Rattle.rent_io.specs.WriteAll.{Sending};
+    ghost use Rattle.rent_io.specs.Under.{Under};
 
-    ghost Value = { Sending T };
+    ghost Value = { Under (Sending T) };
 
-    ghost view = { λ s. s.state };
+    ghost view = { λ s. record { state = s.state; group = s.handle } };
 }
 
 impl<T: IoBuf> CancelableWriteAll<T> {
     /// A write of this buffer's bytes, under the group of `c`.
     pub fn new(buf: T, c: CancelHandle) -> CancelableWriteAll<T>
-        ensures { result ≡ sending buf (T.content buf) }
+        ensures { result ≡ under c (sending buf (T.content buf)) }
     {
         CancelableWriteAll {
             state: WriteAll::new(buf),
@@ -48,12 +52,13 @@ impl<T: IoBuf> CancelableWriteAll<T> {
         io: &mut A,
         task: u64,
     ) -> Step<CancelableWriteAll<T>, BufResult<usize, T>>
-        ensures answer { WritesAll A.tells (A.writer io.old) (A.writer io.new) self result }
+        ensures answer { WritesAll A.tells task (A.writer io.old) (A.writer io.new) self.state (plainly result) }
+        ensures group { KeepsGroup self.group result }
         ensures ends { EndsStay (A.writer io.old) (A.writer io.new) }
-        ensures counts { AfterCall (A.writer io.old).counts (A.writer io.new).counts }
-        ensures complete { Completes (A.writer io.old).counts (A.writer io.new).counts result (λ end. end.0)
-            (TookNone A.tells (A.writer io.old).delivered (A.writer io.new).delivered self.rest)
-            (λ next. length next.rest < length self.rest) }
+        ensures counts { AfterCall (Some self.group) (A.writer io.old).counts (A.writer io.new).counts }
+        ensures complete { Completes (A.writer io.old).counts (A.writer io.new).counts (plainly result) (λ end. end.0)
+            (TookNone (A.writer io.old).counts (A.writer io.new).counts)
+            (λ next. length next.rest < length self.state.rest) }
     {
         let CancelableWriteAll { state, handle } = self;
         match state.poll_by(io, &handle, task) {
@@ -62,10 +67,32 @@ impl<T: IoBuf> CancelableWriteAll<T> {
             Step::Again(state) => Step::Again(CancelableWriteAll { state, handle }),
         }
     }
+
+    /// As `WriteAll::drive`, by cancelable writes (not in monoio).
+    pub fn drive<A: CancelableAsyncWriteRent>(
+        self,
+        io: &mut A,
+        task: u64,
+        polls: u64,
+    ) -> Step<CancelableWriteAll<T>, BufResult<usize, T>>
+        ensures run { RunsAll A.tells (A.writer io.old) (A.writer io.new) self.state (plainly result) }
+        ensures group { KeepsGroup self.group result }
+        ensures ends { EndsStay (A.writer io.old) (A.writer io.new) }
+        ensures used { IfGoesOn (plainly result) (λ next. AreUsed polls (length next.rest) (length self.state.rest)
+            (A.writer io.old).counts (A.writer io.new).counts) }
+        ensures counts { AfterCalls (Some self.group) polls (A.writer io.old).counts (A.writer io.new).counts }
+    {
+        let CancelableWriteAll { state, handle } = self;
+        match state.drive_by(io, &handle, task, polls) {
+            Step::Ready(end) => Step::Ready(end),
+            Step::Pending(state) => Step::Pending(CancelableWriteAll { state, handle }),
+            Step::Again(state) => Step::Again(CancelableWriteAll { state, handle }),
+        }
+    }
 }
 
 /// A `WriteVectoredAll` whose writes are put under a cancel group (monoio: the future of `write_vectored_all` of
-/// `CancelableAsyncWriteRentExt`). A clause sees the `WriteVectoredAll`.
+/// `CancelableAsyncWriteRentExt`). A clause sees the `WriteVectoredAll`, and the group.
 #[derive(Drop)]
 #[must_use]
 pub struct CancelableWriteVectoredAll<T: IoVecBuf> {
@@ -75,10 +102,11 @@ pub struct CancelableWriteVectoredAll<T: IoVecBuf> {
 
 impl<T: IoVecBuf> Model for CancelableWriteVectoredAll<T> {
     ghost use Rattle.rent_io.specs.WriteAll.{Sending};
+    ghost use Rattle.rent_io.specs.Under.{Under};
 
-    ghost Value = { Sending T };
+    ghost Value = { Under (Sending T) };
 
-    ghost view = { λ s. s.state };
+    ghost view = { λ s. record { state = s.state; group = s.handle } };
 }
 
 impl<T: IoVecBuf> CancelableWriteVectoredAll<T> {
@@ -87,7 +115,7 @@ impl<T: IoVecBuf> CancelableWriteVectoredAll<T> {
     pub fn new(buf: T, c: CancelHandle) -> Result<CancelableWriteVectoredAll<T>, (OutOfMemory, T)>
         requires { sum_by length (T.parts buf) < 2 ^ 64 }
         ensures made { IsOk result }
-        ensures value { IfOk result (λ s. s ≡ sending_parts buf (T.parts buf)) }
+        ensures value { IfOk result (λ s. s ≡ under c (sending_parts buf (T.parts buf))) }
     {
         let state = WriteVectoredAll::new(buf)?;
         Ok(CancelableWriteVectoredAll { state, handle: c })
@@ -100,15 +128,38 @@ impl<T: IoVecBuf> CancelableWriteVectoredAll<T> {
         io: &mut A,
         task: u64,
     ) -> Step<CancelableWriteVectoredAll<T>, BufResult<usize, T>>
-        ensures answer { WritesAll A.tells (A.writer io.old) (A.writer io.new) self result }
+        ensures answer { WritesAll A.tells task (A.writer io.old) (A.writer io.new) self.state (plainly result) }
+        ensures group { KeepsGroup self.group result }
         ensures ends { EndsStay (A.writer io.old) (A.writer io.new) }
-        ensures counts { AfterCall (A.writer io.old).counts (A.writer io.new).counts }
-        ensures complete { Completes (A.writer io.old).counts (A.writer io.new).counts result (λ end. end.0)
-            (TookNone A.tells (A.writer io.old).delivered (A.writer io.new).delivered self.rest)
-            (λ next. length next.rest < length self.rest) }
+        ensures counts { AfterCall (Some self.group) (A.writer io.old).counts (A.writer io.new).counts }
+        ensures complete { Completes (A.writer io.old).counts (A.writer io.new).counts (plainly result) (λ end. end.0)
+            (TookNone (A.writer io.old).counts (A.writer io.new).counts)
+            (λ next. length next.rest < length self.state.rest) }
     {
         let CancelableWriteVectoredAll { state, handle } = self;
         match state.poll_by(io, &handle, task) {
+            Step::Ready(end) => Step::Ready(end),
+            Step::Pending(state) => Step::Pending(CancelableWriteVectoredAll { state, handle }),
+            Step::Again(state) => Step::Again(CancelableWriteVectoredAll { state, handle }),
+        }
+    }
+
+    /// As `WriteVectoredAll::drive`, by cancelable writes (not in monoio).
+    pub fn drive<A: CancelableAsyncWriteRent>(
+        self,
+        io: &mut A,
+        task: u64,
+        polls: u64,
+    ) -> Step<CancelableWriteVectoredAll<T>, BufResult<usize, T>>
+        ensures run { RunsAll A.tells (A.writer io.old) (A.writer io.new) self.state (plainly result) }
+        ensures group { KeepsGroup self.group result }
+        ensures ends { EndsStay (A.writer io.old) (A.writer io.new) }
+        ensures used { IfGoesOn (plainly result) (λ next. AreUsed polls (length next.rest) (length self.state.rest)
+            (A.writer io.old).counts (A.writer io.new).counts) }
+        ensures counts { AfterCalls (Some self.group) polls (A.writer io.old).counts (A.writer io.new).counts }
+    {
+        let CancelableWriteVectoredAll { state, handle } = self;
+        match state.drive_by(io, &handle, task, polls) {
             Step::Ready(end) => Step::Ready(end),
             Step::Pending(state) => Step::Pending(CancelableWriteVectoredAll { state, handle }),
             Step::Again(state) => Step::Again(CancelableWriteVectoredAll { state, handle }),

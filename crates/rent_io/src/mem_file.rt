@@ -1,6 +1,8 @@
 //! A file in memory, which fails at the calls that it is told to.
-ghost use Rattle.std.specs.Prelude.{◌≡◌, ◌+◌, ◌≤◌, ◌-◌, ◌++◌, [], length, take, drop, replicate, true, IfOk, OnOk, OnErr};
-ghost use Rattle.rent_io.specs.Counts.{Rose, AfterCall, no_counts};
+ghost use Rattle.std.specs.Prelude.{◌≡◌, ◌+◌, ◌≤◌, ◌-◌, ◌++◌, [], length, take, drop, replicate, true, None, IfOk, OnOk, OnErr};
+ghost use Rattle.rent_io.specs.Counts.{AfterCall, no_counts};
+ghost use Rattle.rent_buf.specs.declared.fault.IoFault.TheVariants.{OutOfMemory as no_memory};
+ghost use Rattle.rent_io.specs.Polls.{Fails};
 ghost use Rattle.rent_io.specs.FileAt.{written_at};
 
 use crate::async_rent_at::{AsyncReadRentAt, AsyncWriteRentAt};
@@ -16,15 +18,21 @@ pub struct MemFile {
     bytes: Vec<u8>,
     failing: NumList,
     faults: u64,
+    fault: Option<IoFault>,
     calls: u64,
 }
 
 impl Model for MemFile {
+    ghost use Rattle.rent_io.specs.Counts.{no_counts};
     ghost use Rattle.rent_io.specs.FileAt.{FileAt};
 
     ghost Value = { FileAt };
 
-    ghost view = { λ f. record { bytes = f.bytes.items; counts = record { faults = f.faults; pauses = 0; calls = f.calls } } };
+    ghost view = { λ f. record {
+      bytes = f.bytes.items;
+      counts = record no_counts
+          { faults = f.faults; fault = f.fault; calls = f.calls };
+    } };
 }
 
 impl MemFile {
@@ -36,6 +44,7 @@ impl MemFile {
             bytes: Vec::new(alloc),
             failing,
             faults: 0,
+            fault: None,
             calls: 0,
         }
     }
@@ -47,16 +56,17 @@ impl MemFile {
         self.bytes.as_slice()
     }
 
-    // Counts a call, and says whether it is to fail, which is a fault.
-    fn fails(&mut self) -> bool
+    // Counts a call, and says whether it is to fail, which is this fault.
+    fn fails(&mut self, fault: IoFault) -> bool
         ensures bytes { self.new.bytes ≡ self.old.bytes }
-        ensures counts { AfterCall self.old.counts self.new.counts }
-        ensures rose { result ≡ true → Rose self.old.counts.faults self.new.counts.faults }
+        ensures counts { AfterCall None self.old.counts self.new.counts }
+        ensures fails { result ≡ true → Fails self.old.counts self.new.counts fault }
     {
         let call = self.calls;
         self.calls = call.saturating_add(1);
         if self.failing.as_slice().contains(&call) {
             self.faults = self.faults.saturating_add(1);
+            self.fault = Some(fault);
             return true;
         }
         false
@@ -65,9 +75,10 @@ impl MemFile {
     // Writes bytes from a position on. If memory runs out, that is a fault, and the bytes are as they were.
     fn write(&mut self, pos: usize, bytes: &[u8]) -> Result<(), OutOfMemory>
         ensures ok { OnOk result (self.new ≡ record self.old { bytes = written_at self.old.bytes pos bytes.now }) }
-        ensures err { OnErr result (self.new ≡ record self.old { counts = record self.old.counts { faults = self.new.counts.faults } }) }
+        ensures err { OnErr result (self.new ≡ record self.old
+            { counts = record self.old.counts { faults = self.new.counts.faults; fault = self.new.counts.fault } }) }
         ensures faults { self.old.counts.faults ≤ self.new.counts.faults }
-        ensures rose { OnErr result (Rose self.old.counts.faults self.new.counts.faults) }
+        ensures fails { OnErr result (Fails self.old.counts self.new.counts no_memory) }
     {
         match overwritten(&self.bytes, pos, bytes) {
             Ok(next) => {
@@ -76,6 +87,7 @@ impl MemFile {
             }
             Err(OutOfMemory) => {
                 self.faults = self.faults.saturating_add(1);
+                self.fault = Some(IoFault::OutOfMemory);
                 Err(OutOfMemory)
             }
         }
@@ -90,7 +102,7 @@ impl AsyncReadRentAt for MemFile {
     /// One read. `ReadFault` where it fails.
     #[tactic(auto, using(crate::proofs::Fronts::taken_front))]
     fn poll_read_at<T: IoBufMut>(&mut self, buf: T, pos: u64, _task: u64) -> PollBuf<T> {
-        if self.fails() {
+        if self.fails(IoFault::ReadFault) {
             return PollBuf::Ready(Err(IoFault::ReadFault), buf);
         }
         let mut buf = buf;
@@ -110,7 +122,7 @@ impl AsyncWriteRentAt for MemFile {
     /// One write of all bytes. `WriteFault` where it fails, and `OutOfMemory` where memory runs out.
     #[tactic(auto, using(crate::proofs::Files::all_written))]
     fn poll_write_at<T: IoBuf>(&mut self, buf: T, pos: u64, _task: u64) -> PollBuf<T> {
-        if self.fails() {
+        if self.fails(IoFault::WriteFault) {
             return PollBuf::Ready(Err(IoFault::WriteFault), buf);
         }
         match self.write(pos as usize, buf.bytes()) {

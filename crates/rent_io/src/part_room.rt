@@ -3,7 +3,7 @@ ghost use Rattle.std.specs.Prelude.{◌≡◌, ◌+◌, ◌<◌, ◌≤◌, [], 
 ghost use Rattle.rent_buf.specs.Parts.{part_at};
 ghost use Rattle.rent_io.specs.Counts.{AfterCall};
 ghost use Rattle.rent_io.specs.PartRoom.{buffer_at, others, ReadsPart};
-ghost use Rattle.rent_io.specs.Polls.{IsCaused};
+ghost use Rattle.rent_io.specs.Polls.{CountsNone, IsCaused};
 
 use crate::async_read_rent::AsyncReadRent;
 use crate::calls::ReadCall;
@@ -102,8 +102,9 @@ pub(crate) fn read_part<T: IoVecBufMut, A: AsyncReadRent, C: ReadCall<A>>(
     requires within { at ≤ length (part_at (T.held buf) into).bytes }
     requires room { at < (part_at (T.held buf) into).total }
     ensures reads { ReadsPart A.tells (A.reader io.old).left (A.reader io.new).left T.held buf into at result }
-    ensures cause { IsCaused (A.reader io.old).counts (A.reader io.new).counts result }
-    ensures counts { AfterCall (A.reader io.old).counts (A.reader io.new).counts }
+    ensures none { CountsNone 1 (A.reader io.old).counts (A.reader io.new).counts result }
+    ensures cause { IsCaused task (A.reader io.old).counts (A.reader io.new).counts result }
+    ensures counts { AfterCall (C.group call.now) (A.reader io.old).counts (A.reader io.new).counts }
 {
     buf.keeps_bounds();
     let end = buf.room(into);

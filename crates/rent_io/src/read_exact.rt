@@ -1,5 +1,5 @@
 // A read that fills its buffer.
-ghost use Rattle.std.specs.Prelude.{◌≡◌, ◌+◌, ◌<◌, ◌≤◌, length};
+ghost use Rattle.std.specs.Prelude.{◌≡◌, ◌+◌, ◌<◌, ◌≤◌, length, None};
 ghost use Rattle.rent_io.specs.Completeness.{Completes, IsShort};
 ghost use Rattle.rent_io.specs.Counts.{AfterCall};
 ghost use Rattle.rent_io.specs.ReadExact.{ReadsExact, filling, lacks};
@@ -42,24 +42,24 @@ impl<T: IoBufMut> ReadExact<T> {
 
     /// Makes one read at most. It is done with the number of the bytes that the range has room for, once it is full;
     /// with `UnexpectedEof`, where a read gave no byte though there is room; or with the stream's fault. At `Pending`
-    /// nothing was read, and at `Again` the stream paused too, or some bytes were read and more are to come.
+    /// nothing was read, and at `Again` the stream was interrupted, or some bytes were read and more are to come.
     #[tactic(auto, using(crate::proofs::Completeness::exact_completes))]
     pub fn poll<A: AsyncReadRent>(
         self,
         io: &mut A,
         task: u64,
     ) -> Step<ReadExact<T>, BufResult<usize, T>>
-        ensures answer { ReadsExact A.tells (A.reader io.old) (A.reader io.new) T.buffer T.under T.beside self result }
-        ensures counts { AfterCall (A.reader io.old).counts (A.reader io.new).counts }
+        ensures answer { ReadsExact A.tells task (A.reader io.old) (A.reader io.new) T.buffer T.under T.beside self result }
+        ensures counts { AfterCall None (A.reader io.old).counts (A.reader io.new).counts }
         ensures complete { Completes (A.reader io.old).counts (A.reader io.new).counts result (λ end. end.0)
-            (IsShort A.tells (A.reader io.old).left (lacks self)) (λ next. self.filled < next.filled) }
+            (IsShort A.tells (A.reader io.old) (A.reader io.new) (lacks self)) (λ next. self.filled < next.filled) }
     {
         self.poll_by(io, &Plain, task)
     }
 
-    /// Polls it until it is done, `polls` times at most: again at once also after a pause, so it is for tests and proofs
-    /// (not in monoio). Whatever the stream answered, the bytes that left
-    /// it are stored in the range, one behind the other, each once. `Again` means that the polls are used up.
+    /// Polls it until it is done, `polls` times at most: again at once also after a pause, so it is for tests and
+    /// proofs (not in monoio). Whatever the stream answered, the bytes that left it are stored in the range, one behind
+    /// the other, each once. `Again` means that the polls are used up.
     pub fn drive<A: AsyncReadRent>(
         self,
         io: &mut A,
@@ -69,12 +69,28 @@ impl<T: IoBufMut> ReadExact<T> {
         ensures run { RunsExact A.tells (A.reader io.old) (A.reader io.new) T.buffer T.under T.beside self result }
         ensures used { IfGoesOn result (λ next. AreUsed polls self.filled next.filled
             (A.reader io.old).counts (A.reader io.new).counts) }
-        ensures counts { AfterCalls polls (A.reader io.old).counts (A.reader io.new).counts }
+        ensures counts { AfterCalls None polls (A.reader io.old).counts (A.reader io.new).counts }
+    {
+        self.drive_by(io, &Plain, task, polls)
+    }
+
+    // So many polls at most by this call.
+    pub(crate) fn drive_by<A: AsyncReadRent, C: ReadCall<A>>(
+        self,
+        io: &mut A,
+        call: &C,
+        task: u64,
+        polls: u64,
+    ) -> Step<ReadExact<T>, BufResult<usize, T>>
+        ensures run { RunsExact A.tells (A.reader io.old) (A.reader io.new) T.buffer T.under T.beside self result }
+        ensures used { IfGoesOn result (λ next. AreUsed polls self.filled next.filled
+            (A.reader io.old).counts (A.reader io.new).counts) }
+        ensures counts { AfterCalls (C.group call.now) polls (A.reader io.old).counts (A.reader io.new).counts }
     {
         self.keeps_bounds();
         let mut state = self;
         for _ in 0..polls {
-            match state.poll(io, task) {
+            match state.poll_by(io, call, task) {
                 Step::Ready((outcome, buf)) => return Step::Ready((outcome, buf)),
                 Step::Pending(next) => state = next,
                 Step::Again(next) => state = next,
@@ -98,8 +114,8 @@ impl<T: IoBufMut> ReadExact<T> {
         call: &C,
         task: u64,
     ) -> Step<ReadExact<T>, BufResult<usize, T>>
-        ensures answer { ReadsExact A.tells (A.reader io.old) (A.reader io.new) T.buffer T.under T.beside self result }
-        ensures counts { AfterCall (A.reader io.old).counts (A.reader io.new).counts }
+        ensures answer { ReadsExact A.tells task (A.reader io.old) (A.reader io.new) T.buffer T.under T.beside self result }
+        ensures counts { AfterCall (C.group call.now) (A.reader io.old).counts (A.reader io.new).counts }
     {
         let ReadExact { buf, filled } = self;
         let total = buf.bytes_total();

@@ -1,5 +1,5 @@
 // A read of a line.
-ghost use Rattle.std.specs.Prelude.{◌≡◌, ◌<◌, ◌≤◌, [], IsUtf8, MatchBool, length, take, drop, string_bytes};
+ghost use Rattle.std.specs.Prelude.{◌≡◌, ◌<◌, ◌≤◌, [], IsUtf8, MatchBool, length, take, drop, string_bytes, None};
 ghost use Rattle.rent_io.specs.Completeness.{Completes, IsNoLine};
 ghost use Rattle.rent_io.specs.Counts.{AfterCall};
 ghost use Rattle.rent_io.specs.LineRuns.{RunsLine};
@@ -85,15 +85,15 @@ impl ReadLine {
     /// Makes one fill at most, and adds what is buffered, up to and with the newline. It is done with the number of
     /// the bytes that were added, once the newline came or the stream ended; with `InvalidData`, where they aren't
     /// UTF-8; with `OutOfMemory`; or with the stream's fault. Bytes that aren't UTF-8 are taken back. At `Pending`
-    /// nothing was added, and at `Again` the stream paused too, or bytes were added that aren't a newline.
+    /// nothing was added, and at `Again` the stream was interrupted, or bytes were added that aren't a newline.
     #[tactic(auto, using(crate::proofs::Completeness::line_completes))]
     pub fn poll<A: AsyncBufRead>(
         self,
         io: &mut A,
         task: u64,
     ) -> Step<ReadLine, BufResult<usize, String>>
-        ensures answer { ReadsLine A.tells (A.reader io.old) (A.reader io.new) string_bytes self result }
-        ensures counts { AfterCall (A.reader io.old).counts (A.reader io.new).counts }
+        ensures answer { ReadsLine A.tells task (A.reader io.old) (A.reader io.new) string_bytes self result }
+        ensures counts { AfterCall None (A.reader io.old).counts (A.reader io.new).counts }
         ensures complete { Completes (A.reader io.old).counts (A.reader io.new).counts result (λ end. end.0)
             (IsNoLine A.tells self.added (A.reader io.old).left) (λ next. length self.added < length next.added) }
     {
@@ -105,10 +105,9 @@ impl ReadLine {
         }
     }
 
-    /// Polls it until it is done, `polls` times at most: again at once also after a pause, so it is for tests and proofs
-    /// (not in monoio). Whatever the stream answered, the bytes that left
-    /// it were added, up to and with the first newline, and are taken back where they aren't UTF-8.
-    /// `Again` means that the polls are used up.
+    /// Polls it until it is done, `polls` times at most: again at once also after a pause, so it is for tests and
+    /// proofs (not in monoio). Whatever the stream answered, the bytes that left it were added, up to and with the
+    /// first newline, and are taken back where they aren't UTF-8. `Again` means that the polls are used up.
     pub fn drive<A: AsyncBufRead>(
         self,
         io: &mut A,
@@ -118,7 +117,7 @@ impl ReadLine {
         ensures run { RunsLine A.tells (A.reader io.old) (A.reader io.new) string_bytes self result }
         ensures used { IfGoesOn result (λ next. AreUsed polls (length self.added) (length next.added)
             (A.reader io.old).counts (A.reader io.new).counts) }
-        ensures counts { AfterCalls polls (A.reader io.old).counts (A.reader io.new).counts }
+        ensures counts { AfterCalls None polls (A.reader io.old).counts (A.reader io.new).counts }
     {
         let mut state = self;
         for _ in 0..polls {

@@ -1,5 +1,5 @@
 // A read of a number.
-ghost use Rattle.std.specs.Prelude.{◌≡◌, ◌-◌, ◌<◌, length, IfOk};
+ghost use Rattle.std.specs.Prelude.{◌≡◌, ◌-◌, ◌<◌, length, IfOk, None};
 ghost use Rattle.rent_io.specs.Completeness.{Completes, IsShort};
 ghost use Rattle.rent_io.specs.Counts.{AfterCall};
 ghost use Rattle.rent_io.specs.LineRuns.{RunsNumber};
@@ -51,25 +51,25 @@ impl<N: Number> ReadNumber<N> {
 
     /// Makes one read at most. It is done with the number, once all its bytes are there; with `UnexpectedEof`, where
     /// the stream ended before; or with the stream's fault. At `Pending` nothing was read, and at `Again` the stream
-    /// paused too, or some bytes were read and more are to come.
+    /// was interrupted, or some bytes were read and more are to come.
     #[tactic(auto, using(crate::proofs::Completeness::number_completes))]
     pub fn poll<A: AsyncReadRent>(
         self,
         io: &mut A,
         task: u64,
     ) -> Step<ReadNumber<N>, Result<N, IoFault>>
-        ensures answer { ReadsNumber A.tells (A.reader io.old) (A.reader io.new) N.value self result }
-        ensures counts { AfterCall (A.reader io.old).counts (A.reader io.new).counts }
+        ensures answer { ReadsNumber A.tells task (A.reader io.old) (A.reader io.new) N.value self result }
+        ensures counts { AfterCall None (A.reader io.old).counts (A.reader io.new).counts }
         ensures complete { Completes (A.reader io.old).counts (A.reader io.new).counts result (λ end. end)
-            (IsShort A.tells (A.reader io.old).left (self.size - length self.bytes)) (λ next. length self.bytes < length next.bytes) }
+            (IsShort A.tells (A.reader io.old) (A.reader io.new) (self.size - length self.bytes))
+            (λ next. length self.bytes < length next.bytes) }
     {
         self.poll_by(io, &Plain, task)
     }
 
-    /// Polls it until it is done, `polls` times at most: again at once also after a pause, so it is for tests and proofs
-    /// (not in monoio). Whatever the stream answered, the number is that
-    /// of the bytes that left it.
-    /// `Again` means that the polls are used up.
+    /// Polls it until it is done, `polls` times at most: again at once also after a pause, so it is for tests and
+    /// proofs (not in monoio). Whatever the stream answered, the number is that of the bytes that left it. `Again`
+    /// means that the polls are used up.
     pub fn drive<A: AsyncReadRent>(
         self,
         io: &mut A,
@@ -79,11 +79,27 @@ impl<N: Number> ReadNumber<N> {
         ensures run { RunsNumber A.tells (A.reader io.old) (A.reader io.new) N.value self result }
         ensures used { IfGoesOn result (λ next. AreUsed polls (length self.bytes) (length next.bytes)
             (A.reader io.old).counts (A.reader io.new).counts) }
-        ensures counts { AfterCalls polls (A.reader io.old).counts (A.reader io.new).counts }
+        ensures counts { AfterCalls None polls (A.reader io.old).counts (A.reader io.new).counts }
+    {
+        self.drive_by(io, &Plain, task, polls)
+    }
+
+    // So many polls at most by this call.
+    pub(crate) fn drive_by<A: AsyncReadRent, C: ReadCall<A>>(
+        self,
+        io: &mut A,
+        call: &C,
+        task: u64,
+        polls: u64,
+    ) -> Step<ReadNumber<N>, Result<N, IoFault>>
+        ensures run { RunsNumber A.tells (A.reader io.old) (A.reader io.new) N.value self result }
+        ensures used { IfGoesOn result (λ next. AreUsed polls (length self.bytes) (length next.bytes)
+            (A.reader io.old).counts (A.reader io.new).counts) }
+        ensures counts { AfterCalls (C.group call.now) polls (A.reader io.old).counts (A.reader io.new).counts }
     {
         let mut state = self;
         for _ in 0..polls {
-            match state.poll(io, task) {
+            match state.poll_by(io, call, task) {
                 Step::Ready(outcome) => return Step::Ready(outcome),
                 Step::Pending(next) => state = next,
                 Step::Again(next) => state = next,
@@ -99,8 +115,8 @@ impl<N: Number> ReadNumber<N> {
         call: &C,
         task: u64,
     ) -> Step<ReadNumber<N>, Result<N, IoFault>>
-        ensures answer { ReadsNumber A.tells (A.reader io.old) (A.reader io.new) N.value self result }
-        ensures counts { AfterCall (A.reader io.old).counts (A.reader io.new).counts }
+        ensures answer { ReadsNumber A.tells task (A.reader io.old) (A.reader io.new) N.value self result }
+        ensures counts { AfterCall (C.group call.now) (A.reader io.old).counts (A.reader io.new).counts }
     {
         let ReadNumber {
             exact,

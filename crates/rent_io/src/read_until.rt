@@ -1,5 +1,5 @@
 // A read up to a delimiter.
-ghost use Rattle.std.specs.Prelude.{◌≡◌, ◌+◌, ◌<◌, ◌≤◌, length, take, MatchBool};
+ghost use Rattle.std.specs.Prelude.{◌≡◌, ◌+◌, ◌<◌, ◌≤◌, length, take, MatchBool, None};
 ghost use Rattle.rent_buf.specs.declared.fault.IoFault.TheVariants.{OutOfMemory};
 ghost use Rattle.rent_io.specs.Completeness.{Completes};
 ghost use Rattle.rent_io.specs.Counts.{AfterCall};
@@ -70,18 +70,18 @@ impl ReadUntil {
         buf
     }
 
-    /// Makes one fill at most, and adds what is buffered, up to and with the delimiter. It is done with the number
-    /// of the bytes that were added, once the delimiter came or the stream ended; with `OutOfMemory`; or with the
-    /// stream's fault: what was added stays. At `Pending` nothing was added, and at `Again` the stream paused too, or
-    /// bytes were added that aren't the delimiter.
+    /// Makes one fill at most, and adds what is buffered, up to and with the delimiter. It is done with the number of
+    /// the bytes that were added, once the delimiter came or the stream ended; with `OutOfMemory`; or with the stream's
+    /// fault: what was added stays. At `Pending` nothing was added, and at `Again` the stream was interrupted, or bytes
+    /// were added that aren't the delimiter.
     #[tactic(auto, using(crate::proofs::Completeness::until_completes))]
     pub fn poll<A: AsyncBufRead>(
         self,
         io: &mut A,
         task: u64,
     ) -> Step<ReadUntil, BufResult<usize, ByteList>>
-        ensures answer { ReadsUntil A.tells (A.reader io.old) (A.reader io.new) self result }
-        ensures counts { AfterCall (A.reader io.old).counts (A.reader io.new).counts }
+        ensures answer { ReadsUntil A.tells task (A.reader io.old) (A.reader io.new) self result }
+        ensures counts { AfterCall None (A.reader io.old).counts (A.reader io.new).counts }
         ensures complete { Completes (A.reader io.old).counts (A.reader io.new).counts result (λ end. end.0)
             (λ fault. fault ≡ OutOfMemory) (λ next. self.added < next.added) }
     {
@@ -114,10 +114,9 @@ impl ReadUntil {
         }
     }
 
-    /// Polls it until it is done, `polls` times at most: again at once also after a pause, so it is for tests and proofs
-    /// (not in monoio). Whatever the stream answered, the bytes that left
-    /// it were added, up to and with the first delimiter.
-    /// `Again` means that the polls are used up.
+    /// Polls it until it is done, `polls` times at most: again at once also after a pause, so it is for tests and
+    /// proofs (not in monoio). Whatever the stream answered, the bytes that left it were added, up to and with the
+    /// first delimiter. `Again` means that the polls are used up.
     pub fn drive<A: AsyncBufRead>(
         self,
         io: &mut A,
@@ -127,7 +126,7 @@ impl ReadUntil {
         ensures run { RunsUntil A.tells (A.reader io.old) (A.reader io.new) self result }
         ensures used { IfGoesOn result (λ next. AreUsed polls self.added next.added
             (A.reader io.old).counts (A.reader io.new).counts) }
-        ensures counts { AfterCalls polls (A.reader io.old).counts (A.reader io.new).counts }
+        ensures counts { AfterCalls None polls (A.reader io.old).counts (A.reader io.new).counts }
     {
         let mut state = self;
         for _ in 0..polls {

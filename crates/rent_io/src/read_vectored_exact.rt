@@ -1,5 +1,5 @@
 // A read that fills all parts of a vector of buffers.
-ghost use Rattle.std.specs.Prelude.{◌≡◌, ◌<◌, ◌≤◌, length, IsOk, IfOk};
+ghost use Rattle.std.specs.Prelude.{◌≡◌, ◌<◌, ◌≤◌, length, IsOk, IfOk, None};
 ghost use Rattle.rent_buf.specs.Parts.{part_at};
 ghost use Rattle.rent_io.specs.Completeness.{Completes, IsShort};
 ghost use Rattle.rent_io.specs.Counts.{AfterCall};
@@ -56,27 +56,26 @@ impl<T: IoVecBufMut> ReadVectoredExact<T> {
     }
 
     /// Makes one read at most, into the first part that isn't full. It is done with the sum of the rooms, once every
-    /// part is full; with `UnexpectedEof`, where a read gave no byte though there is room; or with the stream's
-    /// fault. At `Pending` nothing was read, and at `Again` the stream paused too, or some bytes were read and more
-    /// are to come.
+    /// part is full; with `UnexpectedEof`, where a read gave no byte though there is room; or with the stream's fault.
+    /// At `Pending` nothing was read, and at `Again` the stream was interrupted, or some bytes were read and more are
+    /// to come.
     #[tactic(auto, using(crate::proofs::Completeness::scatter_completes))]
     pub fn poll<A: AsyncReadRent>(
         self,
         io: &mut A,
         task: u64,
     ) -> Step<ReadVectoredExact<T>, BufResult<usize, T>>
-        ensures answer { ReadsScattered A.tells (A.reader io.old) (A.reader io.new) T.held self result }
-        ensures counts { AfterCall (A.reader io.old).counts (A.reader io.new).counts }
+        ensures answer { ReadsScattered A.tells task (A.reader io.old) (A.reader io.new) T.held self result }
+        ensures counts { AfterCall None (A.reader io.old).counts (A.reader io.new).counts }
         ensures complete { Completes (A.reader io.old).counts (A.reader io.new).counts result (λ end. end.0)
-            (IsShort A.tells (A.reader io.old).left (wanted self)) (λ next. length (has_read self) < length (has_read next)) }
+            (IsShort A.tells (A.reader io.old) (A.reader io.new) (wanted self)) (λ next. length (has_read self) < length (has_read next)) }
     {
         self.poll_by(io, &Plain, task)
     }
 
-    /// Polls it until it is done, `polls` times at most: again at once also after a pause, so it is for tests and proofs
-    /// (not in monoio). Whatever the stream answered, the bytes that left
-    /// it stand in the parts, one behind the other, each once.
-    /// `Again` means that the polls are used up.
+    /// Polls it until it is done, `polls` times at most: again at once also after a pause, so it is for tests and
+    /// proofs (not in monoio). Whatever the stream answered, the bytes that left it stand in the parts, one behind the
+    /// other, each once. `Again` means that the polls are used up.
     pub fn drive<A: AsyncReadRent>(
         self,
         io: &mut A,
@@ -86,11 +85,27 @@ impl<T: IoVecBufMut> ReadVectoredExact<T> {
         ensures run { RunsScattered A.tells (A.reader io.old) (A.reader io.new) T.held self result }
         ensures used { IfGoesOn result (λ next. AreUsed polls (length (has_read self)) (length (has_read next))
             (A.reader io.old).counts (A.reader io.new).counts) }
-        ensures counts { AfterCalls polls (A.reader io.old).counts (A.reader io.new).counts }
+        ensures counts { AfterCalls None polls (A.reader io.old).counts (A.reader io.new).counts }
+    {
+        self.drive_by(io, &Plain, task, polls)
+    }
+
+    // So many polls at most by this call.
+    pub(crate) fn drive_by<A: AsyncReadRent, C: ReadCall<A>>(
+        self,
+        io: &mut A,
+        call: &C,
+        task: u64,
+        polls: u64,
+    ) -> Step<ReadVectoredExact<T>, BufResult<usize, T>>
+        ensures run { RunsScattered A.tells (A.reader io.old) (A.reader io.new) T.held self result }
+        ensures used { IfGoesOn result (λ next. AreUsed polls (length (has_read self)) (length (has_read next))
+            (A.reader io.old).counts (A.reader io.new).counts) }
+        ensures counts { AfterCalls (C.group call.now) polls (A.reader io.old).counts (A.reader io.new).counts }
     {
         let mut state = self;
         for _ in 0..polls {
-            match state.poll(io, task) {
+            match state.poll_by(io, call, task) {
                 Step::Ready((outcome, buf)) => return Step::Ready((outcome, buf)),
                 Step::Pending(next) => state = next,
                 Step::Again(next) => state = next,
@@ -106,8 +121,8 @@ impl<T: IoVecBufMut> ReadVectoredExact<T> {
         call: &C,
         task: u64,
     ) -> Step<ReadVectoredExact<T>, BufResult<usize, T>>
-        ensures answer { ReadsScattered A.tells (A.reader io.old) (A.reader io.new) T.held self result }
-        ensures counts { AfterCall (A.reader io.old).counts (A.reader io.new).counts }
+        ensures answer { ReadsScattered A.tells task (A.reader io.old) (A.reader io.new) T.held self result }
+        ensures counts { AfterCall (C.group call.now) (A.reader io.old).counts (A.reader io.new).counts }
     {
         let ReadVectoredExact {
             buf,

@@ -1,20 +1,22 @@
 // A stream in memory whose answers follow a script.
-ghost use Rattle.std.specs.Prelude.{◌≡◌, ◌+◌, ◌≤◌, ◌++◌, true, length, drop};
+ghost use Rattle.std.specs.Prelude.{◌≡◌, ◌+◌, ◌≤◌, ◌++◌, true, None, Some, length, drop, min};
+ghost use Rattle.std.specs.List.{concat};
 ghost use Rattle.std.specs.Bool.{OnTrue, OnFalse};
+ghost use Rattle.rent_buf.specs.Buffer.{room};
+ghost use Rattle.rent_buf.specs.declared.fault.IoFault.TheVariants.{OutOfMemory as no_memory};
 ghost use Rattle.rent_io.specs.Counts.{Rose, AfterCall};
-ghost use Rattle.rent_io.specs.Polls.{IsCaused};
-ghost use Rattle.rent_io.specs.Scripted.{fresh, as_reader, as_writer, Turns};
-ghost use Rattle.rent_io.specs.Writer.{EndsStay, Writes};
+ghost use Rattle.rent_io.specs.Polls.{CountsNone, Fails, IsCaused, IsWriteCaused, IsFlushCaused};
+ghost use Rattle.rent_io.specs.Reader.{Reads, ReadsParts, first_room as room_of};
+ghost use Rattle.rent_io.specs.Scripted.{fresh, as_writer, EndsBy, Follows, ReadsBy, Turns, WritesBy};
+ghost use Rattle.rent_io.specs.Writer.{EndsStay, Writes, CountsDone, first_part as part_of};
 
-use crate::async_read_rent::AsyncReadRent;
-use crate::async_rent_cancelable::{CancelableAsyncReadRent, CancelableAsyncWriteRent};
-use crate::async_write_rent::AsyncWriteRent;
 use crate::poll::{PollBuf, PollCount};
 use crate::vectored::{first_part, first_room};
-use cancel_core::CancelHandle;
 use rent_buf::{ByteList, IoBuf, IoBufMut, IoFault, IoVecBuf, IoVecBufMut};
 use std::alloc::Global;
 use std::marker::Model;
+
+mod streams;
 
 /// What one call of a scripted stream does (not in monoio).
 #[derive(Clone, Copy, Debug, PartialEq, Eq)]
@@ -40,8 +42,13 @@ pub struct ScriptedStream {
     script: Vec<Turned1>,
     next: usize,
     faults: u64,
+    fault: Option<IoFault>,
     pauses: u64,
+    waiter: u64,
+    interrupts: u64,
+    zeros: u64,
     calls: u64,
+    group: Option<u64>,
     flushes: u64,
     shutdowns: u64,
 }
@@ -53,9 +60,19 @@ impl Model for ScriptedStream {
     ghost Value = { Scripted };
 
     ghost view = { λ s. record {
+      script = drop s.next s.script.items;
       left = drop s.start s.input;
       delivered = s.delivered;
-      counts = record { faults = s.faults; pauses = s.pauses; calls = s.calls };
+      counts = record {
+        faults = s.faults;
+        fault = s.fault;
+        pauses = s.pauses;
+        waiter = s.waiter;
+        interrupts = s.interrupts;
+        zeros = s.zeros;
+        calls = s.calls;
+        group = s.group;
+      };
       flushes = s.flushes;
       shutdowns = s.shutdowns;
     } };
@@ -66,7 +83,7 @@ impl Model for ScriptedStream {
 impl ScriptedStream {
     /// A stream that is read from `input`, and whose calls follow `script`.
     pub fn new(alloc: Global, input: ByteList, script: Vec<Turned1>) -> ScriptedStream
-        ensures { result ≡ fresh input }
+        ensures { result ≡ fresh input script.items }
     {
         ScriptedStream {
             input,
@@ -75,8 +92,13 @@ impl ScriptedStream {
             script,
             next: 0,
             faults: 0,
+            fault: None,
             pauses: 0,
+            waiter: 0,
+            interrupts: 0,
+            zeros: 0,
             calls: 0,
+            group: None,
             flushes: 0,
             shutdowns: 0,
         }
@@ -103,11 +125,12 @@ impl ScriptedStream {
         self.calls
     }
 
-    // The next turn of the script, which is counted.
-    fn turn(&mut self) -> Turned1
-        ensures { Turns self.old self.new result }
+    // The next turn of the script, which is counted, for a call of this task, plain or under this group.
+    fn turn(&mut self, task: u64, group: Option<u64>) -> Turned1
+        ensures { Turns task group self.old self.new result }
     {
         self.calls = self.calls.saturating_add(1);
+        self.group = group;
         if self.next >= self.script.len() {
             return Turned1::Grant(usize::MAX);
         }
@@ -117,16 +140,30 @@ impl ScriptedStream {
             Turned1::Grant(most) => Turned1::Grant(most),
             Turned1::Fault(error) => {
                 self.faults = self.faults.saturating_add(1);
+                self.fault = Some(IoFault::Os(error));
                 Turned1::Fault(error)
             }
             Turned1::Pause => {
                 self.pauses = self.pauses.saturating_add(1);
+                self.waiter = task;
                 Turned1::Pause
             }
             Turned1::Interrupt => {
-                self.pauses = self.pauses.saturating_add(1);
+                self.interrupts = self.interrupts.saturating_add(1);
                 Turned1::Interrupt
             }
+        }
+    }
+
+    // Counts a call that moved none of some bytes.
+    fn note_none(&mut self, count: usize)
+        ensures same { self.new ≡ record self.old { counts = record self.old.counts { zeros = self.new.counts.zeros } } }
+        ensures zeros { self.old.counts.zeros ≤ self.new.counts.zeros }
+        ensures rose { count ≡ 0 → Rose self.old.counts.zeros self.new.counts.zeros }
+    {
+        let _ = self.input.len();
+        if count == 0 {
+            self.zeros = self.zeros.saturating_add(1);
         }
     }
 
@@ -143,30 +180,35 @@ impl ScriptedStream {
     fn deliver(&mut self, bytes: &[u8]) -> bool
         ensures done { OnTrue result (self.new ≡ record self.old { delivered = self.old.delivered ++ bytes.now }) }
         ensures refused { OnFalse result
-            (self.new ≡ record self.old { counts = record self.old.counts { faults = self.new.counts.faults } }) }
+            (self.new ≡ record self.old
+            { counts = record self.old.counts { faults = self.new.counts.faults; fault = self.new.counts.fault } }) }
         ensures faults { self.old.counts.faults ≤ self.new.counts.faults }
-        ensures rose { OnFalse result (Rose self.old.counts.faults self.new.counts.faults) }
+        ensures fails { OnFalse result (Fails self.old.counts self.new.counts no_memory) }
     {
         if self.delivered.append(bytes).is_ok() {
             return true;
         }
         self.faults = self.faults.saturating_add(1);
+        self.fault = Some(IoFault::OutOfMemory);
         false
     }
 
-    // One write of these bytes.
-    fn write(&mut self, bytes: &[u8]) -> PollBuf<()>
+    // One write of these bytes, for a call of this task, plain or under this group.
+    fn write(&mut self, bytes: &[u8], group: Option<u64>, task: u64) -> PollBuf<()>
         ensures writes { Writes true self.old.delivered self.new.delivered bytes.now tt result }
+        ensures none { CountsNone (length bytes.now) self.old.counts self.new.counts result }
         ensures ends { EndsStay (as_writer self.old) (as_writer self.new) }
         ensures left { self.new.left ≡ self.old.left }
-        ensures cause { IsCaused self.old.counts self.new.counts result }
-        ensures counts { AfterCall self.old.counts self.new.counts }
+        ensures cause { IsWriteCaused task self.old.counts self.new.counts result }
+        ensures counts { AfterCall group self.old.counts self.new.counts }
+        ensures follows { Follows group self.old self.new (λ turn. WritesBy turn (length bytes.now) result) }
     {
-        match self.turn() {
+        match self.turn(task, group) {
             Turned1::Grant(most) => {
                 let count = most.min(bytes.len());
                 let (front, _) = bytes.split_at(count);
                 if self.deliver(front) {
+                    self.note_none(count);
                     return PollBuf::Ready(Ok(count), ());
                 }
                 PollBuf::Ready(Err(IoFault::OutOfMemory), ())
@@ -176,16 +218,17 @@ impl ScriptedStream {
             Turned1::Fault(error) => PollBuf::Ready(Err(IoFault::Os(error)), ()),
         }
     }
-}
 
-impl AsyncReadRent for ScriptedStream {
-    ghost tells = { true };
-
-    ghost reader = { as_reader };
-
+    // One read into this buffer, for a call of this task, plain or under this group.
     #[tactic(auto, using(crate::proofs::Fronts::taken_front))]
-    fn poll_read<T: IoBufMut>(&mut self, buf: T, _task: u64) -> PollBuf<T> {
-        match self.turn() {
+    fn read<T: IoBufMut>(&mut self, buf: T, group: Option<u64>, task: u64) -> PollBuf<T>
+        ensures reads { Reads true self.old.left self.new.left T.buffer T.under T.beside buf result }
+        ensures none { CountsNone (room (T.buffer buf)) self.old.counts self.new.counts result }
+        ensures cause { IsCaused task self.old.counts self.new.counts result }
+        ensures counts { AfterCall group self.old.counts self.new.counts }
+        ensures follows { Follows group self.old self.new (λ turn. ReadsBy turn (min (room (T.buffer buf)) (length self.old.left)) result) }
+    {
+        match self.turn(task, group) {
             Turned1::Grant(most) => {
                 let mut buf = buf;
                 let room = buf.bytes_total();
@@ -194,6 +237,7 @@ impl AsyncReadRent for ScriptedStream {
                 let (front, _) = left.split_at(count);
                 buf.store(0, front);
                 self.skip(count);
+                self.note_none(count);
                 PollBuf::Ready(Ok(count), buf)
             }
             Turned1::Pause => PollBuf::Pending(buf),
@@ -202,9 +246,17 @@ impl AsyncReadRent for ScriptedStream {
         }
     }
 
+    // The same into the first part that has room.
     #[tactic(auto, using(crate::proofs::Fronts::scattered_front))]
-    fn poll_readv<T: IoVecBufMut>(&mut self, buf: T, _task: u64) -> PollBuf<T> {
-        match self.turn() {
+    fn readv<T: IoVecBufMut>(&mut self, buf: T, group: Option<u64>, task: u64) -> PollBuf<T>
+        ensures reads { ReadsParts true self.old.left self.new.left T.held buf result }
+        ensures none { CountsNone (room_of (T.held buf)) self.old.counts self.new.counts result }
+        ensures cause { IsCaused task self.old.counts self.new.counts result }
+        ensures counts { AfterCall group self.old.counts self.new.counts }
+        ensures follows { Follows group self.old self.new (λ turn. ReadsBy turn (min (room_of (T.held buf)) (length self.old.left))
+            result) }
+    {
+        match self.turn(task, group) {
             Turned1::Grant(most) => {
                 let mut buf = buf;
                 let room = first_room(&buf);
@@ -213,6 +265,7 @@ impl AsyncReadRent for ScriptedStream {
                 let (front, _) = left.split_at(count);
                 buf.store_front(front);
                 self.skip(count);
+                self.note_none(count);
                 PollBuf::Ready(Ok(count), buf)
             }
             Turned1::Pause => PollBuf::Pending(buf),
@@ -220,100 +273,82 @@ impl AsyncReadRent for ScriptedStream {
             Turned1::Fault(error) => PollBuf::Ready(Err(IoFault::Os(error)), buf),
         }
     }
-}
 
-impl AsyncWriteRent for ScriptedStream {
-    ghost tells = { true };
-
-    ghost writer = { as_writer };
-
-    fn poll_write<T: IoBuf>(&mut self, buf: T, _task: u64) -> PollBuf<T> {
-        match self.write(buf.bytes()) {
-            PollBuf::Ready(outcome, ()) => PollBuf::Ready(outcome, buf),
-            PollBuf::Pending(()) => PollBuf::Pending(buf),
-            PollBuf::Again(()) => PollBuf::Again(buf),
-        }
-    }
-
-    #[tactic(auto, using(crate::proofs::FirstParts::parts_written, crate::proofs::FirstParts::parts_within))]
-    fn poll_writev<T: IoVecBuf>(&mut self, buf: T, _task: u64) -> PollBuf<T> {
-        match self.write(first_part(&buf)) {
-            PollBuf::Ready(outcome, ()) => PollBuf::Ready(outcome, buf),
-            PollBuf::Pending(()) => PollBuf::Pending(buf),
-            PollBuf::Again(()) => PollBuf::Again(buf),
-        }
-    }
-
-    fn poll_flush(&mut self, _task: u64) -> PollCount {
-        match self.turn() {
-            Turned1::Grant(_) => {
-                self.flushes = self.flushes.saturating_add(1);
-                PollCount::Ready(Ok(0))
-            }
+    // One flush or shutdown: whether it is done.
+    fn end(&mut self, group: Option<u64>, task: u64) -> PollCount
+        ensures same { self.new ≡ record self.old { script = self.new.script; counts = self.new.counts } }
+        ensures cause { IsFlushCaused task self.old.counts self.new.counts result }
+        ensures counts { AfterCall group self.old.counts self.new.counts }
+        ensures follows { Follows group self.old self.new (λ turn. EndsBy turn result) }
+    {
+        match self.turn(task, group) {
+            Turned1::Grant(_) => PollCount::Ready(Ok(0)),
             Turned1::Pause => PollCount::Pending,
             Turned1::Interrupt => PollCount::Again,
             Turned1::Fault(error) => PollCount::Ready(Err(IoFault::Os(error))),
         }
     }
 
-    fn poll_shutdown(&mut self, _task: u64) -> PollCount {
-        match self.turn() {
-            Turned1::Grant(_) => {
-                self.shutdowns = self.shutdowns.saturating_add(1);
-                PollCount::Ready(Ok(0))
-            }
-            Turned1::Pause => PollCount::Pending,
-            Turned1::Interrupt => PollCount::Again,
-            Turned1::Fault(error) => PollCount::Ready(Err(IoFault::Os(error))),
+    // One write of a buffer.
+    fn write_buf<T: IoBuf>(&mut self, buf: T, group: Option<u64>, task: u64) -> PollBuf<T>
+        ensures writes { Writes true self.old.delivered self.new.delivered (T.content buf) buf result }
+        ensures none { CountsNone (length (T.content buf)) self.old.counts self.new.counts result }
+        ensures ends { EndsStay (as_writer self.old) (as_writer self.new) }
+        ensures cause { IsWriteCaused task self.old.counts self.new.counts result }
+        ensures counts { AfterCall group self.old.counts self.new.counts }
+        ensures follows { Follows group self.old self.new (λ turn. WritesBy turn (length (T.content buf)) result) }
+    {
+        match self.write(buf.bytes(), group, task) {
+            PollBuf::Ready(outcome, ()) => PollBuf::Ready(outcome, buf),
+            PollBuf::Pending(()) => PollBuf::Pending(buf),
+            PollBuf::Again(()) => PollBuf::Again(buf),
         }
     }
-}
 
-// A handle changes nothing: each call is the plain one.
-impl CancelableAsyncReadRent for ScriptedStream {
-    fn poll_cancelable_read<T: IoBufMut>(
-        &mut self,
-        buf: T,
-        _c: CancelHandle,
-        task: u64,
-    ) -> PollBuf<T> {
-        self.poll_read(buf, task)
+    // One write of the first part that has bytes.
+    #[tactic(auto, using(crate::proofs::FirstParts::parts_written, crate::proofs::FirstParts::parts_within, crate::proofs::FirstParts::none_of_all))]
+    fn write_parts<T: IoVecBuf>(&mut self, buf: T, group: Option<u64>, task: u64) -> PollBuf<T>
+        ensures writes { Writes true self.old.delivered self.new.delivered (concat (T.parts buf)) buf result }
+        ensures none { CountsNone (length (concat (T.parts buf))) self.old.counts self.new.counts result }
+        ensures ends { EndsStay (as_writer self.old) (as_writer self.new) }
+        ensures cause { IsWriteCaused task self.old.counts self.new.counts result }
+        ensures counts { AfterCall group self.old.counts self.new.counts }
+        ensures follows { Follows group self.old self.new (λ turn. WritesBy turn (length (part_of (T.parts buf))) result) }
+    {
+        match self.write(first_part(&buf), group, task) {
+            PollBuf::Ready(outcome, ()) => PollBuf::Ready(outcome, buf),
+            PollBuf::Pending(()) => PollBuf::Pending(buf),
+            PollBuf::Again(()) => PollBuf::Again(buf),
+        }
     }
 
-    fn poll_cancelable_readv<T: IoVecBufMut>(
-        &mut self,
-        buf: T,
-        _c: CancelHandle,
-        task: u64,
-    ) -> PollBuf<T> {
-        self.poll_readv(buf, task)
-    }
-}
-
-impl CancelableAsyncWriteRent for ScriptedStream {
-    fn poll_cancelable_write<T: IoBuf>(
-        &mut self,
-        buf: T,
-        _c: CancelHandle,
-        task: u64,
-    ) -> PollBuf<T> {
-        self.poll_write(buf, task)
+    // One flush.
+    fn flush(&mut self, group: Option<u64>, task: u64) -> PollCount
+        ensures same { self.new ≡ record self.old { script = self.new.script; counts = self.new.counts; flushes = self.new.flushes } }
+        ensures flushes { CountsDone self.old.flushes self.new.flushes result }
+        ensures cause { IsFlushCaused task self.old.counts self.new.counts result }
+        ensures counts { AfterCall group self.old.counts self.new.counts }
+        ensures follows { Follows group self.old self.new (λ turn. EndsBy turn result) }
+    {
+        let answer = self.end(group, task);
+        if let PollCount::Ready(Ok(_)) = answer {
+            self.flushes = self.flushes.saturating_add(1);
+        }
+        answer
     }
 
-    fn poll_cancelable_writev<T: IoVecBuf>(
-        &mut self,
-        buf: T,
-        _c: CancelHandle,
-        task: u64,
-    ) -> PollBuf<T> {
-        self.poll_writev(buf, task)
-    }
-
-    fn poll_cancelable_flush(&mut self, _c: CancelHandle, task: u64) -> PollCount {
-        self.poll_flush(task)
-    }
-
-    fn poll_cancelable_shutdown(&mut self, _c: CancelHandle, task: u64) -> PollCount {
-        self.poll_shutdown(task)
+    // One shutdown.
+    fn shut(&mut self, group: Option<u64>, task: u64) -> PollCount
+        ensures same { self.new ≡ record self.old { script = self.new.script; counts = self.new.counts; shutdowns = self.new.shutdowns } }
+        ensures shutdowns { CountsDone self.old.shutdowns self.new.shutdowns result }
+        ensures cause { IsFlushCaused task self.old.counts self.new.counts result }
+        ensures counts { AfterCall group self.old.counts self.new.counts }
+        ensures follows { Follows group self.old self.new (λ turn. EndsBy turn result) }
+    {
+        let answer = self.end(group, task);
+        if let PollCount::Ready(Ok(_)) = answer {
+            self.shutdowns = self.shutdowns.saturating_add(1);
+        }
+        answer
     }
 }

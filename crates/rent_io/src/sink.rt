@@ -40,20 +40,20 @@ pub trait Sink<Item> {
     fn poll_send(&mut self, item: Item, task: u64) -> SinkPoll<Item, Self::Error>
         ensures sent { IsSent item (sink self.old) (sink self.new) result }
         ensures flushes { (sink self.new).flushes ≡ (sink self.old).flushes }
-        ensures counts { AfterCall (sink self.old).counts (sink self.new).counts };
+        ensures counts { AfterCall None (sink self.old).counts (sink self.new).counts };
 
     /// Passes on the items that were taken (monoio: `flush`).
     fn poll_flush(&mut self, task: u64) -> SinkDone<Self::Error>
         ensures done { IsDone (sink self.old) (sink self.new) result }
         ensures sends { (sink self.new).sends ≡ (sink self.old).sends }
-        ensures counts { AfterCall (sink self.old).counts (sink self.new).counts };
+        ensures counts { AfterCall None (sink self.old).counts (sink self.new).counts };
 
     /// Ends the sink behind the items that were taken (monoio: `close`).
     fn poll_close(&mut self, task: u64) -> SinkDone<Self::Error>
         ensures cause { CausesDone (sink self.old).counts (sink self.new).counts result }
         ensures sends { (sink self.new).sends ≡ (sink self.old).sends }
         ensures flushes { (sink self.new).flushes ≡ (sink self.old).flushes }
-        ensures counts { AfterCall (sink self.old).counts (sink self.new).counts };
+        ensures counts { AfterCall None (sink self.old).counts (sink self.new).counts };
 }
 
 impl<I, S: Sink<I>> Sink<I> for &mut S {
@@ -107,7 +107,7 @@ impl<I> SendAndFlush<I> {
         task: u64,
     ) -> Step<SendAndFlush<I>, Result<(), S::Error>>
         ensures answer { SendsAndFlushes (S.sink sink.old) (S.sink sink.new) self result }
-        ensures counts { AfterCall (S.sink sink.old).counts (S.sink sink.new).counts }
+        ensures counts { AfterCall None (S.sink sink.old).counts (S.sink sink.new).counts }
         ensures complete { Completes (S.sink sink.old).counts (S.sink sink.new).counts result (λ end. end) (λ error. ⊥)
             (λ next. IsSome self × (next ≡ None)) }
     {
@@ -137,7 +137,7 @@ impl<I> SendAndFlush<I> {
         ensures run { RunsSend (S.sink sink.old) (S.sink sink.new) self result }
         ensures used { IfGoesOn result (λ next. AreUsed polls (unsent next) (unsent self)
             (S.sink sink.old).counts (S.sink sink.new).counts) }
-        ensures counts { AfterCalls polls (S.sink sink.old).counts (S.sink sink.new).counts }
+        ensures counts { AfterCalls None polls (S.sink sink.old).counts (S.sink sink.new).counts }
     {
         let mut state = self;
         for _ in 0..polls {

@@ -1,7 +1,7 @@
 // A sink as a stream.
-ghost use Rattle.std.specs.Prelude.{◌≡◌, IsTrue};
+ghost use Rattle.std.specs.Prelude.{◌≡◌, IsTrue, None};
 ghost use Rattle.rent_io.specs.Counts.{AfterCall};
-ghost use Rattle.rent_io.specs.Polls.{IsCountCaused};
+ghost use Rattle.rent_io.specs.Polls.{IsFlushCaused};
 ghost use Rattle.rent_io.specs.Writer.{sink_writer, CountsDone, IfDone};
 
 use crate::async_write_rent::AsyncWriteRent;
@@ -74,7 +74,7 @@ impl<K: ByteSink> AsyncWriteRent for SinkStream<K> {
     }
 
     /// One write of the sink, of the first part that has bytes. `WriteFault` where it failed.
-    #[tactic(auto, using(crate::proofs::FirstParts::parts_written, crate::proofs::FirstParts::parts_within))]
+    #[tactic(auto, using(crate::proofs::FirstParts::parts_written, crate::proofs::FirstParts::parts_within, crate::proofs::FirstParts::none_at_all))]
     fn poll_writev<T: IoVecBuf>(&mut self, buf: T, _task: u64) -> PollBuf<T> {
         match self.sink.write(first_part(&buf)) {
             Ok(count) => PollBuf::Ready(Ok(count), buf),
@@ -87,9 +87,9 @@ impl<K: ByteSink> AsyncWriteRent for SinkStream<K> {
         ensures delivered { IsTrue K.tells → K.taken self.new.sink ≡ K.taken self.old.sink }
         ensures flushes { CountsDone self.old.flushes self.new.flushes result }
         ensures shutdowns { self.new.shutdowns ≡ self.old.shutdowns }
-        ensures cause { IsCountCaused (sink_writer (K.taken self.old.sink) (K.faults self.old.sink) self.old).counts
+        ensures cause { IsFlushCaused _task (sink_writer (K.taken self.old.sink) (K.faults self.old.sink) self.old).counts
             (sink_writer (K.taken self.new.sink) (K.faults self.new.sink) self.new).counts result }
-        ensures counts { AfterCall (sink_writer (K.taken self.old.sink) (K.faults self.old.sink) self.old).counts
+        ensures counts { AfterCall None (sink_writer (K.taken self.old.sink) (K.faults self.old.sink) self.old).counts
             (sink_writer (K.taken self.new.sink) (K.faults self.new.sink) self.new).counts }
         ensures flushed { IfDone result (IsTrue (K.is_flushed self.new.sink)) }
     {
@@ -107,9 +107,9 @@ impl<K: ByteSink> AsyncWriteRent for SinkStream<K> {
         ensures delivered { IsTrue K.tells → K.taken self.new.sink ≡ K.taken self.old.sink }
         ensures flushes { self.new.flushes ≡ self.old.flushes }
         ensures shutdowns { CountsDone self.old.shutdowns self.new.shutdowns result }
-        ensures cause { IsCountCaused (sink_writer (K.taken self.old.sink) (K.faults self.old.sink) self.old).counts
+        ensures cause { IsFlushCaused _task (sink_writer (K.taken self.old.sink) (K.faults self.old.sink) self.old).counts
             (sink_writer (K.taken self.new.sink) (K.faults self.new.sink) self.new).counts result }
-        ensures counts { AfterCall (sink_writer (K.taken self.old.sink) (K.faults self.old.sink) self.old).counts
+        ensures counts { AfterCall None (sink_writer (K.taken self.old.sink) (K.faults self.old.sink) self.old).counts
             (sink_writer (K.taken self.new.sink) (K.faults self.new.sink) self.new).counts }
         ensures flushed { IfDone result (IsTrue (K.is_flushed self.new.sink)) }
     {

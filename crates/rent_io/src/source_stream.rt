@@ -1,6 +1,9 @@
 // A source as a stream.
-ghost use Rattle.std.specs.Prelude.{◌≡◌, IfOk, IfErr};
-ghost use Rattle.rent_io.specs.Reader.{source_reader};
+ghost use Rattle.std.specs.Prelude.{◌≡◌, ◌≤◌, None, IfOk, IfErr};
+ghost use Rattle.rent_buf.specs.Buffer.{room};
+ghost use Rattle.rent_io.specs.Counts.{AfterCall};
+ghost use Rattle.rent_io.specs.Polls.{CountsNone, IsCaused};
+ghost use Rattle.rent_io.specs.Reader.{Reads, ReadsParts, IfGiven, first_room as room_of, source_reader};
 
 use crate::async_read_rent::AsyncReadRent;
 use crate::poll::PollBuf;
@@ -66,7 +69,16 @@ impl<S: ByteSource> AsyncReadRent for SourceStream<S> {
 
     /// One read of the source, of 4096 bytes at most. `ReadFault` where the source failed.
     #[tactic(auto, using(crate::proofs::Pieces::taken_piece))]
-    fn poll_read<T: IoBufMut>(&mut self, buf: T, _task: u64) -> PollBuf<T> {
+    fn poll_read<T: IoBufMut>(&mut self, buf: T, _task: u64) -> PollBuf<T>
+        ensures reads { Reads S.tells (S.left self.old) (S.left self.new) T.buffer T.under T.beside buf result }
+        ensures none { CountsNone (room (T.buffer buf)) (source_reader (S.left self.old) (S.faults self.old)).counts
+            (source_reader (S.left self.new) (S.faults self.new)).counts result }
+        ensures cause { IsCaused _task (source_reader (S.left self.old) (S.faults self.old)).counts
+            (source_reader (S.left self.new) (S.faults self.new)).counts result }
+        ensures counts { AfterCall None (source_reader (S.left self.old) (S.faults self.old)).counts
+            (source_reader (S.left self.new) (S.faults self.new)).counts }
+        ensures most { IfGiven result (λ n. n ≤ PIECE) }
+    {
         let mut buf = buf;
         let room = buf.bytes_total().min(self.piece.len());
         let piece = self.piece.slice_mut(0..room);
@@ -82,7 +94,16 @@ impl<S: ByteSource> AsyncReadRent for SourceStream<S> {
 
     /// One read of the source, of 4096 bytes at most. `ReadFault` where the source failed.
     #[tactic(auto, using(crate::proofs::Pieces::scattered_piece))]
-    fn poll_readv<T: IoVecBufMut>(&mut self, buf: T, _task: u64) -> PollBuf<T> {
+    fn poll_readv<T: IoVecBufMut>(&mut self, buf: T, _task: u64) -> PollBuf<T>
+        ensures reads { ReadsParts S.tells (S.left self.old) (S.left self.new) T.held buf result }
+        ensures none { CountsNone (room_of (T.held buf)) (source_reader (S.left self.old) (S.faults self.old)).counts
+            (source_reader (S.left self.new) (S.faults self.new)).counts result }
+        ensures cause { IsCaused _task (source_reader (S.left self.old) (S.faults self.old)).counts
+            (source_reader (S.left self.new) (S.faults self.new)).counts result }
+        ensures counts { AfterCall None (source_reader (S.left self.old) (S.faults self.old)).counts
+            (source_reader (S.left self.new) (S.faults self.new)).counts }
+        ensures most { IfGiven result (λ n. n ≤ PIECE) }
+    {
         let mut buf = buf;
         let room = first_room(&buf).min(self.piece.len());
         let piece = self.piece.slice_mut(0..room);

@@ -1,7 +1,8 @@
 // A write of all bytes of a vector of buffers.
-ghost use Rattle.std.specs.Prelude.{◌≡◌, ◌^◌, ◌<◌, ◌≤◌, [], length, sum_by, slice_index_or, IsOk, IfOk};
-ghost use Rattle.rent_io.specs.Completeness.{Completes, TookNone};
+ghost use Rattle.std.specs.Prelude.{◌≡◌, ◌^◌, ◌<◌, ◌≤◌, [], length, sum_by, slice_index_or, IsOk, IfOk, None};
+ghost use Rattle.rent_io.specs.Completeness.{Completes};
 ghost use Rattle.rent_io.specs.Counts.{AfterCall};
+ghost use Rattle.rent_io.specs.Polls.{TookNone};
 ghost use Rattle.rent_io.specs.Runs.{AfterCalls, AreUsed, IfGoesOn, RunsAll};
 ghost use Rattle.rent_io.specs.WriteAll.{WritesAll, sending_parts};
 ghost use Rattle.rent_io.specs.WriteVectoredAll.{rest_from};
@@ -58,28 +59,27 @@ impl<T: IoVecBuf> WriteVectoredAll<T> {
 
     /// Makes one write at most, of a part that has bytes left. It is done with the number of the vector's bytes, once
     /// all are delivered; with `WriteZero`, where a write took none of some bytes; or with the stream's fault. At
-    /// `Pending` nothing was written, and at `Again` the stream paused too, or some bytes were written and more are
-    /// to be.
+    /// `Pending` nothing was written, and at `Again` the stream was interrupted, or some bytes were written and more
+    /// are to be.
     #[tactic(auto, using(crate::proofs::Completeness::all_completes))]
     pub fn poll<A: AsyncWriteRent>(
         self,
         io: &mut A,
         task: u64,
     ) -> Step<WriteVectoredAll<T>, BufResult<usize, T>>
-        ensures answer { WritesAll A.tells (A.writer io.old) (A.writer io.new) self result }
+        ensures answer { WritesAll A.tells task (A.writer io.old) (A.writer io.new) self result }
         ensures ends { EndsStay (A.writer io.old) (A.writer io.new) }
-        ensures counts { AfterCall (A.writer io.old).counts (A.writer io.new).counts }
+        ensures counts { AfterCall None (A.writer io.old).counts (A.writer io.new).counts }
         ensures complete { Completes (A.writer io.old).counts (A.writer io.new).counts result (λ end. end.0)
-            (TookNone A.tells (A.writer io.old).delivered (A.writer io.new).delivered self.rest)
+            (TookNone (A.writer io.old).counts (A.writer io.new).counts)
             (λ next. length next.rest < length self.rest) }
     {
         self.poll_by(io, &Plain, task)
     }
 
-    /// Polls it until it is done, `polls` times at most: again at once also after a pause, so it is for tests and proofs
-    /// (not in monoio). Whatever the stream answered, the bytes that it
-    /// took are the first ones, each once and in order.
-    /// `Again` means that the polls are used up.
+    /// Polls it until it is done, `polls` times at most: again at once also after a pause, so it is for tests and
+    /// proofs (not in monoio). Whatever the stream answered, the bytes that it took are the first ones, each once and
+    /// in order. `Again` means that the polls are used up.
     pub fn drive<A: AsyncWriteRent>(
         self,
         io: &mut A,
@@ -90,11 +90,28 @@ impl<T: IoVecBuf> WriteVectoredAll<T> {
         ensures ends { EndsStay (A.writer io.old) (A.writer io.new) }
         ensures used { IfGoesOn result (λ next. AreUsed polls (length next.rest) (length self.rest)
             (A.writer io.old).counts (A.writer io.new).counts) }
-        ensures counts { AfterCalls polls (A.writer io.old).counts (A.writer io.new).counts }
+        ensures counts { AfterCalls None polls (A.writer io.old).counts (A.writer io.new).counts }
+    {
+        self.drive_by(io, &Plain, task, polls)
+    }
+
+    // So many polls at most by this call.
+    pub(crate) fn drive_by<A: AsyncWriteRent, C: WriteCall<A>>(
+        self,
+        io: &mut A,
+        call: &C,
+        task: u64,
+        polls: u64,
+    ) -> Step<WriteVectoredAll<T>, BufResult<usize, T>>
+        ensures run { RunsAll A.tells (A.writer io.old) (A.writer io.new) self result }
+        ensures ends { EndsStay (A.writer io.old) (A.writer io.new) }
+        ensures used { IfGoesOn result (λ next. AreUsed polls (length next.rest) (length self.rest)
+            (A.writer io.old).counts (A.writer io.new).counts) }
+        ensures counts { AfterCalls (C.group call.now) polls (A.writer io.old).counts (A.writer io.new).counts }
     {
         let mut state = self;
         for _ in 0..polls {
-            match state.poll(io, task) {
+            match state.poll_by(io, call, task) {
                 Step::Ready((outcome, buf)) => return Step::Ready((outcome, buf)),
                 Step::Pending(next) => state = next,
                 Step::Again(next) => state = next,
@@ -110,9 +127,9 @@ impl<T: IoVecBuf> WriteVectoredAll<T> {
         call: &C,
         task: u64,
     ) -> Step<WriteVectoredAll<T>, BufResult<usize, T>>
-        ensures answer { WritesAll A.tells (A.writer io.old) (A.writer io.new) self result }
+        ensures answer { WritesAll A.tells task (A.writer io.old) (A.writer io.new) self result }
         ensures ends { EndsStay (A.writer io.old) (A.writer io.new) }
-        ensures counts { AfterCall (A.writer io.old).counts (A.writer io.new).counts }
+        ensures counts { AfterCall (C.group call.now) (A.writer io.old).counts (A.writer io.new).counts }
     {
         let WriteVectoredAll {
             buf,

@@ -1,5 +1,6 @@
 -- Bytes of a buffer from a place on.
 use Rattle.std.proofs.Common.{◌≡◌, ◌∙◌, ℕ, ◌+◌, ◌≤◌, List, ◌++◌, Bool, length, take, drop, sym, ap, subst, arith, append_assoc}
+use Rattle.std.proofs.Common.{append-nil, zero, suc}
 use Rattle.std.proofs.Math.Seq.{take-length}
 use Rattle.std.specs.List.{concat, slice_range}
 use Rattle.rent_buf.specs.Slice.{Cut}
@@ -36,3 +37,8 @@ first_behind d held parts first now is same =
     parts_written (d ++ held) (d ++ now) parts (length first) (omega (arith, ap length is))
     (ap (λ l. d ++ l) same ∙ sym (append_assoc d held first) ∙ ap (λ l. d ++ held ++ l) (sym (take-length first)
     ∙ ap (λ l. take (length first) l) is))
+
+-- The first none of some bytes, joined behind others, are these.
+pub nothing_taken : (before now bytes : List ℕ) (n : ℕ) → n ≡ 0 → now ≡ before ++ take n bytes → now ≡ before
+nothing_taken before now bytes zero none is = is ∙ append-nil before
+nothing_taken before now bytes (suc n) none is = absurd (omega (arith, none))

@@ -1,5 +1,5 @@
 -- Polls in which the counts of the streams don't rise get on.
-use Rattle.std.proofs.Common.{◌≡◌, ℕ, inl, inr, Bool}
+use Rattle.std.proofs.Common.{◌≡◌, ℕ, inl, inr, List, Bool}
 use Rattle.std.specs.Prelude.{IsTrue, Result, Ok, Err, IfErr}
 use Rattle.rent_buf.specs.declared.fault.IoFault.{IoFault}
 use Rattle.rent_io.specs.declared.poll.Step.{Step}
@@ -8,93 +8,109 @@ use Rattle.rent_io.specs.declared.poll.PollCount.{PollCount}
 use Rattle.rent_io.specs.declared.poll.PollCount.TheVariants.{Ready as CountReady, Pending as CountPending, Again as CountAgain}
 use Rattle.rent_io.specs.declared.poll.PollBuf.{PollBuf}
 use Rattle.rent_io.specs.declared.poll.PollBuf.TheVariants.{Ready as BufReady, Pending as BufPending, Again as BufAgain}
-use Rattle.rent_io.specs.Completeness.{IsQuiet, CountGetsOn, Completes, TookNone}
-use Rattle.rent_io.specs.Counts.{Counts}
-use Rattle.rent_io.specs.Polls.{IsCaused, IsCountCaused}
-use Rattle.rent_io.specs.Writer.{Writer}
-use Rattle.stream_util.specs.BufWriter.{WriteGetsOn}
-use Rattle.stream_util.specs.Copy.{Copying, Ends, Waits, IsCopyEnd, Copies, CopyCompletes}
+use Rattle.rent_io.specs.Completeness.{IsQuiet, CountGetsOn, Completes}
+use Rattle.rent_io.specs.Polls.{IsFlushCaused, IsWriteCaused, TookNone}
+use Rattle.rent_io.specs.Writer.{Writer, Writes}
+use Rattle.stream_util.specs.BufWriter.{TakesNothing, WriteGetsOn}
+use Rattle.stream_util.specs.Copy.{Breaks, CopyFails, Copying, Ends, Waits, IsCopyEnd, Copies, CopyCompletes}
 use Rattle.stream_util.specs.Split.{IsShutdownEnd, ShutsDown, part_in}
 use Rattle.stream_util.specs.ZeroCopy.{IsZeroCopyEnd, ZeroCopies, SplicesNone}
 use Rattle.stream_util.specs.declared.copy.Copied.{Copied}
 
 -- A copy that waits had a pause.
-waits-none : (reads writes : Bool) (before now : Ends) (copy next : Copying) → IsQuiet before.reader.counts now.reader.counts
-    → IsQuiet before.writer.counts now.writer.counts → Waits reads writes before now copy next → ⊥
-waits-none reads writes before now copy next reader writer (same, nothing, inl rose) = reader.1 rose
-waits-none reads writes before now copy next reader writer (same, nothing, inr rose) = writer.1 rose
+waits-none : (reads writes : Bool) (task : ℕ) (before now : Ends) (copy next : Copying) → IsQuiet before.reader.counts now.reader.counts
+    → IsQuiet before.writer.counts now.writer.counts → Waits reads writes task before now copy next → ⊥
+waits-none reads writes task before now copy next reader writer (same, nothing, inl paused) = reader.1 paused.0
+waits-none reads writes task before now copy next reader writer (same, nothing, inr paused) = writer.1 paused.0
+
+-- A copy that was interrupted had an interrupt.
+breaks-none : (reads writes : Bool) (before now : Ends) (copy next : Copying) → IsQuiet before.reader.counts now.reader.counts
+    → IsQuiet before.writer.counts now.writer.counts → Breaks reads writes before now copy next → ⊥
+breaks-none reads writes before now copy next reader writer (same, nothing, inl rose) = reader.2 rose
+breaks-none reads writes before now copy next reader writer (same, nothing, inr rose) = writer.2 rose
+
+-- A copy fails so.
+copy-fails : (before now : Ends) (held : List ℕ) (fault : IoFault) → IsQuiet before.reader.counts now.reader.counts
+    → IsQuiet before.writer.counts now.writer.counts → CopyFails before now held fault
+    → TookNone before.writer.counts now.writer.counts fault
+copy-fails before now held fault reader writer (inl failed) = absurd (reader.0 failed.0)
+copy-fails before now held fault reader writer (inr (inl failed)) = absurd (writer.0 failed.0)
+copy-fails before now held fault reader writer (inr (inr none)) = none.1
 
 -- A copy ends so.
-copy-end : (reads writes : Bool) (before now : Ends) (copy : Copying) (end : Result ℕ IoFault)
+copy-end : (reads : Bool) (before now : Ends) (copy : Copying) (end : Result ℕ IoFault)
     → IsQuiet before.reader.counts now.reader.counts → IsQuiet before.writer.counts now.writer.counts
-    → (IsTrue writes → now.writer.delivered ≡ before.writer.delivered) → IsCopyEnd reads before now copy end
-    → IfErr end (TookNone writes before.writer.delivered now.writer.delivered copy.held)
-copy-end reads writes before now copy (Ok n) reader writer same is = tt
-copy-end reads writes before now copy (Err fault) reader writer same (inl rose) = absurd (reader.0 rose)
-copy-end reads writes before now copy (Err fault) reader writer same (inr (inl rose)) = absurd (writer.0 rose)
-copy-end reads writes before now copy (Err fault) reader writer same (inr (inr zero)) = (zero.0, zero.1, same)
+    → IsCopyEnd reads before now copy end → IfErr end (TookNone before.writer.counts now.writer.counts)
+copy-end reads before now copy (Ok n) reader writer is = tt
+copy-end reads before now copy (Err fault) reader writer is = copy-fails before now copy.held fault reader writer is
 
 -- A copy gets on.
-pub copy_completes : (reads writes : Bool) (before now : Ends) (copy : Copying) (step : Step Copying Copied)
-    → Copies reads writes before now copy step
-    → CopyCompletes reads writes before now copy step (TookNone writes before.writer.delivered now.writer.delivered copy.held)
-copy_completes reads writes before now copy (Ready copied) is reader writer =
-    copy-end reads writes before now copy copied.result reader writer is.1.1 is.2
-copy_completes reads writes before now copy (Pending next) is reader writer =
-    waits-none reads writes before now copy next reader writer is
-copy_completes reads writes before now copy (Again next) (inl waits) reader writer =
-    absurd (waits-none reads writes before now copy next reader writer waits)
-copy_completes reads writes before now copy (Again next) (inr moves) reader writer = moves
+pub copy_completes : (reads writes : Bool) (task : ℕ) (before now : Ends) (copy : Copying) (step : Step Copying Copied)
+    → Copies reads writes task before now copy step
+    → CopyCompletes reads writes before now copy step (TookNone before.writer.counts now.writer.counts)
+copy_completes reads writes task before now copy (Ready copied) is reader writer =
+    copy-end reads before now copy copied.result reader writer is.2
+copy_completes reads writes task before now copy (Pending next) is reader writer =
+    waits-none reads writes task before now copy next reader writer is
+copy_completes reads writes task before now copy (Again next) (inl breaks) reader writer =
+    absurd (breaks-none reads writes before now copy next reader writer breaks)
+copy_completes reads writes task before now copy (Again next) (inr moves) reader writer = moves
 
 -- A copy by splices ends so.
-zero-copy-end : (reads writes : Bool) (before now : Ends) (copy : Copying) (end : Result ℕ IoFault)
+zero-copy-end : (reads : Bool) (before now : Ends) (copy : Copying) (end : Result ℕ IoFault)
     → IsQuiet before.reader.counts now.reader.counts → IsQuiet before.writer.counts now.writer.counts
-    → (IsTrue writes → now.writer.delivered ≡ before.writer.delivered) → IsZeroCopyEnd reads before now copy end
-    → IfErr end (SplicesNone writes before now copy)
-zero-copy-end reads writes before now copy (Ok n) reader writer same is = tt
-zero-copy-end reads writes before now copy (Err fault) reader writer same (inl rose) = absurd (reader.0 rose)
-zero-copy-end reads writes before now copy (Err fault) reader writer same (inr (inl rose)) = absurd (writer.0 rose)
-zero-copy-end reads writes before now copy (Err fault) reader writer same (inr (inr (inl none))) = inr none
-zero-copy-end reads writes before now copy (Err fault) reader writer same (inr (inr (inr zero))) = inl (zero.0, zero.1, same)
+    → IsZeroCopyEnd reads before now copy end → IfErr end (SplicesNone before now copy)
+zero-copy-end reads before now copy (Ok n) reader writer is = tt
+zero-copy-end reads before now copy (Err fault) reader writer (inl failed) =
+    inl (copy-fails before now copy.held fault reader writer failed)
+zero-copy-end reads before now copy (Err fault) reader writer (inr none) = inr none
 
 -- A copy by splices gets on.
-pub zero_copy_completes : (reads writes : Bool) (before now : Ends) (copy : Copying) (step : Step Copying Copied)
-    → ZeroCopies reads writes before now copy step
-    → CopyCompletes reads writes before now copy step (SplicesNone writes before now copy)
-zero_copy_completes reads writes before now copy (Ready copied) is reader writer =
-    zero-copy-end reads writes before now copy copied.result reader writer is.1.1 is.2
-zero_copy_completes reads writes before now copy (Pending next) is reader writer =
-    waits-none reads writes before now copy next reader writer is
-zero_copy_completes reads writes before now copy (Again next) (inl waits) reader writer =
-    absurd (waits-none reads writes before now copy next reader writer waits)
-zero_copy_completes reads writes before now copy (Again next) (inr moves) reader writer = moves
+pub zero_copy_completes : (reads writes : Bool) (task : ℕ) (before now : Ends) (copy : Copying) (step : Step Copying Copied)
+    → ZeroCopies reads writes task before now copy step
+    → CopyCompletes reads writes before now copy step (SplicesNone before now copy)
+zero_copy_completes reads writes task before now copy (Ready copied) is reader writer =
+    zero-copy-end reads before now copy copied.result reader writer is.2
+zero_copy_completes reads writes task before now copy (Pending next) is reader writer =
+    waits-none reads writes task before now copy next reader writer is
+zero_copy_completes reads writes task before now copy (Again next) (inl breaks) reader writer =
+    absurd (breaks-none reads writes before now copy next reader writer breaks)
+zero_copy_completes reads writes task before now copy (Again next) (inr moves) reader writer = moves
 
 -- A shutdown ends so.
 shutdown-end : (before now : Writer) (end : Result ℕ IoFault) → IsQuiet before.counts now.counts → IsShutdownEnd before now end
-    → IfErr end (λ fault. ⊥)
+    → IfErr end (TookNone before.counts now.counts)
 shutdown-end before now (Ok n) quiet is = tt
-shutdown-end before now (Err fault) quiet is = quiet.0 is.0
+shutdown-end before now (Err fault) quiet (inl failed, same) = absurd (quiet.0 failed.0)
+shutdown-end before now (Err fault) quiet (inr none, same) = none
 
 -- A shutdown gets on.
-pub shutdown_completes : {W : Type 0} (writer : W → Writer) (tells : Bool) (part : W) (step : Step W (Result ℕ IoFault × W))
-    → ShutsDown writer tells part step
-    → Completes (writer part).counts (writer (part_in step)).counts step (λ end. end.0) (λ fault. ⊥) (λ next. ⊥)
-shutdown_completes writer tells part (Ready end) is quiet = shutdown-end (writer part) (writer end.1) end.0 quiet is.1
-shutdown_completes writer tells part (Pending next) is quiet = quiet.1 is.1
-shutdown_completes writer tells part (Again next) is quiet = quiet.1 is.1
+pub shutdown_completes : {W : Type 0} (writer : W → Writer) (tells : Bool) (task : ℕ) (part : W) (step : Step W (Result ℕ IoFault × W))
+    → ShutsDown writer tells task part step
+    → Completes (writer part).counts (writer (part_in step)).counts step (λ end. end.0)
+    (TookNone (writer part).counts (writer (part_in step)).counts) (λ next. ⊥)
+shutdown_completes writer tells task part (Ready end) is quiet = shutdown-end (writer part) (writer end.1) end.0 quiet is.1
+shutdown_completes writer tells task part (Pending next) is quiet = quiet.1 is.1.0
+shutdown_completes writer tells task part (Again next) is quiet = quiet.2 is.1
 
--- A poll that has its cause in the counts gets on, whatever faults there may be.
-pub count_gets_on : (before now : Counts) (result : PollCount) (faults : IoFault → Type 0) (further : Type 0)
-    → IsCountCaused before now result → IsQuiet before now → CountGetsOn result faults further
-count_gets_on before now (CountReady (Ok n)) faults further cause quiet = tt
-count_gets_on before now (CountReady (Err fault)) faults further cause quiet = absurd (quiet.0 cause)
-count_gets_on before now CountPending faults further cause quiet = quiet.1 cause
-count_gets_on before now CountAgain faults further cause quiet = absurd (quiet.1 cause)
+-- A poll that has its cause in the counts, and delivers nothing, gets on.
+pub count_gets_on : (tells : Bool) (task : ℕ) (before now : Writer) (result : PollCount) (further : Type 0)
+    → IsFlushCaused task before.counts now.counts result → (IsTrue tells → now.delivered ≡ before.delivered)
+    → IsQuiet before.counts now.counts → CountGetsOn result (TakesNothing tells before now) further
+count_gets_on tells task before now (CountReady (Ok n)) further cause same quiet = tt
+count_gets_on tells task before now (CountReady (Err fault)) further (inl failed) same quiet = absurd (quiet.0 failed.0)
+count_gets_on tells task before now (CountReady (Err fault)) further (inr none) same quiet = (none, same)
+count_gets_on tells task before now CountPending further cause same quiet = quiet.1 cause.0
+count_gets_on tells task before now CountAgain further cause same quiet = absurd (quiet.2 cause)
 
 -- The same of a write.
-pub write_gets_on : {T : Type 0} (before now : Counts) (result : PollBuf T) (faults : IoFault → Type 0) (further : Type 0)
-    → IsCaused before now result → IsQuiet before now → WriteGetsOn result faults further
-write_gets_on before now (BufReady (Ok n) back) faults further cause quiet = tt
-write_gets_on before now (BufReady (Err fault) back) faults further cause quiet = absurd (quiet.0 cause)
-write_gets_on before now (BufPending back) faults further cause quiet = quiet.1 cause
-write_gets_on before now (BufAgain back) faults further cause quiet = absurd (quiet.1 cause)
+pub write_gets_on : {T : Type 0} (tells : Bool) (task : ℕ) (before now : Writer) (bytes : List ℕ) (buf : T) (result : PollBuf T)
+    (further : Type 0) → IsWriteCaused task before.counts now.counts result
+    → Writes tells before.delivered now.delivered bytes buf result → IsQuiet before.counts now.counts
+    → WriteGetsOn result (TakesNothing tells before now) further
+write_gets_on tells task before now bytes buf (BufReady (Ok n) back) further cause writes quiet = tt
+write_gets_on tells task before now bytes buf (BufReady (Err fault) back) further (inl failed) writes quiet =
+    absurd (quiet.0 failed.0)
+write_gets_on tells task before now bytes buf (BufReady (Err fault) back) further (inr none) writes quiet = (none, writes.1)
+write_gets_on tells task before now bytes buf (BufPending back) further cause writes quiet = quiet.1 cause.0
+write_gets_on tells task before now bytes buf (BufAgain back) further cause writes quiet = absurd (quiet.2 cause)

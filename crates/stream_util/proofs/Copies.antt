@@ -1,19 +1,22 @@
 -- What polls of a copy move.
-use Rattle.std.proofs.Common.{◌≡◌, ◌∙◌, ℕ, ◌+◌, ◌^◌, ◌<◌, ◌≤◌, ◌≢◌, ◌⊎◌, inl, inr, refl, List, [], ◌++◌, Bool, length, take, drop}
+use Rattle.std.proofs.Common.{◌≡◌, ◌∙◌, ℕ, ◌+◌, ◌-◌, ◌^◌, ◌<◌, ◌≤◌, ◌≢◌, ◌⊎◌, inl, inr, refl, List, [], ◌++◌, Bool, length, take, drop}
 use Rattle.std.proofs.Common.{sym, ap, subst, arith}
 use Rattle.std.proofs.Common.{append_assoc, append-nil, length-append}
-use Rattle.std.specs.Prelude.{IsTrue, Result, Ok, Err}
+use Rattle.std.specs.Prelude.{IsTrue, None, Result, Ok, Err}
 use Rattle.std.specs.List.{slice_range}
-use Rattle.std.proofs.lemmas.List.{length-take, take-append-drop, drop-drop}
+use Rattle.std.proofs.lemmas.List.{length-take, length-drop, take-append-drop, drop-drop}
 use Rattle.rent_buf.specs.declared.fault.IoFault.{IoFault}
 use Rattle.rent_buf.specs.Rent.{Rented, buffer_of_rent}
 use Rattle.rent_buf.specs.Slice.{Cut}
 use Rattle.rent_io.specs.declared.poll.Step.TheVariants.{Ready, Pending}
 use Rattle.rent_io.specs.Reader.{Reader, Taken}
 use Rattle.rent_io.specs.Writer.{Writer}
-use Rattle.rent_io.proofs.Runs.{rose_later}
+use Rattle.rent_io.specs.Counts.{AfterCall, Counts, Rose}
+use Rattle.rent_io.specs.Polls.{WriteFails}
+use Rattle.rent_io.proofs.Runs.{fails_later, rose_later}
 use Rattle.rent_io.proofs.Sends.{SliceSent, range-to_end}
-use Rattle.stream_util.specs.Copy.{Copying, Ends, OneCall, Copies, Waits, Moves, MovesSome, IsCopyEnd, IsSameJoined, count_more}
+use Rattle.stream_util.specs.Copy.{Breaks, CopyFails, Copying, Ends, OneCall, Copies, UsesAll, Waits, Moves, MovesSome, IsCopyEnd}
+use Rattle.stream_util.specs.Copy.{IsSameJoined, count_more}
 use Rattle.stream_util.specs.Copy.{HasCopied, IsRunEnd, Runs, CopiesAll, HasAll}
 use Rattle.stream_util.specs.declared.copy.Copied.{Copied}
 
@@ -90,7 +93,7 @@ moves_none reads writes before now copy next bounded same left delivered = recor
 }
 
 -- What moved in some polls and then in others moved in all of them.
-pub moves_then : (reads writes : Bool) (before mid now : Ends) (copy next later : Copying) → Moves reads writes before mid copy next
+abbrev pub moves_then : (reads writes : Bool) (before mid now : Ends) (copy next later : Copying) → Moves reads writes before mid copy next
     → Moves reads writes mid now next later → Moves reads writes before now copy later
 moves_then reads writes before mid now copy next later m n = record {
   got = m.got ++ n.got;
@@ -102,81 +105,186 @@ moves_then reads writes before mid now copy next later m n = record {
   counted = omega (arith, m.counted, n.counted, length-append m.sent n.sent);
 }
 
--- Some polls of a copy: what they moved, and no fault and no pause is forgotten.
-pub record Ran (reads writes : Bool) (before now : Ends) (copy next : Copying) : Type 0 where
-  pub moves : Moves reads writes before now copy next
-  pub reads_fail : before.reader.counts.faults ≤ now.reader.counts.faults
-  pub reads_pause : before.reader.counts.pauses ≤ now.reader.counts.pauses
-  pub writes_fail : before.writer.counts.faults ≤ now.writer.counts.faults
-  pub writes_pause : before.writer.counts.pauses ≤ now.writer.counts.pauses
+-- No count of a stream that a copy's ends go by fell.
+pub record Grew (before now : Counts) : Type 0 where
+  pub faults : before.faults ≤ now.faults
+  pub pauses : before.pauses ≤ now.pauses
+  pub interrupts : before.interrupts ≤ now.interrupts
+  pub zeros : before.zeros ≤ now.zeros
+
+-- Some polls of a copy, all of which are used: what they moved, and no count fell.
+pub record Ran (turns : ℕ) (reads writes : Bool) (before now : Ends) (copy next : Copying) : Type 0 where
+  pub uses : UsesAll turns reads writes before now copy next
+  pub reader : Grew before.reader.counts now.reader.counts
+  pub writer : Grew before.writer.counts now.writer.counts
+
+-- One call more.
+grew_more : (before mid now : Counts) → Grew before mid → AfterCall None mid now → Grew before now
+grew_more before mid now grew call = record {
+  faults = omega (arith, grew.faults, call.faults_stay);
+  pauses = omega (arith, grew.pauses, call.pauses_stay);
+  interrupts = omega (arith, grew.interrupts, call.interrupts_stay);
+  zeros = omega (arith, grew.zeros, call.zeros_stay);
+}
+
+-- No call.
+grew_none : (counts : Counts) → Grew counts counts
+grew_none counts = record { faults = omega arith; pauses = omega arith; interrupts = omega arith; zeros = omega arith }
 
 -- No polls.
-pub ran_none : (reads writes : Bool) (ends : Ends) (copy : Copying) → copy.count < 2 ^ 64 → Ran reads writes ends ends copy copy
+pub ran_none : (reads writes : Bool) (ends : Ends) (copy : Copying) → copy.count < 2 ^ 64 → Ran 0 reads writes ends ends copy copy
 ran_none reads writes ends copy bounded = record {
-  moves = moves_none reads writes ends ends copy copy bounded refl (λ _. refl) (λ _. refl);
-  reads_fail = omega arith;
-  reads_pause = omega arith;
-  writes_fail = omega arith;
-  writes_pause = omega arith;
+  uses = record {
+    moves = moves_none reads writes ends ends copy copy bounded refl (λ _. refl) (λ _. refl);
+    reader = 0;
+    writer = 0;
+    each = omega arith;
+    reads_break = omega arith;
+    writes_break = omega arith;
+  };
+  reader = grew_none ends.reader.counts;
+  writer = grew_none ends.writer.counts;
 }
 
 -- A copy as it was, but that what it holds is called by another name.
 renamed : (copy : Copying) (rest : List ℕ) → rest ≡ copy.held → (record { held = rest; count = copy.count }) ≡ copy
 renamed copy rest same = ap (λ (l : List ℕ). record { held = l; count = copy.count }) same
 
+-- A turn that was interrupted is used.
+uses_break : (turns : ℕ) (reads writes : Bool) (before mid now : Ends) (copy next later : Copying)
+    → Ran turns reads writes before mid copy next
+    → OneCall mid now → Moves reads writes mid now next later
+    → Rose mid.reader.counts.interrupts now.reader.counts.interrupts ⊎ Rose mid.writer.counts.interrupts now.writer.counts.interrupts
+    → UsesAll (turns + 1) reads writes before now copy later
+uses_break turns reads writes before mid now copy next later ran call none (inl rose) =
+    let u = ran.uses in
+    let moved : Moves reads writes before now copy later = moves_then reads writes before mid now copy next later u.moves none in
+    let got : length moved.got ≡ length u.moves.got + length none.got = length-append u.moves.got none.got in
+    let sent : length moved.sent ≡ length u.moves.sent + length none.sent = length-append u.moves.sent none.sent in
+    record {
+      moves = moved;
+      reader = u.reader + 1;
+      writer = u.writer;
+      each = omega (arith, u.each, got, sent);
+      reads_break = omega (arith, u.reads_break, rose);
+      writes_break = omega (arith, u.writes_break, call.writer.interrupts_stay);
+    }
+uses_break turns reads writes before mid now copy next later ran call none (inr rose) =
+    let u = ran.uses in
+    let moved : Moves reads writes before now copy later = moves_then reads writes before mid now copy next later u.moves none in
+    let got : length moved.got ≡ length u.moves.got + length none.got = length-append u.moves.got none.got in
+    let sent : length moved.sent ≡ length u.moves.sent + length none.sent = length-append u.moves.sent none.sent in
+    record {
+      moves = moved;
+      reader = u.reader;
+      writer = u.writer + 1;
+      each = omega (arith, u.each, got, sent);
+      reads_break = omega (arith, u.reads_break, call.reader.interrupts_stay);
+      writes_break = omega (arith, u.writes_break, rose);
+    }
+
+-- A turn that moved a byte is used.
+uses_some : (turns : ℕ) (reads writes : Bool) (before mid now : Ends) (copy next later : Copying)
+    → Ran turns reads writes before mid copy next
+    → OneCall mid now → MovesSome reads writes mid now next later → UsesAll (turns + 1) reads writes before now copy later
+uses_some turns reads writes before mid now copy next later ran call some =
+    let u = ran.uses in
+    let m = some.moves in
+    let moved : Moves reads writes before now copy later = moves_then reads writes before mid now copy next later u.moves m in
+    let got : length moved.got ≡ length u.moves.got + length m.got = length-append u.moves.got m.got in
+    let sent : length moved.sent ≡ length u.moves.sent + length m.sent = length-append u.moves.sent m.sent in
+    record {
+      moves = moved;
+      reader = u.reader;
+      writer = u.writer;
+      each = omega (arith, u.each, some.some, got, sent);
+      reads_break = omega (arith, u.reads_break, call.reader.interrupts_stay);
+      writes_break = omega (arith, u.writes_break, call.writer.interrupts_stay);
+    }
+
 -- One more poll that goes on.
-pub ran_again : (reads writes : Bool) (before mid now : Ends) (copy next later : Copying) → Ran reads writes before mid copy next
-    → OneCall mid now → Waits reads writes mid now next later ⊎ MovesSome reads writes mid now next later
-    → Ran reads writes before now copy later
-ran_again reads writes before mid now copy next later ran call (inl waits) = record {
-  moves = moves_then reads writes before mid now copy next later ran.moves
-      (moves_none reads writes mid now next later (omega (arith, ran.moves.counted)) waits.0 waits.1.0 waits.1.1);
-  reads_fail = omega (arith, ran.reads_fail, call.reader.faults_stay);
-  reads_pause = omega (arith, ran.reads_pause, call.reader.pauses_stay);
-  writes_fail = omega (arith, ran.writes_fail, call.writer.faults_stay);
-  writes_pause = omega (arith, ran.writes_pause, call.writer.pauses_stay);
+pub ran_again : (turns : ℕ) (reads writes : Bool) (before mid now : Ends) (copy next later : Copying)
+    → Ran turns reads writes before mid copy next
+    → OneCall mid now → Breaks reads writes mid now next later ⊎ MovesSome reads writes mid now next later
+    → Ran (turns + 1) reads writes before now copy later
+ran_again turns reads writes before mid now copy next later ran call (inl breaks) = record {
+  uses = uses_break turns reads writes before mid now copy next later ran call
+      (moves_none reads writes mid now next later (omega (arith, ran.uses.moves.counted)) breaks.0 breaks.1.0 breaks.1.1) breaks.2;
+  reader = grew_more before.reader.counts mid.reader.counts now.reader.counts ran.reader call.reader;
+  writer = grew_more before.writer.counts mid.writer.counts now.writer.counts ran.writer call.writer;
 }
-ran_again reads writes before mid now copy next later ran call (inr some) = record {
-  moves = moves_then reads writes before mid now copy next later ran.moves some.moves;
-  reads_fail = omega (arith, ran.reads_fail, call.reader.faults_stay);
-  reads_pause = omega (arith, ran.reads_pause, call.reader.pauses_stay);
-  writes_fail = omega (arith, ran.writes_fail, call.writer.faults_stay);
-  writes_pause = omega (arith, ran.writes_pause, call.writer.pauses_stay);
+ran_again turns reads writes before mid now copy next later ran call (inr some) = record {
+  uses = uses_some turns reads writes before mid now copy next later ran call some;
+  reader = grew_more before.reader.counts mid.reader.counts now.reader.counts ran.reader call.reader;
+  writer = grew_more before.writer.counts mid.writer.counts now.writer.counts ran.writer call.writer;
 }
 
 -- One more poll that has to wait.
-pub ran_waits : (reads writes : Bool) (before mid now : Ends) (copy next later : Copying) → Ran reads writes before mid copy next
-    → Waits reads writes mid now next later → Runs reads writes before now copy (Pending later)
-ran_waits reads writes before mid now copy next later ran waits = (
-  moves_then reads writes before mid now copy next later ran.moves
-      (moves_none reads writes mid now next later (omega (arith, ran.moves.counted)) waits.0 waits.1.0 waits.1.1),
+pub ran_waits : (turns most : ℕ) (reads writes : Bool) (task : ℕ) (before mid now : Ends) (copy next later : Copying)
+    → Ran turns reads writes before mid copy next
+    → Waits reads writes task mid now next later → Runs reads writes task most before now copy (Pending later)
+ran_waits turns most reads writes task before mid now copy next later ran waits = (
+  moves_then reads writes before mid now copy next later ran.uses.moves
+      (moves_none reads writes mid now next later (omega (arith, ran.uses.moves.counted)) waits.0 waits.1.0 waits.1.1),
   elim waits.2 [
-    | inl rose ↦ inl (rose_later before.reader.counts.pauses mid.reader.counts.pauses now.reader.counts.pauses ran.reads_pause rose)
-    | inr rose ↦ inr (rose_later before.writer.counts.pauses mid.writer.counts.pauses now.writer.counts.pauses ran.writes_pause rose)
+    | inl p ↦ inl (rose_later before.reader.counts.pauses mid.reader.counts.pauses now.reader.counts.pauses ran.reader.pauses p.0, p.1)
+    | inr p ↦ inr (rose_later before.writer.counts.pauses mid.writer.counts.pauses now.writer.counts.pauses ran.writer.pauses p.0, p.1)
   ],
 )
 
 -- How one poll ends is how many do.
-run-end : (reads writes : Bool) (before mid now : Ends) (copy next : Copying) (rest : List ℕ) (outcome : Result ℕ IoFault)
-    → Ran reads writes before mid copy next → rest ≡ next.held → (IsTrue reads → now.reader.left ≡ mid.reader.left)
+run-end : (turns : ℕ) (reads writes : Bool) (before mid now : Ends) (copy next : Copying) (rest : List ℕ) (outcome : Result ℕ IoFault)
+    → Ran turns reads writes before mid copy next → rest ≡ next.held → (IsTrue reads → now.reader.left ≡ mid.reader.left)
     → IsCopyEnd reads mid now next outcome → IsRunEnd reads before now next.count rest outcome
-run-end reads writes before mid now copy next rest (Ok n) ran same left end = (end.0, same ∙ end.1, λ r. left r ∙ end.2 r)
-run-end reads writes before mid now copy next rest (Err fault) ran same left (inl rose) =
-    inl (rose_later before.reader.counts.faults mid.reader.counts.faults now.reader.counts.faults ran.reads_fail rose)
-run-end reads writes before mid now copy next rest (Err fault) ran same left (inr (inl rose)) =
-    inr (inl (rose_later before.writer.counts.faults mid.writer.counts.faults now.writer.counts.faults ran.writes_fail rose))
-run-end reads writes before mid now copy next rest (Err fault) ran same left (inr (inr zero)) =
-    inr (inr (zero.0, omega (arith, zero.1, ap length same)))
+run-end turns reads writes before mid now copy next rest (Ok n) ran same left end = (
+  end.0,
+  same ∙ end.1,
+  (λ r. left r ∙ end.2.0 r),
+  rose_later before.reader.counts.zeros mid.reader.counts.zeros now.reader.counts.zeros ran.reader.zeros end.2.1,
+)
+run-end turns reads writes before mid now copy next rest (Err fault) ran same left (inl failed) =
+    inl (fails_later before.reader.counts mid.reader.counts now.reader.counts fault ran.reader.faults failed)
+run-end turns reads writes before mid now copy next rest (Err fault) ran same left (inr (inl failed)) =
+    inr (inl (fails_later before.writer.counts mid.writer.counts now.writer.counts fault ran.writer.faults failed))
+run-end turns reads writes before mid now copy next rest (Err fault) ran same left (inr (inr none)) =
+    inr (inr (
+      omega (arith, none.0, ap length same),
+      (none.1.0, rose_later before.writer.counts.zeros mid.writer.counts.zeros now.writer.counts.zeros ran.writer.zeros none.1.1),
+    ))
+
+-- A write of none of a slice's bytes was counted, where the slice has some.
+pub slice_counted : {T : Type 0} (content : T → List ℕ) (buf : T) (slice : Cut T) (sent total n : ℕ) (before now : ℕ)
+    → slice ≡ record { inner = buf; begin = sent; end = total } → sent < total → total ≡ length (content buf) → n ≡ 0
+    → (n ≡ 0 → (length (slice_range (content slice.inner) slice.begin slice.end) ≡ 0) ⊎ Rose before now) → Rose before now
+slice_counted content buf slice sent total n before now cut some end none counted =
+    elim (subst (λ sl. (length (slice_range (content sl.inner) sl.begin sl.end) ≡ 0) ⊎ Rose before now) cut (counted none)) [
+      | inl empty ↦ absurd (omega (
+        arith,
+        empty,
+        some,
+        end,
+        length-take (total - sent) (drop sent (content buf)),
+        length-drop sent (content buf),
+      ))
+      | inr rose ↦ rose
+    ]
+
+-- What a write that failed of some bytes that are held says of the copy.
+pub write_failed : (before now : Ends) (held : List ℕ) (fault : IoFault) → 0 < length held
+    → WriteFails before.writer.counts now.writer.counts fault → CopyFails before now held fault
+write_failed before now held fault some (inl failed) = inr (inl failed)
+write_failed before now held fault some (inr none) = inr (inr (some, none))
 
 -- One more poll that is done.
-pub ran_ends : (reads writes : Bool) (before mid now : Ends) (copy next : Copying) (copied : Copied) → Ran reads writes before mid copy next
-    → Copies reads writes mid now next (Ready copied) → HasCopied reads writes before now copy copied
-ran_ends reads writes before mid now copy next copied ran ends = record {
+pub ran_ends : (turns : ℕ) (reads writes : Bool) (task : ℕ) (before mid now : Ends) (copy next : Copying) (copied : Copied)
+    → Ran turns reads writes before mid copy next
+    → Copies reads writes task mid now next (Ready copied) → HasCopied reads writes before now copy copied
+ran_ends turns reads writes task before mid now copy next copied ran ends = record {
   count = next.count;
-  moves = moves_then reads writes before mid now copy next (record { held = copied.rest; count = next.count }) ran.moves
-      (moves_none reads writes mid now next (record { held = copied.rest; count = next.count }) (omega (arith, ran.moves.counted))
+  moves = moves_then reads writes before mid now copy next (record { held = copied.rest; count = next.count }) ran.uses.moves
+      (moves_none reads writes mid now next (record { held = copied.rest; count = next.count }) (omega (arith, ran.uses.moves.counted))
       (renamed next copied.rest ends.0) ends.1.0 ends.1.1);
-  ends = run-end reads writes before mid now copy next copied.rest copied.result ran ends.0 ends.1.0 ends.2;
+  ends = run-end turns reads writes before mid now copy next copied.rest copied.result ran ends.0 ends.1.0 ends.2;
 }
 
 -- A copy that ended Ok delivered what it held and all that was left.

@@ -1,10 +1,9 @@
 -- A reader with a buffer: what a read and a fill of it do.
 use Rattle.std.specs.Prelude.{ℕ, ◌≡◌, ◌<◌, ◌≤◌, min, Bool, List, [], ◌++◌, length, drop, Ok, Err}
 use Rattle.rent_io.specs.declared.poll.PollBuf.{PollBuf}
-use Rattle.rent_io.specs.declared.poll.PollBuf.TheVariants.{Ready, Pending, Again}
 use Rattle.rent_io.specs.declared.poll.PollCount.{PollCount}
 use Rattle.rent_io.specs.declared.poll.PollCount.TheVariants.{Ready as CountReady, Pending as CountPending, Again as CountAgain}
-use Rattle.rent_io.specs.Reader.{Reader, WasFront}
+use Rattle.rent_io.specs.Reader.{Reader, WasFront, GivesUpTo, IfGiven}
 
 -- Such a reader is the one inside, the bytes that are buffered, and how many it buffers at most.
 pub record Reading (R : Type 0) : Type 0 where
@@ -19,20 +18,6 @@ fresh_reader inner capacity = record { inner = inner; held = []; capacity = capa
 -- It as a reader: the bytes that are left are those that are buffered, and then those that are left of the one inside.
 abbrev pub reader_over : {R : Type 0} → Reader → Reading R → Reader
 reader_over inner r = record { left = r.held ++ inner.left; counts = inner.counts }
-
--- A poll of a read gave the lesser of what there is and what there is room for.
-abbrev pub GivesUpTo : {T : Type 0} → ℕ → ℕ → PollBuf T → Type 0
-GivesUpTo there space (Ready (Ok n) back) = n ≡ min there space
-GivesUpTo there space (Ready (Err fault) back) = ⊥
-GivesUpTo there space (Pending back) = ⊥
-GivesUpTo there space (Again back) = ⊥
-
--- A fact of a poll of a read that gave so many bytes.
-abbrev pub IfGiven : {T : Type 0} → PollBuf T → (ℕ → Type 0) → Type 0
-IfGiven (Ready (Ok n) back) P = P n
-IfGiven (Ready (Err fault) back) P = Unit {0}
-IfGiven (Pending back) P = Unit {0}
-IfGiven (Again back) P = Unit {0}
 
 -- A read that filled the empty buffer first: of what came, at most as much as the buffer takes, it gave the first bytes.
 pub record FillsFirst {R : Type 0} (inner : R → Reader) (tells : Bool) (before now : Reading R) (space n : ℕ) : Type 0 where

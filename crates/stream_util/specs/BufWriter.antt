@@ -1,8 +1,9 @@
 -- A writer with a buffer: what a write, a flush and a shutdown of it do.
 use Rattle.std.specs.Prelude.{ℕ, ◌≡◌, ◌+◌, ◌<◌, ◌≤◌, Bool, IsTrue, List, [], ◌++◌, length, Ok, Err, IfErr}
 use Rattle.rent_buf.specs.declared.fault.IoFault.{IoFault}
-use Rattle.rent_io.specs.Completeness.{IsQuiet, CountGetsOn, TookNone}
+use Rattle.rent_io.specs.Completeness.{IsQuiet, CountGetsOn}
 use Rattle.rent_io.specs.Counts.{Counts, Rose}
+use Rattle.rent_io.specs.Polls.{Pauses, TookNone, WriteFails}
 use Rattle.rent_io.specs.Writer.{Writer}
 use Rattle.rent_io.specs.declared.poll.PollBuf.{PollBuf}
 use Rattle.rent_io.specs.declared.poll.PollBuf.TheVariants.{Ready, Pending as BufPending, Again as BufAgain}
@@ -12,21 +13,20 @@ use Rattle.stream_util.specs.declared.buf_writer.Offered.{Offered}
 use Rattle.stream_util.specs.declared.buf_writer.Offered.TheVariants.{Taken, PassOn, Pending, Again, Fault}
 
 -- Such a writer is the one inside, the bytes that are buffered, and how many it buffers at most. It counts the writes of its buffer that
--- took no byte, which are faults, and those that took some, which are pauses.
+-- took some bytes, which are interrupts.
 pub record Writing (W : Type 0) : Type 0 where
   pub inner : W
   pub held : List ℕ
   pub capacity : ℕ
-  pub refused : ℕ
   pub moved : ℕ
 
 -- A new one over a writer.
 abbrev pub fresh_writer : {W : Type 0} → W → ℕ → Writing W
-fresh_writer inner capacity = record { inner = inner; held = []; capacity = capacity; refused = 0; moved = 0 }
+fresh_writer inner capacity = record { inner = inner; held = []; capacity = capacity; moved = 0 }
 
 -- Its counts, by those of the writer inside.
 abbrev pub counts_over : {W : Type 0} → Counts → Writing W → Counts
-counts_over counts w = record { faults = counts.faults + w.refused; pauses = counts.pauses + w.moved; calls = counts.calls }
+counts_over counts w = record counts { interrupts = counts.interrupts + w.moved }
 
 -- It as a writer: what the one inside delivered and what is buffered, joined, is what was delivered to it.
 abbrev pub writer_over : {W : Type 0} → Writer → Writing W → Writer
@@ -39,18 +39,23 @@ pub record Pushes (tells : Bool) (before now : Writer) (held later : List ℕ) :
   pub cut : held ≡ sent ++ later
   pub delivered : IsTrue tells → now.delivered ≡ before.delivered ++ sent
 
--- The cause of what a write of the buffer answers: a fault, or a pause of the stream inside, or that bytes moved. It is never done.
-abbrev pub IsPushCaused : Counts → Counts → PollCount → Type 0
-IsPushCaused before now (CountReady (Ok n)) = ⊥
-IsPushCaused before now (CountReady (Err fault)) = Rose before.faults now.faults
-IsPushCaused before now CountPending = Rose before.pauses now.pauses
-IsPushCaused before now CountAgain = Rose before.pauses now.pauses
+-- The cause of what a write of the buffer answers: a fault, or a pause of the stream inside, or an interrupt or that bytes moved. It is
+-- never done.
+abbrev pub IsPushCaused : ℕ → Counts → Counts → PollCount → Type 0
+IsPushCaused task before now (CountReady (Ok n)) = ⊥
+IsPushCaused task before now (CountReady (Err fault)) = WriteFails before now fault
+IsPushCaused task before now CountPending = Pauses task before now
+IsPushCaused task before now CountAgain = Rose before.interrupts now.interrupts
+
+-- A write took none of some bytes, and the stream inside was delivered nothing.
+abbrev pub TakesNothing : Bool → Writer → Writer → IoFault → Type 0
+TakesNothing tells before now fault = TookNone before.counts now.counts fault × (IsTrue tells → now.delivered ≡ before.delivered)
 
 -- A poll of a flush or a shutdown in which no count of the stream inside rose got on: it is done, or less is buffered, or it ended since a
 -- write took none of what is buffered.
 abbrev pub FlushCompletes : Bool → Writer → Writer → List ℕ → List ℕ → PollCount → Type 0
 FlushCompletes tells before now held later result = IsQuiet before.counts now.counts
-    → CountGetsOn result (TookNone tells before.delivered now.delivered held) (length later < length held)
+    → CountGetsOn result (TakesNothing tells before now) (length later < length held)
 
 -- A poll of a write got on: it took bytes, or ended with one of these faults; or it answers Again, and this is so.
 abbrev pub WriteGetsOn : {T : Type 0} → PollBuf T → (IoFault → Type 0) → Type 0 → Type 0
@@ -62,7 +67,7 @@ WriteGetsOn (BufAgain back) faults further = further
 -- none of what is buffered.
 abbrev pub WriteCompletes : {T : Type 0} → Bool → Writer → Writer → List ℕ → List ℕ → PollBuf T → Type 0
 WriteCompletes tells before now held later result = IsQuiet before.counts now.counts
-    → WriteGetsOn result (TookNone tells before.delivered now.delivered held) (length later < length held)
+    → WriteGetsOn result (TakesNothing tells before now) (length later < length held)
 
 -- Bytes don't fit behind some that are buffered.
 abbrev pub IsFull : {W : Type 0} → Writing W → List ℕ → Type 0
@@ -70,14 +75,15 @@ IsFull w bytes = (w.capacity < length w.held + length bytes) × (0 < length w.he
 
 -- What becomes of bytes that are offered to the buffer. They are taken exactly if they fit behind those that are buffered; they are to
 -- be passed on if nothing is buffered and they are more than the buffer takes; and else a write of the buffer was made first.
-abbrev pub Offers : {W : Type 0} → Counts → Counts → Writing W → Writing W → List ℕ → Offered → Type 0
-Offers counts later before now bytes Taken =
+abbrev pub Offers : {W : Type 0} → ℕ → Counts → Counts → Writing W → Writing W → List ℕ → Offered → Type 0
+Offers task counts later before now bytes Taken =
     (length before.held + length bytes ≤ before.capacity) × (now ≡ record before { held = before.held ++ bytes })
-Offers counts later before now bytes PassOn = (before.held ≡ []) × (before.capacity < length bytes) × (now ≡ before)
-Offers counts later before now bytes Pending = IsFull before bytes × Rose (counts_over counts before).pauses (counts_over later now).pauses
-Offers counts later before now bytes Again = IsFull before bytes × Rose (counts_over counts before).pauses (counts_over later now).pauses
-Offers counts later before now bytes (Fault fault) =
-    IsFull before bytes × Rose (counts_over counts before).faults (counts_over later now).faults
+Offers task counts later before now bytes PassOn = (before.held ≡ []) × (before.capacity < length bytes) × (now ≡ before)
+Offers task counts later before now bytes Pending = IsFull before bytes × Pauses task (counts_over counts before) (counts_over later now)
+Offers task counts later before now bytes Again =
+    IsFull before bytes × Rose (counts_over counts before).interrupts (counts_over later now).interrupts
+Offers task counts later before now bytes (Fault fault) =
+    IsFull before bytes × WriteFails (counts_over counts before) (counts_over later now) fault
 
 -- A fact of an offer at which the buffer was written.
 abbrev pub IfPushed : Offered → Type 0 → Type 0
@@ -95,7 +101,7 @@ OfferCompletes tells before now held later PassOn = Unit {0}
 OfferCompletes tells before now held later Pending = IsQuiet before.counts now.counts → ⊥
 OfferCompletes tells before now held later Again = IsQuiet before.counts now.counts → length later < length held
 OfferCompletes tells before now held later (Fault fault) =
-    IsQuiet before.counts now.counts → TookNone tells before.delivered now.delivered held fault
+    IsQuiet before.counts now.counts → TakesNothing tells before now fault
 
 -- A poll of a write took the bytes of a buffer whole.
 abbrev pub TakesWhole : {T : Type 0} → List ℕ → PollBuf T → Type 0

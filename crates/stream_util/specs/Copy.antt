@@ -1,12 +1,12 @@
 -- A copy from a reader to a writer: what each poll of it does, and what many do.
-use Rattle.std.specs.Prelude.{ℕ, ◌≡◌, ◌+◌, ◌-◌, ◌^◌, ◌<◌, ◌≤◌, ◌⊎◌, min, Bool, IsTrue, List, [], ◌++◌, length, Result, Ok, Err}
+use Rattle.std.specs.Prelude.{ℕ, ◌≡◌, ◌+◌, ◌-◌, ◌^◌, ◌<◌, ◌≤◌, ◌⊎◌, min, Bool, IsTrue, List, [], ◌++◌, length, None, Result, Ok, Err}
 use Rattle.rent_buf.specs.declared.fault.IoFault.{IoFault}
-use Rattle.rent_buf.specs.declared.fault.IoFault.TheVariants.{WriteZero}
 use Rattle.rent_io.specs.declared.poll.Step.{Step}
 use Rattle.rent_io.specs.declared.poll.Step.TheVariants.{Ready, Pending, Again}
 use Rattle.rent_io.specs.Completeness.{IsQuiet, GetsOn}
 use Rattle.rent_io.specs.Counts.{AfterCall, Rose}
-use Rattle.rent_io.specs.Reader.{Reader, WasFront}
+use Rattle.rent_io.specs.Polls.{Fails, Pauses, TookNone}
+use Rattle.rent_io.specs.Reader.{AtEnd, Reader, WasFront}
 use Rattle.rent_io.specs.Writer.{Writer}
 use Rattle.stream_util.specs.declared.copy.Copied.{Copied}
 
@@ -24,10 +24,10 @@ pub record Ends : Type 0 where
   pub reader : Reader
   pub writer : Writer
 
--- A poll makes one call at most, of one of the ends.
+-- A poll makes one call at most, of one of the ends, under no group.
 pub record OneCall (before now : Ends) : Type 0 where
-  pub reader : AfterCall before.reader.counts now.reader.counts
-  pub writer : AfterCall before.writer.counts now.writer.counts
+  pub reader : AfterCall None before.reader.counts now.reader.counts
+  pub writer : AfterCall None before.writer.counts now.writer.counts
   pub one : now.reader.counts.calls + now.writer.counts.calls ≤ before.reader.counts.calls + before.writer.counts.calls + 1
 
 -- No byte moved, where the reader and the writer tell that.
@@ -35,10 +35,19 @@ abbrev pub NothingMoved : Bool → Bool → Ends → Ends → Type 0
 NothingMoved reads writes before now =
     (IsTrue reads → now.reader.left ≡ before.reader.left) × (IsTrue writes → now.writer.delivered ≡ before.writer.delivered)
 
+-- The reader or the writer paused, and will wake this task.
+abbrev pub HasPaused : ℕ → Ends → Ends → Type 0
+HasPaused task before now = Pauses task before.reader.counts now.reader.counts ⊎ Pauses task before.writer.counts now.writer.counts
+
 -- The copy is as it was, since the reader or the writer paused.
-abbrev pub Waits : Bool → Bool → Ends → Ends → Copying → Copying → Type 0
-Waits reads writes before now copy next = (next ≡ copy) × NothingMoved reads writes before now
-    × (Rose before.reader.counts.pauses now.reader.counts.pauses ⊎ Rose before.writer.counts.pauses now.writer.counts.pauses)
+abbrev pub Waits : Bool → Bool → ℕ → Ends → Ends → Copying → Copying → Type 0
+Waits reads writes task before now copy next = (next ≡ copy) × NothingMoved reads writes before now × HasPaused task before now
+
+-- The copy is as it was, since the reader or the writer was interrupted.
+abbrev pub Breaks : Bool → Bool → Ends → Ends → Copying → Copying → Type 0
+Breaks reads writes before now copy next = (next ≡ copy) × NothingMoved reads writes before now
+    × (Rose before.reader.counts.interrupts now.reader.counts.interrupts
+    ⊎ Rose before.writer.counts.interrupts now.writer.counts.interrupts)
 
 -- It read bytes and delivered bytes: those that it held and those that it read, joined, are those that it delivered and those that it
 -- holds now.
@@ -55,19 +64,24 @@ pub record MovesSome (reads writes : Bool) (before now : Ends) (copy next : Copy
   pub moves : Moves reads writes before now copy next
   pub some : 0 < length moves.got + length moves.sent
 
--- How it ends: Ok only where nothing is held and nothing is left; and a fault has its cause.
+-- The cause of a fault: it is the last one of the reader or of the writer, or a write took none of what is held.
+abbrev pub CopyFails : Ends → Ends → List ℕ → IoFault → Type 0
+CopyFails before now held fault = Fails before.reader.counts now.reader.counts fault
+    ⊎ Fails before.writer.counts now.writer.counts fault
+    ⊎ (0 < length held) × TookNone before.writer.counts now.writer.counts fault
+
+-- How it ends: Ok only where nothing is held and a read gave none of some room; and a fault has its cause.
 abbrev pub IsCopyEnd : Bool → Ends → Ends → Copying → Result ℕ IoFault → Type 0
-IsCopyEnd reads before now copy (Ok n) = (n ≡ copy.count) × (copy.held ≡ []) × (IsTrue reads → before.reader.left ≡ [])
-IsCopyEnd reads before now copy (Err fault) = Rose before.reader.counts.faults now.reader.counts.faults
-    ⊎ Rose before.writer.counts.faults now.writer.counts.faults ⊎ (fault ≡ WriteZero) × (0 < length copy.held)
+IsCopyEnd reads before now copy (Ok n) = (n ≡ copy.count) × (copy.held ≡ []) × AtEnd reads before.reader now.reader
+IsCopyEnd reads before now copy (Err fault) = CopyFails before now copy.held fault
 
 -- A poll of it.
-abbrev pub Copies : Bool → Bool → Ends → Ends → Copying → Step Copying Copied → Type 0
-Copies reads writes before now copy (Ready copied) =
+abbrev pub Copies : Bool → Bool → ℕ → Ends → Ends → Copying → Step Copying Copied → Type 0
+Copies reads writes task before now copy (Ready copied) =
     (copied.rest ≡ copy.held) × NothingMoved reads writes before now × IsCopyEnd reads before now copy copied.result
-Copies reads writes before now copy (Pending next) = Waits reads writes before now copy next
-Copies reads writes before now copy (Again next) =
-    Waits reads writes before now copy next ⊎ MovesSome reads writes before now copy next
+Copies reads writes task before now copy (Pending next) = Waits reads writes task before now copy next
+Copies reads writes task before now copy (Again next) =
+    Breaks reads writes before now copy next ⊎ MovesSome reads writes before now copy next
 
 -- A poll in which no count of the reader and of the writer rose got on: it is done, or ended with one of these faults, or bytes moved.
 abbrev pub CopyCompletes : Bool → Bool → Ends → Ends → Copying → Step Copying Copied → (IoFault → Type 0) → Type 0
@@ -87,11 +101,11 @@ abbrev pub IsSameJoined : Bool → Bool → Ends → Ends → List ℕ → List 
 IsSameJoined reads writes before now held later = IsTrue reads → IsTrue writes
     → now.writer.delivered ++ later ++ now.reader.left ≡ before.writer.delivered ++ held ++ before.reader.left
 
--- How many polls end: Ok only where nothing is held and nothing is left; and a fault has its cause.
+-- How many polls end: Ok only where nothing is held and a read gave none of some room; and a fault has its cause.
 abbrev pub IsRunEnd : Bool → Ends → Ends → ℕ → List ℕ → Result ℕ IoFault → Type 0
 IsRunEnd reads before now count rest (Ok n) = (n ≡ count) × (rest ≡ []) × (IsTrue reads → now.reader.left ≡ [])
-IsRunEnd reads before now count rest (Err fault) = Rose before.reader.counts.faults now.reader.counts.faults
-    ⊎ Rose before.writer.counts.faults now.writer.counts.faults ⊎ (fault ≡ WriteZero) × (0 < length rest)
+    × Rose before.reader.counts.zeros now.reader.counts.zeros
+IsRunEnd reads before now count rest (Err fault) = CopyFails before now rest fault
 
 -- Many polls that are done: what they moved, and how they ended.
 pub record HasCopied (reads writes : Bool) (before now : Ends) (copy : Copying) (copied : Copied) : Type 0 where
@@ -99,12 +113,21 @@ pub record HasCopied (reads writes : Bool) (before now : Ends) (copy : Copying) 
   pub moves : Moves reads writes before now copy (record { held = copied.rest; count = count })
   pub ends : IsRunEnd reads before now count copied.rest copied.result
 
--- Many polls.
-abbrev pub Runs : Bool → Bool → Ends → Ends → Copying → Step Copying Copied → Type 0
-Runs reads writes before now copy (Ready copied) = HasCopied reads writes before now copy copied
-Runs reads writes before now copy (Pending next) = Moves reads writes before now copy next
-    × (Rose before.reader.counts.pauses now.reader.counts.pauses ⊎ Rose before.writer.counts.pauses now.writer.counts.pauses)
-Runs reads writes before now copy (Again next) = Moves reads writes before now copy next
+-- All of so many polls are used: each moved a byte at least, or the interrupts of the reader or of the writer rose, as far as a `u64`
+-- counts. So none of them had to wait.
+pub record UsesAll (turns : ℕ) (reads writes : Bool) (before now : Ends) (copy next : Copying) : Type 0 where
+  pub moves : Moves reads writes before now copy next
+  pub reader : ℕ
+  pub writer : ℕ
+  pub each : turns ≤ length moves.got + length moves.sent + reader + writer
+  pub reads_break : min (before.reader.counts.interrupts + reader) (2 ^ 64 - 1) ≤ now.reader.counts.interrupts
+  pub writes_break : min (before.writer.counts.interrupts + writer) (2 ^ 64 - 1) ≤ now.writer.counts.interrupts
+
+-- So many polls at most: it waits for a pause of one of the ends, or all of them are used.
+abbrev pub Runs : Bool → Bool → ℕ → ℕ → Ends → Ends → Copying → Step Copying Copied → Type 0
+Runs reads writes task turns before now copy (Ready copied) = HasCopied reads writes before now copy copied
+Runs reads writes task turns before now copy (Pending next) = Moves reads writes before now copy next × HasPaused task before now
+Runs reads writes task turns before now copy (Again next) = UsesAll turns reads writes before now copy next
 
 -- A copy that ends Ok delivered what it held and all that was left, and its number grew by their number.
 abbrev pub HasAll : Ends → Ends → Copying → Result ℕ IoFault → Type 0

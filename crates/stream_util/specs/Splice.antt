@@ -4,6 +4,7 @@ use Rattle.rent_buf.specs.declared.fault.IoFault.TheVariants.{OutOfMemory}
 use Rattle.rent_io.specs.declared.poll.PollCount.{PollCount}
 use Rattle.rent_io.specs.declared.poll.PollCount.TheVariants.{Ready, Pending, Again}
 use Rattle.rent_io.specs.Counts.{Counts, Rose}
+use Rattle.rent_io.specs.Polls.{Fails, Pauses}
 use Rattle.rent_io.specs.Reader.{WasFront}
 
 -- A splice of n bytes into a pipe: they were the first of those left, and join the pipe's end. None only where none is asked for, or
@@ -39,8 +40,15 @@ SplicesOut tells before now pipe later len Pending = (later ≡ pipe) × (IsTrue
 SplicesOut tells before now pipe later len Again = (later ≡ pipe) × (IsTrue tells → now ≡ before)
 
 -- The cause of what a splice into a pipe answers: as of a read, but that the pipe's growth may be refused too.
-abbrev pub IsSpliceCaused : Counts → Counts → PollCount → Type 0
-IsSpliceCaused before now (Ready (Ok n)) = Unit {0}
-IsSpliceCaused before now (Ready (Err fault)) = Rose before.faults now.faults ⊎ (fault ≡ OutOfMemory)
-IsSpliceCaused before now Pending = Rose before.pauses now.pauses
-IsSpliceCaused before now Again = Rose before.pauses now.pauses
+abbrev pub IsSpliceCaused : ℕ → Counts → Counts → PollCount → Type 0
+IsSpliceCaused task before now (Ready (Ok n)) = Unit {0}
+IsSpliceCaused task before now (Ready (Err fault)) = Fails before now fault ⊎ (fault ≡ OutOfMemory)
+IsSpliceCaused task before now Pending = Pauses task before now
+IsSpliceCaused task before now Again = Rose before.interrupts now.interrupts
+
+-- A splice that moves none of so many bytes is counted as that.
+abbrev pub SplicesNoneOf : ℕ → Counts → Counts → PollCount → Type 0
+SplicesNoneOf size before now (Ready (Ok n)) = n ≡ 0 → (size ≡ 0) ⊎ Rose before.zeros now.zeros
+SplicesNoneOf size before now (Ready (Err fault)) = Unit {0}
+SplicesNoneOf size before now Pending = Unit {0}
+SplicesNoneOf size before now Again = Unit {0}

@@ -4,6 +4,7 @@ use Rattle.rent_buf.specs.declared.fault.IoFault.{IoFault}
 use Rattle.rent_io.specs.declared.poll.Step.{Step}
 use Rattle.rent_io.specs.declared.poll.Step.TheVariants.{Ready, Pending, Again}
 use Rattle.rent_io.specs.Counts.{Rose}
+use Rattle.rent_io.specs.Polls.{Pauses, WriteFails}
 use Rattle.rent_io.specs.Writer.{Writer}
 
 -- A half is its part of the stream, and the number of its pair.
@@ -24,19 +25,19 @@ one_more given = min (given + 1) (2 ^ 64 - 1)
 abbrev pub OnlyShutsDown : Bool → Writer → Writer → Type 0
 OnlyShutsDown tells before now = (IsTrue tells → now.delivered ≡ before.delivered) × (now.flushes ≡ before.flushes)
 
--- How a shutdown ends: Ok only where the shutdowns rose, and a fault only where the faults rose.
+-- How a shutdown ends: Ok only where the shutdowns rose, and a fault by its cause.
 abbrev pub IsShutdownEnd : Writer → Writer → Result ℕ IoFault → Type 0
 IsShutdownEnd before now (Ok n) = Rose before.shutdowns now.shutdowns
-IsShutdownEnd before now (Err fault) = Rose before.counts.faults now.counts.faults × (now.shutdowns ≡ before.shutdowns)
+IsShutdownEnd before now (Err fault) = WriteFails before.counts now.counts fault × (now.shutdowns ≡ before.shutdowns)
 
 -- A poll of a shutdown of this part. The part comes back in each answer.
-abbrev pub ShutsDown : {W : Type 0} → (W → Writer) → Bool → W → Step W (Result ℕ IoFault × W) → Type 0
-ShutsDown writer tells part (Ready end) =
+abbrev pub ShutsDown : {W : Type 0} → (W → Writer) → Bool → ℕ → W → Step W (Result ℕ IoFault × W) → Type 0
+ShutsDown writer tells task part (Ready end) =
     OnlyShutsDown tells (writer part) (writer end.1) × IsShutdownEnd (writer part) (writer end.1) end.0
-ShutsDown writer tells part (Pending next) = OnlyShutsDown tells (writer part) (writer next)
-    × Rose (writer part).counts.pauses (writer next).counts.pauses × ((writer next).shutdowns ≡ (writer part).shutdowns)
-ShutsDown writer tells part (Again next) = OnlyShutsDown tells (writer part) (writer next)
-    × Rose (writer part).counts.pauses (writer next).counts.pauses × ((writer next).shutdowns ≡ (writer part).shutdowns)
+ShutsDown writer tells task part (Pending next) = OnlyShutsDown tells (writer part) (writer next)
+    × Pauses task (writer part).counts (writer next).counts × ((writer next).shutdowns ≡ (writer part).shutdowns)
+ShutsDown writer tells task part (Again next) = OnlyShutsDown tells (writer part) (writer next)
+    × Rose (writer part).counts.interrupts (writer next).counts.interrupts × ((writer next).shutdowns ≡ (writer part).shutdowns)
 
 -- What an answer of a shutdown holds: the part.
 abbrev pub part_in : {W : Type 0} → Step W (Result ℕ IoFault × W) → W

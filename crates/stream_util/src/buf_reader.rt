@@ -1,10 +1,10 @@
 // A stream that is read through a buffer.
-ghost use Rattle.std.specs.Prelude.{◌≡◌, ◌+◌, ◌<◌, ◌≤◌, [], length, take, drop, min, max, IfOk, IfErr, IsTrue};
+ghost use Rattle.std.specs.Prelude.{◌≡◌, ◌+◌, ◌<◌, ◌≤◌, [], length, take, drop, min, max, IfOk, IfErr, IsTrue, None};
 ghost use Rattle.rent_buf.specs.Buffer.{room, put};
 ghost use Rattle.rent_buf.specs.Parts.{parts_stored};
 ghost use Rattle.rent_io.specs.BufReader.{Fills};
 ghost use Rattle.rent_io.specs.Counts.{AfterCall};
-ghost use Rattle.rent_io.specs.Polls.{IsCaused, IsCountCaused};
+ghost use Rattle.rent_io.specs.Polls.{CountsEnd, CountsNone, IsCaused, IsCountCaused};
 ghost use Rattle.rent_io.specs.Reader.{Reads, ReadsParts, first_room as room_of};
 ghost use Rattle.stream_util.specs.BufReader.{Reading, ReadRule, IfNotDone, fresh_reader, reader_over};
 
@@ -162,12 +162,13 @@ impl<R: AsyncReadRent> BufReader<R> {
         ensures left { IsTrue R.tells → (reader_over (R.reader self.new.inner) self.new).left
             ≡ (reader_over (R.reader self.old.inner) self.old).left }
         ensures fills { Fills R.tells (reader_over (R.reader self.new.inner) self.new).left self.new.held result }
+        ensures none { CountsEnd (R.reader self.old.inner).counts (R.reader self.new.inner).counts result }
         ensures kept { 0 < length self.old.held → self.new ≡ self.old }
         ensures waits { IfNotDone result ((self.old.held ≡ []) × (self.new.held ≡ [])) }
         ensures within { length self.new.held ≤ self.new.capacity }
         ensures capacity { self.new.capacity ≡ self.old.capacity }
-        ensures cause { IsCountCaused (R.reader self.old.inner).counts (R.reader self.new.inner).counts result }
-        ensures counts { AfterCall (R.reader self.old.inner).counts (R.reader self.new.inner).counts }
+        ensures cause { IsCountCaused task (R.reader self.old.inner).counts (R.reader self.new.inner).counts result }
+        ensures counts { AfterCall None (R.reader self.old.inner).counts (R.reader self.new.inner).counts }
     {
         if self.begin < self.end {
             return PollCount::Ready(Ok((self.end - self.begin) as u64));
@@ -209,8 +210,9 @@ impl<R: AsyncReadRent> AsyncReadRent for BufReader<R> {
     fn poll_read<T: IoBufMut>(&mut self, buf: T, task: u64) -> PollBuf<T>
         ensures reads { Reads R.tells (reader_over (R.reader self.old.inner) self.old).left
             (reader_over (R.reader self.new.inner) self.new).left T.buffer T.under T.beside buf result }
-        ensures cause { IsCaused (R.reader self.old.inner).counts (R.reader self.new.inner).counts result }
-        ensures counts { AfterCall (R.reader self.old.inner).counts (R.reader self.new.inner).counts }
+        ensures none { CountsNone (room (T.buffer buf)) (R.reader self.old.inner).counts (R.reader self.new.inner).counts result }
+        ensures cause { IsCaused task (R.reader self.old.inner).counts (R.reader self.new.inner).counts result }
+        ensures counts { AfterCall None (R.reader self.old.inner).counts (R.reader self.new.inner).counts }
         ensures rule { ReadRule R.reader R.tells self.old self.new (room (T.buffer buf)) result }
     {
         if self.begin == self.end && buf.bytes_total() >= self.buf.len() {
@@ -232,8 +234,9 @@ impl<R: AsyncReadRent> AsyncReadRent for BufReader<R> {
     fn poll_readv<T: IoVecBufMut>(&mut self, buf: T, task: u64) -> PollBuf<T>
         ensures reads { ReadsParts R.tells (reader_over (R.reader self.old.inner) self.old).left
             (reader_over (R.reader self.new.inner) self.new).left T.held buf result }
-        ensures cause { IsCaused (R.reader self.old.inner).counts (R.reader self.new.inner).counts result }
-        ensures counts { AfterCall (R.reader self.old.inner).counts (R.reader self.new.inner).counts }
+        ensures none { CountsNone (room_of (T.held buf)) (R.reader self.old.inner).counts (R.reader self.new.inner).counts result }
+        ensures cause { IsCaused task (R.reader self.old.inner).counts (R.reader self.new.inner).counts result }
+        ensures counts { AfterCall None (R.reader self.old.inner).counts (R.reader self.new.inner).counts }
         ensures rule { ReadRule R.reader R.tells self.old self.new (room_of (T.held buf)) result }
     {
         if self.begin == self.end && first_room(&buf) >= self.buf.len() {

@@ -1,7 +1,7 @@
 // A stream that is written through a buffer.
-ghost use Rattle.std.specs.Prelude.{◌≡◌, ◌+◌, ◌<◌, ◌≤◌, ◌++◌, [], length, drop, vec_capacity, IfOk, IfErr, IsTrue};
+ghost use Rattle.std.specs.Prelude.{◌≡◌, ◌+◌, ◌<◌, ◌≤◌, ◌++◌, [], length, drop, vec_capacity, IfOk, IfErr, IsTrue, None};
 ghost use Rattle.rent_io.specs.Counts.{AfterCall};
-ghost use Rattle.rent_io.specs.Polls.{IsCaused, IsCountCaused};
+ghost use Rattle.rent_io.specs.Polls.{CountsNone, IsWriteCaused, IsFlushCaused};
 ghost use Rattle.rent_io.specs.Writer.{EndsStay, Writes, CountsDone, IfDone};
 ghost use Rattle.rent_io.specs.Writer as write;
 ghost use Rattle.std.specs.List.{concat};
@@ -32,8 +32,7 @@ pub struct BufWriter<W> {
     // How many bytes at its start were written.
     sent: usize,
     capacity: usize,
-    // How many writes of the buffer took no byte, and how many took some.
-    refused: u64,
+    // How many writes of the buffer took some bytes.
     moved: u64,
 }
 
@@ -47,7 +46,6 @@ impl<W> Model for BufWriter<W> {
       inner = s.inner;
       held = drop s.sent s.buf.items;
       capacity = s.capacity;
-      refused = s.refused;
       moved = s.moved;
     } };
 
@@ -97,7 +95,6 @@ impl<W> BufWriter<W> {
                 buf,
                 sent: 0,
                 capacity,
-                refused: 0,
                 moved: 0,
             }),
             Err(_) => Err((OutOfMemory, inner)),
@@ -128,7 +125,6 @@ impl<W> BufWriter<W> {
             buf: _,
             sent: _,
             capacity: _,
-            refused: _,
             moved: _,
         } = self;
         inner
@@ -144,7 +140,6 @@ impl<W> BufWriter<W> {
             mut buf,
             sent,
             capacity: _,
-            refused: _,
             moved: _,
         } = self;
         let left = buf.len() - sent;
@@ -177,11 +172,11 @@ impl<W> BufWriter<W> {
 impl<W: AsyncWriteRent> BufWriter<W> {
     // Offers bytes to the buffer: they are taken, or are to be passed on, or the buffer is written once.
     fn offer(&mut self, bytes: &[u8], task: u64) -> Offered
-        ensures offers { Offers (W.writer self.old.inner).counts (W.writer self.new.inner).counts self.old self.new bytes.now result }
+        ensures offers { Offers task (W.writer self.old.inner).counts (W.writer self.new.inner).counts self.old self.new bytes.now result }
         ensures pushes { IfPushed result (Pushes W.tells (W.writer self.old.inner) (W.writer self.new.inner) self.old.held self.new.held) }
         ensures capacity { self.new.capacity ≡ self.old.capacity }
         ensures ends { EndsStay (W.writer self.old.inner) (W.writer self.new.inner) }
-        ensures counts { AfterCall (counts_over (W.writer self.old.inner).counts self.old)
+        ensures counts { AfterCall None (counts_over (W.writer self.old.inner).counts self.old)
             (counts_over (W.writer self.new.inner).counts self.new) }
         ensures complete { OfferCompletes W.tells (W.writer self.old.inner) (W.writer self.new.inner) self.old.held self.new.held result }
     {
@@ -201,14 +196,15 @@ impl<W: AsyncWriteRent> BufWriter<W> {
     }
 
     // Writes what is buffered once. What the write took leaves the buffer.
+    #[tactic(auto, using(crate::proofs::Buffered::nothing_taken))]
     fn push_out(&mut self, task: u64) -> PollCount
         requires { 0 < length self.old.held }
         ensures pushes { Pushes W.tells (W.writer self.old.inner) (W.writer self.new.inner) self.old.held self.new.held }
         ensures capacity { self.new.capacity ≡ self.old.capacity }
         ensures ends { EndsStay (W.writer self.old.inner) (W.writer self.new.inner) }
-        ensures cause { IsPushCaused (counts_over (W.writer self.old.inner).counts self.old)
+        ensures cause { IsPushCaused task (counts_over (W.writer self.old.inner).counts self.old)
             (counts_over (W.writer self.new.inner).counts self.new) result }
-        ensures counts { AfterCall (counts_over (W.writer self.old.inner).counts self.old)
+        ensures counts { AfterCall None (counts_over (W.writer self.old.inner).counts self.old)
             (counts_over (W.writer self.new.inner).counts self.new) }
         ensures complete { FlushCompletes W.tells (W.writer self.old.inner) (W.writer self.new.inner) self.old.held self.new.held result }
     {
@@ -219,7 +215,6 @@ impl<W: AsyncWriteRent> BufWriter<W> {
             PollBuf::Ready(Ok(n), part) => {
                 self.buf = part.into_inner();
                 if n == 0 {
-                    self.refused = self.refused.saturating_add(1);
                     return PollCount::Ready(Err(IoFault::WriteZero));
                 }
                 self.sent += n;
@@ -253,10 +248,12 @@ impl<W: AsyncWriteRent> AsyncWriteRent for BufWriter<W> {
     fn poll_write<T: IoBuf>(&mut self, buf: T, task: u64) -> PollBuf<T>
         ensures writes { Writes W.tells (writer_over (W.writer self.old.inner) self.old).delivered
             (writer_over (W.writer self.new.inner) self.new).delivered (T.content buf) buf result }
-        ensures ends { EndsStay (W.writer self.old.inner) (W.writer self.new.inner) }
-        ensures cause { IsCaused (counts_over (W.writer self.old.inner).counts self.old)
+        ensures none { CountsNone (length (T.content buf)) (counts_over (W.writer self.old.inner).counts self.old)
             (counts_over (W.writer self.new.inner).counts self.new) result }
-        ensures counts { AfterCall (counts_over (W.writer self.old.inner).counts self.old)
+        ensures ends { EndsStay (W.writer self.old.inner) (W.writer self.new.inner) }
+        ensures cause { IsWriteCaused task (counts_over (W.writer self.old.inner).counts self.old)
+            (counts_over (W.writer self.new.inner).counts self.new) result }
+        ensures counts { AfterCall None (counts_over (W.writer self.old.inner).counts self.old)
             (counts_over (W.writer self.new.inner).counts self.new) }
         ensures rule { WriteRule W.writer W.tells self.old self.new (T.content buf) result }
         ensures complete { WriteCompletes W.tells (W.writer self.old.inner) (W.writer self.new.inner) self.old.held self.new.held result }
@@ -276,10 +273,12 @@ impl<W: AsyncWriteRent> AsyncWriteRent for BufWriter<W> {
     fn poll_writev<T: IoVecBuf>(&mut self, buf: T, task: u64) -> PollBuf<T>
         ensures writes { Writes W.tells (writer_over (W.writer self.old.inner) self.old).delivered
             (writer_over (W.writer self.new.inner) self.new).delivered (concat (T.parts buf)) buf result }
-        ensures ends { EndsStay (W.writer self.old.inner) (W.writer self.new.inner) }
-        ensures cause { IsCaused (counts_over (W.writer self.old.inner).counts self.old)
+        ensures none { CountsNone (length (concat (T.parts buf))) (counts_over (W.writer self.old.inner).counts self.old)
             (counts_over (W.writer self.new.inner).counts self.new) result }
-        ensures counts { AfterCall (counts_over (W.writer self.old.inner).counts self.old)
+        ensures ends { EndsStay (W.writer self.old.inner) (W.writer self.new.inner) }
+        ensures cause { IsWriteCaused task (counts_over (W.writer self.old.inner).counts self.old)
+            (counts_over (W.writer self.new.inner).counts self.new) result }
+        ensures counts { AfterCall None (counts_over (W.writer self.old.inner).counts self.old)
             (counts_over (W.writer self.new.inner).counts self.new) }
         ensures rule { WriteRule W.writer W.tells self.old self.new (write.first_part (T.parts buf)) result }
         ensures complete { WriteCompletes W.tells (W.writer self.old.inner) (W.writer self.new.inner) self.old.held self.new.held result }
@@ -303,9 +302,9 @@ impl<W: AsyncWriteRent> AsyncWriteRent for BufWriter<W> {
             ≡ (writer_over (W.writer self.old.inner) self.old).delivered }
         ensures flushes { CountsDone (W.writer self.old.inner).flushes (W.writer self.new.inner).flushes result }
         ensures shutdowns { (W.writer self.new.inner).shutdowns ≡ (W.writer self.old.inner).shutdowns }
-        ensures cause { IsCountCaused (counts_over (W.writer self.old.inner).counts self.old)
+        ensures cause { IsFlushCaused task (counts_over (W.writer self.old.inner).counts self.old)
             (counts_over (W.writer self.new.inner).counts self.new) result }
-        ensures counts { AfterCall (counts_over (W.writer self.old.inner).counts self.old)
+        ensures counts { AfterCall None (counts_over (W.writer self.old.inner).counts self.old)
             (counts_over (W.writer self.new.inner).counts self.new) }
         ensures pushes { Pushes W.tells (W.writer self.old.inner) (W.writer self.new.inner) self.old.held self.new.held }
         ensures empty { IfDone result (self.new.held ≡ []) }
@@ -325,9 +324,9 @@ impl<W: AsyncWriteRent> AsyncWriteRent for BufWriter<W> {
             ≡ (writer_over (W.writer self.old.inner) self.old).delivered }
         ensures flushes { (W.writer self.new.inner).flushes ≡ (W.writer self.old.inner).flushes }
         ensures shutdowns { CountsDone (W.writer self.old.inner).shutdowns (W.writer self.new.inner).shutdowns result }
-        ensures cause { IsCountCaused (counts_over (W.writer self.old.inner).counts self.old)
+        ensures cause { IsFlushCaused task (counts_over (W.writer self.old.inner).counts self.old)
             (counts_over (W.writer self.new.inner).counts self.new) result }
-        ensures counts { AfterCall (counts_over (W.writer self.old.inner).counts self.old)
+        ensures counts { AfterCall None (counts_over (W.writer self.old.inner).counts self.old)
             (counts_over (W.writer self.new.inner).counts self.new) }
         ensures pushes { Pushes W.tells (W.writer self.old.inner) (W.writer self.new.inner) self.old.held self.new.held }
         ensures empty { IfDone result (self.new.held ≡ []) }

@@ -1,7 +1,7 @@
 // A copy of all that a stream has left to another stream.
 ghost use Rattle.std.specs.Prelude.{◌≡◌, ◌≤◌, [], length, drop, IfOk, IfErr};
 ghost use Rattle.rent_io.specs.declared.poll.Step.TheVariants.{Ready};
-ghost use Rattle.rent_io.specs.Completeness.{TookNone};
+ghost use Rattle.rent_io.specs.Polls.{TookNone};
 ghost use Rattle.rent_io.specs.Writer.{EndsStay};
 ghost use Rattle.stream_util.specs.Copy.{Copies, CopyCompletes, Runs, CopiesAll, OneCall, IsSameJoined, held_in};
 
@@ -90,7 +90,8 @@ impl Copy {
         self.count
     }
 
-    /// Polls `turns` times at most, until it is done or has to wait (not in monoio). Where it ends Ok, the writer got
+    /// Polls `turns` times at most, until it is done or has to wait for a pause (not in monoio). At `Again` all of them
+    /// are used: each moved a byte, or a stream was interrupted. Where it ends Ok, the writer got
     /// what the copy held and all that the reader had left, and the number counts that. Whatever the schedule, no byte
     /// is lost, repeated or moved: the bytes that were delivered, those that it holds and those that are left, joined,
     /// stay the same list.
@@ -101,7 +102,7 @@ impl Copy {
         task: u64,
         turns: u64,
     ) -> Step<Copy, Copied>
-        ensures answer { Runs R.tells W.tells (record { reader = R.reader reader.old; writer = W.writer writer.old })
+        ensures answer { Runs R.tells W.tells task turns (record { reader = R.reader reader.old; writer = W.writer writer.old })
             (record { reader = R.reader reader.new; writer = W.writer writer.new }) self result }
         ensures all { CopiesAll R.tells W.tells (record { reader = R.reader reader.old; writer = W.writer writer.old })
             (record { reader = R.reader reader.new; writer = W.writer writer.new }) self result }
@@ -113,7 +114,7 @@ impl Copy {
         let _ = self.count();
         let _ = self.held();
         let mut copy = self;
-        for _turn in 0..turns {
+        for _ in 0..turns {
             match copy.poll(reader, writer, task) {
                 Step::Again(next) => copy = next,
                 Step::Pending(next) => return Step::Pending(next),
@@ -126,7 +127,7 @@ impl Copy {
     /// Makes one call at most: a write of what it holds, or a read where it holds nothing. It is done with the number
     /// of the bytes that it delivered, once a read gives none; with `WriteZero`, where a write took none of some bytes;
     /// or with the reader's or the writer's fault. What it then held is the rest. At `Pending` nothing moved, and at
-    /// `Again` a stream paused too, or some bytes moved. It never flushes.
+    /// `Again` a stream was interrupted, or some bytes moved. It never flushes.
     #[tactic(auto, using(crate::proofs::Completeness::copy_completes))]
     pub fn poll<R: AsyncReadRent, W: AsyncWriteRent>(
         self,
@@ -134,7 +135,7 @@ impl Copy {
         writer: &mut W,
         task: u64,
     ) -> Step<Copy, Copied>
-        ensures answer { Copies R.tells W.tells (record { reader = R.reader reader.old; writer = W.writer writer.old })
+        ensures answer { Copies R.tells W.tells task (record { reader = R.reader reader.old; writer = W.writer writer.old })
             (record { reader = R.reader reader.new; writer = W.writer writer.new }) self result }
         ensures counts { OneCall (record { reader = R.reader reader.old; writer = W.writer writer.old })
             (record { reader = R.reader reader.new; writer = W.writer writer.new }) }
@@ -144,7 +145,7 @@ impl Copy {
         ensures within { length (held_in result) ≤ MOST_HELD }
         ensures complete { CopyCompletes R.tells W.tells (record { reader = R.reader reader.old; writer = W.writer writer.old })
             (record { reader = R.reader reader.new; writer = W.writer writer.new }) self result
-            (TookNone W.tells (W.writer writer.old).delivered (W.writer writer.new).delivered self.held) }
+            (TookNone (W.writer writer.old).counts (W.writer writer.new).counts) }
     {
         let Copy { buf, sent, count } = self;
         let len = buf.len();

@@ -1,9 +1,10 @@
 // A stream whose reads give a prefix first.
-ghost use Rattle.std.specs.Prelude.{◌≡◌, ◌&&◌, [], true, false, IsTrue};
+ghost use Rattle.std.specs.Prelude.{◌≡◌, ◌&&◌, ℕ, Option, None, Some, [], true, false, IsTrue};
+ghost use Rattle.rent_buf.specs.Buffer.{room};
 ghost use Rattle.rent_io.specs.Counts.{AfterCall};
-ghost use Rattle.rent_io.specs.Polls.{IsCaused};
-ghost use Rattle.rent_io.specs.Reader.{Reads, ReadsParts};
-ghost use Rattle.stream_util.specs.PrefixedReadIo.{Prefixed, prefix_left, reader_behind, IfAnswered, IfBehind};
+ghost use Rattle.rent_io.specs.Polls.{CountsNone, IsCaused};
+ghost use Rattle.rent_io.specs.Reader.{Reads, ReadsParts, first_room as room_of};
+ghost use Rattle.stream_util.specs.PrefixedReadIo.{PrefixEnds, PrefixRule, prefix_left, reader_behind, IfAnswered, IfBehind};
 
 use crate::split::Split;
 use cancel_core::CancelHandle;
@@ -96,15 +97,19 @@ impl<I: AsyncReadRent, P: ByteSource> PrefixedReadIo<I, P> {
             (reader_behind self.old.finished (P.left self.old.prefix) (P.faults self.old.prefix) (I.reader self.old.io)).left
             (reader_behind self.new.finished (P.left self.new.prefix) (P.faults self.new.prefix) (I.reader self.new.io)).left
             T.buffer T.under T.beside buf answer) }
-        ensures cause { IfAnswered result (λ answer. IsCaused
+        ensures none { IfAnswered result (λ answer. CountsNone (room (T.buffer buf)) (I.reader self.old.io).counts
+            (I.reader self.new.io).counts answer) }
+        ensures cause { IfAnswered result (λ answer. (task : ℕ) → IsCaused task
             (reader_behind self.old.finished (P.left self.old.prefix) (P.faults self.old.prefix) (I.reader self.old.io)).counts
             (reader_behind self.new.finished (P.left self.new.prefix) (P.faults self.new.prefix) (I.reader self.new.io)).counts answer) }
-        ensures counts { AfterCall
+        ensures counts { (group : Option ℕ) → AfterCall group
             (reader_behind self.old.finished (P.left self.old.prefix) (P.faults self.old.prefix) (I.reader self.old.io)).counts
             (reader_behind self.new.finished (P.left self.new.prefix) (P.faults self.new.prefix) (I.reader self.new.io)).counts }
         ensures behind { IfBehind result (λ back. (back ≡ buf) × (self.new.finished ≡ true)
             × (IsTrue P.tells → prefix_left self.old.finished (P.left self.old.prefix) ≡ [])) }
         ensures io { self.new.io ≡ self.old.io }
+        ensures rule { IfAnswered result (λ answer. PrefixRule P.tells P.left self.old self.new (room (T.buffer buf)) answer) }
+        ensures ended { IfBehind result (λ back. PrefixEnds P.tells P.left self.old self.new) }
     {
         let mut buf = buf;
         let total = buf.bytes_total();
@@ -138,15 +143,19 @@ impl<I: AsyncReadRent, P: ByteSource> PrefixedReadIo<I, P> {
             (reader_behind self.old.finished (P.left self.old.prefix) (P.faults self.old.prefix) (I.reader self.old.io)).left
             (reader_behind self.new.finished (P.left self.new.prefix) (P.faults self.new.prefix) (I.reader self.new.io)).left
             T.held buf answer) }
-        ensures cause { IfAnswered result (λ answer. IsCaused
+        ensures none { IfAnswered result (λ answer. CountsNone (room_of (T.held buf)) (I.reader self.old.io).counts
+            (I.reader self.new.io).counts answer) }
+        ensures cause { IfAnswered result (λ answer. (task : ℕ) → IsCaused task
             (reader_behind self.old.finished (P.left self.old.prefix) (P.faults self.old.prefix) (I.reader self.old.io)).counts
             (reader_behind self.new.finished (P.left self.new.prefix) (P.faults self.new.prefix) (I.reader self.new.io)).counts answer) }
-        ensures counts { AfterCall
+        ensures counts { (group : Option ℕ) → AfterCall group
             (reader_behind self.old.finished (P.left self.old.prefix) (P.faults self.old.prefix) (I.reader self.old.io)).counts
             (reader_behind self.new.finished (P.left self.new.prefix) (P.faults self.new.prefix) (I.reader self.new.io)).counts }
         ensures behind { IfBehind result (λ back. (back ≡ buf) × (self.new.finished ≡ true)
             × (IsTrue P.tells → prefix_left self.old.finished (P.left self.old.prefix) ≡ [])) }
         ensures io { self.new.io ≡ self.old.io }
+        ensures rule { IfAnswered result (λ answer. PrefixRule P.tells P.left self.old self.new (room_of (T.held buf)) answer) }
+        ensures ended { IfBehind result (λ back. PrefixEnds P.tells P.left self.old self.new) }
     {
         let mut buf = buf;
         let total = first_room(&buf);
@@ -219,7 +228,21 @@ impl<I: AsyncReadRent, P: ByteSource> AsyncReadRent for PrefixedReadIo<I, P> {
 
     /// Reads the prefix until it gives no byte, and then the stream inside, in the same poll. `ReadFault` where the prefix
     /// failed. Where there is no room it answers 0 and reads nothing.
-    fn poll_read<T: IoBufMut>(&mut self, buf: T, task: u64) -> PollBuf<T> {
+    #[tactic(auto, using(crate::proofs::Prefixes::rule_behind))]
+    fn poll_read<T: IoBufMut>(&mut self, buf: T, task: u64) -> PollBuf<T>
+        ensures reads { Reads (I.tells && P.tells)
+            (reader_behind self.old.finished (P.left self.old.prefix) (P.faults self.old.prefix) (I.reader self.old.io)).left
+            (reader_behind self.new.finished (P.left self.new.prefix) (P.faults self.new.prefix) (I.reader self.new.io)).left
+            T.buffer T.under T.beside buf result }
+        ensures none { CountsNone (room (T.buffer buf)) (I.reader self.old.io).counts (I.reader self.new.io).counts result }
+        ensures cause { IsCaused task
+            (reader_behind self.old.finished (P.left self.old.prefix) (P.faults self.old.prefix) (I.reader self.old.io)).counts
+            (reader_behind self.new.finished (P.left self.new.prefix) (P.faults self.new.prefix) (I.reader self.new.io)).counts result }
+        ensures counts { AfterCall None
+            (reader_behind self.old.finished (P.left self.old.prefix) (P.faults self.old.prefix) (I.reader self.old.io)).counts
+            (reader_behind self.new.finished (P.left self.new.prefix) (P.faults self.new.prefix) (I.reader self.new.io)).counts }
+        ensures rule { PrefixRule P.tells P.left self.old self.new (room (T.buffer buf)) result }
+    {
         match self.read_prefix(buf) {
             Front::Answered(answer) => answer,
             Front::Behind(buf) => self.io.poll_read(buf, task),
@@ -227,7 +250,21 @@ impl<I: AsyncReadRent, P: ByteSource> AsyncReadRent for PrefixedReadIo<I, P> {
     }
 
     /// As `poll_read`, into the first part that has room.
-    fn poll_readv<T: IoVecBufMut>(&mut self, buf: T, task: u64) -> PollBuf<T> {
+    #[tactic(auto, using(crate::proofs::Prefixes::rule_behind))]
+    fn poll_readv<T: IoVecBufMut>(&mut self, buf: T, task: u64) -> PollBuf<T>
+        ensures reads { ReadsParts (I.tells && P.tells)
+            (reader_behind self.old.finished (P.left self.old.prefix) (P.faults self.old.prefix) (I.reader self.old.io)).left
+            (reader_behind self.new.finished (P.left self.new.prefix) (P.faults self.new.prefix) (I.reader self.new.io)).left
+            T.held buf result }
+        ensures none { CountsNone (room_of (T.held buf)) (I.reader self.old.io).counts (I.reader self.new.io).counts result }
+        ensures cause { IsCaused task
+            (reader_behind self.old.finished (P.left self.old.prefix) (P.faults self.old.prefix) (I.reader self.old.io)).counts
+            (reader_behind self.new.finished (P.left self.new.prefix) (P.faults self.new.prefix) (I.reader self.new.io)).counts result }
+        ensures counts { AfterCall None
+            (reader_behind self.old.finished (P.left self.old.prefix) (P.faults self.old.prefix) (I.reader self.old.io)).counts
+            (reader_behind self.new.finished (P.left self.new.prefix) (P.faults self.new.prefix) (I.reader self.new.io)).counts }
+        ensures rule { PrefixRule P.tells P.left self.old self.new (room_of (T.held buf)) result }
+    {
         match self.readv_prefix(buf) {
             Front::Answered(answer) => answer,
             Front::Behind(buf) => self.io.poll_readv(buf, task),
@@ -236,24 +273,52 @@ impl<I: AsyncReadRent, P: ByteSource> AsyncReadRent for PrefixedReadIo<I, P> {
 }
 
 impl<I: CancelableAsyncReadRent, P: ByteSource> CancelableAsyncReadRent for PrefixedReadIo<I, P> {
+    #[tactic(auto, using(crate::proofs::Prefixes::rule_behind))]
     fn poll_cancelable_read<T: IoBufMut>(
         &mut self,
         buf: T,
         c: CancelHandle,
         task: u64,
-    ) -> PollBuf<T> {
+    ) -> PollBuf<T>
+        ensures reads { Reads (I.tells && P.tells)
+            (reader_behind self.old.finished (P.left self.old.prefix) (P.faults self.old.prefix) (I.reader self.old.io)).left
+            (reader_behind self.new.finished (P.left self.new.prefix) (P.faults self.new.prefix) (I.reader self.new.io)).left
+            T.buffer T.under T.beside buf result }
+        ensures none { CountsNone (room (T.buffer buf)) (I.reader self.old.io).counts (I.reader self.new.io).counts result }
+        ensures cause { IsCaused task
+            (reader_behind self.old.finished (P.left self.old.prefix) (P.faults self.old.prefix) (I.reader self.old.io)).counts
+            (reader_behind self.new.finished (P.left self.new.prefix) (P.faults self.new.prefix) (I.reader self.new.io)).counts result }
+        ensures counts { AfterCall (Some c)
+            (reader_behind self.old.finished (P.left self.old.prefix) (P.faults self.old.prefix) (I.reader self.old.io)).counts
+            (reader_behind self.new.finished (P.left self.new.prefix) (P.faults self.new.prefix) (I.reader self.new.io)).counts }
+        ensures rule { PrefixRule P.tells P.left self.old self.new (room (T.buffer buf)) result }
+    {
         match self.read_prefix(buf) {
             Front::Answered(answer) => answer,
             Front::Behind(buf) => self.io.poll_cancelable_read(buf, c, task),
         }
     }
 
+    #[tactic(auto, using(crate::proofs::Prefixes::rule_behind))]
     fn poll_cancelable_readv<T: IoVecBufMut>(
         &mut self,
         buf: T,
         c: CancelHandle,
         task: u64,
-    ) -> PollBuf<T> {
+    ) -> PollBuf<T>
+        ensures reads { ReadsParts (I.tells && P.tells)
+            (reader_behind self.old.finished (P.left self.old.prefix) (P.faults self.old.prefix) (I.reader self.old.io)).left
+            (reader_behind self.new.finished (P.left self.new.prefix) (P.faults self.new.prefix) (I.reader self.new.io)).left
+            T.held buf result }
+        ensures none { CountsNone (room_of (T.held buf)) (I.reader self.old.io).counts (I.reader self.new.io).counts result }
+        ensures cause { IsCaused task
+            (reader_behind self.old.finished (P.left self.old.prefix) (P.faults self.old.prefix) (I.reader self.old.io)).counts
+            (reader_behind self.new.finished (P.left self.new.prefix) (P.faults self.new.prefix) (I.reader self.new.io)).counts result }
+        ensures counts { AfterCall (Some c)
+            (reader_behind self.old.finished (P.left self.old.prefix) (P.faults self.old.prefix) (I.reader self.old.io)).counts
+            (reader_behind self.new.finished (P.left self.new.prefix) (P.faults self.new.prefix) (I.reader self.new.io)).counts }
+        ensures rule { PrefixRule P.tells P.left self.old self.new (room_of (T.held buf)) result }
+    {
         match self.readv_prefix(buf) {
             Front::Answered(answer) => answer,
             Front::Behind(buf) => self.io.poll_cancelable_readv(buf, c, task),

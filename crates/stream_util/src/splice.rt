@@ -1,11 +1,11 @@
 // Splices: bytes that go from one stream to another by way of a pipe in memory.
-ghost use Rattle.std.specs.Prelude.{◌≡◌, ◌≤◌, [], Bool, true, length, drop};
+ghost use Rattle.std.specs.Prelude.{◌≡◌, ◌≤◌, [], Bool, true, length, drop, None, min};
 ghost use Rattle.rent_io.specs.Counts.{AfterCall};
-ghost use Rattle.rent_io.specs.Polls.{IsCountCaused};
+ghost use Rattle.rent_io.specs.Polls.{IsFlushCaused};
 ghost use Rattle.rent_io.specs.Reader.{Reader};
 ghost use Rattle.rent_io.specs.Scripted.{as_reader, as_writer};
 ghost use Rattle.rent_io.specs.Writer.{Writer, EndsStay};
-ghost use Rattle.stream_util.specs.Splice.{SplicesIn, SplicesOut, IsSpliceCaused};
+ghost use Rattle.stream_util.specs.Splice.{SplicesIn, SplicesOut, IsSpliceCaused, SplicesNoneOf};
 
 use rent_buf::{ByteList, IoFault, Rent, Slice, SliceMut};
 use rent_io::{AsyncReadRent, AsyncWriteRent, PIECE, PollBuf, PollCount, ScriptedStream};
@@ -96,8 +96,9 @@ pub trait SpliceSource {
     /// grow. At `Pending`, `Again` and a fault nothing was read.
     fn poll_splice_to(&mut self, pipe: &mut MemPipe, len: u32, task: u64) -> PollCount
         ensures splices { SplicesIn tells (source self.old).left (source self.new).left pipe.old pipe.new len result }
-        ensures cause { IsSpliceCaused (source self.old).counts (source self.new).counts result }
-        ensures counts { AfterCall (source self.old).counts (source self.new).counts };
+        ensures none { SplicesNoneOf len (source self.old).counts (source self.new).counts result }
+        ensures cause { IsSpliceCaused task (source self.old).counts (source self.new).counts result }
+        ensures counts { AfterCall None (source self.old).counts (source self.new).counts };
 }
 
 /// A stream that bytes can be spliced to out of a pipe (monoio: `SpliceDestination`).
@@ -112,16 +113,18 @@ pub trait SpliceDestination {
     /// leave the pipe. At `Pending`, `Again` and a fault nothing was written.
     fn poll_splice_from(&mut self, pipe: &mut MemPipe, len: u32, task: u64) -> PollCount
         ensures splices { SplicesOut tells (destination self.old).delivered (destination self.new).delivered pipe.old pipe.new len result }
+        ensures none { SplicesNoneOf (min len (length pipe.old)) (destination self.old).counts (destination self.new).counts result }
         ensures ends { EndsStay (destination self.old) (destination self.new) }
-        ensures cause { IsCountCaused (destination self.old).counts (destination self.new).counts result }
-        ensures counts { AfterCall (destination self.old).counts (destination self.new).counts };
+        ensures cause { IsFlushCaused task (destination self.old).counts (destination self.new).counts result }
+        ensures counts { AfterCall None (destination self.old).counts (destination self.new).counts };
 }
 
 // One read of a stream of at most so many bytes, and at most `PIECE`, which join the end of a pipe.
 fn read_into<A: AsyncReadRent>(reader: &mut A, pipe: &mut MemPipe, len: u32, task: u64) -> PollCount
     ensures splices { SplicesIn A.tells (A.reader reader.old).left (A.reader reader.new).left pipe.old pipe.new len result }
-    ensures cause { IsSpliceCaused (A.reader reader.old).counts (A.reader reader.new).counts result }
-    ensures counts { AfterCall (A.reader reader.old).counts (A.reader reader.new).counts }
+    ensures none { SplicesNoneOf len (A.reader reader.old).counts (A.reader reader.new).counts result }
+    ensures cause { IsSpliceCaused task (A.reader reader.old).counts (A.reader reader.new).counts result }
+    ensures counts { AfterCall None (A.reader reader.old).counts (A.reader reader.new).counts }
 {
     pipe.settle();
     let want = PIECE.min(len as usize);
@@ -166,9 +169,10 @@ fn write_from<A: AsyncWriteRent>(
     task: u64,
 ) -> PollCount
     ensures splices { SplicesOut A.tells (A.writer writer.old).delivered (A.writer writer.new).delivered pipe.old pipe.new len result }
+    ensures none { SplicesNoneOf (min len (length pipe.old)) (A.writer writer.old).counts (A.writer writer.new).counts result }
     ensures ends { EndsStay (A.writer writer.old) (A.writer writer.new) }
-    ensures cause { IsCountCaused (A.writer writer.old).counts (A.writer writer.new).counts result }
-    ensures counts { AfterCall (A.writer writer.old).counts (A.writer writer.new).counts }
+    ensures cause { IsFlushCaused task (A.writer writer.old).counts (A.writer writer.new).counts result }
+    ensures counts { AfterCall None (A.writer writer.old).counts (A.writer writer.new).counts }
 {
     let empty = Vec::new(*pipe.buf.allocator());
     let buf = mem::replace(&mut pipe.buf, empty);

@@ -1,7 +1,8 @@
 // Streams that are split into a half that is read and a half that is written.
-ghost use Rattle.std.specs.Prelude.{◌≡◌, ◌↔◌, IsOk, IfOk, IfErr};
+ghost use Rattle.std.specs.Prelude.{◌≡◌, ◌↔◌, IsOk, IfOk, IfErr, None};
 ghost use Rattle.rent_io.specs.Completeness.{Completes};
 ghost use Rattle.rent_io.specs.Counts.{AfterCall};
+ghost use Rattle.rent_io.specs.Polls.{TookNone};
 ghost use Rattle.stream_util.specs.Split.{Half, one_more, ShutsDown, part_in};
 
 use cancel_core::CancelHandle;
@@ -206,10 +207,10 @@ impl<T: Split> Shutdown<T> {
     /// Makes one shutdown of the part. It is done, with the part, once that is done, or with the part's fault.
     #[tactic(auto, using(crate::proofs::Completeness::shutdown_completes))]
     pub fn poll(self, task: u64) -> Step<Shutdown<T>, (Result<u64, IoFault>, T::Write)>
-        ensures answer { ShutsDown T.Write.writer T.Write.tells self result }
-        ensures counts { AfterCall (T.Write.writer self).counts (T.Write.writer (part_in result)).counts }
+        ensures answer { ShutsDown T.Write.writer T.Write.tells task self result }
+        ensures counts { AfterCall None (T.Write.writer self).counts (T.Write.writer (part_in result)).counts }
         ensures complete { Completes (T.Write.writer self).counts (T.Write.writer (part_in result)).counts result (λ end. end.0)
-            (λ fault. ⊥) (λ next. ⊥) }
+            (TookNone (T.Write.writer self).counts (T.Write.writer (part_in result)).counts) (λ next. ⊥) }
     {
         let Shutdown { mut part } = self;
         match part.poll_shutdown(task) {

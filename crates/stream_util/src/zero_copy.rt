@@ -67,16 +67,17 @@ impl ZeroCopy {
         writer: &mut D,
         task: u64,
     ) -> Step<ZeroCopy, Copied>
-        ensures answer { ZeroCopies S.tells D.tells (record { reader = S.source reader.old; writer = D.destination writer.old })
+        ensures answer { ZeroCopies S.tells D.tells task (record { reader = S.source reader.old; writer = D.destination writer.old })
             (record { reader = S.source reader.new; writer = D.destination writer.new }) self result }
         ensures counts { OneCall (record { reader = S.source reader.old; writer = D.destination writer.old })
             (record { reader = S.source reader.new; writer = D.destination writer.new }) }
         ensures ends { EndsStay (D.destination writer.old) (D.destination writer.new) }
         ensures joined { IsSameJoined S.tells D.tells (record { reader = S.source reader.old; writer = D.destination writer.old })
             (record { reader = S.source reader.new; writer = D.destination writer.new }) self.held (held_in result) }
+        ensures within { length (held_in result) ≤ MOST_SPLICED }
         ensures complete { CopyCompletes S.tells D.tells (record { reader = S.source reader.old; writer = D.destination writer.old })
             (record { reader = S.source reader.new; writer = D.destination writer.new }) self result
-            (SplicesNone D.tells (record { reader = S.source reader.old; writer = D.destination writer.old })
+            (SplicesNone (record { reader = S.source reader.old; writer = D.destination writer.old })
             (record { reader = S.source reader.new; writer = D.destination writer.new }) self) }
     {
         let ZeroCopy { mut pipe, count } = self;

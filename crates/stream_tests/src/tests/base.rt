@@ -184,6 +184,14 @@ pub(crate) fn parted<T>(poll: PollBuf<T>) -> (PollCount, T) {
     }
 }
 
+/// The state of polls that are used up.
+pub(crate) fn going<S: Drop, R: Drop>(step: Step<S, R>) -> Result<S, Why> {
+    match step {
+        Step::Again(state) => Ok(state),
+        _ => Err(Why::NotSo),
+    }
+}
+
 /// How a read or a write of all ended, and the buffer.
 pub(crate) fn whole<S: Drop, T>(step: Step<S, BufResult<usize, T>>) -> Result<(PollCount, T), Why> {
     match step {

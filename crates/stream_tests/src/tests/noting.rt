@@ -78,7 +78,7 @@ impl CancelableAsyncReadRent for Noting {
         task: u64,
     ) -> PollBuf<T> {
         self.note(c);
-        self.io.poll_read(buf, task)
+        self.io.poll_cancelable_read(buf, c, task)
     }
 
     fn poll_cancelable_readv<T: IoVecBufMut>(
@@ -88,7 +88,7 @@ impl CancelableAsyncReadRent for Noting {
         task: u64,
     ) -> PollBuf<T> {
         self.note(c);
-        self.io.poll_readv(buf, task)
+        self.io.poll_cancelable_readv(buf, c, task)
     }
 }
 
@@ -126,7 +126,7 @@ impl CancelableAsyncWriteRent for Noting {
         task: u64,
     ) -> PollBuf<T> {
         self.note(c);
-        self.io.poll_write(buf, task)
+        self.io.poll_cancelable_write(buf, c, task)
     }
 
     fn poll_cancelable_writev<T: IoVecBuf>(
@@ -136,16 +136,16 @@ impl CancelableAsyncWriteRent for Noting {
         task: u64,
     ) -> PollBuf<T> {
         self.note(c);
-        self.io.poll_writev(buf, task)
+        self.io.poll_cancelable_writev(buf, c, task)
     }
 
     fn poll_cancelable_flush(&mut self, c: CancelHandle, task: u64) -> PollCount {
         self.note(c);
-        self.io.poll_flush(task)
+        self.io.poll_cancelable_flush(c, task)
     }
 
     fn poll_cancelable_shutdown(&mut self, c: CancelHandle, task: u64) -> PollCount {
         self.note(c);
-        self.io.poll_shutdown(task)
+        self.io.poll_cancelable_shutdown(c, task)
     }
 }

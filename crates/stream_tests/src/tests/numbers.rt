@@ -1,5 +1,5 @@
 // Numbers, by plain reads and by reads under a cancel group.
-use crate::tests::base::{has_left, is_well, stream};
+use crate::tests::base::{going, has_left, is_well, stream};
 use crate::tests::noting::{Noting, handle, has_noted};
 use cancel_core::CancelHandle;
 use rent_buf::OutOfMemory;
@@ -110,7 +110,10 @@ fn reads_under<N: Number + PartialEq + Debug>(
     want: Result<N, IoFault>,
 ) {
     match state {
-        Ok(state) => ends(rt, state.poll(io, 0), want),
+        Ok(state) => match going(state.drive(io, 0, 0)) {
+            Ok(state) => ends(rt, state.poll(io, 0), want),
+            Err(_) => rt.panic("a poll too many"),
+        },
         Err(_) => rt.panic("out of memory"),
     }
 }

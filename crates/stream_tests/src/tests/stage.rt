@@ -1,5 +1,5 @@
 // What tests do with a stream: each call here makes one call of the stream, or reads or writes all, and answers plain values.
-use crate::tests::base::{Why, made, parted, whole};
+use crate::tests::base::{Why, going, made, parted, whole};
 use cancel_core::CancelHandle;
 use rent_buf::{Ranges, Rent, VecBuf};
 use rent_io::{
@@ -37,7 +37,7 @@ pub(crate) struct Plain<A> {
     pub io: A,
 }
 
-/// A stream whose calls are made under a cancel group. A read or a write of all is polled once.
+/// A stream whose calls are made under a cancel group. A read or a write of all is polled once, after no polls.
 #[derive(Drop)]
 pub(crate) struct Under<A> {
     pub io: A,
@@ -93,11 +93,8 @@ impl<A: CancelableAsyncReadRent> Reads for Under<A> {
         if !exact {
             return Ok(parted(self.io.poll_cancelable_read(buf, self.c, 0)));
         }
-        whole(
-            self.io
-                .cancelable_read_exact(buf, self.c)
-                .poll(&mut self.io, 0),
-        )
+        let state = self.io.cancelable_read_exact(buf, self.c);
+        whole(going(state.drive(&mut self.io, 0, 0))?.poll(&mut self.io, 0))
     }
 
     fn read_parts(&mut self, parts: VecBuf, exact: bool) -> Result<(PollCount, VecBuf), Why> {
@@ -105,7 +102,7 @@ impl<A: CancelableAsyncReadRent> Reads for Under<A> {
             return Ok(parted(self.io.poll_cancelable_readv(parts, self.c, 0)));
         }
         let state = made(self.io.cancelable_read_vectored_exact(parts, self.c))?;
-        whole(state.poll(&mut self.io, 0))
+        whole(going(state.drive(&mut self.io, 0, 0))?.poll(&mut self.io, 0))
     }
 }
 
@@ -114,7 +111,8 @@ impl<A: CancelableAsyncWriteRent> Writes for Under<A> {
         if !all {
             return Ok(parted(self.io.poll_cancelable_write(bytes, self.c, 0)));
         }
-        whole(CancelableAsyncWriteRentExt::write_all(&self.io, bytes, self.c).poll(&mut self.io, 0))
+        let state = CancelableAsyncWriteRentExt::write_all(&self.io, bytes, self.c);
+        whole(going(state.drive(&mut self.io, 0, 0))?.poll(&mut self.io, 0))
     }
 
     fn write_parts(&mut self, parts: VecBuf, all: bool) -> Result<PollCount, Why> {
@@ -125,7 +123,7 @@ impl<A: CancelableAsyncWriteRent> Writes for Under<A> {
             return Err(Why::Unmet);
         }
         let state = made(CancelableAsyncWriteRentExt::write_vectored_all(&self.io, parts, self.c))?;
-        Ok(whole(state.poll(&mut self.io, 0))?.0)
+        Ok(whole(going(state.drive(&mut self.io, 0, 0))?.poll(&mut self.io, 0))?.0)
     }
 
     fn flush(&mut self) -> PollCount {

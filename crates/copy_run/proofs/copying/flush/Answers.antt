@@ -1,8 +1,11 @@
-use Rattle.std.proofs.Common.{◌∙◌, ◌-◌, ◌++◌, [], ap, append-nil, arith}
+use Rattle.std.proofs.Common.{◌∙◌, ◌-◌, ◌++◌, [], ap, append-nil, arith, refl}
 use Rattle.rent_io.specs.Call.{Reading, Writing}
-use Rattle.rent_io.specs.Counts.{Counts}
+use Rattle.std.specs.Prelude.{Some}
+use Rattle.rent_buf.specs.declared.fault.IoFault.TheVariants.{WriteFault}
+use Rattle.rent_io.specs.Counts.{Counts, no_counts}
+use Rattle.rent_io.proofs.Runs.{fault_counted}
 use Rattle.copy_run.specs.Places.{read_since, written_since}
-use Rattle.copy_run.proofs.Endings.{copy-done, counted, did, given-back, wrote-first}
+use Rattle.copy_run.proofs.Endings.{copy-done, did, given-back, wrote-first}
 use Rattle.copy_run.proofs.copying.flush.Goals as goal
 
 pub returns-in-Ready-Ok-clause-ends : goal.returns-in-Ready-Ok-clause-ends
@@ -24,13 +27,13 @@ pub returns-in-Ready-Err-clause-ends : goal.returns-in-Ready-Err-clause-ends
 returns-in-Ready-Err-clause-ends g c =
     let home = c.poll_flush.new.self.sink.home in
     let whole = g.P.Places.prefix ++ g.P.Places.left in
-    let before : Counts = record { faults = c.args.stream.sink.failures; pauses = 0; calls = 0 } in
-    let now : Counts = record { faults = c.poll_flush.new.self.sink.failures; pauses = 0; calls = 0 } in
+    let before : Counts = record no_counts { faults = c.args.stream.sink.failures; fault = Some WriteFault } in
+    let now : Counts = record no_counts { faults = c.poll_flush.new.self.sink.failures; fault = Some WriteFault } in
     given-back g.S.ByteSource.left g.S.ByteSource.faults g.K.ByteSink.taken g.K.ByteSink.faults g.K.ByteSink.is_flushed
     _ _ _ _ _ _ _ _ _ _ _ _ _ _ c.give_back-in-Ready-Err.ensures.source
     (c.give_back-in-Ready-Err.ensures.sink ∙ ap (λ x. x.sink.now) c.into_inner-in-Ready-Err.ensures)
     c.give_back-in-Ready-Err.ensures.ending (
-      home.rose (counted before now _ _ c.in-Ready-Err.field-0-is c.in-Ready-Err.ensures.cause),
+      home.rose (fault_counted 0 before now _ _ c.in-Ready-Err.field-0-is refl c.in-Ready-Err.ensures.cause),
       (λ ts tk. wrote-first g.P.Places.taken _ [] whole [] whole (home.grew tk)
           (append-nil _ ∙ c.in-Ready-Err.ensures.delivered tk ∙ c.requires.all ts tk) (append-nil whole)),
     )

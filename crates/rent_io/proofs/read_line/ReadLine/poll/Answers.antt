@@ -1,6 +1,6 @@
 use Rattle.std.proofs.Common.{◌⊎◌, subst}
 use Rattle.std.specs.Prelude.{string_bytes}
-use Rattle.rent_io.specs.ReadExact.{Paused}
+use Rattle.rent_io.specs.ReadExact.{Interrupted}
 use Rattle.rent_io.specs.ReadLine.{Lining, HasLine, LineFails, LineGoesOn}
 use Rattle.rent_io.specs.declared.poll.Step.TheVariants.{Ready}
 use Rattle.rent_io.proofs.Completeness.{line_completes}
@@ -15,14 +15,15 @@ returns-in-Ready-clause-answer g c =
     let i = c.self.inside in
     let back = string_bytes c.into_text.result.1 in
     let end = c.into_text.result.0 in
-    subst (λ (l : Lining). HasLine tells before.left now.left l back end ⊎ LineFails tells before now l back end) c.self.view_is
+    subst (λ (l : Lining). HasLine tells before now l back end ⊎ LineFails tells before now l back end) c.self.view_is
     (line_ends tells before now i.until i.start c.in-Ready.bytes back c.in-Ready.outcome end c.self.invariant c.in-Ready.ensures.answer
     c.into_text.ensures)
 
 pub returns-in-Ready-clause-complete : goal.returns-in-Ready-clause-complete
 returns-in-Ready-clause-complete g c =
     let reader = g.A.AsyncReadRent.reader in
-    line_completes g.A.AsyncReadRent.tells (reader c.args.io.now) (reader c.poll.new.io) string_bytes c.args.self (Ready c.into_text.result)
+    line_completes g.A.AsyncReadRent.tells c.args.task (reader c.args.io.now) (reader c.poll.new.io) string_bytes c.args.self
+    (Ready c.into_text.result)
     (returns-in-Ready-clause-answer g c)
 
 pub returns-in-Again-clause-answer : goal.returns-in-Again-clause-answer
@@ -32,5 +33,5 @@ returns-in-Again-clause-answer g c =
     let now = g.A.AsyncReadRent.reader c.poll.new.io in
     let i = c.self.inside in
     let next = lining c.in-Again.until i.start in
-    subst (λ (l : Lining). Paused tells before now l next ⊎ LineGoesOn tells before.left now.left l next) c.self.view_is
+    subst (λ (l : Lining). Interrupted tells before now l next ⊎ LineGoesOn tells before.left now.left l next) c.self.view_is
     (line_again tells before now i.until c.in-Again.until i.start c.self.invariant c.in-Again.ensures.answer)

@@ -1,5 +1,6 @@
-use Rattle.std.proofs.Common.{◌+◌, inl, arith}
-use Rattle.rent_io.proofs.Runs.{one_more}
+use Rattle.std.proofs.Common.{◌+◌, arith}
+use Rattle.std.specs.Prelude.{None}
+use Rattle.rent_io.proofs.Runs.{breaking, one_more, pausing}
 use Rattle.rent_io.proofs.LineRuns.{until_ends, until_goes_on, until_used}
 use Rattle.rent_io.proofs.read_until.ReadUntil.drive.Goals as goal
 use Rattle.rent_io.proofs.read_until.ReadUntil.drive.Goals.{in-Pending, in-Again}
@@ -19,19 +20,20 @@ loop-preserved g c =
     let before = reader c.args.io.now in
     let mid = reader c.loop.io in
     let now = reader c.poll.new.io in
-    let calls = one_more c.loop.counter (c.loop.counter + 1) before.counts mid.counts now.counts (omega arith) c.loop.invariant.1
+    let calls = one_more None c.loop.counter (c.loop.counter + 1) before.counts mid.counts now.counts (omega arith) c.loop.invariant.1
     c.poll.ensures.counts in
     let goes = until_goes_on g.A.AsyncReadRent.tells before mid now c.args.self c.loop.state in
-    let used = until_used g.A.AsyncReadRent.tells before mid now c.loop.counter c.args.self c.loop.state in
+    let used = until_used g.A.AsyncReadRent.tells before mid now None c.loop.counter c.args.self c.loop.state in
     elim c.match-poll.branch [
       | in-Pending w ↦ (
-        rw w.state-is (goes w.in-Pending.next c.loop.invariant.0 (inl w.in-Pending.ensures.answer)),
+        rw w.state-is (goes w.in-Pending.next c.loop.invariant.0 (pausing _ _ mid now _ _ _ w.in-Pending.ensures.answer)),
         calls,
-        rw w.state-is (used w.in-Pending.next c.loop.invariant.2 c.poll.ensures.counts (inl w.in-Pending.ensures.answer)),
+        rw w.state-is (used w.in-Pending.next c.loop.invariant.2 c.poll.ensures.counts
+            (pausing _ _ mid now _ _ _ w.in-Pending.ensures.answer)),
       )
       | in-Again w ↦ (
-        rw w.state-is (goes w.in-Again.next c.loop.invariant.0 w.in-Again.ensures.answer),
+        rw w.state-is (goes w.in-Again.next c.loop.invariant.0 (breaking _ mid now _ _ _ w.in-Again.ensures.answer)),
         calls,
-        rw w.state-is (used w.in-Again.next c.loop.invariant.2 c.poll.ensures.counts w.in-Again.ensures.answer),
+        rw w.state-is (used w.in-Again.next c.loop.invariant.2 c.poll.ensures.counts (breaking _ mid now _ _ _ w.in-Again.ensures.answer)),
       )
     ]

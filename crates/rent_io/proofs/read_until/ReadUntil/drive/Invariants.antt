@@ -1,3 +1,4 @@
+use Rattle.std.specs.Prelude.{None}
 use Rattle.rent_io.specs.Runs.{AfterCalls, AreUsed}
 use Rattle.rent_io.specs.LineRuns.{HasAdded}
 use Rattle.rent_io.proofs.read_until.ReadUntil.drive.Given as goal
@@ -6,5 +7,5 @@ abbrev pub invariant-loop : goal.invariant-loop
 invariant-loop g l =
     let start = g.A.AsyncReadRent.reader l.initial.io in
     let now = g.A.AsyncReadRent.reader l.io in
-    HasAdded g.A.AsyncReadRent.tells start.left now.left l.initial.state l.state × AfterCalls l.counter start.counts now.counts
+    HasAdded g.A.AsyncReadRent.tells start.left now.left l.initial.state l.state × AfterCalls None l.counter start.counts now.counts
     × AreUsed l.counter l.initial.state.added l.state.added start.counts now.counts

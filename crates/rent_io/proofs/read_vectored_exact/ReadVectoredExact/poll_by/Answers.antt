@@ -23,13 +23,13 @@ returns-then-n-eq0-clause-answer g c =
     let parts = held i.buf in
     let here = c.next_room-into in
     let a = c.in-Ready-Ok-default in
-    let left = (g.A.AsyncReadRent.reader c.args.io.now).left in
-    let rest = (g.A.AsyncReadRent.reader c.read_part.new.io).left in
+    let before = g.A.AsyncReadRent.reader c.args.io.now in
+    let now = g.A.AsyncReadRent.reader c.read_part.new.io in
     let there : here.result.0 < length parts = omega
     (arith, c.if-into-parts_len.false, c.parts_len.ensures, length_bytes parts, ap length c.keeps_bounds.ensures.parts) in
-    let early = ends_early g.A.AsyncReadRent.tells left rest c.args.self parts (held a.buf) i.part i.filled here.result.0 here.result.1 a.n
+    let early = ends_early g.A.AsyncReadRent.tells before now c.args.self parts (held a.buf) i.part i.filled here.result.0 here.result.1 a.n
     i.total c.self.view_is there here.ensures.full (here.ensures.room there) here.ensures.same (rw a.field-0-is at a.ensures.reads)
-    c.if-n-eq0.true in
+    c.if-n-eq0.true (rw a.field-0-is at a.ensures.none) in
     (early.0, inr early.1)
 
 pub next_room-part-requires-clause-full : goal.next_room-part-requires-clause-full

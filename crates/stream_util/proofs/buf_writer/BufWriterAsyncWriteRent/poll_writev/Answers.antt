@@ -1,5 +1,6 @@
-use Rattle.std.proofs.Common.{◌∙◌, ◌++◌, refl, ap, arith, length}
-use Rattle.rent_io.proofs.FirstParts.{parts_within}
+use Rattle.std.proofs.Common.{◌∙◌, ◌++◌, inl, refl, sym, ap, arith, length}
+use Rattle.std.proofs.lemmas.List.{nil_from_length}
+use Rattle.rent_io.proofs.FirstParts.{none_at_all, parts_within}
 use Rattle.stream_util.proofs.Buffered.{first_behind}
 use Rattle.stream_util.proofs.buf_writer.BufWriterAsyncWriteRent.poll_writev.Goals as goal
 
@@ -16,3 +17,8 @@ returns-in-Taken-clause-writes g c =
           ∙ first_behind (writer c.args.self.now.inner).delivered c.args.self.now.held parts first c.offer.new.self.held is
           (ap (λ w. w.held) offers.1),
     )
+
+pub returns-in-Taken-clause-none : goal.returns-in-Taken-clause-none
+returns-in-Taken-clause-none g c = λ none.
+    inl (ap length (none_at_all (g.T.IoVecBuf.parts c.args.buf)
+    (sym c.first_part-part.ensures ∙ nil_from_length c.first_part-part.result.now none)))

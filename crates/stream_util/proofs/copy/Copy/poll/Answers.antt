@@ -3,7 +3,7 @@ use Rattle.std.proofs.lemmas.List.{length-drop}
 use Rattle.std.proofs.Math.ListN.{drop_of_length-le}
 use Rattle.rent_io.specs.declared.poll.Step.TheVariants.{Again}
 use Rattle.stream_util.proofs.Completeness.{copy_completes}
-use Rattle.stream_util.proofs.Copies.{fetched, delivered, same_joined}
+use Rattle.stream_util.proofs.Copies.{fetched, delivered, same_joined, slice_counted}
 use Rattle.stream_util.proofs.copy.Copy.poll.Goals as goal
 
 pub returns-else-n-eq0-clause-answer : goal.returns-else-n-eq0-clause-answer
@@ -24,7 +24,8 @@ pub returns-else-n-eq0-clause-complete : goal.returns-else-n-eq0-clause-complete
 returns-else-n-eq0-clause-complete g c =
     let reader = g.R.AsyncReadRent.reader in
     let writer = g.W.AsyncWriteRent.writer c.args.writer.now in
-    copy_completes g.R.AsyncReadRent.tells g.W.AsyncWriteRent.tells (record { reader = reader c.args.reader.now; writer = writer })
+    copy_completes g.R.AsyncReadRent.tells g.W.AsyncWriteRent.tells c.args.task
+    (record { reader = reader c.args.reader.now; writer = writer })
     (record { reader = reader c.poll_read.new.self; writer = writer }) c.args.self (Again _) (returns-else-n-eq0-clause-answer g c)
 
 pub returns-then-n-eq0-2-clause-answer : goal.returns-then-n-eq0-2-clause-answer
@@ -45,7 +46,11 @@ returns-then-n-eq0-2-clause-answer g c =
       c.self.invariant.0,
     ) in
     let none = rw c.if-n-eq0-2.true at writes.2 in
-    rw c.ended-then-n-eq0-2.ensures (is, (λ _. refl, λ w. none w ∙ append-nil _), inr (inr (refl, some)))
+    let writer = g.W.AsyncWriteRent.writer in
+    let counted = slice_counted (λ r. r.bytes) i.buf c.new.result i.sent c.len-len.result a.n (writer c.args.writer.now).counts.zeros
+    (writer c.poll_write.new.self).counts.zeros c.new.ensures (omega (arith, c.if-sent-len.false, c.len-len.ensures, c.self.invariant.0))
+    c.len-len.ensures c.if-n-eq0-2.true (rw a.field-0-is at a.ensures.none) in
+    rw c.ended-then-n-eq0-2.ensures (is, (λ _. refl, λ w. none w ∙ append-nil _), inr (inr (some, (refl, counted))))
 
 pub returns-else-n-eq0-2-clause-answer : goal.returns-else-n-eq0-2-clause-answer
 returns-else-n-eq0-2-clause-answer g c =
@@ -63,7 +68,8 @@ pub returns-then-n-eq0-2-clause-complete : goal.returns-then-n-eq0-2-clause-comp
 returns-then-n-eq0-2-clause-complete g c =
     let reader = g.R.AsyncReadRent.reader c.args.reader.now in
     let writer = g.W.AsyncWriteRent.writer in
-    copy_completes g.R.AsyncReadRent.tells g.W.AsyncWriteRent.tells (record { reader = reader; writer = writer c.args.writer.now })
+    copy_completes g.R.AsyncReadRent.tells g.W.AsyncWriteRent.tells c.args.task
+    (record { reader = reader; writer = writer c.args.writer.now })
     (record { reader = reader; writer = writer c.poll_write.new.self }) c.args.self c.ended-then-n-eq0-2.result
     (returns-then-n-eq0-2-clause-answer g c)
 
@@ -71,7 +77,8 @@ pub returns-else-n-eq0-2-clause-complete : goal.returns-else-n-eq0-2-clause-comp
 returns-else-n-eq0-2-clause-complete g c =
     let reader = g.R.AsyncReadRent.reader c.args.reader.now in
     let writer = g.W.AsyncWriteRent.writer in
-    copy_completes g.R.AsyncReadRent.tells g.W.AsyncWriteRent.tells (record { reader = reader; writer = writer c.args.writer.now })
+    copy_completes g.R.AsyncReadRent.tells g.W.AsyncWriteRent.tells c.args.task
+    (record { reader = reader; writer = writer c.args.writer.now })
     (record { reader = reader; writer = writer c.poll_write.new.self }) c.args.self (Again _) (returns-else-n-eq0-2-clause-answer g c)
 
 pub returns-else-n-eq0-2-clause-joined : goal.returns-else-n-eq0-2-clause-joined

@@ -5,11 +5,12 @@ use Rattle.stream_util.proofs.Copies.{Ran}
 use Rattle.stream_util.proofs.copy.Copy.run.Given as goal
 
 -- What the polls so far moved, and how much is held.
-abbrev pub invariant-loop-turn : goal.invariant-loop-turn
-invariant-loop-turn g l =
+abbrev pub invariant-loop : goal.invariant-loop
+invariant-loop g l =
     let reader = g.R.AsyncReadRent.reader in
     let writer = g.W.AsyncWriteRent.writer in
-    Ran g.R.AsyncReadRent.tells g.W.AsyncWriteRent.tells (record { reader = reader l.fn.reader; writer = writer l.fn.writer })
-    (record { reader = reader l.reader; writer = writer l.writer }) l.fn.self l.copy
-    × EndsStay (writer l.fn.writer) (writer l.writer)
+    Ran l.counter g.R.AsyncReadRent.tells g.W.AsyncWriteRent.tells
+    (record { reader = reader l.initial.reader; writer = writer l.initial.writer })
+    (record { reader = reader l.reader; writer = writer l.writer }) l.initial.copy l.copy
+    × EndsStay (writer l.initial.writer) (writer l.writer)
     × (length l.copy.held ≤ MOST_HELD)

@@ -1,0 +1,44 @@
+use Rattle.std.proofs.Common.{◌∙◌, ◌+◌, ap, arith}
+use Rattle.rent_io.specs.ReadExact.{Filling}
+use Rattle.rent_io.proofs.Runs.{breaking, one_more, pausing}
+use Rattle.rent_io.proofs.ExactRuns.{fill_ends, fill_goes_on, fill_used}
+use Rattle.rent_io.proofs.read_exact.ReadExact.drive_by.Goals as goal
+use Rattle.rent_io.proofs.read_exact.ReadExact.drive_by.Goals.{in-Pending, in-Again}
+
+pub returns-in-Ready-clause-run : goal.returns-in-Ready-clause-run
+returns-in-Ready-clause-run g c =
+    let reader = g.A.AsyncReadRent.reader in
+    let has = c.loop.invariant.0 in
+    let answer = c.in-Ready.ensures.answer in (
+      fill_ends g.A.AsyncReadRent.tells (reader c.args.io.now) (reader c.loop.io) (reader c.poll_by.new.io) c.args.self c.loop.state
+          (g.T.IoBufMut.buffer c.in-Ready.buf) c.in-Ready.outcome c.keeps_bounds.ensures c.loop.invariant.1.faults_stay
+          c.loop.invariant.1.zeros_stay has answer.0,
+      answer.1 ∙ ap (λ (f : Filling). f.under) has.is_next,
+      answer.2 ∙ ap (λ (f : Filling). f.beside) has.is_next,
+    )
+
+pub loop-preserved : goal.loop-preserved
+loop-preserved g c =
+    let reader = g.A.AsyncReadRent.reader in
+    let before = reader c.args.io.now in
+    let mid = reader c.loop.io in
+    let now = reader c.poll_by.new.io in
+    let calls = one_more _ c.loop.counter (c.loop.counter + 1) before.counts mid.counts now.counts (omega arith) c.loop.invariant.1
+    c.poll_by.ensures.counts in
+    let goes = fill_goes_on g.A.AsyncReadRent.tells before mid now c.args.self c.loop.state in
+    let used = fill_used g.A.AsyncReadRent.tells before mid now _ c.loop.counter c.args.self c.loop.state in
+    elim c.match-poll_by.branch [
+      | in-Pending w ↦ (
+        rw w.state-is (goes w.in-Pending.next c.keeps_bounds.ensures c.loop.invariant.0
+            (pausing _ _ mid now _ _ _ w.in-Pending.ensures.answer)),
+        calls,
+        rw w.state-is (used w.in-Pending.next c.loop.invariant.2 c.poll_by.ensures.counts
+            (pausing _ _ mid now _ _ _ w.in-Pending.ensures.answer)),
+      )
+      | in-Again w ↦ (
+        rw w.state-is (goes w.in-Again.next c.keeps_bounds.ensures c.loop.invariant.0 (breaking _ mid now _ _ _ w.in-Again.ensures.answer)),
+        calls,
+        rw w.state-is (used w.in-Again.next c.loop.invariant.2 c.poll_by.ensures.counts
+            (breaking _ mid now _ _ _ w.in-Again.ensures.answer)),
+      )
+    ]
