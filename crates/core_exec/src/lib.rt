@@ -1,0 +1,9 @@
+//! The core of an executor: jobs by number, turns that poll those that are ready, and deadlines.
+#![tactic(auto)]
+
+mod job;
+mod poll;
+mod table;
+
+pub use job::{Job, JobStep};
+pub use table::Task;
