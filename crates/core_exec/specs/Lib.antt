@@ -1,3 +1,4 @@
 pub mod Job
 pub mod Polls
 pub mod Tasks
+pub mod Visits

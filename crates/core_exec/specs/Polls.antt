@@ -1,4 +1,4 @@
--- What a poll and a cancel make of a task. Cited by `poll_task`, `cancel_task` and `visit`.
+-- What a poll and a cancel make of a task. Cited by `poll_task`, `cancel_task` and `visit_task`.
 use Rattle.std.specs.Prelude.{ℕ, suc, ◌≡◌, ◌+◌, ◌||◌, Bool, true, false, cond, List, Option, Some, None, IsSome}
 use Rattle.core_exec.specs.declared.table.Task.{Task}
 use Rattle.core_exec.specs.declared.poll.Polled.{Polled}
@@ -36,3 +36,8 @@ abbrev pub RoomAfter : {O : Type 0} → Polled O → ℕ → ℕ → ℕ → ℕ
 RoomAfter (Done out) were are unmarked_were unmarked_are = (are + 1 ≡ were) × (unmarked_are ≡ unmarked_were)
 RoomAfter Pending were are unmarked_were unmarked_are = (are ≡ were) × (unmarked_are ≡ unmarked_were + 1)
 RoomAfter OutOfMemory were are unmarked_were unmarked_are = (are ≡ were) × (unmarked_are ≡ unmarked_were)
+
+-- The cancel of a task was asked for once if it is late, and else it is as it was.
+abbrev pub AsksIf : {J : Type 0} → (J → ℕ) → (J → ℕ) → (J → List ℕ) → Bool → Option (Task J) → Option (Task J) → Type 0
+AsksIf polls cancels aim true was now = IsAsked polls cancels aim was now
+AsksIf polls cancels aim false was now = now ≡ was

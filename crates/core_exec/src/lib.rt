@@ -4,6 +4,7 @@
 mod job;
 mod poll;
 mod table;
+mod visit;
 
 pub use job::{Job, JobStep};
 pub use table::Task;
