@@ -1,2 +1,4 @@
 pub mod Counted
+pub mod Marking
+pub mod Pairs
 pub mod Visiting

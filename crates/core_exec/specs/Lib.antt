@@ -1,4 +1,6 @@
+pub mod Deadlines
 pub mod Job
+pub mod Marks
 pub mod Polls
 pub mod Tasks
 pub mod Visits

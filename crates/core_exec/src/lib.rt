@@ -1,8 +1,10 @@
 //! The core of an executor: jobs by number, turns that poll those that are ready, and deadlines.
 #![tactic(auto)]
 
+mod deadlines;
 mod job;
 mod poll;
+mod ready;
 mod table;
 mod visit;
 
