@@ -1,4 +1,5 @@
 pub mod Counted
+pub mod Late
 pub mod Marking
 pub mod Pairs
 pub mod Visiting

@@ -3,7 +3,7 @@ ghost use Rattle.std.specs.Prelude.{◌≡◌, ◌<◌, ◌+◌, ◌==◌, ℕ, 
 ghost use Rattle.std.specs.BTreeMap.{btree_map_len};
 ghost use Rattle.std.specs.BTreeSet.{btree_set_len};
 ghost use Rattle.core_exec.specs.Deadlines.{is_set};
-ghost use Rattle.core_exec.specs.Tasks.{task_at};
+ghost use Rattle.core_exec.specs.Tasks.{task_at, mark_of};
 ghost use Rattle.core_exec.specs.Marks.{AreListed, HasDeadlines, MarkedLate, with_mark, has_number, is_late, LateOf};
 
 use crate::deadlines::Deadlines;
@@ -69,5 +69,62 @@ impl<J> Ready<J> {
         for k in 0..named.len() {
             self.mark(named[k]);
         }
+    }
+
+    // Marks a task if it is late.
+    #[tactic(auto, using(crate::proofs::Late::late_flags, crate::proofs::Late::late_marked, crate::proofs::Late::late_mark))]
+    fn mark_if_late(&mut self, t: u64)
+        requires listed { AreListed self.old }
+        ensures listed { AreListed self.new }
+        ensures each { (s : ℕ) → MarkedLate self.old.moment (task_at self.old.table s) (task_at self.new.table s) }
+        ensures marked { is_late self.old.moment (task_at self.old.table t) ≡ true → mark_of (task_at self.new.table t) ≡ true }
+        ensures len { btree_map_len self.new.table.tree ≡ btree_map_len self.old.table.tree }
+        ensures deadlines { self.new.deadlines ≡ self.old.deadlines }
+        ensures moment { self.new.moment ≡ self.old.moment }
+    {
+        match self.table.flags(t) {
+            Some(flags) => {
+                if late_at(flags, self.moment) {
+                    self.mark(t);
+                }
+            }
+            None => {}
+        }
+    }
+
+    // Takes out the first deadline that has come, and marks its task if it is late: whether there was one.
+    #[tactic(auto, using(crate::proofs::Late::set_behind_pop))]
+    fn mark_first(&mut self) -> bool
+        requires listed { AreListed self.old }
+        requires deadlines { HasDeadlines self.old }
+        ensures listed { AreListed self.new }
+        ensures deadlines { HasDeadlines self.new }
+        ensures each { (s : ℕ) → MarkedLate self.old.moment (task_at self.old.table s) (task_at self.new.table s) }
+        ensures none { result ≡ false → (d s : ℕ) → is_set self.new.deadlines d s ≡ true → self.new.moment < d }
+        ensures fewer { result ≡ true → btree_set_len self.new.deadlines.set + 1 ≡ btree_set_len self.old.deadlines.set }
+        ensures len { btree_map_len self.new.table.tree ≡ btree_map_len self.old.table.tree }
+        ensures moment { self.new.moment ≡ self.old.moment }
+    {
+        match self.deadlines.pop(self.moment) {
+            Some(t) => {
+                self.mark_if_late(t);
+                true
+            }
+            None => false,
+        }
+    }
+
+    // Marks the tasks that are late.
+    #[tactic(auto, using(crate::proofs::Late::late_then, crate::proofs::Late::late_all))]
+    pub(crate) fn mark_late(&mut self)
+        requires listed { AreListed self.old }
+        requires deadlines { HasDeadlines self.old }
+        ensures listed { AreListed self.new }
+        ensures deadlines { HasDeadlines self.new }
+        ensures each { (s : ℕ) → task_at self.new.table s ≡ option_map (with_mark (is_late self.old.moment (task_at self.old.table s))) (task_at self.old.table s) }
+        ensures len { btree_map_len self.new.table.tree ≡ btree_map_len self.old.table.tree }
+        ensures moment { self.new.moment ≡ self.old.moment }
+    {
+        while self.mark_first() {}
     }
 }
