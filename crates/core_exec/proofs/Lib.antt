@@ -2,4 +2,5 @@ pub mod Counted
 pub mod Late
 pub mod Marking
 pub mod Pairs
+pub mod Stepping
 pub mod Visiting

@@ -6,7 +6,9 @@ mod job;
 mod poll;
 mod ready;
 mod table;
+mod turn;
 mod visit;
 
 pub use job::{Job, JobStep};
 pub use table::Task;
+pub use turn::Ran;

@@ -1,0 +1,161 @@
+// The ready tasks of a turn, one after another.
+ghost use Rattle.std.specs.Prelude.{◌≡◌, ◌≢◌, ◌<◌, ◌≤◌, ◌+◌, ◌^◌, ◌&&◌, ℕ, IsSome, true, false};
+ghost use Rattle.std.specs.Vec.{vec_len, vec_capacity};
+ghost use Rattle.std.specs.BTreeMap.{btree_map_len};
+ghost use Rattle.core_exec.specs.Deadlines.{is_set, KeepsSet};
+ghost use Rattle.core_exec.specs.Tasks.{AreSound, HaveJobs, FlagsOf, task_at, job_at, unmarked_in, mark_of, count_in};
+ghost use Rattle.core_exec.specs.Marks.{HasDeadlines, is_late};
+ghost use Rattle.core_exec.specs.Visits.{VisitsTask, GivesOutput, MarksAfter};
+ghost use Rattle.core_exec.specs.Steps.{StepsTask, StepsOutput, MarksStep, with_number, polls_at, ends_at, stops_at, is_polled, is_done};
+
+use crate::deadlines::Deadlines;
+use crate::job::Job;
+use crate::ready::{Ready, late_at};
+use crate::table::Flags;
+use crate::visit::{Visit, visit_task};
+
+/// What a turn did.
+#[derive(Drop)]
+pub struct Ran {
+    /// The tasks that were polled, ascending.
+    pub polled: Vec<u64>,
+    /// Those of them whose cancel was asked for, since they were late.
+    pub canceled: Vec<u64>,
+    /// Those of them that are done.
+    pub done: Vec<u64>,
+    /// The task at which memory ran out, if it did. It is to be polled in the next turn, as are those behind it.
+    pub stopped: Option<u64>,
+}
+
+// Notes what a turn did with a ready task.
+fn note(ran: &mut Ran, t: u64, late: bool, visit: Visit)
+    requires polled { vec_len ran.old.polled < vec_capacity ran.old.polled }
+    requires canceled { vec_len ran.old.canceled < vec_capacity ran.old.canceled }
+    requires done { vec_len ran.old.done < vec_capacity ran.old.done }
+    ensures polled { ran.new.polled.items ≡ with_number (polls_at visit) t ran.old.polled.items }
+    ensures canceled { ran.new.canceled.items ≡ with_number (polls_at visit && late) t ran.old.canceled.items }
+    ensures done { ran.new.done.items ≡ with_number (ends_at visit) t ran.old.done.items }
+    ensures polled_room { (vec_len ran.new.polled ≤ vec_len ran.old.polled + 1) × (vec_capacity ran.new.polled ≡ vec_capacity ran.old.polled) }
+    ensures canceled_room { (vec_len ran.new.canceled ≤ vec_len ran.old.canceled + 1) × (vec_capacity ran.new.canceled ≡ vec_capacity ran.old.canceled) }
+    ensures done_room { (vec_len ran.new.done ≤ vec_len ran.old.done + 1) × (vec_capacity ran.new.done ≡ vec_capacity ran.old.done) }
+    ensures stopped { ran.new.stopped ≡ ran.old.stopped }
+{
+    match visit {
+        Visit::Refused => return,
+        Visit::Done => ran.done.push_reserved(t),
+        Visit::Pending => {}
+        Visit::Short => {}
+    }
+    ran.polled.push_reserved(t);
+    if late {
+        ran.canceled.push_reserved(t);
+    }
+}
+
+// Drops the deadline of a task that is done.
+fn drop_deadline(deadlines: &mut Deadlines, t: u64, at: Option<u64>, visit: Visit)
+    ensures others { (d s : ℕ) → s ≢ t → is_set deadlines.old d s ≡ true → is_set deadlines.new d s ≡ true }
+    ensures stays { ends_at visit ≡ false → KeepsSet deadlines.old deadlines.new }
+{
+    match visit {
+        Visit::Done => match at {
+            Some(at) => deadlines.drop_of(at, t),
+            None => {}
+        },
+        Visit::Pending => {}
+        Visit::Short => {}
+        Visit::Refused => {}
+    }
+}
+
+// A marked task's part of a turn.
+#[tactic(auto, using(crate::proofs::Stepping::marked_late, crate::proofs::Stepping::late_not_canceled, crate::proofs::Stepping::set_behind_visit, crate::proofs::Stepping::jobs_behind_visit))]
+fn poll_marked<D, J: Job<D>>(
+    driver: &mut D,
+    ready: &mut Ready<J>,
+    outputs: &mut Vec<(u64, J::Out)>,
+    ran: &mut Ran,
+    t: u64,
+    flags: Flags,
+) -> Visit
+    requires flags { FlagsOf (task_at ready.old.table t) (Some flags) }
+    requires marked { mark_of (task_at ready.old.table t) ≡ true }
+    requires sound { AreSound J.fits J.apart driver.old (job_at ready.old.table) }
+    requires jobs { HaveJobs (task_at ready.old.table) }
+    requires deadlines { HasDeadlines ready.old }
+    requires polls { count_in J.polls (job_at ready.old.table t) < 2 ^ 62 }
+    requires cancels { count_in J.cancels (job_at ready.old.table t) < 2 ^ 62 }
+    requires room { vec_len outputs.old < vec_capacity outputs.old }
+    requires polled { vec_len ran.old.polled < vec_capacity ran.old.polled }
+    requires canceled { vec_len ran.old.canceled < vec_capacity ran.old.canceled }
+    requires done { vec_len ran.old.done < vec_capacity ran.old.done }
+    ensures sound { AreSound J.fits J.apart driver.new (job_at ready.new.table) }
+    ensures jobs { HaveJobs (task_at ready.new.table) }
+    ensures deadlines { HasDeadlines ready.new }
+    ensures this { VisitsTask J.polls J.cancels J.aim (is_late ready.old.moment (task_at ready.old.table t)) (task_at ready.old.table t) (task_at ready.new.table t) result }
+    ensures rest { (s : ℕ) → s ≢ t → task_at ready.new.table s ≡ task_at ready.old.table s }
+    ensures output { GivesOutput J.aim J.meets t (job_at ready.old.table t) outputs.old.items outputs.new.items result }
+    ensures len { vec_len outputs.new + btree_map_len ready.new.table.tree ≡ vec_len outputs.old + btree_map_len ready.old.table.tree }
+    ensures capacity { vec_capacity outputs.new ≡ vec_capacity outputs.old }
+    ensures unmarked { MarksAfter result (unmarked_in ready.old.table) (unmarked_in ready.new.table) }
+    ensures marks { (ready.new.marks ≡ ready.old.marks) × (ready.new.moment ≡ ready.old.moment) }
+    ensures polled { ran.new.polled.items ≡ with_number (polls_at result) t ran.old.polled.items }
+    ensures canceled { ran.new.canceled.items ≡ with_number (polls_at result && is_late ready.old.moment (task_at ready.old.table t)) t ran.old.canceled.items }
+    ensures done { ran.new.done.items ≡ with_number (ends_at result) t ran.old.done.items }
+    ensures polled_room { (vec_len ran.new.polled ≤ vec_len ran.old.polled + 1) × (vec_capacity ran.new.polled ≡ vec_capacity ran.old.polled) }
+    ensures canceled_room { (vec_len ran.new.canceled ≤ vec_len ran.old.canceled + 1) × (vec_capacity ran.new.canceled ≡ vec_capacity ran.old.canceled) }
+    ensures done_room { (vec_len ran.new.done ≤ vec_len ran.old.done + 1) × (vec_capacity ran.new.done ≡ vec_capacity ran.old.done) }
+    ensures stopped { ran.new.stopped ≡ ran.old.stopped }
+{
+    let late = late_at(flags, ready.moment);
+    let visit = visit_task(driver, &mut ready.table, outputs, t, late, flags.canceled);
+    note(ran, t, late, visit);
+    drop_deadline(&mut ready.deadlines, t, flags.deadline, visit);
+    visit
+}
+
+// A task's part of a turn, if it is marked.
+fn poll_at<D, J: Job<D>>(
+    driver: &mut D,
+    ready: &mut Ready<J>,
+    outputs: &mut Vec<(u64, J::Out)>,
+    ran: &mut Ran,
+    t: u64,
+) -> Option<Visit>
+    requires sound { AreSound J.fits J.apart driver.old (job_at ready.old.table) }
+    requires jobs { HaveJobs (task_at ready.old.table) }
+    requires deadlines { HasDeadlines ready.old }
+    requires polls { mark_of (task_at ready.old.table t) ≡ true → count_in J.polls (job_at ready.old.table t) < 2 ^ 62 }
+    requires cancels { mark_of (task_at ready.old.table t) ≡ true → count_in J.cancels (job_at ready.old.table t) < 2 ^ 62 }
+    requires room { vec_len outputs.old + btree_map_len ready.old.table.tree ≤ vec_capacity outputs.old }
+    requires polled { vec_len ran.old.polled < vec_capacity ran.old.polled }
+    requires canceled { vec_len ran.old.canceled < vec_capacity ran.old.canceled }
+    requires done { vec_len ran.old.done < vec_capacity ran.old.done }
+    ensures sound { AreSound J.fits J.apart driver.new (job_at ready.new.table) }
+    ensures jobs { HaveJobs (task_at ready.new.table) }
+    ensures deadlines { HasDeadlines ready.new }
+    ensures this { StepsTask J.polls J.cancels J.aim ready.old.moment (task_at ready.old.table t) (task_at ready.new.table t) result }
+    ensures rest { (s : ℕ) → s ≢ t → task_at ready.new.table s ≡ task_at ready.old.table s }
+    ensures output { StepsOutput J.aim J.meets t (job_at ready.old.table t) outputs.old.items outputs.new.items result }
+    ensures len { vec_len outputs.new + btree_map_len ready.new.table.tree ≡ vec_len outputs.old + btree_map_len ready.old.table.tree }
+    ensures capacity { vec_capacity outputs.new ≡ vec_capacity outputs.old }
+    ensures unmarked { MarksStep result (unmarked_in ready.old.table) (unmarked_in ready.new.table) }
+    ensures marks { (ready.new.marks ≡ ready.old.marks) × (ready.new.moment ≡ ready.old.moment) }
+    ensures polled { ran.new.polled.items ≡ with_number (is_polled result) t ran.old.polled.items }
+    ensures canceled { ran.new.canceled.items ≡ with_number (is_polled result && is_late ready.old.moment (task_at ready.old.table t)) t ran.old.canceled.items }
+    ensures done { ran.new.done.items ≡ with_number (is_done result) t ran.old.done.items }
+    ensures polled_room { (vec_len ran.new.polled ≤ vec_len ran.old.polled + 1) × (vec_capacity ran.new.polled ≡ vec_capacity ran.old.polled) }
+    ensures canceled_room { (vec_len ran.new.canceled ≤ vec_len ran.old.canceled + 1) × (vec_capacity ran.new.canceled ≡ vec_capacity ran.old.canceled) }
+    ensures done_room { (vec_len ran.new.done ≤ vec_len ran.old.done + 1) × (vec_capacity ran.new.done ≡ vec_capacity ran.old.done) }
+    ensures stopped { ran.new.stopped ≡ ran.old.stopped }
+{
+    match ready.table.flags(t) {
+        Some(flags) => {
+            if flags.marked {
+                return Some(poll_marked(driver, ready, outputs, ran, t, flags));
+            }
+            None
+        }
+        None => None,
+    }
+}
