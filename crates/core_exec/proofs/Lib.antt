@@ -3,4 +3,5 @@ pub mod Late
 pub mod Marking
 pub mod Pairs
 pub mod Stepping
+pub mod Turning
 pub mod Visiting

@@ -4,4 +4,5 @@ pub mod Marks
 pub mod Polls
 pub mod Steps
 pub mod Tasks
+pub mod Turns
 pub mod Visits
