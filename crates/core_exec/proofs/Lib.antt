@@ -1,7 +1,9 @@
 pub mod Counted
 pub mod Late
+pub mod Looping
 pub mod Marking
 pub mod Pairs
+pub mod Reaching
 pub mod Stepping
 pub mod Turning
 pub mod Visiting

@@ -1,12 +1,15 @@
 // The ready tasks of a turn, one after another.
-ghost use Rattle.std.specs.Prelude.{◌≡◌, ◌≢◌, ◌<◌, ◌≤◌, ◌+◌, ◌^◌, ◌&&◌, ℕ, IsSome, true, false};
+ghost use Rattle.std.specs.Prelude.{◌≡◌, ◌≢◌, ◌<◌, ◌≤◌, ◌+◌, ◌^◌, ◌&&◌, ℕ, IsSome, true, false, [], drop};
+ghost use Rattle.std.specs.Ordering.{nat_cmp};
+ghost use Rattle.std.specs.List.Sorted.{IsSorted};
 ghost use Rattle.std.specs.Vec.{vec_len, vec_capacity};
 ghost use Rattle.std.specs.BTreeMap.{btree_map_len};
 ghost use Rattle.core_exec.specs.Deadlines.{is_set, KeepsSet};
 ghost use Rattle.core_exec.specs.Tasks.{AreSound, HaveJobs, FlagsOf, task_at, job_at, unmarked_in, mark_of, count_in};
-ghost use Rattle.core_exec.specs.Marks.{HasDeadlines, is_late};
+ghost use Rattle.core_exec.specs.Marks.{AreListed, Covers, HasDeadlines, is_late};
 ghost use Rattle.core_exec.specs.Visits.{VisitsTask, GivesOutput, MarksAfter};
-ghost use Rattle.core_exec.specs.Steps.{StepsTask, StepsOutput, MarksStep, with_number, polls_at, ends_at, stops_at, is_polled, is_done};
+ghost use Rattle.core_exec.specs.Steps.{StepsTask, StepsOutput, MarksStep, with_number, polls_at, ends_at, is_polled, is_done, is_stopped};
+ghost use Rattle.core_exec.specs.Turns.{AddsOutputs, Reaches, Turns};
 
 use crate::deadlines::Deadlines;
 use crate::job::Job;
@@ -158,4 +161,61 @@ fn poll_at<D, J: Job<D>>(
         }
         None => None,
     }
+}
+
+// Whether memory ran out at a task.
+fn stops(seen: Option<Visit>) -> bool
+    ensures { result ≡ is_stopped seen }
+{
+    match seen {
+        Some(Visit::Short) => true,
+        Some(Visit::Refused) => true,
+        Some(Visit::Done) => false,
+        Some(Visit::Pending) => false,
+        None => false,
+    }
+}
+
+// Goes over the listed numbers, ascending, and ends at the first task that memory runs out at: how many numbers it is done with, and that
+// task.
+pub(crate) fn poll_ready<D, J: Job<D>>(
+    driver: &mut D,
+    ready: &mut Ready<J>,
+    outputs: &mut Vec<(u64, J::Out)>,
+    ran: &mut Ran,
+) -> (usize, Option<u64>)
+    requires sound { AreSound J.fits J.apart driver.old (job_at ready.old.table) }
+    requires jobs { HaveJobs (task_at ready.old.table) }
+    requires deadlines { HasDeadlines ready.old }
+    requires polls { (s : ℕ) → count_in J.polls (job_at ready.old.table s) < 2 ^ 62 }
+    requires cancels { (s : ℕ) → count_in J.cancels (job_at ready.old.table s) < 2 ^ 62 }
+    requires listed { AreListed ready.old }
+    requires sorted { IsSorted nat_cmp ready.old.marks.items }
+    requires room { vec_len outputs.old + btree_map_len ready.old.table.tree ≤ vec_capacity outputs.old }
+    requires polled { (ran.old.polled.items ≡ []) × (vec_len ran.old.polled ≡ 0) × (vec_len ready.old.marks ≤ vec_capacity ran.old.polled) }
+    requires canceled { (ran.old.canceled.items ≡ []) × (vec_len ran.old.canceled ≡ 0) × (vec_len ready.old.marks ≤ vec_capacity ran.old.canceled) }
+    requires done { (ran.old.done.items ≡ []) × (vec_len ran.old.done ≡ 0) × (vec_len ready.old.marks ≤ vec_capacity ran.old.done) }
+    ensures sound { AreSound J.fits J.apart driver.new (job_at ready.new.table) }
+    ensures jobs { HaveJobs (task_at ready.new.table) }
+    ensures deadlines { HasDeadlines ready.new }
+    ensures turns { Turns J.polls J.cancels J.aim ready.old.moment (task_at ready.old.table) (task_at ready.new.table) ran.new.polled.items ran.new.canceled.items ran.new.done.items result.1 }
+    ensures reaches { Reaches (task_at ready.old.table) (task_at ready.new.table) ran.new.polled.items result.1 }
+    ensures outputs { AddsOutputs J.aim J.meets (task_at ready.old.table) ran.new.done.items outputs.old.items outputs.new.items }
+    ensures covers { Covers (task_at ready.new.table) (drop result.0 ready.new.marks.items) }
+    ensures came { result.0 ≤ vec_len ready.new.marks }
+    ensures marks_room { vec_len ready.new.marks + unmarked_in ready.new.table ≤ vec_capacity ready.new.marks + result.0 }
+    ensures marks { ready.new.marks ≡ ready.old.marks }
+    ensures moment { ready.new.moment ≡ ready.old.moment }
+    ensures room { vec_len outputs.new + btree_map_len ready.new.table.tree ≤ vec_capacity outputs.new }
+    ensures stopped { ran.new.stopped ≡ ran.old.stopped }
+{
+    let count = ready.marks.len();
+    for k in 0..count {
+        let t = ready.marks[k];
+        let seen = poll_at(driver, ready, outputs, ran, t);
+        if stops(seen) {
+            return (k, Some(t));
+        }
+    }
+    (count, None)
 }
