@@ -7,7 +7,7 @@ use Rattle.core_exec.specs.declared.table.Flags.{Flags}
 use Rattle.core_exec.specs.declared.deadlines.Deadlines.{Deadlines}
 use Rattle.core_exec.specs.Tasks.{mark_of, canceled_of, deadline_of, FlagsOf}
 use Rattle.core_exec.specs.Deadlines.{is_set, LeavesSet}
-use Rattle.core_exec.specs.Marks.{with_mark, has_come, is_late, MarkedLate, AreSet, LateOf}
+use Rattle.core_exec.specs.Marks.{with_mark, has_come, has_number, is_late, ready_tasks, MarkedLate, AreSet, LateOf}
 use Rattle.core_exec.proofs.Visiting.{or_true}
 use Rattle.core_exec.proofs.Marking.{no_mark, mark_stays, two_marks}
 
@@ -104,3 +104,37 @@ module _ {J : Type 0} where
         ]
     | false ↦ λ late. e ∙ sym (no_mark (old s))
   ] refl
+
+  -- What is set by a moment is set by a later one.
+  pub set_later : (before now : ℕ) (tasks : ℕ → Option (Task J)) (deadlines : Deadlines) → AreSet before tasks deadlines → before ≤ now
+      → AreSet now tasks deadlines
+  set_later before now tasks deadlines set later = λ s d canceled has. elim (set s d canceled has) [
+    | inl is ↦ inl is
+    | inr is ↦ let come = is.1 in inr (is.0, omega (arith, come, later))
+  ]
+
+  marked_more : (b : Bool) (x : Option (Task J)) → (canceled_of (option_map (with_mark b) x) ≡ canceled_of x)
+      × (deadline_of (option_map (with_mark b) x) ≡ deadline_of x) × (mark_of x ≡ true → mark_of (option_map (with_mark b) x) ≡ true)
+  marked_more b None = (refl, refl, λ m. m)
+  marked_more b (Some task) = (refl, refl, λ m. ap (λ a. a || b) m)
+
+  -- Marks leave what is set.
+  pub set_marked : (now : ℕ) (named : List ℕ) (old new : ℕ → Option (Task J)) (before after : Deadlines) → AreSet now old before
+      → ((s : ℕ) → new s ≡ option_map (with_mark (has_number s named)) (old s)) → after ≡ before → AreSet now new after
+  set_marked now named old new before after set each same = λ s d canceled has.
+      let more = marked_more (has_number s named) (old s) in
+      elim (set s d (sym more.0 ∙ sym (ap canceled_of (each s)) ∙ canceled) (sym more.1 ∙ sym (ap deadline_of (each s)) ∙ has)) [
+        | inl is ↦ inl (ap (λ x. is_set x d s) same ∙ is)
+        | inr is ↦ inr (ap mark_of (each s) ∙ more.2 is.0, is.1)
+      ]
+
+  -- Marks of numbers, and then of those that are late.
+  pub named_or_late : (now s : ℕ) (named : List ℕ) (old mid new : ℕ → Option (Task J)) → mid s ≡ option_map (with_mark (has_number s named)) (old s)
+      → new s ≡ option_map (with_mark (is_late now (mid s))) (mid s) → new s ≡ ready_tasks now named old s
+  named_or_late now s named old mid new first second =
+      let more = marked_more (has_number s named) (old s) in
+      let late : is_late now (mid s) ≡ is_late now (old s) =
+          ap (is_late now) first ∙ ap (λ c. not c && has_come now (deadline_of (option_map (with_mark (has_number s named)) (old s)))) more.0
+          ∙ ap (λ d. not (canceled_of (old s)) && has_come now d) more.1 in
+      second ∙ ap (λ b. option_map (with_mark b) (mid s)) late ∙ ap (option_map (with_mark (is_late now (old s)))) first
+      ∙ two_marks (has_number s named) (is_late now (old s)) (old s)

@@ -195,10 +195,15 @@ turning_starts polls cancels aim now was R rising covers = record {
   covers = covers;
 }
 
+-- A marked task is there.
+pub there_marked : {J : Type 0} (x : Option (Task J)) → mark_of x ≡ true → IsSome x
+there_marked None marked = not_both marked
+there_marked (Some task) marked = refl
+
 -- The outputs behind a step.
 pub outputs_next : {J O : Type 0} (aim : J → List ℕ) (meets : List ℕ → O → Type 0) (was mid : ℕ → Option (Task J)) (t : ℕ) (D : List ℕ)
     (before between after : List (ℕ × O)) (visit : Option Visit) → AddsOutputs aim meets was D before between
-    → StepsOutput aim meets t (job_in (mid t)) between after visit → (is_done visit ≡ true → mid t ≡ was t)
+    → StepsOutput aim meets t (job_in (mid t)) between after visit → (is_done visit ≡ true → (mid t ≡ was t) × (mark_of (mid t) ≡ true))
     → AddsOutputs aim meets was (with_number (is_done visit) t D) before after
 outputs_next aim meets was mid t D before between after None adds step same = subst (λ x. AddsOutputs aim meets was D before x) (sym step) adds
 outputs_next aim meets was mid t D before between after (Some Pending) adds step same = subst (λ x. AddsOutputs aim meets was D before x) (sym step) adds
@@ -208,8 +213,8 @@ outputs_next aim meets was mid t D before between after (Some Done) adds step sa
   outputs = adds.outputs ++ (t, step.out) ∷ [];
   added = step.added ∙ ap (λ x. x ++ (t, step.out) ∷ []) adds.added ∙ append_assoc before adds.outputs ((t, step.out) ∷ []);
   numbers = map-append (λ o. o.0) adds.outputs ((t, step.out) ∷ []) ∙ ap (λ x. x ++ t ∷ []) adds.numbers;
-  meet = All-push (λ o. meets (aim_in aim (job_in (was o.0))) o.1) adds.outputs (t, step.out) adds.meet
-      (subst (λ x. meets (aim_in aim (job_in x)) step.out) (same refl) step.meet);
+  meet = All-push (λ o. IsSome (was o.0) × meets (aim_in aim (job_in (was o.0))) o.1) adds.outputs (t, step.out) adds.meet
+      (there_marked (was t) (sym (ap mark_of (same refl).0) ∙ (same refl).1), subst (λ x. meets (aim_in aim (job_in x)) step.out) (same refl).0 step.meet);
 }
 
 done_marked : {J : Type 0} (polls cancels : J → ℕ) (aim : J → List ℕ) (now : ℕ) (was is : Option (Task J)) (visit : Option Visit)
@@ -224,7 +229,8 @@ pub outputs_step : {J O : Type 0} (polls cancels : J → ℕ) (aim : J → List 
     → StepsOutput aim meets t (job_in (mid t)) between after visit → AddsOutputs aim meets was (with_number (is_done visit) t D) before after
 outputs_step polls cancels aim meets now t was mid is P C D R before between after visit turning step rest adds out =
     outputs_next aim meets was mid t D before between after visit adds out
-    (λ ends. mid_then polls cancels aim now t was mid is P C D R visit turning step rest (done_marked polls cancels aim now (mid t) (is t) visit step ends))
+    (λ ends. let marked = done_marked polls cancels aim now (mid t) (is t) visit step ends in
+      (mid_then polls cancels aim now t was mid is P C D R visit turning step rest marked, marked))
 
 -- A marked task that a turn is to come to is as it was.
 pub task_before : {J : Type 0} (polls cancels : J → ℕ) (aim : J → List ℕ) (now t : ℕ) (was mid : ℕ → Option (Task J)) (P C D R : List ℕ)

@@ -52,3 +52,7 @@ HasDeadlines ready = AreSet ready.moment (task_at ready.table) ready.deadlines
 -- A task is as it was, or it is late, and marked now.
 abbrev pub MarkedLate : {J : Type 0} → ℕ → Option (Task J) → Option (Task J) → Type 0
 MarkedLate now was is = (is ≡ was) ⊎ ((is_late now was ≡ true) × (is ≡ option_map (with_mark true) was))
+
+-- The tasks of a turn, of which the ready ones are marked: those that were marked, those of some numbers, and those that are late.
+abbrev pub ready_tasks : {J : Type 0} → ℕ → List ℕ → (ℕ → Option (Task J)) → ℕ → Option (Task J)
+ready_tasks now named tasks s = option_map (with_mark (has_number s named || is_late now (tasks s))) (tasks s)

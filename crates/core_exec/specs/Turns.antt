@@ -45,13 +45,14 @@ pub record Reaches {J : Type 0} (was is : ℕ → Option (Task J)) (polled : Lis
   pub all : stopped ≡ None → (s : ℕ) → mark_of (was s) ≡ true → has_number s polled ≡ true
   pub stop : (t : ℕ) → stopped ≡ Some t → StopsAt was is polled t
 
--- The outputs of the tasks that are done, in that order, each with its task, join the others, and each meets the aim of its task's job.
+-- The outputs of the tasks that are done, in that order, each with its task, join the others. Each task was there, and its output meets its
+-- job's aim.
 pub record AddsOutputs {J O : Type 0} (aim : J → List ℕ) (meets : List ℕ → O → Type 0) (was : ℕ → Option (Task J)) (done : List ℕ)
     (before now : List (ℕ × O)) : Type 0 where
   pub outputs : List (ℕ × O)
   pub added : now ≡ before ++ outputs
   pub numbers : map (λ o. o.0) outputs ≡ done
-  pub meet : All (λ o. meets (aim_in aim (job_in (was o.0))) o.1) outputs
+  pub meet : All (λ o. IsSome (was o.0) × meets (aim_in aim (job_in (was o.0))) o.1) outputs
 
 -- Each job was polled so often at most, and its cancel was asked for once where its task was canceled, and else never.
 pub record AreCounted {J : Type 0} (polls cancels : J → ℕ) (most : ℕ) (tasks : ℕ → Option (Task J)) : Type 0 where

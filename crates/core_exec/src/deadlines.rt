@@ -3,7 +3,8 @@ ghost use Rattle.std.specs.Prelude.{◌≡◌, ◌≢◌, ◌<◌, ◌+◌, ℕ,
 ghost use Rattle.std.specs.BTreeSet.{btree_set_len};
 ghost use Rattle.core_exec.specs.Deadlines.{is_set, KeepsSet, LeavesSet};
 
-use std::alloc::{AllocError, Global};
+use rent_buf::OutOfMemory;
+use std::alloc::Global;
 use std::collections::BTreeSet;
 
 // Deadlines, each with its task.
@@ -21,13 +22,13 @@ impl Deadlines {
     }
 
     // Sets a task's deadline.
-    pub(crate) fn add(&mut self, at: u64, t: u64) -> Result<(), AllocError>
+    pub(crate) fn add(&mut self, at: u64, t: u64) -> Result<(), OutOfMemory>
         ensures ok { OnOk result (is_set self.new at t ≡ true) }
         ensures kept { KeepsSet self.old self.new }
     {
         match self.set.insert((at, t)) {
             Ok(_) => Ok(()),
-            Err(_) => Err(AllocError),
+            Err(_) => Err(OutOfMemory),
         }
     }
 

@@ -2,7 +2,7 @@
 ghost use Rattle.std.specs.Prelude.{◌≡◌, ◌<◌, ◌+◌, ◌^◌, ℕ, List, OnOk, OnErr};
 ghost use Rattle.core_exec.specs.Job.{Steps, IfBack};
 
-use std::alloc::AllocError;
+use rent_buf::OutOfMemory;
 
 /// What a poll of a job answers.
 pub enum JobStep<J, O> {
@@ -17,7 +17,7 @@ pub enum JobStep<J, O> {
 /// A state that is polled with a driver of the type `D`. It may own operations of the driver, so it isn't dropped. (not in monoio)
 pub trait Job<D>: Sized {
     /// What it is done with.
-    type Out;
+    type Out: Drop;
 
     // How often it was polled.
     ghost polls: { Self → ℕ };
@@ -52,7 +52,7 @@ pub trait Job<D>: Sized {
         ensures apart { IfBack result (λ job. (other : Self) → fits driver.old other → apart self other → apart job other) };
 
     /// Asks for the cancel of what it waits for. If memory runs out, nothing changes.
-    fn cancel(&mut self, driver: &mut D) -> Result<(), AllocError>
+    fn cancel(&mut self, driver: &mut D) -> Result<(), OutOfMemory>
         requires fits { fits driver.old self.old }
         requires counter { cancels self.old < 2 ^ 62 }
         ensures ok { OnOk result (cancels self.new ≡ cancels self.old + 1) }

@@ -6,7 +6,7 @@ ghost use Rattle.core_exec.specs.Polls.{PollsTask, IsAsked, RoomAfter};
 
 use crate::job::{Job, JobStep};
 use crate::table::Table;
-use std::alloc::AllocError;
+use rent_buf::OutOfMemory;
 
 // How a poll of a task ended.
 pub(crate) enum Polled<O> {
@@ -57,7 +57,7 @@ pub(crate) fn cancel_task<D, J: Job<D>>(
     driver: &mut D,
     table: &mut Table<J>,
     t: u64,
-) -> Result<(), AllocError>
+) -> Result<(), OutOfMemory>
     requires unfinished { IsSome (job_at table.old t) }
     requires marked { mark_of (task_at table.old t) ≡ true }
     requires once { canceled_of (task_at table.old t) ≡ false }

@@ -1,10 +1,13 @@
 // Unfinished tasks, a list of those that are marked, and the deadlines that are to come.
-ghost use Rattle.std.specs.Prelude.{◌≡◌, ◌<◌, ◌+◌, ◌==◌, ℕ, option_map, true, false};
+ghost use Rattle.std.specs.Prelude.{◌≡◌, ◌<◌, ◌≤◌, ◌+◌, ◌==◌, ℕ, option_map, true, false, drop};
+ghost use Rattle.std.specs.Ordering.{nat_cmp};
+ghost use Rattle.std.specs.List.Sorted.{IsSorted};
+ghost use Rattle.std.specs.Vec.{vec_len, vec_capacity};
 ghost use Rattle.std.specs.BTreeMap.{btree_map_len};
 ghost use Rattle.std.specs.BTreeSet.{btree_set_len};
 ghost use Rattle.core_exec.specs.Deadlines.{is_set};
-ghost use Rattle.core_exec.specs.Tasks.{task_at, mark_of};
-ghost use Rattle.core_exec.specs.Marks.{AreListed, HasDeadlines, MarkedLate, with_mark, has_number, is_late, LateOf};
+ghost use Rattle.core_exec.specs.Tasks.{task_at, mark_of, unmarked_in};
+ghost use Rattle.core_exec.specs.Marks.{AreListed, Covers, HasDeadlines, MarkedLate, with_mark, has_number, is_late, ready_tasks, LateOf};
 
 use crate::deadlines::Deadlines;
 use crate::table::{Flags, Table};
@@ -126,5 +129,39 @@ impl<J> Ready<J> {
         ensures moment { self.new.moment ≡ self.old.moment }
     {
         while self.mark_first() {}
+    }
+
+    // Marks the tasks of some numbers, and those that are late at a moment, which is at least that of the last turn. The list is sorted.
+    #[tactic(auto, using(crate::proofs::Late::set_later, crate::proofs::Late::set_marked, crate::proofs::Late::named_or_late))]
+    pub(crate) fn mark_ready(&mut self, now: u64, named: &[u64])
+        requires listed { AreListed self.old }
+        requires deadlines { HasDeadlines self.old }
+        requires moment { self.old.moment ≤ now }
+        ensures listed { AreListed self.new }
+        ensures deadlines { HasDeadlines self.new }
+        ensures each { (s : ℕ) → task_at self.new.table s ≡ ready_tasks now named.now (task_at self.old.table) s }
+        ensures sorted { IsSorted nat_cmp self.new.marks.items }
+        ensures len { btree_map_len self.new.table.tree ≡ btree_map_len self.old.table.tree }
+        ensures moment { self.new.moment ≡ now }
+    {
+        self.moment = now;
+        self.mark_each(named);
+        self.mark_late();
+        self.marks.sort_unstable();
+    }
+
+    // Drops the first numbers of the list.
+    pub(crate) fn drop_first(&mut self, came: usize)
+        requires covers { Covers (task_at self.old.table) (drop came self.old.marks.items) }
+        requires came { came ≤ vec_len self.old.marks }
+        requires room { vec_len self.old.marks + unmarked_in self.old.table ≤ vec_capacity self.old.marks + came }
+        ensures listed { AreListed self.new }
+        ensures table { self.new.table ≡ self.old.table }
+        ensures deadlines { self.new.deadlines ≡ self.old.deadlines }
+        ensures moment { self.new.moment ≡ self.old.moment }
+    {
+        let count = self.marks.len();
+        self.marks.rotate_left(came);
+        self.marks.truncate(count - came);
     }
 }

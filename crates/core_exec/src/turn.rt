@@ -206,7 +206,8 @@ pub(crate) fn poll_ready<D, J: Job<D>>(
     ensures marks_room { vec_len ready.new.marks + unmarked_in ready.new.table ≤ vec_capacity ready.new.marks + result.0 }
     ensures marks { ready.new.marks ≡ ready.old.marks }
     ensures moment { ready.new.moment ≡ ready.old.moment }
-    ensures room { vec_len outputs.new + btree_map_len ready.new.table.tree ≤ vec_capacity outputs.new }
+    ensures len { vec_len outputs.new + btree_map_len ready.new.table.tree ≡ vec_len outputs.old + btree_map_len ready.old.table.tree }
+    ensures capacity { vec_capacity outputs.new ≡ vec_capacity outputs.old }
     ensures stopped { ran.new.stopped ≡ ran.old.stopped }
 {
     let count = ready.marks.len();

@@ -9,7 +9,7 @@ ghost use Rattle.core_exec.specs.Visits.{VisitsTask, GivesOutput, MarksAfter};
 use crate::job::Job;
 use crate::poll::{Polled, cancel_task, poll_task};
 use crate::table::Table;
-use std::alloc::AllocError;
+use rent_buf::OutOfMemory;
 
 // How a ready task's part of a turn ended.
 #[derive(Clone, Copy)]
@@ -30,7 +30,7 @@ fn cancel_late<D, J: Job<D>>(
     table: &mut Table<J>,
     t: u64,
     late: bool,
-) -> Result<(), AllocError>
+) -> Result<(), OutOfMemory>
     requires unfinished { IsSome (job_at table.old t) }
     requires marked { mark_of (task_at table.old t) ≡ true }
     requires once { late ≡ true → canceled_of (task_at table.old t) ≡ false }

@@ -19,7 +19,8 @@ invariant-loop-k g l = record {
       l.ran.polled.items l.ran.canceled.items l.ran.done.items (drop l.k l.initial.ready.marks.items);
   outputs : AddsOutputs g.J.Job.aim g.J.Job.meets (task_at l.initial.ready.table) l.ran.done.items l.initial.outputs.items l.outputs.items;
   marks_room : vec_len l.ready.marks + unmarked_in l.ready.table ≤ vec_capacity l.ready.marks + l.k;
-  room : vec_len l.outputs + btree_map_len l.ready.table.tree ≤ vec_capacity l.outputs;
+  len : vec_len l.outputs + btree_map_len l.ready.table.tree ≡ vec_len l.initial.outputs + btree_map_len l.initial.ready.table.tree;
+  capacity : vec_capacity l.outputs ≡ vec_capacity l.initial.outputs;
   polled : (vec_len l.ran.polled ≤ l.k) × (vec_capacity l.ran.polled ≡ vec_capacity l.initial.ran.polled);
   canceled : (vec_len l.ran.canceled ≤ l.k) × (vec_capacity l.ran.canceled ≡ vec_capacity l.initial.ran.canceled);
   done : (vec_len l.ran.done ≤ l.k) × (vec_capacity l.ran.done ≡ vec_capacity l.initial.ran.done);
