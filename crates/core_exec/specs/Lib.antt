@@ -1,4 +1,5 @@
 pub mod Deadlines
+pub mod Exec
 pub mod Job
 pub mod Marks
 pub mod Polls

@@ -2,6 +2,7 @@
 #![tactic(auto)]
 
 mod deadlines;
+mod exec;
 mod job;
 mod poll;
 mod ready;
@@ -9,6 +10,7 @@ mod table;
 mod turn;
 mod visit;
 
+pub use exec::Exec;
 pub use job::{Job, JobStep};
 pub use table::Task;
 pub use turn::Ran;

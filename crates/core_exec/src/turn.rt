@@ -1,5 +1,5 @@
 // The ready tasks of a turn, one after another.
-ghost use Rattle.std.specs.Prelude.{◌≡◌, ◌≢◌, ◌<◌, ◌≤◌, ◌+◌, ◌^◌, ◌&&◌, ℕ, IsSome, true, false, [], drop};
+ghost use Rattle.std.specs.Prelude.{◌≡◌, ◌≢◌, ◌<◌, ◌≤◌, ◌+◌, ◌^◌, ◌&&◌, ℕ, IsSome, IfOk, true, false, [], drop};
 ghost use Rattle.std.specs.Ordering.{nat_cmp};
 ghost use Rattle.std.specs.List.Sorted.{IsSorted};
 ghost use Rattle.std.specs.Vec.{vec_len, vec_capacity};
@@ -16,6 +16,8 @@ use crate::job::Job;
 use crate::ready::{Ready, late_at};
 use crate::table::Flags;
 use crate::visit::{Visit, visit_task};
+use rent_buf::OutOfMemory;
+use std::alloc::Global;
 
 /// What a turn did.
 #[derive(Drop)]
@@ -28,6 +30,25 @@ pub struct Ran {
     pub done: Vec<u64>,
     /// The task at which memory ran out, if it did. It is to be polled in the next turn, as are those behind it.
     pub stopped: Option<u64>,
+}
+
+impl Ran {
+    // Empty lists with room for so many tasks.
+    pub(crate) fn with_room(alloc: Global, count: usize) -> Result<Ran, OutOfMemory>
+        ensures polled { IfOk result (λ ran. (ran.polled.items ≡ []) × (vec_len ran.polled ≡ 0) × (count ≤ vec_capacity ran.polled)) }
+        ensures canceled { IfOk result (λ ran. (ran.canceled.items ≡ []) × (vec_len ran.canceled ≡ 0) × (count ≤ vec_capacity ran.canceled)) }
+        ensures done { IfOk result (λ ran. (ran.done.items ≡ []) × (vec_len ran.done ≡ 0) × (count ≤ vec_capacity ran.done)) }
+    {
+        let polled = Vec::with_capacity(alloc, count)?;
+        let canceled = Vec::with_capacity(alloc, count)?;
+        let done = Vec::with_capacity(alloc, count)?;
+        Ok(Ran {
+            polled,
+            canceled,
+            done,
+            stopped: None,
+        })
+    }
 }
 
 // Notes what a turn did with a ready task.
