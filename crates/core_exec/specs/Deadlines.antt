@@ -1,5 +1,5 @@
 -- The deadlines that are to come. Cited by `Deadlines`.
-use Rattle.std.specs.Prelude.{ℕ, ◌≡◌, ◌≤◌, ◌⊎◌, Bool, true}
+use Rattle.std.specs.Prelude.{ℕ, ◌≡◌, ◌≤◌, ◌⊎◌, Bool, true, Option, Some, None}
 use Rattle.std.specs.Ordering.{nat_cmp, ordering_then}
 use Rattle.std.specs.declared.cmp.Ordering.{Ordering}
 use Rattle.std.specs.BTreeSet as set
@@ -12,6 +12,11 @@ pair_cmp x y = ordering_then (nat_cmp x.0 y.0) (nat_cmp x.1 y.1)
 -- A task's deadline is set.
 abbrev pub is_set : Deadlines → ℕ → ℕ → Bool
 is_set deadlines at t = set.contains pair_cmp deadlines.set (at, t)
+
+-- A task's deadline is set, if it has one.
+abbrev pub IsSetAt : Deadlines → ℕ → Option ℕ → Type 0
+IsSetAt deadlines t (Some at) = is_set deadlines at t ≡ true
+IsSetAt deadlines t None = Unit {0}
 
 -- Each deadline that was set is set still.
 abbrev pub KeepsSet : Deadlines → Deadlines → Type 0

@@ -23,6 +23,13 @@ left_of exec = btree_map_len exec.ready.table.tree
 abbrev pub outputs_of : {D J O : Type 0} → Exec D J O → List (ℕ × O)
 outputs_of exec = exec.outputs.items
 
+-- How many tasks were spawned, and how many turns were made.
+abbrev pub spawned_of : {D J O : Type 0} → Exec D J O → ℕ
+spawned_of exec = exec.spawned
+
+abbrev pub turns_of : {D J O : Type 0} → Exec D J O → ℕ
+turns_of exec = exec.turns
+
 -- The moment of the last turn.
 abbrev pub moment_of : {D J O : Type 0} → Exec D J O → ℕ
 moment_of exec = exec.ready.moment
@@ -42,3 +49,21 @@ pub record HasAims {J O : Type 0} (aim : J → List ℕ) (meets : List ℕ → O
     : Type 0 where
   pub of_jobs : (t : ℕ) → IsSome (tasks t) → aim_in aim (job_in (tasks t)) ≡ aims t
   pub of_outputs : All (λ o. meets (aims o.0) o.1) outputs
+
+-- A fresh task: the next turn polls it.
+abbrev pub fresh : {J : Type 0} → J → Option ℕ → Task J
+fresh job deadline = record { job = Some job; marked = true; deadline = deadline; canceled = false }
+
+-- A spawn adds a fresh task of the next number, and leaves all else.
+pub record Spawns {D J O : Type 0} (job : J) (deadline : Option ℕ) (old new : Exec D J O) (t : ℕ) : Type 0 where
+  pub next : t ≡ spawned_of old
+  pub this : tasks_of new t ≡ Some (fresh job deadline)
+  pub one_more : (spawned_of new ≡ spawned_of old + 1) × (left_of new ≡ left_of old + 1)
+
+-- An unfinished task is taken out: the one of the lowest number, with its job. Each other stays.
+pub record TakesOut {D J O : Type 0} (old new : Exec D J O) (t : ℕ) (job : J) : Type 0 where
+  pub own : jobs_of old t ≡ Some job
+  pub lowest : (s : ℕ) → IsSome (tasks_of old s) → t ≤ s
+  pub gone : tasks_of new t ≡ None
+  pub rest : (s : ℕ) → s ≢ t → tasks_of new s ≡ tasks_of old s
+  pub one_fewer : left_of new + 1 ≡ left_of old

@@ -1,10 +1,11 @@
 //! An executor: jobs by number, and the turns that poll them.
-ghost use Rattle.std.specs.Prelude.{◌≡◌, ◌≢◌, ◌<◌, ◌≤◌, ◌+◌, ◌^◌, ◌↔◌, ℕ, List, [], Some, None, IsSome, IsOk, IfOk, IfErr, IfSome, OnOk, OnErr, IsNone, length};
+ghost use Rattle.std.specs.Prelude.{◌≡◌, ◌≢◌, ◌<◌, ◌≤◌, ◌+◌, ◌^◌, ◌↔◌, ℕ, List, [], Some, None, IsSome, IsOk, IfOk, IfErr, IfSome, OnOk, OnErr, IsNone, IfNone};
+ghost use Rattle.std.specs.List.Sorted.{IsNonDecreasingBy, IsPermutation};
 ghost use Rattle.std.specs.Vec.{vec_len, vec_capacity};
-ghost use Rattle.core_exec.specs.Tasks.{AreSound};
+ghost use Rattle.core_exec.specs.Tasks.{AreSound, unmarked_in};
 ghost use Rattle.core_exec.specs.Marks.{ready_tasks};
 ghost use Rattle.core_exec.specs.Turns.{AddsOutputs, Reaches, Turns};
-ghost use Rattle.core_exec.specs.Exec.{HasAims, Stands, jobs_of, left_of, moment_of, outputs_of, tasks_of};
+ghost use Rattle.core_exec.specs.Exec.{HasAims, Spawns, Stands, TakesOut, jobs_of, left_of, moment_of, outputs_of, spawned_of, tasks_of, turns_of};
 
 use crate::deadlines::Deadlines;
 use crate::job::Job;
@@ -31,7 +32,7 @@ impl<D, J: Job<D>> Exec<D, J, J::Out> {
         ensures driver { result.driver ≡ driver }
         ensures none { (t : ℕ) → tasks_of result t ≡ None }
         ensures outputs { outputs_of result ≡ [] }
-        ensures counts { (left_of result ≡ 0) × (result.spawned ≡ 0) × (result.turns ≡ 0) × (moment_of result ≡ 0) }
+        ensures counts { (left_of result ≡ 0) × (spawned_of result ≡ 0) × (turns_of result ≡ 0) × (moment_of result ≡ 0) }
     {
         Exec {
             driver,
@@ -56,7 +57,7 @@ impl<D, J: Job<D>> Exec<D, J, J::Out> {
 
     /// How many turns were made.
     pub fn turns(&self) -> u64
-        ensures { result ≡ self.now.turns }
+        ensures { result ≡ turns_of self.now }
     {
         self.turns
     }
@@ -69,11 +70,11 @@ impl<D, J: Job<D>> Exec<D, J, J::Out> {
         requires stands { Stands J.polls J.cancels self.old }
         requires sound { AreSound J.fits J.apart self.old.driver (jobs_of self.old) }
         requires moment { moment_of self.old ≤ now }
-        requires counter { self.old.turns < 2 ^ 62 }
+        requires counter { turns_of self.old < 2 ^ 62 }
         ensures stands { Stands J.polls J.cancels self.new }
         ensures sound { AreSound J.fits J.apart self.new.driver (jobs_of self.new) }
         ensures moment { moment_of self.new ≡ now }
-        ensures spawned { self.new.spawned ≡ self.old.spawned }
+        ensures spawned { spawned_of self.new ≡ spawned_of self.old }
 
         // What it polled, what it made of each task, and the outputs of those that are done.
         ensures turns { IfOk result (λ ran. Turns J.polls J.cancels J.aim now (ready_tasks now named.now (tasks_of self.old)) (tasks_of self.new)
@@ -81,11 +82,11 @@ impl<D, J: Job<D>> Exec<D, J, J::Out> {
         ensures reaches { IfOk result (λ ran. Reaches (ready_tasks now named.now (tasks_of self.old)) (tasks_of self.new) ran.polled.items ran.stopped) }
         ensures outputs { IfOk result (λ ran. AddsOutputs J.aim J.meets (ready_tasks now named.now (tasks_of self.old)) ran.done.items
             (outputs_of self.old) (outputs_of self.new)) }
-        ensures counted { OnOk result (self.new.turns ≡ self.old.turns + 1) }
+        ensures counted { OnOk result (turns_of self.new ≡ turns_of self.old + 1) }
 
         // Without memory for the lists, the ready tasks are marked.
         ensures marked { OnErr result ((t : ℕ) → tasks_of self.new t ≡ ready_tasks now named.now (tasks_of self.old) t) }
-        ensures err { OnErr result ((self.new.driver ≡ self.old.driver) × (outputs_of self.new ≡ outputs_of self.old) × (self.new.turns ≡ self.old.turns)) }
+        ensures err { OnErr result ((self.new.driver ≡ self.old.driver) × (outputs_of self.new ≡ outputs_of self.old) × (turns_of self.new ≡ turns_of self.old)) }
     {
         self.ready.mark_ready(now, named);
         let alloc = *self.outputs.allocator();
@@ -100,5 +101,180 @@ impl<D, J: Job<D>> Exec<D, J, J::Out> {
         self.turns += 1;
         ran.stopped = stopped;
         Ok(ran)
+    }
+
+    // Room for one more task: for its mark, and for its output.
+    #[tactic(auto, using(crate::proofs::Counted::unmarked_within))]
+    fn reserve(&mut self) -> Result<(), OutOfMemory>
+        requires stands { Stands J.polls J.cancels self.old }
+        ensures stands { Stands J.polls J.cancels self.new }
+        ensures marks { OnOk result (vec_len self.new.ready.marks + unmarked_in self.new.ready.table < vec_capacity self.new.ready.marks) }
+        ensures outputs { OnOk result (vec_len self.new.outputs + left_of self.new < vec_capacity self.new.outputs) }
+        ensures kept { (self.new.driver ≡ self.old.driver) × (self.new.ready.table ≡ self.old.ready.table) × (self.new.ready.deadlines ≡ self.old.ready.deadlines) }
+        ensures numbers { (spawned_of self.new ≡ spawned_of self.old) × (turns_of self.new ≡ turns_of self.old) × (moment_of self.new ≡ moment_of self.old) }
+        ensures items { outputs_of self.new ≡ outputs_of self.old }
+    {
+        let count = self.ready.table.len() + 1;
+        self.ready.marks.reserve(count)?;
+        self.outputs.reserve(count)?;
+        Ok(())
+    }
+
+    // Spawns a job, with a deadline or without.
+    fn spawn_at(&mut self, job: J, deadline: Option<u64>) -> Result<u64, (OutOfMemory, J)>
+        requires stands { Stands J.polls J.cancels self.old }
+        requires counts { (J.polls job ≡ 0) × (J.cancels job ≡ 0) }
+        requires counter { spawned_of self.old < 2 ^ 62 }
+        ensures stands { Stands J.polls J.cancels self.new }
+        ensures ok { IfOk result (Spawns job deadline self.old self.new) }
+        ensures rest { (s : ℕ) → s ≢ spawned_of self.old → tasks_of self.new s ≡ tasks_of self.old s }
+        ensures err { IfErr result (λ refused. (refused.1 ≡ job) × ((s : ℕ) → tasks_of self.new s ≡ tasks_of self.old s)) }
+        ensures kept { (self.new.driver ≡ self.old.driver) × (turns_of self.new ≡ turns_of self.old) × (moment_of self.new ≡ moment_of self.old) }
+        ensures outputs { outputs_of self.new ≡ outputs_of self.old }
+        ensures counted { OnErr result ((spawned_of self.new ≡ spawned_of self.old) × (left_of self.new ≡ left_of self.old)) }
+    {
+        let t = self.spawned;
+        if self.reserve().is_err() || self.ready.set_deadline(t, deadline).is_err() {
+            return Err((OutOfMemory, job));
+        }
+        let task = Task {
+            job: Some(job),
+            marked: true,
+            deadline,
+            canceled: false,
+        };
+        match self.ready.table.add(t, task) {
+            Ok(()) => {
+                self.ready.marks.push_reserved(t);
+                self.spawned += 1;
+                Ok(t)
+            }
+            Err(task) => {
+                self.ready.drop_deadline(t, deadline);
+                let Task {
+                    job,
+                    marked: _,
+                    deadline: _,
+                    canceled: _,
+                } = task;
+                match job {
+                    Some(job) => Err((OutOfMemory, job)),
+                    None => unreachable!(),
+                }
+            }
+        }
+    }
+
+    /// Spawns a job that was never polled: its task's number. It is ready in the next turn. If memory runs out, the job comes back.
+    pub fn spawn(&mut self, job: J) -> Result<u64, (OutOfMemory, J)>
+        requires stands { Stands J.polls J.cancels self.old }
+        requires counts { (J.polls job ≡ 0) × (J.cancels job ≡ 0) }
+        requires counter { spawned_of self.old < 2 ^ 62 }
+        ensures stands { Stands J.polls J.cancels self.new }
+        ensures ok { IfOk result (Spawns job None self.old self.new) }
+        ensures rest { (s : ℕ) → s ≢ spawned_of self.old → tasks_of self.new s ≡ tasks_of self.old s }
+        ensures err { IfErr result (λ refused. (refused.1 ≡ job) × ((s : ℕ) → tasks_of self.new s ≡ tasks_of self.old s)) }
+        ensures kept { (self.new.driver ≡ self.old.driver) × (turns_of self.new ≡ turns_of self.old) × (moment_of self.new ≡ moment_of self.old) }
+        ensures outputs { outputs_of self.new ≡ outputs_of self.old }
+        ensures counted { OnErr result ((spawned_of self.new ≡ spawned_of self.old) × (left_of self.new ≡ left_of self.old)) }
+    {
+        self.spawn_at(job, None)
+    }
+
+    /// Spawns a job as `spawn` does, with a deadline: the first turn at that moment or a later one that comes to it asks for its cancel, if it
+    /// is unfinished then.
+    pub fn spawn_until(&mut self, job: J, deadline: u64) -> Result<u64, (OutOfMemory, J)>
+        requires stands { Stands J.polls J.cancels self.old }
+        requires counts { (J.polls job ≡ 0) × (J.cancels job ≡ 0) }
+        requires counter { spawned_of self.old < 2 ^ 62 }
+        ensures stands { Stands J.polls J.cancels self.new }
+        ensures ok { IfOk result (Spawns job (Some deadline) self.old self.new) }
+        ensures rest { (s : ℕ) → s ≢ spawned_of self.old → tasks_of self.new s ≡ tasks_of self.old s }
+        ensures err { IfErr result (λ refused. (refused.1 ≡ job) × ((s : ℕ) → tasks_of self.new s ≡ tasks_of self.old s)) }
+        ensures kept { (self.new.driver ≡ self.old.driver) × (turns_of self.new ≡ turns_of self.old) × (moment_of self.new ≡ moment_of self.old) }
+        ensures outputs { outputs_of self.new ≡ outputs_of self.old }
+        ensures counted { OnErr result ((spawned_of self.new ≡ spawned_of self.old) × (left_of self.new ≡ left_of self.old)) }
+    {
+        self.spawn_at(job, Some(deadline))
+    }
+
+    /// Takes the outputs that weren't taken, each with its task, ascending by task. If memory runs out, they stay.
+    pub fn take_done(&mut self) -> Result<Vec<(u64, J::Out)>, OutOfMemory>
+        requires stands { Stands J.polls J.cancels self.old }
+        ensures stands { Stands J.polls J.cancels self.new }
+        ensures ok { IfOk result (λ taken. IsPermutation (outputs_of self.old) taken.items × IsNonDecreasingBy (λ o. o.0) taken.items) }
+        ensures taken { OnOk result (outputs_of self.new ≡ []) }
+        ensures err { OnErr result (outputs_of self.new ≡ outputs_of self.old) }
+        ensures tasks { (s : ℕ) → tasks_of self.new s ≡ tasks_of self.old s }
+        ensures kept { (self.new.driver ≡ self.old.driver) × (turns_of self.new ≡ turns_of self.old) × (moment_of self.new ≡ moment_of self.old) }
+        ensures numbers { (spawned_of self.new ≡ spawned_of self.old) × (left_of self.new ≡ left_of self.old) }
+    {
+        let mut taken = Vec::new(*self.outputs.allocator());
+        taken.append(&mut self.outputs)?;
+        taken.sort_unstable_by_key(|output| output.0);
+        Ok(taken)
+    }
+
+    /// Takes out the unfinished task of the lowest number, with its job. It takes no memory.
+    pub fn take_left(&mut self) -> Option<(u64, J)>
+        requires stands { Stands J.polls J.cancels self.old }
+        ensures stands { Stands J.polls J.cancels self.new }
+        ensures some { IfSome result (λ taken. TakesOut self.old self.new taken.0 taken.1) }
+        ensures none { IsNone result ↔ (left_of self.old ≡ 0) }
+        ensures unchanged { IfNone result ((s : ℕ) → tasks_of self.new s ≡ tasks_of self.old s) }
+        ensures kept { (self.new.driver ≡ self.old.driver) × (turns_of self.new ≡ turns_of self.old) × (moment_of self.new ≡ moment_of self.old) }
+        ensures numbers { (spawned_of self.new ≡ spawned_of self.old) × (outputs_of self.new ≡ outputs_of self.old) }
+    {
+        let t = self.ready.table.first()?;
+        Some((t, self.take_out(t)))
+    }
+
+    // Takes out an unfinished task: its job.
+    fn take_out(&mut self, t: u64) -> J
+        requires stands { Stands J.polls J.cancels self.old }
+        requires there { IsSome (tasks_of self.old t) }
+        ensures stands { Stands J.polls J.cancels self.new }
+        ensures own { jobs_of self.old t ≡ Some result }
+        ensures gone { tasks_of self.new t ≡ None }
+        ensures rest { (s : ℕ) → s ≢ t → tasks_of self.new s ≡ tasks_of self.old s }
+        ensures len { left_of self.new + 1 ≡ left_of self.old }
+        ensures kept { (self.new.driver ≡ self.old.driver) × (turns_of self.new ≡ turns_of self.old) × (moment_of self.new ≡ moment_of self.old) }
+        ensures numbers { (spawned_of self.new ≡ spawned_of self.old) × (outputs_of self.new ≡ outputs_of self.old) }
+    {
+        let deadline = match self.ready.table.flags(t) {
+            Some(flags) => flags.deadline,
+            None => None,
+        };
+        let job = self.ready.table.take(t);
+        self.ready.table.end(t);
+        self.ready.drop_deadline(t, deadline);
+        job
+    }
+
+    /// Ends an executor of no unfinished tasks: its driver. Outputs that weren't taken are dropped. With tasks left it comes back. It takes no
+    /// memory.
+    pub fn finish(self) -> Result<D, Exec<D, J, J::Out>>
+        ensures ok { IfOk result (λ driver. driver ≡ self.driver) }
+        ensures done { IsOk result ↔ (left_of self ≡ 0) }
+        ensures err { IfErr result (λ exec. exec ≡ self) }
+    {
+        if self.left() != 0 {
+            return Err(self);
+        }
+        let Exec {
+            driver,
+            ready,
+            outputs: _,
+            spawned: _,
+            turns: _,
+        } = self;
+        let Ready {
+            table,
+            marks: _,
+            deadlines: _,
+            moment: _,
+        } = ready;
+        table.destroy();
+        Ok(driver)
     }
 }

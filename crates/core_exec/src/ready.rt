@@ -1,16 +1,17 @@
 // Unfinished tasks, a list of those that are marked, and the deadlines that are to come.
-ghost use Rattle.std.specs.Prelude.{◌≡◌, ◌<◌, ◌≤◌, ◌+◌, ◌==◌, ℕ, option_map, true, false, drop};
+ghost use Rattle.std.specs.Prelude.{◌≡◌, ◌≢◌, ◌<◌, ◌≤◌, ◌+◌, ◌==◌, ℕ, option_map, true, false, drop, OnOk};
 ghost use Rattle.std.specs.Ordering.{nat_cmp};
 ghost use Rattle.std.specs.List.Sorted.{IsSorted};
 ghost use Rattle.std.specs.Vec.{vec_len, vec_capacity};
 ghost use Rattle.std.specs.BTreeMap.{btree_map_len};
 ghost use Rattle.std.specs.BTreeSet.{btree_set_len};
-ghost use Rattle.core_exec.specs.Deadlines.{is_set};
+ghost use Rattle.core_exec.specs.Deadlines.{is_set, IsSetAt, KeepsSet};
 ghost use Rattle.core_exec.specs.Tasks.{task_at, mark_of, unmarked_in};
 ghost use Rattle.core_exec.specs.Marks.{AreListed, Covers, HasDeadlines, MarkedLate, with_mark, has_number, is_late, ready_tasks, LateOf};
 
 use crate::deadlines::Deadlines;
 use crate::table::{Flags, Table};
+use rent_buf::OutOfMemory;
 
 // The unfinished tasks, with what finds those that are ready.
 pub(crate) struct Ready<J> {
@@ -163,5 +164,28 @@ impl<J> Ready<J> {
         let count = self.marks.len();
         self.marks.rotate_left(came);
         self.marks.truncate(count - came);
+    }
+
+    // Sets the deadline of a number that no task has, if it has one.
+    pub(crate) fn set_deadline(&mut self, t: u64, deadline: Option<u64>) -> Result<(), OutOfMemory>
+        ensures ok { OnOk result (IsSetAt self.new.deadlines t deadline) }
+        ensures kept { KeepsSet self.old.deadlines self.new.deadlines }
+        ensures same { (self.new.table ≡ self.old.table) × (self.new.marks ≡ self.old.marks) × (self.new.moment ≡ self.old.moment) }
+    {
+        match deadline {
+            Some(at) => self.deadlines.add(at, t),
+            None => Ok(()),
+        }
+    }
+
+    // Drops the deadline of a number, if it has one.
+    pub(crate) fn drop_deadline(&mut self, t: u64, deadline: Option<u64>)
+        ensures kept { (d s : ℕ) → s ≢ t → is_set self.old.deadlines d s ≡ true → is_set self.new.deadlines d s ≡ true }
+        ensures same { (self.new.table ≡ self.old.table) × (self.new.marks ≡ self.old.marks) × (self.new.moment ≡ self.old.moment) }
+    {
+        match deadline {
+            Some(at) => self.deadlines.drop_of(at, t),
+            None => {}
+        }
     }
 }
