@@ -202,7 +202,8 @@ impl<D, J: Job<D>> Exec<D, J, J::Out> {
     pub fn take_done(&mut self) -> Result<Vec<(u64, J::Out)>, OutOfMemory>
         requires stands { Stands J.polls J.cancels self.old }
         ensures stands { Stands J.polls J.cancels self.new }
-        ensures ok { IfOk result (λ taken. IsPermutation (outputs_of self.old) taken.items × IsNonDecreasingBy (λ o. o.0) taken.items) }
+        ensures ok { IfOk result (λ taken. IsPermutation (outputs_of self.old) taken.items) }
+        ensures ascending { IfOk result (λ taken. IsNonDecreasingBy (λ o. o.0) taken.items) }
         ensures taken { OnOk result (outputs_of self.new ≡ []) }
         ensures err { OnErr result (outputs_of self.new ≡ outputs_of self.old) }
         ensures tasks { (s : ℕ) → tasks_of self.new s ≡ tasks_of self.old s }
