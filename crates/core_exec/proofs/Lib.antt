@@ -1,3 +1,4 @@
+pub mod Aims
 pub mod Counted
 pub mod Late
 pub mod Looping

@@ -1,8 +1,9 @@
 //! An executor: jobs by number, and the turns that poll them.
 ghost use Rattle.std.specs.Prelude.{◌≡◌, ◌≢◌, ◌<◌, ◌≤◌, ◌+◌, ◌^◌, ◌↔◌, ℕ, List, [], Some, None, IsSome, IsOk, IfOk, IfErr, IfSome, OnOk, OnErr, IsNone, IfNone};
+ghost use Rattle.std.specs.List.{All};
 ghost use Rattle.std.specs.List.Sorted.{IsNonDecreasingBy, IsPermutation};
 ghost use Rattle.std.specs.Vec.{vec_len, vec_capacity};
-ghost use Rattle.core_exec.specs.Tasks.{AreSound, unmarked_in};
+ghost use Rattle.core_exec.specs.Tasks.{AreSound, IsApart, unmarked_in};
 ghost use Rattle.core_exec.specs.Marks.{ready_tasks};
 ghost use Rattle.core_exec.specs.Turns.{AddsOutputs, Reaches, Turns};
 ghost use Rattle.core_exec.specs.Exec.{HasAims, Spawns, Stands, TakesOut, jobs_of, left_of, moment_of, outputs_of, spawned_of, tasks_of, turns_of};
@@ -32,6 +33,8 @@ impl<D, J: Job<D>> Exec<D, J, J::Out> {
         ensures driver { result.driver ≡ driver }
         ensures none { (t : ℕ) → tasks_of result t ≡ None }
         ensures outputs { outputs_of result ≡ [] }
+        ensures sound { AreSound J.fits J.apart result.driver (jobs_of result) }
+        ensures aims { (aims : ℕ → List ℕ) → HasAims J.aim J.meets aims (tasks_of result) (outputs_of result) }
         ensures counts { (left_of result ≡ 0) × (spawned_of result ≡ 0) × (turns_of result ≡ 0) × (moment_of result ≡ 0) }
     {
         Exec {
@@ -66,6 +69,7 @@ impl<D, J: Job<D>> Exec<D, J, J::Out> {
     /// names them, and those whose deadline has come and that weren't canceled. Each ready task is polled once, in ascending order; a late one
     /// is canceled before. If memory runs out at a task, the turn ends there, and that task and those behind it are ready in the next
     /// turn. `OutOfMemory` comes if memory runs out for the lists of the answer; then no task is polled, and the ready ones are marked.
+    #[tactic(auto, using(crate::proofs::Aims::aims_ready, crate::proofs::Aims::aims_same, crate::proofs::Aims::aims_turn))]
     pub fn turn(&mut self, now: u64, named: &[u64]) -> Result<Ran, OutOfMemory>
         requires stands { Stands J.polls J.cancels self.old }
         requires sound { AreSound J.fits J.apart self.old.driver (jobs_of self.old) }
@@ -75,6 +79,7 @@ impl<D, J: Job<D>> Exec<D, J, J::Out> {
         ensures sound { AreSound J.fits J.apart self.new.driver (jobs_of self.new) }
         ensures moment { moment_of self.new ≡ now }
         ensures spawned { spawned_of self.new ≡ spawned_of self.old }
+        ensures aims { (aims : ℕ → List ℕ) → HasAims J.aim J.meets aims (tasks_of self.old) (outputs_of self.old) → HasAims J.aim J.meets aims (tasks_of self.new) (outputs_of self.new) }
 
         // What it polled, what it made of each task, and the outputs of those that are done.
         ensures turns { IfOk result (λ ran. Turns J.polls J.cancels J.aim now (ready_tasks now named.now (tasks_of self.old)) (tasks_of self.new)
@@ -121,6 +126,7 @@ impl<D, J: Job<D>> Exec<D, J, J::Out> {
     }
 
     // Spawns a job, with a deadline or without.
+    #[tactic(auto, using(crate::proofs::Aims::aims_spawn, crate::proofs::Aims::aims_same, crate::proofs::Aims::sound_spawn, crate::proofs::Aims::sound_same))]
     fn spawn_at(&mut self, job: J, deadline: Option<u64>) -> Result<u64, (OutOfMemory, J)>
         requires stands { Stands J.polls J.cancels self.old }
         requires counts { (J.polls job ≡ 0) × (J.cancels job ≡ 0) }
@@ -132,6 +138,9 @@ impl<D, J: Job<D>> Exec<D, J, J::Out> {
         ensures kept { (self.new.driver ≡ self.old.driver) × (turns_of self.new ≡ turns_of self.old) × (moment_of self.new ≡ moment_of self.old) }
         ensures outputs { outputs_of self.new ≡ outputs_of self.old }
         ensures counted { OnErr result ((spawned_of self.new ≡ spawned_of self.old) × (left_of self.new ≡ left_of self.old)) }
+        // A job that fits the driver and has no operation joins the others; with its number's aim, it meets it.
+        ensures sound { J.fits self.old.driver job → J.idle job → AreSound J.fits J.apart self.old.driver (jobs_of self.old) → AreSound J.fits J.apart self.new.driver (jobs_of self.new) }
+        ensures aims { (aims : ℕ → List ℕ) → aims (spawned_of self.old) ≡ J.aim job → HasAims J.aim J.meets aims (tasks_of self.old) (outputs_of self.old) → HasAims J.aim J.meets aims (tasks_of self.new) (outputs_of self.new) }
     {
         let t = self.spawned;
         if self.reserve().is_err() || self.ready.set_deadline(t, deadline).is_err() {
@@ -177,6 +186,9 @@ impl<D, J: Job<D>> Exec<D, J, J::Out> {
         ensures kept { (self.new.driver ≡ self.old.driver) × (turns_of self.new ≡ turns_of self.old) × (moment_of self.new ≡ moment_of self.old) }
         ensures outputs { outputs_of self.new ≡ outputs_of self.old }
         ensures counted { OnErr result ((spawned_of self.new ≡ spawned_of self.old) × (left_of self.new ≡ left_of self.old)) }
+        // A job that fits the driver and has no operation joins the others; with its number's aim, it meets it.
+        ensures sound { J.fits self.old.driver job → J.idle job → AreSound J.fits J.apart self.old.driver (jobs_of self.old) → AreSound J.fits J.apart self.new.driver (jobs_of self.new) }
+        ensures aims { (aims : ℕ → List ℕ) → aims (spawned_of self.old) ≡ J.aim job → HasAims J.aim J.meets aims (tasks_of self.old) (outputs_of self.old) → HasAims J.aim J.meets aims (tasks_of self.new) (outputs_of self.new) }
     {
         self.spawn_at(job, None)
     }
@@ -194,21 +206,28 @@ impl<D, J: Job<D>> Exec<D, J, J::Out> {
         ensures kept { (self.new.driver ≡ self.old.driver) × (turns_of self.new ≡ turns_of self.old) × (moment_of self.new ≡ moment_of self.old) }
         ensures outputs { outputs_of self.new ≡ outputs_of self.old }
         ensures counted { OnErr result ((spawned_of self.new ≡ spawned_of self.old) × (left_of self.new ≡ left_of self.old)) }
+        // A job that fits the driver and has no operation joins the others; with its number's aim, it meets it.
+        ensures sound { J.fits self.old.driver job → J.idle job → AreSound J.fits J.apart self.old.driver (jobs_of self.old) → AreSound J.fits J.apart self.new.driver (jobs_of self.new) }
+        ensures aims { (aims : ℕ → List ℕ) → aims (spawned_of self.old) ≡ J.aim job → HasAims J.aim J.meets aims (tasks_of self.old) (outputs_of self.old) → HasAims J.aim J.meets aims (tasks_of self.new) (outputs_of self.new) }
     {
         self.spawn_at(job, Some(deadline))
     }
 
     /// Takes the outputs that weren't taken, each with its task, ascending by task. If memory runs out, they stay.
+    #[tactic(auto, using(crate::proofs::Aims::sound_same))]
     pub fn take_done(&mut self) -> Result<Vec<(u64, J::Out)>, OutOfMemory>
         requires stands { Stands J.polls J.cancels self.old }
         ensures stands { Stands J.polls J.cancels self.new }
         ensures ok { IfOk result (λ taken. IsPermutation (outputs_of self.old) taken.items) }
         ensures ascending { IfOk result (λ taken. IsNonDecreasingBy (λ o. o.0) taken.items) }
+        ensures meet { IfOk result (λ taken. (aims : ℕ → List ℕ) → HasAims J.aim J.meets aims (tasks_of self.old) (outputs_of self.old) → All (λ o. J.meets (aims o.0) o.1) taken.items) }
         ensures taken { OnOk result (outputs_of self.new ≡ []) }
         ensures err { OnErr result (outputs_of self.new ≡ outputs_of self.old) }
         ensures tasks { (s : ℕ) → tasks_of self.new s ≡ tasks_of self.old s }
         ensures kept { (self.new.driver ≡ self.old.driver) × (turns_of self.new ≡ turns_of self.old) × (moment_of self.new ≡ moment_of self.old) }
         ensures numbers { (spawned_of self.new ≡ spawned_of self.old) × (left_of self.new ≡ left_of self.old) }
+        ensures aims { (aims : ℕ → List ℕ) → HasAims J.aim J.meets aims (tasks_of self.old) (outputs_of self.old) → HasAims J.aim J.meets aims (tasks_of self.new) (outputs_of self.new) }
+        ensures sound { AreSound J.fits J.apart self.old.driver (jobs_of self.old) → AreSound J.fits J.apart self.new.driver (jobs_of self.new) }
     {
         let mut taken = Vec::new(*self.outputs.allocator());
         taken.append(&mut self.outputs)?;
@@ -217,6 +236,7 @@ impl<D, J: Job<D>> Exec<D, J, J::Out> {
     }
 
     /// Takes out the unfinished task of the lowest number, with its job. It takes no memory.
+    #[tactic(auto, using(crate::proofs::Aims::aims_out, crate::proofs::Aims::aims_same, crate::proofs::Aims::sound_out, crate::proofs::Aims::sound_same, crate::proofs::Aims::apart_out))]
     pub fn take_left(&mut self) -> Option<(u64, J)>
         requires stands { Stands J.polls J.cancels self.old }
         ensures stands { Stands J.polls J.cancels self.new }
@@ -225,6 +245,10 @@ impl<D, J: Job<D>> Exec<D, J, J::Out> {
         ensures unchanged { IfNone result ((s : ℕ) → tasks_of self.new s ≡ tasks_of self.old s) }
         ensures kept { (self.new.driver ≡ self.old.driver) × (turns_of self.new ≡ turns_of self.old) × (moment_of self.new ≡ moment_of self.old) }
         ensures numbers { (spawned_of self.new ≡ spawned_of self.old) × (outputs_of self.new ≡ outputs_of self.old) }
+        ensures aims { (aims : ℕ → List ℕ) → HasAims J.aim J.meets aims (tasks_of self.old) (outputs_of self.old) → HasAims J.aim J.meets aims (tasks_of self.new) (outputs_of self.new) }
+        ensures sound { AreSound J.fits J.apart self.old.driver (jobs_of self.old) → AreSound J.fits J.apart self.new.driver (jobs_of self.new) }
+        // It fits the driver, and has no operation with those that are left.
+        ensures apart { IfSome result (λ taken. AreSound J.fits J.apart self.old.driver (jobs_of self.old) → IsApart J.fits J.apart self.new.driver (jobs_of self.new) taken.1) }
     {
         let t = self.ready.table.first()?;
         Some((t, self.take_out(t)))
