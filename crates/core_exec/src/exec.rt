@@ -65,6 +65,20 @@ impl<D, J: Job<D>> Exec<D, J, J::Out> {
         self.turns
     }
 
+    /// How many tasks were spawned: the next one gets this number.
+    pub fn spawned(&self) -> u64
+        ensures { result ≡ spawned_of self.now }
+    {
+        self.spawned
+    }
+
+    /// The moment of the last turn, or 0.
+    pub fn moment(&self) -> u64
+        ensures { result ≡ moment_of self.now }
+    {
+        self.ready.moment
+    }
+
     /// A turn at a moment, which is at least that of the turn before. The tasks of the given numbers become ready, as a turn of the driver
     /// names them, and those whose deadline has come and that weren't canceled. Each ready task is polled once, in ascending order; a late one
     /// is canceled before. If memory runs out at a task, the turn ends there, and that task and those behind it are ready in the next
@@ -242,7 +256,7 @@ impl<D, J: Job<D>> Exec<D, J, J::Out> {
         ensures stands { Stands J.polls J.cancels self.new }
         ensures some { IfSome result (λ taken. TakesOut self.old self.new taken.0 taken.1) }
         ensures none { IsNone result ↔ (left_of self.old ≡ 0) }
-        ensures unchanged { IfNone result ((s : ℕ) → tasks_of self.new s ≡ tasks_of self.old s) }
+        ensures unchanged { IfNone result (((s : ℕ) → tasks_of self.new s ≡ tasks_of self.old s) × (left_of self.new ≡ left_of self.old)) }
         ensures kept { (self.new.driver ≡ self.old.driver) × (turns_of self.new ≡ turns_of self.old) × (moment_of self.new ≡ moment_of self.old) }
         ensures numbers { (spawned_of self.new ≡ spawned_of self.old) × (outputs_of self.new ≡ outputs_of self.old) }
         ensures aims { (aims : ℕ → List ℕ) → HasAims J.aim J.meets aims (tasks_of self.old) (outputs_of self.old) → HasAims J.aim J.meets aims (tasks_of self.new) (outputs_of self.new) }
@@ -303,3 +317,6 @@ impl<D, J: Job<D>> Exec<D, J, J::Out> {
         Ok(driver)
     }
 }
+
+#[cfg(test)]
+mod tests;
