@@ -1,5 +1,5 @@
 // A few jobs, and rows of turns.
-ghost use Rattle.std.specs.Prelude.{◌∷◌, ◌≡◌, [], Unit};
+ghost use Rattle.std.specs.Prelude.{◌∷◌, ◌≡◌, []};
 ghost use Rattle.core_exec.specs.Tasks.{AreSound};
 ghost use Rattle.core_exec.specs.Exec.{Stands, jobs_of, left_of};
 
@@ -119,7 +119,9 @@ const ROWS: [Row; 7] = [
 ];
 
 // A job is let go: it has no operation.
-fn forget(job: Steps) -> u64 {
+fn forget(job: Steps) -> u64
+    ensures { result ≡ job.number }
+{
     let Steps {
         number,
         last: _,
