@@ -1,25 +1,23 @@
 -- Aims and soundness, from call to call.
-use Rattle.std.proofs.Common.{ℕ, ◌≡◌, ◌≢◌, ◌∙◌, inl, inr, ap, sym, refl, subst, Bool, true, false, List, [], ◌∷◌, Some, None, get_or}
-use Rattle.std.specs.Prelude.{◌++◌, Option, option_map, IsSome}
+use Rattle.std.proofs.Common.{ℕ, ◌≡◌, ◌≢◌, ◌∙◌, inl, inr, ap, sym, refl, subst, Bool, true, false, List, Some, None, get_or}
+use Rattle.std.specs.Prelude.{Option, option_map, IsSome}
 use Rattle.std.specs.List.{All}
 use Rattle.std.proofs.lemmas.Bool.Decides.{eqb_tells}
 use Rattle.std.proofs.lemmas.List.Elements.{All-append}
 use Rattle.core_exec.specs.declared.table.Task.{Task}
-use Rattle.core_exec.specs.Tasks.{AreSound, job_in, mark_of, aim_in}
-use Rattle.core_exec.specs.Marks.{has_number, is_late, with_mark, ready_tasks}
+use Rattle.core_exec.specs.Tasks.{AreSound, job_in, aim_in}
+use Rattle.core_exec.specs.Marks.{has_number, with_mark, ready_tasks}
 use Rattle.core_exec.specs.Turns.{Turns, AddsOutputs}
 use Rattle.core_exec.specs.Exec.{HasAims, fresh}
 use Rattle.core_exec.proofs.Counted.{not_some}
 use Rattle.core_exec.proofs.Late.{not_both}
 use Rattle.core_exec.proofs.Reaching.{there_marked}
 
--- Some value is no none.
-some_there : {X : Type 0} (x : Option X) (y : X) → x ≡ Some y → IsSome x
-some_there x y e = subst (λ z. IsSome z) (sym e) refl
-
+-- No task is there where there is none.
 none_gone : {X A : Type 0} (x : Option X) → x ≡ None → IsSome x → A
 none_gone x e there = not_both (subst (λ z. IsSome z) e there)
 
+-- A value is one.
 some_is : {X : Type 0} (d x y : X) → ◌≡◌ {A = Option X} (Some x) (Some y) → x ≡ y
 some_is {X} d x y e = ap (λ (o : Option X). elim o as (λ _. X) [ None ↦ d | Some z ↦ z ]) e
 
@@ -62,7 +60,7 @@ module _ {J O : Type 0} (aim : J → List ℕ) (meets : List ℕ → O → Type 
     of_outputs = subst (λ x. All (λ o. meets (aims o.0) o.1) x) (sym adds.added)
         (All-append (λ o. meets (aims o.0) o.1) before adds.outputs has.of_outputs
         (λ k d below. subst (λ a. meets a (get_or adds.outputs k d).1) (has.of_jobs (get_or adds.outputs k d).0 (adds.meet k d below).0)
-          (adds.meet k d below).1));
+        (adds.meet k d below).1));
   }
 
   -- A spawn of a job of its number's aim keeps the aims.

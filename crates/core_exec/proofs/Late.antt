@@ -1,5 +1,5 @@
 -- Tasks that are late, and their marks.
-use Rattle.std.proofs.Common.{ℕ, ◌≡◌, ◌≢◌, ◌≤◌, ◌<◌, ◌∙◌, ◌⊎◌, inl, inr, ap, sym, refl, subst, Bool, true, false, List, [], ◌∷◌, Some, None, arith}
+use Rattle.std.proofs.Common.{ℕ, ◌≡◌, ◌≤◌, ◌<◌, ◌∙◌, inl, inr, ap, sym, refl, subst, Bool, true, false, List, Some, None, arith}
 use Rattle.std.specs.Prelude.{◌||◌, ◌&&◌, ◌==◌, not, nat_le, Option, option_map}
 use Rattle.std.proofs.lemmas.Bool.Decides.{eqb_tells}
 use Rattle.core_exec.specs.declared.table.Task.{Task}
@@ -26,16 +26,18 @@ pub record IsLate (now : ℕ) (canceled : Bool) (deadline : Option ℕ) : Type 0
 pub le_true : (a b : ℕ) → nat_le a b ≡ true → a ≤ b
 le_true a b is = grind arith
 
+-- The same from its order.
 pub test_true : (a b : ℕ) → a ≤ b → nat_le a b ≡ true
 test_true a b within = grind arith
 
--- What makes a task late, by its parts.
+-- These are the parts of that test.
 late_by : (now : ℕ) (canceled : Bool) (deadline : Option ℕ) → (not canceled && has_come now deadline) ≡ true → IsLate now canceled deadline
 late_by now true deadline late = not_both late
 late_by now false None late = not_both late
 late_by now false (Some at) late = record { at = at; not_canceled = refl; has = refl; come = le_true at now late }
 
 module _ {J : Type 0} where
+  -- What makes a task late.
   pub late_parts : (now : ℕ) (x : Option (Task J)) → is_late now x ≡ true → IsLate now (canceled_of x) (deadline_of x)
   late_parts now x late = late_by now (canceled_of x) (deadline_of x) late
 
@@ -64,6 +66,7 @@ module _ {J : Type 0} where
   late_mark now None y late is = not_both late
   late_mark now (Some task) y late is = ap mark_of is ∙ or_true task.marked
 
+  -- Marks leave deadlines and cancels, and each mark.
   pub late_kept : (now : ℕ) (was is : Option (Task J)) → MarkedLate now was is
       → (canceled_of is ≡ canceled_of was) × (deadline_of is ≡ deadline_of was) × (mark_of was ≡ true → mark_of is ≡ true)
   late_kept now was is (inl e) = (ap canceled_of e, ap deadline_of e, λ m. ap mark_of e ∙ m)
@@ -85,8 +88,11 @@ module _ {J : Type 0} where
       elim (set s d (sym kept.0 ∙ canceled) (sym kept.1 ∙ has)) [
         | inl is ↦ elim (leaves d s is) [
           | inl still ↦ inl still
-          | inr gone ↦ inr (subst (λ x. mark_of (new x) ≡ true) (sym gone.1) (marked (subst (λ x. is_late now (old x) ≡ true) gone.1
-              (is_late_by now d (old s) (sym kept.0 ∙ canceled) (sym kept.1 ∙ has) gone.0))), gone.0)
+          | inr gone ↦ inr (
+            subst (λ x. mark_of (new x) ≡ true) (sym gone.1) (marked (subst (λ x. is_late now (old x) ≡ true) gone.1
+                (is_late_by now d (old s) (sym kept.0 ∙ canceled) (sym kept.1 ∙ has) gone.0))),
+            gone.0,
+          )
         ]
         | inr is ↦ inr (kept.2 is.0, is.1)
       ]
@@ -113,6 +119,7 @@ module _ {J : Type 0} where
     | inr is ↦ let come = is.1 in inr (is.0, omega (arith, come, later))
   ]
 
+  -- So does one more mark.
   marked_more : (b : Bool) (x : Option (Task J)) → (canceled_of (option_map (with_mark b) x) ≡ canceled_of x)
       × (deadline_of (option_map (with_mark b) x) ≡ deadline_of x) × (mark_of x ≡ true → mark_of (option_map (with_mark b) x) ≡ true)
   marked_more b None = (refl, refl, λ m. m)
@@ -134,7 +141,7 @@ module _ {J : Type 0} where
   named_or_late now s named old mid new first second =
       let more = marked_more (has_number s named) (old s) in
       let late : is_late now (mid s) ≡ is_late now (old s) =
-          ap (is_late now) first ∙ ap (λ c. not c && has_come now (deadline_of (option_map (with_mark (has_number s named)) (old s)))) more.0
-          ∙ ap (λ d. not (canceled_of (old s)) && has_come now d) more.1 in
+      ap (is_late now) first ∙ ap (λ c. not c && has_come now (deadline_of (option_map (with_mark (has_number s named)) (old s)))) more.0
+      ∙ ap (λ d. not (canceled_of (old s)) && has_come now d) more.1 in
       second ∙ ap (λ b. option_map (with_mark b) (mid s)) late ∙ ap (option_map (with_mark (is_late now (old s)))) first
       ∙ two_marks (has_number s named) (is_late now (old s)) (old s)

@@ -1,5 +1,5 @@
 -- A turn's loop over the numbers of its list.
-use Rattle.std.proofs.Common.{ℕ, suc, ◌≡◌, ◌≢◌, ◌≤◌, ◌<◌, ◌+◌, ◌∙◌, ap, sym, refl, subst, Bool, true, false, List, [], ◌∷◌, Some, None, arith, length, drop, get_or}
+use Rattle.std.proofs.Common.{ℕ, suc, ◌≡◌, ◌≢◌, ◌≤◌, ◌<◌, ◌+◌, ◌∙◌, ap, sym, subst, true, false, List, [], ◌∷◌, Some, None, arith, length, drop, get_or}
 use Rattle.std.proofs.lemmas.List.{append-nil}
 use Rattle.std.proofs.Math.Seq.{drop-cons}
 use Rattle.std.specs.Prelude.{◌&&◌, Option}
@@ -37,19 +37,20 @@ module _ {J : Type 0} (polls cancels : J → ℕ) (aim : J → List ℕ) (now m 
       subst (λ x. Turning polls cancels aim now was is x C' D' (drop (k + 1) M)) (sym polled)
       (subst (λ x. Turning polls cancels aim now was is (with_number (is_polled visit) t P) x D' (drop (k + 1) M)) canceled_now
       (subst (λ x. Turning polls cancels aim now was is (with_number (is_polled visit) t P) (with_number (is_polled visit && is_late now (mid t)) t C) x
-        (drop (k + 1) M)) (sym done)
+      (drop (k + 1) M)) (sym done)
       (turning_next polls cancels aim now t was mid is P C D (drop (k + 1) M) visit turning_at step_now rest goes)))
 
   pub loop_stops : is_stopped visit ≡ true
       → Turns polls cancels aim now was is P' C' D' (Some t) × Reaches was is P' (Some t) × Covers is (drop k M)
   loop_stops stops =
-      let by = turning_stops polls cancels aim now t was mid is P C D (drop (k + 1) M) visit turning_at step_now rest stops in
-      (subst (λ x. Turns polls cancels aim now was is x C' D' (Some t)) (sym polled)
-      (subst (λ x. Turns polls cancels aim now was is (with_number (is_polled visit) t P) x D' (Some t)) canceled_now
-      (subst (λ x. Turns polls cancels aim now was is (with_number (is_polled visit) t P) (with_number (is_polled visit && is_late now (mid t)) t C) x
-        (Some t)) (sym done) by.0)),
-      subst (λ x. Reaches was is x (Some t)) (sym polled) by.1,
-      subst (λ R. Covers is R) (sym (numbers_at M k t below at)) by.2)
+      let by = turning_stops polls cancels aim now t was mid is P C D (drop (k + 1) M) visit turning_at step_now rest stops in (
+        subst (λ x. Turns polls cancels aim now was is x C' D' (Some t)) (sym polled)
+            (subst (λ x. Turns polls cancels aim now was is (with_number (is_polled visit) t P) x D' (Some t)) canceled_now
+            (subst (λ x. Turns polls cancels aim now was is (with_number (is_polled visit) t P) (with_number (is_polled visit && is_late now (mid t)) t C) x
+            (Some t)) (sym done) by.0)),
+        subst (λ x. Reaches was is x (Some t)) (sym polled) by.1,
+        subst (λ R. Covers is R) (sym (numbers_at M k t below at)) by.2,
+      )
 
   pub loop_outputs : {O : Type 0} (meets : List ℕ → O → Type 0) (before between after : List (ℕ × O)) → AddsOutputs aim meets was D before between
       → StepsOutput aim meets t (job_in (mid t)) between after visit → AddsOutputs aim meets was D' before after

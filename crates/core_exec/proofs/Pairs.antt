@@ -1,5 +1,5 @@
 -- The order of deadlines and their tasks.
-use Rattle.std.proofs.Common.{ℕ, ◌≡◌, ◌≢◌, ◌≤◌, ◌<◌, ◌∙◌, ap, sym, refl, subst, Bool, true, false, cond, arith}
+use Rattle.std.proofs.Common.{ℕ, ◌≡◌, ◌≢◌, ◌≤◌, refl, Bool, true, false, cond, arith}
 use Rattle.std.specs.Ordering.{nat_cmp, is_eq, is_gt, ordering_then}
 use Rattle.std.specs.declared.cmp.Ordering.{Ordering}
 use Rattle.std.specs.declared.cmp.Ordering.TheVariants.{Less, Equal, Greater}
@@ -29,5 +29,6 @@ then_within Less second within = refl
 then_within Equal second within = refl
 then_within Greater second within = within
 
+-- So is the first of such a pair.
 pub pair_within : (a d t s : ℕ) → is_gt (ordering_then (nat_cmp a d) (nat_cmp t s)) ≡ false → a ≤ d
 pair_within a d t s within = number_within a d (then_within (nat_cmp a d) (nat_cmp t s) within)

@@ -1,6 +1,6 @@
 -- A marked task's part of a turn, and the deadlines behind it.
-use Rattle.std.proofs.Common.{ℕ, ◌≡◌, ◌≢◌, ◌≤◌, ◌<◌, ◌∙◌, ◌⊎◌, inl, inr, ap, sym, refl, subst, Bool, true, false, List, [], ◌∷◌, Some, None, arith}
-use Rattle.std.specs.Prelude.{◌||◌, ◌&&◌, ◌==◌, not, nat_le, Option, option_map, IsSome}
+use Rattle.std.proofs.Common.{ℕ, ◌≡◌, ◌≢◌, ◌≤◌, ◌∙◌, ◌⊎◌, inl, inr, ap, sym, refl, subst, Bool, true, false, List, Some, None}
+use Rattle.std.specs.Prelude.{◌||◌, Option, IsSome}
 use Rattle.std.proofs.lemmas.Bool.Decides.{eqb_tells}
 use Rattle.core_exec.specs.declared.table.Task.{Task}
 use Rattle.core_exec.specs.declared.table.Flags.{Flags}
@@ -14,11 +14,7 @@ use Rattle.core_exec.specs.Visits.{VisitsTask}
 use Rattle.core_exec.specs.Steps.{ends_at}
 use Rattle.core_exec.proofs.Late.{late_flags, late_parts, is_late_by, not_both}
 use Rattle.core_exec.proofs.Counted.{not_some}
-
--- No task has a deadline that isn't its own.
-or_parts : (a b : Bool) → (a || b) ≡ false → (a ≡ false) × (b ≡ false)
-or_parts true b e = not_both (sym e)
-or_parts false b e = (refl, e)
+use Rattle.core_exec.proofs.Visiting.{or_parts}
 
 module _ {J : Type 0} where
   -- Whether a task is late, as its flags say.
@@ -54,7 +50,7 @@ module _ {J : Type 0} where
   set_behind_visit polls cancels aim now t old new before after visit by set rest others stays = λ s d canceled has. elim (eqb_tells s t) [
     | inl e ↦
         let kept = kept_by_visit polls cancels aim (is_late now (old t)) (old t) (new t) visit d by
-            (subst (λ x. canceled_of (new x) ≡ false) e.1 canceled) (subst (λ x. deadline_of (new x) ≡ Some d) e.1 has) in
+        (subst (λ x. canceled_of (new x) ≡ false) e.1 canceled) (subst (λ x. deadline_of (new x) ≡ Some d) e.1 has) in
         subst (λ x. (is_set after d x ≡ true) ⊎ ((mark_of (new x) ≡ true) × (d ≤ now))) (sym e.1)
         (elim (set t d kept.0 kept.1) [
           | inl is ↦ inl (stays kept.2 d t is)
@@ -69,6 +65,7 @@ module _ {J : Type 0} where
     ]
   ]
 
+  -- A task that a visit leaves has its job.
   there_after : (polls cancels : J → ℕ) (aim : J → List ℕ) (late : Bool) (was is : Option (Task J)) (visit : Visit)
       → VisitsTask polls cancels aim late was is visit → (IsSome was → IsSome (job_in was)) → IsSome is → IsSome (job_in is)
   there_after polls cancels aim late was is Done by had there = not_both (subst (λ x. IsSome x) by there)

@@ -1,18 +1,24 @@
 -- A cancel, and then a poll.
-use Rattle.std.proofs.Common.{ℕ, suc, ◌≡◌, ◌+◌, ◌∙◌, ap, sym, refl, subst, Bool, true, false, cond, List, Some, None, arith}
+use Rattle.std.proofs.Common.{ℕ, suc, ◌≡◌, ◌∙◌, ap, sym, refl, subst, Bool, true, false, List, arith}
 use Rattle.std.specs.Prelude.{Option, ◌||◌}
 use Rattle.core_exec.specs.declared.table.Task.{Task}
-use Rattle.core_exec.specs.Polls.{IsPolled, IsAsked, AsksIf}
-use Rattle.core_exec.specs.Tasks.{job_in, mark_of, deadline_of, canceled_of, count_in, aim_in}
+use Rattle.core_exec.specs.Polls.{IsPolled, AsksIf}
+use Rattle.core_exec.specs.Tasks.{job_in, canceled_of, aim_in}
 
 -- Either of two is so where the second is.
 pub or_true : (a : Bool) → (a || true) ≡ true
 or_true true = refl
 or_true false = refl
 
+-- Or where the first is, without the second.
 pub or_false : (a : Bool) → (a || false) ≡ a
 or_false true = refl
 or_false false = refl
+
+-- Neither of two is so where not one of them is.
+pub or_parts : (a b : Bool) → (a || b) ≡ false → (a ≡ false) × (b ≡ false)
+or_parts true b e = absurd (subst (λ (c : Bool). elim c as (λ _. Type 0) [ true ↦ Unit {0} | false ↦ ⊥ ]) e tt)
+or_parts false b e = (refl, e)
 
 -- A task that is canceled if it is late, and then polled, was polled once and canceled if it is late.
 pub visited : {J : Type 0} (polls cancels : J → ℕ) (aim : J → List ℕ) (late : Bool) (was mid now : Option (Task J))
@@ -26,9 +32,3 @@ visited polls cancels aim true was mid now asked polled = record {
   canceled = polled.canceled ∙ or_false (canceled_of mid) ∙ asked.canceled ∙ sym (or_true (canceled_of was));
 }
 visited polls cancels aim false was mid now same polled = subst (λ x. IsPolled polls cancels aim false x now) same polled
-
--- The aim stays, whether it is canceled or not.
-pub aim_kept : {J : Type 0} (polls cancels : J → ℕ) (aim : J → List ℕ) (late : Bool) (was mid : Option (Task J))
-    → AsksIf polls cancels aim late was mid → aim_in aim (job_in mid) ≡ aim_in aim (job_in was)
-aim_kept polls cancels aim true was mid asked = asked.same_aim
-aim_kept polls cancels aim false was mid same = ap (λ x. aim_in aim (job_in x)) same

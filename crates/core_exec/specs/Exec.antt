@@ -1,13 +1,13 @@
 -- An executor, by its unfinished tasks and its outputs. Cited by `Exec`.
-use Rattle.std.specs.Prelude.{ℕ, ◌≡◌, ◌≢◌, ◌≤◌, ◌<◌, ◌+◌, Bool, true, false, List, Option, Some, None, IsSome, OnErr, OnOk, Result}
+use Rattle.std.specs.Prelude.{ℕ, ◌≡◌, ◌≢◌, ◌≤◌, ◌<◌, ◌+◌, true, false, List, Option, Some, None, IsSome}
 use Rattle.std.specs.List.{All}
 use Rattle.std.specs.Vec.{vec_len, vec_capacity}
 use Rattle.std.specs.BTreeMap.{btree_map_len}
 use Rattle.core_exec.specs.declared.table.Task.{Task}
 use Rattle.core_exec.specs.declared.exec.Exec.{Exec}
 use Rattle.core_exec.specs.Tasks.{HaveJobs, task_at, job_at, job_in, aim_in}
-use Rattle.core_exec.specs.Marks.{AreListed, HasDeadlines, ready_tasks}
-use Rattle.core_exec.specs.Turns.{AreCounted, Turns, Reaches, AddsOutputs}
+use Rattle.core_exec.specs.Marks.{AreListed, HasDeadlines}
+use Rattle.core_exec.specs.Turns.{AreCounted}
 
 -- The unfinished task of a number; its job; how many are unfinished.
 abbrev pub tasks_of : {D J O : Type 0} → Exec D J O → ℕ → Option (Task J)

@@ -1,5 +1,5 @@
 -- What a poll and a cancel make of a task. Cited by `poll_task`, `cancel_task` and `visit_task`.
-use Rattle.std.specs.Prelude.{ℕ, suc, ◌≡◌, ◌+◌, ◌||◌, Bool, true, false, cond, List, Option, Some, None, IsSome}
+use Rattle.std.specs.Prelude.{ℕ, suc, ◌≡◌, ◌+◌, ◌||◌, Bool, true, false, cond, List, Option, None, IsSome}
 use Rattle.core_exec.specs.declared.table.Task.{Task}
 use Rattle.core_exec.specs.declared.poll.Polled.{Polled}
 use Rattle.core_exec.specs.declared.poll.Polled.TheVariants.{Done, Pending, OutOfMemory}

@@ -1,11 +1,11 @@
 -- One step of a turn, to the task of one number. Cited by `poll_at`.
-use Rattle.std.specs.Prelude.{ℕ, suc, ◌≡◌, ◌≤◌, ◌+◌, ◌++◌, Bool, true, false, cond, List, [], ◌∷◌, Option, Some, None}
+use Rattle.std.specs.Prelude.{ℕ, ◌≡◌, ◌++◌, Bool, true, false, cond, List, [], ◌∷◌, Option, Some, None}
 use Rattle.core_exec.specs.declared.table.Task.{Task}
 use Rattle.core_exec.specs.declared.visit.Visit.{Visit}
 use Rattle.core_exec.specs.declared.visit.Visit.TheVariants.{Done, Pending, Short, Refused}
 use Rattle.core_exec.specs.Tasks.{mark_of}
 use Rattle.core_exec.specs.Marks.{is_late}
-use Rattle.core_exec.specs.Visits.{VisitsTask, OneOutput, GivesOutput, MarksAfter}
+use Rattle.core_exec.specs.Visits.{VisitsTask, GivesOutput, MarksAfter}
 
 -- The list, with a number behind it or as it is.
 abbrev pub with_number : Bool → ℕ → List ℕ → List ℕ

@@ -1,9 +1,9 @@
 -- What a turn makes of one ready task. Cited by `visit_task`.
-use Rattle.std.specs.Prelude.{ℕ, suc, ◌≡◌, ◌≤◌, ◌+◌, ◌++◌, Bool, true, false, List, [], ◌∷◌, Option, Some, None}
+use Rattle.std.specs.Prelude.{ℕ, ◌≡◌, ◌+◌, ◌++◌, Bool, true, false, List, [], ◌∷◌, Option, None}
 use Rattle.core_exec.specs.declared.table.Task.{Task}
 use Rattle.core_exec.specs.declared.visit.Visit.{Visit}
 use Rattle.core_exec.specs.declared.visit.Visit.TheVariants.{Done, Pending, Short, Refused}
-use Rattle.core_exec.specs.Tasks.{job_in, mark_of, aim_in}
+use Rattle.core_exec.specs.Tasks.{mark_of, aim_in}
 use Rattle.core_exec.specs.Polls.{IsPolled}
 
 -- It is canceled if it is late, and polled once: it is done, or its mark goes. Where memory ran out it keeps its mark; where that was at its

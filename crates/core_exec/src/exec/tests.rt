@@ -79,13 +79,7 @@ impl Job<Memory> for Steps {
 type Steppers = Exec<Memory, Steps, u64>;
 
 // A job: at which poll it is done, and its deadline.
-const JOBS: [(u64, Option<u64>); 5] = [
-    (1, None),
-    (3, Some(9)),
-    (9, Some(5)),
-    (2, None),
-    (9, None),
-];
+const JOBS: [(u64, Option<u64>); 5] = [(1, None), (3, Some(9)), (9, Some(5)), (2, None), (9, None)];
 
 // A turn: its moment, the tasks that are named, and after how many calls memory runs out. Then what is wanted: the tasks that are polled,
 // canceled and done, and at which memory runs out.
@@ -244,6 +238,9 @@ fn turns_do_as_their_rows_want(rt: HostRuntime) -> Result<(), Fail> {
     assert!(rt; spawned && turned);
     assert!(rt; left == 1 && taken == (1, 4));
     let outputs = outputs?;
-    assert_eq!(rt; outputs.as_slice(), [(0, 0), (1, 1), (2, 2), (3, 3)].as_slice());
+    assert_eq!(rt;
+        outputs.as_slice(),
+        [(0, 0), (1, 1), (2, 2), (3, 3)].as_slice()
+    );
     Ok(())
 }

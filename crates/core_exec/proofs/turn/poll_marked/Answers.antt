@@ -1,4 +1,4 @@
-use Rattle.std.proofs.Common.{ℕ, ◌≡◌, sym, subst}
+use Rattle.std.proofs.Common.{sym, subst}
 use Rattle.core_exec.specs.Tasks.{task_at}
 use Rattle.core_exec.specs.Visits.{VisitsTask}
 use Rattle.core_exec.proofs.Stepping.{marked_late, set_behind_visit}
@@ -13,5 +13,5 @@ returns-clause-deadlines g c =
     set_behind_visit g.J.Job.polls g.J.Job.cancels g.J.Job.aim c.args.ready.now.moment c.args.t (task_at old) (task_at new)
     c.args.ready.now.deadlines c.drop_deadline.new.deadlines c.visit_task-visit.result
     (subst (λ b. VisitsTask g.J.Job.polls g.J.Job.cancels g.J.Job.aim b (task_at old c.args.t) (task_at new c.args.t) c.visit_task-visit.result)
-      (sym late) c.visit_task-visit.ensures.this)
+    (sym late) c.visit_task-visit.ensures.this)
     c.requires.deadlines c.visit_task-visit.ensures.rest c.drop_deadline.ensures.others c.drop_deadline.ensures.stays

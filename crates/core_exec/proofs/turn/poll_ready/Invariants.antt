@@ -1,4 +1,4 @@
-use Rattle.std.proofs.Common.{ℕ, ◌≡◌, ◌≤◌, ◌+◌, length, drop}
+use Rattle.std.proofs.Common.{◌≡◌, ◌≤◌, ◌+◌, drop}
 use Rattle.std.specs.Vec.{vec_len, vec_capacity}
 use Rattle.std.specs.BTreeMap.{btree_map_len}
 use Rattle.core_exec.specs.Tasks.{AreSound, HaveJobs, task_at, job_at, unmarked_in}

@@ -1,5 +1,4 @@
-use Rattle.std.proofs.Common.{◌≡◌, ◌∙◌, true}
-use Rattle.core_exec.specs.Deadlines.{is_set}
+use Rattle.std.proofs.Common.{◌∙◌}
 use Rattle.core_exec.proofs.Pairs.{cond_true}
 use Rattle.core_exec.proofs.deadlines.Deadlines.add.Goals as goal
 

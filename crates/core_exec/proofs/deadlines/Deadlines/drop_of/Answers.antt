@@ -1,4 +1,4 @@
-use Rattle.std.proofs.Common.{◌≡◌, ◌∙◌, true}
+use Rattle.std.proofs.Common.{◌∙◌}
 use Rattle.std.specs.Ordering.{nat_cmp}
 use Rattle.core_exec.proofs.Pairs.{pairs_apart}
 use Rattle.core_exec.proofs.deadlines.Deadlines.drop_of.Goals as goal

@@ -1,4 +1,4 @@
-use Rattle.std.proofs.Common.{◌≡◌, ◌≤◌, ◌<◌, arith}
+use Rattle.std.proofs.Common.{◌≤◌, arith}
 use Rattle.core_exec.proofs.Pairs.{pair_within}
 use Rattle.core_exec.proofs.deadlines.Deadlines.pop.Goals as goal
 

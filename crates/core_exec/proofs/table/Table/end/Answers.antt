@@ -1,7 +1,6 @@
-use Rattle.std.proofs.Common.{◌≡◌, ◌+◌, ◌∙◌, ap, sym, arith, Some}
-use Rattle.std.specs.Option.{option_copied_mut}
+use Rattle.std.proofs.Common.{◌≡◌, ◌∙◌, ap, sym, arith, Some}
 use Rattle.core_exec.specs.Tasks.{unmarked, cost, task_at}
-use Rattle.core_exec.proofs.Counted.{unmarked_written, unmarked-remove_entry, unmarked-insert_entry}
+use Rattle.core_exec.proofs.Counted.{unmarked-remove_entry}
 use Rattle.core_exec.proofs.table.Table.end.Goals as goal
 
 -- the task was taken out

@@ -1,8 +1,8 @@
-use Rattle.std.proofs.Common.{◌≡◌, ◌+◌, ◌∙◌, ap, sym, arith, Some, true}
+use Rattle.std.proofs.Common.{◌≡◌, ◌∙◌, ap, sym, arith, Some, true}
 use Rattle.std.specs.Option.{option_copied_mut}
 use Rattle.core_exec.specs.declared.table.Task.{Task}
-use Rattle.core_exec.specs.Tasks.{unmarked, cost, task_at}
-use Rattle.core_exec.proofs.Counted.{unmarked_written, unmarked-remove_entry, unmarked-insert_entry}
+use Rattle.core_exec.specs.Tasks.{cost, task_at}
+use Rattle.core_exec.proofs.Counted.{unmarked_written}
 use Rattle.core_exec.proofs.table.Table.mark.Goals as goal
 
 -- the task was written over
