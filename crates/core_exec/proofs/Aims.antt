@@ -49,7 +49,8 @@ module _ {J O : Type 0} (aim : J → List ℕ) (meets : List ℕ → O → Type 
   }
 
   -- A turn keeps the aims.
-  pub aims_turn : (polls cancels : J → ℕ) (now : ℕ) (was is : ℕ → Option (Task J)) (P C D : List ℕ) (stopped : Option ℕ) (before after : List (ℕ × O))
+  pub aims_turn : (polls cancels : J → ℕ) (now : ℕ) (was is : ℕ → Option (Task J)) (P C D : List ℕ) (stopped : Option ℕ)
+      (before after : List (ℕ × O))
       → Turns polls cancels aim now was is P C D stopped → AddsOutputs aim meets was D before after → HasAims aim meets aims was before
       → HasAims aim meets aims is after
   aims_turn polls cancels now was is P C D stopped before after turns adds has = record {
@@ -92,12 +93,14 @@ module _ {D J : Type 0} (fits : D → J → Type 0) (apart : J → J → Type 0)
       → AreSound fits apart driver (λ s. job_in (new s))
   sound_same old new same sound = record {
     all_fit = λ t job is. sound.all_fit t job (sym (ap job_in (same t)) ∙ is);
-    all_apart = λ s t one other differ is are. sound.all_apart s t one other differ (sym (ap job_in (same s)) ∙ is) (sym (ap job_in (same t)) ∙ are);
+    all_apart = λ s t one other differ is are. sound.all_apart s t one other differ (sym (ap job_in (same s)) ∙ is) (sym (ap job_in
+        (same t)) ∙ are);
   }
 
   -- So they are with one more that fits and has no operation.
   pub sound_spawn : (old new : ℕ → Option (Task J)) (t : ℕ) (job : J) (deadline : Option ℕ) → new t ≡ Some (fresh job deadline)
-      → ((s : ℕ) → s ≢ t → new s ≡ old s) → fits driver job → ((other : J) → apart job other) → ((one other : J) → apart one other → apart other one)
+      → ((s : ℕ) → s ≢ t → new s ≡ old s) → fits driver job → ((other : J) → apart job other) → ((one other : J) → apart one other
+      → apart other one)
       → AreSound fits apart driver (λ s. job_in (old s)) → AreSound fits apart driver (λ s. job_in (new s))
   sound_spawn old new t job deadline this rest fit idle both sound = record {
     all_fit = λ s one is. elim (eqb_tells s t) [
@@ -105,9 +108,11 @@ module _ {D J : Type 0} (fits : D → J → Type 0) (apart : J → J → Type 0)
       | inr e ↦ sound.all_fit s one (sym (ap job_in (rest s e.1)) ∙ is)
     ];
     all_apart = λ r s one other differ is are. elim (eqb_tells r t) [
-      | inl e ↦ subst (λ x. apart x other) (some_is job job one (sym (ap job_in this) ∙ subst (λ x. job_in (new x) ≡ Some one) e.1 is)) (idle other)
+      | inl e ↦ subst (λ x. apart x other) (some_is job job one (sym (ap job_in this) ∙ subst (λ x. job_in (new x) ≡ Some one) e.1 is))
+          (idle other)
       | inr e ↦ elim (eqb_tells s t) [
-        | inl f ↦ both other one (subst (λ x. apart x one) (some_is job job other (sym (ap job_in this) ∙ subst (λ x. job_in (new x) ≡ Some other) f.1 are)) (idle one))
+        | inl f ↦ both other one (subst (λ x. apart x one) (some_is job job other (sym (ap job_in this) ∙ subst (λ x. job_in
+            (new x) ≡ Some other) f.1 are)) (idle one))
         | inr f ↦ sound.all_apart r s one other differ (sym (ap job_in (rest r e.1)) ∙ is) (sym (ap job_in (rest s f.1)) ∙ are)
       ]
     ];
@@ -130,7 +135,8 @@ module _ {D J : Type 0} (fits : D → J → Type 0) (apart : J → J → Type 0)
     ];
   }
 
-  pub apart_out : (old new : ℕ → Option (Task J)) (t : ℕ) (job : J) → job_in (old t) ≡ Some job → new t ≡ None → ((s : ℕ) → s ≢ t → new s ≡ old s)
+  pub apart_out : (old new : ℕ → Option (Task J)) (t : ℕ) (job : J) → job_in (old t) ≡ Some job → new t ≡ None → ((s : ℕ) → s ≢ t
+      → new s ≡ old s)
       → AreSound fits apart driver (λ s. job_in (old s)) → (s : ℕ) (other : J) → job_in (new s) ≡ Some other → apart job other
   apart_out old new t job own gone rest sound s other is = elim (eqb_tells s t) [
     | inl e ↦ absurd (not_some (sym (ap job_in gone) ∙ subst (λ x. job_in (new x) ≡ Some other) e.1 is))

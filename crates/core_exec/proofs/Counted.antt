@@ -40,7 +40,8 @@ pub unmarked-insert_entry : {J : Type 0} (es : List (ℕ × Task J)) (k : ℕ) (
 unmarked-insert_entry [] k new none = omega arith
 unmarked-insert_entry (e ∷ es) k new none = elim (nat_cmp k e.0)
     as (λ o. cond (is_eq o) (Some e.1) (lookup (is_at (nat_cmp k)) es) ≡ None
-    → unmarked (match_ordering o ((k, new) ∷ e ∷ es) ((e.0, new) ∷ es) (e ∷ insert_entry nat_cmp es k new)) ≡ unmarked (e ∷ es) + cost (Some new)) [
+    → unmarked (match_ordering o ((k, new) ∷ e ∷ es) ((e.0, new) ∷ es) (e ∷ insert_entry nat_cmp es k new)) ≡ unmarked (e ∷ es) + cost
+    (Some new)) [
       | Less ↦ λ absent. omega arith
       | Equal ↦ λ absent. absurd (not_some (sym absent))
       | Greater ↦ λ absent. let rest = unmarked-insert_entry es k new absent in omega (arith, rest)
@@ -49,7 +50,8 @@ unmarked-insert_entry (e ∷ es) k new none = elim (nat_cmp k e.0)
 -- No more tasks have no mark than there are.
 pub unmarked_within : {J : Type 0} (es : List (ℕ × Task J)) → unmarked es ≤ length es
 unmarked_within [] = omega arith
-unmarked_within (e ∷ es) = let rest = unmarked_within es in let one : cost (Some e.1) ≤ 1 = elim (e.1.marked) as (λ b. cond b 0 1 ≤ 1) [ true ↦ omega arith | false ↦ omega arith ] in omega (arith, rest, one)
+unmarked_within (e ∷ es) = let rest = unmarked_within es in let one : cost (Some e.1) ≤ 1 = elim (e.1.marked) as (λ b. cond b 0 1 ≤ 1)
+    [ true ↦ omega arith | false ↦ omega arith ] in omega (arith, rest, one)
 
 -- A task of a tree is written over another.
 pub unmarked_written : {J : Type 0} (old new : BTreeMap ℕ (Task J)) (t : ℕ) (was now : Task J) → get_by (nat_cmp t) old ≡ Some was

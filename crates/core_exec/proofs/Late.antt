@@ -48,7 +48,8 @@ module _ {J : Type 0} where
       ap (λ c. not c && has_come now (deadline_of x)) canceled ∙ ap (has_come now) has ∙ test
 
   -- What is asked of a task says whether it is late.
-  pub late_flags : (now : ℕ) (x : Option (Task J)) (flags : Flags) (late : Bool) → FlagsOf x (Some flags) → LateOf now flags late → late ≡ is_late now x
+  pub late_flags : (now : ℕ) (x : Option (Task J)) (flags : Flags) (late : Bool) → FlagsOf x (Some flags) → LateOf now flags late
+      → late ≡ is_late now x
   late_flags now None flags late of by = absurd of
   late_flags now (Some task) flags late of by =
       by ∙ ap (λ c. not c && has_come now flags.deadline) of.2 ∙ ap (λ d. not task.canceled && has_come now d) of.1
@@ -81,7 +82,8 @@ module _ {J : Type 0} where
   late_then now a b c (inr e) (inr f) = inr (e.0, f.1 ∙ ap (option_map (with_mark true)) e.1 ∙ two_marks true true a)
 
   -- The deadlines that are left behind one that has come, whose task is marked if it is late.
-  pub set_behind_pop : (now t : ℕ) (old new : ℕ → Option (Task J)) (before after : Deadlines) → AreSet now old before → LeavesSet now t before after
+  pub set_behind_pop : (now t : ℕ) (old new : ℕ → Option (Task J)) (before after : Deadlines) → AreSet now old before
+      → LeavesSet now t before after
       → ((s : ℕ) → MarkedLate now (old s) (new s)) → (is_late now (old t) ≡ true → mark_of (new t) ≡ true) → AreSet now new after
   set_behind_pop now t old new before after set leaves each marked = λ s d canceled has.
       let kept = late_kept now (old s) (new s) (each s) in
@@ -102,14 +104,15 @@ module _ {J : Type 0} where
       → ((d r : ℕ) → is_set deadlines d r ≡ true → now < d) → MarkedLate now (old s) (new s)
       → new s ≡ option_map (with_mark (is_late now (old s))) (old s)
   late_all now s old new deadlines set none (inr e) = subst (λ b. new s ≡ option_map (with_mark b) (old s)) (sym e.0) e.1
-  late_all now s old new deadlines set none (inl e) = elim (is_late now (old s)) as (λ b. is_late now (old s) ≡ b → new s ≡ option_map (with_mark b) (old s)) [
-    | true ↦ λ late. let is = late_parts now (new s) (subst (λ x. is_late now x ≡ true) (sym e) late) in
-        elim (set s is.at is.not_canceled is.has) [
-          | inl on ↦ let far = none is.at s on in let come = is.come in absurd (omega (arith, far, come))
-          | inr on ↦ sym (mark_stays (new s) on.0) ∙ ap (option_map (with_mark true)) e
-        ]
-    | false ↦ λ late. e ∙ sym (no_mark (old s))
-  ] refl
+  late_all now s old new deadlines set none (inl e) = elim (is_late now (old s)) as (λ b. is_late now (old s) ≡ b → new s ≡ option_map
+      (with_mark b) (old s)) [
+        | true ↦ λ late. let is = late_parts now (new s) (subst (λ x. is_late now x ≡ true) (sym e) late) in
+            elim (set s is.at is.not_canceled is.has) [
+              | inl on ↦ let far = none is.at s on in let come = is.come in absurd (omega (arith, far, come))
+              | inr on ↦ sym (mark_stays (new s) on.0) ∙ ap (option_map (with_mark true)) e
+            ]
+        | false ↦ λ late. e ∙ sym (no_mark (old s))
+      ] refl
 
   -- What is set by a moment is set by a later one.
   pub set_later : (before now : ℕ) (tasks : ℕ → Option (Task J)) (deadlines : Deadlines) → AreSet before tasks deadlines → before ≤ now
@@ -136,7 +139,8 @@ module _ {J : Type 0} where
       ]
 
   -- Marks of numbers, and then of those that are late.
-  pub named_or_late : (now s : ℕ) (named : List ℕ) (old mid new : ℕ → Option (Task J)) → mid s ≡ option_map (with_mark (has_number s named)) (old s)
+  pub named_or_late : (now s : ℕ) (named : List ℕ) (old mid new : ℕ → Option (Task J)) → mid s ≡ option_map (with_mark
+      (has_number s named)) (old s)
       → new s ≡ option_map (with_mark (is_late now (mid s))) (mid s) → new s ≡ ready_tasks now named old s
   named_or_late now s named old mid new first second =
       let more = marked_more (has_number s named) (old s) in

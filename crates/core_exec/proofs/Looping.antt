@@ -1,5 +1,6 @@
 -- A turn's loop over the numbers of its list.
-use Rattle.std.proofs.Common.{ℕ, suc, ◌≡◌, ◌≢◌, ◌≤◌, ◌<◌, ◌+◌, ◌∙◌, ap, sym, subst, true, false, List, [], ◌∷◌, Some, None, arith, length, drop, get_or}
+use Rattle.std.proofs.Common.{ℕ, suc, ◌≡◌, ◌≢◌, ◌≤◌, ◌<◌, ◌+◌, ◌∙◌, ap, sym, subst, true, false, List, [], ◌∷◌, Some, None, arith}
+use Rattle.std.proofs.Common.{length, drop, get_or}
 use Rattle.std.proofs.lemmas.List.{append-nil}
 use Rattle.std.proofs.Math.Seq.{drop-cons}
 use Rattle.std.specs.Prelude.{◌&&◌, Option}
@@ -36,7 +37,8 @@ module _ {J : Type 0} (polls cancels : J → ℕ) (aim : J → List ℕ) (now m 
   loop_next goes =
       subst (λ x. Turning polls cancels aim now was is x C' D' (drop (k + 1) M)) (sym polled)
       (subst (λ x. Turning polls cancels aim now was is (with_number (is_polled visit) t P) x D' (drop (k + 1) M)) canceled_now
-      (subst (λ x. Turning polls cancels aim now was is (with_number (is_polled visit) t P) (with_number (is_polled visit && is_late now (mid t)) t C) x
+      (subst (λ x. Turning polls cancels aim now was is (with_number (is_polled visit) t P) (with_number (is_polled visit && is_late now
+      (mid t)) t C) x
       (drop (k + 1) M)) (sym done)
       (turning_next polls cancels aim now t was mid is P C D (drop (k + 1) M) visit turning_at step_now rest goes)))
 
@@ -46,21 +48,31 @@ module _ {J : Type 0} (polls cancels : J → ℕ) (aim : J → List ℕ) (now m 
       let by = turning_stops polls cancels aim now t was mid is P C D (drop (k + 1) M) visit turning_at step_now rest stops in (
         subst (λ x. Turns polls cancels aim now was is x C' D' (Some t)) (sym polled)
             (subst (λ x. Turns polls cancels aim now was is (with_number (is_polled visit) t P) x D' (Some t)) canceled_now
-            (subst (λ x. Turns polls cancels aim now was is (with_number (is_polled visit) t P) (with_number (is_polled visit && is_late now (mid t)) t C) x
+            (subst (λ x. Turns polls cancels aim now was is (with_number (is_polled visit) t P) (with_number
+            (is_polled visit && is_late now (mid t)) t C) x
             (Some t)) (sym done) by.0)),
         subst (λ x. Reaches was is x (Some t)) (sym polled) by.1,
         subst (λ R. Covers is R) (sym (numbers_at M k t below at)) by.2,
       )
 
-  pub loop_outputs : {O : Type 0} (meets : List ℕ → O → Type 0) (before between after : List (ℕ × O)) → AddsOutputs aim meets was D before between
+  pub loop_outputs : {O : Type 0} (meets : List ℕ → O → Type 0) (before between after : List (ℕ × O))
+      → AddsOutputs aim meets was D before between
       → StepsOutput aim meets t (job_in (mid t)) between after visit → AddsOutputs aim meets was D' before after
   loop_outputs meets before between after adds out = subst (λ x. AddsOutputs aim meets was x before after) (sym done)
-      (outputs_step polls cancels aim meets now t was mid is P C D (drop (k + 1) M) before between after visit turning_at step_now rest adds out)
+      (outputs_step polls cancels aim meets now t was mid is P C D (drop
+      (k + 1) M) before between after visit turning_at step_now rest adds out)
 
 -- No outputs were added before the first step.
-pub outputs_none : {J O : Type 0} (aim : J → List ℕ) (meets : List ℕ → O → Type 0) (was : ℕ → Option (Task J)) (D : List ℕ) (before : List (ℕ × O))
+pub outputs_none : {J O : Type 0} (aim : J → List ℕ) (meets : List ℕ → O → Type 0) (was : ℕ → Option (Task J)) (D : List ℕ)
+    (before : List (ℕ × O))
     → D ≡ [] → AddsOutputs aim meets was D before before
-outputs_none aim meets was D before none = record { outputs = []; added = sym (append-nil before); numbers = sym none; meet = λ k d below. absurd (omega (arith, below)) }
+outputs_none aim meets was D before none = record {
+  outputs = [];
+  added = sym
+      (append-nil before);
+  numbers = sym none;
+  meet = λ k d below. absurd (omega (arith, below));
+}
 
 -- One more task at most has no mark behind a step.
 pub marks_step : (visit : Option Visit) (were are : ℕ) → MarksStep visit were are → are ≤ were + 1

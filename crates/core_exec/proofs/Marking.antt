@@ -31,7 +31,8 @@ module _ {J : Type 0} where
   one_mark (Some task) = ap (λ b. Some (record task { marked = b })) (sym (or_true task.marked))
 
   -- Two marks are one.
-  pub two_marks : (a b : Bool) (x : Option (Task J)) → option_map (with_mark b) (option_map (with_mark a) x) ≡ option_map (with_mark (a || b)) x
+  pub two_marks : (a b : Bool) (x : Option (Task J)) → option_map (with_mark b) (option_map (with_mark a) x) ≡ option_map (with_mark
+      (a || b)) x
   two_marks a b None = refl
   two_marks a b (Some task) = ap (λ m. Some (record task { marked = m })) (or_assoc task.marked a b)
 

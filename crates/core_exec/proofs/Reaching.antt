@@ -1,5 +1,6 @@
 -- A turn goes over the numbers of its list, ascending.
-use Rattle.std.proofs.Common.{ℕ, suc, zero, ◌≡◌, ◌≢◌, ◌≤◌, ◌<◌, ◌∙◌, ◌⊎◌, inl, inr, ap, sym, refl, subst, Bool, true, false, cond, List, [], ◌∷◌, Some, None, arith, append_assoc}
+use Rattle.std.proofs.Common.{ℕ, suc, zero, ◌≡◌, ◌≢◌, ◌≤◌, ◌<◌, ◌∙◌, ◌⊎◌, inl, inr, ap, sym, refl, subst, Bool, true, false, cond, List}
+use Rattle.std.proofs.Common.{[], ◌∷◌, Some, None, arith, append_assoc}
 use Rattle.std.specs.Prelude.{◌++◌, ◌||◌, ◌&&◌, ◌==◌, Option, IsSome}
 use Rattle.std.specs.List.{Contains}
 use Rattle.std.specs.List.Sorted.{IsNonDecreasingBy}
@@ -47,7 +48,8 @@ behind_first t s xs has other = elim (Contains-append_cases (t ∷ []) xs s has)
 ]
 
 -- A turn that is to come to some numbers still.
-pub record Turning {J : Type 0} (polls cancels : J → ℕ) (aim : J → List ℕ) (now : ℕ) (was is : ℕ → Option (Task J)) (P C D R : List ℕ) : Type 0 where
+pub record Turning {J : Type 0} (polls cancels : J → ℕ) (aim : J → List ℕ) (now : ℕ) (was is : ℕ → Option (Task J))
+    (P C D R : List ℕ) : Type 0 where
   pub turns : Turns polls cancels aim now was is P C D None
   pub before : (p r : ℕ) → has_number p P ≡ true → Contains R r → p ≤ r
   pub rising : Rising R
@@ -103,9 +105,11 @@ module _ {J : Type 0} (polls cancels : J → ℕ) (aim : J → List ℕ) (now t 
     (visit : Option Visit) (turning : Turning polls cancels aim now was mid P C D (t ∷ R))
     (step : StepsTask polls cancels aim now (mid t) (is t) visit) (rest : (s : ℕ) → s ≢ t → is s ≡ mid s) where
   -- The turn's lists behind the step.
-  turns_then : Turns polls cancels aim now was is (with_number (is_polled visit) t P) (with_number (is_polled visit && is_late now (mid t)) t C)
+  turns_then : Turns polls cancels aim now was is (with_number (is_polled visit) t P) (with_number (is_polled visit && is_late now
+      (mid t)) t C)
       (with_number (is_done visit) t D) (stop_of visit t)
-  turns_then = next_turn polls cancels aim now t was mid is P C D visit turning.turns step rest (λ p polled. turning.before p t polled (first_in t R))
+  turns_then = next_turn polls cancels aim now t was mid is P C D visit turning.turns step rest (λ p polled. turning.before p t polled
+      (first_in t R))
 
   -- The numbers still have each marked task.
   covers_then : Covers is (t ∷ R)
@@ -119,7 +123,8 @@ module _ {J : Type 0} (polls cancels : J → ℕ) (aim : J → List ℕ) (now t 
       → Turning polls cancels aim now was is (with_number (is_polled visit) t P) (with_number (is_polled visit && is_late now (mid t)) t C)
       (with_number (is_done visit) t D) R
   turning_next goes = record {
-    turns = subst (λ o. Turns polls cancels aim now was is (with_number (is_polled visit) t P) (with_number (is_polled visit && is_late now (mid t)) t C)
+    turns = subst (λ o. Turns polls cancels aim now was is (with_number (is_polled visit) t P) (with_number
+        (is_polled visit && is_late now (mid t)) t C)
         (with_number (is_done visit) t D) o) (stop_none visit t goes) turns_then;
     before = λ p r polled has. elim (with_cases p t (is_polled visit) P polled) [
       | inl early ↦ let one = turning.before p t early (first_in t R) in let two = turning.rising.0 r has in omega (arith, one, two)
@@ -127,7 +132,8 @@ module _ {J : Type 0} (polls cancels : J → ℕ) (aim : J → List ℕ) (now t 
     ];
     rising = turning.rising.1;
     covers = λ s marked. behind_first t s R (covers_then s marked)
-        (λ same. not_both (sym (unmarked_after polls cancels aim now (mid t) (is t) visit step goes) ∙ subst (λ x. mark_of (is x) ≡ true) same marked));
+        (λ same. not_both (sym (unmarked_after polls cancels aim now (mid t) (is t) visit step goes) ∙ subst (λ x. mark_of
+        (is x) ≡ true) same marked));
   }
 
   -- A task that isn't polled before is as it was.
@@ -162,7 +168,8 @@ module _ {J : Type 0} (polls cancels : J → ℕ) (aim : J → List ℕ) (now t 
         ];
         front = λ s below marked. with_more s t (is_polled visit) P (front_then s below marked);
       } in (
-        subst (λ o. Turns polls cancels aim now was is (with_number (is_polled visit) t P) (with_number (is_polled visit && is_late now (mid t)) t C)
+        subst (λ o. Turns polls cancels aim now was is (with_number (is_polled visit) t P) (with_number (is_polled visit && is_late now
+            (mid t)) t C)
             (with_number (is_done visit) t D) o) (stop_some visit t stops) turns_then,
         record {
           all = λ none. absurd (not_some (sym none));
@@ -177,7 +184,8 @@ pub turning_ends : {J : Type 0} (polls cancels : J → ℕ) (aim : J → List �
 turning_ends polls cancels aim now was is P C D turning = record {
   all = λ none s marked. elim (has_number s P) as (λ b. has_number s P ≡ b → has_number s P ≡ true) [
     | true ↦ λ polled. polled
-    | false ↦ λ out. let has = turning.covers s (ap mark_of (turning.turns.left s out) ∙ marked) in let below = has.1 in absurd (omega (arith, below))
+    | false ↦ λ out. let has = turning.covers s (ap mark_of (turning.turns.left s out) ∙ marked) in let below = has.1 in absurd (omega
+        (arith, below))
   ] refl;
   stop = λ t same. absurd (not_some same);
 }
@@ -210,16 +218,23 @@ pub outputs_next : {J O : Type 0} (aim : J → List ℕ) (meets : List ℕ → O
     (before between after : List (ℕ × O)) (visit : Option Visit) → AddsOutputs aim meets was D before between
     → StepsOutput aim meets t (job_in (mid t)) between after visit → (is_done visit ≡ true → (mid t ≡ was t) × (mark_of (mid t) ≡ true))
     → AddsOutputs aim meets was (with_number (is_done visit) t D) before after
-outputs_next aim meets was mid t D before between after None adds step same = subst (λ x. AddsOutputs aim meets was D before x) (sym step) adds
-outputs_next aim meets was mid t D before between after (Some Pending) adds step same = subst (λ x. AddsOutputs aim meets was D before x) (sym step) adds
-outputs_next aim meets was mid t D before between after (Some Short) adds step same = subst (λ x. AddsOutputs aim meets was D before x) (sym step) adds
-outputs_next aim meets was mid t D before between after (Some Refused) adds step same = subst (λ x. AddsOutputs aim meets was D before x) (sym step) adds
+outputs_next aim meets was mid t D before between after None adds step same = subst (λ x. AddsOutputs aim meets was D before x)
+    (sym step) adds
+outputs_next aim meets was mid t D before between after (Some Pending) adds step same = subst
+    (λ x. AddsOutputs aim meets was D before x) (sym step) adds
+outputs_next aim meets was mid t D before between after (Some Short) adds step same = subst (λ x. AddsOutputs aim meets was D before x)
+    (sym step) adds
+outputs_next aim meets was mid t D before between after (Some Refused) adds step same = subst
+    (λ x. AddsOutputs aim meets was D before x) (sym step) adds
 outputs_next aim meets was mid t D before between after (Some Done) adds step same = record {
   outputs = adds.outputs ++ (t, step.out) ∷ [];
   added = step.added ∙ ap (λ x. x ++ (t, step.out) ∷ []) adds.added ∙ append_assoc before adds.outputs ((t, step.out) ∷ []);
   numbers = map-append (λ o. o.0) adds.outputs ((t, step.out) ∷ []) ∙ ap (λ x. x ++ t ∷ []) adds.numbers;
-  meet = All-push (λ o. IsSome (was o.0) × meets (aim_in aim (job_in (was o.0))) o.1) adds.outputs (t, step.out) adds.meet
-      (there_marked (was t) (sym (ap mark_of (same refl).0) ∙ (same refl).1), subst (λ x. meets (aim_in aim (job_in x)) step.out) (same refl).0 step.meet);
+  meet = All-push (λ o. IsSome (was o.0) × meets (aim_in aim (job_in (was o.0))) o.1) adds.outputs (t, step.out) adds.meet (
+    there_marked (was t) (sym (ap mark_of (same refl).0) ∙ (same refl).1),
+    subst (λ x. meets (aim_in aim (job_in x)) step.out)
+        (same refl).0 step.meet,
+  );
 }
 
 -- A task that is done was marked.
@@ -229,10 +244,12 @@ done_marked polls cancels aim now was is None by ends = not_both ends
 done_marked polls cancels aim now was is (Some visit) by ends = by.0
 
 -- The outputs behind a step of a turn.
-pub outputs_step : {J O : Type 0} (polls cancels : J → ℕ) (aim : J → List ℕ) (meets : List ℕ → O → Type 0) (now t : ℕ) (was mid is : ℕ → Option (Task J))
+pub outputs_step : {J O : Type 0} (polls cancels : J → ℕ) (aim : J → List ℕ) (meets : List ℕ → O → Type 0) (now t : ℕ) (was mid is : ℕ
+    → Option (Task J))
     (P C D R : List ℕ) (before between after : List (ℕ × O)) (visit : Option Visit) → Turning polls cancels aim now was mid P C D (t ∷ R)
     → StepsTask polls cancels aim now (mid t) (is t) visit → ((s : ℕ) → s ≢ t → is s ≡ mid s) → AddsOutputs aim meets was D before between
-    → StepsOutput aim meets t (job_in (mid t)) between after visit → AddsOutputs aim meets was (with_number (is_done visit) t D) before after
+    → StepsOutput aim meets t (job_in (mid t)) between after visit → AddsOutputs aim meets was (with_number
+    (is_done visit) t D) before after
 outputs_step polls cancels aim meets now t was mid is P C D R before between after visit turning step rest adds out =
     outputs_next aim meets was mid t D before between after visit adds out
     (λ ends. let marked = done_marked polls cancels aim now (mid t) (is t) visit step ends in

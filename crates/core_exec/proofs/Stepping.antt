@@ -1,6 +1,6 @@
 -- A marked task's part of a turn, and the deadlines behind it.
 use Rattle.std.proofs.Common.{ℕ, ◌≡◌, ◌≢◌, ◌≤◌, ◌∙◌, ◌⊎◌, inl, inr, ap, sym, refl, subst, Bool, true, false, List, Some, None}
-use Rattle.std.specs.Prelude.{◌||◌, Option, IsSome}
+use Rattle.std.specs.Prelude.{Option, IsSome}
 use Rattle.std.proofs.lemmas.Bool.Decides.{eqb_tells}
 use Rattle.core_exec.specs.declared.table.Task.{Task}
 use Rattle.core_exec.specs.declared.table.Flags.{Flags}
@@ -18,11 +18,13 @@ use Rattle.core_exec.proofs.Visiting.{or_parts}
 
 module _ {J : Type 0} where
   -- Whether a task is late, as its flags say.
-  pub marked_late : (now : ℕ) (x : Option (Task J)) (flags : Flags) (late : Bool) → FlagsOf x (Some flags) → LateOf now flags late → is_late now x ≡ late
+  pub marked_late : (now : ℕ) (x : Option (Task J)) (flags : Flags) (late : Bool) → FlagsOf x (Some flags) → LateOf now flags late
+      → is_late now x ≡ late
   marked_late now x flags late of by = sym (late_flags now x flags late of by)
 
   -- A late task wasn't canceled.
-  pub late_not_canceled : (now : ℕ) (x : Option (Task J)) (flags : Flags) (late : Bool) → FlagsOf x (Some flags) → LateOf now flags late → late ≡ true
+  pub late_not_canceled : (now : ℕ) (x : Option (Task J)) (flags : Flags) (late : Bool) → FlagsOf x (Some flags)
+      → LateOf now flags late → late ≡ true
       → flags.canceled ≡ false
   late_not_canceled now None flags late of by is = absurd of
   late_not_canceled now (Some task) flags late of by is =
@@ -43,7 +45,8 @@ module _ {J : Type 0} where
       (sym (ap canceled_of by.0) ∙ canceled, sym (ap deadline_of by.0) ∙ has, refl, inr by.0)
 
   -- The deadlines that are set behind a visit.
-  pub set_behind_visit : (polls cancels : J → ℕ) (aim : J → List ℕ) (now t : ℕ) (old new : ℕ → Option (Task J)) (before after : Deadlines) (visit : Visit)
+  pub set_behind_visit : (polls cancels : J → ℕ) (aim : J → List ℕ) (now t : ℕ) (old new : ℕ → Option (Task J))
+      (before after : Deadlines) (visit : Visit)
       → VisitsTask polls cancels aim (is_late now (old t)) (old t) (new t) visit → AreSet now old before
       → ((s : ℕ) → s ≢ t → new s ≡ old s) → ((d s : ℕ) → s ≢ t → is_set before d s ≡ true → is_set after d s ≡ true)
       → (ends_at visit ≡ false → KeepsSet before after) → AreSet now new after
@@ -71,7 +74,8 @@ module _ {J : Type 0} where
   there_after polls cancels aim late was is Done by had there = not_both (subst (λ x. IsSome x) by there)
   there_after polls cancels aim late was is Pending by had there = by.0.there
   there_after polls cancels aim late was is Short by had there = by.0.there
-  there_after polls cancels aim late was is Refused by had there = subst (λ x. IsSome (job_in x)) (sym by.0) (had (subst (λ x. IsSome x) by.0 there))
+  there_after polls cancels aim late was is Refused by had there = subst (λ x. IsSome (job_in x)) (sym by.0) (had (subst
+      (λ x. IsSome x) by.0 there))
 
   -- Each task has its job behind a visit.
   pub jobs_behind_visit : (polls cancels : J → ℕ) (aim : J → List ℕ) (late : Bool) (t : ℕ) (old new : ℕ → Option (Task J)) (visit : Visit)

@@ -1,5 +1,6 @@
 -- A turn, one task after another.
-use Rattle.std.proofs.Common.{ℕ, ◌≡◌, ◌≢◌, ◌≤◌, ◌<◌, ◌∙◌, inl, inr, ap, sym, refl, subst, Bool, true, false, cond, List, [], ◌∷◌, Some, None, arith}
+use Rattle.std.proofs.Common.{ℕ, ◌≡◌, ◌≢◌, ◌≤◌, ◌<◌, ◌∙◌, inl, inr, ap, sym, refl, subst, Bool, true, false, cond, List, [], ◌∷◌, Some}
+use Rattle.std.proofs.Common.{None, arith}
 use Rattle.std.specs.Prelude.{◌++◌, ◌||◌, ◌&&◌, ◌==◌, not, is_some, Option, IsSome}
 use Rattle.std.proofs.lemmas.Bool.Decides.{eqb_tells}
 use Rattle.core_exec.specs.declared.table.Task.{Task}
@@ -32,15 +33,19 @@ above_snoc n t (x ∷ xs) above below = (above.0, above_snoc n t xs above.1 belo
 -- So does a list that ascends.
 pub ascends_snoc : (t : ℕ) (xs : List ℕ) → Ascends xs → ((p : ℕ) → has_number p xs ≡ true → p < t) → Ascends (xs ++ t ∷ [])
 ascends_snoc t [] up below = (tt, tt)
-ascends_snoc t (x ∷ xs) up below =
-    (above_snoc x t xs up.0 (below x (ap (λ b. b || has_number x xs) (self_number x))), ascends_snoc t xs up.1 (λ p has. below p (ap (λ b. p == x || b) has ∙ or_true (p == x))))
+ascends_snoc t (x ∷ xs) up below = (
+  above_snoc x t xs up.0 (below x (ap (λ b. b || has_number x xs) (self_number x))),
+  ascends_snoc t xs up.1 (λ p has. below p (ap
+      (λ b. p == x || b) has ∙ or_true (p == x))),
+)
 
 -- The task at which a step stops the turn, if it does.
 abbrev pub stop_of : Option Visit → ℕ → Option ℕ
 stop_of visit t = cond (is_stopped visit) (Some t) None
 
 -- What a step makes of a task that it polls.
-record PolledStep {J : Type 0} (polls cancels : J → ℕ) (aim : J → List ℕ) (now : ℕ) (was is : Option (Task J)) (visit : Option Visit) (t : ℕ)
+record PolledStep {J : Type 0} (polls cancels : J → ℕ) (aim : J → List ℕ) (now : ℕ) (was is : Option (Task J)) (visit : Option Visit)
+    (t : ℕ)
     : Type 0 where
   marked : mark_of was ≡ true
   went : IsSome is → IsPolled polls cancels aim (is_late now was) was is
@@ -86,7 +91,8 @@ step_left polls cancels aim now was is (Some Short) by left = not_both (sym left
 step_left polls cancels aim now was is (Some Refused) by left = (by.1.0, refl)
 
 -- A turn's lists behind a step that doesn't poll its task.
-next_left : {J : Type 0} (polls cancels : J → ℕ) (aim : J → List ℕ) (now : ℕ) (was mid is : ℕ → Option (Task J)) (P C D : List ℕ) (stopped : Option ℕ)
+next_left : {J : Type 0} (polls cancels : J → ℕ) (aim : J → List ℕ) (now : ℕ) (was mid is : ℕ → Option (Task J)) (P C D : List ℕ)
+    (stopped : Option ℕ)
     → Turns polls cancels aim now was mid P C D None → ((s : ℕ) → is s ≡ mid s) → Turns polls cancels aim now was is P C D stopped
 next_left polls cancels aim now was mid is P C D stopped turns same = record {
   ascends = turns.ascends;

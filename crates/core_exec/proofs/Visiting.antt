@@ -3,7 +3,7 @@ use Rattle.std.proofs.Common.{ℕ, suc, ◌≡◌, ◌∙◌, ap, sym, refl, sub
 use Rattle.std.specs.Prelude.{Option, ◌||◌}
 use Rattle.core_exec.specs.declared.table.Task.{Task}
 use Rattle.core_exec.specs.Polls.{IsPolled, AsksIf}
-use Rattle.core_exec.specs.Tasks.{job_in, canceled_of, aim_in}
+use Rattle.core_exec.specs.Tasks.{canceled_of}
 
 -- Either of two is so where the second is.
 pub or_true : (a : Bool) → (a || true) ≡ true

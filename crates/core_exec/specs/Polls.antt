@@ -15,7 +15,8 @@ pub record IsPolled {J : Type 0} (polls cancels : J → ℕ) (aim : J → List �
   pub canceled : canceled_of now ≡ (canceled_of was || asked)
 
 -- What a poll makes of a task: it is done, or its mark goes, or it is marked still as memory ran out.
-abbrev pub PollsTask : {J O : Type 0} → (J → ℕ) → (J → ℕ) → (J → List ℕ) → (List ℕ → O → Type 0) → Option (Task J) → Option (Task J) → Polled O → Type 0
+abbrev pub PollsTask : {J O : Type 0} → (J → ℕ) → (J → ℕ) → (J → List ℕ) → (List ℕ → O → Type 0) → Option (Task J) → Option (Task J)
+    → Polled O → Type 0
 PollsTask polls cancels aim meets was now (Done out) = (now ≡ None) × meets (aim_in aim (job_in was)) out
 PollsTask polls cancels aim meets was now Pending = IsPolled polls cancels aim false was now × (mark_of now ≡ false)
 PollsTask polls cancels aim meets was now OutOfMemory = IsPolled polls cancels aim false was now × (mark_of now ≡ true)

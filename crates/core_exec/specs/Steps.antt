@@ -48,7 +48,8 @@ abbrev pub StepsTask : {J : Type 0} → (J → ℕ) → (J → ℕ) → (J → L
 StepsTask polls cancels aim now was is (Some visit) = (mark_of was ≡ true) × VisitsTask polls cancels aim (is_late now was) was is visit
 StepsTask polls cancels aim now was is None = (mark_of was ≡ false) × (is ≡ was)
 
-abbrev pub StepsOutput : {J O : Type 0} → (J → List ℕ) → (List ℕ → O → Type 0) → ℕ → Option J → List (ℕ × O) → List (ℕ × O) → Option Visit → Type 0
+abbrev pub StepsOutput : {J O : Type 0} → (J → List ℕ) → (List ℕ → O → Type 0) → ℕ → Option J → List (ℕ × O) → List (ℕ × O)
+    → Option Visit → Type 0
 StepsOutput aim meets t was before now (Some visit) = GivesOutput aim meets t was before now visit
 StepsOutput aim meets t was before now None = now ≡ before
 

@@ -46,7 +46,8 @@ pub record AreSound {D J : Type 0} (fits : D → J → Type 0) (apart : J → J 
   pub all_apart : (s t : ℕ) (one other : J) → s ≢ t → jobs s ≡ Some one → jobs t ≡ Some other → apart one other
 
 -- A job fits the driver, and has no operation with one of some jobs.
-pub record IsApart {D J : Type 0} (fits : D → J → Type 0) (apart : J → J → Type 0) (driver : D) (jobs : ℕ → Option J) (job : J) : Type 0 where
+pub record IsApart {D J : Type 0} (fits : D → J → Type 0) (apart : J → J → Type 0) (driver : D) (jobs : ℕ → Option J)
+    (job : J) : Type 0 where
   pub fit : fits driver job
   pub from : (s : ℕ) (other : J) → jobs s ≡ Some other → apart job other
 

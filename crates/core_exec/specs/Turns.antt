@@ -1,6 +1,8 @@
 -- What a turn makes of all tasks. Cited by `Exec::turn`.
-use Rattle.std.specs.Prelude.{ℕ, ◌≡◌, ◌≤◌, ◌<◌, ◌++◌, ◌&&◌, not, is_some, true, false, cond, List, [], ◌∷◌, map, Option, Some, None, IsSome}
+use Rattle.std.specs.Prelude.{◌+◌, ℕ, ◌≡◌, ◌≤◌, ◌<◌, ◌++◌, ◌&&◌, not, is_some, true, false, cond, List, [], ◌∷◌, map, Option, Some, None, IsSome}
 use Rattle.std.specs.List.{All}
+use Rattle.std.specs.Vec.{vec_len, vec_capacity}
+use Rattle.std.specs.Global.{Vec}
 use Rattle.core_exec.specs.declared.table.Task.{Task}
 use Rattle.core_exec.specs.Tasks.{job_in, mark_of, canceled_of, count_in, aim_in}
 use Rattle.core_exec.specs.Polls.{IsPolled}
@@ -25,7 +27,8 @@ pub record StopsAt {J : Type 0} (was is : ℕ → Option (Task J)) (polled : Lis
 
 -- What a turn makes of tasks, of which the ready ones are marked: those that it polled, ascending; those that it canceled; those that are
 -- done; and the task at which memory ran out, if it did.
-pub record Turns {J : Type 0} (polls cancels : J → ℕ) (aim : J → List ℕ) (now : ℕ) (was is : ℕ → Option (Task J)) (polled canceled done : List ℕ)
+pub record Turns {J : Type 0} (polls cancels : J → ℕ) (aim : J → List ℕ) (now : ℕ) (was is : ℕ → Option (Task J))
+    (polled canceled done : List ℕ)
     (stopped : Option ℕ) : Type 0 where
   pub ascends : Ascends polled
   -- only ready tasks are polled
@@ -58,3 +61,11 @@ pub record AddsOutputs {J O : Type 0} (aim : J → List ℕ) (meets : List ℕ �
 pub record AreCounted {J : Type 0} (polls cancels : J → ℕ) (most : ℕ) (tasks : ℕ → Option (Task J)) : Type 0 where
   pub polls_within : (t : ℕ) → count_in polls (job_in (tasks t)) ≤ most
   pub asked_once : (t : ℕ) → count_in cancels (job_in (tasks t)) ≡ cond (canceled_of (tasks t)) 1 0
+
+-- A list has no number, and room for so many.
+abbrev pub HasRoom : Vec ℕ → ℕ → Type 0
+HasRoom numbers count = (numbers.items ≡ []) × (vec_len numbers ≡ 0) × (count ≤ vec_capacity numbers)
+
+-- A list has one more number at most, in the same room.
+abbrev pub GrowsByOne : Vec ℕ → Vec ℕ → Type 0
+GrowsByOne old new = (vec_len new ≤ vec_len old + 1) × (vec_capacity new ≡ vec_capacity old)

@@ -15,7 +15,8 @@ VisitsTask polls cancels aim late was now Short = IsPolled polls cancels aim lat
 VisitsTask polls cancels aim late was now Refused = (now ≡ was) × (late ≡ true)
 
 -- A task's output joins the others, with its number, and meets its aim.
-pub record OneOutput {J O : Type 0} (aim : J → List ℕ) (meets : List ℕ → O → Type 0) (t : ℕ) (was : Option J) (before now : List (ℕ × O)) : Type 0 where
+pub record OneOutput {J O : Type 0} (aim : J → List ℕ) (meets : List ℕ → O → Type 0) (t : ℕ) (was : Option J) (before now : List (ℕ
+    × O)) : Type 0 where
   pub out : O
   pub added : now ≡ before ++ (t, out) ∷ []
   pub meet : meets (aim_in aim was) out

@@ -1,12 +1,13 @@
 //! An executor: jobs by number, and the turns that poll them.
-ghost use Rattle.std.specs.Prelude.{◌≡◌, ◌≢◌, ◌<◌, ◌≤◌, ◌+◌, ◌^◌, ◌↔◌, ℕ, List, [], Some, None, IsSome, IsOk, IfOk, IfErr, IfSome, OnOk, OnErr, IsNone, IfNone};
+ghost use Rattle.std.specs.Prelude.{◌≡◌, ◌≢◌, ◌<◌, ◌≤◌, ◌+◌, ◌^◌, ◌↔◌, ℕ, List, []};
+ghost use Rattle.std.specs.Prelude.{Some, None, IsSome, IsOk, IfOk, IfErr, IfSome, OnOk, OnErr, IsNone, IfNone};
 ghost use Rattle.std.specs.List.{All};
 ghost use Rattle.std.specs.List.Sorted.{IsNonDecreasingBy, IsPermutation};
 ghost use Rattle.std.specs.Vec.{vec_len, vec_capacity};
-ghost use Rattle.core_exec.specs.Tasks.{AreSound, IsApart, unmarked_in};
-ghost use Rattle.core_exec.specs.Marks.{ready_tasks};
-ghost use Rattle.core_exec.specs.Turns.{AddsOutputs, Reaches, Turns};
-ghost use Rattle.core_exec.specs.Exec.{HasAims, Spawns, Stands, TakesOut, jobs_of, left_of, moment_of, outputs_of, spawned_of, tasks_of, turns_of};
+ghost use Rattle.core_exec.specs.Tasks.{IsApart, unmarked_in};
+ghost use Rattle.core_exec.specs.Turns.{Reaches};
+ghost use Rattle.core_exec.specs.Exec.{IsSound, KeepsDriver, MeetAims, OutputsOf, Spawns, Stands, TakesOut, TurnsTo};
+ghost use Rattle.core_exec.specs.Exec.{jobs_of, left_of, moment_of, outputs_of, ready_of, spawned_of, tasks_of, turns_of};
 
 use crate::deadlines::Deadlines;
 use crate::job::Job;
@@ -33,8 +34,8 @@ impl<D, J: Job<D>> Exec<D, J, J::Out> {
         ensures driver { result.driver ≡ driver }
         ensures none { (t : ℕ) → tasks_of result t ≡ None }
         ensures outputs { outputs_of result ≡ [] }
-        ensures sound { AreSound J.fits J.apart result.driver (jobs_of result) }
-        ensures aims { (aims : ℕ → List ℕ) → HasAims J.aim J.meets aims (tasks_of result) (outputs_of result) }
+        ensures sound { IsSound J.fits J.apart result }
+        ensures aims { (aims : ℕ → List ℕ) → MeetAims J.aim J.meets aims result }
         ensures counts { (left_of result ≡ 0) × (spawned_of result ≡ 0) × (turns_of result ≡ 0) × (moment_of result ≡ 0) }
     {
         Exec {
@@ -86,26 +87,25 @@ impl<D, J: Job<D>> Exec<D, J, J::Out> {
     #[tactic(auto, using(crate::proofs::Aims::aims_ready, crate::proofs::Aims::aims_same, crate::proofs::Aims::aims_turn))]
     pub fn turn(&mut self, now: u64, named: &[u64]) -> Result<Ran, OutOfMemory>
         requires stands { Stands J.polls J.cancels self.old }
-        requires sound { AreSound J.fits J.apart self.old.driver (jobs_of self.old) }
+        requires sound { IsSound J.fits J.apart self.old }
         requires moment { moment_of self.old ≤ now }
         requires counter { turns_of self.old < 2 ^ 62 }
         ensures stands { Stands J.polls J.cancels self.new }
-        ensures sound { AreSound J.fits J.apart self.new.driver (jobs_of self.new) }
+        ensures sound { IsSound J.fits J.apart self.new }
         ensures moment { moment_of self.new ≡ now }
         ensures spawned { spawned_of self.new ≡ spawned_of self.old }
-        ensures aims { (aims : ℕ → List ℕ) → HasAims J.aim J.meets aims (tasks_of self.old) (outputs_of self.old) → HasAims J.aim J.meets aims (tasks_of self.new) (outputs_of self.new) }
+        ensures aims { (aims : ℕ → List ℕ) → MeetAims J.aim J.meets aims self.old → MeetAims J.aim J.meets aims self.new }
 
         // What it polled, what it made of each task, and the outputs of those that are done.
-        ensures turns { IfOk result (λ ran. Turns J.polls J.cancels J.aim now (ready_tasks now named.now (tasks_of self.old)) (tasks_of self.new)
-            ran.polled.items ran.canceled.items ran.done.items ran.stopped) }
-        ensures reaches { IfOk result (λ ran. Reaches (ready_tasks now named.now (tasks_of self.old)) (tasks_of self.new) ran.polled.items ran.stopped) }
-        ensures outputs { IfOk result (λ ran. AddsOutputs J.aim J.meets (ready_tasks now named.now (tasks_of self.old)) ran.done.items
-            (outputs_of self.old) (outputs_of self.new)) }
+        ensures turns { IfOk result (λ ran. TurnsTo J.polls J.cancels J.aim now named.now self.old self.new ran) }
+        ensures reaches { IfOk result (λ ran. Reaches (ready_of now named.now self.old) (tasks_of self.new) ran.polled.items ran.stopped) }
+        ensures outputs { IfOk result (λ ran. OutputsOf J.aim J.meets (ready_of now named.now self.old) self.old self.new ran) }
         ensures counted { OnOk result (turns_of self.new ≡ turns_of self.old + 1) }
 
         // Without memory for the lists, the ready tasks are marked.
-        ensures marked { OnErr result ((t : ℕ) → tasks_of self.new t ≡ ready_tasks now named.now (tasks_of self.old) t) }
-        ensures err { OnErr result ((self.new.driver ≡ self.old.driver) × (outputs_of self.new ≡ outputs_of self.old) × (turns_of self.new ≡ turns_of self.old)) }
+        ensures marked { OnErr result ((t : ℕ) → tasks_of self.new t ≡ ready_of now named.now self.old t) }
+        ensures err { OnErr result ((self.new.driver ≡ self.old.driver) × (outputs_of self.new ≡ outputs_of self.old)) }
+        ensures not_counted { OnErr result (turns_of self.new ≡ turns_of self.old) }
     {
         self.ready.mark_ready(now, named);
         let alloc = *self.outputs.allocator();
@@ -129,8 +129,9 @@ impl<D, J: Job<D>> Exec<D, J, J::Out> {
         ensures stands { Stands J.polls J.cancels self.new }
         ensures marks { OnOk result (vec_len self.new.ready.marks + unmarked_in self.new.ready.table < vec_capacity self.new.ready.marks) }
         ensures outputs { OnOk result (vec_len self.new.outputs + left_of self.new < vec_capacity self.new.outputs) }
-        ensures kept { (self.new.driver ≡ self.old.driver) × (self.new.ready.table ≡ self.old.ready.table) × (self.new.ready.deadlines ≡ self.old.ready.deadlines) }
-        ensures numbers { (spawned_of self.new ≡ spawned_of self.old) × (turns_of self.new ≡ turns_of self.old) × (moment_of self.new ≡ moment_of self.old) }
+        ensures kept { KeepsDriver self.old self.new }
+        ensures tasks { (self.new.ready.table ≡ self.old.ready.table) × (self.new.ready.deadlines ≡ self.old.ready.deadlines) }
+        ensures numbers { spawned_of self.new ≡ spawned_of self.old }
         ensures items { outputs_of self.new ≡ outputs_of self.old }
     {
         let count = self.ready.table.len() + 1;
@@ -149,12 +150,12 @@ impl<D, J: Job<D>> Exec<D, J, J::Out> {
         ensures ok { IfOk result (Spawns job deadline self.old self.new) }
         ensures rest { (s : ℕ) → s ≢ spawned_of self.old → tasks_of self.new s ≡ tasks_of self.old s }
         ensures err { IfErr result (λ refused. (refused.1 ≡ job) × ((s : ℕ) → tasks_of self.new s ≡ tasks_of self.old s)) }
-        ensures kept { (self.new.driver ≡ self.old.driver) × (turns_of self.new ≡ turns_of self.old) × (moment_of self.new ≡ moment_of self.old) }
+        ensures kept { KeepsDriver self.old self.new }
         ensures outputs { outputs_of self.new ≡ outputs_of self.old }
         ensures counted { OnErr result ((spawned_of self.new ≡ spawned_of self.old) × (left_of self.new ≡ left_of self.old)) }
         // A job that fits the driver and has no operation joins the others; with its number's aim, it meets it.
-        ensures sound { J.fits self.old.driver job → J.idle job → AreSound J.fits J.apart self.old.driver (jobs_of self.old) → AreSound J.fits J.apart self.new.driver (jobs_of self.new) }
-        ensures aims { (aims : ℕ → List ℕ) → aims (spawned_of self.old) ≡ J.aim job → HasAims J.aim J.meets aims (tasks_of self.old) (outputs_of self.old) → HasAims J.aim J.meets aims (tasks_of self.new) (outputs_of self.new) }
+        ensures sound { J.fits self.old.driver job → J.idle job → IsSound J.fits J.apart self.old → IsSound J.fits J.apart self.new }
+        ensures aims { (aims : ℕ → List ℕ) → aims (spawned_of self.old) ≡ J.aim job → MeetAims J.aim J.meets aims self.old → MeetAims J.aim J.meets aims self.new }
     {
         let t = self.spawned;
         if self.reserve().is_err() || self.ready.set_deadline(t, deadline).is_err() {
@@ -197,12 +198,12 @@ impl<D, J: Job<D>> Exec<D, J, J::Out> {
         ensures ok { IfOk result (Spawns job None self.old self.new) }
         ensures rest { (s : ℕ) → s ≢ spawned_of self.old → tasks_of self.new s ≡ tasks_of self.old s }
         ensures err { IfErr result (λ refused. (refused.1 ≡ job) × ((s : ℕ) → tasks_of self.new s ≡ tasks_of self.old s)) }
-        ensures kept { (self.new.driver ≡ self.old.driver) × (turns_of self.new ≡ turns_of self.old) × (moment_of self.new ≡ moment_of self.old) }
+        ensures kept { KeepsDriver self.old self.new }
         ensures outputs { outputs_of self.new ≡ outputs_of self.old }
         ensures counted { OnErr result ((spawned_of self.new ≡ spawned_of self.old) × (left_of self.new ≡ left_of self.old)) }
         // A job that fits the driver and has no operation joins the others; with its number's aim, it meets it.
-        ensures sound { J.fits self.old.driver job → J.idle job → AreSound J.fits J.apart self.old.driver (jobs_of self.old) → AreSound J.fits J.apart self.new.driver (jobs_of self.new) }
-        ensures aims { (aims : ℕ → List ℕ) → aims (spawned_of self.old) ≡ J.aim job → HasAims J.aim J.meets aims (tasks_of self.old) (outputs_of self.old) → HasAims J.aim J.meets aims (tasks_of self.new) (outputs_of self.new) }
+        ensures sound { J.fits self.old.driver job → J.idle job → IsSound J.fits J.apart self.old → IsSound J.fits J.apart self.new }
+        ensures aims { (aims : ℕ → List ℕ) → aims (spawned_of self.old) ≡ J.aim job → MeetAims J.aim J.meets aims self.old → MeetAims J.aim J.meets aims self.new }
     {
         self.spawn_at(job, None)
     }
@@ -217,12 +218,12 @@ impl<D, J: Job<D>> Exec<D, J, J::Out> {
         ensures ok { IfOk result (Spawns job (Some deadline) self.old self.new) }
         ensures rest { (s : ℕ) → s ≢ spawned_of self.old → tasks_of self.new s ≡ tasks_of self.old s }
         ensures err { IfErr result (λ refused. (refused.1 ≡ job) × ((s : ℕ) → tasks_of self.new s ≡ tasks_of self.old s)) }
-        ensures kept { (self.new.driver ≡ self.old.driver) × (turns_of self.new ≡ turns_of self.old) × (moment_of self.new ≡ moment_of self.old) }
+        ensures kept { KeepsDriver self.old self.new }
         ensures outputs { outputs_of self.new ≡ outputs_of self.old }
         ensures counted { OnErr result ((spawned_of self.new ≡ spawned_of self.old) × (left_of self.new ≡ left_of self.old)) }
         // A job that fits the driver and has no operation joins the others; with its number's aim, it meets it.
-        ensures sound { J.fits self.old.driver job → J.idle job → AreSound J.fits J.apart self.old.driver (jobs_of self.old) → AreSound J.fits J.apart self.new.driver (jobs_of self.new) }
-        ensures aims { (aims : ℕ → List ℕ) → aims (spawned_of self.old) ≡ J.aim job → HasAims J.aim J.meets aims (tasks_of self.old) (outputs_of self.old) → HasAims J.aim J.meets aims (tasks_of self.new) (outputs_of self.new) }
+        ensures sound { J.fits self.old.driver job → J.idle job → IsSound J.fits J.apart self.old → IsSound J.fits J.apart self.new }
+        ensures aims { (aims : ℕ → List ℕ) → aims (spawned_of self.old) ≡ J.aim job → MeetAims J.aim J.meets aims self.old → MeetAims J.aim J.meets aims self.new }
     {
         self.spawn_at(job, Some(deadline))
     }
@@ -234,14 +235,14 @@ impl<D, J: Job<D>> Exec<D, J, J::Out> {
         ensures stands { Stands J.polls J.cancels self.new }
         ensures ok { IfOk result (λ taken. IsPermutation (outputs_of self.old) taken.items) }
         ensures ascending { IfOk result (λ taken. IsNonDecreasingBy (λ o. o.0) taken.items) }
-        ensures meet { IfOk result (λ taken. (aims : ℕ → List ℕ) → HasAims J.aim J.meets aims (tasks_of self.old) (outputs_of self.old) → All (λ o. J.meets (aims o.0) o.1) taken.items) }
+        ensures meet { IfOk result (λ taken. (aims : ℕ → List ℕ) → MeetAims J.aim J.meets aims self.old → All (λ o. J.meets (aims o.0) o.1) taken.items) }
         ensures taken { OnOk result (outputs_of self.new ≡ []) }
         ensures err { OnErr result (outputs_of self.new ≡ outputs_of self.old) }
         ensures tasks { (s : ℕ) → tasks_of self.new s ≡ tasks_of self.old s }
-        ensures kept { (self.new.driver ≡ self.old.driver) × (turns_of self.new ≡ turns_of self.old) × (moment_of self.new ≡ moment_of self.old) }
+        ensures kept { KeepsDriver self.old self.new }
         ensures numbers { (spawned_of self.new ≡ spawned_of self.old) × (left_of self.new ≡ left_of self.old) }
-        ensures aims { (aims : ℕ → List ℕ) → HasAims J.aim J.meets aims (tasks_of self.old) (outputs_of self.old) → HasAims J.aim J.meets aims (tasks_of self.new) (outputs_of self.new) }
-        ensures sound { AreSound J.fits J.apart self.old.driver (jobs_of self.old) → AreSound J.fits J.apart self.new.driver (jobs_of self.new) }
+        ensures aims { (aims : ℕ → List ℕ) → MeetAims J.aim J.meets aims self.old → MeetAims J.aim J.meets aims self.new }
+        ensures sound { IsSound J.fits J.apart self.old → IsSound J.fits J.apart self.new }
     {
         let mut taken = Vec::new(*self.outputs.allocator());
         taken.append(&mut self.outputs)?;
@@ -256,13 +257,14 @@ impl<D, J: Job<D>> Exec<D, J, J::Out> {
         ensures stands { Stands J.polls J.cancels self.new }
         ensures some { IfSome result (λ taken. TakesOut self.old self.new taken.0 taken.1) }
         ensures none { IsNone result ↔ (left_of self.old ≡ 0) }
-        ensures unchanged { IfNone result (((s : ℕ) → tasks_of self.new s ≡ tasks_of self.old s) × (left_of self.new ≡ left_of self.old)) }
-        ensures kept { (self.new.driver ≡ self.old.driver) × (turns_of self.new ≡ turns_of self.old) × (moment_of self.new ≡ moment_of self.old) }
+        ensures unchanged { IfNone result ((s : ℕ) → tasks_of self.new s ≡ tasks_of self.old s) }
+        ensures same_left { IfNone result (left_of self.new ≡ left_of self.old) }
+        ensures kept { KeepsDriver self.old self.new }
         ensures numbers { (spawned_of self.new ≡ spawned_of self.old) × (outputs_of self.new ≡ outputs_of self.old) }
-        ensures aims { (aims : ℕ → List ℕ) → HasAims J.aim J.meets aims (tasks_of self.old) (outputs_of self.old) → HasAims J.aim J.meets aims (tasks_of self.new) (outputs_of self.new) }
-        ensures sound { AreSound J.fits J.apart self.old.driver (jobs_of self.old) → AreSound J.fits J.apart self.new.driver (jobs_of self.new) }
+        ensures aims { (aims : ℕ → List ℕ) → MeetAims J.aim J.meets aims self.old → MeetAims J.aim J.meets aims self.new }
+        ensures sound { IsSound J.fits J.apart self.old → IsSound J.fits J.apart self.new }
         // It fits the driver, and has no operation with those that are left.
-        ensures apart { IfSome result (λ taken. AreSound J.fits J.apart self.old.driver (jobs_of self.old) → IsApart J.fits J.apart self.new.driver (jobs_of self.new) taken.1) }
+        ensures apart { IfSome result (λ taken. IsSound J.fits J.apart self.old → IsApart J.fits J.apart self.new.driver (jobs_of self.new) taken.1) }
     {
         let t = self.ready.table.first()?;
         Some((t, self.take_out(t)))
@@ -277,7 +279,7 @@ impl<D, J: Job<D>> Exec<D, J, J::Out> {
         ensures gone { tasks_of self.new t ≡ None }
         ensures rest { (s : ℕ) → s ≢ t → tasks_of self.new s ≡ tasks_of self.old s }
         ensures len { left_of self.new + 1 ≡ left_of self.old }
-        ensures kept { (self.new.driver ≡ self.old.driver) × (turns_of self.new ≡ turns_of self.old) × (moment_of self.new ≡ moment_of self.old) }
+        ensures kept { KeepsDriver self.old self.new }
         ensures numbers { (spawned_of self.new ≡ spawned_of self.old) × (outputs_of self.new ≡ outputs_of self.old) }
     {
         let deadline = match self.ready.table.flags(t) {

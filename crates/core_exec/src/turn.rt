@@ -9,7 +9,7 @@ ghost use Rattle.core_exec.specs.Tasks.{AreSound, HaveJobs, FlagsOf, task_at, jo
 ghost use Rattle.core_exec.specs.Marks.{AreListed, Covers, HasDeadlines, is_late};
 ghost use Rattle.core_exec.specs.Visits.{VisitsTask, GivesOutput, MarksAfter};
 ghost use Rattle.core_exec.specs.Steps.{StepsTask, StepsOutput, MarksStep, with_number, polls_at, ends_at, is_polled, is_done, is_stopped};
-ghost use Rattle.core_exec.specs.Turns.{AddsOutputs, Reaches, Turns};
+ghost use Rattle.core_exec.specs.Turns.{AddsOutputs, GrowsByOne, HasRoom, Reaches, Turns};
 
 use crate::deadlines::Deadlines;
 use crate::job::Job;
@@ -35,9 +35,9 @@ pub struct Ran {
 impl Ran {
     // Empty lists with room for so many tasks.
     pub(crate) fn with_room(alloc: Global, count: usize) -> Result<Ran, OutOfMemory>
-        ensures polled { IfOk result (λ ran. (ran.polled.items ≡ []) × (vec_len ran.polled ≡ 0) × (count ≤ vec_capacity ran.polled)) }
-        ensures canceled { IfOk result (λ ran. (ran.canceled.items ≡ []) × (vec_len ran.canceled ≡ 0) × (count ≤ vec_capacity ran.canceled)) }
-        ensures done { IfOk result (λ ran. (ran.done.items ≡ []) × (vec_len ran.done ≡ 0) × (count ≤ vec_capacity ran.done)) }
+        ensures polled { IfOk result (λ ran. HasRoom ran.polled count) }
+        ensures canceled { IfOk result (λ ran. HasRoom ran.canceled count) }
+        ensures done { IfOk result (λ ran. HasRoom ran.done count) }
     {
         let polled = Vec::with_capacity(alloc, count)?;
         let canceled = Vec::with_capacity(alloc, count)?;
@@ -59,9 +59,9 @@ fn note(ran: &mut Ran, t: u64, late: bool, visit: Visit)
     ensures polled { ran.new.polled.items ≡ with_number (polls_at visit) t ran.old.polled.items }
     ensures canceled { ran.new.canceled.items ≡ with_number (polls_at visit && late) t ran.old.canceled.items }
     ensures done { ran.new.done.items ≡ with_number (ends_at visit) t ran.old.done.items }
-    ensures polled_room { (vec_len ran.new.polled ≤ vec_len ran.old.polled + 1) × (vec_capacity ran.new.polled ≡ vec_capacity ran.old.polled) }
-    ensures canceled_room { (vec_len ran.new.canceled ≤ vec_len ran.old.canceled + 1) × (vec_capacity ran.new.canceled ≡ vec_capacity ran.old.canceled) }
-    ensures done_room { (vec_len ran.new.done ≤ vec_len ran.old.done + 1) × (vec_capacity ran.new.done ≡ vec_capacity ran.old.done) }
+    ensures polled_room { GrowsByOne ran.old.polled ran.new.polled }
+    ensures canceled_room { GrowsByOne ran.old.canceled ran.new.canceled }
+    ensures done_room { GrowsByOne ran.old.done ran.new.done }
     ensures stopped { ran.new.stopped ≡ ran.old.stopped }
 {
     match visit {
@@ -126,9 +126,9 @@ fn poll_marked<D, J: Job<D>>(
     ensures polled { ran.new.polled.items ≡ with_number (polls_at result) t ran.old.polled.items }
     ensures canceled { ran.new.canceled.items ≡ with_number (polls_at result && is_late ready.old.moment (task_at ready.old.table t)) t ran.old.canceled.items }
     ensures done { ran.new.done.items ≡ with_number (ends_at result) t ran.old.done.items }
-    ensures polled_room { (vec_len ran.new.polled ≤ vec_len ran.old.polled + 1) × (vec_capacity ran.new.polled ≡ vec_capacity ran.old.polled) }
-    ensures canceled_room { (vec_len ran.new.canceled ≤ vec_len ran.old.canceled + 1) × (vec_capacity ran.new.canceled ≡ vec_capacity ran.old.canceled) }
-    ensures done_room { (vec_len ran.new.done ≤ vec_len ran.old.done + 1) × (vec_capacity ran.new.done ≡ vec_capacity ran.old.done) }
+    ensures polled_room { GrowsByOne ran.old.polled ran.new.polled }
+    ensures canceled_room { GrowsByOne ran.old.canceled ran.new.canceled }
+    ensures done_room { GrowsByOne ran.old.done ran.new.done }
     ensures stopped { ran.new.stopped ≡ ran.old.stopped }
 {
     let late = late_at(flags, ready.moment);
@@ -168,9 +168,9 @@ fn poll_at<D, J: Job<D>>(
     ensures polled { ran.new.polled.items ≡ with_number (is_polled result) t ran.old.polled.items }
     ensures canceled { ran.new.canceled.items ≡ with_number (is_polled result && is_late ready.old.moment (task_at ready.old.table t)) t ran.old.canceled.items }
     ensures done { ran.new.done.items ≡ with_number (is_done result) t ran.old.done.items }
-    ensures polled_room { (vec_len ran.new.polled ≤ vec_len ran.old.polled + 1) × (vec_capacity ran.new.polled ≡ vec_capacity ran.old.polled) }
-    ensures canceled_room { (vec_len ran.new.canceled ≤ vec_len ran.old.canceled + 1) × (vec_capacity ran.new.canceled ≡ vec_capacity ran.old.canceled) }
-    ensures done_room { (vec_len ran.new.done ≤ vec_len ran.old.done + 1) × (vec_capacity ran.new.done ≡ vec_capacity ran.old.done) }
+    ensures polled_room { GrowsByOne ran.old.polled ran.new.polled }
+    ensures canceled_room { GrowsByOne ran.old.canceled ran.new.canceled }
+    ensures done_room { GrowsByOne ran.old.done ran.new.done }
     ensures stopped { ran.new.stopped ≡ ran.old.stopped }
 {
     match ready.table.flags(t) {
@@ -213,13 +213,14 @@ pub(crate) fn poll_ready<D, J: Job<D>>(
     requires listed { AreListed ready.old }
     requires sorted { IsSorted nat_cmp ready.old.marks.items }
     requires room { vec_len outputs.old + btree_map_len ready.old.table.tree ≤ vec_capacity outputs.old }
-    requires polled { (ran.old.polled.items ≡ []) × (vec_len ran.old.polled ≡ 0) × (vec_len ready.old.marks ≤ vec_capacity ran.old.polled) }
-    requires canceled { (ran.old.canceled.items ≡ []) × (vec_len ran.old.canceled ≡ 0) × (vec_len ready.old.marks ≤ vec_capacity ran.old.canceled) }
-    requires done { (ran.old.done.items ≡ []) × (vec_len ran.old.done ≡ 0) × (vec_len ready.old.marks ≤ vec_capacity ran.old.done) }
+    requires polled { HasRoom ran.old.polled (vec_len ready.old.marks) }
+    requires canceled { HasRoom ran.old.canceled (vec_len ready.old.marks) }
+    requires done { HasRoom ran.old.done (vec_len ready.old.marks) }
     ensures sound { AreSound J.fits J.apart driver.new (job_at ready.new.table) }
     ensures jobs { HaveJobs (task_at ready.new.table) }
     ensures deadlines { HasDeadlines ready.new }
-    ensures turns { Turns J.polls J.cancels J.aim ready.old.moment (task_at ready.old.table) (task_at ready.new.table) ran.new.polled.items ran.new.canceled.items ran.new.done.items result.1 }
+    ensures turns { Turns J.polls J.cancels J.aim ready.old.moment (task_at ready.old.table) (task_at ready.new.table)
+        ran.new.polled.items ran.new.canceled.items ran.new.done.items result.1 }
     ensures reaches { Reaches (task_at ready.old.table) (task_at ready.new.table) ran.new.polled.items result.1 }
     ensures outputs { AddsOutputs J.aim J.meets (task_at ready.old.table) ran.new.done.items outputs.old.items outputs.new.items }
     ensures covers { Covers (task_at ready.new.table) (drop result.0 ready.new.marks.items) }

@@ -17,16 +17,21 @@ loop-k-init g c = record {
   deadlines = c.requires.deadlines;
   marks = refl;
   moment = refl;
-  turning = subst (λ P. Turning g.J.Job.polls g.J.Job.cancels g.J.Job.aim c.args.ready.now.moment (task_at c.args.ready.now.table) (task_at c.args.ready.now.table)
+  turning = subst (λ P. Turning g.J.Job.polls g.J.Job.cancels g.J.Job.aim c.args.ready.now.moment (task_at c.args.ready.now.table)
+      (task_at c.args.ready.now.table)
       P c.args.ran.now.canceled.items c.args.ran.now.done.items c.args.ready.now.marks.items) (sym c.requires.polled.0)
-      (subst (λ C. Turning g.J.Job.polls g.J.Job.cancels g.J.Job.aim c.args.ready.now.moment (task_at c.args.ready.now.table) (task_at c.args.ready.now.table)
+      (subst (λ C. Turning g.J.Job.polls g.J.Job.cancels g.J.Job.aim c.args.ready.now.moment (task_at c.args.ready.now.table)
+      (task_at c.args.ready.now.table)
       [] C c.args.ran.now.done.items c.args.ready.now.marks.items) (sym c.requires.canceled.0)
-      (subst (λ D. Turning g.J.Job.polls g.J.Job.cancels g.J.Job.aim c.args.ready.now.moment (task_at c.args.ready.now.table) (task_at c.args.ready.now.table)
+      (subst (λ D. Turning g.J.Job.polls g.J.Job.cancels g.J.Job.aim c.args.ready.now.moment (task_at c.args.ready.now.table)
+      (task_at c.args.ready.now.table)
       [] [] D c.args.ready.now.marks.items) (sym c.requires.done.0)
-      (turning_starts g.J.Job.polls g.J.Job.cancels g.J.Job.aim c.args.ready.now.moment (task_at c.args.ready.now.table) c.args.ready.now.marks.items
+      (turning_starts g.J.Job.polls g.J.Job.cancels g.J.Job.aim c.args.ready.now.moment
+      (task_at c.args.ready.now.table) c.args.ready.now.marks.items
       (rising_sorted c.args.ready.now.marks.items (IsNonDecreasingBy-from_sort (λ x. x) c.args.ready.now.marks.items c.requires.sorted))
       c.requires.listed.covers)));
-  outputs = outputs_none g.J.Job.aim g.J.Job.meets (task_at c.args.ready.now.table) c.args.ran.now.done.items c.args.outputs.now.items c.requires.done.0;
+  outputs = outputs_none g.J.Job.aim g.J.Job.meets
+      (task_at c.args.ready.now.table) c.args.ran.now.done.items c.args.outputs.now.items c.requires.done.0;
   marks_room = search rules;
   len = refl;
   capacity = refl;
@@ -38,9 +43,11 @@ loop-k-init g c = record {
 
 -- what is so where memory ran out at this task
 stopped_here : (g : given.Over) (c : goal.Then-stops g)
-    → Turns g.J.Job.polls g.J.Job.cancels g.J.Job.aim c.args.ready.now.moment (task_at c.args.ready.now.table) (task_at c.poll_at-seen.new.ready.table)
+    → Turns g.J.Job.polls g.J.Job.cancels g.J.Job.aim c.args.ready.now.moment (task_at c.args.ready.now.table)
+    (task_at c.poll_at-seen.new.ready.table)
     c.poll_at-seen.new.ran.polled.items c.poll_at-seen.new.ran.canceled.items c.poll_at-seen.new.ran.done.items (Some c.index-t.result.now)
-    × Reaches (task_at c.args.ready.now.table) (task_at c.poll_at-seen.new.ready.table) c.poll_at-seen.new.ran.polled.items (Some c.index-t.result.now)
+    × Reaches (task_at c.args.ready.now.table) (task_at c.poll_at-seen.new.ready.table) c.poll_at-seen.new.ran.polled.items
+    (Some c.index-t.result.now)
     × Covers (task_at c.poll_at-seen.new.ready.table) (drop c.loop-k.k c.args.ready.now.marks.items)
 stopped_here g c =
     let M : List ℕ = c.args.ready.now.marks.items in
@@ -64,7 +71,8 @@ returns-then-stops-clause-reaches g c = (stopped_here g c).1
 
 pub returns-then-stops-clause-covers : goal.returns-then-stops-clause-covers
 returns-then-stops-clause-covers g c =
-    subst (λ v. Covers (task_at c.poll_at-seen.new.ready.table) (drop c.loop-k.k v.items)) (sym (c.poll_at-seen.ensures.marks.0 ∙ c.loop-k.invariant.marks))
+    subst (λ v. Covers (task_at c.poll_at-seen.new.ready.table) (drop c.loop-k.k v.items)) (sym (c.poll_at-seen.ensures.marks.0
+    ∙ c.loop-k.invariant.marks))
     (stopped_here g c).2
 
 -- one number more
@@ -82,18 +90,22 @@ loop-k-preserved g c =
       deadlines = c.poll_at-seen.ensures.deadlines;
       marks = c.poll_at-seen.ensures.marks.0 ∙ c.loop-k.invariant.marks;
       moment = c.poll_at-seen.ensures.marks.1 ∙ c.loop-k.invariant.moment;
-      turning = loop_next g.J.Job.polls g.J.Job.cancels g.J.Job.aim c.args.ready.now.moment c.loop-k.ready.moment c.loop-k.k c.index-t.result.now M
+      turning = loop_next g.J.Job.polls g.J.Job.cancels g.J.Job.aim c.args.ready.now.moment c.loop-k.ready.moment c.loop-k.k
+          c.index-t.result.now M
           (task_at c.args.ready.now.table) (task_at c.loop-k.ready.table) (task_at c.poll_at-seen.new.ready.table)
           c.loop-k.ran.polled.items c.loop-k.ran.canceled.items c.loop-k.ran.done.items
           c.poll_at-seen.new.ran.polled.items c.poll_at-seen.new.ran.canceled.items c.poll_at-seen.new.ran.done.items c.poll_at-seen.result
           c.loop-k.invariant.moment below at c.loop-k.invariant.turning c.poll_at-seen.ensures.this c.poll_at-seen.ensures.rest
-          c.poll_at-seen.ensures.polled c.poll_at-seen.ensures.canceled c.poll_at-seen.ensures.done (sym c.stops.ensures ∙ c.if-stops.false);
-      outputs = loop_outputs g.J.Job.polls g.J.Job.cancels g.J.Job.aim c.args.ready.now.moment c.loop-k.ready.moment c.loop-k.k c.index-t.result.now M
+          c.poll_at-seen.ensures.polled c.poll_at-seen.ensures.canceled c.poll_at-seen.ensures.done (sym c.stops.ensures
+          ∙ c.if-stops.false);
+      outputs = loop_outputs g.J.Job.polls g.J.Job.cancels g.J.Job.aim c.args.ready.now.moment c.loop-k.ready.moment c.loop-k.k
+          c.index-t.result.now M
           (task_at c.args.ready.now.table) (task_at c.loop-k.ready.table) (task_at c.poll_at-seen.new.ready.table)
           c.loop-k.ran.polled.items c.loop-k.ran.canceled.items c.loop-k.ran.done.items
           c.poll_at-seen.new.ran.polled.items c.poll_at-seen.new.ran.canceled.items c.poll_at-seen.new.ran.done.items c.poll_at-seen.result
           c.loop-k.invariant.moment below at c.loop-k.invariant.turning c.poll_at-seen.ensures.this c.poll_at-seen.ensures.rest
-          c.poll_at-seen.ensures.polled c.poll_at-seen.ensures.canceled c.poll_at-seen.ensures.done g.J.Job.meets c.args.outputs.now.items c.loop-k.outputs.items c.poll_at-seen.new.outputs.items
+          c.poll_at-seen.ensures.polled c.poll_at-seen.ensures.canceled c.poll_at-seen.ensures.done g.J.Job.meets
+          c.args.outputs.now.items c.loop-k.outputs.items c.poll_at-seen.new.outputs.items
           c.loop-k.invariant.outputs c.poll_at-seen.ensures.output;
       marks_room =
           let more = marks_step c.poll_at-seen.result _ _ c.poll_at-seen.ensures.unmarked in

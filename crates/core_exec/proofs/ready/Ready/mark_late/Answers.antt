@@ -12,5 +12,6 @@ returns-clause-each g c = λ s.
     late_all c.args.self.now.moment s (task_at c.args.self.now.table) (task_at new.table) new.deadlines
     (subst (λ m. AreSet m (task_at new.table) new.deadlines) same c.mark_first.ensures.deadlines)
     (λ d r on. subst (λ m. m < d) same (c.mark_first.ensures.none c.loop-test.false d r on))
-    (late_then c.args.self.now.moment (task_at c.args.self.now.table s) (task_at c.loop.self.table s) (task_at new.table s) (c.loop.invariant.each s)
+    (late_then c.args.self.now.moment (task_at c.args.self.now.table s) (task_at c.loop.self.table s) (task_at new.table s)
+    (c.loop.invariant.each s)
     (subst (λ m. MarkedLate m (task_at c.loop.self.table s) (task_at new.table s)) c.loop.invariant.moment (c.mark_first.ensures.each s)))
