@@ -178,18 +178,6 @@ module _ {J : Type 0} (polls cancels : J → ℕ) (aim : J → List ℕ) (now t 
         covers_then,
       )
 
--- A turn that came to all numbers.
-pub turning_ends : {J : Type 0} (polls cancels : J → ℕ) (aim : J → List ℕ) (now : ℕ) (was is : ℕ → Option (Task J)) (P C D : List ℕ)
-    → Turning polls cancels aim now was is P C D [] → Reaches was is P None
-turning_ends polls cancels aim now was is P C D turning = record {
-  all = λ none s marked. elim (has_number s P) as (λ b. has_number s P ≡ b → has_number s P ≡ true) [
-    | true ↦ λ polled. polled
-    | false ↦ λ out. let has = turning.covers s (ap mark_of (turning.turns.left s out) ∙ marked) in let below = has.1 in absurd (omega
-        (arith, below))
-  ] refl;
-  stop = λ t same. absurd (not_some same);
-}
-
 -- A turn that is to come to all numbers.
 pub turning_starts : {J : Type 0} (polls cancels : J → ℕ) (aim : J → List ℕ) (now : ℕ) (was : ℕ → Option (Task J)) (R : List ℕ)
     → Rising R → Covers was R → Turning polls cancels aim now was was [] [] [] R

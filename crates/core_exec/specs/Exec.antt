@@ -59,8 +59,8 @@ abbrev pub OutputsOf : {D J O : Type 0} → (J → List ℕ) → (List ℕ → O
     → Type 0
 OutputsOf aim meets was old new ran = AddsOutputs aim meets was ran.done.items (outputs_of old) (outputs_of new)
 
--- What each call keeps: the marked tasks are found, and the deadlines that are to come; each task has its job, which was polled in a turn each
--- at most, and its cancel was asked for once where the task was canceled, and else never; its number was given; its output has room.
+-- What each call keeps: the marked tasks are found, and the deadlines that are to come; each task has its job, which was polled in a turn
+-- each at most, and its cancel was asked for once where the task was canceled, and else never; its number was given; its output has room.
 pub record Stands {D J O : Type 0} (polls cancels : J → ℕ) (exec : Exec D J O) : Type 0 where
   pub listed : AreListed exec.ready
   pub deadlines : HasDeadlines exec.ready

@@ -1,5 +1,6 @@
 -- What a turn makes of all tasks. Cited by `Exec::turn`.
-use Rattle.std.specs.Prelude.{◌+◌, ℕ, ◌≡◌, ◌≤◌, ◌<◌, ◌++◌, ◌&&◌, not, is_some, true, false, cond, List, [], ◌∷◌, map, Option, Some, None, IsSome}
+use Rattle.std.specs.Prelude.{◌+◌, ℕ, ◌≡◌, ◌≤◌, ◌<◌, ◌++◌, ◌&&◌, not, is_some, true}
+use Rattle.std.specs.Prelude.{false, cond, List, [], ◌∷◌, map, Option, Some, None, IsSome}
 use Rattle.std.specs.List.{All}
 use Rattle.std.specs.Vec.{vec_len, vec_capacity}
 use Rattle.std.specs.Global.{Vec}
@@ -17,8 +18,8 @@ abbrev pub Ascends : List ℕ → Type 0
 Ascends [] = Unit {0}
 Ascends (n ∷ numbers) = AllAbove n numbers × Ascends numbers
 
--- Where memory ran out at a task: it was ready and is marked still; each task that was polled is up to it, and each ready task before it was
--- polled.
+-- Where memory ran out at a task: it was ready and is marked still; each task that was polled is up to it, and each ready task before it
+-- was polled.
 pub record StopsAt {J : Type 0} (was is : ℕ → Option (Task J)) (polled : List ℕ) (t : ℕ) : Type 0 where
   pub ready : mark_of (was t) ≡ true
   pub kept : mark_of (is t) ≡ true

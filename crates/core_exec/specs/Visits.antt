@@ -6,8 +6,8 @@ use Rattle.core_exec.specs.declared.visit.Visit.TheVariants.{Done, Pending, Shor
 use Rattle.core_exec.specs.Tasks.{mark_of, aim_in}
 use Rattle.core_exec.specs.Polls.{IsPolled}
 
--- It is canceled if it is late, and polled once: it is done, or its mark goes. Where memory ran out it keeps its mark; where that was at its
--- cancel, it is as it was.
+-- It is canceled if it is late, and polled once: it is done, or its mark goes. Where memory ran out it keeps its mark; where that was at
+-- its cancel, it is as it was.
 abbrev pub VisitsTask : {J : Type 0} → (J → ℕ) → (J → ℕ) → (J → List ℕ) → Bool → Option (Task J) → Option (Task J) → Visit → Type 0
 VisitsTask polls cancels aim late was now Done = now ≡ None
 VisitsTask polls cancels aim late was now Pending = IsPolled polls cancels aim late was now × (mark_of now ≡ false)

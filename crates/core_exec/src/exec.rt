@@ -81,8 +81,8 @@ impl<D, J: Job<D>> Exec<D, J, J::Out> {
     }
 
     /// A turn at a moment, which is at least that of the turn before. The tasks of the given numbers become ready, as a turn of the driver
-    /// names them, and those whose deadline has come and that weren't canceled. Each ready task is polled once, in ascending order; a late one
-    /// is canceled before. If memory runs out at a task, the turn ends there, and that task and those behind it are ready in the next
+    /// names them, and those whose deadline has come and that weren't canceled. Each ready task is polled once, in ascending order; a late
+    /// one is canceled before. If memory runs out at a task, the turn ends there, and that task and those behind it are ready in the next
     /// turn. `OutOfMemory` comes if memory runs out for the lists of the answer; then no task is polled, and the ready ones are marked.
     #[tactic(auto, using(crate::proofs::Aims::aims_ready, crate::proofs::Aims::aims_same, crate::proofs::Aims::aims_turn))]
     pub fn turn(&mut self, now: u64, named: &[u64]) -> Result<Ran, OutOfMemory>
@@ -208,8 +208,8 @@ impl<D, J: Job<D>> Exec<D, J, J::Out> {
         self.spawn_at(job, None)
     }
 
-    /// Spawns a job as `spawn` does, with a deadline: the first turn at that moment or a later one that comes to it asks for its cancel, if it
-    /// is unfinished then.
+    /// Spawns a job as `spawn` does, with a deadline: the first turn at that moment or a later one that comes to it asks for its cancel, if
+    /// it is unfinished then.
     pub fn spawn_until(&mut self, job: J, deadline: u64) -> Result<u64, (OutOfMemory, J)>
         requires stands { Stands J.polls J.cancels self.old }
         requires counts { (J.polls job ≡ 0) × (J.cancels job ≡ 0) }
@@ -292,8 +292,8 @@ impl<D, J: Job<D>> Exec<D, J, J::Out> {
         job
     }
 
-    /// Ends an executor of no unfinished tasks: its driver. Outputs that weren't taken are dropped. With tasks left it comes back. It takes no
-    /// memory.
+    /// Ends an executor of no unfinished tasks: its driver. Outputs that weren't taken are dropped. With tasks left it comes back. It takes
+    /// no memory.
     pub fn finish(self) -> Result<D, Exec<D, J, J::Out>>
         ensures ok { IfOk result (λ driver. driver ≡ self.driver) }
         ensures done { IsOk result ↔ (left_of self ≡ 0) }
