@@ -51,12 +51,12 @@ pub trait Job<D>: Sized {
         ensures others { (other : Self) → fits driver.old other → apart self other → fits driver.new other }
         ensures apart { IfBack result (λ job. (other : Self) → fits driver.old other → apart self other → apart job other) };
 
-    /// Asks for the cancel of what it waits for. If memory runs out, nothing changes.
+    /// Asks for the cancel of what it waits for. If memory runs out, the job is as it was.
     fn cancel(&mut self, driver: &mut D) -> Result<(), OutOfMemory>
         requires fits { fits driver.old self.old }
         requires counter { cancels self.old < 2 ^ 62 }
         ensures ok { OnOk result (cancels self.new ≡ cancels self.old + 1) }
-        ensures err { OnErr result ((self.new ≡ self.old) × (driver.new ≡ driver.old)) }
+        ensures err { OnErr result (self.new ≡ self.old) }
         ensures polls { polls self.new ≡ polls self.old }
         ensures aim { aim self.new ≡ aim self.old }
         ensures fits { fits driver.new self.new }

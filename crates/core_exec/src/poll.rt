@@ -66,7 +66,6 @@ pub(crate) fn cancel_task<D, J: Job<D>>(
     ensures sound { AreSound J.fits J.apart driver.new (job_at table.new) }
     ensures ok { OnOk result (IsAsked J.polls J.cancels J.aim (task_at table.old t) (task_at table.new t)) }
     ensures err { OnErr result (task_at table.new t ≡ task_at table.old t) }
-    ensures driver { OnErr result (driver.new ≡ driver.old) }
     ensures rest { (s : ℕ) → s ≢ t → task_at table.new s ≡ task_at table.old s }
     ensures len { btree_map_len table.new.tree ≡ btree_map_len table.old.tree }
     ensures unmarked { unmarked_in table.new ≡ unmarked_in table.old }
