@@ -1,5 +1,5 @@
 // The deadlines that are to come, in order.
-ghost use Rattle.std.specs.Prelude.{◌≡◌, ◌≢◌, ◌<◌, ◌+◌, ℕ, OnOk, OnErr, IfNone, IfSome, true};
+ghost use Rattle.std.specs.Prelude.{◌≡◌, ◌≢◌, ◌<◌, ◌+◌, ℕ, OnOk, IfNone, IfSome, true};
 ghost use Rattle.std.specs.BTreeSet.{btree_set_len};
 ghost use Rattle.core_exec.specs.Deadlines.{is_set, KeepsSet, LeavesSet};
 

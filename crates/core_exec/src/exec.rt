@@ -155,7 +155,8 @@ impl<D, J: Job<D>> Exec<D, J, J::Out> {
         ensures counted { OnErr result ((spawned_of self.new ≡ spawned_of self.old) × (left_of self.new ≡ left_of self.old)) }
         // A job that fits the driver and has no operation joins the others; with its number's aim, it meets it.
         ensures sound { J.fits self.old.driver job → J.idle job → IsSound J.fits J.apart self.old → IsSound J.fits J.apart self.new }
-        ensures aims { (aims : ℕ → List ℕ) → aims (spawned_of self.old) ≡ J.aim job → MeetAims J.aim J.meets aims self.old → MeetAims J.aim J.meets aims self.new }
+        ensures aims { (aims : ℕ → List ℕ) → aims (spawned_of self.old) ≡ J.aim job
+            → MeetAims J.aim J.meets aims self.old → MeetAims J.aim J.meets aims self.new }
     {
         let t = self.spawned;
         if self.reserve().is_err() || self.ready.set_deadline(t, deadline).is_err() {
@@ -203,7 +204,8 @@ impl<D, J: Job<D>> Exec<D, J, J::Out> {
         ensures counted { OnErr result ((spawned_of self.new ≡ spawned_of self.old) × (left_of self.new ≡ left_of self.old)) }
         // A job that fits the driver and has no operation joins the others; with its number's aim, it meets it.
         ensures sound { J.fits self.old.driver job → J.idle job → IsSound J.fits J.apart self.old → IsSound J.fits J.apart self.new }
-        ensures aims { (aims : ℕ → List ℕ) → aims (spawned_of self.old) ≡ J.aim job → MeetAims J.aim J.meets aims self.old → MeetAims J.aim J.meets aims self.new }
+        ensures aims { (aims : ℕ → List ℕ) → aims (spawned_of self.old) ≡ J.aim job
+            → MeetAims J.aim J.meets aims self.old → MeetAims J.aim J.meets aims self.new }
     {
         self.spawn_at(job, None)
     }
@@ -223,7 +225,8 @@ impl<D, J: Job<D>> Exec<D, J, J::Out> {
         ensures counted { OnErr result ((spawned_of self.new ≡ spawned_of self.old) × (left_of self.new ≡ left_of self.old)) }
         // A job that fits the driver and has no operation joins the others; with its number's aim, it meets it.
         ensures sound { J.fits self.old.driver job → J.idle job → IsSound J.fits J.apart self.old → IsSound J.fits J.apart self.new }
-        ensures aims { (aims : ℕ → List ℕ) → aims (spawned_of self.old) ≡ J.aim job → MeetAims J.aim J.meets aims self.old → MeetAims J.aim J.meets aims self.new }
+        ensures aims { (aims : ℕ → List ℕ) → aims (spawned_of self.old) ≡ J.aim job
+            → MeetAims J.aim J.meets aims self.old → MeetAims J.aim J.meets aims self.new }
     {
         self.spawn_at(job, Some(deadline))
     }
@@ -235,7 +238,8 @@ impl<D, J: Job<D>> Exec<D, J, J::Out> {
         ensures stands { Stands J.polls J.cancels self.new }
         ensures ok { IfOk result (λ taken. IsPermutation (outputs_of self.old) taken.items) }
         ensures ascending { IfOk result (λ taken. IsNonDecreasingBy (λ o. o.0) taken.items) }
-        ensures meet { IfOk result (λ taken. (aims : ℕ → List ℕ) → MeetAims J.aim J.meets aims self.old → All (λ o. J.meets (aims o.0) o.1) taken.items) }
+        ensures meet { IfOk result (λ taken. (aims : ℕ → List ℕ) → MeetAims J.aim J.meets aims self.old
+            → All (λ o. J.meets (aims o.0) o.1) taken.items) }
         ensures taken { OnOk result (outputs_of self.new ≡ []) }
         ensures err { OnErr result (outputs_of self.new ≡ outputs_of self.old) }
         ensures tasks { (s : ℕ) → tasks_of self.new s ≡ tasks_of self.old s }
@@ -264,7 +268,8 @@ impl<D, J: Job<D>> Exec<D, J, J::Out> {
         ensures aims { (aims : ℕ → List ℕ) → MeetAims J.aim J.meets aims self.old → MeetAims J.aim J.meets aims self.new }
         ensures sound { IsSound J.fits J.apart self.old → IsSound J.fits J.apart self.new }
         // It fits the driver, and has no operation with those that are left.
-        ensures apart { IfSome result (λ taken. IsSound J.fits J.apart self.old → IsApart J.fits J.apart self.new.driver (jobs_of self.new) taken.1) }
+        ensures apart { IfSome result (λ taken. IsSound J.fits J.apart self.old
+            → IsApart J.fits J.apart self.new.driver (jobs_of self.new) taken.1) }
     {
         let t = self.ready.table.first()?;
         Some((t, self.take_out(t)))

@@ -1,7 +1,7 @@
 // One task is polled, or its cancel is asked for.
-ghost use Rattle.std.specs.Prelude.{◌≡◌, ◌≢◌, ◌<◌, ◌+◌, ◌^◌, ℕ, IsSome, OnOk, OnErr, true, false};
+ghost use Rattle.std.specs.Prelude.{◌≡◌, ◌≢◌, ◌<◌, ◌^◌, ℕ, IsSome, OnOk, OnErr, true, false};
 ghost use Rattle.std.specs.BTreeMap.{btree_map_len};
-ghost use Rattle.core_exec.specs.Tasks.{AreSound, task_at, job_at, unmarked_in, cost, mark_of, canceled_of, count_in};
+ghost use Rattle.core_exec.specs.Tasks.{AreSound, task_at, job_at, unmarked_in, mark_of, canceled_of, count_in};
 ghost use Rattle.core_exec.specs.Polls.{PollsTask, IsAsked, RoomAfter};
 
 use crate::job::{Job, JobStep};
@@ -33,7 +33,8 @@ pub(crate) fn poll_task<D, J: Job<D>>(
     ensures sound { AreSound J.fits J.apart driver.new (job_at table.new) }
     ensures this { PollsTask J.polls J.cancels J.aim J.meets (task_at table.old t) (task_at table.new t) result }
     ensures rest { (s : ℕ) → s ≢ t → task_at table.new s ≡ task_at table.old s }
-    ensures room { RoomAfter result (btree_map_len table.old.tree) (btree_map_len table.new.tree) (unmarked_in table.old) (unmarked_in table.new) }
+    ensures room { RoomAfter result (btree_map_len table.old.tree) (btree_map_len table.new.tree)
+        (unmarked_in table.old) (unmarked_in table.new) }
 {
     let job = table.take(t);
     match job.poll(driver, t) {

@@ -125,7 +125,8 @@ impl<J> Ready<J> {
         requires deadlines { HasDeadlines self.old }
         ensures listed { AreListed self.new }
         ensures deadlines { HasDeadlines self.new }
-        ensures each { (s : ℕ) → task_at self.new.table s ≡ option_map (with_mark (is_late self.old.moment (task_at self.old.table s))) (task_at self.old.table s) }
+        ensures each { (s : ℕ) → task_at self.new.table s
+            ≡ option_map (with_mark (is_late self.old.moment (task_at self.old.table s))) (task_at self.old.table s) }
         ensures len { btree_map_len self.new.table.tree ≡ btree_map_len self.old.table.tree }
         ensures moment { self.new.moment ≡ self.old.moment }
     {

@@ -1,7 +1,7 @@
 //! Unfinished tasks, by number.
 ghost use Rattle.std.specs.Prelude.{◌≡◌, ◌≢◌, ◌+◌, ◌≤◌, ◌↔◌, ℕ, Some, None, IsSome, IsNone, IfSome, OnOk, OnErr, IfErr, cond, option_map};
 ghost use Rattle.std.specs.BTreeMap.{btree_map_len};
-ghost use Rattle.core_exec.specs.Tasks.{task_at, job_at, job_in, unmarked_in, cost, marked, without_job, with_job, FlagsOf};
+ghost use Rattle.core_exec.specs.Tasks.{task_at, job_at, unmarked_in, cost, marked, without_job, with_job, FlagsOf};
 
 use std::alloc::Global;
 use std::collections::BTreeMap;

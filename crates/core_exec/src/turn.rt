@@ -1,5 +1,5 @@
 // The ready tasks of a turn, one after another.
-ghost use Rattle.std.specs.Prelude.{◌≡◌, ◌≢◌, ◌<◌, ◌≤◌, ◌+◌, ◌^◌, ◌&&◌, ℕ, IsSome, IfOk, true, false, [], drop};
+ghost use Rattle.std.specs.Prelude.{◌≡◌, ◌≢◌, ◌<◌, ◌≤◌, ◌+◌, ◌^◌, ◌&&◌, ℕ, IfOk, true, false, [], drop};
 ghost use Rattle.std.specs.Ordering.{nat_cmp};
 ghost use Rattle.std.specs.List.Sorted.{IsSorted};
 ghost use Rattle.std.specs.Vec.{vec_len, vec_capacity};
@@ -116,7 +116,8 @@ fn poll_marked<D, J: Job<D>>(
     ensures sound { AreSound J.fits J.apart driver.new (job_at ready.new.table) }
     ensures jobs { HaveJobs (task_at ready.new.table) }
     ensures deadlines { HasDeadlines ready.new }
-    ensures this { VisitsTask J.polls J.cancels J.aim (is_late ready.old.moment (task_at ready.old.table t)) (task_at ready.old.table t) (task_at ready.new.table t) result }
+    ensures this { VisitsTask J.polls J.cancels J.aim (is_late ready.old.moment (task_at ready.old.table t))
+        (task_at ready.old.table t) (task_at ready.new.table t) result }
     ensures rest { (s : ℕ) → s ≢ t → task_at ready.new.table s ≡ task_at ready.old.table s }
     ensures output { GivesOutput J.aim J.meets t (job_at ready.old.table t) outputs.old.items outputs.new.items result }
     ensures len { vec_len outputs.new + btree_map_len ready.new.table.tree ≡ vec_len outputs.old + btree_map_len ready.old.table.tree }
@@ -124,7 +125,8 @@ fn poll_marked<D, J: Job<D>>(
     ensures unmarked { MarksAfter result (unmarked_in ready.old.table) (unmarked_in ready.new.table) }
     ensures marks { (ready.new.marks ≡ ready.old.marks) × (ready.new.moment ≡ ready.old.moment) }
     ensures polled { ran.new.polled.items ≡ with_number (polls_at result) t ran.old.polled.items }
-    ensures canceled { ran.new.canceled.items ≡ with_number (polls_at result && is_late ready.old.moment (task_at ready.old.table t)) t ran.old.canceled.items }
+    ensures canceled { ran.new.canceled.items
+        ≡ with_number (polls_at result && is_late ready.old.moment (task_at ready.old.table t)) t ran.old.canceled.items }
     ensures done { ran.new.done.items ≡ with_number (ends_at result) t ran.old.done.items }
     ensures polled_room { GrowsByOne ran.old.polled ran.new.polled }
     ensures canceled_room { GrowsByOne ran.old.canceled ran.new.canceled }
@@ -166,7 +168,8 @@ fn poll_at<D, J: Job<D>>(
     ensures unmarked { MarksStep result (unmarked_in ready.old.table) (unmarked_in ready.new.table) }
     ensures marks { (ready.new.marks ≡ ready.old.marks) × (ready.new.moment ≡ ready.old.moment) }
     ensures polled { ran.new.polled.items ≡ with_number (is_polled result) t ran.old.polled.items }
-    ensures canceled { ran.new.canceled.items ≡ with_number (is_polled result && is_late ready.old.moment (task_at ready.old.table t)) t ran.old.canceled.items }
+    ensures canceled { ran.new.canceled.items
+        ≡ with_number (is_polled result && is_late ready.old.moment (task_at ready.old.table t)) t ran.old.canceled.items }
     ensures done { ran.new.done.items ≡ with_number (is_done result) t ran.old.done.items }
     ensures polled_room { GrowsByOne ran.old.polled ran.new.polled }
     ensures canceled_room { GrowsByOne ran.old.canceled ran.new.canceled }

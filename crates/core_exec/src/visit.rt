@@ -1,5 +1,5 @@
 // One ready task's part of a turn.
-ghost use Rattle.std.specs.Prelude.{◌≡◌, ◌≢◌, ◌<◌, ◌≤◌, ◌+◌, ◌^◌, ℕ, IsSome, OnOk, OnErr, true, false};
+ghost use Rattle.std.specs.Prelude.{◌≡◌, ◌≢◌, ◌<◌, ◌+◌, ◌^◌, ℕ, IsSome, OnOk, OnErr, true, false};
 ghost use Rattle.std.specs.Vec.{vec_len, vec_capacity};
 ghost use Rattle.std.specs.BTreeMap.{btree_map_len};
 ghost use Rattle.core_exec.specs.Tasks.{AreSound, task_at, job_at, unmarked_in, mark_of, canceled_of, count_in};

@@ -1,5 +1,4 @@
 // A job that receives, over handles in memory.
-ghost use Rattle.std.specs.Prelude.{◌≡◌};
 ghost use Rattle.ready_driver.specs.LegacyState.{ops_in};
 ghost use Rattle.core_exec.specs.Exec.{IsSound, Stands};
 ghost use Rattle.op_job.specs.OpJob.{ApartOps, FitsOps, cancels_of, polls_of};
