@@ -1,0 +1,10 @@
+pub mod Aims
+pub mod Counted
+pub mod Late
+pub mod Looping
+pub mod Marking
+pub mod Pairs
+pub mod Reaching
+pub mod Stepping
+pub mod Turning
+pub mod Visiting

@@ -1,0 +1,11 @@
+use Rattle.core_exec.specs.declared.exec.tests.Steps.{Steps}
+use Rattle.core_exec.specs.Exec.{Stands, left_of}
+use Rattle.core_exec.proofs.exec.tests.take_all.Given as goal
+
+-- What each call keeps.
+abbrev pub invariant-loop-task : goal.invariant-loop-task
+invariant-loop-task l = Stands (λ (job : Steps). job.polls) (λ job. job.cancels) l.exec
+
+-- A task leaves in each turn.
+abbrev pub decreases-loop-task : goal.decreases-loop-task
+decreases-loop-task l = left_of l.exec

@@ -1,0 +1,9 @@
+pub mod Deadlines
+pub mod Exec
+pub mod Job
+pub mod Marks
+pub mod Polls
+pub mod Steps
+pub mod Tasks
+pub mod Turns
+pub mod Visits

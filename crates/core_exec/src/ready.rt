@@ -1,0 +1,192 @@
+// Unfinished tasks, a list of those that are marked, and the deadlines that are to come.
+ghost use Rattle.std.specs.Prelude.{◌≡◌, ◌≢◌, ◌<◌, ◌≤◌, ◌+◌, ◌==◌, ℕ, option_map, true, false, drop, OnOk};
+ghost use Rattle.std.specs.Ordering.{nat_cmp};
+ghost use Rattle.std.specs.List.Sorted.{IsSorted};
+ghost use Rattle.std.specs.Vec.{vec_len, vec_capacity};
+ghost use Rattle.std.specs.BTreeMap.{btree_map_len};
+ghost use Rattle.std.specs.BTreeSet.{btree_set_len};
+ghost use Rattle.core_exec.specs.Deadlines.{is_set, IsSetAt, KeepsSet};
+ghost use Rattle.core_exec.specs.Tasks.{task_at, mark_of, unmarked_in};
+ghost use Rattle.core_exec.specs.Marks.{AreListed, Covers, HasDeadlines, MarkedLate, with_mark, has_number, is_late, ready_tasks, LateOf};
+
+use crate::deadlines::Deadlines;
+use crate::table::{Flags, Table};
+use rent_buf::OutOfMemory;
+
+// The unfinished tasks, with what finds those that are ready.
+pub(crate) struct Ready<J> {
+    // The tasks.
+    pub(crate) table: Table<J>,
+    // Numbers, among them that of each marked task.
+    pub(crate) marks: Vec<u64>,
+    // The deadlines that are to come.
+    pub(crate) deadlines: Deadlines,
+    // The moment of the last turn.
+    pub(crate) moment: u64,
+}
+
+// A task is late at a moment.
+pub(crate) fn late_at(flags: Flags, now: u64) -> bool
+    ensures { LateOf now flags result }
+{
+    if flags.canceled {
+        return false;
+    }
+    match flags.deadline {
+        Some(at) => at <= now,
+        None => false,
+    }
+}
+
+impl<J> Ready<J> {
+    // Marks a task, if there is one of that number.
+    #[tactic(auto, using(crate::proofs::Marking::mark_once, crate::proofs::Marking::mark_again, crate::proofs::Marking::mark_none, crate::proofs::Marking::covers_more))]
+    pub(crate) fn mark(&mut self, t: u64)
+        requires listed { AreListed self.old }
+        ensures listed { AreListed self.new }
+        ensures each { (s : ℕ) → task_at self.new.table s ≡ option_map (with_mark (s == t)) (task_at self.old.table s) }
+        ensures len { btree_map_len self.new.table.tree ≡ btree_map_len self.old.table.tree }
+        ensures deadlines { self.new.deadlines ≡ self.old.deadlines }
+        ensures moment { self.new.moment ≡ self.old.moment }
+    {
+        match self.table.flags(t) {
+            Some(flags) => {
+                if !flags.marked {
+                    self.table.mark(t);
+                    self.marks.push_reserved(t);
+                }
+            }
+            None => {}
+        }
+    }
+
+    // Marks the tasks of some numbers.
+    #[tactic(auto, using(crate::proofs::Marking::mark_next))]
+    pub(crate) fn mark_each(&mut self, named: &[u64])
+        requires listed { AreListed self.old }
+        ensures listed { AreListed self.new }
+        ensures each { (s : ℕ) → task_at self.new.table s ≡ option_map (with_mark (has_number s named.now)) (task_at self.old.table s) }
+        ensures len { btree_map_len self.new.table.tree ≡ btree_map_len self.old.table.tree }
+        ensures deadlines { self.new.deadlines ≡ self.old.deadlines }
+        ensures moment { self.new.moment ≡ self.old.moment }
+    {
+        for k in 0..named.len() {
+            self.mark(named[k]);
+        }
+    }
+
+    // Marks a task if it is late.
+    #[tactic(auto, using(crate::proofs::Late::late_flags, crate::proofs::Late::late_marked, crate::proofs::Late::late_mark))]
+    fn mark_if_late(&mut self, t: u64)
+        requires listed { AreListed self.old }
+        ensures listed { AreListed self.new }
+        ensures each { (s : ℕ) → MarkedLate self.old.moment (task_at self.old.table s) (task_at self.new.table s) }
+        ensures marked { is_late self.old.moment (task_at self.old.table t) ≡ true → mark_of (task_at self.new.table t) ≡ true }
+        ensures len { btree_map_len self.new.table.tree ≡ btree_map_len self.old.table.tree }
+        ensures deadlines { self.new.deadlines ≡ self.old.deadlines }
+        ensures moment { self.new.moment ≡ self.old.moment }
+    {
+        match self.table.flags(t) {
+            Some(flags) => {
+                if late_at(flags, self.moment) {
+                    self.mark(t);
+                }
+            }
+            None => {}
+        }
+    }
+
+    // Takes out the first deadline that has come, and marks its task if it is late: whether there was one.
+    #[tactic(auto, using(crate::proofs::Late::set_behind_pop))]
+    fn mark_first(&mut self) -> bool
+        requires listed { AreListed self.old }
+        requires deadlines { HasDeadlines self.old }
+        ensures listed { AreListed self.new }
+        ensures deadlines { HasDeadlines self.new }
+        ensures each { (s : ℕ) → MarkedLate self.old.moment (task_at self.old.table s) (task_at self.new.table s) }
+        ensures none { result ≡ false → (d s : ℕ) → is_set self.new.deadlines d s ≡ true → self.new.moment < d }
+        ensures fewer { result ≡ true → btree_set_len self.new.deadlines.set + 1 ≡ btree_set_len self.old.deadlines.set }
+        ensures len { btree_map_len self.new.table.tree ≡ btree_map_len self.old.table.tree }
+        ensures moment { self.new.moment ≡ self.old.moment }
+    {
+        match self.deadlines.pop(self.moment) {
+            Some(t) => {
+                self.mark_if_late(t);
+                true
+            }
+            None => false,
+        }
+    }
+
+    // Marks the tasks that are late.
+    #[tactic(auto, using(crate::proofs::Late::late_then, crate::proofs::Late::late_all))]
+    pub(crate) fn mark_late(&mut self)
+        requires listed { AreListed self.old }
+        requires deadlines { HasDeadlines self.old }
+        ensures listed { AreListed self.new }
+        ensures deadlines { HasDeadlines self.new }
+        ensures each { (s : ℕ) → task_at self.new.table s
+            ≡ option_map (with_mark (is_late self.old.moment (task_at self.old.table s))) (task_at self.old.table s) }
+        ensures len { btree_map_len self.new.table.tree ≡ btree_map_len self.old.table.tree }
+        ensures moment { self.new.moment ≡ self.old.moment }
+    {
+        while self.mark_first() {}
+    }
+
+    // Marks the tasks of some numbers, and those that are late at a moment, which is at least that of the last turn. The list is sorted.
+    #[tactic(auto, using(crate::proofs::Late::set_later, crate::proofs::Late::set_marked, crate::proofs::Late::named_or_late))]
+    pub(crate) fn mark_ready(&mut self, now: u64, named: &[u64])
+        requires listed { AreListed self.old }
+        requires deadlines { HasDeadlines self.old }
+        requires moment { self.old.moment ≤ now }
+        ensures listed { AreListed self.new }
+        ensures deadlines { HasDeadlines self.new }
+        ensures each { (s : ℕ) → task_at self.new.table s ≡ ready_tasks now named.now (task_at self.old.table) s }
+        ensures sorted { IsSorted nat_cmp self.new.marks.items }
+        ensures len { btree_map_len self.new.table.tree ≡ btree_map_len self.old.table.tree }
+        ensures moment { self.new.moment ≡ now }
+    {
+        self.moment = now;
+        self.mark_each(named);
+        self.mark_late();
+        self.marks.sort_unstable();
+    }
+
+    // Drops the first numbers of the list.
+    pub(crate) fn drop_first(&mut self, came: usize)
+        requires covers { Covers (task_at self.old.table) (drop came self.old.marks.items) }
+        requires came { came ≤ vec_len self.old.marks }
+        requires room { vec_len self.old.marks + unmarked_in self.old.table ≤ vec_capacity self.old.marks + came }
+        ensures listed { AreListed self.new }
+        ensures table { self.new.table ≡ self.old.table }
+        ensures deadlines { self.new.deadlines ≡ self.old.deadlines }
+        ensures moment { self.new.moment ≡ self.old.moment }
+    {
+        let count = self.marks.len();
+        self.marks.rotate_left(came);
+        self.marks.truncate(count - came);
+    }
+
+    // Sets the deadline of a number that no task has, if it has one.
+    pub(crate) fn set_deadline(&mut self, t: u64, deadline: Option<u64>) -> Result<(), OutOfMemory>
+        ensures ok { OnOk result (IsSetAt self.new.deadlines t deadline) }
+        ensures kept { KeepsSet self.old.deadlines self.new.deadlines }
+        ensures same { (self.new.table ≡ self.old.table) × (self.new.marks ≡ self.old.marks) × (self.new.moment ≡ self.old.moment) }
+    {
+        match deadline {
+            Some(at) => self.deadlines.add(at, t),
+            None => Ok(()),
+        }
+    }
+
+    // Drops the deadline of a number, if it has one.
+    pub(crate) fn drop_deadline(&mut self, t: u64, deadline: Option<u64>)
+        ensures kept { (d s : ℕ) → s ≢ t → is_set self.old.deadlines d s ≡ true → is_set self.new.deadlines d s ≡ true }
+        ensures same { (self.new.table ≡ self.old.table) × (self.new.marks ≡ self.old.marks) × (self.new.moment ≡ self.old.moment) }
+    {
+        match deadline {
+            Some(at) => self.deadlines.drop_of(at, t),
+            None => {}
+        }
+    }
+}

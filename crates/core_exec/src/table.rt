@@ -1,0 +1,189 @@
+//! Unfinished tasks, by number.
+ghost use Rattle.std.specs.Prelude.{◌≡◌, ◌≢◌, ◌+◌, ◌≤◌, ◌↔◌, ℕ, Some, None, IsSome, IsNone, IfSome, OnOk, OnErr, IfErr, cond, option_map};
+ghost use Rattle.std.specs.BTreeMap.{btree_map_len};
+ghost use Rattle.core_exec.specs.Tasks.{task_at, job_at, unmarked_in, cost, marked, without_job, with_job, FlagsOf};
+
+use std::alloc::Global;
+use std::collections::BTreeMap;
+
+/// An unfinished task.
+pub struct Task<J> {
+    /// Its job. It is taken out while it is polled.
+    pub job: Option<J>,
+    /// The next turn polls it.
+    pub marked: bool,
+    /// The moment from which on it is late, if it has one.
+    pub deadline: Option<u64>,
+    /// Its cancel was asked for.
+    pub canceled: bool,
+}
+
+// What is asked of a task, without its job.
+#[derive(Clone, Copy)]
+pub(crate) struct Flags {
+    // The next turn polls it.
+    pub(crate) marked: bool,
+    // The moment from which on it is late, if it has one.
+    pub(crate) deadline: Option<u64>,
+    // Its cancel was asked for.
+    pub(crate) canceled: bool,
+}
+
+// The unfinished tasks.
+pub(crate) struct Table<J> {
+    pub(crate) tree: BTreeMap<u64, Task<J>>,
+}
+
+impl<J> Table<J> {
+    // No tasks. It takes no memory.
+    pub(crate) fn new(alloc: Global) -> Table<J>
+        ensures none { (s : ℕ) → task_at result s ≡ None }
+        ensures len { btree_map_len result.tree ≡ 0 }
+        ensures unmarked { unmarked_in result ≡ 0 }
+    {
+        Table {
+            tree: BTreeMap::new(alloc),
+        }
+    }
+
+    // How many tasks are unfinished.
+    pub(crate) fn len(&self) -> usize
+        ensures { result ≡ btree_map_len self.now.tree }
+    {
+        self.tree.len()
+    }
+
+    // Whether a task is marked, its deadline, and whether it was canceled. None if it is finished.
+    pub(crate) fn flags(&self, t: u64) -> Option<Flags>
+        ensures { FlagsOf (task_at self.now t) result }
+    {
+        match self.tree.get(&t) {
+            Some(task) => Some(Flags {
+                marked: task.marked,
+                deadline: task.deadline,
+                canceled: task.canceled,
+            }),
+            None => None,
+        }
+    }
+
+    // Marks an unfinished task.
+    pub(crate) fn mark(&mut self, t: u64)
+        requires unfinished { IsSome (task_at self.old t) }
+        ensures this { task_at self.new t ≡ option_map marked (task_at self.old t) }
+        ensures rest { (s : ℕ) → s ≢ t → task_at self.new s ≡ task_at self.old s }
+        ensures len { btree_map_len self.new.tree ≡ btree_map_len self.old.tree }
+        ensures unmarked { unmarked_in self.new + cost (task_at self.old t) ≡ unmarked_in self.old }
+    {
+        if let Some(task) = self.tree.get_mut(&t) {
+            task.marked = true;
+        }
+    }
+
+    // Takes the job of an unfinished task out.
+    pub(crate) fn take(&mut self, t: u64) -> J
+        requires unfinished { IsSome (job_at self.old t) }
+        ensures value { job_at self.old t ≡ Some result }
+        ensures this { task_at self.new t ≡ option_map without_job (task_at self.old t) }
+        ensures rest { (s : ℕ) → s ≢ t → task_at self.new s ≡ task_at self.old s }
+        ensures len { btree_map_len self.new.tree ≡ btree_map_len self.old.tree }
+        ensures unmarked { unmarked_in self.new ≡ unmarked_in self.old }
+    {
+        match self.tree.get_mut(&t) {
+            Some(task) => match task.job.take() {
+                Some(job) => job,
+                None => unreachable!(),
+            },
+            None => unreachable!(),
+        }
+    }
+
+    // Puts the job of an unfinished task back, with whether it is marked, and whether it was canceled.
+    pub(crate) fn put(&mut self, t: u64, job: J, marked: bool, canceled: bool)
+        requires unfinished { IsSome (task_at self.old t) }
+        requires gone { job_at self.old t ≡ None }
+        ensures this { task_at self.new t ≡ option_map (with_job job marked canceled) (task_at self.old t) }
+        ensures rest { (s : ℕ) → s ≢ t → task_at self.new s ≡ task_at self.old s }
+        ensures len { btree_map_len self.new.tree ≡ btree_map_len self.old.tree }
+        ensures unmarked { unmarked_in self.new + cost (task_at self.old t) ≡ unmarked_in self.old + cond marked 0 1 }
+    {
+        match self.tree.get_mut(&t) {
+            Some(task) => {
+                task.marked = marked;
+                task.canceled = canceled;
+                match task.job.replace(job) {
+                    Some(_) => unreachable!(),
+                    None => {}
+                }
+            }
+            None => unreachable!(),
+        }
+    }
+
+    // Ends a task whose job was taken out.
+    pub(crate) fn end(&mut self, t: u64)
+        requires unfinished { IsSome (task_at self.old t) }
+        requires gone { job_at self.old t ≡ None }
+        ensures this { task_at self.new t ≡ None }
+        ensures rest { (s : ℕ) → s ≢ t → task_at self.new s ≡ task_at self.old s }
+        ensures len { btree_map_len self.new.tree + 1 ≡ btree_map_len self.old.tree }
+        ensures unmarked { unmarked_in self.new + cost (task_at self.old t) ≡ unmarked_in self.old }
+    {
+        match self.tree.remove(&t) {
+            Some(task) => {
+                let Task {
+                    job,
+                    marked: _,
+                    deadline: _,
+                    canceled: _,
+                } = task;
+                match job {
+                    Some(_) => unreachable!(),
+                    None => {}
+                }
+            }
+            None => unreachable!(),
+        }
+    }
+
+    // Adds a task of a number that no task has. If memory runs out, its job comes back.
+    pub(crate) fn add(&mut self, t: u64, task: Task<J>) -> Result<(), Task<J>>
+        requires absent { task_at self.old t ≡ None }
+        ensures this { OnOk result (task_at self.new t ≡ Some task) }
+        ensures rest { (s : ℕ) → s ≢ t → task_at self.new s ≡ task_at self.old s }
+        ensures len { OnOk result (btree_map_len self.new.tree ≡ btree_map_len self.old.tree + 1) }
+        ensures unmarked { OnOk result (unmarked_in self.new ≡ unmarked_in self.old + cost (Some task)) }
+        ensures back { IfErr result (λ back. back ≡ task) }
+        ensures err { OnErr result (self.new.tree.entries ≡ self.old.tree.entries) }
+    {
+        match self.tree.insert(t, task) {
+            Ok(old) => match old {
+                Some(_) => unreachable!(),
+                None => Ok(()),
+            },
+            Err(failed) => {
+                let (_, task) = failed.value;
+                Err(task)
+            }
+        }
+    }
+
+    // The lowest number of an unfinished task.
+    pub(crate) fn first(&self) -> Option<u64>
+        ensures some { IfSome result (λ t. IsSome (task_at self.now t) × ((s : ℕ) → IsSome (task_at self.now s) → t ≤ s)) }
+        ensures none { IsNone result ↔ (btree_map_len self.now.tree ≡ 0) }
+    {
+        match self.tree.first_key_value() {
+            Some((t, _)) => Some(*t),
+            None => None,
+        }
+    }
+
+    // Frees the table of no tasks.
+    pub(crate) fn destroy(self)
+        requires { btree_map_len self.tree ≡ 0 }
+    {
+        let Table { tree } = self;
+        tree.destroy_empty();
+    }
+}

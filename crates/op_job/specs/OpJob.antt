@@ -1,0 +1,71 @@
+-- A job of one operation, and the driver that holds it. Cited by `OpJob`.
+use Rattle.std.specs.Prelude.{ℕ, ◌≡◌, ◌≢◌, ◌<◌, List, [], Result}
+use Rattle.rent_buf.specs.declared.fault.OutOfMemory.{OutOfMemory}
+use Rattle.std.proofs.Common.{sym}
+use Rattle.driver_core.specs.declared.op.Op.{Op}
+use Rattle.driver_core.specs.Op.{Holds, number_of}
+use Rattle.driver_core.specs.Ops.{Ops}
+use Rattle.op_job.specs.declared.op_job.OpEnd.{OpEnd}
+use Rattle.op_job.specs.declared.op_job.OpJob.{OpJob}
+use Rattle.op_job.specs.declared.op_job.State.{State}
+use Rattle.op_job.specs.declared.op_job.State.TheVariants.{Unsent, Waiting}
+
+-- The driver holds the operation that a job waits for, and it is one of those that were submitted.
+abbrev pub FitsState : {B : Type 0} → Ops B → State B → Type 0
+FitsState ops (Unsent request) = Unit {0}
+FitsState ops (Waiting op) = Holds ops op × (number_of op < ops.given)
+
+-- Two jobs don't wait for the same operation.
+abbrev pub ApartStates : {B : Type 0} → State B → State B → Type 0
+ApartStates (Waiting one) (Waiting other) = one ≢ other
+ApartStates (Waiting one) (Unsent request) = Unit {0}
+ApartStates (Unsent request) other = Unit {0}
+
+-- A job has no operation.
+abbrev pub IsUnsent : {B : Type 0} → State B → Type 0
+IsUnsent (Unsent request) = Unit {0}
+IsUnsent (Waiting op) = ⊥
+
+-- Each state that fits the operations and doesn't wait for that of a state fits them afterwards.
+abbrev pub KeepsApart : {B : Type 0} → Ops B → Ops B → State B → Type 0
+KeepsApart {B} old new state = (other : State B) → FitsState old other → ApartStates state other → FitsState new other
+
+-- A cancel is that of the operation that a job waits for, as the driver says it, and without one it changes nothing.
+abbrev pub AsksOp : {D B : Type 0} → (D → D → Op → Result Unit OutOfMemory → Type 0) → D → D → State B → Result Unit OutOfMemory → Type 0
+AsksOp cancels old new (Unsent request) result = new ≡ old
+AsksOp cancels old new (Waiting op) result = cancels old new op result
+
+-- How often a job was polled, and how often its cancel was asked for.
+abbrev pub polls_of : {B : Type 0} → OpJob B → ℕ
+polls_of job = job.polls
+
+abbrev pub cancels_of : {B : Type 0} → OpJob B → ℕ
+cancels_of job = job.cancels
+
+-- A job fits a driver whose operations are these.
+abbrev pub FitsOps : {D B : Type 0} → (D → Ops B) → D → OpJob B → Type 0
+FitsOps ops driver job = FitsState (ops driver) job.state
+
+abbrev pub ApartOps : {B : Type 0} → OpJob B → OpJob B → Type 0
+ApartOps one other = ApartStates one.state other.state
+
+abbrev pub HasNoOp : {B : Type 0} → OpJob B → Type 0
+HasNoOp job = IsUnsent job.state
+
+-- Nothing is said of an output.
+abbrev pub no_aim : {B : Type 0} → OpJob B → List ℕ
+no_aim job = []
+
+abbrev pub AnyEnd : {B : Type 0} → List ℕ → OpEnd B → Type 0
+AnyEnd aim end = Unit {0}
+
+-- Laws of the trait need these here: states are apart from either side, and one that has no operation is apart from each.
+pub apart_swaps : {B : Type 0} (one other : State B) → ApartStates one other → ApartStates other one
+apart_swaps (Waiting one) (Waiting other) apart = λ same. apart (sym same)
+apart_swaps (Waiting one) (Unsent request) apart = tt
+apart_swaps (Unsent request) (Unsent other) apart = tt
+apart_swaps (Unsent request) (Waiting op) apart = tt
+
+pub unsent_apart : {B : Type 0} (one other : State B) → IsUnsent one → ApartStates one other
+unsent_apart (Unsent request) other unsent = tt
+unsent_apart (Waiting op) other unsent = absurd unsent

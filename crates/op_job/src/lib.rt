@@ -1,0 +1,8 @@
+//! An operation of a driver as a job of an executor.
+#![tactic(auto)]
+
+mod op_job;
+mod turns;
+
+pub use op_job::{OpEnd, OpJob};
+pub use turns::{OpExec, turn};

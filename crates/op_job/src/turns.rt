@@ -1,0 +1,80 @@
+// A turn of a driver, and one of the executor over it.
+ghost use Rattle.std.specs.Prelude.{◌≡◌, ◌<◌, ◌≤◌, ◌+◌, ◌^◌, ℕ, true, false, IfOk, OnErr};
+ghost use Rattle.core_exec.specs.Turns.{Reaches};
+ghost use Rattle.core_exec.specs.Exec.{IsSound, Stands, TurnsTo, left_of, moment_of, ready_of, tasks_of, turns_of};
+ghost use Rattle.op_job.specs.OpJob.{ApartOps, FitsOps, cancels_of, no_aim, polls_of};
+
+use crate::op_job::{OpEnd, OpJob};
+use core_exec::{Exec, Ran};
+use driver_core::Turned;
+use op_driver::OpDriver;
+use rent_buf::{IoBufMut, OutOfMemory};
+
+/// An executor of operations over a driver.
+pub type OpExec<D, B> = Exec<D, OpJob<B>, OpEnd<B>>;
+
+// A turn of the driver.
+#[tactic(auto, using(crate::proofs::Frames::kept_sound))]
+fn turn_driver<B: IoBufMut + Drop, D: OpDriver<B>>(exec: &mut OpExec<D, B>) -> Turned
+    requires sound { IsSound (FitsOps D.ops) ApartOps exec.old }
+    ensures sound { IsSound (FitsOps D.ops) ApartOps exec.new }
+    ensures ready { exec.new.ready ≡ exec.old.ready }
+    ensures outputs { exec.new.outputs ≡ exec.old.outputs }
+    ensures numbers { (exec.new.spawned ≡ exec.old.spawned) × (exec.new.turns ≡ exec.old.turns) }
+{
+    exec.driver.turn()
+}
+
+/// A turn of the driver, and then one of the executor, in which the tasks are ready that the driver names: what both answer.
+pub fn turn<B: IoBufMut + Drop, D: OpDriver<B>>(
+    exec: &mut OpExec<D, B>,
+    now: u64,
+) -> (Turned, Result<Ran, OutOfMemory>)
+    requires stands { Stands polls_of cancels_of exec.old }
+    requires sound { IsSound (FitsOps D.ops) ApartOps exec.old }
+    requires moment { moment_of exec.old ≤ now }
+    requires counter { turns_of exec.old < 2 ^ 62 }
+    ensures stands { Stands polls_of cancels_of exec.new }
+    ensures sound { IsSound (FitsOps D.ops) ApartOps exec.new }
+    ensures moment { moment_of exec.new ≡ now }
+    ensures turns { IfOk result.1 (λ ran. TurnsTo polls_of cancels_of no_aim now result.0.woken exec.old exec.new ran) }
+    ensures reaches { IfOk result.1 (λ ran. Reaches (ready_of now result.0.woken exec.old) (tasks_of exec.new) ran.polled.items ran.stopped) }
+    ensures marked { OnErr result.1 ((t : ℕ) → tasks_of exec.new t ≡ ready_of now result.0.woken exec.old t) }
+{
+    let turned = turn_driver(exec);
+    let ran = exec.turn(now, turned.woken.as_slice());
+    (turned, ran)
+}
+
+// Takes out the lowest unfinished task, if there is one, and drops its operation: whether there was one.
+#[tactic(auto, using(crate::proofs::Frames::abandoned_sound))]
+fn abandon_first<B: IoBufMut + Drop, D: OpDriver<B>>(exec: &mut OpExec<D, B>) -> bool
+    requires stands { Stands polls_of cancels_of exec.old }
+    requires sound { IsSound (FitsOps D.ops) ApartOps exec.old }
+    ensures stands { Stands polls_of cancels_of exec.new }
+    ensures sound { IsSound (FitsOps D.ops) ApartOps exec.new }
+    ensures none { result ≡ false → left_of exec.new ≡ 0 }
+    ensures fewer { result ≡ true → left_of exec.new + 1 ≡ left_of exec.old }
+{
+    match exec.take_left() {
+        Some((_, job)) => {
+            job.abandon(&mut exec.driver);
+            true
+        }
+        None => false,
+    }
+}
+
+/// Takes out all unfinished tasks, and drops their operations.
+pub fn abandon_all<B: IoBufMut + Drop, D: OpDriver<B>>(exec: &mut OpExec<D, B>)
+    requires stands { Stands polls_of cancels_of exec.old }
+    requires sound { IsSound (FitsOps D.ops) ApartOps exec.old }
+    ensures stands { Stands polls_of cancels_of exec.new }
+    ensures sound { IsSound (FitsOps D.ops) ApartOps exec.new }
+    ensures none { left_of exec.new ≡ 0 }
+{
+    while abandon_first(exec) {}
+}
+
+#[cfg(test)]
+mod tests;
