@@ -5,6 +5,7 @@ ghost use Rattle.ring_core.specs.declared.world.HandleKind.{HandleKind};
 ghost use Rattle.socket_io.specs.System.{error_number, refusal_of};
 ghost use Rattle.socket_io.specs.SocketTable.{kind_of, is_listener, is_stream, RefusesUnfit};
 
+use crate::mio_io::probe::Probe;
 use mio::event::Source;
 use mio::net::{TcpListener, TcpStream};
 use mio::{Interest, Registry, Token};
@@ -75,12 +76,23 @@ impl Socket {
         }
     }
 
-    /// A read of a stream would block: neither bytes nor the end nor an error is there. Of a listener it isn't known. (libc: `recv` with
-    /// `MSG_PEEK`)
-    pub fn would_block(&self) -> bool {
-        match self {
-            Socket::Stream(stream) => peek_blocks(stream),
-            Socket::Listener(_) => false,
+    /// Whether a call of a direction would end at once: to read a stream, bytes, the end or an error are there, and else the system says so.
+    /// (libc: `recv` with `MSG_PEEK`; `poll`, with no time)
+    pub fn is_ready<R: Net>(
+        &mut self,
+        rt: &R,
+        probe: &mut Probe,
+        read: bool,
+    ) -> Result<bool, NonBlockError>
+        ensures { kind_of self.new ≡ kind_of self.old }
+    {
+        let peeked = match &*self {
+            Socket::Stream(stream) if read => Some(!peek_blocks(stream)),
+            _ => None,
+        };
+        match peeked {
+            Some(ready) => Ok(ready),
+            None => probe.is_ready(rt, self, !read),
         }
     }
 
@@ -99,9 +111,21 @@ impl Socket {
     pub fn register(&mut self, registry: &Registry, key: usize) -> Result<(), NonBlockError>
         ensures { kind_of self.new ≡ kind_of self.old }
     {
+        self.register_for(registry, key, Interest::READABLE | Interest::WRITABLE)
+    }
+
+    // Registers it with a key for what is asked, in place of what it was registered for before.
+    pub(crate) fn register_for(
+        &mut self,
+        registry: &Registry,
+        key: usize,
+        interest: Interest,
+    ) -> Result<(), NonBlockError>
+        ensures { kind_of self.new ≡ kind_of self.old }
+    {
         match self {
-            Socket::Listener(listener) => register_source(registry, listener, key),
-            Socket::Stream(stream) => register_source(registry, stream, key),
+            Socket::Listener(listener) => register_source(registry, listener, key, interest),
+            Socket::Stream(stream) => register_source(registry, stream, key, interest),
         }
     }
 
@@ -150,11 +174,11 @@ fn register_source<S: Source>(
     registry: &Registry,
     source: &mut S,
     key: usize,
+    interest: Interest,
 ) -> Result<(), NonBlockError> {
-    let both = Interest::READABLE | Interest::WRITABLE;
-    let done = match registry.register(source, Token(key), both) {
+    let done = match registry.register(source, Token(key), interest) {
         Err(error) if error.kind() == ErrorKind::AlreadyExists => {
-            registry.reregister(source, Token(key), both)
+            registry.reregister(source, Token(key), interest)
         }
         done => done,
     };
