@@ -1,5 +1,5 @@
 -- Operations that wait in the order of their numbers: how one is found, and what keeps the order.
-use Rattle.std.proofs.Common.{◌≡◌, ◌≢◌, ◌∙◌, ℕ, suc, zero, ◌<◌, ◌≤◌, ◌++◌, Bool, true, false, cond, eqb, not, ◌||◌, Option, Some, None}
+use Rattle.std.proofs.Common.{◌≡◌, ◌≢◌, ◌∙◌, ℕ, suc, zero, ◌<◌, ◌≤◌, ◌++◌, Bool, true, false, cond, eqb, not, ◌||◌, Some}
 use Rattle.std.proofs.Common.{List, [], ◌∷◌, length, get_or, set, Result, Ok, Err, refl, sym, ap, subst, inl, inr, arith, eq-eqb}
 use Rattle.std.specs.Prelude.{filter, remove, IfOk, IfErr}
 use Rattle.std.specs.Ordering.{nat_cmp, ordering_index}
@@ -10,7 +10,7 @@ use Rattle.std.proofs.lemmas.Cmp.{ranked}
 use Rattle.std.proofs.lemmas.List.Sorted.{IsNonDecreasingBy-from_default}
 use Rattle.ready_driver.specs.declared.ready.Direction.TheVariants.{Read}
 use Rattle.ready_driver.specs.declared.scheduled_io.Waiter.{Waiter}
-use Rattle.ready_driver.specs.ScheduledIo.{waiter_of, kept, forgotten, left, is_met, IsOnceEach, IsAscendingFrom, IsInOrder, IsBehind}
+use Rattle.ready_driver.specs.ScheduledIo.{waiter_of, kept, left, is_met, IsOnceEach, IsAscendingFrom, IsInOrder, IsBehind}
 use Rattle.ready_driver.specs.Places.{IsPlace, IsAway}
 use Rattle.ready_driver.proofs.Places.{place-first, place-later, away-empty, away-later}
 

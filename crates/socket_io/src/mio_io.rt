@@ -34,7 +34,7 @@ mod socket;
 mod table;
 
 pub use poller::{BELL_KEY, MOST_EVENTS};
-pub use socket::NO_NUMBER;
+pub use socket::{NO_NUMBER, local};
 
 /// The most bytes that one call moves. (not in monoio)
 pub const MOST_MOVED: usize = 65536;
@@ -344,7 +344,7 @@ impl<R: Net + Drop> Sockets for MioIo<R> {
         if self.table.reserve_one().is_err() {
             return Err(NonBlockError::OutOfMemory);
         }
-        match Socket::listen(&self.rt, port) {
+        match Socket::listen(&self.rt, local(port)) {
             Ok(socket) => Ok(self.table.add(socket)),
             Err(error) => Err(self.counts.fault(fault_by(&error))),
         }
@@ -359,7 +359,7 @@ impl<R: Net + Drop> Sockets for MioIo<R> {
         if self.table.reserve_one().is_err() {
             return Err(NonBlockError::OutOfMemory);
         }
-        match Socket::dial(&self.rt, port) {
+        match Socket::dial(&self.rt, local(port)) {
             Ok(socket) => Ok(self.table.add(socket)),
             Err(error) => Err(self.counts.fault(fault_by(&error))),
         }

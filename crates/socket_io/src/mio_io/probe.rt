@@ -71,7 +71,9 @@ impl Looks {
             Interest::READABLE
         };
         socket.register_for(self.poll.registry(), 0, interest)?;
-        let polled = self.poll.poll(&mut self.events, Some(Duration::from_millis(0)));
+        let polled = self
+            .poll
+            .poll(&mut self.events, Some(Duration::from_millis(0)));
         socket.deregister(self.poll.registry())?;
         match polled {
             Ok(()) => Ok(!self.events.is_empty()),

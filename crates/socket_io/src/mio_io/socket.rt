@@ -2,7 +2,7 @@
 ghost use Rattle.std.specs.Prelude.{◌≡◌, ◌≤◌, length, Some, IfOk};
 ghost use Rattle.std.specs.IoError.{error_kind, raw_os_error};
 ghost use Rattle.ring_core.specs.declared.world.HandleKind.{HandleKind};
-ghost use Rattle.socket_io.specs.System.{error_number, refusal_of};
+ghost use Rattle.socket_io.specs.System.{IsLocal, error_number, refusal_of};
 ghost use Rattle.socket_io.specs.SocketTable.{kind_of, is_listener, is_stream, RefusesUnfit};
 
 use crate::mio_io::probe::Probe;
@@ -13,7 +13,7 @@ use ready_driver::NonBlockError;
 use ring_core::{INVALID, LAST_ERROR};
 use std::io;
 use std::io::{ErrorKind, Read as _, Write as _};
-use std::net::{Ipv4Addr, Net, SocketAddr};
+use std::net::{IpAddr, Ipv4Addr, Net, SocketAddr};
 
 /// The error of a call for which the system tells no number. (Linux: `EIO`)
 pub const NO_NUMBER: u16 = 5;
@@ -37,18 +37,18 @@ pub enum Socket {
 }
 
 impl Socket {
-    /// A socket that listens on a port of this machine. (monoio: `TcpListener::bind`)
-    pub fn listen<R: Net>(rt: &R, port: u16) -> io::Result<Socket>
+    /// A socket that listens at an address. (monoio: `TcpListener::bind`)
+    pub fn listen<R: Net>(rt: &R, addr: SocketAddr) -> io::Result<Socket>
         ensures { IfOk result (λ socket. kind_of socket ≡ HandleKind.Listener) }
     {
-        Ok(Socket::Listener(TcpListener::bind(rt, local(port))?))
+        Ok(Socket::Listener(TcpListener::bind(rt, addr)?))
     }
 
-    /// A socket that connects to a port of this machine. It doesn't wait until it is connected. (monoio: `TcpStream::connect`)
-    pub fn dial<R: Net>(rt: &R, port: u16) -> io::Result<Socket>
+    /// A socket that connects to an address. It doesn't wait until it is connected. (monoio: `TcpStream::connect`)
+    pub fn dial<R: Net>(rt: &R, addr: SocketAddr) -> io::Result<Socket>
         ensures { IfOk result (λ socket. kind_of socket ≡ HandleKind.Stream) }
     {
-        Ok(Socket::Stream(TcpStream::connect(rt, local(port))?))
+        Ok(Socket::Stream(TcpStream::connect(rt, addr)?))
     }
 
     /// The next connection of a listener. (libc: `accept`)
@@ -185,9 +185,12 @@ fn register_source<S: Source>(
     done.map_err(|error| fault_by(&error))
 }
 
-// A port of this machine.
-fn local(port: u16) -> SocketAddr {
-    SocketAddr::from((Ipv4Addr::LOCALHOST, port))
+/// The address of a port of this machine, which no other machine reaches: it is that at which a handle listens, and to which one connects.
+/// (not in monoio, where the caller names an address)
+pub fn local(port: u16) -> SocketAddr
+    ensures { IsLocal result port }
+{
+    SocketAddr::new(IpAddr::V4(Ipv4Addr::new(127, 0, 0, 1)), port)
 }
 
 // What an error of the system says of the call: that it would block, or its number.
