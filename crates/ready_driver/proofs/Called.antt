@@ -156,7 +156,8 @@ memory-called old new request now outcome called keys blocks closes later fails 
 -- A world in memory would have blocked.
 pub memory-blocked : (old new : Memory) (request now : Request Buffer Parts) →
     (attempt old.world (call_of request) ≡ None) × (new.world ≡ old.world) × (now ≡ request) → new.keys ≡ old.keys →
-    new.fails ≡ old.fails → new.closes ≡ old.closes → old.blocks ≤ new.blocks → Rose old.blocks new.blocks → KeepsShown (memory_view old) (memory_view new) →
+    new.fails ≡ old.fails → new.closes ≡ old.closes → old.blocks ≤ new.blocks → Rose old.blocks new.blocks →
+    KeepsShown (memory_view old) (memory_view new) →
     AreDue (memory_view new) (named request) → CallsFor true true (memory_view old) request (memory_view new) now WouldBlock
 memory-blocked old new request now calls keys fails closes later rose shown due = (
   record {

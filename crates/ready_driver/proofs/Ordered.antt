@@ -68,7 +68,9 @@ module _ (ws : List Waiter) (order : IsAscendingFrom 0 ws) (n : ℕ) where
       IfOk r (λ at. IsPlace ws n at) × IfErr r (λ at. IsAway ws n)
   searched (Ok at) inside equal =
       let here = ranked _ n _ (sym (equal nobody)) in (
-        placed n ws at inside here (λ j lt same. (let before = rises 0 ws order j at nobody lt inside in omega (arith, before, here, same))),
+        placed n ws at inside here (λ j lt same. (
+            let before = rises 0 ws order j at nobody lt inside in
+            omega (arith, before, here, same))),
         tt,
       )
   searched (Err at) inside parted = (

@@ -54,7 +54,8 @@ module _ {I : Type 0} (view : I → IoView) (tells memory : Bool) where
   ready-already all h is = record {
     table = refl;
     records = sym (registered-again all.records h is);
-    object = subst (λ b. IsStill tells memory (view all.io) (view all.io) (keyed_unless b (view all.io).keys h) (view all.io).closes) (sym is)
+    object = subst (λ b. IsStill tells memory (view all.io) (view all.io) (keyed_unless b (view all.io).keys h) (view all.io).closes)
+        (sym is)
         (still-same tells memory (view all.io));
   }
 

@@ -27,11 +27,11 @@ use Rattle.ready_driver.specs.declared.non_block.NonBlockError.{NonBlockError}
 use Rattle.ready_driver.specs.declared.non_block.NonBlockError.TheVariants.{Fault, OutOfMemory as NoMemory}
 use Rattle.ready_driver.specs.Reports.{with_key, with_made_key, ShowsBits}
 
--- An object: how often a call of it failed as a whole, would have blocked, and ended with an error; the number of its last call that failed
--- as a whole; how often it waited, but for waits that ended with an error, and how often it was asked to close a handle; how many handles it
--- made; its handles; by handle, the key that it is registered with, if it is; which handles are due, as the next wait reports them; what it
--- reports; and the limit of its last wait, in milliseconds. Every object shows its counts, that number and that limit. The rest means
--- something only where the object shows it.
+-- An object: how often a call of it failed as a whole, would have blocked, and ended with an error; the number of its last call that
+-- failed as a whole; how often it waited, but for waits that ended with an error, and how often it was asked to close a handle; how many
+-- handles it made; its handles; by handle, the key that it is registered with, if it is; which handles are due, as the next wait reports
+-- them; what it reports; and the limit of its last wait, in milliseconds. Every object shows its counts, that number and that limit. The
+-- rest means something only where the object shows it.
 pub record IoView : Type 0 where
   pub faults : ℕ
   pub blocks : ℕ

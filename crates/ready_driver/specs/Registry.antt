@@ -64,7 +64,8 @@ pub record IsSameButRoom {I : Type 0} (old new : Handling I) : Type 0 where
 
 -- What trying to register a handle left, by whether the object took it. A world in memory takes each, and the handle is due then.
 abbrev pub TriesFor : Bool → Bool → ℕ → IoView → IoView → Bool → Type 0
-TriesFor tells memory h old new true = IsStill tells memory old new (with_key old.keys h (Some h)) old.closes × (IsTrue memory → IsDue new h)
+TriesFor tells memory h old new true =
+    IsStill tells memory old new (with_key old.keys h (Some h)) old.closes × (IsTrue memory → IsDue new h)
 TriesFor tells memory h old new false = IsStill tells memory old new old.keys old.closes × (IsTrue memory → ⊥)
 
 -- The user holds one handle more, once. Its record has no bits, nothing waits for it, and it is registered where the object took it. All
@@ -140,8 +141,8 @@ abbrev pub unheld_if : Bool → ℕ → List ℕ
 unheld_if true h = h ∷ []
 unheld_if false h = []
 
--- The holders became these. Of these handles, which nobody holds any more, each isn't registered and has no record, and the object was asked
--- for one close each.
+-- The holders became these. Of these handles, which nobody holds any more, each isn't registered and has no record, and the object was
+-- asked for one close each.
 pub record LetsGo {I : Type 0} (view : I → IoView) (tells memory : Bool) (old : Handling I) (table : Table) (handles : List ℕ)
     (new : Handling I) : Type 0 where
   pub holders : new.table ≡ table

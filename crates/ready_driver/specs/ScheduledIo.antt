@@ -1,6 +1,6 @@
 -- What waits on a handle, as contracts see it. Cited by `ScheduledIo`.
-use Rattle.std.specs.Prelude.{ℕ, suc, ◌≡◌, ◌≢◌, ◌≤◌, ◌<◌, ◌==◌, ⊤, Bool, true, not, List, [], ◌∷◌, length, Option, Some, None, if◌then◌else◌}
-use Rattle.std.specs.Prelude.{filter, find, map, option_map, slice_index_or}
+use Rattle.std.specs.Prelude.{ℕ, suc, ◌≡◌, ◌≢◌, ◌≤◌, ◌<◌, ◌==◌, ⊤, Bool, true, not, List, [], ◌∷◌, length, Option, Some, None}
+use Rattle.std.specs.Prelude.{if◌then◌else◌, filter, find, map, option_map, slice_index_or}
 use Rattle.ready_driver.specs.declared.ready.Direction.{Direction}
 use Rattle.ready_driver.specs.declared.scheduled_io.Waiter.{Waiter}
 use Rattle.ready_driver.specs.Ready.{meets, mask_of}
@@ -73,7 +73,7 @@ abbrev pub IsAscendingFrom : ℕ → List Waiter → Type 0
 IsAscendingFrom least [] = ⊤
 IsAscendingFrom least (w ∷ ws) = (least ≤ w.serial) × IsAscendingFrom (suc w.serial) ws
 
--- So it is, where it is said.
+-- Where a mark says so the operations wait in the order of their numbers.
 abbrev pub IsInOrder : Bool → List Waiter → Type 0
 IsInOrder in_order waiting = in_order ≡ true → IsAscendingFrom 0 waiting
 

@@ -167,8 +167,8 @@ impl<I: NonBlock, B: IoBufMut + Drop> LegacyDriver<I, B> {
 
     /// Submits a request of handles that the user holds, under a group that was made or under none, and returns the new operation's token.
     /// Under a canceled group it submits nothing, and the request comes back. A handle that the object refused to register is tried again,
-    /// and where it is refused again so is the submission: as `Os`, with the number of the object's error. Fewer than `MOST_GIVEN` were submitted before. (monoio: `submit_with_data`;
-    /// `CancelHandle::associate_op`)
+    /// and where it is refused again so is the submission: as `Os`, with the number of the object's error. Fewer than `MOST_GIVEN` were
+    /// submitted before. (monoio: `submit_with_data`; `CancelHandle::associate_op`)
     pub fn submit_with(
         &mut self,
         request: Request<B, VecBuf>,

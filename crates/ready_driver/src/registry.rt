@@ -198,8 +198,9 @@ impl<I: NonBlock> Registry<I> {
     }
 
     /// Each of these handles is registered, before an operation that names them is submitted: one that the object refused is tried again.
-    /// Where it is refused again, so is this call: by `Fault`, with the object's number, only where that failed, or by `OutOfMemory` if memory ran out. Then
-    /// nothing has changed but that handles in front of it are registered. (not in monoio, where a refused handle is an error at once)
+    /// Where it is refused again, so is this call: by `Fault`, with the object's number, only where that failed, or by `OutOfMemory` if
+    /// memory ran out. Then nothing has changed but that handles in front of it are registered. (not in monoio, where a refused handle is
+    /// an error at once)
     pub fn make_ready(&mut self, names: Names) -> Result<(), NonBlockError>
         ensures ok { OnOk result (MakesReady I.view I.tells I.memory self.old (listed names) self.new) }
         ensures calm { OnOk result ((I.view self.new.io).faults ≡ (I.view self.old.io).faults) }

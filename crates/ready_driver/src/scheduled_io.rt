@@ -7,7 +7,8 @@ ghost use Rattle.ready_driver.specs.declared.ready.Direction.{Direction};
 ghost use Rattle.ready_driver.specs.Rooms.{room_of};
 ghost use Rattle.ready_driver.specs.Ready.{meets, mask_of, without, bits_for};
 ghost use Rattle.ready_driver.specs.ScheduledIo.{entry_of, waiter_of, kept, forgotten, is_met, taken, left, tasks_of, unless_met};
-ghost use Rattle.ready_driver.specs.ScheduledIo.{IsWaitingIn, IsOnceEach, ChangesOnly, IsSound, IsAscendingFrom, IsInOrder, IsBehind};
+ghost use Rattle.ready_driver.specs.ScheduledIo.{IsWaitingIn, IsOnceEach, ChangesOnly, IsSound};
+ghost use Rattle.ready_driver.specs.ScheduledIo.{IsAscendingFrom, IsInOrder, IsBehind};
 ghost use Rattle.ready_driver.specs.Places.{IsPlace, IsAway};
 
 mod polls;

@@ -32,8 +32,9 @@ impl<I: NonBlock, B: IoBufMut + Drop> Driver for LegacyDriver<I, B> {
     ghost legacy = { true };
 
     /// It treats the reports that are untreated, asks the object for reports without a wait, and treats those that came. It reaps and
-    /// closes nothing. Where the object fails (`Os`, with its number), or memory runs out, it stops and names nobody: the next turn names those tasks that it woke
-    /// and those of canceled operations, and treats the reports that it didn't treat, so that none is lost. (monoio: `submit`)
+    /// closes nothing. Where the object fails (`Os`, with its number), or memory runs out, it stops and names nobody: the next turn names
+    /// those tasks that it woke and those of canceled operations, and treats the reports that it didn't treat, so that none is lost.
+    /// (monoio: `submit`)
     fn submit(&mut self) -> Turned
         ensures turns { LegacyTurns I.view I.tells I.reporting I.memory self.old self.new result }
         ensures keeps { KeepsRequests self.old self.new }
