@@ -1,5 +1,6 @@
 -- Sockets of the system as an object whose calls don't wait. Cited by `MioIo`.
-use Rattle.std.specs.Prelude.{ℕ, suc, ◌≡◌, ◌≤◌, Bool, true, false, [], length, take, Option, Some, None, List, Result, Ok, Err, is_some, refl}
+use Rattle.std.specs.Prelude.{ℕ, suc, ◌≡◌, ◌≤◌, Bool, true, false, [], length, take, Option, Some, None, List, Result, Ok, Err}
+use Rattle.std.specs.Prelude.{is_some, refl}
 use Rattle.std.specs.FinMap as finite
 use Rattle.std.specs.Coded.{Coded, code_by, coded×, coded_ℕ, coded_option, coded_list}
 use Rattle.rent_buf.specs.Buffer.{Buffer}
@@ -31,9 +32,9 @@ pub record Asks : Type 0 where
   pub closes : ℕ
   pub limit : Option ℕ
 
--- Sockets: how many handles were made, and which are open; the counts of their calls; what was asked of them; how often the system reported,
--- and the reports of its last one that no wait has passed on, if memory ran out in it; and the bytes of the last read, with what is behind
--- them.
+-- Sockets: how many handles were made, and which are open; the counts of their calls; what was asked of them; how often the system
+-- reported, and what it reported last, if memory ran out for that and no wait has passed it on; and the bytes of the last read, with what
+-- is behind them.
 pub record Host : Type 0 where
   pub made : ℕ
   pub kinds : Kinds
@@ -189,7 +190,8 @@ kinds_given kind (Ok h) kinds = finite.insert kinds h kind
 kinds_given kind (Err why) kinds = kinds
 
 -- What the call of a request on sockets answers and leaves. A handle that it makes is a stream, and has the next number. The bytes that it
--- reads are those at the start of the room, which they show. A request that isn't made here ends with an error, and so does one on a handle that isn't open, or is of another kind.
+-- stores are those at the start of the room, which they show. A request that isn't made here ends with an error, and so does one on a
+-- handle that isn't open, or is of another kind.
 pub record HostCalls (old : Host) (request : Request Buffer Parts) (new : Host) (now : Request Buffer Parts) (answer : CallAnswer) :
     Type 0 where
   pub calls : CallsFor false false (host_view old) request (host_view new) now answer

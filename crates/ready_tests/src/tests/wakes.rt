@@ -1,9 +1,7 @@
 // Sends of eight threads that end parks without a limit, over sockets that are silent or busy: no wake-up is lost.
-ghost use Rattle.std.specs.Prelude.{Unit};
-
 use crate::tests::bench::{Bench, Opens};
 use crate::tests::sockets::connects;
-use crate::tests::stage::{Stage, Why, is_like, moved, pends, receive, send};
+use crate::tests::stage::{Stage, Why, is_like, moved, receive, send};
 use ready_driver::Sockets;
 use rent_buf::{IoBufMut as _, Rent};
 use socket_io::MioIo;

@@ -101,8 +101,8 @@ impl Poller {
         }
     }
 
-    /// Waits for events, no longer than so many milliseconds, and puts their reports into an empty list. Where memory runs out for them, the
-    /// next wait doesn't wait, and reports them. (monoio: `Poll::poll`)
+    /// Waits for events, no longer than so many milliseconds, and puts their reports into an empty list. Where memory runs out for them,
+    /// the next wait doesn't wait, and reports them. (monoio: `Poll::poll`)
     #[tactic(auto, using(crate::proofs::Left::left_same))]
     pub fn wait<R: Net>(
         &mut self,

@@ -9,8 +9,8 @@ use std::alloc::Global;
 use std::net::Net;
 use std::time::Duration;
 
-/// A poll of the system beside the one that is waited on: it is asked for one socket at a time, and never waits. It is made when it is first
-/// needed. (not in monoio, which polls the descriptor)
+/// A poll of the system beside the one that is waited on: it is asked for one socket at a time, and never waits. It is made when it is
+/// first needed. (not in monoio, which polls the descriptor)
 #[derive(Drop)]
 pub struct Probe {
     alloc: Global,

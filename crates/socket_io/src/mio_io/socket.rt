@@ -76,8 +76,8 @@ impl Socket {
         }
     }
 
-    /// Whether a call of a direction would end at once: to read a stream, bytes, the end or an error are there, and else the system says so.
-    /// (libc: `recv` with `MSG_PEEK`; `poll`, with no time)
+    /// Whether a call of a direction would end at once: to read a stream, bytes, the end or an error are there, and else the system says
+    /// so. (libc: `recv` with `MSG_PEEK`; `poll`, with no time)
     pub fn is_ready<R: Net>(
         &mut self,
         rt: &R,

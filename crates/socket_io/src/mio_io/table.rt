@@ -119,7 +119,8 @@ impl Table {
         }
     }
 
-    /// Whether a call of a direction on the socket of a handle would end at once. One that isn't open is a fault. (libc: `poll`, with no time)
+    /// Whether a call of a direction on the socket of a handle would end at once. One that isn't open is a fault. (libc: `poll`, with no
+    /// time)
     pub fn is_ready<R: Net>(
         &mut self,
         h: u64,
