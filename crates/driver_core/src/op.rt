@@ -72,6 +72,10 @@ pub enum SubmitFault {
     /// The queue was full, or an entry was due, and the ring was busy: its count of busies rose.
     #[error("Busy")]
     Busy,
+    /// A handle that the request names wasn't registered yet, and the object that makes the calls failed to register it, with this error
+    /// number: its count of faults rose. It comes of a driver by readiness alone, which has no ring.
+    #[error("Os {0}")]
+    Os(u16),
     /// Memory ran out.
     #[error("OutOfMemory")]
     OutOfMemory,
@@ -127,6 +131,10 @@ pub enum Stop {
     /// `MOST_HANDLES`.
     #[error("BadCompletion {0}")]
     BadCompletion(u64),
+    /// The object that makes the calls failed to report, with this error number: its count of faults rose, and no report came. It comes of a
+    /// driver by readiness alone, which has no ring.
+    #[error("Os {0}")]
+    Os(u16),
     /// Memory ran out. Nothing changed.
     #[error("OutOfMemory")]
     OutOfMemory,

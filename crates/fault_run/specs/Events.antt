@@ -23,10 +23,11 @@ use Rattle.driver_core.specs.declared.op.Op.{Op}
 use Rattle.driver_core.specs.declared.op.PollOp.{PollOp}
 use Rattle.driver_core.specs.declared.op.PollOp.TheVariants.{Pending, Ready}
 use Rattle.driver_core.specs.declared.op.Stop.{Stop}
-use Rattle.driver_core.specs.declared.op.Stop.TheVariants.{RingFault as Failed, Busy as IsBusy, BadCompletion as IsBad, OutOfMemory as Short}
+use Rattle.driver_core.specs.declared.op.Stop.TheVariants.{RingFault as Failed, Busy as IsBusy, BadCompletion as IsBad}
+use Rattle.driver_core.specs.declared.op.Stop.TheVariants.{Os as Refusing, OutOfMemory as Short}
 use Rattle.driver_core.specs.declared.op.SubmitError.{SubmitError}
 use Rattle.driver_core.specs.declared.op.SubmitFault.{SubmitFault}
-use Rattle.driver_core.specs.declared.op.SubmitFault.TheVariants.{Full, RingFault as RingFailed, Busy as RingBusy, OutOfMemory}
+use Rattle.driver_core.specs.declared.op.SubmitFault.TheVariants.{Full, RingFault as RingFailed, Busy as RingBusy, Os, OutOfMemory}
 use Rattle.driver_core.specs.declared.op.Submitted.{Submitted}
 use Rattle.driver_core.specs.declared.op.Submitted.TheVariants.{Op as New, Canceled}
 use Rattle.driver_core.specs.declared.op.Turned.{Turned}
@@ -192,11 +193,12 @@ pub record RefusesNamed (old : FaultSession) (request : Request Buffer Parts) (a
   pub unheld : holds_all (driver_in old) (named request) ≡ false
   pub refuses : Refuses old NoHandle answer new
 
--- What a submission that the driver refused answers; nothing where memory ran out.
+-- What a submission that the driver refused answers; nothing where memory ran out. Os comes of no ring.
 abbrev pub refused_answer : SubmitFault → Option Answer
 refused_answer Full = Some (Plain (Refused IsFull))
 refused_answer RingFailed = Some (Kept Fault)
 refused_answer RingBusy = Some (Kept WasBusy)
+refused_answer (Os code) = None
 refused_answer OutOfMemory = None
 
 -- What a submission answers.
@@ -239,12 +241,13 @@ StepsSubmit old request under answer new =
     RefusesNoHandleOf old under answer new
     ⊎ ((group : Option ℕ) × IsGroupOf old under group × StepsUnder old request group answer new)
 
--- What a turn answers, by why it stopped; nothing where memory ran out.
+-- What a turn answers, by why it stopped; nothing where memory ran out. Os comes of no ring.
 abbrev pub stopped_answer : Turned → Option Stop → Option Answer
 stopped_answer turned None = Some (Plain (Turns turned.reaped turned.closed turned.woken))
 stopped_answer turned (Some Failed) = Some (Stopped (Turns turned.reaped turned.closed turned.woken) RingFault)
 stopped_answer turned (Some IsBusy) = Some (Stopped (Turns turned.reaped turned.closed turned.woken) Busy)
 stopped_answer turned (Some (IsBad word)) = Some (Stopped (Turns turned.reaped turned.closed turned.woken) (BadCompletion word))
+stopped_answer turned (Some (Refusing code)) = None
 stopped_answer turned (Some Short) = None
 
 -- A turn was made.

@@ -220,6 +220,8 @@ fn turn_answer(turned: Turned) -> Result<Answer, OutOfMemory>
         Some(Stop::RingFault) => Ok(Answer::Stopped(reply, Halt::RingFault)),
         Some(Stop::Busy) => Ok(Answer::Stopped(reply, Halt::Busy)),
         Some(Stop::BadCompletion(word)) => Ok(Answer::Stopped(reply, Halt::BadCompletion(word))),
+        // A driver over a ring never stops so.
+        Some(Stop::Os(_)) => Err(OutOfMemory),
         Some(Stop::OutOfMemory) => Err(OutOfMemory),
     }
 }

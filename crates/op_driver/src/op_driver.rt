@@ -51,7 +51,8 @@ pub trait OpDriver<B: IoBufMut + Drop>: Driver {
         ensures { IsTrue result ↔ Holds (ops self.now) op.now };
 
     /// Submits a request of handles that the user holds, under no group, and returns the new operation's token. Fewer than `MOST_GIVEN`
-    /// were submitted before. A refused one comes back as it was, with the reason (`SubmitFault`), and none is submitted.
+    /// were submitted before. A refused one comes back as it was, with the reason, and none is submitted: `RingFault` and `Busy` are of the
+    /// completion driver's ring, and `Os` of the readiness driver's object.
     fn submit_op(&mut self, request: Request<B, VecBuf>) -> Result<Op, SubmitError<B>>
         requires held { IsTrue (held self.old (named request)) }
         requires counter { (ops self.old).given < MOST_GIVEN }

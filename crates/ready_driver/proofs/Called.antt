@@ -140,12 +140,13 @@ module _ (old : List HandleState) (request : Request Buffer Parts) (new : List H
 -- A world in memory made a call.
 pub memory-called : (old new : Memory) (request now : Request Buffer Parts) (outcome : Outcome) →
     IsCalled old.world request new.world now outcome → new.keys ≡ with_made_key (made_by outcome) old.keys → new.blocks ≡ old.blocks →
-    old.fails ≤ new.fails → FailRose outcome old.fails new.fails → KeepsShown (memory_view old) (memory_view new) →
-    IsMade true true (memory_view old) request (memory_view new) now outcome
-memory-called old new request now outcome called keys blocks later fails shown = record {
+    new.closes ≡ old.closes → old.fails ≤ new.fails → FailRose outcome old.fails new.fails →
+    KeepsShown (memory_view old) (memory_view new) → IsMade true true (memory_view old) request (memory_view new) now outcome
+memory-called old new request now outcome called keys blocks closes later fails shown = record {
   later = record { faults = omega arith; blocks = omega (arith, blocks); fails = later };
   fails = fails;
   made = called-made old.world request new.world now outcome called;
+  closes = closes;
   ends = called-ends old.world request new.world now outcome called;
   moved = λ told. called-moved old.world request new.world now outcome called;
   called = λ told. (called, keys);
@@ -155,13 +156,15 @@ memory-called old new request now outcome called keys blocks later fails shown =
 -- A world in memory would have blocked.
 pub memory-blocked : (old new : Memory) (request now : Request Buffer Parts) →
     (attempt old.world (call_of request) ≡ None) × (new.world ≡ old.world) × (now ≡ request) → new.keys ≡ old.keys →
-    new.fails ≡ old.fails → old.blocks ≤ new.blocks → Rose old.blocks new.blocks → KeepsShown (memory_view old) (memory_view new) →
+    new.fails ≡ old.fails → new.closes ≡ old.closes → old.blocks ≤ new.blocks → Rose old.blocks new.blocks →
+    KeepsShown (memory_view old) (memory_view new) →
     AreDue (memory_view new) (named request) → CallsFor true true (memory_view old) request (memory_view new) now WouldBlock
-memory-blocked old new request now calls keys fails later rose shown due = (
+memory-blocked old new request now calls keys fails closes later rose shown due = (
   record {
     later = record { faults = omega arith; blocks = later; fails = omega (arith, fails) };
     same = calls.2;
     made = ap length calls.1;
+    closes = closes;
     world = λ told. calls.1;
     keys = λ told. keys;
     shown = λ told. shown;

@@ -2,6 +2,7 @@ pub mod Bits
 pub mod Waiting
 pub mod Places
 pub mod Memory
+pub mod Ordered
 pub mod Lists
 pub mod Looking
 pub mod Flat

@@ -68,33 +68,44 @@ at-none p P empty later (x ∷ xs) is = by-first (p x) refl (λ at. at-none p P 
     by-first true same rec at = absurd (cc)
     by-first false other rec at = by-place (position p xs) other rec at
 
+-- The first entry is that of an operation: there it is found, renewed and forgotten.
+pub place-first : (n : ℕ) (w : Waiter) (ws : List Waiter) → eqb w.serial n ≡ true → IsPlace (w ∷ ws) n 0
+place-first n w ws same = record {
+  within = omega arith;
+  found = λ d. ap (λ b. cond b (Some w) (waiter_of ws n)) same;
+  keeps = λ e is. ap (λ b. cond b (e ∷ ws) (w ∷ kept ws e)) (ap (eqb w.serial) is ∙ same);
+  forgets = λ once. ap (λ b. cond (not b) (w ∷ forgotten ws n) (forgotten ws n)) same
+      ∙ forgotten-none ws n (subst (λ m. waiter_of ws m ≡ None) (eqb-true w.serial n same) once.0);
+}
+
+-- The first entry is another one's: the operation's place is one further.
+pub place-later : (n : ℕ) (w : Waiter) (ws : List Waiter) (i : ℕ) → eqb w.serial n ≡ false → IsPlace ws n i → IsPlace (w ∷ ws) n (suc i)
+place-later n w ws i other there = record {
+  within = omega (arith, there.within);
+  found = λ d. ap (λ b. cond b (Some w) (waiter_of ws n)) other ∙ there.found d;
+  keeps = λ e is. ap (λ b. cond b (e ∷ ws) (w ∷ kept ws e)) (ap (eqb w.serial) is ∙ other) ∙ ap (λ ys. w ∷ ys) (there.keeps e is);
+  forgets = λ once. ap (λ b. cond (not b) (w ∷ forgotten ws n) (forgotten ws n)) other ∙ ap (λ ys. w ∷ ys) (there.forgets once.1);
+}
+
+-- Nothing waits.
+pub away-empty : (n : ℕ) → IsAway [] n
+away-empty n = record { none = refl; joins = λ e is. refl; forgets = refl }
+
+-- The first entry is another one's: the operation doesn't wait where it doesn't behind that.
+pub away-later : (n : ℕ) (w : Waiter) (ws : List Waiter) → eqb w.serial n ≡ false → IsAway ws n → IsAway (w ∷ ws) n
+away-later n w ws other away = record {
+  none = ap (λ b. cond b (Some w) (waiter_of ws n)) other ∙ away.none;
+  joins = λ e is. ap (λ b. cond b (e ∷ ws) (w ∷ kept ws e)) (ap (eqb w.serial) is ∙ other) ∙ ap (λ ys. w ∷ ys) (away.joins e is);
+  forgets = ap (λ b. cond (not b) (w ∷ forgotten ws n) (forgotten ws n)) other ∙ ap (λ ys. w ∷ ys) away.forgets;
+}
+
 -- At its first place an operation's entry is found, renewed and forgotten.
 place-there : (n : ℕ) (ws : List Waiter) (i : ℕ) → position (is_of n) ws ≡ Some i → IsPlace ws n i
-place-there n = at-place (is_of n) (λ ws i. IsPlace ws n i)
-    (λ w ws same. record {
-      within = omega arith;
-      found = λ d. ap (λ b. cond b (Some w) (waiter_of ws n)) same;
-      keeps = λ e is. ap (λ b. cond b (e ∷ ws) (w ∷ kept ws e)) (ap (eqb w.serial) is ∙ same);
-      forgets = λ once. ap (λ b. cond (not b) (w ∷ forgotten ws n) (forgotten ws n)) same
-          ∙ forgotten-none ws n (subst (λ m. waiter_of ws m ≡ None) (eqb-true w.serial n same) once.0);
-    })
-    (λ w ws i other there. record {
-      within = omega (arith, there.within);
-      found = λ d. ap (λ b. cond b (Some w) (waiter_of ws n)) other ∙ there.found d;
-      keeps = λ e is. ap (λ b. cond b (e ∷ ws) (w ∷ kept ws e)) (ap (eqb w.serial) is ∙ other) ∙ ap (λ ys. w ∷ ys) (there.keeps e is);
-      forgets = λ once. ap (λ b. cond (not b) (w ∷ forgotten ws n) (forgotten ws n)) other
-          ∙ ap (λ ys. w ∷ ys) (there.forgets once.1);
-    })
+place-there n = at-place (is_of n) (λ ws i. IsPlace ws n i) (place-first n) (place-later n)
 
 -- An operation with no place doesn't wait.
 away-there : (n : ℕ) (ws : List Waiter) → position (is_of n) ws ≡ None → IsAway ws n
-away-there n = at-none (is_of n) (λ ws. IsAway ws n)
-    (record { none = refl; joins = λ e is. refl; forgets = refl })
-    (λ w ws other away. record {
-      none = ap (λ b. cond b (Some w) (waiter_of ws n)) other ∙ away.none;
-      joins = λ e is. ap (λ b. cond b (e ∷ ws) (w ∷ kept ws e)) (ap (eqb w.serial) is ∙ other) ∙ ap (λ ys. w ∷ ys) (away.joins e is);
-      forgets = ap (λ b. cond (not b) (w ∷ forgotten ws n) (forgotten ws n)) other ∙ ap (λ ys. w ∷ ys) away.forgets;
-    })
+away-there n = at-none (is_of n) (λ ws. IsAway ws n) (away-empty n) (away-later n)
 
 -- What a search for an operation's entry found is its place.
 pub place_is : (n : ℕ) (ws : List Waiter) (o : Option ℕ) → o ≡ position (is_of n) ws → IfSome o (λ at. IsPlace ws n at)

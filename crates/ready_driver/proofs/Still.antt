@@ -21,24 +21,32 @@ later-then a b c x y = record {
 
 module _ (tells memory : Bool) where
   -- No call.
-  pub still-same : (v : IoView) → IsStill tells memory v v v.keys
-  still-same v = record { later = later-same v; made = refl; world = λ t. refl; keys_are = λ m. refl; shown = λ m h ready s. s }
+  pub still-same : (v : IoView) → IsStill tells memory v v v.keys v.closes
+  still-same v = record {
+    later = later-same v;
+    made = refl;
+    closes_are = refl;
+    world = λ t. refl;
+    keys_are = λ m. refl;
+    shown = λ m h ready s. s;
+  }
 
-  -- Two calls: what the second makes of the keys it makes of those that the first left.
-  pub still-then : (a b c : IoView) (keys : List (Option ℕ)) (f : List (Option ℕ) → List (Option ℕ)) → IsStill tells memory a b keys →
-      IsStill tells memory b c (f b.keys) → IsStill tells memory a c (f keys)
+  -- Two calls that close nothing: what the second makes of the keys it makes of those that the first left.
+  pub still-then : (a b c : IoView) (keys : List (Option ℕ)) (f : List (Option ℕ) → List (Option ℕ)) →
+      IsStill tells memory a b keys a.closes → IsStill tells memory b c (f b.keys) b.closes → IsStill tells memory a c (f keys) a.closes
   still-then a b c keys f x y = record {
     later = later-then a b c x.later y.later;
     made = y.made ∙ x.made;
+    closes_are = y.closes_are ∙ x.closes_are;
     world = λ t. y.world t ∙ x.world t;
     keys_are = λ m. y.keys_are m ∙ ap f (x.keys_are m);
     shown = λ m h ready s. y.shown m h ready (x.shown m h ready s);
   }
 
-  -- A fault behind other calls is one of all of them.
-  pub fault-behind : (a b c : IoView) (why : NonBlockError) → IsLater a b → FaultsFor memory b c why → FaultsFor memory a c why
-  fault-behind a b c (Fault code) x y = (omega (arith, x.faults, y.0), y.1)
-  fault-behind a b c OutOfMemory x y = tt
+  -- A fault behind a call that counted none is one of both.
+  pub fault-behind : (a b c : IoView) (why : NonBlockError) → b.faults ≡ a.faults → FaultsFor memory b c why → FaultsFor memory a c why
+  fault-behind a b c (Fault code) x y = (omega (arith, x, y.0), y.1, y.2)
+  fault-behind a b c OutOfMemory x y = y ∙ x
 
 module _ {I : Type 0} (view : I → IoView) (tells memory : Bool) where
   -- A handle that is registered already.
@@ -46,7 +54,8 @@ module _ {I : Type 0} (view : I → IoView) (tells memory : Bool) where
   ready-already all h is = record {
     table = refl;
     records = sym (registered-again all.records h is);
-    object = subst (λ b. IsStill tells memory (view all.io) (view all.io) (keyed_unless b (view all.io).keys h)) (sym is)
+    object = subst (λ b. IsStill tells memory (view all.io) (view all.io) (keyed_unless b (view all.io).keys h) (view all.io).closes)
+        (sym is)
         (still-same tells memory (view all.io));
   }
 
@@ -66,9 +75,9 @@ module _ {I : Type 0} (view : I → IoView) (tells memory : Bool) where
 
   -- The second handle is refused.
   pub refused-second : (old : Handling I) (h k : ℕ) (mid new : Handling I) (why : NonBlockError) →
-      MakesReady view tells memory old (h ∷ []) mid → Refuses view tells memory mid k new why →
-      RefusesReady view tells memory old (h ∷ k ∷ []) new why
-  refused-second old h k mid new why m r = record {
+      MakesReady view tells memory old (h ∷ []) mid → (view mid.io).faults ≡ (view old.io).faults →
+      Refuses view tells memory mid k new why → RefusesReady view tells memory old (h ∷ k ∷ []) new why
+  refused-second old h k mid new why m calm r = record {
     front = h ∷ [];
     refused = k;
     rest = [];
@@ -80,6 +89,6 @@ module _ {I : Type 0} (view : I → IoView) (tells memory : Bool) where
           (keyed_each old.records (view old.io).keys (h ∷ [])) (λ keys. keys) m.object r.object;
     };
     unregistered = ap (λ records. is_registered records k) r.records ∙ r.unregistered;
-    fault = fault-behind tells memory (view old.io) (view mid.io) (view new.io) why m.object.later r.fault;
+    fault = fault-behind tells memory (view old.io) (view mid.io) (view new.io) why calm r.fault;
     never = r.never;
   }

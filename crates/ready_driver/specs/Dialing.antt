@@ -23,7 +23,7 @@ pub record IsOpened {I : Type 0} (view : I → IoView) (tells memory : Bool) (ki
 pub record IsUnopened {I : Type 0} (view : I → IoView) (tells memory : Bool) (old new : Handling I) (why : NonBlockError) : Type 0 where
   pub holders : new.table.holders ≡ old.table.holders
   pub handles : new.records.handles ≡ old.records.handles
-  pub object : IsStill tells memory (view old.io) (view new.io) (view old.io).keys
+  pub object : IsStill tells memory (view old.io) (view new.io) (view old.io).keys (view old.io).closes
   pub cause : FaultsFor memory (view old.io) (view new.io) why ⊎ ((why ≡ Fault INVALID) × (is_old old.table (view old.io).made ≡ true))
 
 -- What opening a handle of a kind answers and leaves.

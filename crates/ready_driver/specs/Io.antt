@@ -1,5 +1,5 @@
 -- An object whose calls don't wait, as its callers see it, and what its calls do. Cited by `NonBlock`.
-use Rattle.std.specs.Prelude.{ℕ, suc, ◌≡◌, ◌≤◌, ◌⊎◌, Bool, true, IsTrue, List, [], length, min, Option, None, Some}
+use Rattle.std.specs.Prelude.{ℕ, suc, ◌≡◌, ◌≤◌, ◌+◌, ◌-◌, ◌^◌, ◌⊎◌, Bool, true, IsTrue, List, [], ◌∷◌, length, min, Option, None, Some}
 use Rattle.std.specs.Prelude.{slice_get, Result, Ok, Err}
 use Rattle.rent_buf.specs.Buffer.{Buffer}
 use Rattle.rent_buf.specs.Parts.{Parts}
@@ -27,14 +27,18 @@ use Rattle.ready_driver.specs.declared.non_block.NonBlockError.{NonBlockError}
 use Rattle.ready_driver.specs.declared.non_block.NonBlockError.TheVariants.{Fault, OutOfMemory as NoMemory}
 use Rattle.ready_driver.specs.Reports.{with_key, with_made_key, ShowsBits}
 
--- An object: how often a call of it failed as a whole, would have blocked, and ended with an error; how many handles it made; its handles;
--- by handle, the key that it is registered with, if it is; which handles are due, as the next wait reports them; what it reports; and the
--- limit of its last wait, in milliseconds. Every object shows its counts and that limit. The rest means something only where the object
--- shows it.
+-- An object: how often a call of it failed as a whole, would have blocked, and ended with an error; the number of its last call that
+-- failed as a whole; how often it waited, but for waits that ended with an error, and how often it was asked to close a handle; how many
+-- handles it made; its handles; by handle, the key that it is registered with, if it is; which handles are due, as the next wait reports
+-- them; what it reports; and the limit of its last wait, in milliseconds. Every object shows its counts, that number and that limit. The
+-- rest means something only where the object shows it.
 pub record IoView : Type 0 where
   pub faults : ℕ
   pub blocks : ℕ
   pub fails : ℕ
+  pub last_fault : ℕ
+  pub waits : ℕ
+  pub closes : ℕ
   pub made : ℕ
   pub world : List HandleState
   pub keys : List (Option ℕ)
@@ -58,11 +62,26 @@ KeepsShown old new = (h ready : ℕ) → IsShown old h ready → IsShown new h r
 abbrev pub AreDue : IoView → List ℕ → Type 0
 AreDue io handles = (h : ℕ) → has_number h handles ≡ true → IsDue io h
 
+-- A count is one more, or stays the last value of a `u64`.
+abbrev pub one_more : ℕ → ℕ
+one_more count = min (count + 1) (2 ^ 64 - 1)
+
+-- How often an object was asked to close a handle, once it was for each of these.
+abbrev pub closes_after : ℕ → List ℕ → ℕ
+closes_after closes [] = closes
+closes_after closes (h ∷ handles) = closes_after (one_more closes) handles
+
 -- The counts never fall.
 pub record IsLater (old new : IoView) : Type 0 where
   pub faults : old.faults ≤ new.faults
   pub blocks : old.blocks ≤ new.blocks
   pub fails : old.fails ≤ new.fails
+
+-- No call was counted: none that failed as a whole, would have blocked or ended with an error.
+pub record IsUncounted (old new : IoView) : Type 0 where
+  pub faults : new.faults ≡ old.faults
+  pub blocks : new.blocks ≡ old.blocks
+  pub fails : new.fails ≡ old.fails
 
 -- The count of errors rose where a call ended with one.
 abbrev pub FailRose : Outcome → ℕ → ℕ → Type 0
@@ -118,13 +137,14 @@ pub record IsMoved (old : List HandleState) (request : Request Buffer Parts) (ne
   pub world : new ≡ (call_effect old request told).world
   pub holds : IsHolding request (held request told (call_effect old request told).got) now
 
--- A call was made. An object that shows its handles moved what the machine moves; a world in memory made the call as such a world does, and
--- a handle that it made isn't registered.
+-- A call was made, and closed nothing. An object that shows its handles moved what the machine moves; a world in memory made the call as
+-- such a world does, and a handle that it made isn't registered.
 pub record IsMade (tells memory : Bool) (old : IoView) (request : Request Buffer Parts) (new : IoView) (now : Request Buffer Parts)
     (outcome : Outcome) : Type 0 where
   pub later : IsLater old new
   pub fails : FailRose outcome old.fails new.fails
   pub made : new.made ≡ made_after outcome old.made
+  pub closes : new.closes ≡ old.closes
   pub ends : EndsFor request now outcome
   pub moved : IsTrue tells → IsMoved old.world request new.world now outcome
   pub called : IsTrue memory → IsCalled old.world request new.world now outcome × (new.keys ≡ with_made_key (made_by outcome) old.keys)
@@ -136,24 +156,26 @@ pub record IsUnmade (tells memory : Bool) (old : IoView) (request : Request Buff
   pub later : IsLater old new
   pub same : now ≡ request
   pub made : new.made ≡ old.made
+  pub closes : new.closes ≡ old.closes
   pub world : IsTrue tells → new.world ≡ old.world
   pub keys : IsTrue memory → new.keys ≡ old.keys
   pub shown : IsTrue memory → KeepsShown old new
 
 -- What the call of a request answers and leaves. `WouldBlock` comes only where its count rose; of a world in memory, exactly where the call
--- isn't made at once, and then each handle that the request names is due.
+-- isn't made at once, and then each handle that the request names is due. Where memory ran out nothing was counted.
 abbrev pub CallsFor : Bool → Bool → IoView → Request Buffer Parts → IoView → Request Buffer Parts → CallAnswer → Type 0
 CallsFor tells memory old request new now (Done outcome) = IsMade tells memory old request new now outcome
 CallsFor tells memory old request new now WouldBlock =
     IsUnmade tells memory old request new now × Rose old.blocks new.blocks
     × (IsTrue memory → (attempt old.world (call_of request) ≡ None) × AreDue new (named request))
-CallsFor tells memory old request new now OutOfMemory = IsUnmade tells memory old request new now
+CallsFor tells memory old request new now OutOfMemory = IsUnmade tells memory old request new now × IsUncounted old new
 
--- A call that moves nothing: it made no handle, the handles are as they were, and these keys are registered. Bits that showed a handle show
--- it still, or the handle is due.
-pub record IsStill (tells memory : Bool) (old new : IoView) (keys : List (Option ℕ)) : Type 0 where
+-- A call that moves nothing: it made no handle, so many closes were asked for in all, the handles are as they were, and these keys are
+-- registered. Bits that showed a handle show it still, or the handle is due.
+pub record IsStill (tells memory : Bool) (old new : IoView) (keys : List (Option ℕ)) (closes : ℕ) : Type 0 where
   pub later : IsLater old new
   pub made : new.made ≡ old.made
+  pub closes_are : new.closes ≡ closes
   pub world : IsTrue tells → new.world ≡ old.world
   pub keys_are : IsTrue memory → new.keys ≡ keys
   pub shown : IsTrue memory → KeepsShown old new
@@ -162,33 +184,36 @@ pub record IsStill (tells memory : Bool) (old new : IoView) (keys : List (Option
 pub record IsWaited (tells memory : Bool) (old new : IoView) : Type 0 where
   pub later : IsLater old new
   pub made : new.made ≡ old.made
+  pub closes : new.closes ≡ old.closes
   pub world : IsTrue tells → new.world ≡ old.world
   pub keys_are : IsTrue memory → new.keys ≡ old.keys
 
--- Why a call failed: `Fault` comes only where its count rose, and never of a world in memory.
+-- Why a call failed: `Fault` comes only where its count rose, with the number that the object shows, and never of a world in memory. Where
+-- memory ran out the count stays.
 abbrev pub FaultsFor : Bool → IoView → IoView → NonBlockError → Type 0
-FaultsFor memory old new (Fault code) = Rose old.faults new.faults × (IsTrue memory → ⊥)
-FaultsFor memory old new NoMemory = Unit {0}
+FaultsFor memory old new (Fault code) = Rose old.faults new.faults × (IsTrue memory → ⊥) × (new.last_fault ≡ code)
+FaultsFor memory old new NoMemory = new.faults ≡ old.faults
 
--- What registering a handle, or taking that back, answers and leaves. A world in memory always does it, and a handle that it registered is
--- due.
+-- What registering a handle, or taking that back, answers and leaves. Done, it counts no fault. A world in memory always does it, and a
+-- handle that it registered is due.
 abbrev pub RegistersFor : Bool → Bool → ℕ → Option ℕ → IoView → IoView → Result Unit NonBlockError → Type 0
 RegistersFor tells memory h key old new (Ok done) =
-    IsStill tells memory old new (with_key old.keys h key) × (IsTrue memory → IsDue new h)
+    IsStill tells memory old new (with_key old.keys h key) old.closes × (IsTrue memory → IsDue new h) × (new.faults ≡ old.faults)
 RegistersFor tells memory h key old new (Err why) =
-    IsStill tells memory old new old.keys × FaultsFor memory old new why × (IsTrue memory → ⊥)
+    IsStill tells memory old new old.keys old.closes × FaultsFor memory old new why × (IsTrue memory → ⊥)
 
--- What closing a handle answers and leaves. A world in memory answers the count 0.
+-- What closing a handle answers and leaves: it counts as one close. A world in memory answers the count 0.
 pub record IsClosed (tells memory : Bool) (old new : IoView) (outcome : Outcome) : Type 0 where
-  pub still : IsStill tells memory old new old.keys
+  pub still : IsStill tells memory old new old.keys (one_more old.closes)
   pub outcome_is : IsTrue memory → outcome ≡ Count 0
 
 -- What a wait with a limit answers and leaves. An object that shows its reports puts just these into the list; after an error there is
--- none. Of a world in memory no handle is due any more, and after an error just those that were. The object shows the limit, unless the
--- wait ended with an error.
+-- none. Of a world in memory no handle is due any more, and after an error just those that were. The object counts the wait and shows the
+-- limit, unless the wait ended with an error.
 abbrev pub WaitsFor : Bool → Bool → Bool → Option ℕ → IoView → IoView → List Report → Result Unit NonBlockError → Type 0
 WaitsFor tells reporting memory limit old new reports (Ok done) =
     IsWaited tells memory old new × (IsTrue reporting → reports ≡ old.reports) × (IsTrue memory → new.due ≡ [])
-    × (new.limit ≡ limit)
+    × (new.limit ≡ limit) × (new.waits ≡ one_more old.waits) × (new.faults ≡ old.faults)
 WaitsFor tells reporting memory limit old new reports (Err why) =
     IsWaited tells memory old new × FaultsFor memory old new why × (reports ≡ []) × (IsTrue memory → new.due ≡ old.due)
+    × (new.waits ≡ old.waits)

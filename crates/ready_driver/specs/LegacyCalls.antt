@@ -11,7 +11,7 @@ use Rattle.ring_core.specs.Request.{named}
 use Rattle.driver_core.specs.declared.op.Op.{Op as Token}
 use Rattle.driver_core.specs.declared.op.SubmitError.{SubmitError}
 use Rattle.driver_core.specs.declared.op.SubmitFault.{SubmitFault}
-use Rattle.driver_core.specs.declared.op.SubmitFault.TheVariants.{Full, RingFault, Busy, OutOfMemory}
+use Rattle.driver_core.specs.declared.op.SubmitFault.TheVariants.{Full, RingFault, Busy, Os, OutOfMemory}
 use Rattle.driver_core.specs.declared.op.Submitted.{Submitted}
 use Rattle.driver_core.specs.declared.op.Submitted.TheVariants.{Op, Canceled}
 use Rattle.driver_core.specs.declared.slot.Slot.{Slot}
@@ -68,13 +68,16 @@ abbrev pub IsFullError : {B : Type 0} → Result (Submitted B) (SubmitError B) �
 IsFullError (Ok submitted) = ⊥
 IsFullError (Err refused) = refused.why ≡ Full
 
--- Why a submission was refused, but for memory, of which so many slots were live: all. Or a handle wasn't registered and was refused again:
--- the object's count of faults rose; a world in memory refuses none. A readiness driver is never Busy.
+-- Why a submission was refused, of which so many slots were live: all. Or a handle wasn't registered and was refused again: the object's
+-- count of faults rose, and it shows the number; a world in memory refuses none. Where memory ran out no fault was counted. A readiness
+-- driver has no ring.
 abbrev pub WhyRefused : {I : Type 0} → (I → IoView) → Bool → Handling I → Handling I → ℕ → SubmitFault → Type 0
 WhyRefused view memory old new live Full = (live ≡ MAX_LIVE) × (new ≡ old)
-WhyRefused view memory old new live RingFault = (live < MAX_LIVE) × Rose (view old.io).faults (view new.io).faults × (IsTrue memory → ⊥)
+WhyRefused view memory old new live RingFault = ⊥
 WhyRefused view memory old new live Busy = ⊥
-WhyRefused view memory old new live OutOfMemory = live < MAX_LIVE
+WhyRefused view memory old new live (Os code) =
+    (live < MAX_LIVE) × Rose (view old.io).faults (view new.io).faults × (IsTrue memory → ⊥) × ((view new.io).last_fault ≡ code)
+WhyRefused view memory old new live OutOfMemory = (live < MAX_LIVE) × ((view new.io).faults ≡ (view old.io).faults)
 
 -- The handles once a submission that names some was refused: the first ones of these are registered.
 pub record Unready {I : Type 0} (view : I → IoView) (tells memory : Bool) (old : Handling I) (handles : List ℕ) (new : Handling I) : Type 0

@@ -14,7 +14,7 @@ use Rattle.driver_core.specs.declared.op.Op.{Op as Token}
 use Rattle.driver_core.specs.declared.op.PollOp.{PollOp}
 use Rattle.driver_core.specs.declared.op.PollOp.TheVariants.{Pending, Ready}
 use Rattle.driver_core.specs.declared.slot.Slot.{Slot}
-use Rattle.driver_core.specs.Holds.{without_ops, unheld_by}
+use Rattle.driver_core.specs.Holds.{is_maker, without_ops, unheld_by}
 use Rattle.driver_core.specs.Members.{leaves}
 use Rattle.ready_driver.specs.Awaits.{slot_awaits, unless, is_met_at, LeavesFor}
 use Rattle.ready_driver.specs.Calling.{Called, CallsOnce}
@@ -41,13 +41,15 @@ abbrev pub outcome_for : Table → Outcome → Outcome
 outcome_for table outcome = outcome_by table outcome (made_by outcome)
 
 -- What a poll itself left of the handles, but for memory: their holders, and the bits and the waiting entries. A pending operation that
--- waits for a direction of a handle which is no file is, with its task, in that handle's waiting list.
+-- waits for a direction of a handle which is no file is, with its task, in that handle's waiting list. No memory was reserved for a handle
+-- where the operation makes none.
 pub record PollsHandling {I B : Type 0} (files : I → ℕ → Bool) (old mid : Handling I) (slot : Option (Slot B)) (number task : ℕ)
     (result : Result (PollOp B) (NoMemory × Token)) : Type 0 where
   pub table : mid.table.holders ≡ old.table.holders
   pub records : Kept
   pub room : records.handles ≡ old.records.handles
   pub leaves : LeavesFor (unless (files old.io) (slot_awaits slot)) records number task mid.records result
+  pub unreserved : is_maker slot ≡ false → (mid.table ≡ old.table) × (records ≡ old.records)
 
 -- What a poll itself called: by whether its operation waits for nothing, or a bit of its handle, which is no file, meets its direction.
 abbrev pub PollsCall : {I B : Type 0} → (I → ℕ → Bool) → (B → Buffer) → Called I → Handling I → Option (Slot B) → Option (Slot B) → I →

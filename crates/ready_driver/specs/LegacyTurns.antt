@@ -7,10 +7,10 @@ use Rattle.wake_core.specs.declared.park.Woken.{Woken}
 use Rattle.wake_core.specs.Sleeping.{Sleeping, Waits, LooksOut, is_still, at_most_one}
 use Rattle.driver_core.specs.declared.driver.Parked.{Parked}
 use Rattle.driver_core.specs.declared.op.Stop.{Stop}
-use Rattle.driver_core.specs.declared.op.Stop.TheVariants.{RingFault, Busy, BadCompletion, OutOfMemory}
+use Rattle.driver_core.specs.declared.op.Stop.TheVariants.{RingFault, Busy, BadCompletion, Os, OutOfMemory}
 use Rattle.driver_core.specs.declared.op.Turned.{Turned}
 use Rattle.ready_driver.specs.declared.non_block.Report.{Report}
-use Rattle.ready_driver.specs.Io.{IoView, IsWaited}
+use Rattle.ready_driver.specs.Io.{IoView, IsWaited, one_more}
 use Rattle.ready_driver.specs.Legacy.{Legacy}
 use Rattle.ready_driver.specs.LegacyStands.{LegacyStands}
 use Rattle.ready_driver.specs.LegacyState.{LegacyState, KeepsRequests}
@@ -51,19 +51,30 @@ pub record StopsTurn {I : Type 0} (view : I → IoView) (tells memory : Bool) (o
   pub object : IsWaited tells memory (view old.handling.io) (view new.handling.io)
   pub treats : Treats old old.untreated new
 
--- What a turn does, by why it stopped. A fault comes only where the object's count of faults rose, and no report came then. Where memory
--- ran out, nothing changed, or what came is untreated: nothing, or what the object shows, where it shows its reports. A turn is never busy,
--- and has no completions.
+-- What came in a turn that ran out of memory is untreated: nothing, where the wait itself ran out of it. Else the object counted the wait,
+-- and it is what the object shows, where it shows its reports.
+abbrev pub LeavesCome : IoView → IoView → Bool → List Report → Type 0
+LeavesCome old new reporting untreated =
+    ((new.waits ≡ old.waits) × (untreated ≡ []))
+    ⊎ ((new.waits ≡ one_more old.waits) × (IsTrue reporting → untreated ≡ old.reports))
+
+-- A turn ran out of memory once it had treated the reports that were untreated before it: no fault was counted, and no report is lost.
+pub record StarvesTurn {I : Type 0} (view : I → IoView) (tells reporting memory : Bool) (old new : Turning I) : Type 0 where
+  pub stops : StopsTurn view tells memory old new
+  pub faults : (view new.handling.io).faults ≡ (view old.handling.io).faults
+  pub left : LeavesCome (view old.handling.io) (view new.handling.io) reporting new.untreated
+
+-- What a turn does, by why it stopped. A fault comes only where the object's count of faults rose, with the number that it shows, and no
+-- report came then. Where memory ran out, nothing changed, or what came is untreated. A turn has no ring, and no completions.
 abbrev pub TurnsBy : {I : Type 0} → (I → IoView) → Bool → Bool → Bool → Turning I → Turning I → Option Stop → Type 0
 TurnsBy view tells reporting memory old new None = ReportsTurn view tells reporting memory old new
-TurnsBy view tells reporting memory old new (Some RingFault) =
-    StopsTurn view tells memory old new × (new.untreated ≡ [])
-    × Rose (view old.handling.io).faults (view new.handling.io).faults × (IsTrue memory → ⊥)
+TurnsBy view tells reporting memory old new (Some RingFault) = ⊥
 TurnsBy view tells reporting memory old new (Some Busy) = ⊥
 TurnsBy view tells reporting memory old new (Some (BadCompletion word)) = ⊥
-TurnsBy view tells reporting memory old new (Some OutOfMemory) =
-    (new ≡ old) ⊎ (StopsTurn view tells memory old new
-    × ((new.untreated ≡ []) ⊎ (IsTrue reporting → new.untreated ≡ (view old.handling.io).reports)))
+TurnsBy view tells reporting memory old new (Some (Os code)) =
+    StopsTurn view tells memory old new × (new.untreated ≡ [])
+    × Rose (view old.handling.io).faults (view new.handling.io).faults × (IsTrue memory → ⊥) × ((view new.handling.io).last_fault ≡ code)
+TurnsBy view tells reporting memory old new (Some OutOfMemory) = (new ≡ old) ⊎ StarvesTurn view tells reporting memory old new
 
 -- Whom a turn names, and whom it leaves to the next one: all tasks that are to be named, or none where it stopped.
 abbrev pub NamesFor : Option Stop → List ℕ → List ℕ → List ℕ → Type 0

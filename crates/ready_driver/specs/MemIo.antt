@@ -7,13 +7,16 @@ use Rattle.ready_driver.specs.Io.{IoView, CallsFor}
 use Rattle.ready_driver.specs.Reports.{reports_of}
 
 -- Handles in memory; by handle, the key with which it is registered, if it is; which handles are due, in the order in which they became so;
--- how often a call would have blocked, and ended with an error; and the limit of the last wait.
+-- how often a call would have blocked, and ended with an error; how often it waited, but for waits that ran out of memory, and was asked to
+-- close a handle; and the limit of the last wait.
 pub record Memory : Type 0 where
   pub world : List HandleState
   pub keys : List (Option ℕ)
   pub due : List ℕ
   pub blocks : ℕ
   pub fails : ℕ
+  pub waits : ℕ
+  pub closes : ℕ
   pub limit : Option ℕ
 
 -- As an object it never fails, made each of its handles, and reports each handle that is due.
@@ -22,6 +25,9 @@ memory_view memory = record {
   faults = 0;
   blocks = memory.blocks;
   fails = memory.fails;
+  last_fault = 0;
+  waits = memory.waits;
+  closes = memory.closes;
   made = length memory.world;
   world = memory.world;
   keys = memory.keys;
@@ -40,4 +46,4 @@ memory_called old request new now answer = CallsFor true true (memory_view old) 
 
 -- No handles.
 abbrev pub no_handles : Memory
-no_handles = record { world = []; keys = []; due = []; blocks = 0; fails = 0; limit = Some 0 }
+no_handles = record { world = []; keys = []; due = []; blocks = 0; fails = 0; waits = 0; closes = 0; limit = Some 0 }

@@ -10,7 +10,7 @@ use Rattle.ring_core.specs.declared.world.HandleKind.{HandleKind}
 use Rattle.ring_core.specs.World.{fresh}
 use Rattle.ready_driver.specs.declared.non_block.NonBlockError.{NonBlockError}
 use Rattle.ready_driver.specs.declared.records.Record.{Record}
-use Rattle.ready_driver.specs.Io.{IoView, IsStill, IsDue, FaultsFor}
+use Rattle.ready_driver.specs.Io.{IoView, IsStill, IsDue, FaultsFor, closes_after}
 use Rattle.ready_driver.specs.MemIo.{Memory}
 use Rattle.ready_driver.specs.Records.{Kept, kept_code, fresh_record, record_at, is_registered, changed, without_record, with_registered}
 use Rattle.ready_driver.specs.Reports.{with_key}
@@ -64,8 +64,9 @@ pub record IsSameButRoom {I : Type 0} (old new : Handling I) : Type 0 where
 
 -- What trying to register a handle left, by whether the object took it. A world in memory takes each, and the handle is due then.
 abbrev pub TriesFor : Bool → Bool → ℕ → IoView → IoView → Bool → Type 0
-TriesFor tells memory h old new true = IsStill tells memory old new (with_key old.keys h (Some h)) × (IsTrue memory → IsDue new h)
-TriesFor tells memory h old new false = IsStill tells memory old new old.keys × (IsTrue memory → ⊥)
+TriesFor tells memory h old new true =
+    IsStill tells memory old new (with_key old.keys h (Some h)) old.closes × (IsTrue memory → IsDue new h)
+TriesFor tells memory h old new false = IsStill tells memory old new old.keys old.closes × (IsTrue memory → ⊥)
 
 -- The user holds one handle more, once. Its record has no bits, nothing waits for it, and it is registered where the object took it. All
 -- other handles stay.
@@ -101,7 +102,7 @@ pub record MakesReady {I : Type 0} (view : I → IoView) (tells memory : Bool) (
     Type 0 where
   pub table : new.table ≡ old.table
   pub records : new.records ≡ registered_each old.records handles
-  pub object : IsStill tells memory (view old.io) (view new.io) (keyed_each old.records (view old.io).keys handles)
+  pub object : IsStill tells memory (view old.io) (view new.io) (keyed_each old.records (view old.io).keys handles) (view old.io).closes
 
 -- A handle wasn't registered, and was refused again: nothing has changed but the object's counts. A world in memory refuses none.
 pub record Refuses {I : Type 0} (view : I → IoView) (tells memory : Bool) (old : Handling I) (h : ℕ) (new : Handling I)
@@ -109,7 +110,7 @@ pub record Refuses {I : Type 0} (view : I → IoView) (tells memory : Bool) (old
   pub unregistered : is_registered old.records h ≡ false
   pub table : new.table ≡ old.table
   pub records : new.records ≡ old.records
-  pub object : IsStill tells memory (view old.io) (view new.io) (view old.io).keys
+  pub object : IsStill tells memory (view old.io) (view new.io) (view old.io).keys (view old.io).closes
   pub fault : FaultsFor memory (view old.io) (view new.io) why
   pub never : IsTrue memory → ⊥
 
@@ -140,12 +141,14 @@ abbrev pub unheld_if : Bool → ℕ → List ℕ
 unheld_if true h = h ∷ []
 unheld_if false h = []
 
--- The holders became these. Of these handles, which nobody holds any more, each isn't registered, is closed and has no record.
+-- The holders became these. Of these handles, which nobody holds any more, each isn't registered and has no record, and the object was
+-- asked for one close each.
 pub record LetsGo {I : Type 0} (view : I → IoView) (tells memory : Bool) (old : Handling I) (table : Table) (handles : List ℕ)
     (new : Handling I) : Type 0 where
   pub holders : new.table ≡ table
   pub records : new.records ≡ without_records old.records handles
   pub object : IsStill tells memory (view old.io) (view new.io) (without_keys (view old.io).keys handles)
+      (closes_after (view old.io).closes handles)
   pub same : handles ≡ [] → new.io ≡ old.io
 
 -- Over handles in memory: one more was created, which isn't registered.

@@ -10,6 +10,7 @@ pub record IsGiven (tells memory : Bool) (kind : HandleKind) (old new : IoView) 
   pub later : IsLater old new
   pub number : h ≡ old.made
   pub made : new.made ≡ suc old.made
+  pub closes : new.closes ≡ old.closes
   pub world : IsTrue tells → new.world ≡ old.world ++ fresh kind ∷ []
   pub keys : IsTrue memory → new.keys ≡ old.keys ++ None ∷ []
   pub shown : IsTrue memory → KeepsShown old new
@@ -17,4 +18,4 @@ pub record IsGiven (tells memory : Bool) (kind : HandleKind) (old new : IoView) 
 -- What listening, or dialling, answers and leaves. An error leaves all as it was.
 abbrev pub GivesFor : Bool → Bool → HandleKind → IoView → IoView → Result ℕ NonBlockError → Type 0
 GivesFor tells memory kind old new (Ok h) = IsGiven tells memory kind old new h
-GivesFor tells memory kind old new (Err why) = IsStill tells memory old new old.keys × FaultsFor memory old new why
+GivesFor tells memory kind old new (Err why) = IsStill tells memory old new old.keys old.closes × FaultsFor memory old new why

@@ -167,8 +167,8 @@ impl<I: NonBlock, B: IoBufMut + Drop> LegacyDriver<I, B> {
 
     /// Submits a request of handles that the user holds, under a group that was made or under none, and returns the new operation's token.
     /// Under a canceled group it submits nothing, and the request comes back. A handle that the object refused to register is tried again,
-    /// and where it is refused again so is the submission. Fewer than `MOST_GIVEN` were submitted before. (monoio: `submit_with_data`;
-    /// `CancelHandle::associate_op`)
+    /// and where it is refused again so is the submission: as `Os`, with the number of the object's error. Fewer than `MOST_GIVEN` were
+    /// submitted before. (monoio: `submit_with_data`; `CancelHandle::associate_op`)
     pub fn submit_with(
         &mut self,
         request: Request<B, VecBuf>,
@@ -221,6 +221,9 @@ impl<I: NonBlock, B: IoBufMut + Drop> LegacyDriver<I, B> {
     /// holds it or it isn't below `MOST_HANDLES`, isn't made, and the outcome is the error `INVALID`. `OutOfMemory` comes if memory runs
     /// out, and the token comes back: no call was made, since the driver takes its own memory first, or the call itself answered that. No
     /// bit and nothing that waits has changed.
+    ///
+    /// A call that ended leaves the bits of its handle, also one that failed. So where an accept failed since the process may open no
+    /// further file, the next one fails in its first poll: submit it once a handle is closed, or some time has passed.
     pub fn poll_op(&mut self, op: Op, task: u64) -> Result<PollOp<B>, (OutOfMemory, Op)>
         requires { Holds self.old op }
         ensures answers { IsTrue I.memory → (D : Legacy) → LegacyStands I.view B.buffer self.old D →
@@ -347,7 +350,7 @@ fn prepare<I: NonBlock, B: Drop>(
     }
     match registry.make_ready(names) {
         Ok(()) => {}
-        Err(NonBlockError::Fault(_)) => return Err(SubmitFault::RingFault),
+        Err(NonBlockError::Fault(code)) => return Err(SubmitFault::Os(code)),
         Err(NonBlockError::OutOfMemory) => return Err(SubmitFault::OutOfMemory),
     }
     match members.enroll(under, number) {
@@ -360,6 +363,7 @@ fn prepare<I: NonBlock, B: Drop>(
 fn reserve<I: NonBlock>(registry: &mut Registry<I>, maker: bool) -> Result<(), OutOfMemory>
     ensures same { IsSameButRoom registry.old registry.new }
     ensures ok { OnOk result (maker ≡ true → HasMadeRoom registry.new) }
+    ensures unreserved { maker ≡ false → registry.new ≡ registry.old }
 {
     if !maker {
         return Ok(());

@@ -4,7 +4,7 @@ ghost use Rattle.std.specs.Prelude.{OnOk, OnErr};
 ghost use Rattle.rent_buf.specs.Counts.{Rose};
 ghost use Rattle.ring_core.specs.Attempt.{is_readable_at};
 ghost use Rattle.ring_core.specs.World.{fresh, look_at, WorldFeeds, WorldFeedsMessage, WorldEnds};
-ghost use Rattle.ready_driver.specs.Io.{FailRose, KeepsShown};
+ghost use Rattle.ready_driver.specs.Io.{FailRose, KeepsShown, one_more};
 ghost use Rattle.ready_driver.specs.MemIo.{memory_called, memory_files, memory_view, no_handles};
 ghost use Rattle.ready_driver.specs.Reports.{bits_of, report_of, reports_of, with_key, with_made_key};
 ghost use Rattle.std.specs.Vec.{vec_len, vec_capacity};
@@ -32,6 +32,8 @@ pub struct MemIo {
     due: Due,
     blocks: u64,
     fails: u64,
+    waits: u64,
+    closes: u64,
     // The limit of the last wait.
     limit: Option<u64>,
 }
@@ -48,6 +50,8 @@ impl Model for MemIo {
       due = m.due.handles;
       blocks = m.blocks;
       fails = m.fails;
+      waits = m.waits;
+      closes = m.closes;
       limit = m.limit;
     } };
 
@@ -65,6 +69,8 @@ impl MemIo {
             due: Due::new(alloc),
             blocks: 0,
             fails: 0,
+            waits: 0,
+            closes: 0,
             limit: Some(0),
         }
     }
@@ -213,6 +219,13 @@ fn count_block(blocks: u64) -> u64
     blocks.saturating_add(1)
 }
 
+// One more, up to the last value.
+fn one_more(count: u64) -> u64
+    ensures { result ≡ one_more count }
+{
+    count.saturating_add(1)
+}
+
 // Takes the memory of one more key, and that the handle can be due, where one may be made.
 fn reserve_key(keys: &mut Vec<Option<usize>>, due: &mut Due, makes: bool) -> Result<(), OutOfMemory>
     requires { length keys.old.items ≤ due.old.count }
@@ -321,6 +334,7 @@ impl NonBlock for MemIo {
 
     /// The count 0: nothing moves.
     fn close(&mut self, h: u64) -> Outcome {
+        self.closes = one_more(self.closes);
         Outcome::Count(0)
     }
 
@@ -333,6 +347,7 @@ impl NonBlock for MemIo {
         match self.report_all(reports) {
             Ok(()) => {
                 self.due.clear();
+                self.waits = one_more(self.waits);
                 self.limit = limit;
                 Ok(())
             }

@@ -63,6 +63,28 @@ impl Reports {
         }
     }
 
+    /// The reports of a vector, in its memory. (not in monoio)
+    pub fn from_vec(list: Vec<Report>) -> Reports
+        ensures { result ≡ list.items }
+    {
+        Reports { list }
+    }
+
+    /// The vector of the reports, in the list's memory. (not in monoio)
+    pub fn into_vec(self) -> Vec<Report>
+        ensures { result.items ≡ self }
+    {
+        let Reports { list } = self;
+        list
+    }
+
+    /// The reports, in order. (mio: `Events::iter`)
+    pub fn as_slice(&self) -> &[Report]
+        ensures { result.now ≡ self.now }
+    {
+        self.list.as_slice()
+    }
+
     /// How many reports there are. (not in monoio)
     pub fn len(&self) -> usize
         ensures { result ≡ length self.now }
@@ -97,8 +119,9 @@ impl Reports {
 /// An object whose calls don't wait: it makes the call of a request at once or answers that it would block, and reports which handles
 /// became ready. (monoio: the non-blocking file descriptors, and `mio::Poll`)
 ///
-/// Every object shows three counts, which never fall: how often it failed, would have blocked, and ended a call with an error; and behind a
-/// wait that didn't fail, the limit of that wait. Some show their handles too, as a world has them, and some what a wait reports; and some
+/// Every object shows three counts, which never fall: how often it failed, would have blocked, and ended a call with an error; the number
+/// of the last call that failed; how often it waited, and was asked to close a handle; and behind a wait that didn't fail, the limit of that
+/// wait. Some show their handles too, as a world has them, and some what a wait reports; and some
 /// are a world in memory, which is known in all: a wait reports each handle that is due, as it is from its registration on, from a call
 /// that would block on it, and from what arrives at it.
 pub trait NonBlock: Calls + Drop {

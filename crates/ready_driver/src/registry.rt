@@ -198,10 +198,12 @@ impl<I: NonBlock> Registry<I> {
     }
 
     /// Each of these handles is registered, before an operation that names them is submitted: one that the object refused is tried again.
-    /// Where it is refused again, so is this call: by `Fault` only where the object failed, or by `OutOfMemory` if memory ran out. Then
-    /// nothing has changed but that handles in front of it are registered. (not in monoio, where a refused handle is an error at once)
+    /// Where it is refused again, so is this call: by `Fault`, with the object's number, only where that failed, or by `OutOfMemory` if
+    /// memory ran out. Then nothing has changed but that handles in front of it are registered. (not in monoio, where a refused handle is
+    /// an error at once)
     pub fn make_ready(&mut self, names: Names) -> Result<(), NonBlockError>
         ensures ok { OnOk result (MakesReady I.view I.tells I.memory self.old (listed names) self.new) }
+        ensures calm { OnOk result ((I.view self.new.io).faults ≡ (I.view self.old.io).faults) }
         ensures same { are_registered self.old.records (listed names) ≡ true → IsOk result × (self.new ≡ self.old) }
         ensures err { IfErr result (λ why. RefusesReady I.view I.tells I.memory self.old (listed names) self.new why) }
     {
@@ -218,6 +220,7 @@ impl<I: NonBlock> Registry<I> {
     // The same, of one handle.
     fn make_one_ready(&mut self, h: u64) -> Result<(), NonBlockError>
         ensures ok { OnOk result (MakesReady I.view I.tells I.memory self.old (h ∷ []) self.new) }
+        ensures calm { OnOk result ((I.view self.new.io).faults ≡ (I.view self.old.io).faults) }
         ensures same { is_registered self.old.records h ≡ true → IsOk result × (self.new ≡ self.old) }
         ensures err { IfErr result (λ why. Refuses I.view I.tells I.memory self.old h self.new why) }
     {

@@ -4,7 +4,7 @@ use Rattle.std.specs.FinMap.{len}
 use Rattle.rent_buf.specs.Buf.{built}
 use Rattle.rent_buf.specs.declared.plain.Buf.{Buf}
 use Rattle.driver_core.specs.declared.op.Stop.{Stop}
-use Rattle.driver_core.specs.declared.op.Stop.TheVariants.{RingFault, Busy, BadCompletion, OutOfMemory}
+use Rattle.driver_core.specs.declared.op.Stop.TheVariants.{RingFault, Busy, BadCompletion, Os, OutOfMemory}
 use Rattle.driver_core.specs.declared.op.Turned.{Turned}
 use Rattle.driver_core.specs.Op.{number_of}
 use Rattle.driver_core.specs.Slot.{number_at}
@@ -37,23 +37,24 @@ stays-turned old new None does = record {
   world = does.object.world refl;
   keys = does.object.keys_are refl;
 }
-stays-turned old new (Some RingFault) does = record {
+stays-turned old new (Some RingFault) does = absurd does
+stays-turned old new (Some Busy) does = absurd does
+stays-turned old new (Some (BadCompletion word)) does = absurd does
+stays-turned old new (Some (Os code)) does = record {
   table = ap (λ all. all.table) does.0.treats.handling;
   world = does.0.object.world refl;
   keys = does.0.object.keys_are refl;
 }
-stays-turned old new (Some Busy) does = absurd does
-stays-turned old new (Some (BadCompletion word)) does = absurd does
 stays-turned old new (Some OutOfMemory) does = elim does [
   | inl same ↦ record {
     table = ap (λ all. all.handling.table) same;
     world = ap (λ all. all.handling.io.world) same;
     keys = ap (λ all. all.handling.io.keys) same;
   }
-  | inr stops ↦ record {
-    table = ap (λ all. all.table) stops.0.treats.handling;
-    world = stops.0.object.world refl;
-    keys = stops.0.object.keys_are refl;
+  | inr starves ↦ record {
+    table = ap (λ all. all.table) starves.stops.treats.handling;
+    world = starves.stops.object.world refl;
+    keys = starves.stops.object.keys_are refl;
   }
 ]
 

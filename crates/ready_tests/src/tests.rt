@@ -4,6 +4,7 @@ mod bench;
 mod bits;
 mod dials;
 mod echo;
+mod files;
 mod full;
 mod many;
 mod memory;

@@ -41,7 +41,7 @@ use Rattle.uring_driver.specs.Submitted.{AddsTo, WhyRefused, SubmitRefused}
 use Rattle.uring_driver.specs.Turned.{TurnsFor}
 use Rattle.driver_core.specs.declared.op.Turned.{Turned}
 use Rattle.driver_core.specs.declared.op.Stop.{Stop}
-use Rattle.driver_core.specs.declared.op.Stop.TheVariants.{RingFault, Busy, BadCompletion, OutOfMemory}
+use Rattle.driver_core.specs.declared.op.Stop.TheVariants.{RingFault, Busy, BadCompletion, Os, OutOfMemory}
 use Rattle.driver_core.specs.declared.op.SubmitError.{SubmitError}
 use Rattle.driver_core.specs.declared.op.SubmitFault.{SubmitFault}
 use Rattle.ring_core.specs.declared.request.Request.{Request}
@@ -126,6 +126,7 @@ pub stopped-same : (L : Ledger) (old new : IoUringDriver RingView Buf) (turned :
 stopped-same L old new turned queued RingFault turns = absurd (turns refl)
 stopped-same L old new turned queued Busy turns = absurd (turns.0 refl)
 stopped-same L old new turned queued (BadCompletion word) turns = absurd turns
+stopped-same L old new turned queued (Os code) turns = absurd turns
 stopped-same L old new turned queued OutOfMemory turns = turns
 
 -- A driver with the same slots holds the same tokens.
@@ -141,6 +142,7 @@ stands-refused : (old new : IoUringDriver RingView Buf) (L : Ledger) (why : Subm
 stands-refused old new L SubmitFault.Full refused stands = subst (λ d. Stands (λ r. r) built d L) (sym refused) stands
 stands-refused old new L SubmitFault.RingFault refused stands = absurd (refused.1 refl)
 stands-refused old new L SubmitFault.Busy refused stands = absurd (refused.1 refl)
+stands-refused old new L (SubmitFault.Os code) refused stands = absurd refused
 stands-refused old new L SubmitFault.OutOfMemory refused stands = refused L stands
 
 -- So does the session.

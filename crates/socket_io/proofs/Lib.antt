@@ -1,2 +1,3 @@
 pub mod Hosted
 pub mod Opened
+pub mod Left

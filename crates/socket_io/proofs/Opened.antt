@@ -118,3 +118,7 @@ unfit-found fits x kind result is refuses = subst (λ y. RefusesUnfit (fits y) r
 pub there-found : {A E : Type 0} (x : Option HandleKind) (kind : HandleKind) (result : Result A E) → x ≡ Some kind → OnOk result (IsSome x)
 there-found x kind (Ok done) is = subst IsSome (sym is) refl
 there-found x kind (Err why) is = tt
+
+-- What a table has is there: it isn't so that nothing is.
+pub fit-found : {A : Type 0} (x : Option HandleKind) (kind : HandleKind) → x ≡ Some kind → is_some x ≡ false → A
+fit-found x kind is none = (let there = sym none ∙ ap is_some is in let f : ⊥ = cc in absurd f)

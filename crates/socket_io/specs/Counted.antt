@@ -37,9 +37,9 @@ SaysNothing (Done (From k addr)) = ⊥
 SaysNothing (Done (Made h)) = ⊥
 SaysNothing NoMemory = Unit {0}
 
--- A call that failed as a whole is counted. One for which memory ran out isn't.
+-- A call that failed as a whole is counted, and its number is kept. One for which memory ran out isn't.
 abbrev pub ErrorCounted : NonBlockError → Counts → Counts → Type 0
-ErrorCounted (Fault code) old new = Raises old.faults new.faults × (new ≡ record old { faults = new.faults })
+ErrorCounted (Fault code) old new = Raises old.faults new.faults × (new ≡ record old { faults = new.faults; last_fault = code })
 ErrorCounted OutOfMemory old new = new ≡ old
 
 -- So is any call that may fail as a whole.

@@ -1,10 +1,10 @@
--- The events of a poll's last wait. Cited by `Poller`.
-use Rattle.std.specs.Prelude.{List, [], Option, Some, None}
-use Rattle.mio.specs.declared.event.event.Event.{Event}
+-- A poll of the system as contracts see it. Cited by `Poller`.
+use Rattle.std.specs.Prelude.{ℕ, false, [], Option, Some, None}
 use Rattle.mio.specs.Events.{items}
+use Rattle.socket_io.specs.Polled.{Polled}
 use Rattle.socket_io.specs.declared.mio_io.poller.Waits.{Waits}
 
--- The events of the last wait; none where no poll was made.
-abbrev pub last_events : Option Waits → List Event
-last_events (Some waits) = items waits.events
-last_events None = []
+-- How often the system reported, and the events of its last report; none where no poll was made.
+abbrev pub polled_of : ℕ → Option Waits → Polled
+polled_of polls (Some waits) = record { polls = polls; events = items waits.events; unreported = waits.unreported }
+polled_of polls None = record { polls = polls; events = []; unreported = false }

@@ -7,13 +7,15 @@ ghost use Rattle.ring_core.specs.Surroundings.{around, request_around};
 ghost use Rattle.ready_driver.specs.Io.{RegistersFor, IsClosed, WaitsFor};
 ghost use Rattle.ready_driver.specs.Sockets.{GivesFor};
 ghost use Rattle.socket_io.specs.MioIo.{no_sockets, host_view, AcceptsFor, MovesFor, ReceivesFor, IsInvalid, HostCalls};
-ghost use Rattle.socket_io.specs.MioIo.{closed_as, kinds_given};
+ghost use Rattle.socket_io.specs.MioIo.{closed_as, kinds_given, KeepsAsks};
+ghost use Rattle.socket_io.specs.Polled.{WaitLeaves};
 ghost use Rattle.socket_io.specs.Counted.{IsCounted, ResultCounted};
 ghost use Rattle.socket_io.specs.SocketTable.{is_listener, is_stream, RefusesUnfit};
 ghost use Rattle.ready_driver.specs.SocketLaws.{no-memory};
 
 use crate::mio_io::counts::Counts;
 use crate::mio_io::poller::Poller;
+use crate::mio_io::probe::Probe;
 use crate::mio_io::socket::{Refusal, Socket, fault_by};
 use crate::mio_io::table::Table;
 use driver_core::{CallAnswer, Calls};
@@ -27,11 +29,12 @@ use wake_core::Bell;
 
 mod counts;
 mod poller;
+mod probe;
 mod socket;
 mod table;
 
 pub use poller::{BELL_KEY, MOST_EVENTS};
-pub use socket::NO_NUMBER;
+pub use socket::{NO_NUMBER, local};
 
 /// The most bytes that one call moves. (not in monoio)
 pub const MOST_MOVED: usize = 65536;
@@ -52,11 +55,16 @@ pub struct MioIo<R> {
     rt: R,
     table: Table,
     poller: Poller,
+    // What says whether a socket is ready.
+    probe: Probe,
     // Where bytes are read.
     room: Vec<u8>,
     // The bytes that are sent.
     sent: ByteList,
     counts: Counts,
+    // How often they waited, but for waits that ended with an error, and were asked to close a handle.
+    waits: u64,
+    closes: u64,
     // The limit of the last wait.
     limit: Option<u64>,
 }
@@ -67,9 +75,9 @@ impl<R> Model for MioIo<R> {
 
     ghost Value = { Host };
 
-    ghost coded = { host_code (Prim.hlevel codes) (Prim.hlevel codes) };
+    ghost coded = { host_code (Prim.hlevel codes) (Prim.hlevel codes) (Prim.hlevel codes) };
 
-    ghost view = { λ m. host_of m.table m.counts m.limit };
+    ghost view = { λ m. host_of m.table m.counts (record { waits = m.waits; closes = m.closes; limit = m.limit }) m.poller m.room.items };
 }
 
 impl<R: Net> MioIo<R> {
@@ -82,9 +90,12 @@ impl<R: Net> MioIo<R> {
             rt,
             table: Table::new(alloc),
             poller: Poller::new(alloc),
+            probe: Probe::new(alloc),
             room: Vec::new(alloc),
             sent: ByteList::new(alloc),
             counts: Counts::new(),
+            waits: 0,
+            closes: 0,
             limit: Some(0),
         }
     }
@@ -151,19 +162,17 @@ impl<R: Net> MioIo<R> {
         }
     }
 
-    // A wait for readiness: to read a stream it blocks where a read would; else it is over once the driver asks, which it does when the
-    // handle is reported.
+    // A wait for readiness: it is over where a read of a stream, an accept of a listener or a write would end at once.
     fn look(&mut self, h: u64, read: bool) -> CallAnswer
         ensures looks { MovesFor 0 self.old self.new result }
         ensures unfit { is_some (finite.get self.old.kinds h) ≡ false → IsInvalid result }
     {
-        if !self.table.is_open(h) {
-            return CallAnswer::Done(self.counts.fail(INVALID));
+        match self.table.is_ready(h, &self.rt, &mut self.probe, read) {
+            Ok(true) => CallAnswer::Done(Outcome::Count(0)),
+            Ok(false) => self.counts.refuse(Refusal::WouldBlock),
+            Err(NonBlockError::Fault(code)) => CallAnswer::Done(self.counts.fail(code)),
+            Err(NonBlockError::OutOfMemory) => CallAnswer::OutOfMemory,
         }
-        if read && self.table.would_block(h) {
-            return self.counts.refuse(Refusal::WouldBlock);
-        }
-        CallAnswer::Done(Outcome::Count(0))
     }
 }
 
@@ -193,9 +202,8 @@ fn read_into(table: &Table, h: u64, room: &mut [u8], most: u32) -> Result<u32, R
 impl<R: Net + Drop> Calls for MioIo<R> {
     ghost called = { HostCalls };
 
-    /// Makes the call of a request, where it doesn't block. A handle that it makes isn't registered. A `PollAdd` to read a
-    /// stream blocks where a read would; else one of an open handle answers the count 0 at once: a driver asks for it when a wait reported
-    /// the handle. (monoio: `legacy_call`, of a `PollAdd`; there to write and on a listener the descriptor is polled too)
+    /// Makes the call of a request, where it doesn't block. A handle that it makes isn't registered. A `PollAdd` blocks where a read, an
+    /// accept or a write would, and else ends with the count 0. (monoio: `legacy_call`, which polls the descriptor of a `PollAdd`)
     fn call<B: IoBufMut>(&mut self, request: &mut Request<B, VecBuf>) -> CallAnswer {
         match request.call() {
             Call::Accept { h } => self.accept(h),
@@ -230,6 +238,7 @@ impl<R: Net + Drop> NonBlock for MioIo<R> {
     fn register(&mut self, h: u64, key: usize) -> Result<(), NonBlockError>
         ensures registers { RegistersFor false false h (Some key) (host_view self.old) (host_view self.new) result }
         ensures counted { ResultCounted self.old.counts self.new.counts result }
+        ensures asks { KeepsAsks self.old self.new }
         ensures kinds { self.new.kinds ≡ self.old.kinds }
         ensures there { OnOk result (IsSome (finite.get self.old.kinds h)) }
     {
@@ -249,6 +258,7 @@ impl<R: Net + Drop> NonBlock for MioIo<R> {
     fn deregister(&mut self, h: u64) -> Result<(), NonBlockError>
         ensures registers { RegistersFor false false h None (host_view self.old) (host_view self.new) result }
         ensures counted { ResultCounted self.old.counts self.new.counts result }
+        ensures asks { KeepsAsks self.old self.new }
         ensures kinds { self.new.kinds ≡ self.old.kinds }
         ensures there { OnOk result (IsSome (finite.get self.old.kinds h)) }
     {
@@ -267,7 +277,9 @@ impl<R: Net + Drop> NonBlock for MioIo<R> {
         ensures counted { IsCounted self.old.counts self.new.counts (CallAnswer.Done result) }
         ensures outcome { result ≡ closed_as (finite.get self.old.kinds h) }
         ensures kinds { self.new.kinds ≡ finite.remove self.old.kinds h }
+        ensures left { (self.new.polls ≡ self.old.polls) × (self.new.unreported ≡ self.old.unreported) }
     {
+        self.closes = self.closes.saturating_add(1);
         if self.table.close(h) {
             Outcome::Count(0)
         } else {
@@ -283,17 +295,19 @@ impl<R: Net + Drop> NonBlock for MioIo<R> {
     }
 
     /// It reports at most `MOST_EVENTS` handles, and none where it was interrupted. A ring of the bell ends it, and is reported with the
-    /// key `BELL_KEY`, which names no handle. Where memory runs out, the next wait reports them. It makes the poll, where there is none
-    /// yet.
+    /// key `BELL_KEY`, which names no handle. Where memory runs out for reports that came, the next wait doesn't wait, and reports just
+    /// these. It makes the poll, where there is none yet.
     fn wait(&mut self, limit: Option<u64>, reports: &mut Reports) -> Result<(), NonBlockError>
         requires { reports.old ≡ [] }
         ensures waits { WaitsFor false false false limit (host_view self.old) (host_view self.new) reports.new result }
         ensures few { length reports.new ≤ MOST_EVENTS }
         ensures counted { ResultCounted self.old.counts self.new.counts result }
         ensures kinds { self.new.kinds ≡ self.old.kinds }
+        ensures left { WaitLeaves self.old.polls self.old.unreported self.new.polls self.new.unreported reports.new result }
     {
         match self.poller.wait(&self.rt, limit, reports) {
             Ok(()) => {
+                self.waits = self.waits.saturating_add(1);
                 self.limit = limit;
                 Ok(())
             }
@@ -324,12 +338,13 @@ impl<R: Net + Drop> Sockets for MioIo<R> {
     fn listen(&mut self, port: u16) -> Result<u64, NonBlockError>
         ensures gives { GivesFor false false Listener (host_view self.old) (host_view self.new) result }
         ensures counted { ResultCounted self.old.counts self.new.counts result }
+        ensures asks { KeepsAsks self.old self.new }
         ensures kinds { self.new.kinds ≡ kinds_given Listener result self.old.kinds }
     {
         if self.table.reserve_one().is_err() {
             return Err(NonBlockError::OutOfMemory);
         }
-        match Socket::listen(&self.rt, port) {
+        match Socket::listen(&self.rt, local(port)) {
             Ok(socket) => Ok(self.table.add(socket)),
             Err(error) => Err(self.counts.fault(fault_by(&error))),
         }
@@ -338,12 +353,13 @@ impl<R: Net + Drop> Sockets for MioIo<R> {
     fn dial(&mut self, port: u16) -> Result<u64, NonBlockError>
         ensures gives { GivesFor false false Stream (host_view self.old) (host_view self.new) result }
         ensures counted { ResultCounted self.old.counts self.new.counts result }
+        ensures asks { KeepsAsks self.old self.new }
         ensures kinds { self.new.kinds ≡ kinds_given Stream result self.old.kinds }
     {
         if self.table.reserve_one().is_err() {
             return Err(NonBlockError::OutOfMemory);
         }
-        match Socket::dial(&self.rt, port) {
+        match Socket::dial(&self.rt, local(port)) {
             Ok(socket) => Ok(self.table.add(socket)),
             Err(error) => Err(self.counts.fault(fault_by(&error))),
         }

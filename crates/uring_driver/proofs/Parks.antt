@@ -4,7 +4,7 @@ use Rattle.wake_core.specs.declared.park.Woken.{Woken}
 use Rattle.wake_core.specs.Sleeping.{Sleeping, Waits}
 use Rattle.wake_core.proofs.Waiting.{waits-or-not}
 use Rattle.driver_core.specs.declared.op.Stop.{Stop}
-use Rattle.driver_core.specs.declared.op.Stop.TheVariants.{RingFault, Busy, BadCompletion, OutOfMemory}
+use Rattle.driver_core.specs.declared.op.Stop.TheVariants.{RingFault, Busy, BadCompletion, Os, OutOfMemory}
 use Rattle.uring_driver.specs.Begun.{HasTreated}
 use Rattle.uring_driver.specs.Parked.{MakesRound, DrainsFor}
 
@@ -21,4 +21,5 @@ drains_for_treated None limit old new remote treated made = made
 drains_for_treated (Some RingFault) limit old new remote treated made = elim treated [ ]
 drains_for_treated (Some Busy) limit old new remote treated made = made
 drains_for_treated (Some (BadCompletion word)) limit old new remote treated made = made
+drains_for_treated (Some (Os code)) limit old new remote treated made = elim treated [ ]
 drains_for_treated (Some OutOfMemory) limit old new remote treated made = elim treated [ ]

@@ -30,7 +30,7 @@ use Rattle.ring_core.proofs.Grouping.{op_groups, groups-submit}
 use Rattle.ring_core.proofs.Staying.{groups_of, stays-make_room}
 use Rattle.ring_core.specs.Run.{ledger}
 use Rattle.driver_core.specs.declared.op.SubmitFault.{SubmitFault}
-use Rattle.driver_core.specs.declared.op.SubmitFault.TheVariants.{Full, RingFault, Busy, OutOfMemory}
+use Rattle.driver_core.specs.declared.op.SubmitFault.TheVariants.{Full, RingFault, Busy, Os, OutOfMemory}
 use Rattle.driver_core.specs.declared.slot.Slot.{Slot}
 use Rattle.uring_driver.specs.declared.uring.IoUringDriver.{IoUringDriver}
 use Rattle.uring_driver.specs.Uring.{ring_in, room_in, whole_ring, holds_all}
@@ -237,6 +237,7 @@ module _ {R B : Type 0} (view : R → RingView) (buffer : B → Buffer) where
       ∙ ap (λ s. record d { slots = s; holding = new.holding }) h.2 ∙ ap (λ x. record d { holding = x }) (full refl)
   why-refused d new steady RingFault maker keeps full same values h = h.1
   why-refused d new steady Busy maker keeps full same values h = h.1
+  why-refused d new steady (Os code) maker keeps full same values h = absurd h
   why-refused d new steady OutOfMemory maker keeps full same values h = λ L old.
       stands-same view buffer d new L _ h.1.ring h.1.due h.1.room values (ap (λ x. x.given) same)
       (keeps-same maker d.holding new.holding keeps) (ap (λ x. x.members) same) old
@@ -247,6 +248,7 @@ module _ {R B : Type 0} (view : R → RingView) (buffer : B → Buffer) where
   same-room d new steady Full h e = (let f : ⊥ = cc in absurd f)
   same-room d new steady RingFault h e = (let f : ⊥ = cc in absurd f)
   same-room d new steady Busy h e = (let f : ⊥ = cc in absurd f)
+  same-room d new steady (Os code) h e = absurd h
   same-room d new steady OutOfMemory h e = record { ring = h.1.ring; due = h.1.due }
 
 -- What a submission put in the slots, over those that were there before.

@@ -11,7 +11,7 @@ use Rattle.ring_core.specs.Entry.{close_entry}
 use Rattle.ring_core.specs.Ring.{RingView}
 use Rattle.ring_core.specs.Step.{step}
 use Rattle.driver_core.specs.declared.op.Stop.{Stop}
-use Rattle.driver_core.specs.declared.op.Stop.TheVariants.{RingFault, Busy, BadCompletion, OutOfMemory}
+use Rattle.driver_core.specs.declared.op.Stop.TheVariants.{RingFault, Busy, BadCompletion, Os, OutOfMemory}
 use Rattle.driver_core.specs.declared.op.Turned.{Turned}
 use Rattle.driver_core.specs.Holds.{AreMaking}
 use Rattle.driver_core.specs.Slot.{KeepsNumbers, number_at}
@@ -62,6 +62,7 @@ module _ {R B : Type 0} (view : R → RingView) (buffer : B → Buffer) (tells s
       let good = none ready.mid treats.taken ready.rest ready.front ready.ready in
       let same : ◌≡◌ {A = Option ℕ} None (Some word) = sym good ∙ ap (λ t. t.bad) treats.treated in
       let f : ⊥ = cc in f
+  goes-on old new turned queued (Some (Os code)) stops treats shows calm none = absurd stops
   goes-on old new turned queued (Some OutOfMemory) stops treats shows calm none = tt
 
   -- What was begun, and then treated, is a whole turn.
@@ -130,6 +131,7 @@ module _ {R B : Type 0} (view : R → RingView) (buffer : B → Buffer) (tells s
       }
   stopped old new turned Busy cannot reaped closed woken stop = absurd cannot
   stopped old new turned (BadCompletion word) cannot reaped closed woken stop = absurd cannot
+  stopped old new turned (Os code) cannot reaped closed woken stop = absurd cannot
   stopped old new turned OutOfMemory cannot reaped closed woken stop =
       let same : SameSlots old new = record {
         slots = ap (λ d. d.slots.values) cannot;

@@ -4,7 +4,7 @@ use Rattle.rent_buf.specs.Buffer.{Buffer}
 use Rattle.ring_core.specs.Counts.{Rose}
 use Rattle.ring_core.specs.Ring.{RingView}
 use Rattle.driver_core.specs.declared.op.Stop.{Stop}
-use Rattle.driver_core.specs.declared.op.Stop.TheVariants.{RingFault, Busy, BadCompletion, OutOfMemory}
+use Rattle.driver_core.specs.declared.op.Stop.TheVariants.{RingFault, Busy, BadCompletion, Os, OutOfMemory}
 use Rattle.driver_core.specs.declared.op.Turned.{Turned}
 use Rattle.uring_driver.specs.declared.uring.IoUringDriver.{IoUringDriver}
 use Rattle.uring_driver.specs.declared.uring.turn.Begun.{Begun}
@@ -37,6 +37,7 @@ CannotBegin view tells steady old new RingFault = Rose (view (ring_in old)).faul
 CannotBegin view tells steady old new OutOfMemory = new ≡ old
 CannotBegin view tells steady old new Busy = ⊥
 CannotBegin view tells steady old new (BadCompletion word) = ⊥
+CannotBegin view tells steady old new (Os code) = ⊥
 
 -- The end of a turn: with what was begun before it makes a whole turn.
 abbrev pub EndsTurn : {R B : Type 0} → (R → RingView) → (B → Buffer) → Bool → Bool → IoUringDriver R B → Begun →
@@ -56,4 +57,5 @@ HasTreated None = ⊤
 HasTreated (Some RingFault) = ⊥
 HasTreated (Some Busy) = ⊤
 HasTreated (Some (BadCompletion word)) = ⊤
+HasTreated (Some (Os code)) = ⊥
 HasTreated (Some OutOfMemory) = ⊥

@@ -16,7 +16,7 @@ use Rattle.driver_core.specs.declared.op.Submitted.{Submitted}
 use Rattle.driver_core.specs.declared.op.Submitted.TheVariants.{Op, Canceled}
 use Rattle.driver_core.specs.declared.op.SubmitError.{SubmitError}
 use Rattle.driver_core.specs.declared.op.SubmitFault.{SubmitFault}
-use Rattle.driver_core.specs.declared.op.SubmitFault.TheVariants.{Full, RingFault, Busy, OutOfMemory}
+use Rattle.driver_core.specs.declared.op.SubmitFault.TheVariants.{Full, RingFault, Busy, Os, OutOfMemory}
 use Rattle.driver_core.specs.declared.slot.Slot.{Slot}
 use Rattle.uring_driver.specs.declared.uring.IoUringDriver.{IoUringDriver}
 use Rattle.uring_driver.specs.Uring.{ring_in, due_in, pending}
@@ -103,13 +103,14 @@ pub record SameForRequest {R B : Type 0} (request : Request B Parts) (old new : 
 
 -- Why a submission was refused, and what it left of the ring. Full: the driver is the same. A fault of the ring: that count rose,
 -- since the queue was full or an entry was due, and a prefix of what is pending may have been entered; a steady ring has none.
--- OutOfMemory: the driver stands for what it stood for.
+-- OutOfMemory: the driver stands for what it stood for. Os comes of no ring.
 abbrev pub WhyRefused : {R B : Type 0} → (R → RingView) → (B → Buffer) → Bool → IoUringDriver R B → IoUringDriver R B → SubmitFault → Type 0
 WhyRefused view buffer steady old new Full = new ≡ old
 WhyRefused view buffer steady old new RingFault =
     Rose (view (ring_in old)).faults (view (ring_in new)).faults × (IsTrue steady → ⊥) × MustEnter view old.ring
 WhyRefused view buffer steady old new Busy =
     Rose (view (ring_in old)).busies (view (ring_in new)).busies × (IsTrue steady → ⊥) × MustEnter view old.ring
+WhyRefused view buffer steady old new (Os code) = ⊥
 WhyRefused view buffer steady old new OutOfMemory = (L : Ledger) → Stands view buffer old L → Stands view buffer new L
 
 -- A refused submission hands its request back, and leaves slots and counts.
@@ -145,6 +146,7 @@ abbrev pub Unprepared : {R : Type 0} → (R → RingView) → Bool → Pending R
 Unprepared view steady old new Full = ⊥
 Unprepared view steady old new RingFault = Rose (view old.ring).faults (view new.ring).faults × (IsTrue steady → ⊥) × MustEnter view old
 Unprepared view steady old new Busy = Rose (view old.ring).busies (view new.ring).busies × (IsTrue steady → ⊥) × MustEnter view old
+Unprepared view steady old new (Os code) = ⊥
 Unprepared view steady old new OutOfMemory = OnlyReserved view old new
 
 -- Why a submission can't be made: all slots are live, and nothing changed; or as above.
@@ -153,4 +155,5 @@ abbrev pub CannotSubmit : {R : Type 0} {B : Type 0} → (R → RingView) → Boo
 CannotSubmit view steady old new slots slots' Full = (map.len slots.values ≡ MAX_LIVE) × (new ≡ old) × (slots' ≡ slots)
 CannotSubmit view steady old new slots slots' RingFault = (map.len slots.values < MAX_LIVE) × Unprepared view steady old new RingFault
 CannotSubmit view steady old new slots slots' Busy = (map.len slots.values < MAX_LIVE) × Unprepared view steady old new Busy
+CannotSubmit view steady old new slots slots' (Os code) = ⊥
 CannotSubmit view steady old new slots slots' OutOfMemory = (map.len slots.values < MAX_LIVE) × Unprepared view steady old new OutOfMemory

@@ -10,7 +10,7 @@ use Rattle.ring_core.specs.Queue.{take_each, take_all}
 use Rattle.ring_core.specs.Turn.{reap_each, ops_in, closes_in, tasks_woken}
 use Rattle.ring_core.specs.Ring.{RingView}
 use Rattle.driver_core.specs.declared.op.Stop.{Stop}
-use Rattle.driver_core.specs.declared.op.Stop.TheVariants.{RingFault, Busy, BadCompletion, OutOfMemory}
+use Rattle.driver_core.specs.declared.op.Stop.TheVariants.{RingFault, Busy, BadCompletion, Os, OutOfMemory}
 use Rattle.driver_core.specs.declared.op.Turned.{Turned}
 use Rattle.driver_core.specs.Operations.{OperationsStand}
 use Rattle.uring_driver.specs.declared.uring.IoUringDriver.{IoUringDriver}
@@ -34,7 +34,7 @@ pub record TreatsNone {R B : Type 0} (old new : IoUringDriver R B) (turned : Tur
 -- Why a turn stopped, over any ring, where it queued the closes of these handles. None: what is pending or ready now is no more than
 -- those closes, so without them all was taken and treated. RingFault: that count rose, and nothing was treated. Busy: that count rose,
 -- and no completion is left, unless closes were queued. BadCompletion: a completion of this word is stray.
--- OutOfMemory: nothing changed.
+-- OutOfMemory: nothing changed. Os comes of no ring.
 abbrev pub StopsFor : {R B : Type 0} → (R → RingView) → IoUringDriver R B → IoUringDriver R B → Turned → List ℕ → Option Stop → Type 0
 StopsFor view old new turned queued None = waiting_in view new.ring ≤ length queued
 StopsFor view old new turned queued (Some RingFault) =
@@ -42,6 +42,7 @@ StopsFor view old new turned queued (Some RingFault) =
 StopsFor view old new turned queued (Some Busy) =
     Rose (view (ring_in old)).busies (view (ring_in new)).busies × (queued ≡ [] → (view (ring_in new)).done ≡ [])
 StopsFor view old new turned queued (Some (BadCompletion word)) = HasStray new.slots.values new.holding word
+StopsFor view old new turned queued (Some (Os code)) = ⊥
 StopsFor view old new turned queued (Some OutOfMemory) = (new ≡ old) × TreatsNone old new turned queued
 
 -- Of a ring that shows its lists: a prefix of what was pending was taken, and those that were treated are the first of what was ready
@@ -82,6 +83,7 @@ TreatsFor view tells old new turned queued None = TreatsTaken view tells old new
 TreatsFor view tells old new turned queued (Some RingFault) = Enters view tells old.ring new.ring
 TreatsFor view tells old new turned queued (Some Busy) = TreatsTaken view tells old new turned queued None
 TreatsFor view tells old new turned queued (Some (BadCompletion word)) = TreatsTaken view tells old new turned queued (Some word)
+TreatsFor view tells old new turned queued (Some (Os code)) = ⊥
 TreatsFor view tells old new turned queued (Some OutOfMemory) = ⊤
 
 -- A ledger once the first entries of its queue are taken.
@@ -121,6 +123,7 @@ TurnsFor view buffer steady L old new turned queued None = TurnsTo view buffer s
 TurnsFor view buffer steady L old new turned queued (Some RingFault) = IsTrue steady → ⊥
 TurnsFor view buffer steady L old new turned queued (Some Busy) = (IsTrue steady → ⊥) × TurnsFront view buffer steady L new turned queued
 TurnsFor view buffer steady L old new turned queued (Some (BadCompletion word)) = ⊥
+TurnsFor view buffer steady L old new turned queued (Some (Os code)) = ⊥
 TurnsFor view buffer steady L old new turned queued (Some OutOfMemory) = new ≡ old
 
 -- Neither count of a ring's faults rose.
@@ -139,6 +142,7 @@ GoesOn None = ⊤
 GoesOn (Some RingFault) = ⊥
 GoesOn (Some Busy) = ⊥
 GoesOn (Some (BadCompletion word)) = ⊥
+GoesOn (Some (Os code)) = ⊥
 GoesOn (Some OutOfMemory) = ⊤
 
 -- What every turn of the completion driver does, a park's too.

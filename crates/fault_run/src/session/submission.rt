@@ -103,6 +103,8 @@ fn refused_submission(why: SubmitFault) -> Result<Answer, OutOfMemory>
         SubmitFault::Full => Ok(refused(Refusal::Full)),
         SubmitFault::RingFault => Ok(Answer::Kept(EnterError::Fault)),
         SubmitFault::Busy => Ok(Answer::Kept(EnterError::Busy)),
+        // A driver over a ring never answers Os.
+        SubmitFault::Os(_) => Err(OutOfMemory),
         SubmitFault::OutOfMemory => Err(OutOfMemory),
     }
 }

@@ -32,9 +32,17 @@ impl<I: NonBlock, B: IoBufMut + Drop> Driver for LegacyDriver<I, B> {
     ghost legacy = { true };
 
     /// It treats the reports that are untreated, asks the object for reports without a wait, and treats those that came. It reaps and
-    /// closes nothing. Where the object fails, or memory runs out, it stops and names nobody: the next turn names those tasks that it woke
-    /// and those of canceled operations, and treats the reports that it didn't treat, so that none is lost. (monoio: `submit`)
-    fn submit(&mut self) -> Turned {
+    /// closes nothing. Where the object fails (`Os`, with its number), or memory runs out, it stops and names nobody: the next turn names
+    /// those tasks that it woke and those of canceled operations, and treats the reports that it didn't treat, so that none is lost.
+    /// (monoio: `submit`)
+    fn submit(&mut self) -> Turned
+        ensures turns { LegacyTurns I.view I.tells I.reporting I.memory self.old self.new result }
+        ensures keeps { KeepsRequests self.old self.new }
+        ensures stands { IfNone result.stop ((L : Ledger) →
+            ShowsLedger I.view B.buffer I.memory self.old L → ShowsLedger I.view B.buffer I.memory self.new L) }
+        // Its look at the object doesn't wait.
+        ensures limited { IfNone result.stop ((I.view self.new.handling.io).limit ≡ Some 0) }
+    {
         self.look(Some(0))
     }
 
@@ -164,7 +172,7 @@ fn collect<I: NonBlock>(
     }
     match registry.wait(limit, untreated) {
         Ok(()) => {}
-        Err(NonBlockError::Fault(_)) => return Some(Stop::RingFault),
+        Err(NonBlockError::Fault(code)) => return Some(Stop::Os(code)),
         Err(NonBlockError::OutOfMemory) => return Some(Stop::OutOfMemory),
     }
     *lively = untreated.len() > 0;

@@ -3,7 +3,7 @@ ghost use Rattle.std.specs.Prelude.{◌≡◌, ◌<◌, ◌↔◌, true, [], ◌
 ghost use Rattle.handle_core.specs.Table.{holders_at, without_user};
 ghost use Rattle.ring_core.specs.Request.{listed};
 ghost use Rattle.driver_core.specs.Holds.{is_nobody, settled, without_ops, unheld_by, CanLeave};
-ghost use Rattle.ready_driver.specs.Io.{IsStill};
+ghost use Rattle.ready_driver.specs.Io.{IsStill, closes_after};
 ghost use Rattle.ready_driver.specs.Records.{without_record};
 ghost use Rattle.ready_driver.specs.Registry.{is_users, unheld_if, without_keys, LetsGo};
 
@@ -62,10 +62,11 @@ impl<I: NonBlock> Registry<I> {
     }
 }
 
-// A handle isn't registered any more, is closed, and has no record. What the object answers is passed over.
+// A handle isn't registered any more, is closed once, and has no record. What the object answers is passed over.
 fn close<I: NonBlock>(io: &mut I, records: &mut Records, h: u64)
     ensures records { records.new ≡ without_record records.old h }
-    ensures object { IsStill I.tells I.memory (I.view io.old) (I.view io.new) (without_keys (I.view io.old).keys (h ∷ [])) }
+    ensures object { IsStill I.tells I.memory (I.view io.old) (I.view io.new) (without_keys (I.view io.old).keys (h ∷ []))
+        (closes_after (I.view io.old).closes (h ∷ [])) }
 {
     let _ = io.deregister(h);
     let _ = io.close(h);

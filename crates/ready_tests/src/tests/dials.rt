@@ -38,16 +38,16 @@ pub(crate) fn listens<S: Stage>(stage: &mut S) -> Result<(u64, u16), Why> {
     Err(Why::Unlike)
 }
 
-// A dial that is done.
-fn dials<S: Stage>(stage: &mut S, port: u16) -> Result<u64, Why> {
+/// A dial that is done.
+pub(crate) fn dials<S: Stage>(stage: &mut S, port: u16) -> Result<u64, Why> {
     match stage.dial(port) {
         Ok(h) => Ok(h),
         Err(_) => Err(Why::Unlike),
     }
 }
 
-// The connection that a listener accepts.
-fn accepts<S: Stage>(stage: &mut S, listener: u64) -> Result<u64, Why> {
+/// The connection that a listener accepts.
+pub(crate) fn accepts<S: Stage>(stage: &mut S, listener: u64) -> Result<u64, Why> {
     let fd = SharedFd::new(listener);
     match run(stage, Request::Accept { fd })?.outcome {
         Outcome::Made(h) => Ok(h),
@@ -110,18 +110,22 @@ fn outlives<S: Stage>(stage: &mut S, listener: u64, port: u16) -> Result<(), Why
     stage.release(near)
 }
 
-/// A driver listens, dials and accepts: bytes come over. A port that is taken, and one on which nobody listens, are told by their numbers.
-/// An accept that waits outlives its user's hold of the listener, which is closed behind it. Nothing is left behind them.
+/// A driver listens, dials and accepts: bytes come over. A port that is taken, one on which nobody listens, and the port 0, are told by their
+/// numbers. A listener whose only connection was accepted isn't readable, though its bit still says so. An accept that waits outlives its
+/// user's hold of the listener, which is closed behind it. Nothing is left behind them.
 pub(crate) fn dials_and_accepts<S: Stage>(stage: &mut S, alloc: Global) -> Result<(), Why> {
     let (listener, port) = listens(stage)?;
     let near = dials(stage, port)?;
     let far = accepts(stage, listener)?;
+    pends(stage, 1, wait_to_read(listener))?;
+    stage.drop_op(1)?;
     carries(stage, alloc, near, far, b"hello", 5)?;
     carries(stage, alloc, far, near, b"hello back", 10)?;
     waits(stage, alloc, near, far)?;
     is_like(stage.listen(port) == Err(NonBlockError::Fault(TAKEN)))?;
     outlives(stage, listener, port)?;
     meets_nobody(stage, alloc, port)?;
+    meets_nobody(stage, alloc, 0)?;
     stage.release(near)?;
     stage.release(far)?;
     is_like(stage.left() == (0, 0))

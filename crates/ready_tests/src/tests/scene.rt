@@ -4,6 +4,7 @@ ghost use Rattle.std.specs.Prelude.{◌≡◌};
 use crate::tests::bench::{Bench, Opens};
 use crate::tests::dials::dials_and_accepts;
 use crate::tests::echo::echo;
+use crate::tests::files::crowds;
 use crate::tests::full::full;
 use crate::tests::many::many;
 use crate::tests::stage::{Stage, Why};
@@ -26,6 +27,8 @@ pub(crate) enum Scene {
     Dials,
     /// So many connections are open at once.
     Many(u64),
+    /// The process may open no further file.
+    Crowd,
 }
 
 // Plays a scene.
@@ -35,6 +38,7 @@ fn play<S: Stage>(stage: &mut S, alloc: Global, scene: Scene) -> Result<(), Why>
         Scene::Full => full(stage, alloc),
         Scene::Dials => dials_and_accepts(stage, alloc),
         Scene::Many(count) => many(stage, alloc, count),
+        Scene::Crowd => crowds(stage),
     }
 }
 

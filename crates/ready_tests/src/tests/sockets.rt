@@ -161,6 +161,39 @@ fn refuses_dial<I: Sockets>(rt: &HostRuntime, io: &mut I, port: u16) -> Result<b
     }
 }
 
+// A wait until a handle can be read, or written.
+fn readiness(h: u64, read: bool) -> Request<Rent, VecBuf> {
+    let fd = SharedFd::new(h);
+    Request::PollAdd { fd, read }
+}
+
+// A wait for readiness would block.
+fn is_unready<I: NonBlock>(io: &mut I, h: u64, read: bool) -> bool {
+    matches!(io.call(&mut readiness(h, read)), CallAnswer::WouldBlock)
+}
+
+// A wait for readiness is over.
+fn is_ready<I: NonBlock>(rt: &HostRuntime, io: &mut I, h: u64, read: bool) -> Result<bool, Fail> {
+    let answer = made(rt, io, &mut readiness(h, read))?;
+    Ok(is_count(answer, 0))
+}
+
+// Sends to a peer that doesn't read, until a send would block.
+fn fills<I: NonBlock>(rt: &HostRuntime, io: &mut I, h: u64) -> Result<bool, Fail> {
+    for _ in 0..20000 {
+        let fd = SharedFd::new(h);
+        let mut buf = Rent::with_total(rt.alloc(), 65536)?;
+        buf.store(0, &[7; 65536]);
+        if matches!(
+            io.call(&mut Request::Send { fd, buf }),
+            CallAnswer::WouldBlock
+        ) {
+            return Ok(true);
+        }
+    }
+    Ok(false)
+}
+
 // A handle is closed.
 fn closes<I: NonBlock>(io: &mut I, h: u64) -> bool {
     matches!(io.close(h), Outcome::Count(0))
@@ -234,6 +267,18 @@ fn nothing_is_there(rt: HostRuntime) -> Result<(), Fail> {
     assert!(rt; refuses(&mut io, read(&rt, 7)?, INVALID));
     assert!(rt; refuses(&mut io, Request::Connect { fd, addr: 0 }, UNSUPPORTED));
     assert!(rt; !io.is_file(0));
+    Ok(())
+}
+
+// A wait for readiness goes through where an accept, a read or a write would, and blocks where that would.
+#[test]
+fn readiness_is_looked_up(rt: HostRuntime) -> Result<(), Fail> {
+    let mut io = MioIo::new(&rt, rt.alloc());
+    assert!(rt; connects(&rt, &mut io, 40717)?);
+    assert!(rt; is_unready(&mut io, 0, true) && is_unready(&mut io, 2, true));
+    assert!(rt; is_ready(&rt, &mut io, 1, false)? && fills(&rt, &mut io, 1)?);
+    assert!(rt; is_unready(&mut io, 1, false) && is_ready(&rt, &mut io, 2, true)?);
+    assert!(rt; refuses(&mut io, readiness(9, true), INVALID));
     Ok(())
 }
 

@@ -13,6 +13,8 @@ use ring_core::Outcome;
 pub struct Counts {
     /// How often a call failed as a whole.
     pub faults: u64,
+    /// The number of the last call that failed as a whole; 0 where none did.
+    pub last_fault: u16,
     /// How often a call would have blocked.
     pub blocks: u64,
     /// How often a call ended with an error.
@@ -22,10 +24,11 @@ pub struct Counts {
 impl Counts {
     /// None so far. (not in monoio)
     pub fn new() -> Counts
-        ensures { result ≡ record { faults = 0; blocks = 0; fails = 0 } }
+        ensures { result ≡ record { faults = 0; last_fault = 0; blocks = 0; fails = 0 } }
     {
         Counts {
             faults: 0,
+            last_fault: 0,
             blocks: 0,
             fails: 0,
         }
@@ -56,13 +59,16 @@ impl Counts {
         }
     }
 
-    /// Counts a call that failed as a whole, where it is one, and passes its error on. (not in monoio)
+    /// Counts a call that failed as a whole, where it is one, keeps its number, and passes its error on. (not in monoio)
     pub fn fault(&mut self, why: NonBlockError) -> NonBlockError
         ensures why { result ≡ why }
         ensures counted { ErrorCounted why self.old self.new }
     {
         match why {
-            NonBlockError::Fault(_) => self.faults = self.faults.saturating_add(1),
+            NonBlockError::Fault(code) => {
+                self.faults = self.faults.saturating_add(1);
+                self.last_fault = code;
+            }
             NonBlockError::OutOfMemory => {}
         }
         why

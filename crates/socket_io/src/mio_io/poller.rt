@@ -1,8 +1,10 @@
 //! The poll of the system, which reports what sockets are ready for.
-ghost use Rattle.std.specs.Prelude.{◌≡◌, ◌≤◌, [], map, length, IfOk, OnOk};
+ghost use Rattle.std.specs.Prelude.{◌≡◌, ◌≤◌, [], map, length, true, false, IsOk, IfOk, IfErr, OnOk};
 ghost use Rattle.mio.specs.Events.{items, capacity};
 ghost use Rattle.socket_io.specs.declared.mio_io.poller.TheConstants.{MOST_EVENTS};
+ghost use Rattle.ready_driver.specs.Io.{one_more};
 ghost use Rattle.socket_io.specs.System.{bit_if, event_bits, event_report};
+ghost use Rattle.socket_io.specs.Polled.{WaitLeaves, IsFault, unreported_if, unreported_in};
 
 use crate::mio_io::socket::{NO_NUMBER, fault_by};
 use mio::event::Event;
@@ -26,11 +28,13 @@ pub const BELL_KEY: usize = usize::MAX;
 
 const _: () = prove!(MOST_HANDLES < BELL_KEY as u64);
 
-/// A poll of the system, which is made when it is first needed. A contract sees the events of its last wait. (monoio: `mio::Poll`, and its
-/// `Events`)
+/// A poll of the system, which is made when it is first needed. A contract sees how often the system reported, and its last events, if they
+/// are still to be passed on. (monoio: `mio::Poll`, and its `Events`)
 #[derive(Drop)]
 pub struct Poller {
     alloc: Global,
+    // How often the system reported. It saturates.
+    polls: u64,
     waits: Option<Waits>,
 }
 
@@ -47,21 +51,24 @@ struct Waits {
 }
 
 impl Model for Poller {
-    ghost use Rattle.std.specs.Prelude.{List};
-    ghost use Rattle.mio.specs.declared.event.event.Event.{Event};
-    ghost use Rattle.socket_io.specs.Waits.{last_events};
+    ghost use Rattle.socket_io.specs.Polled.{Polled};
+    ghost use Rattle.socket_io.specs.Waits.{polled_of};
 
-    ghost Value = { List Event };
+    ghost Value = { Polled };
 
-    ghost view = { λ p. last_events p.waits };
+    ghost view = { λ p. polled_of p.polls p.waits };
 }
 
 impl Poller {
     /// No poll yet. It takes no memory, and asks nothing of the system. (not in monoio)
     pub fn new(alloc: Global) -> Poller
-        ensures { result ≡ [] }
+        ensures { result ≡ record { polls = 0; events = []; unreported = false } }
     {
-        Poller { alloc, waits: None }
+        Poller {
+            alloc,
+            polls: 0,
+            waits: None,
+        }
     }
 
     /// Makes the poll, where there is none yet. (monoio: `Poll::new`)
@@ -94,8 +101,9 @@ impl Poller {
         }
     }
 
-    /// Waits for events, no longer than so many milliseconds, and puts their reports into an empty list. Where memory runs out, the next
-    /// wait reports them. (monoio: `Poll::poll`)
+    /// Waits for events, no longer than so many milliseconds, and puts their reports into an empty list. Where memory runs out for them,
+    /// the next wait doesn't wait, and reports them. (monoio: `Poll::poll`)
+    #[tactic(auto, using(crate::proofs::Left::left_same))]
     pub fn wait<R: Net>(
         &mut self,
         rt: &R,
@@ -103,12 +111,16 @@ impl Poller {
         reports: &mut Reports,
     ) -> Result<(), NonBlockError>
         requires { reports.old ≡ [] }
-        ensures reports { OnOk result (reports.new ≡ map event_report self.new) }
+        ensures reports { OnOk result (reports.new ≡ map event_report self.new.events) }
         ensures few { OnOk result (length reports.new ≤ MOST_EVENTS) }
+        ensures left { WaitLeaves self.old.polls (unreported_in self.old) self.new.polls (unreported_in self.new) reports.new result }
     {
-        self.make(rt)?;
+        match self.make(rt) {
+            Ok(()) => {}
+            Err(why) => return Err(why),
+        }
         match &mut self.waits {
-            Some(waits) => waits.wait(limit, reports),
+            Some(waits) => waits.wait(limit, &mut self.polls, reports),
             None => Err(NonBlockError::Fault(NO_NUMBER)),
         }
     }
@@ -117,7 +129,7 @@ impl Poller {
 impl Waits {
     // A poll that has reported nothing yet.
     fn new<R: Net>(rt: &R, alloc: Global) -> Result<Waits, NonBlockError>
-        ensures { IfOk result (λ waits. items waits.events ≡ []) }
+        ensures { IfOk result (λ waits. (items waits.events ≡ []) × (waits.unreported ≡ false)) }
     {
         let Ok(events) = Events::with_capacity(alloc, MOST_EVENTS) else {
             return Err(NonBlockError::OutOfMemory);
@@ -135,7 +147,7 @@ impl Waits {
 
     // The bell of the poll, whose waker is registered when it is first asked for. None where the system, or memory, refuses one.
     fn bell(&mut self, alloc: Global) -> Option<Bell>
-        ensures { items self.new.events ≡ items self.old.events }
+        ensures { (items self.new.events ≡ items self.old.events) × (self.new.unreported ≡ self.old.unreported) }
     {
         let waker = match self.waker.take() {
             Some(waker) => waker,
@@ -149,20 +161,46 @@ impl Waits {
         Some(Bell::over(other.ok()?))
     }
 
+    // Asks the system for events, unless some are still to be passed on: then there are such. It counts that the system reported.
+    fn gather(&mut self, limit: Option<u64>, polls: &mut u64) -> Result<(), NonBlockError>
+        ensures again { self.old.unreported ≡ true → IsOk result × (items self.new.events ≡ items self.old.events)
+            × (polls.new ≡ polls.old) }
+        ensures asked { self.old.unreported ≡ false → OnOk result (polls.new ≡ one_more polls.old) }
+        ensures ok { OnOk result (self.new.unreported ≡ true) }
+        ensures err { IfErr result (λ why. IsFault why × (self.new.unreported ≡ false) × (polls.new ≡ polls.old)) }
+    {
+        if self.unreported {
+            return Ok(());
+        }
+        let time = limit.map(Duration::from_millis);
+        match self.poll.poll(&mut self.events, time) {
+            Ok(()) => {
+                *polls = polls.saturating_add(1);
+                self.unreported = true;
+                Ok(())
+            }
+            Err(error) => Err(fault_by(&error)),
+        }
+    }
+
     // Waits for events, and puts their reports into an empty list.
-    fn wait(&mut self, limit: Option<u64>, reports: &mut Reports) -> Result<(), NonBlockError>
+    #[tactic(auto, using(crate::proofs::Left::left_refused, crate::proofs::Left::left_passed, crate::proofs::Left::left_kept))]
+    fn wait(
+        &mut self,
+        limit: Option<u64>,
+        polls: &mut u64,
+        reports: &mut Reports,
+    ) -> Result<(), NonBlockError>
         requires { reports.old ≡ [] }
         ensures reports { OnOk result (reports.new ≡ map event_report (items self.new.events)) }
         ensures few { OnOk result (length reports.new ≤ MOST_EVENTS) }
+        ensures left { WaitLeaves polls.old (unreported_if self.old.unreported (items self.old.events))
+            polls.new (unreported_if self.new.unreported (items self.new.events)) reports.new result }
     {
-        if !self.unreported {
-            let time = limit.map(Duration::from_millis);
-            match self.poll.poll(&mut self.events, time) {
-                Ok(()) => {}
-                Err(error) => return Err(fault_by(&error)),
-            }
+        match self.gather(limit, polls) {
+            Ok(()) => {}
+            Err(why) => return Err(why),
         }
-        self.unreported = true;
         match report_all(&self.events, reports) {
             Ok(()) => {
                 self.unreported = false;

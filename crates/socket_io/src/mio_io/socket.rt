@@ -2,9 +2,10 @@
 ghost use Rattle.std.specs.Prelude.{◌≡◌, ◌≤◌, length, Some, IfOk};
 ghost use Rattle.std.specs.IoError.{error_kind, raw_os_error};
 ghost use Rattle.ring_core.specs.declared.world.HandleKind.{HandleKind};
-ghost use Rattle.socket_io.specs.System.{error_number, refusal_of};
+ghost use Rattle.socket_io.specs.System.{IsLocal, error_number, refusal_of};
 ghost use Rattle.socket_io.specs.SocketTable.{kind_of, is_listener, is_stream, RefusesUnfit};
 
+use crate::mio_io::probe::Probe;
 use mio::event::Source;
 use mio::net::{TcpListener, TcpStream};
 use mio::{Interest, Registry, Token};
@@ -12,7 +13,7 @@ use ready_driver::NonBlockError;
 use ring_core::{INVALID, LAST_ERROR};
 use std::io;
 use std::io::{ErrorKind, Read as _, Write as _};
-use std::net::{Ipv4Addr, Net, SocketAddr};
+use std::net::{IpAddr, Ipv4Addr, Net, SocketAddr};
 
 /// The error of a call for which the system tells no number. (Linux: `EIO`)
 pub const NO_NUMBER: u16 = 5;
@@ -36,18 +37,18 @@ pub enum Socket {
 }
 
 impl Socket {
-    /// A socket that listens on a port of this machine. (monoio: `TcpListener::bind`)
-    pub fn listen<R: Net>(rt: &R, port: u16) -> io::Result<Socket>
+    /// A socket that listens at an address. (monoio: `TcpListener::bind`)
+    pub fn listen<R: Net>(rt: &R, addr: SocketAddr) -> io::Result<Socket>
         ensures { IfOk result (λ socket. kind_of socket ≡ HandleKind.Listener) }
     {
-        Ok(Socket::Listener(TcpListener::bind(rt, local(port))?))
+        Ok(Socket::Listener(TcpListener::bind(rt, addr)?))
     }
 
-    /// A socket that connects to a port of this machine. It doesn't wait until it is connected. (monoio: `TcpStream::connect`)
-    pub fn dial<R: Net>(rt: &R, port: u16) -> io::Result<Socket>
+    /// A socket that connects to an address. It doesn't wait until it is connected. (monoio: `TcpStream::connect`)
+    pub fn dial<R: Net>(rt: &R, addr: SocketAddr) -> io::Result<Socket>
         ensures { IfOk result (λ socket. kind_of socket ≡ HandleKind.Stream) }
     {
-        Ok(Socket::Stream(TcpStream::connect(rt, local(port))?))
+        Ok(Socket::Stream(TcpStream::connect(rt, addr)?))
     }
 
     /// The next connection of a listener. (libc: `accept`)
@@ -75,12 +76,23 @@ impl Socket {
         }
     }
 
-    /// A read of a stream would block: neither bytes nor the end nor an error is there. Of a listener it isn't known. (libc: `recv` with
-    /// `MSG_PEEK`)
-    pub fn would_block(&self) -> bool {
-        match self {
-            Socket::Stream(stream) => peek_blocks(stream),
-            Socket::Listener(_) => false,
+    /// Whether a call of a direction would end at once: to read a stream, bytes, the end or an error are there, and else the system says
+    /// so. (libc: `recv` with `MSG_PEEK`; `poll`, with no time)
+    pub fn is_ready<R: Net>(
+        &mut self,
+        rt: &R,
+        probe: &mut Probe,
+        read: bool,
+    ) -> Result<bool, NonBlockError>
+        ensures { kind_of self.new ≡ kind_of self.old }
+    {
+        let peeked = match &*self {
+            Socket::Stream(stream) if read => Some(!peek_blocks(stream)),
+            _ => None,
+        };
+        match peeked {
+            Some(ready) => Ok(ready),
+            None => probe.is_ready(rt, self, !read),
         }
     }
 
@@ -99,9 +111,21 @@ impl Socket {
     pub fn register(&mut self, registry: &Registry, key: usize) -> Result<(), NonBlockError>
         ensures { kind_of self.new ≡ kind_of self.old }
     {
+        self.register_for(registry, key, Interest::READABLE | Interest::WRITABLE)
+    }
+
+    // Registers it with a key for what is asked, in place of what it was registered for before.
+    pub(crate) fn register_for(
+        &mut self,
+        registry: &Registry,
+        key: usize,
+        interest: Interest,
+    ) -> Result<(), NonBlockError>
+        ensures { kind_of self.new ≡ kind_of self.old }
+    {
         match self {
-            Socket::Listener(listener) => register_source(registry, listener, key),
-            Socket::Stream(stream) => register_source(registry, stream, key),
+            Socket::Listener(listener) => register_source(registry, listener, key, interest),
+            Socket::Stream(stream) => register_source(registry, stream, key, interest),
         }
     }
 
@@ -150,20 +174,23 @@ fn register_source<S: Source>(
     registry: &Registry,
     source: &mut S,
     key: usize,
+    interest: Interest,
 ) -> Result<(), NonBlockError> {
-    let both = Interest::READABLE | Interest::WRITABLE;
-    let done = match registry.register(source, Token(key), both) {
+    let done = match registry.register(source, Token(key), interest) {
         Err(error) if error.kind() == ErrorKind::AlreadyExists => {
-            registry.reregister(source, Token(key), both)
+            registry.reregister(source, Token(key), interest)
         }
         done => done,
     };
     done.map_err(|error| fault_by(&error))
 }
 
-// A port of this machine.
-fn local(port: u16) -> SocketAddr {
-    SocketAddr::from((Ipv4Addr::LOCALHOST, port))
+/// The address of a port of this machine, which no other machine reaches: it is that at which a handle listens, and to which one connects.
+/// (not in monoio, where the caller names an address)
+pub fn local(port: u16) -> SocketAddr
+    ensures { IsLocal result port }
+{
+    SocketAddr::new(IpAddr::V4(Ipv4Addr::new(127, 0, 0, 1)), port)
 }
 
 // What an error of the system says of the call: that it would block, or its number.

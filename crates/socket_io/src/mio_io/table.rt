@@ -1,9 +1,12 @@
 //! Open sockets by their handles' numbers, which are given in order.
-ghost use Rattle.std.specs.Prelude.{◌≡◌, ◌≤◌, suc, length, is_some, IsSome, IfOk, OnOk};
+ghost use Rattle.std.specs.Prelude.{◌≡◌, ◌≤◌, suc, length, false, is_some, IsSome, IfOk, OnOk, Err};
+ghost use Rattle.ready_driver.specs.declared.non_block.NonBlockError.TheVariants.{Fault};
+ghost use Rattle.ring_core.specs.declared.world.call.TheConstants.{INVALID};
 ghost use Rattle.std.specs.FinMap as finite;
 ghost use Rattle.ring_core.specs.declared.world.HandleKind.TheVariants.{Stream};
 ghost use Rattle.socket_io.specs.SocketTable.{IsRoomy, kind_of, is_listener, is_stream, RefusesUnfit};
 
+use crate::mio_io::probe::Probe;
 use crate::mio_io::socket::{Refusal, Socket};
 use mio::Registry;
 use ready_driver::NonBlockError;
@@ -12,6 +15,7 @@ use ring_core::{INVALID, MOST_HANDLES};
 use std::alloc::Global;
 use std::collections::HashMap;
 use std::marker::Model;
+use std::net::Net;
 
 /// The sockets that are open, and how many handles were made. A contract sees the kind of each. A call finds its socket by a hash, however
 /// many there are. (monoio: the process's file descriptors)
@@ -84,13 +88,6 @@ impl Table {
         h
     }
 
-    /// The socket of a handle is open. (not in monoio)
-    pub fn is_open(&self, h: u64) -> bool
-        ensures { result ≡ is_some (finite.get self.now.kinds h) }
-    {
-        self.open.contains_key(&h)
-    }
-
     /// Closes the socket of a handle, and answers whether there was one. (libc: `close`)
     pub fn close(&mut self, h: u64) -> bool
         ensures there { result ≡ is_some (finite.get self.old.kinds h) }
@@ -122,13 +119,23 @@ impl Table {
         }
     }
 
-    /// A read of the stream of a handle would block. Of a listener, and of a handle that isn't open, it isn't known. (libc: `recv` with
-    /// `MSG_PEEK`)
-    pub fn would_block(&self, h: u64) -> bool {
-        match self.open.get(&h) {
-            Some(socket) => socket.would_block(),
-            None => false,
-        }
+    /// Whether a call of a direction on the socket of a handle would end at once. One that isn't open is a fault. (libc: `poll`, with no
+    /// time)
+    pub fn is_ready<R: Net>(
+        &mut self,
+        h: u64,
+        rt: &R,
+        probe: &mut Probe,
+        read: bool,
+    ) -> Result<bool, NonBlockError>
+        ensures made { self.new.made ≡ self.old.made }
+        ensures open { self.new.kinds ≡ self.old.kinds }
+        ensures unfit { is_some (finite.get self.old.kinds h) ≡ false → result ≡ Err (Fault INVALID) }
+    {
+        let Some(socket) = self.open.get_mut(&h) else {
+            return Err(NonBlockError::Fault(INVALID));
+        };
+        socket.is_ready(rt, probe, read)
     }
 
     /// Sends a prefix of the bytes on the stream of a handle, and answers how many. (libc: `send`)

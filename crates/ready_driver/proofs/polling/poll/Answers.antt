@@ -127,9 +127,9 @@ returns-in-OutOfMemory-clause-polls g c = λ memory D stand. (
           slots = unmade-stand g.B.IoBufMut.buffer D c.args.ops.now.slots.values c.args.op.key c.args.op.number st c.requires
               g.I.Calls.called
               c.args.task c.poll.new.self.slots.values c.call.new.self.slots.values c.args.io.now c.call.new.caller OutOfMemory
-              c.in-Pending.ensures.polls calls unmade.same;
+              c.in-Pending.ensures.polls calls unmade.0.same;
         };
-        handles = unmade.world (g.met.I.NonBlock.memory_tells memory) ∙ stand.handles;
+        handles = unmade.0.world (g.met.I.NonBlock.memory_tells memory) ∙ stand.handles;
       },
     ))
 
@@ -187,7 +187,7 @@ returns-in-OutOfMemory-clause-slots g c = (
     (plain_request g.B.IoBufMut.buffer calls.now.request) OutOfMemory calls.calls in
     unmade-slots c.args.ops.now.slots.values c.args.op.key c.args.op.number c.requires g.B.IoBufMut.buffer g.I.Calls.called c.args.task
     c.poll.new.self.slots.values c.call.new.self.slots.values c.args.io.now c.call.new.caller OutOfMemory c.in-Pending.ensures.polls calls
-    unmade.same)
+    unmade.0.same)
 
 pub returns-in-Ready-clause-returns : goal.returns-in-Ready-clause-returns
 returns-in-Ready-clause-returns g c =
@@ -271,7 +271,7 @@ returns-in-OutOfMemory-clause-shown g c = λ memory. (
     (plain_request g.B.IoBufMut.buffer calls.now.request) OutOfMemory =
     g.met.I.NonBlock.calls c.args.io.now (plain_request g.B.IoBufMut.buffer calls.slot.request) c.call.new.caller
     (plain_request g.B.IoBufMut.buffer calls.now.request) OutOfMemory calls.calls in
-    unmade.shown memory)
+    unmade.0.shown memory)
 
 pub returns-in-Ready-clause-calls : goal.returns-in-Ready-clause-calls
 returns-in-Ready-clause-calls g c = inl (

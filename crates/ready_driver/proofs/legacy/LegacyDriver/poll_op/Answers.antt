@@ -21,7 +21,7 @@ use Rattle.ready_driver.specs.Named.{AreNaming, IsCompleted, PollsSlotFor, Keeps
 use Rattle.ready_driver.specs.HandlesStand.{HandlesStand}
 use Rattle.ready_driver.specs.Polling.{PartsStand, PollsFor}
 use Rattle.ready_driver.specs.Turns.{AreReported}
-use Rattle.ready_driver.specs.Registry.{LetsGo}
+use Rattle.ready_driver.specs.Registry.{Handling, LetsGo}
 use Rattle.ready_driver.specs.Reports.{with_made_key}
 use Rattle.ready_driver.proofs.Calling.{refused-calls, calls-room}
 use Rattle.ready_driver.proofs.Driven.{by_parts}
@@ -250,6 +250,10 @@ returns-in-Err-clause-ends g c =
         records = c.reserve.new.registry.records;
         room = same.records;
         leaves = leaves-refused _ _ c.reserve.new.registry.records c.args.op.number c.args.task _;
+        unreserved = λ none. (
+            let same = c.reserve.ensures.unreserved
+            (c.is_maker.ensures ∙ ap (λ k. is_maker (get d.slots.values k)) c.key-key.ensures ∙ none) in
+            (ap (λ (x : Handling g.row.I.Denot). x.table) same, ap (λ (x : Handling g.row.I.Denot). x.records) same));
       },
       refl,
       refused-calls (is_met_at d.handling.records (unless (g.I.NonBlock.files d.handling.io) (slot_awaits slot))) g.B.IoBufMut.buffer
@@ -272,6 +276,12 @@ returns-in-Ok-Pending-clause-ends g c =
             c.poll_op.new.self.records (Ok (Pending c.in-Ok-Pending.op))) same.io
             (subst (λ x. LeavesFor (unless (g.I.NonBlock.files room.io) (slot_awaits slot)) room.records c.args.op.number c.args.task
             c.poll_op.new.self.records (Ok x)) c.in-Ok-Pending.field-0-is c.in-Ok-Pending.ensures.leaves);
+        unreserved = λ none. (
+            let same = c.reserve.ensures.unreserved
+            (c.is_maker.ensures ∙ ap (λ k. is_maker (get d.slots.values k)) c.key-key.ensures ∙ none) in (
+              c.poll_op.ensures.table ∙ ap (λ (x : Handling g.row.I.Denot). x.table) same,
+              ap (λ (x : Handling g.row.I.Denot). x.records) same,
+            ));
       },
       refl,
       calls-room g.I.NonBlock.files g.B.IoBufMut.buffer g.I.Calls.called d.handling room slot
@@ -292,6 +302,12 @@ returns-in-Err-poll_op-clause-ends g c =
         leaves = subst (λ io. LeavesFor (unless (g.I.NonBlock.files io) (slot_awaits (get c.self.inside.ops.slots.values c.args.op.key)))
             c.reserve.new.registry.records c.args.op.number c.args.task c.poll_op.new.self.records (Err c.in-Err-poll_op.refused)) same.io
             c.in-Err-poll_op.ensures.leaves;
+        unreserved = λ none. (
+            let same = c.reserve.ensures.unreserved
+            (c.is_maker.ensures ∙ ap (λ k. is_maker (get c.self.inside.ops.slots.values k)) c.key-key.ensures ∙ none) in (
+              c.poll_op.ensures.table ∙ ap (λ (x : Handling g.row.I.Denot). x.table) same,
+              ap (λ (x : Handling g.row.I.Denot). x.records) same,
+            ));
       },
       refl,
       calls-room g.I.NonBlock.files g.B.IoBufMut.buffer g.I.Calls.called c.self.inside.registry c.reserve.new.registry
@@ -342,6 +358,12 @@ returns-in-Ok-Ready-clause-ends g c =
         leaves = subst (λ r. LeavesFor (unless (g.I.NonBlock.files d.handling.io) (slot_awaits slot)) room.records op.number c.args.task
             c.poll_op.new.self.records (Ok (Ready (record { outcome = done.outcome; request = r }))))
             (sym c.hand_over-done.ensures.request) leaves;
+        unreserved = λ none. (
+            let same = c.reserve.ensures.unreserved
+            (c.is_maker.ensures ∙ ap (λ k. is_maker (get d.slots.values k)) c.key-key.ensures ∙ none) in (
+              c.poll_op.ensures.table ∙ ap (λ (x : Handling g.row.I.Denot). x.table) same,
+              ap (λ (x : Handling g.row.I.Denot). x.records) same,
+            ));
       };
       outcome = c.hand_over-done.ensures.outcome;
       handed = handed;

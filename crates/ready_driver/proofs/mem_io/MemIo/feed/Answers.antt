@@ -28,6 +28,8 @@ returns-clause-shown c =
       due = c.self.inside.due.handles;
       blocks = c.self.inside.blocks;
       fails = c.self.inside.fails;
+      waits = c.self.inside.waits;
+      closes = c.self.inside.closes;
       limit = c.self.inside.limit;
     } in
     let new : Memory = record old { world = c.feed.new.self; due = c.add.new.self.handles } in

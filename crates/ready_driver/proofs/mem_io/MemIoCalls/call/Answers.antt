@@ -72,6 +72,8 @@ returns-in-Done-clause-called g c =
       due = c.self.inside.due.handles;
       blocks = c.self.inside.blocks;
       fails = c.self.inside.fails;
+      waits = c.self.inside.waits;
+      closes = c.self.inside.closes;
       limit = c.self.inside.limit;
     } in
     let new : Memory = record {
@@ -80,12 +82,14 @@ returns-in-Done-clause-called g c =
       due = c.add_names.new.self.handles;
       blocks = c.self.inside.blocks;
       fails = c.count_fail-self-inside.result;
+      waits = c.self.inside.waits;
+      closes = c.self.inside.closes;
       limit = c.self.inside.limit;
     } in
     let request = plain_request g.B.IoBufMut.buffer c.args.request.now in
     let now = plain_request g.B.IoBufMut.buffer c.call.new.request in
     subst (λ was. IsMade true true (memory_view was) request (memory_view new) now c.in-Done.outcome) c.self.view_is
-    (memory-called old new request now c.in-Done.outcome c.in-Done.ensures.calls keys refl c.count_fail-self-inside.ensures.more
+    (memory-called old new request now c.in-Done.outcome c.in-Done.ensures.calls keys refl refl c.count_fail-self-inside.ensures.more
     c.count_fail-self-inside.ensures.rose
     (called-shown old new c.reserve_key.new.due request now c.in-Done.outcome (listed c.names-names.result)
     (c.names-names.ensures ∙ sym (named-mapped _ _ c.args.request.now)) c.reserve_key.ensures.handles fits c.self.invariant.0
@@ -102,6 +106,8 @@ returns-in-WouldBlock-clause-called g c =
       due = c.self.inside.due.handles;
       blocks = c.self.inside.blocks;
       fails = c.self.inside.fails;
+      waits = c.self.inside.waits;
+      closes = c.self.inside.closes;
       limit = c.self.inside.limit;
     } in
     let new : Memory = record {
@@ -110,6 +116,8 @@ returns-in-WouldBlock-clause-called g c =
       due = c.add_names-in-WouldBlock.new.self.handles;
       blocks = c.count_block-self-inside.result;
       fails = c.self.inside.fails;
+      waits = c.self.inside.waits;
+      closes = c.self.inside.closes;
       limit = c.self.inside.limit;
     } in
     let request = plain_request g.B.IoBufMut.buffer c.args.request.now in
@@ -119,5 +127,5 @@ returns-in-WouldBlock-clause-called g c =
     (c.names-names.ensures ∙ sym (named-mapped _ _ c.args.request.now)) c.reserve_key.ensures.handles fits calls.1
     c.reserve_key.ensures.items (ap (λ (d : Duty). d.handles) c.add_names-in-WouldBlock.ensures) in
     subst (λ was. CallsFor true true (memory_view was) request (memory_view new) now WouldBlock) c.self.view_is
-    (memory-blocked old new request now calls c.reserve_key.ensures.items refl c.count_block-self-inside.ensures.more
+    (memory-blocked old new request now calls c.reserve_key.ensures.items refl refl c.count_block-self-inside.ensures.more
     c.count_block-self-inside.ensures.rose shown.0 shown.1)

@@ -24,6 +24,8 @@ returns c =
       due = c.self.inside.due.handles;
       blocks = c.self.inside.blocks;
       fails = c.self.inside.fails;
+      waits = c.self.inside.waits;
+      closes = c.self.inside.closes;
       limit = c.self.inside.limit;
     } in
     let new : Memory = record old { keys = c.set_key.new.keys.items; due = c.add.new.self.handles } in
@@ -33,9 +35,11 @@ returns c =
       record {
         later = record { faults = omega arith; blocks = omega arith; fails = omega arith };
         made = refl;
+        closes_are = refl;
         world = λ told. refl;
         keys_are = λ told. c.set_key.ensures;
         shown = λ told. shown.0;
       },
       λ told. shown.1,
+      refl,
     )

@@ -32,7 +32,7 @@ returns-in-Ok g c =
       records = c.set_registered.new.self;
     })) c.self.view_is (record {
       taken = true;
-      tries = c.in-Ok.ensures;
+      tries = (c.in-Ok.ensures.0, c.in-Ok.ensures.1);
       table = given-holders c.self.inside.table c.add_op_reserved.new.self c.hand_over.new.self c.args.h _ c.add_op_reserved.ensures
           c.hand_over.ensures;
       records = changed-given c.self.inside.records c.add_reserved.new.self c.set_registered.new.self c.args.h _ fresh_record

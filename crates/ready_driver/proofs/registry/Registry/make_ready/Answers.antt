@@ -27,7 +27,7 @@ returns-in-Ok-clause-err g c =
     let new = c.make_one_ready-in-Ok.new.self in
     subst (λ names. IfErr c.make_one_ready-in-Ok.result (λ why. RefusesReady view tells memory old (listed names) new why))
     (sym c.in-Two.is) (IfErr-weaker c.make_one_ready-in-Ok.result _ _
-    (λ why. refused-second view tells memory old c.in-Two.lower c.in-Two.upper mid new why c.in-Ok.ensures.ok)
+    (λ why. refused-second view tells memory old c.in-Two.lower c.in-Two.upper mid new why c.in-Ok.ensures.ok c.in-Ok.ensures.calm)
     c.make_one_ready-in-Ok.ensures.err)
 
 pub returns-in-Err-clause-err : goal.returns-in-Err-clause-err

@@ -1,8 +1,9 @@
 use Rattle.std.proofs.Common.{◌≡◌, ◌∙◌, false, sym, ap, subst}
 use Rattle.std.specs.List.{list_any}
-use Rattle.ready_driver.specs.ScheduledIo.{Scheduled, is_met}
+use Rattle.ready_driver.specs.ScheduledIo.{Scheduled, is_met, IsInOrder}
 use Rattle.ready_driver.proofs.Waiting.{none_met}
 use Rattle.ready_driver.proofs.Memory.{sound_left, room_met}
+use Rattle.ready_driver.proofs.Ordered.{order_left}
 use Rattle.ready_driver.proofs.scheduled_io.ScheduledIo.take_tasks.Goals as goal
 
 pub returns-then-not-is_any_met-clause-rest : goal.returns-then-not-is_any_met-clause-rest
@@ -15,8 +16,15 @@ returns-then-not-is_any_met-clause-rest c =
 pub name_tasks-requires-clause-room : goal.name_tasks-requires-clause-room
 name_tasks-requires-clause-room c =
     let ws = c.self.inside.waiting.items in
-    rw c.deref-2.ensures.value (room_met c.self.inside.rooms c.args.ready _ _ c.take-tasks.ensures.room ws c.self.invariant.room)
+    rw c.deref-2.ensures.value (room_met c.self.inside.rooms c.args.ready _ _ c.take-tasks.ensures.room ws c.self.invariant.0.room)
+
+pub is_in_order-self-inside-requires : goal.is_in_order-self-inside-requires
+is_in_order-self-inside-requires c =
+    subst (IsInOrder c.self.inside.in_order) (sym c.deref-3.ensures.value)
+    (order_left c.self.inside.in_order c.self.inside.waiting.items _ c.args.ready c.leave.ensures c.self.invariant.1)
 
 pub invariant_of-self : goal.invariant_of-self
-invariant_of-self c =
-    sound_left c.self.inside.waiting.items _ c.self.inside.rooms _ c.args.ready c.leave.ensures c.self.invariant c.take-tasks.ensures.kept
+invariant_of-self c = (
+  sound_left c.self.inside.waiting.items _ c.self.inside.rooms _ c.args.ready c.leave.ensures c.self.invariant.0 c.take-tasks.ensures.kept,
+  subst (IsInOrder c.is_in_order-self-inside.result) c.deref-3.ensures.value c.is_in_order-self-inside.ensures,
+)

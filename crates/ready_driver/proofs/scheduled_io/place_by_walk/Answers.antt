@@ -2,7 +2,7 @@ use Rattle.std.proofs.Common.{rules}
 use Rattle.std.proofs.lemmas.Iterator.{YieldsList-from_slice}
 use Rattle.std.proofs.lemmas.Iterator.Search.{position_from_yields_List}
 use Rattle.ready_driver.proofs.Places.{is_of, place_is, away_is}
-use Rattle.ready_driver.proofs.scheduled_io.place_of.Goals as goal
+use Rattle.ready_driver.proofs.scheduled_io.place_by_walk.Goals as goal
 
 pub returns : goal.returns
 returns c =
