@@ -1,8 +1,7 @@
 -- What calls leave of groups that are those of a readiness driver as plain data.
-use Rattle.std.proofs.Common.{◌≡◌, inl, inr, ℕ, zero, suc, ◌+◌, ◌<◌, ◌==◌, Bool, true, false, not, List, [], ◌∷◌, ◌++◌, length}
+use Rattle.std.proofs.Common.{◌≡◌, inl, inr, ℕ, zero, suc, ◌+◌, ◌<◌, ◌==◌, Bool, true, false, List, [], ◌∷◌, ◌++◌, length}
 use Rattle.std.proofs.Common.{Option, Some, None, option_map, slice_get, IfSome, refl, sym, ◌∙◌, ap, subst, arith, if◌then◌else◌}
 use Rattle.std.proofs.Common.{eq-eqb}
-use Rattle.std.specs.FinMap as finite
 use Rattle.std.proofs.lemmas.List.{append-nil}
 use Rattle.std.proofs.lemmas.Option.{slice_get_within}
 use Rattle.std.proofs.lemmas.Bool.{false_from_ne_true}
@@ -16,7 +15,7 @@ use Rattle.ring_core.proofs.Members.{has-where}
 use Rattle.ring_core.proofs.Numbers.{same-or-not, equal-other}
 use Rattle.ring_core.proofs.Owning.{marks-more}
 use Rattle.ring_core.proofs.Where.{where-kept, where-joined}
-use Rattle.cancel_core.specs.Group.{fresh, canceled, group_at, without}
+use Rattle.cancel_core.specs.Group.{group_at, without}
 use Rattle.driver_core.specs.Groups.{is_under_canceled, joins_if}
 use Rattle.driver_core.specs.Members.{Membership, ArePlaced, none, with_fresh, leaves, cancels, joins}
 use Rattle.driver_core.proofs.Placing.{without-absent, without-drops, without-keeps}

@@ -1,6 +1,7 @@
 pub mod Bits
 pub mod Waiting
 pub mod Places
+pub mod Gaps
 pub mod Memory
 pub mod Ordered
 pub mod Lists

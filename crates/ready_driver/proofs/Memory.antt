@@ -1,18 +1,14 @@
 -- Reserved memory for tasks, through each change of what waits.
-use Rattle.std.proofs.Common.{◌≡◌, ℕ, suc, zero, Bool, true, false, cond, eqb, Some, List, [], ◌∷◌, length, get_or, set}
-use Rattle.std.proofs.Common.{refl, subst, arith}
-use Rattle.std.proofs.Common.{◌++◌, take, not, length-append, length-take}
-use Rattle.std.proofs.Math.ListN.{length-set}
-use Rattle.std.proofs.lemmas.List.{length-map}
-use Rattle.std.specs.Prelude.{◌+◌, ◌<◌, ◌≤◌, IsTrue, filter, option_map, remove}
+use Rattle.std.proofs.Common.{◌≡◌, ◌⊎◌, inl, inr, ℕ, suc, Bool, true, false, cond, eqb, not, Some, List, [], ◌∷◌, length}
+use Rattle.std.proofs.Common.{refl, sym, ap, subst, arith}
+use Rattle.std.specs.Prelude.{◌+◌, ◌≤◌, IsTrue, filter, option_map, is_some, Result, Ok, Err, OnOk, OnErr}
 use Rattle.std.proofs.lemmas.Bool.{not-true}
 use Rattle.std.proofs.lemmas.List.Filters.{length-filter_both}
 use Rattle.ready_driver.specs.declared.ready.Direction.{Direction}
 use Rattle.ready_driver.specs.declared.scheduled_io.Waiter.{Waiter}
 use Rattle.ready_driver.specs.Ready.{meets, mask_of}
 use Rattle.ready_driver.specs.Rooms.{Rooms, room_of}
-use Rattle.ready_driver.specs.ScheduledIo.{waiter_of, is_met, taken, left, tasks_of, forgotten, IsWaitingIn, IsOnceEach, HasRoom, IsSound}
-use Rattle.ready_driver.specs.Places.{IsPlace, IsAway}
+use Rattle.ready_driver.specs.ScheduledIo.{waiter_of, kept, is_met, taken, left, forgotten, IsWaitingIn, HasRoom, IsSound}
 use Rattle.ready_driver.proofs.Waiting.{once-kept, once-filtered}
 
 -- Room for every direction is room for every entry.
@@ -39,13 +35,34 @@ room-grown old new n grown [] room = tt
 room-grown old new n grown (w ∷ ws) room =
     (let more = grown w.direction in omega (arith, room.0), room-grown old new n grown ws room.1)
 
--- An entry at a place needs room for itself alone.
-pub room-set : (old new : Rooms) (n : ℕ) (e : Waiter) → ((d : Direction) → room_of old d ≤ room_of new d) → n ≤ room_of new e.direction
-    → (ws : List Waiter) (i : ℕ) → HasRoom old n ws → HasRoom new n (set ws i e)
-room-set old new n e grown own [] i room = tt
-room-set old new n e grown own (w ∷ ws) zero room = (own, room-grown old new n grown ws room.1)
-room-set old new n e grown own (w ∷ ws) (suc i) room =
-    (let more = grown w.direction in omega (arith, room.0), room-set old new n e grown own ws i room.1)
+-- An entry that is put among others needs room for itself alone.
+pub room-kept : (old new : Rooms) (n : ℕ) (e : Waiter) → ((d : Direction) → room_of old d ≤ room_of new d) → n ≤ room_of new e.direction
+    → (ws : List Waiter) → HasRoom old n ws → HasRoom new n (kept ws e)
+room-kept old new n e grown own [] room = (own, tt)
+room-kept old new n e grown own (w ∷ ws) room = by-first (eqb w.serial e.serial) (room-kept old new n e grown own ws room.1)
+  where
+    by-first : (b : Bool) → HasRoom new n (kept ws e) → HasRoom new n (cond b (e ∷ ws) (w ∷ kept ws e))
+    by-first true later = (own, room-grown old new n grown ws room.1)
+    by-first false later = (let more = grown w.direction in omega (arith, room.0), later)
+
+-- An operation that waits is renewed among as many.
+length-renewed : (ws : List Waiter) (e : Waiter) → is_some (waiter_of ws e.serial) ≡ true → length (kept ws e) ≡ length ws
+length-renewed [] e there = (let f : ⊥ = cc in absurd f)
+length-renewed (w ∷ ws) e there = by-first (eqb w.serial e.serial) (length-renewed ws e) there
+  where
+    by-first : (b : Bool) → (is_some (waiter_of ws e.serial) ≡ true → length (kept ws e) ≡ length ws) →
+        is_some (cond b (Some w) (waiter_of ws e.serial)) ≡ true → length (cond b (e ∷ ws) (w ∷ kept ws e)) ≡ length (w ∷ ws)
+    by-first true later at = refl
+    by-first false later at = ap suc (later at)
+
+-- One that is put among others makes them one more at most.
+length-kept : (ws : List Waiter) (e : Waiter) → length (kept ws e) ≤ length ws + 1
+length-kept [] e = omega arith
+length-kept (w ∷ ws) e = by-first (eqb w.serial e.serial) (length-kept ws e)
+  where
+    by-first : (b : Bool) → length (kept ws e) ≤ length ws + 1 → length (cond b (e ∷ ws) (w ∷ kept ws e)) ≤ length (w ∷ ws) + 1
+    by-first true later = omega arith
+    by-first false later = omega (arith, later)
 
 -- The direction of an operation that waits has room.
 pub room_there : (rooms : Rooms) (n : ℕ) (d : Direction) (ws : List Waiter) (serial : ℕ) → HasRoom rooms n ws
@@ -57,14 +74,6 @@ room_there rooms n d (w ∷ ws) serial room is = by-first (eqb w.serial serial) 
         → option_map (λ v. v.direction) (cond b (Some w) (waiter_of ws serial)) ≡ Some d → n ≤ room_of rooms d
     by-first true later at = let same : w.direction ≡ d = cc in subst (λ v. n ≤ room_of rooms v) same room.0
     by-first false later at = later at
-
--- A vector with the room of each direction that is met has room for each entry that is.
-pub room_met : (rooms : Rooms) (ready n capacity : ℕ) → ((d : Direction) → IsTrue (meets ready (mask_of d)) → room_of rooms d ≤ capacity)
-    → (ws : List Waiter) → HasRoom rooms n ws → (k : ℕ) (d : Waiter) → k < length ws → IsTrue (is_met ready (get_or ws k d)) → n ≤ capacity
-room_met rooms ready n capacity large [] room k d inside met = omega arith
-room_met rooms ready n capacity large (w ∷ ws) room zero d inside met = let fits = large w.direction met in omega (arith, room.0)
-room_met rooms ready n capacity large (w ∷ ws) room (suc k) d inside met =
-    room_met rooms ready n capacity large ws room.1 k d (omega arith) met
 
 -- A set of bits leaves an entry.
 abbrev is_left : ℕ → Waiter → Bool
@@ -79,24 +88,31 @@ pub sound_grown : (ws : List Waiter) (old new : Rooms) → IsSound ws old → ((
 sound_grown ws old new sound grown = record { once = sound.once; room = room-grown old new (length ws) grown ws sound.room }
 
 -- It stays true where an entry was renewed, and there is room for its direction.
-pub sound_renewed : (ws : List Waiter) (old new : Rooms) (e : Waiter) (i : ℕ) → IsSound ws old → IsPlace ws e.serial i
-    → ((d : Direction) → room_of old d ≤ room_of new d) → length ws ≤ room_of new e.direction → IsSound (set ws i e) new
-sound_renewed ws old new e i sound there grown fits = record {
-  once = subst IsOnceEach (there.keeps e refl) (once-kept ws e sound.once);
-  room = rw length-set (room-set old new (length ws) e grown fits ws i sound.room);
-}
-
--- It stays true where an entry joined, and there is room for each direction.
-pub sound_joined : (ws ys : List Waiter) (old new : Rooms) (e : Waiter) → ys ≡ ws ++ e ∷ [] → IsSound ws old → IsAway ws e.serial
-    → ((d : Direction) → length ws + 1 ≤ room_of new d) → IsSound ys new
-sound_joined ws ys old new e is sound away fits = rw is (record {
-  once = subst IsOnceEach (away.joins e refl) (once-kept ws e sound.once);
-  room = room-all new (length (ws ++ e ∷ [])) (λ d. let one = length-append ws (e ∷ []) in let more = fits d in omega arith) (ws ++ e ∷ []);
+pub sound_renewed : (ws ys : List Waiter) (old new : Rooms) (e : Waiter) → ys ≡ kept ws e → is_some (waiter_of ws e.serial) ≡ true →
+    IsSound ws old → ((d : Direction) → room_of old d ≤ room_of new d) → length ws ≤ room_of new e.direction → IsSound ys new
+sound_renewed ws ys old new e is there sound grown fits = rw is (record {
+  once = once-kept ws e sound.once;
+  room = subst (λ n. HasRoom new n (kept ws e)) (sym (length-renewed ws e there)) (room-kept old new (length ws) e grown fits ws sound.room);
 })
 
--- It stays true where an entry was taken out.
-pub sound_forgotten : (ws : List Waiter) (rooms : Rooms) (n i : ℕ) → IsSound ws rooms → IsPlace ws n i → IsSound (remove ws i) rooms
-sound_forgotten ws rooms n i sound there = subst (λ ys. IsSound ys rooms) (there.forgets sound.once) (record {
+-- It stays true where an entry was put among others, and there is room for one more in each direction.
+pub sound_kept : (ws ys : List Waiter) (old new : Rooms) (e : Waiter) → ys ≡ kept ws e → IsSound ws old →
+    ((d : Direction) → length ws + 1 ≤ room_of new d) → IsSound ys new
+sound_kept ws ys old new e is sound fits = rw is (record {
+  once = once-kept ws e sound.once;
+  room = room-all new (length (kept ws e)) (λ d. let one = length-kept ws e in let more = fits d in omega (arith, one, more)) (kept ws e);
+})
+
+-- It stays true where an entry was to join, and memory may have run out.
+pub sound_joined : {T E : Type 0} (result : Result T E) (ws ys : List Waiter) (old new : Rooms) (e : Waiter) →
+    OnOk result (ys ≡ kept ws e) → OnErr result (ys ≡ ws) → IsSound ws old → ((d : Direction) → room_of old d ≤ room_of new d) →
+    ((d : Direction) → length ws + 1 ≤ room_of new d) → IsSound ys new
+sound_joined (Ok value) ws ys old new e ok err sound grown fits = sound_kept ws ys old new e ok sound fits
+sound_joined (Err error) ws ys old new e ok err sound grown fits = subst (λ zs. IsSound zs new) (sym err) (sound_grown ws old new sound grown)
+
+-- It stays true where an operation was forgotten.
+pub sound_forgotten : (ws ys : List Waiter) (rooms : Rooms) (n : ℕ) → ys ≡ forgotten ws n → IsSound ws rooms → IsSound ys rooms
+sound_forgotten ws ys rooms n is sound = rw is (record {
   once = once-filtered (λ w. not (eqb w.serial n)) ws sound.once;
   room = room-filtered rooms rooms (length ws) (length (forgotten ws n)) (λ w. not (eqb w.serial n)) (filtered-fits _ ws)
       (λ w passes. omega arith) ws sound.room;
@@ -111,10 +127,21 @@ sound_left ws ys old new ready is sound stays = rw is (record {
       (λ w passes. stays w.direction (not-true (is_met ready w) passes)) ws sound.room;
 })
 
--- The tasks that are named of the first entries are no more than these.
-pub named-fit : (ready : ℕ) (ws : List Waiter) (i : ℕ) → length (tasks_of (taken ready (take i ws))) ≤ i
-named-fit ready ws i =
-    let same = length-map (taken ready (take i ws)) (λ w. w.task) in
-    let fewer = filtered-fits (is_met ready) (take i ws) in
-    let firsts = length-take i ws in
-    omega arith
+-- Where a vector has the room of each direction that is met, nothing is taken, or it has room for what the rooms are for.
+taken-or-room : (rooms : Rooms) (ready n capacity : ℕ) → ((d : Direction) → IsTrue (meets ready (mask_of d)) → room_of rooms d ≤ capacity) →
+    (ws : List Waiter) → HasRoom rooms n ws → (taken ready ws ≡ []) ⊎ (n ≤ capacity)
+taken-or-room rooms ready n capacity large [] room = inl refl
+taken-or-room rooms ready n capacity large (w ∷ ws) room =
+    by-met (is_met ready w) refl (taken-or-room rooms ready n capacity large ws room.1)
+  where
+    by-met : (m : Bool) → is_met ready w ≡ m → (taken ready ws ≡ []) ⊎ (n ≤ capacity) → (cond m (w ∷ taken ready ws) (taken ready ws) ≡ []) ⊎ (n ≤ capacity)
+    by-met true met later = inr (let fits = large w.direction met in omega (arith, room.0, fits))
+    by-met false met later = later
+
+-- So it has room for what is taken.
+pub taken_fits : (rooms : Rooms) (ready capacity : ℕ) → ((d : Direction) → IsTrue (meets ready (mask_of d)) → room_of rooms d ≤ capacity) →
+    (ws : List Waiter) → IsSound ws rooms → length (taken ready ws) ≤ capacity
+taken_fits rooms ready capacity large ws sound = elim (taken-or-room rooms ready (length ws) capacity large ws sound.room) [
+  | inl none ↦ subst (λ us. length us ≤ capacity) (sym none) (omega arith)
+  | inr room ↦ (let fewer = filtered-fits (is_met ready) ws in omega (arith, fewer, room))
+]

@@ -1,148 +1,160 @@
--- Operations that wait in the order of their numbers: how one is found, and what keeps the order.
-use Rattle.std.proofs.Common.{◌≡◌, ◌≢◌, ◌∙◌, ℕ, suc, zero, ◌<◌, ◌≤◌, ◌++◌, Bool, true, false, cond, eqb, not, ◌||◌, Some}
+-- Entries in the order of their numbers: how an operation's is found, and what keeps the order.
+use Rattle.std.proofs.Common.{◌≡◌, ◌≢◌, ◌∙◌, ℕ, suc, zero, ◌<◌, ◌≤◌, ◌++◌, Bool, true, false, cond, eqb, ◌||◌}
 use Rattle.std.proofs.Common.{List, [], ◌∷◌, length, get_or, set, Result, Ok, Err, refl, sym, ap, subst, inl, inr, arith, eq-eqb}
-use Rattle.std.specs.Prelude.{filter, remove, IfOk, IfErr}
+use Rattle.std.specs.Prelude.{filter, IfOk, IfErr}
 use Rattle.std.specs.Ordering.{nat_cmp, ordering_index}
 use Rattle.std.specs.List.Sorted.{IsSearchInRange, IsBinarySearchResult, IsNonDecreasingBy}
-use Rattle.std.proofs.lemmas.Bool.{ne_eqb, eqb-true}
-use Rattle.std.proofs.lemmas.Bool.Decides.{eqb_tells, nat_tests}
+use Rattle.std.proofs.lemmas.Bool.{eqb-true}
+use Rattle.std.proofs.lemmas.Bool.Decides.{nat_tests}
 use Rattle.std.proofs.lemmas.Cmp.{ranked}
 use Rattle.std.proofs.lemmas.List.Sorted.{IsNonDecreasingBy-from_default}
-use Rattle.ready_driver.specs.declared.ready.Direction.TheVariants.{Read}
 use Rattle.ready_driver.specs.declared.scheduled_io.Waiter.{Waiter}
-use Rattle.ready_driver.specs.ScheduledIo.{waiter_of, kept, left, is_met, IsOnceEach, IsAscendingFrom, IsInOrder, IsBehind}
-use Rattle.ready_driver.specs.Places.{IsPlace, IsAway}
-use Rattle.ready_driver.proofs.Places.{place-first, place-later, away-empty, away-later}
+use Rattle.ready_driver.specs.declared.scheduled_io.wait_list.Entry.{Entry}
+use Rattle.ready_driver.specs.declared.scheduled_io.wait_list.Entry.TheVariants.{Waits, Gap}
+use Rattle.ring_core.proofs.Numbers.{same-or-not}
+use Rattle.ready_driver.specs.WaitList.{number_of, is_of, IsAscendingFrom, IsInOrder, IsBehind, IsPlace, IsAway, IsSpot}
+use Rattle.ready_driver.proofs.Places.{place-first, place-later, away-empty, away-later, not-of}
 
 -- An entry that stands for none that is there.
-nobody : Waiter
-nobody = record { serial = 0; task = 0; direction = Read }
+nobody : Entry
+nobody = Gap 0
 
 -- Numbers that aren't below one aren't below a lesser one.
-lower : (m n : ℕ) (ws : List Waiter) → m ≤ n → IsAscendingFrom n ws → IsAscendingFrom m ws
+lower : (m n : ℕ) (es : List Entry) → m ≤ n → IsAscendingFrom n es → IsAscendingFrom m es
 lower m n [] less order = tt
-lower m n (w ∷ ws) less order = (omega (arith, less, order.0), order.1)
+lower m n (e ∷ es) less order = (omega (arith, less, order.0), order.1)
 
 -- No number is below the least.
-least_at : (n : ℕ) (ws : List Waiter) → IsAscendingFrom n ws → (j : ℕ) (d : Waiter) → j < length ws → n ≤ (get_or ws j d).serial
+least_at : (n : ℕ) (es : List Entry) → IsAscendingFrom n es → (j : ℕ) (d : Entry) → j < length es → n ≤ number_of (get_or es j d)
 least_at n [] order j d inside = absurd (omega (arith, inside))
-least_at n (w ∷ ws) order zero d inside = order.0
-least_at n (w ∷ ws) order (suc j) d inside =
-    let later = least_at (suc w.serial) ws order.1 j d (omega (arith, inside)) in
+least_at n (e ∷ es) order zero d inside = order.0
+least_at n (e ∷ es) order (suc j) d inside =
+    let later = least_at (suc (number_of e)) es order.1 j d (omega (arith, inside)) in
     omega (arith, order.0, later)
 
 -- The numbers rise.
-rises : (n : ℕ) (ws : List Waiter) → IsAscendingFrom n ws → (i j : ℕ) (d : Waiter) → i < j → j < length ws →
-    (get_or ws i d).serial < (get_or ws j d).serial
+rises : (n : ℕ) (es : List Entry) → IsAscendingFrom n es → (i j : ℕ) (d : Entry) → i < j → j < length es →
+    number_of (get_or es i d) < number_of (get_or es j d)
 rises n [] order i j d before inside = absurd (omega (arith, inside))
-rises n (w ∷ ws) order i zero d before inside = absurd (omega (arith, before))
-rises n (w ∷ ws) order zero (suc j) d before inside = least_at (suc w.serial) ws order.1 j d (omega (arith, inside))
-rises n (w ∷ ws) order (suc i) (suc j) d before inside =
-    rises (suc w.serial) ws order.1 i j d (omega (arith, before)) (omega (arith, inside))
+rises n (e ∷ es) order i zero d before inside = absurd (omega (arith, before))
+rises n (e ∷ es) order zero (suc j) d before inside = least_at (suc (number_of e)) es order.1 j d (omega (arith, inside))
+rises n (e ∷ es) order (suc i) (suc j) d before inside =
+    rises (suc (number_of e)) es order.1 i j d (omega (arith, before)) (omega (arith, inside))
 
--- An operation whose entry is at a place, and at none before it.
-placed : (n : ℕ) (ws : List Waiter) (i : ℕ) → i < length ws → (get_or ws i nobody).serial ≡ n →
-    ((j : ℕ) → j < i → (get_or ws j nobody).serial ≢ n) → IsPlace ws n i
-placed n [] i inside is before = absurd (omega (arith, inside))
-placed n (w ∷ ws) zero inside is before = place-first n w ws (eq-eqb w.serial n is)
-placed n (w ∷ ws) (suc i) inside is before =
-    place-later n w ws i (ne_eqb w.serial n (before 0 (omega arith)))
-    (placed n ws i (omega (arith, inside)) is (λ j lt. before (suc j) (omega (arith, lt))))
+-- An operation that waits at a place, and has no entry before it.
+placed : (n : ℕ) (es : List Entry) (i : ℕ) (w : Waiter) (d : Entry) → i < length es → get_or es i d ≡ Waits w → w.serial ≡ n →
+    ((j : ℕ) → j < i → number_of (get_or es j nobody) ≢ n) → IsPlace es n i w
+placed n [] i w d inside is own before = absurd (omega (arith, inside))
+placed n (e ∷ es) zero w d inside is own before =
+    subst (λ x. IsPlace (x ∷ es) n 0 w) (sym is) (place-first n w es (eq-eqb w.serial n own))
+placed n (e ∷ es) (suc i) w d inside is own before =
+    place-later n e es i w (not-of n e (before 0 (omega arith)))
+    (placed n es i w d (omega (arith, inside)) is own (λ j lt. before (suc j) (omega (arith, lt))))
 
--- An operation whose entry is at no place.
-unplaced : (n : ℕ) (ws : List Waiter) → ((j : ℕ) → j < length ws → (get_or ws j nobody).serial ≢ n) → IsAway ws n
+-- An operation that has no entry, or a gap.
+unplaced : (n : ℕ) (es : List Entry) → ((j : ℕ) → j < length es → is_of n (get_or es j nobody) ≡ false) → IsAway es n
 unplaced n [] none = away-empty n
-unplaced n (w ∷ ws) none =
-    away-later n w ws (ne_eqb w.serial n (none 0 (omega arith))) (unplaced n ws (λ j lt. none (suc j) (omega (arith, lt))))
+unplaced n (e ∷ es) none =
+    away-later n e es (none 0 (omega arith)) (unplaced n es (λ j lt. none (suc j) (omega (arith, lt))))
 
-module _ (ws : List Waiter) (order : IsAscendingFrom 0 ws) (n : ℕ) where
+-- A place inside has the same entry whatever stands for none.
+inside-same : (es : List Entry) (i : ℕ) (c d : Entry) → i < length es → get_or es i c ≡ get_or es i d
+inside-same [] i c d inside = absurd (omega (arith, inside))
+inside-same (e ∷ es) zero c d inside = refl
+inside-same (e ∷ es) (suc i) c d inside = inside-same es i c d (omega (arith, inside))
+
+module _ (es : List Entry) (order : IsAscendingFrom 0 es) (n : ℕ) where
   -- The comparisons with a number rise, as a search by halves asks.
-  compared : IsNonDecreasingBy (λ w. ordering_index (nat_cmp w.serial n)) ws
-  compared = IsNonDecreasingBy-from_default (λ w. ordering_index (nat_cmp w.serial n)) ws nobody (λ i j le inside.
-      let keys : (get_or ws i nobody).serial ≤ (get_or ws j nobody).serial =
-      grind (arith, rises 0 ws order i j nobody, λ (same : i ≡ j). ap (λ k. (get_or ws k nobody).serial) same) in
+  compared : IsNonDecreasingBy (λ e. ordering_index (nat_cmp (number_of e) n)) es
+  compared = IsNonDecreasingBy-from_default (λ e. ordering_index (nat_cmp (number_of e) n)) es nobody (λ i j le inside.
+      let keys : number_of (get_or es i nobody) ≤ number_of (get_or es j nobody) =
+      grind (arith, rises 0 es order i j nobody, λ (same : i ≡ j). ap (λ k. number_of (get_or es k nobody)) same) in
       grind (arith, nat_tests))
 
+  -- The entry at a place of that number is the operation's, or a gap that it left.
+  spot : (at : ℕ) → at < length es → number_of (get_or es at nobody) ≡ n → IsSpot es n at
+  spot at inside here = record {
+    within = inside;
+    waits = λ w d is. placed n es at w d inside is
+        (sym (ap number_of (inside-same es at nobody d inside ∙ is)) ∙ here)
+        (λ j lt same. (let before = rises 0 es order j at nobody lt inside in omega (arith, before, here, same)));
+    gone = λ m d is. unplaced n es (λ j lt. other at inside here m d is j lt);
+  }
+    where
+      other : (at : ℕ) → at < length es → number_of (get_or es at nobody) ≡ n → (m : ℕ) (d : Entry) → get_or es at d ≡ Gap m →
+          (j : ℕ) → j < length es → is_of n (get_or es j nobody) ≡ false
+      other at inside here m d is j lt = elim (same-or-not j at) [
+        | inl same ↦ ap (is_of n) (ap (λ k. get_or es k nobody) same ∙ inside-same es at nobody d inside ∙ is)
+        | inr apart ↦ not-of n (get_or es j nobody) (λ equal. (
+            let up = rises 0 es order j at nobody in
+            let down = rises 0 es order at j nobody in
+            grind (arith, up, down, lt, inside, here, equal, apart)))
+      ]
+
   -- A search by halves finds an operation's place, or that it doesn't wait.
-  pub searched : (r : Result ℕ ℕ) → IsSearchInRange r (length ws) → IsBinarySearchResult (λ w. nat_cmp w.serial n) ws r →
-      IfOk r (λ at. IsPlace ws n at) × IfErr r (λ at. IsAway ws n)
-  searched (Ok at) inside equal =
-      let here = ranked _ n _ (sym (equal nobody)) in (
-        placed n ws at inside here (λ j lt same. (
-            let before = rises 0 ws order j at nobody lt inside in
-            omega (arith, before, here, same))),
-        tt,
-      )
+  pub searched : (r : Result ℕ ℕ) → IsSearchInRange r (length es) → IsBinarySearchResult (λ e. nat_cmp (number_of e) n) es r →
+      IfOk r (λ at. IsSpot es n at) × IfErr r (λ at. IsAway es n)
+  searched (Ok at) inside equal = (spot at inside (ranked _ n _ (sym (equal nobody))), tt)
   searched (Err at) inside parted = (
     tt,
-    unplaced n ws (λ j lt same. (grind (
+    unplaced n es (λ j lt. not-of n (get_or es j nobody) (λ same. (grind (
       arith,
       (λ (below : j < at). ranked _ n _ (sym ((parted compared).0 j nobody (omega arith) below))),
       (λ (above : at ≤ j). ranked _ n _ (sym ((parted compared).1 j nobody above lt))),
       same,
-    ))),
+    )))),
   )
 
 -- A filter keeps the order.
-filtered : (p : Waiter → Bool) (n : ℕ) (ws : List Waiter) → IsAscendingFrom n ws → IsAscendingFrom n (filter p ws)
+filtered : (p : Entry → Bool) (n : ℕ) (es : List Entry) → IsAscendingFrom n es → IsAscendingFrom n (filter p es)
 filtered p n [] order = tt
-filtered p n (w ∷ ws) order = by-test (p w) (filtered p (suc w.serial) ws order.1)
+filtered p n (e ∷ es) order = by-test (p e) (filtered p (suc (number_of e)) es order.1)
   where
-    by-test : (b : Bool) → IsAscendingFrom (suc w.serial) (filter p ws) → IsAscendingFrom n (cond b (w ∷ filter p ws) (filter p ws))
+    by-test : (b : Bool) → IsAscendingFrom (suc (number_of e)) (filter p es) →
+        IsAscendingFrom n (cond b (e ∷ filter p es) (filter p es))
     by-test true rest = (order.0, rest)
-    by-test false rest = lower n (suc w.serial) (filter p ws) (omega (arith, order.0)) rest
+    by-test false rest = lower n (suc (number_of e)) (filter p es) (omega (arith, order.0)) rest
 
--- So does a newer entry of an operation that waits.
-renewed : (n : ℕ) (ws : List Waiter) (e : Waiter) (was : Waiter) → waiter_of ws e.serial ≡ Some was → IsAscendingFrom n ws →
-    IsAscendingFrom n (kept ws e)
-renewed n [] e was found order = (let f : ⊥ = cc in absurd f)
-renewed n (w ∷ ws) e was found order = elim (eqb_tells w.serial e.serial) [
-  | inl same ↦
-      subst (λ b. IsAscendingFrom n (cond b (e ∷ ws) (w ∷ kept ws e))) (sym same.0)
-      (subst (λ k. n ≤ k) same.1 order.0, subst (λ k. IsAscendingFrom (suc k) ws) same.1 order.1)
-  | inr apart ↦
-      subst (λ b. IsAscendingFrom n (cond b (e ∷ ws) (w ∷ kept ws e))) (sym apart.0)
-      (order.0, renewed (suc w.serial) ws e was (ap (λ b. cond b (Some w) (waiter_of ws e.serial)) (sym apart.0) ∙ found) order.1)
-]
+-- So does an entry of the same number at a place.
+put : (n : ℕ) (es : List Entry) (i : ℕ) (e : Entry) → number_of (get_or es i e) ≡ number_of e → IsAscendingFrom n es →
+    IsAscendingFrom n (set es i e)
+put n [] i e same order = tt
+put n (x ∷ es) zero e same order =
+    (subst (λ k. n ≤ k) same order.0, subst (λ k. IsAscendingFrom (suc k) es) same order.1)
+put n (x ∷ es) (suc i) e same order = (order.0, put (suc (number_of x)) es i e same order.1)
 
 -- So does an entry behind the last one.
-joined : (n : ℕ) (ws : List Waiter) (e : Waiter) → n ≤ e.serial → IsBehind ws e.serial → IsAscendingFrom n ws →
-    IsAscendingFrom n (ws ++ e ∷ [])
+joined : (n : ℕ) (es : List Entry) (e : Entry) → n ≤ number_of e → IsBehind es (number_of e) → IsAscendingFrom n es →
+    IsAscendingFrom n (es ++ e ∷ [])
 joined n [] e least behind order = (least, tt)
-joined n (w ∷ []) e least behind order = (order.0, (behind 0 w refl, tt))
-joined n (w ∷ v ∷ ws) e least behind order = (
+joined n (x ∷ []) e least behind order = (order.0, (behind 0 x refl, tt))
+joined n (x ∷ y ∷ es) e least behind order = (
   order.0,
-  joined (suc w.serial) (v ∷ ws) e (let last = behind (suc (length ws)) w refl in
-      let low = least_at (suc w.serial) (v ∷ ws) order.1 (length ws) w (omega arith) in omega (arith, last, low))
+  joined (suc (number_of x)) (y ∷ es) e (let last = behind (suc (length es)) x refl in
+      let low = least_at (suc (number_of x)) (y ∷ es) order.1 (length es) x (omega arith) in omega (arith, last, low))
       (λ last d is. behind (suc last) d (ap suc is)) order.1,
 )
 
--- An entry that was renewed at its place keeps the order.
-pub order_renewed : (b : Bool) (ws : List Waiter) (e : Waiter) (i : ℕ) → IsPlace ws e.serial i → IsInOrder b ws → IsInOrder b (set ws i e)
-order_renewed b ws e i there order = λ is. subst (IsAscendingFrom 0) (there.keeps e refl)
-    (renewed 0 ws e _ (there.found nobody) (order is))
+-- An entry of the same number at an operation's place keeps the order.
+pub order_put : (b : Bool) (es ys : List Entry) (e : Entry) (n i : ℕ) (w : Waiter) → ys ≡ set es i e → IsPlace es n i w →
+    number_of e ≡ n → IsInOrder b es → IsInOrder b ys
+order_put b es ys e n i w is there same order = λ so. subst (IsAscendingFrom 0) (sym is)
+    (put 0 es i e (ap number_of (there.is e) ∙ there.own ∙ sym same) (order so))
 
 -- One that joined keeps it, where its number is above that of the last.
-pub order_joined : (b stays : Bool) (ws ys : List Waiter) (e : Waiter) → ys ≡ ws ++ e ∷ [] →
-    (stays ≡ true → (b ≡ true) × IsBehind ws e.serial) → IsInOrder b ws → IsInOrder stays ys
-order_joined b stays ws ys e is behind order = λ stay. subst (IsAscendingFrom 0) (sym is)
-    (joined 0 ws e (omega arith) (behind stay).1 (order (behind stay).0))
+pub order_joined : (b stays : Bool) (es ys : List Entry) (e : Entry) → ys ≡ es ++ e ∷ [] →
+    (stays ≡ true → (b ≡ true) × IsBehind es (number_of e)) → IsInOrder b es → IsInOrder stays ys
+order_joined b stays es ys e is behind order = λ stay. subst (IsAscendingFrom 0) (sym is)
+    (joined 0 es e (omega arith) (behind stay).1 (order (behind stay).0))
 
--- One that was taken out leaves it.
-pub order_forgotten : (b : Bool) (ws : List Waiter) (n i : ℕ) → IsOnceEach ws → IsPlace ws n i → IsInOrder b ws →
-    IsInOrder b (remove ws i)
-order_forgotten b ws n i once there order = λ is. subst (IsAscendingFrom 0) (there.forgets once)
-    (filtered (λ w. not (eqb w.serial n)) 0 ws (order is))
+-- Some of the entries are in order where all are.
+pub order_filtered : (b : Bool) (p : Entry → Bool) (es ys : List Entry) → ys ≡ filter p es → IsInOrder b es → IsInOrder b ys
+order_filtered b p es ys is order = λ so. subst (IsAscendingFrom 0) (sym is) (filtered p 0 es (order so))
 
--- So do those that a wake took.
-pub order_left : (b : Bool) (ws ys : List Waiter) (ready : ℕ) → ys ≡ left ready ws → IsInOrder b ws → IsInOrder b ys
-order_left b ws ys ready is order = λ same. subst (IsAscendingFrom 0) (sym is)
-    (filtered (λ w. not (is_met ready w)) 0 ws (order same))
-
--- Where none waits, they are in order.
-pub order_none : (b empty : Bool) (ws : List Waiter) → empty ≡ eqb (length ws) 0 → IsInOrder b ws → IsInOrder (b || empty) ws
+-- Where there is none, they are in order.
+pub order_none : (b empty : Bool) (es : List Entry) → empty ≡ eqb (length es) 0 → IsInOrder b es → IsInOrder (b || empty) es
 order_none b empty [] is order = λ same. tt
-order_none true empty (w ∷ ws) is order = λ same. order refl
-order_none false empty (w ∷ ws) is order = λ same. (
-    let none = eqb-true (length (w ∷ ws)) 0 (sym is ∙ same) in
+order_none true empty (e ∷ es) is order = λ same. order refl
+order_none false empty (e ∷ es) is order = λ same. (
+    let none = eqb-true (length (e ∷ es)) 0 (sym is ∙ same) in
     absurd (omega (arith, none)))

@@ -1,18 +1,15 @@
 -- What waits on a handle, by place: where an operation's entry is, and what a change at that place leaves.
-use Rattle.std.proofs.Common.{◌≡◌, ◌∙◌, ℕ, suc, Bool, true, false, cond, eqb, ltb, not, Option, Some, None, List, [], ◌∷◌}
-use Rattle.std.proofs.Common.{length, refl, sym, ap, subst, arith, one-add}
-use Rattle.std.proofs.Common.{inl, inr}
-use Rattle.std.proofs.lemmas.Bool.{cases_lt, lt-ltb, le-ltb, eqb-true}
+use Rattle.std.proofs.Common.{◌≡◌, ◌≢◌, ◌∙◌, ℕ, suc, Bool, true, false, cond, eqb, ltb, not, Option, Some, None, List, [], ◌∷◌}
+use Rattle.std.proofs.Common.{length, refl, sym, ap, subst, arith, one-add, inl, inr}
+use Rattle.std.proofs.lemmas.Bool.{cases_lt, lt-ltb, le-ltb, eqb-true, ne_eqb}
 use Rattle.std.specs.Prelude.{◌+◌, option_map, position, IfSome, IfNone}
 use Rattle.std.specs.List.{position_or_len}
 use Rattle.ready_driver.specs.declared.scheduled_io.Waiter.{Waiter}
+use Rattle.ready_driver.specs.declared.scheduled_io.wait_list.Entry.{Entry}
+use Rattle.ready_driver.specs.declared.scheduled_io.wait_list.Entry.TheVariants.{Waits, Gap}
 use Rattle.ready_driver.specs.ScheduledIo.{waiter_of, kept, forgotten}
-use Rattle.ready_driver.specs.Places.{IsPlace, IsAway}
+use Rattle.ready_driver.specs.WaitList.{live, is_of, number_of, IsPlace, IsAway, IsSpot}
 use Rattle.ready_driver.proofs.Waiting.{forgotten-none}
-
--- An entry is that of an operation.
-abbrev pub is_of : ℕ → Waiter → Bool
-is_of serial w = eqb w.serial serial
 
 -- A place that is one more, in a list that is one longer.
 place-suc : (a n : ℕ) → cond (ltb (1 + a) (suc n)) (Some (1 + a)) None ≡ option_map suc (cond (ltb a n) (Some a) None)
@@ -69,50 +66,92 @@ at-none p P empty later (x ∷ xs) is = by-first (p x) refl (λ at. at-none p P 
     by-first false other rec at = by-place (position p xs) other rec at
 
 -- The first entry is that of an operation: there it is found, renewed and forgotten.
-pub place-first : (n : ℕ) (w : Waiter) (ws : List Waiter) → eqb w.serial n ≡ true → IsPlace (w ∷ ws) n 0
-place-first n w ws same = record {
+pub place-first : (n : ℕ) (w : Waiter) (es : List Entry) → eqb w.serial n ≡ true → IsPlace (Waits w ∷ es) n 0 w
+place-first n w es same = record {
   within = omega arith;
-  found = λ d. ap (λ b. cond b (Some w) (waiter_of ws n)) same;
-  keeps = λ e is. ap (λ b. cond b (e ∷ ws) (w ∷ kept ws e)) (ap (eqb w.serial) is ∙ same);
-  forgets = λ once. ap (λ b. cond (not b) (w ∷ forgotten ws n) (forgotten ws n)) same
-      ∙ forgotten-none ws n (subst (λ m. waiter_of ws m ≡ None) (eqb-true w.serial n same) once.0);
+  is = λ d. refl;
+  own = eqb-true w.serial n same;
+  found = ap (λ b. cond b (Some w) (waiter_of (live es) n)) same;
+  keeps = λ v is. sym (ap (λ b. cond b (v ∷ live es) (w ∷ kept (live es) v)) (ap (eqb w.serial) is ∙ same));
+  forgets = λ once. sym (ap (λ b. cond (not b) (w ∷ forgotten (live es) n) (forgotten (live es) n)) same
+      ∙ forgotten-none (live es) n (subst (λ m. waiter_of (live es) m ≡ None) (eqb-true w.serial n same) once.0));
 }
 
--- The first entry is another one's: the operation's place is one further.
-pub place-later : (n : ℕ) (w : Waiter) (ws : List Waiter) (i : ℕ) → eqb w.serial n ≡ false → IsPlace ws n i → IsPlace (w ∷ ws) n (suc i)
-place-later n w ws i other there = record {
+-- The first entry isn't the operation's: its place is one further.
+pub place-later : (n : ℕ) (e : Entry) (es : List Entry) (i : ℕ) (w : Waiter) → is_of n e ≡ false → IsPlace es n i w →
+    IsPlace (e ∷ es) n (suc i) w
+place-later n (Waits v) es i w other there = record {
   within = omega (arith, there.within);
-  found = λ d. ap (λ b. cond b (Some w) (waiter_of ws n)) other ∙ there.found d;
-  keeps = λ e is. ap (λ b. cond b (e ∷ ws) (w ∷ kept ws e)) (ap (eqb w.serial) is ∙ other) ∙ ap (λ ys. w ∷ ys) (there.keeps e is);
-  forgets = λ once. ap (λ b. cond (not b) (w ∷ forgotten ws n) (forgotten ws n)) other ∙ ap (λ ys. w ∷ ys) (there.forgets once.1);
+  is = there.is;
+  own = there.own;
+  found = ap (λ b. cond b (Some v) (waiter_of (live es) n)) other ∙ there.found;
+  keeps = λ u is. ap (λ us. v ∷ us) (there.keeps u is)
+      ∙ sym (ap (λ b. cond b (u ∷ live es) (v ∷ kept (live es) u)) (ap (eqb v.serial) is ∙ other));
+  forgets = λ once. ap (λ us. v ∷ us) (there.forgets once.1)
+      ∙ sym (ap (λ b. cond (not b) (v ∷ forgotten (live es) n) (forgotten (live es) n)) other);
+}
+place-later n (Gap m) es i w other there = record {
+  within = omega (arith, there.within);
+  is = there.is;
+  own = there.own;
+  found = there.found;
+  keeps = there.keeps;
+  forgets = there.forgets;
 }
 
 -- Nothing waits.
 pub away-empty : (n : ℕ) → IsAway [] n
-away-empty n = record { none = refl; joins = λ e is. refl; forgets = refl }
+away-empty n = refl
 
--- The first entry is another one's: the operation doesn't wait where it doesn't behind that.
-pub away-later : (n : ℕ) (w : Waiter) (ws : List Waiter) → eqb w.serial n ≡ false → IsAway ws n → IsAway (w ∷ ws) n
-away-later n w ws other away = record {
-  none = ap (λ b. cond b (Some w) (waiter_of ws n)) other ∙ away.none;
-  joins = λ e is. ap (λ b. cond b (e ∷ ws) (w ∷ kept ws e)) (ap (eqb w.serial) is ∙ other) ∙ ap (λ ys. w ∷ ys) (away.joins e is);
-  forgets = ap (λ b. cond (not b) (w ∷ forgotten ws n) (forgotten ws n)) other ∙ ap (λ ys. w ∷ ys) away.forgets;
+-- The first entry isn't the operation's: it doesn't wait where it doesn't behind that.
+pub away-later : (n : ℕ) (e : Entry) (es : List Entry) → is_of n e ≡ false → IsAway es n → IsAway (e ∷ es) n
+away-later n (Waits v) es other away = ap (λ b. cond b (Some v) (waiter_of (live es) n)) other ∙ away
+away-later n (Gap m) es other away = away
+
+-- An entry of another number isn't the operation's.
+pub not-of : (n : ℕ) (e : Entry) → number_of e ≢ n → is_of n e ≡ false
+not-of n (Waits v) other = ne_eqb v.serial n other
+not-of n (Gap m) other = refl
+
+-- What waits at a place is what is there.
+same-waiter : (v w : Waiter) → ◌≡◌ {A = Entry} (Waits v) (Waits w) → v ≡ w
+same-waiter v w is = cc
+
+-- A gap isn't what waits.
+no-gap : (w : Waiter) (m : ℕ) → ◌≡◌ {A = Entry} (Waits w) (Gap m) → ⊥
+no-gap w m is = cc
+
+-- The first entry is that of an operation, which waits.
+spot-first : (n : ℕ) (e : Entry) (es : List Entry) → is_of n e ≡ true → IsSpot (e ∷ es) n 0
+spot-first n (Waits v) es same = record {
+  within = omega arith;
+  waits = λ w d is. subst (IsPlace (Waits v ∷ es) n 0) (same-waiter v w is) (place-first n v es same);
+  gone = λ m d is. absurd (no-gap v m is);
+}
+spot-first n (Gap m) es same = (let f : ⊥ = cc in absurd f)
+
+-- The spot is one further behind an entry that isn't the operation's.
+pub spot-later : (n : ℕ) (e : Entry) (es : List Entry) (i : ℕ) → is_of n e ≡ false → IsSpot es n i → IsSpot (e ∷ es) n (suc i)
+spot-later n e es i other there = record {
+  within = omega (arith, there.within);
+  waits = λ w d is. place-later n e es i w other (there.waits w d is);
+  gone = λ m d is. away-later n e es other (there.gone m d is);
 }
 
 -- At its first place an operation's entry is found, renewed and forgotten.
-place-there : (n : ℕ) (ws : List Waiter) (i : ℕ) → position (is_of n) ws ≡ Some i → IsPlace ws n i
-place-there n = at-place (is_of n) (λ ws i. IsPlace ws n i) (place-first n) (place-later n)
+spot-there : (n : ℕ) (es : List Entry) (i : ℕ) → position (is_of n) es ≡ Some i → IsSpot es n i
+spot-there n = at-place (is_of n) (λ es i. IsSpot es n i) (spot-first n) (spot-later n)
 
 -- An operation with no place doesn't wait.
-away-there : (n : ℕ) (ws : List Waiter) → position (is_of n) ws ≡ None → IsAway ws n
-away-there n = at-none (is_of n) (λ ws. IsAway ws n) (away-empty n) (away-later n)
+away-there : (n : ℕ) (es : List Entry) → position (is_of n) es ≡ None → IsAway es n
+away-there n = at-none (is_of n) (λ es. IsAway es n) (away-empty n) (away-later n)
 
 -- What a search for an operation's entry found is its place.
-pub place_is : (n : ℕ) (ws : List Waiter) (o : Option ℕ) → o ≡ position (is_of n) ws → IfSome o (λ at. IsPlace ws n at)
-place_is n ws None is = tt
-place_is n ws (Some i) is = place-there n ws i (sym is)
+pub spot_is : (n : ℕ) (es : List Entry) (o : Option ℕ) → o ≡ position (is_of n) es → IfSome o (λ at. IsSpot es n at)
+spot_is n es None is = tt
+spot_is n es (Some i) is = spot-there n es i (sym is)
 
 -- Where a search for an operation's entry found nothing, it doesn't wait.
-pub away_is : (n : ℕ) (ws : List Waiter) (o : Option ℕ) → o ≡ position (is_of n) ws → IfNone o (IsAway ws n)
-away_is n ws None is = away-there n ws (sym is)
-away_is n ws (Some i) is = tt
+pub away_is : (n : ℕ) (es : List Entry) (o : Option ℕ) → o ≡ position (is_of n) es → IfNone o (IsAway es n)
+away_is n es None is = away-there n es (sym is)
+away_is n es (Some i) is = tt

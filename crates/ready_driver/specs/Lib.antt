@@ -15,7 +15,6 @@ pub mod LegacyStep
 pub mod LegacyTurns
 pub mod MemIo
 pub mod Named
-pub mod Places
 pub mod Polling
 pub mod Readiness
 pub mod Ready
@@ -29,4 +28,5 @@ pub mod SocketLaws
 pub mod Spelled
 pub mod SpelledRows
 pub mod Turns
+pub mod WaitList
 pub mod Errors

@@ -1,6 +1,6 @@
 -- What waits on a handle, as contracts see it. Cited by `ScheduledIo`.
-use Rattle.std.specs.Prelude.{ℕ, suc, ◌≡◌, ◌≢◌, ◌≤◌, ◌<◌, ◌==◌, ⊤, Bool, true, not, List, [], ◌∷◌, length, Option, Some, None}
-use Rattle.std.specs.Prelude.{if◌then◌else◌, filter, find, map, option_map, slice_index_or}
+use Rattle.std.specs.Prelude.{ℕ, ◌≡◌, ◌≢◌, ◌≤◌, ◌==◌, ⊤, Bool, not, List, [], ◌∷◌, length, Option, Some, None}
+use Rattle.std.specs.Prelude.{if◌then◌else◌, filter, find, map, option_map}
 use Rattle.ready_driver.specs.declared.ready.Direction.{Direction}
 use Rattle.ready_driver.specs.declared.scheduled_io.Waiter.{Waiter}
 use Rattle.ready_driver.specs.Ready.{meets, mask_of}
@@ -67,19 +67,6 @@ pub record ChangesOnly (old new : List Waiter) (serial : ℕ) (entry : Option Wa
 abbrev pub HasRoom : Rooms → ℕ → List Waiter → Type 0
 HasRoom rooms count [] = ⊤
 HasRoom rooms count (w ∷ ws) = (count ≤ room_of rooms w.direction) × HasRoom rooms count ws
-
--- The operations wait in the order of their numbers, which aren't below this one.
-abbrev pub IsAscendingFrom : ℕ → List Waiter → Type 0
-IsAscendingFrom least [] = ⊤
-IsAscendingFrom least (w ∷ ws) = (least ≤ w.serial) × IsAscendingFrom (suc w.serial) ws
-
--- Where a mark says so the operations wait in the order of their numbers.
-abbrev pub IsInOrder : Bool → List Waiter → Type 0
-IsInOrder in_order waiting = in_order ≡ true → IsAscendingFrom 0 waiting
-
--- An operation has a number above that of the one that waits last.
-abbrev pub IsBehind : List Waiter → ℕ → Type 0
-IsBehind waiting serial = (last : ℕ) (d : Waiter) → suc last ≡ length waiting → (slice_index_or waiting last d).serial < serial
 
 -- What the body keeps true: no operation waits twice, and a wake finds memory for the tasks of all that wait.
 pub record IsSound (waiting : List Waiter) (rooms : Rooms) : Type 0 where

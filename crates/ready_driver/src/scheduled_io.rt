@@ -1,21 +1,19 @@
 //! The bits of one handle, and the operations that wait for them.
-ghost use Rattle.std.specs.Prelude.{◌≡◌, ◌≤◌, ◌<◌, ◌+◌, ℕ, [], Some, None, true, false, bit_or, length, option_map};
-ghost use Rattle.std.specs.Prelude.{All, Contains, IsTrue, IsOk, IfOk, IfSome, IfNone, OnOk, OnErr};
-ghost use Rattle.std.specs.List.{list_any};
-ghost use Rattle.std.specs.Vec.{vec_len, vec_capacity};
+ghost use Rattle.std.specs.Prelude.{◌≡◌, ◌≤◌, ◌<◌, ◌+◌, ℕ, [], Some, None, false, bit_or, length, option_map};
+ghost use Rattle.std.specs.Prelude.{Contains, IsTrue, IsOk, IfOk, IfSome, OnOk, OnErr};
 ghost use Rattle.ready_driver.specs.declared.ready.Direction.{Direction};
 ghost use Rattle.ready_driver.specs.Rooms.{room_of};
 ghost use Rattle.ready_driver.specs.Ready.{meets, mask_of, without, bits_for};
 ghost use Rattle.ready_driver.specs.ScheduledIo.{entry_of, waiter_of, kept, forgotten, is_met, taken, left, tasks_of, unless_met};
 ghost use Rattle.ready_driver.specs.ScheduledIo.{IsWaitingIn, IsOnceEach, ChangesOnly, IsSound};
-ghost use Rattle.ready_driver.specs.ScheduledIo.{IsAscendingFrom, IsInOrder, IsBehind};
-ghost use Rattle.ready_driver.specs.Places.{IsPlace, IsAway};
 
 mod polls;
 mod rooms;
+mod wait_list;
 
 use crate::ready::{Direction, Ready};
 use crate::scheduled_io::rooms::Rooms;
+use crate::scheduled_io::wait_list::WaitList;
 use rent_buf::{NumList, OutOfMemory};
 use std::alloc::Global;
 use std::marker::Model;
@@ -47,24 +45,23 @@ impl Waiter {
 /// sees the bits and the list of what waits, in the order in which it began to wait.
 ///
 /// A wake looks at each operation that waits on this handle. Each other call looks at few of them, where they wait in the order of their
-/// numbers, as they do that begin to wait in the order in which they were submitted, and else at each, a few times at most.
+/// numbers, as they do that begin to wait in the order in which they were submitted, and else at each, a few times at most. None moves those
+/// that wait behind one that is taken out, but once in as many calls as they are.
 #[derive(Debug, Drop)]
 pub struct ScheduledIo {
     readiness: Ready,
-    waiting: Vec<Waiter>,
-    // The operations wait in the order of their numbers. Then one is found by halves.
-    in_order: bool,
+    waiting: WaitList,
     rooms: Rooms,
 }
 
 impl Model for ScheduledIo {
-    ghost use Rattle.ready_driver.specs.ScheduledIo.{Scheduled, IsSound, IsInOrder};
+    ghost use Rattle.ready_driver.specs.ScheduledIo.{Scheduled, IsSound};
 
     ghost Value = { Scheduled };
 
-    ghost view = { λ s. record { ready = s.readiness; waiting = s.waiting.items } };
+    ghost view = { λ s. record { ready = s.readiness; waiting = s.waiting.waiters } };
 
-    ghost invariant = { λ s. IsSound s.waiting.items s.rooms × IsInOrder s.in_order s.waiting.items };
+    ghost invariant = { λ s. IsSound s.waiting.waiters s.rooms };
 }
 
 impl ScheduledIo {
@@ -74,8 +71,7 @@ impl ScheduledIo {
     {
         ScheduledIo {
             readiness: Ready::EMPTY,
-            waiting: Vec::new(alloc),
-            in_order: true,
+            waiting: WaitList::new(alloc),
             rooms: Rooms::new(alloc),
         }
     }
@@ -99,10 +95,7 @@ impl ScheduledIo {
         ensures value { result ≡ waiter_of self.now.waiting serial }
         ensures once { IsOnceEach self.now.waiting }
     {
-        self.waiting
-            .iter()
-            .copied()
-            .find(|waiter| waiter.serial == serial)
+        self.waiting.find(serial)
     }
 
     // A bit meets a direction.
@@ -159,25 +152,19 @@ impl ScheduledIo {
             task,
             direction: dir,
         };
-        keep(
-            &mut self.waiting,
-            &mut self.in_order,
-            &mut self.rooms,
-            entry,
-        )?;
+        keep(&mut self.waiting, &mut self.rooms, entry)?;
         Ok(None)
     }
 
     /// An operation waits no longer: answers the task that waited, or None exactly if it didn't wait (not in monoio). For a
     /// drop or a cancel, and for a poll that ends the operation.
-    #[tactic(auto, using(crate::proofs::Memory::sound_forgotten, crate::proofs::Waiting::forgotten_changes, crate::proofs::Ordered::order_forgotten))]
     pub fn forget(&mut self, serial: u64) -> Option<u64>
         ensures task { result ≡ option_map (λ w. w.task) (waiter_of self.old.waiting serial) }
         ensures rest { self.new ≡ record self.old { waiting = forgotten self.old.waiting serial } }
         ensures own { ChangesOnly self.old.waiting self.new.waiting serial None }
     {
-        match place_of(&self.waiting, self.in_order, serial) {
-            Some(at) => Some(self.waiting.remove(at).task),
+        match self.waiting.take_out(serial) {
+            Some(waiter) => Some(waiter.task),
             None => None,
         }
     }
@@ -204,162 +191,55 @@ impl ScheduledIo {
         ensures rest { self.new ≡ record self.old { waiting = left ready self.old.waiting } }
         ensures once { IsOnceEach self.old.waiting }
     {
-        if !is_any_met(&self.waiting, ready) {
-            return Vec::new(*self.waiting.allocator());
+        if !self.waiting.is_any_met(ready) {
+            return Vec::new(self.waiting.alloc());
         }
         let mut tasks = self.rooms.take(ready);
-        name_tasks(&self.waiting, ready, &mut tasks);
-        leave(&mut self.waiting, ready);
-        self.in_order = is_in_order(&self.waiting, self.in_order);
+        self.waiting.name_tasks(ready, &mut tasks);
+        self.waiting.leave(ready);
         tasks
     }
 }
 
 // Puts an entry among those that wait. Memory for its task is reserved, so that a wake takes none.
-#[tactic(auto, using(crate::proofs::Memory::sound_grown, crate::proofs::Memory::sound_renewed, crate::proofs::Memory::room_there, crate::proofs::Ordered::order_renewed, crate::proofs::Ordered::order_joined))]
-fn keep(
-    waiting: &mut Vec<Waiter>,
-    in_order: &mut bool,
-    rooms: &mut Rooms,
-    entry: Waiter,
-) -> Result<(), OutOfMemory>
-    requires sound { IsSound waiting.old.items rooms.old }
-    requires order { IsInOrder in_order.old waiting.old.items }
-    ensures order { IsInOrder in_order.new waiting.new.items }
-    ensures ok { OnOk result (waiting.new.items ≡ kept waiting.old.items entry) }
-    ensures again { IsWaitingIn waiting.old.items entry.serial entry.direction → IsOk result }
-    ensures err { OnErr result (waiting.new.items ≡ waiting.old.items) }
-    ensures sound { IsSound waiting.new.items rooms.new }
+#[tactic(auto, using(crate::proofs::Memory::sound_grown, crate::proofs::Memory::room_there))]
+fn keep(waiting: &mut WaitList, rooms: &mut Rooms, entry: Waiter) -> Result<(), OutOfMemory>
+    requires { IsSound waiting.old.waiters rooms.old }
+    ensures ok { OnOk result (waiting.new.waiters ≡ kept waiting.old.waiters entry) }
+    ensures again { IsWaitingIn waiting.old.waiters entry.serial entry.direction → IsOk result }
+    ensures err { OnErr result (waiting.new.waiters ≡ waiting.old.waiters) }
+    ensures sound { IsSound waiting.new.waiters rooms.new }
 {
-    match place_of(waiting, *in_order, entry.serial) {
-        Some(at) => {
-            rooms.reserve(entry.direction, waiting.len())?;
-            waiting[at] = entry;
-        }
-        None => {
-            rooms.reserve_both(waiting.len() + 1)?;
-            let stays = stays_in_order(waiting, *in_order, entry.serial);
-            waiting.push(entry)?;
-            *in_order = stays;
-        }
+    rooms.reserve(entry.direction, waiting.len())?;
+    if waiting.renew(entry) {
+        return Ok(());
     }
-    Ok(())
+    rooms.reserve_both(waiting.len() + 1)?;
+    waiting.join(entry)
 }
 
 // Reserves memory for one entry more, and for the task of each entry in each direction. What waits stays.
 #[tactic(auto, using(crate::proofs::Memory::sound_grown))]
-fn make_room(waiting: &mut Vec<Waiter>, rooms: &mut Rooms) -> Result<(), OutOfMemory>
-    requires { IsSound waiting.old.items rooms.old }
-    ensures same { waiting.new.items ≡ waiting.old.items }
-    ensures sound { IsSound waiting.new.items rooms.new }
-    ensures place { OnOk result (vec_len waiting.new < vec_capacity waiting.new) }
-    ensures room { OnOk result ((d : Direction) → vec_len waiting.new + 1 ≤ room_of rooms.new d) }
+fn make_room(waiting: &mut WaitList, rooms: &mut Rooms) -> Result<(), OutOfMemory>
+    requires { IsSound waiting.old.waiters rooms.old }
+    ensures same { waiting.new.waiters ≡ waiting.old.waiters }
+    ensures sound { IsSound waiting.new.waiters rooms.new }
+    ensures place { OnOk result (0 < waiting.new.spare) }
+    ensures room { OnOk result ((d : Direction) → length waiting.new.waiters + 1 ≤ room_of rooms.new d) }
 {
     rooms.reserve_both(waiting.len() + 1)?;
-    waiting.reserve(1)?;
-    Ok(())
+    waiting.reserve()
 }
 
 // Puts an entry among those that wait, in memory that was reserved.
-#[tactic(auto, using(crate::proofs::Ordered::order_renewed, crate::proofs::Ordered::order_joined))]
-fn keep_reserved(waiting: &mut Vec<Waiter>, in_order: &mut bool, rooms: &Rooms, entry: Waiter)
-    requires sound { IsSound waiting.old.items rooms.now }
-    requires order { IsInOrder in_order.old waiting.old.items }
-    requires place { vec_len waiting.old < vec_capacity waiting.old }
-    requires room { (d : Direction) → vec_len waiting.old + 1 ≤ room_of rooms.now d }
-    ensures order { IsInOrder in_order.new waiting.new.items }
-    ensures keeps { waiting.new.items ≡ kept waiting.old.items entry }
-    ensures sound { IsSound waiting.new.items rooms.now }
+fn keep_reserved(waiting: &mut WaitList, rooms: &Rooms, entry: Waiter)
+    requires sound { IsSound waiting.old.waiters rooms.now }
+    requires place { 0 < waiting.old.spare }
+    requires room { (d : Direction) → length waiting.old.waiters + 1 ≤ room_of rooms.now d }
+    ensures keeps { waiting.new.waiters ≡ kept waiting.old.waiters entry }
+    ensures sound { IsSound waiting.new.waiters rooms.now }
 {
-    match place_of(waiting, *in_order, entry.serial) {
-        Some(at) => waiting[at] = entry,
-        None => {
-            *in_order = stays_in_order(waiting, *in_order, entry.serial);
-            waiting.push_reserved(entry);
-        }
-    }
-}
-
-// The number of an operation is above that of the one that waits last.
-fn is_behind(waiting: &[Waiter], serial: u64) -> bool
-    ensures { result ≡ true → IsBehind waiting.now serial }
-{
-    let count = waiting.len();
-    count == 0 || waiting[count - 1].serial < serial
-}
-
-// Where operations wait in order, so they do with this one behind them.
-fn stays_in_order(waiting: &[Waiter], in_order: bool, serial: u64) -> bool
-    ensures { result ≡ true → (in_order ≡ true) × IsBehind waiting.now serial }
-{
-    in_order && is_behind(waiting, serial)
-}
-
-// Operations wait in order, be it that none does.
-#[tactic(auto, using(crate::proofs::Ordered::order_none))]
-fn is_in_order(waiting: &[Waiter], in_order: bool) -> bool
-    requires { IsInOrder in_order waiting.now }
-    ensures { IsInOrder result waiting.now }
-{
-    in_order | waiting.is_empty()
-}
-
-// The place of an operation's entry, if it waits. Where the operations wait in order it looks at few.
-fn place_of(waiting: &[Waiter], in_order: bool, serial: u64) -> Option<usize>
-    requires { IsInOrder in_order waiting.now }
-    ensures some { IfSome result (λ at. IsPlace waiting.now serial at) }
-    ensures none { IfNone result (IsAway waiting.now serial) }
-{
-    if in_order {
-        place_by_halves(waiting, serial)
-    } else {
-        place_by_walk(waiting, serial)
-    }
-}
-
-// The same, where they wait in order.
-fn place_by_halves(waiting: &[Waiter], serial: u64) -> Option<usize>
-    requires { IsAscendingFrom 0 waiting.now }
-    ensures some { IfSome result (λ at. IsPlace waiting.now serial at) }
-    ensures none { IfNone result (IsAway waiting.now serial) }
-{
-    match waiting.binary_search_by_key(&serial, |waiter| waiter.serial) {
-        Ok(at) => Some(at),
-        Err(_) => None,
-    }
-}
-
-// The same, in whatever order they wait.
-fn place_by_walk(waiting: &[Waiter], serial: u64) -> Option<usize>
-    ensures some { IfSome result (λ at. IsPlace waiting.now serial at) }
-    ensures none { IfNone result (IsAway waiting.now serial) }
-{
-    waiting.iter().position(|waiter| waiter.serial == serial)
-}
-
-// These bits meet the direction of an entry.
-fn is_any_met(waiting: &[Waiter], ready: Ready) -> bool
-    ensures { result ≡ list_any (is_met ready) waiting.now }
-{
-    waiting.iter().any(|waiter| waiter.is_met(ready))
-}
-
-// Leaves the entries that these bits don't meet.
-fn leave(waiting: &mut Vec<Waiter>, ready: Ready)
-    ensures { waiting.new.items ≡ left ready waiting.old.items }
-{
-    waiting.retain(|waiter| !waiter.is_met(ready));
-}
-
-// Puts the task of each entry that these bits meet into an empty vector, in order. It has memory for them.
-fn name_tasks(waiting: &[Waiter], ready: Ready, tasks: &mut Vec<u64>)
-    requires empty { tasks.old.items ≡ [] }
-    requires room { All (λ w. IsTrue (is_met ready w) → length waiting.now ≤ vec_capacity tasks.old) waiting.now }
-    ensures { tasks.new.items ≡ tasks_of (taken ready waiting.now) }
-{
-    for waiter in waiting {
-        if waiter.is_met(ready) {
-            tasks.push_reserved(waiter.task);
-        }
+    if !waiting.renew(entry) {
+        waiting.join_reserved(entry);
     }
 }

@@ -59,12 +59,7 @@ impl ScheduledIo {
             direction: dir,
         };
         if !self.is_met(dir) {
-            return match keep(
-                &mut self.waiting,
-                &mut self.in_order,
-                &mut self.rooms,
-                entry,
-            ) {
+            return match keep(&mut self.waiting, &mut self.rooms, entry) {
                 Ok(()) => Ok(PollOp::Pending(op)),
                 Err(why) => Err((why, op)),
             };
@@ -80,7 +75,7 @@ impl ScheduledIo {
             }
             Ok(PollOp::Pending(op)) => {
                 self.readiness = self.readiness - dir.mask();
-                keep_reserved(&mut self.waiting, &mut self.in_order, &self.rooms, entry);
+                keep_reserved(&mut self.waiting, &self.rooms, entry);
                 Ok(PollOp::Pending(op))
             }
             Err(refused) => Err(refused),

@@ -1,11 +1,15 @@
-use Rattle.std.proofs.Common.{◌∙◌, None, sym, ap, subst}
-use Rattle.ready_driver.specs.Places.{IsPlace}
+use Rattle.std.proofs.Common.{None, ap, subst}
 use Rattle.ready_driver.specs.ScheduledIo.{Scheduled, ChangesOnly}
+use Rattle.ready_driver.proofs.Memory.{sound_forgotten}
 use Rattle.ready_driver.proofs.Waiting.{forgotten_changes}
 use Rattle.ready_driver.proofs.scheduled_io.ScheduledIo.forget.Goals as goal
 
-pub returns-in-Some-clause-own : goal.returns-in-Some-clause-own
-returns-in-Some-clause-own c =
-    let there = subst (λ ws. IsPlace ws c.args.serial c.in-Some.at) c.deref.ensures.value c.in-Some.ensures.some in
-    subst (λ ws. ChangesOnly ws c.remove.new.self.items c.args.serial None) (ap (λ (s : Scheduled). s.waiting) c.self.view_is)
-    (forgotten_changes c.self.inside.waiting.items _ c.args.serial (c.remove.ensures.items ∙ sym (there.forgets c.self.invariant.0.once)))
+pub invariant_of-self : goal.invariant_of-self
+invariant_of-self c =
+    sound_forgotten c.self.inside.waiting.waiters c.take_out.new.self.waiters c.self.inside.rooms c.args.serial c.take_out.ensures.rest
+    c.self.invariant
+
+pub returns-clause-own : goal.returns-clause-own
+returns-clause-own c =
+    subst (λ ws. ChangesOnly ws c.take_out.new.self.waiters c.args.serial None) (ap (λ (s : Scheduled). s.waiting) c.self.view_is)
+    (forgotten_changes c.self.inside.waiting.waiters c.take_out.new.self.waiters c.args.serial c.take_out.ensures.rest)
