@@ -1,5 +1,5 @@
 -- A writer with a buffer: what a write, a flush and a shutdown of it do.
-use Rattle.std.specs.Prelude.{ℕ, ◌≡◌, ◌+◌, ◌<◌, ◌≤◌, Bool, IsTrue, List, [], ◌++◌, length, Ok, Err, IfErr}
+use Rattle.std.specs.Prelude.{ℕ, ◌≡◌, ◌+◌, ◌<◌, ◌≤◌, ◌⊎◌, Bool, IsTrue, List, [], ◌++◌, length, Ok, Err, IfErr}
 use Rattle.rent_buf.specs.declared.fault.IoFault.{IoFault}
 use Rattle.rent_io.specs.Completeness.{IsQuiet, CountGetsOn}
 use Rattle.rent_io.specs.Counts.{Counts, Rose}
@@ -69,6 +69,21 @@ abbrev pub WriteCompletes : {T : Type 0} → Bool → Writer → Writer → List
 WriteCompletes tells before now held later result = IsQuiet before.counts now.counts
     → WriteGetsOn result (TakesNothing tells before now) (length later < length held)
 
+-- A poll got further: less is buffered, or the stream inside was interrupted.
+abbrev pub GetsFurther : Counts → Counts → List ℕ → List ℕ → Type 0
+GetsFurther before now held later = (length later < length held) ⊎ Rose before.interrupts now.interrupts
+
+-- A fact of a poll that answers Again: of a write, and of a flush or a shutdown.
+abbrev pub IfAgain : {T : Type 0} → PollBuf T → Type 0 → Type 0
+IfAgain (Ready end back) P = Unit {0}
+IfAgain (BufPending back) P = Unit {0}
+IfAgain (BufAgain back) P = P
+
+abbrev pub IfCountAgain : PollCount → Type 0 → Type 0
+IfCountAgain (CountReady end) P = Unit {0}
+IfCountAgain CountPending P = Unit {0}
+IfCountAgain CountAgain P = P
+
 -- Bytes don't fit behind some that are buffered.
 abbrev pub IsFull : {W : Type 0} → Writing W → List ℕ → Type 0
 IsFull w bytes = (w.capacity < length w.held + length bytes) × (0 < length w.held)
@@ -102,6 +117,14 @@ OfferCompletes tells before now held later Pending = IsQuiet before.counts now.c
 OfferCompletes tells before now held later Again = IsQuiet before.counts now.counts → length later < length held
 OfferCompletes tells before now held later (Fault fault) =
     IsQuiet before.counts now.counts → TakesNothing tells before now fault
+
+-- A fact of an offer at which the buffer was written, and another write may be made at once.
+abbrev pub IfOfferAgain : Offered → Type 0 → Type 0
+IfOfferAgain Taken P = Unit {0}
+IfOfferAgain PassOn P = Unit {0}
+IfOfferAgain Pending P = Unit {0}
+IfOfferAgain Again P = P
+IfOfferAgain (Fault fault) P = Unit {0}
 
 -- A poll of a write took the bytes of a buffer whole.
 abbrev pub TakesWhole : {T : Type 0} → List ℕ → PollBuf T → Type 0

@@ -7,6 +7,7 @@ ghost use Rattle.rent_io.specs.Writer as write;
 ghost use Rattle.std.specs.List.{concat};
 ghost use Rattle.stream_util.specs.BufWriter.{Writing, Pushes, IsPushCaused, Offers, IfPushed, WriteRule};
 ghost use Rattle.stream_util.specs.BufWriter.{FlushCompletes, OfferCompletes, WriteCompletes};
+ghost use Rattle.stream_util.specs.BufWriter.{GetsFurther, IfAgain, IfCountAgain, IfOfferAgain};
 ghost use Rattle.stream_util.specs.BufWriter.{fresh_writer, counts_over, writer_over};
 
 use rent_buf::{ByteList, IoBuf, IoBufMut, IoFault, IoVecBuf, IoVecBufMut, OutOfMemory, Slice};
@@ -179,6 +180,8 @@ impl<W: AsyncWriteRent> BufWriter<W> {
         ensures counts { AfterCall None (counts_over (W.writer self.old.inner).counts self.old)
             (counts_over (W.writer self.new.inner).counts self.new) }
         ensures complete { OfferCompletes W.tells (W.writer self.old.inner) (W.writer self.new.inner) self.old.held self.new.held result }
+        ensures further { IfOfferAgain result (GetsFurther (W.writer self.old.inner).counts (W.writer self.new.inner).counts
+            self.old.held self.new.held) }
     {
         let held = self.buf.len() - self.sent;
         if bytes.len() <= self.capacity - held {
@@ -207,6 +210,8 @@ impl<W: AsyncWriteRent> BufWriter<W> {
         ensures counts { AfterCall None (counts_over (W.writer self.old.inner).counts self.old)
             (counts_over (W.writer self.new.inner).counts self.new) }
         ensures complete { FlushCompletes W.tells (W.writer self.old.inner) (W.writer self.new.inner) self.old.held self.new.held result }
+        ensures further { IfCountAgain result (GetsFurther (W.writer self.old.inner).counts (W.writer self.new.inner).counts
+            self.old.held self.new.held) }
     {
         let alloc = *self.buf.allocator();
         let buf = mem::replace(&mut self.buf, Vec::new(alloc));
@@ -257,6 +262,8 @@ impl<W: AsyncWriteRent> AsyncWriteRent for BufWriter<W> {
             (counts_over (W.writer self.new.inner).counts self.new) }
         ensures rule { WriteRule W.writer W.tells self.old self.new (T.content buf) result }
         ensures complete { WriteCompletes W.tells (W.writer self.old.inner) (W.writer self.new.inner) self.old.held self.new.held result }
+        ensures further { IfAgain result (GetsFurther (W.writer self.old.inner).counts (W.writer self.new.inner).counts
+            self.old.held self.new.held) }
     {
         let count = buf.bytes_init();
         match self.offer(buf.bytes(), task) {
@@ -282,6 +289,8 @@ impl<W: AsyncWriteRent> AsyncWriteRent for BufWriter<W> {
             (counts_over (W.writer self.new.inner).counts self.new) }
         ensures rule { WriteRule W.writer W.tells self.old self.new (write.first_part (T.parts buf)) result }
         ensures complete { WriteCompletes W.tells (W.writer self.old.inner) (W.writer self.new.inner) self.old.held self.new.held result }
+        ensures further { IfAgain result (GetsFurther (W.writer self.old.inner).counts (W.writer self.new.inner).counts
+            self.old.held self.new.held) }
     {
         let part = first_part(&buf);
         let count = part.len();
@@ -309,6 +318,8 @@ impl<W: AsyncWriteRent> AsyncWriteRent for BufWriter<W> {
         ensures pushes { Pushes W.tells (W.writer self.old.inner) (W.writer self.new.inner) self.old.held self.new.held }
         ensures empty { IfDone result (self.new.held ≡ []) }
         ensures complete { FlushCompletes W.tells (W.writer self.old.inner) (W.writer self.new.inner) self.old.held self.new.held result }
+        ensures further { IfCountAgain result (GetsFurther (W.writer self.old.inner).counts (W.writer self.new.inner).counts
+            self.old.held self.new.held) }
     {
         if self.buf.len() == self.sent {
             return self.inner.poll_flush(task);
@@ -331,6 +342,8 @@ impl<W: AsyncWriteRent> AsyncWriteRent for BufWriter<W> {
         ensures pushes { Pushes W.tells (W.writer self.old.inner) (W.writer self.new.inner) self.old.held self.new.held }
         ensures empty { IfDone result (self.new.held ≡ []) }
         ensures complete { FlushCompletes W.tells (W.writer self.old.inner) (W.writer self.new.inner) self.old.held self.new.held result }
+        ensures further { IfCountAgain result (GetsFurther (W.writer self.old.inner).counts (W.writer self.new.inner).counts
+            self.old.held self.new.held) }
     {
         if self.buf.len() == self.sent {
             return self.inner.poll_shutdown(task);
