@@ -45,7 +45,7 @@ impl<'a, R: Wait + Clock> Parks for ParksOnce<'a, R> {
     type Out = Result<u64>;
 
     // Nothing is known of it.
-    ghost gives = { λ work out. Unit {0} };
+    ghost gives = { λ work made out. Unit {0} };
 
     fn park<P: Ledger, D: Ledger>(self, mut sleeper: Sleeper<P, D>) -> Result<u64> {
         let mut driver: IoUringDriver<MemRing, Rent> = IoUringDriver::new(self.alloc)?;

@@ -1,13 +1,12 @@
 //! A sleeper beside the threads of its senders, whose ledgers the caller doesn't name.
-ghost use Rattle.std.specs.Prelude.{◌≡◌, IfOk};
+ghost use Rattle.std.specs.Prelude.{◌≡◌, ◌<◌, ◌≤◌, ℕ, IfOk, OnOk};
 ghost use Rattle.wake_core.specs.Remote.{new_remote};
 ghost use Rattle.wake_core.specs.Sleeping.{new_sleeper};
 
 use crate::cell::WakeCell;
-use crate::fault::OutOfMemory;
 use crate::park::{SenderError, Sleeper};
 use crate::remote::RemoteSender;
-use crate::state::PUSH_PARTS;
+use crate::state::{MAX_SENDERS, PUSH_PARTS};
 use crate::unpark::UnparkHandle;
 use std::alloc::Global;
 use std::marker::Brand;
@@ -35,13 +34,13 @@ pub trait Parks {
     /// What it gives.
     type Out;
 
-    // What is known of what it gives.
-    ghost gives: { Self → Self.Out → Type 0 };
+    // What is known of what it gives, where the sleeper made so many senders before.
+    ghost gives: { Self → ℕ → Self.Out → Type 0 };
 
     /// Does it with a sleeper that is new but for the senders that it made. (not in monoio)
     fn park<P: Ledger, D: Ledger>(self, sleeper: Sleeper<P, D>) -> Self::Out
         requires { record sleeper { made = 0 } ≡ new_sleeper }
-        ensures { gives self result };
+        ensures { gives self sleeper.made result };
 }
 
 /// Why senders weren't all started. (not in monoio)
@@ -58,15 +57,10 @@ pub enum StartError {
     OutOfMemory,
 }
 
-impl From<OutOfMemory> for StartError {
-    fn from(_error: OutOfMemory) -> StartError {
-        StartError::OutOfMemory
-    }
-}
-
 /// Makes a sleeper over two new ledgers, and so many senders, each on a thread of its own, which does `sends`; and does the work of `parks`
 /// with the sleeper on this thread. It returns when all of these threads have ended. At an error the work is dropped, and the threads that
-/// were started have ended too. (not in monoio)
+/// were started have ended too: `TooMany` where `count` is over `MAX_SENDERS`, `NoThread` where the system gives no thread, `OutOfMemory`
+/// where memory is wanting. (not in monoio)
 pub fn with_senders<R, S, W>(
     rt: &R,
     alloc: Global,
@@ -78,7 +72,10 @@ where
     R: Threads + Wait + Clock + Sync,
     S: Sends + Sync,
     W: Parks + Drop,
-    ensures { IfOk result (λ out. W.gives parks out) }
+    // The work had a sleeper that had made just these senders.
+    ensures gives { IfOk result (λ out. W.gives parks count out) }
+    ensures ok { OnOk result (count ≤ MAX_SENDERS) }
+    ensures many { (result ≡ Err StartError.TooMany) → (MAX_SENDERS < count) }
 {
     let pushes = Blank::new(PUSH_PARTS);
     let drains = Blank::new(1);
@@ -103,15 +100,21 @@ where
     W: Parks + Drop,
     requires pushes { (pushes.name ≡ P.name) × (pushes.parts ≡ P.parts) × (pushes.parts ≡ PUSH_PARTS) }
     requires drains { (drains.name ≡ D.name) × (drains.parts ≡ D.parts) × (drains.parts ≡ 1) }
-    ensures { IfOk result (λ out. W.gives parks out) }
+    ensures gives { IfOk result (λ out. W.gives parks count out) }
+    ensures ok { OnOk result (count ≤ MAX_SENDERS) }
+    ensures many { (result ≡ Err StartError.TooMany) → (MAX_SENDERS < count) }
 {
-    let (cell, sleeper) = WakeCell::<P, D>::new(alloc, pushes, drains)?;
+    let Ok((cell, sleeper)) = WakeCell::<P, D>::new(alloc, pushes, drains) else {
+        return Err(StartError::OutOfMemory);
+    };
     thread::scope(
         thread::scope_env(),
         rt,
         move |scope| -> Result<W::Out, StartError>
             requires { sleeper ≡ new_sleeper }
-            ensures { IfOk result (λ out. W.gives parks out) }
+            ensures gives { IfOk result (λ out. W.gives parks count out) }
+            ensures ok { OnOk result (count ≤ MAX_SENDERS) }
+            ensures many { (result ≡ Err StartError.TooMany) → (MAX_SENDERS < count) }
         { park_beside(rt, scope, cell, sleeper, count, sends, parks) },
     )
 }
@@ -133,7 +136,9 @@ where
     S: Sends + Sync,
     W: Parks + Drop,
     requires { sleeper ≡ new_sleeper }
-    ensures { IfOk result (λ out. W.gives parks out) }
+    ensures gives { IfOk result (λ out. W.gives parks count out) }
+    ensures ok { OnOk result (count ≤ MAX_SENDERS) }
+    ensures many { (result ≡ Err StartError.TooMany) → (MAX_SENDERS < count) }
 {
     for _ in 0..count {
         let sender = match sleeper.sender() {
@@ -141,7 +146,9 @@ where
             Err(SenderError::TooMany) => return Err(StartError::TooMany),
             Err(SenderError::OutOfMemory) => return Err(StartError::OutOfMemory),
         };
-        let handle = cell.unpark_handle()?;
+        let Ok(handle) = cell.unpark_handle() else {
+            return Err(StartError::OutOfMemory);
+        };
         if scope.spawn(move || sends.send(rt, sender, handle)).is_err() {
             return Err(StartError::NoThread);
         }

@@ -177,7 +177,7 @@ impl<'a, 'b, I: Sockets + Opens, R: Wait + Clock> Parks for Drives<'a, 'b, I, R>
     type Out = Result<(), Why>;
 
     // Nothing is known of it.
-    ghost gives = { λ work out. Unit {0} };
+    ghost gives = { λ work made out. Unit {0} };
 
     fn park<P: Ledger, D: Ledger>(self, mut sleeper: Sleeper<P, D>) -> Result<(), Why> {
         let Drives {
