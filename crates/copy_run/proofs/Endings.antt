@@ -1,5 +1,5 @@
 -- What a copy has taken and written.
-use Rattle.std.proofs.Common.{subst, append-nil, append_assoc, ◌≡◌, ◌∙◌, ◌≤◌, ◌<◌, ◌+◌, ◌-◌, ℕ, List, [], inl, inr}
+use Rattle.std.proofs.Common.{subst, append_assoc, ◌≡◌, ◌∙◌, ◌≤◌, ◌<◌, ◌+◌, ◌-◌, ℕ, List, [], inl, inr}
 use Rattle.std.proofs.Common.{◌++◌, length, drop, refl, sym, ap, arith}
 use Rattle.std.proofs.lemmas.List.{length-drop, drop-drop}
 use Rattle.std.proofs.lemmas.List.{append_cancel_left}
@@ -14,11 +14,6 @@ use Rattle.rent_io.specs.declared.poll.PollCount.TheVariants.{Ready}
 use Rattle.copy_run.specs.Ending.{CopyEnds, WroteFirst}
 use Rattle.copy_run.specs.declared.copying.Ending.{Ending}
 use Rattle.copy_run.specs.declared.copying.Ending.TheVariants.{Done}
-
--- Nothing was taken yet.
-pub gave_none : (left : List ℕ) → Took left left (length left - length left)
-gave_none left =
-    let none : 0 ≡ length left - length left = omega arith in record { there = omega arith; taken = ap (λ n. drop n left) none }
 
 -- More bytes were taken.
 pub gave_more : (before left rest room : List ℕ) (size n : ℕ) → Took before left (length before - length left) →
@@ -81,12 +76,6 @@ pub copied-first : (ts tk : Bool) (text taken now held rest behind : List ℕ) �
 copied-first ts tk text taken now held rest behind grew same source sink =
     wrote-first taken now (held ++ (rest ++ behind)) text (grew sink)
     (sym (append_assoc now held (rest ++ behind)) ∙ sym (append_assoc (now ++ held) rest behind) ∙ same source sink)
-
--- All was written, where nothing is held or left.
-pub written-all : (written rest behind whole : List ℕ) → rest ≡ [] → behind ≡ [] → (written ++ rest) ++ behind ≡ whole → written ≡ whole
-written-all written rest behind whole held left same =
-    sym (append-nil written) ∙ ap (λ xs. written ++ xs) (sym (ap (λ xs. xs ++ behind) held ∙ left)) ∙ sym (append_assoc written rest behind)
-    ∙ same
 
 -- A copy is done, where its source has ended within the bytes that it may give, and all was written.
 pub copy-done : (ts tk : Bool) (most : ℕ) (prefix : List ℕ) (source : Reading) (sink : Writing) →
