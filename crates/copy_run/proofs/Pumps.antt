@@ -74,11 +74,12 @@ pub run_joined : (tk : Bool) (later delivered held took : List ℕ) (step is : S
     → (IsTrue tk → later ++ held_in step ≡ delivered ++ (held ++ took)) → IsTrue tk → later ++ held_in is ≡ delivered ++ (held ++ took)
 run_joined tk later delivered held took step is same joined = λ k. ap (λ s. later ++ held_in s) (sym same) ∙ joined k
 
--- A test finds bytes, or none.
+-- A test that finds bytes: there are some.
 pub some_there : (xs : List ℕ) (empty : Bool) → empty ≡ eqb (length xs) 0 → empty ≡ false → 0 < length xs
 some_there [] empty is fails = absurd (false≢true (sym fails ∙ is))
 some_there (x ∷ xs) empty is fails = omega arith
 
+-- A test that finds none: there is none.
 pub nothing_there : (xs : List ℕ) (empty : Bool) → empty ≡ eqb (length xs) 0 → empty ≡ true → xs ≡ []
 nothing_there xs empty is holds = nil_from_length xs (eqb-true (length xs) 0 (sym is ∙ holds))
 

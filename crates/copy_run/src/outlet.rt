@@ -1,5 +1,5 @@
 //! A sink that is written through a buffer.
-ghost use Rattle.std.specs.Prelude.{◌≡◌, ◌≤◌, ◌++◌, [], IsTrue, OnOk, OnErr};
+ghost use Rattle.std.specs.Prelude.{◌≡◌, ◌≤◌, [], IsTrue, OnOk, OnErr};
 ghost use Rattle.rent_buf.specs.Counts.{Rose};
 ghost use Rattle.copy_run.specs.Pieces.{outlet_writer, delivered_by};
 
