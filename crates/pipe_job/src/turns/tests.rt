@@ -70,11 +70,11 @@ fn turns(exec: &mut PipeExec<MemIo>, moments: &[u64]) -> bool
     ensures stands { Stands polls_of cancels_of exec.new }
     ensures sound { IsSound FitsPipe ApartPipes exec.new }
 {
-    for &now in moments {
-        if exec.turns() >= 1 << 62 || exec.moment() > now {
+    for now in moments {
+        if exec.turns() >= 1 << 62 || exec.moment() > *now {
             return false;
         }
-        let (_, ran) = turn(exec, now);
+        let (_, ran) = turn(exec, *now);
         if ran.is_err() {
             return false;
         }
@@ -82,16 +82,34 @@ fn turns(exec: &mut PipeExec<MemIo>, moments: &[u64]) -> bool
     true
 }
 
+// A job of these bytes is spawned, and a turn is made at each of these moments.
+fn runs(exec: &mut PipeExec<MemIo>, bytes: ByteList, deadline: Option<u64>, moments: &[u64]) -> bool
+    requires stands { Stands polls_of cancels_of exec.old }
+    requires sound { IsSound FitsPipe ApartPipes exec.old }
+    ensures stands { Stands polls_of cancels_of exec.new }
+    ensures sound { IsSound FitsPipe ApartPipes exec.new }
+{
+    if !spawn(exec, bytes, deadline) {
+        return false;
+    }
+    turns(exec, moments)
+}
+
 // The only output is so.
 fn ends_so(
     outputs: &[(u64, Result<ByteList, IoFault>)],
     want: Option<Result<&[u8], IoFault>>,
 ) -> bool {
-    match (outputs, want) {
-        ([], None) => true,
-        ([(0, Ok(bytes))], Some(Ok(want))) => bytes.as_slice() == want,
-        ([(0, Err(fault))], Some(Err(want))) => *fault == want,
-        _ => false,
+    match want {
+        None => outputs.is_empty(),
+        Some(Ok(want)) => match outputs {
+            [(_, Ok(bytes))] => bytes.as_slice() == want,
+            _ => false,
+        },
+        Some(Err(want)) => match outputs {
+            [(_, Err(fault))] => *fault == want,
+            _ => false,
+        },
     }
 }
 
@@ -104,7 +122,7 @@ fn jobs_end_so(rt: HostRuntime) -> Result<(), Fail> {
         let mut driver: OnHandles = LegacyDriver::over(alloc, MemIo::new(alloc));
         let given = give(&mut driver, kind);
         let mut exec: PipeExec<MemIo> = Exec::new(alloc, driver);
-        let ran = spawn(&mut exec, list, deadline) && turns(&mut exec, moments);
+        let ran = runs(&mut exec, list, deadline, moments);
         let outputs = exec.take_done();
         abandon_all(&mut exec);
         match exec.finish() {
