@@ -13,7 +13,9 @@ use Rattle.driver_core.specs.Ops.{Ops}
 use Rattle.driver_core.specs.Requests.{KeepsRequests, request_at}
 use Rattle.ready_driver.specs.Awaits.{TokensFor}
 use Rattle.op_driver.specs.Returned.{KeepsOthers}
-use Rattle.net_stream.specs.Drives.{FitsOp, HoldsOp, IfAsked, IsOther, KeepsOther}
+use Rattle.net_stream.specs.declared.connection.Connection.{Connection}
+use Rattle.net_stream.specs.Connection.{FitsConnection}
+use Rattle.net_stream.specs.Drives.{FitsOp, HoldsOp, IfAsked, IsOther, IsRecv, IsSend, KeepsOther}
 
 -- A submission adds an operation that is none of those that were held.
 pub submitted_other : (old new : Ops Rented) (op : Op) → AddsToken old new op → KeepsRequests old new → KeepsOther old None new (Some op)
@@ -60,3 +62,20 @@ fits_kept old new waited waits None P keeps fits apart = tt
 fits_kept old new waited waits (Some op) P keeps fits apart =
     let kept = keeps op fits.0 (apart op refl) in
     (kept.0, subst (λ r. IfAsked r P) (sym kept.1) fits.1)
+
+-- A call that keeps every token and every request, as a turn of the driver, keeps what a connection waits for.
+pub kept_op : (old new : Ops Rented) (op : Option Op) (P : Request Rented Parts → Type 0) → KeepsTokens old new → new.given ≡ old.given
+    → KeepsRequests old new → FitsOp old op P → FitsOp new op P
+kept_op old new None P tokens given keeps fits = tt
+kept_op old new (Some op) P tokens given keeps fits =
+    let below = fits.0.1 in
+    let still = (tokens op).0 fits.0.0 in
+    ((still, omega (arith, below, given)), subst (λ r. IfAsked r P) (sym (keeps op fits.0.0 still)) fits.1)
+
+pub turned_fits : (old new : Ops Rented) (conn : Connection) → KeepsTokens old new → new.given ≡ old.given → KeepsRequests old new
+    → FitsConnection old conn → FitsConnection new conn
+turned_fits old new conn tokens given keeps fits = record {
+  receives = kept_op old new conn.incoming.op (IsRecv conn.fd) tokens given keeps fits.receives;
+  sends = kept_op old new conn.outgoing.op (IsSend conn.fd conn.outgoing.room) tokens given keeps fits.sends;
+  apart = fits.apart;
+}

@@ -10,7 +10,7 @@ ghost use Rattle.net_stream.specs.Inbox.{came, fault_of, is_end, received};
 use crate::tally::{Tally, Turn};
 use rent_buf::{IoBufMut, IoFault, IoVecBufMut, OutOfMemory, Rent};
 use rent_io::vectored::first_room;
-use rent_io::{AsyncReadRent, PollBuf};
+use rent_io::{AsyncBufRead, AsyncReadRent, PollBuf, PollCount};
 use ring_core::Outcome;
 use std::alloc::Global;
 use std::marker::Model;
@@ -218,5 +218,29 @@ impl AsyncReadRent for Inbox {
             Turn::Waits => PollBuf::Pending(buf),
             Turn::Fails(fault) => PollBuf::Ready(Err(fault), buf),
         }
+    }
+}
+
+// What arrived is its buffer.
+impl AsyncBufRead for Inbox {
+    ghost buffered = { λ s. s.arrived };
+
+    /// How many bytes arrived. Where nothing is left of them: the fault that came, once; 0 at the end; and else it is pending.
+    fn poll_fill(&mut self, task: u64) -> PollCount {
+        match self.turn(self.arrived().len().max(1), task) {
+            Turn::Gives(count) => PollCount::Ready(Ok(count as u64)),
+            Turn::Waits => PollCount::Pending,
+            Turn::Fails(fault) => PollCount::Ready(Err(fault)),
+        }
+    }
+
+    #[tactic(auto, using(rent_io::proofs::Fronts::all_front))]
+    fn buffered(&self) -> &[u8] {
+        self.arrived()
+    }
+
+    #[tactic(auto, using(rent_io::proofs::Fronts::cut_to_end))]
+    fn consume(&mut self, n: usize) {
+        self.skip(n.min(self.arrived().len()));
     }
 }
