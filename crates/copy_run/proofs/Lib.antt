@@ -1,1 +1,4 @@
 mod Endings
+mod Outlets
+mod Pieces
+mod Pumps

@@ -1,20 +1,25 @@
 //! The copy, and how it ends.
-ghost use Rattle.std.specs.Prelude.{◌≡◌, ◌≤◌, ◌++◌, [], IfOk, IfErr, IsTrue, true, false, length, max, take};
+ghost use Rattle.std.specs.Prelude.{◌≡◌, ◌≤◌, ◌+◌, ◌++◌, [], IfOk, IfErr, OnOk, OnErr, IsTrue, false, length, drop, take, max, min};
+ghost use Rattle.rent_buf.specs.Counts.{Rose};
 ghost use Rattle.rent_io.specs.Call.{reading, writing};
-ghost use Rattle.rent_io.specs.MemSource.{fresh_source};
 ghost use Rattle.stream_util.specs.BufReader.{fresh_reader};
+ghost use Rattle.stream_util.specs.Copy.{held_in};
 ghost use Rattle.stream_util.specs.PrefixedReadIo.{prefix_left};
 ghost use Rattle.copy_run.specs.Ending.{CopyEnds};
+ghost use Rattle.copy_run.specs.Pieces.{IsFirst, PieceRuns, delivered_by};
 ghost use Rattle.copy_run.specs.Places.{Joins, read_since, written_since};
 
+use crate::front::Front;
 use crate::lent::{Ends, LentSink, LentSource, Lents, Places, give_back, lend};
-use rent_buf::{ByteList, NumList};
+use crate::outlet::Outlet;
+use crate::piece::Piece;
+use rent_buf::ByteList;
 use rent_io::{
-    AsyncWriteRent, ByteSink, ByteSource, MemSource, PollCount, SinkStream, SourceStream, Step,
+    AsyncBufRead, AsyncWriteRent, ByteSink, ByteSource, Failed, PollCount, SinkStream,
+    SourceStream, Step,
 };
 use std::alloc::Global;
 use std::marker::Brand;
-use std::sync::Wait;
 use stream_util::{BufReader, BufWriter, Copied, Copy, MOST_HELD, PrefixedReadIo};
 
 /// How a copy ends. (not in monoio)
@@ -33,17 +38,13 @@ pub enum Ending {
 }
 
 // What is read: the prefix, and then the source, by way of a buffer.
-type Reader<S> = BufReader<PrefixedReadIo<SourceStream<S>, MemSource>>;
+type Reader<S> = BufReader<PrefixedReadIo<SourceStream<S>, Front>>;
 
-// What is written: the sink, by way of a buffer.
-type Writer<K> = BufWriter<SinkStream<K>>;
-
-/// Writes a prefix and then all that a source gives, at most `most` bytes, and flushes. Buffers of `capacity` bytes, at least 1,
-/// stand behind the reads and in front of the writes. Memory is taken before the first read, and not for what is copied. However
-/// it ends, the first bytes of the prefix and of what the source gave, in order, are all that is written; `Ending` says when
-/// each end comes. It is not claimed that it ends. (not in monoio)
-pub fn copy_all<R: Wait, S: ByteSource, K: ByteSink>(
-    rt: &R,
+/// Writes a prefix and then all that a source gives, at most `most` bytes, and flushes. A buffer of `capacity` bytes stands in front of
+/// the writes, and one of as many, at least 4096, behind the reads. Memory is taken before the first read, and not for what is copied.
+/// However it ends, the first bytes of the prefix and of what the source gave, in order, are all that is written; `Ending` says when
+/// each end comes. (not in monoio)
+pub fn copy_all<S: ByteSource, K: ByteSink>(
     alloc: Global,
     capacity: usize,
     most: usize,
@@ -59,7 +60,7 @@ pub fn copy_all<R: Wait, S: ByteSource, K: ByteSink>(
         sink,
         ending: Ending::OutOfMemory,
     };
-    let ends = copy_at::<R, S, K, Brand>(rt, alloc, capacity, most, prefix, ends);
+    let ends = copy_at::<S, K, Brand>(alloc, capacity, most, prefix, ends);
     let Ends {
         source: _,
         sink: _,
@@ -69,8 +70,7 @@ pub fn copy_all<R: Wait, S: ByteSource, K: ByteSink>(
 }
 
 // The same of ends at the places of the type.
-fn copy_at<'a, 'b, R: Wait, S: ByteSource, K: ByteSink, P: Places>(
-    rt: &R,
+fn copy_at<'a, 'b, S: ByteSource, K: ByteSink, P: Places>(
     alloc: Global,
     capacity: usize,
     most: usize,
@@ -92,38 +92,35 @@ fn copy_at<'a, 'b, R: Wait, S: ByteSource, K: ByteSink, P: Places>(
         (written_since P.taken P.write_faults (K.taken result.sink.now) (K.faults result.sink.now) (K.is_flushed result.sink.now))
         result.ending }
 {
-    let lents: Lents<'a, 'b, S, K, P> = lend(most, ends);
+    let budget = prefix.len() as u128 + most as u128;
+    let lents: Lents<'a, 'b, S, K, P> = lend(ends);
     let Lents { source, sink } = lents;
     let reader = match reader_of(alloc, capacity, prefix, source) {
         Ok(reader) => reader,
         Err(source) => return give_back(Ending::OutOfMemory, source, sink),
     };
     let writer = match BufWriter::with_capacity(alloc, capacity, SinkStream::new(sink)) {
-        Ok(writer) => writer,
+        Ok(writer) => Outlet::new(writer),
         Err(back) => {
             let (_, stream) = back;
             return give_back(Ending::OutOfMemory, source_of(reader), stream.into_inner());
         }
     };
     match Copy::new(alloc) {
-        Ok(copy) => pump(rt, copy, reader, writer),
-        Err(_) => give_back(
-            Ending::OutOfMemory,
-            source_of(reader),
-            writer.into_inner().into_inner(),
-        ),
+        Ok(copy) => pump(budget, copy, reader, writer),
+        Err(_) => give_up(Ending::OutOfMemory, reader, writer),
     }
 }
 
-// A prefix and a source as a stream with a buffer. If memory runs out, the same source comes back.
+// A prefix and a source as a stream with a buffer, which takes what a copy holds at most. If memory runs out, the same source comes back.
 fn reader_of<S: ByteSource>(
     alloc: Global,
     capacity: usize,
     prefix: ByteList,
     source: S,
 ) -> Result<Reader<S>, S>
-    ensures ok { IfOk result (λ reader. reader ≡ fresh_reader (record { io = source; prefix = fresh_source prefix []; finished = false })
-        (max capacity 1)) }
+    ensures ok { IfOk result (λ reader. reader ≡ fresh_reader (record { io = source; prefix = prefix; finished = false })
+        (max (max capacity MOST_HELD) 1)) }
     ensures err { IfErr result (λ back. back ≡ source) }
 {
     let stream = match SourceStream::new(alloc, source) {
@@ -133,8 +130,8 @@ fn reader_of<S: ByteSource>(
             return Err(source);
         }
     };
-    let front = MemSource::new(prefix, NumList::from_vec(Vec::new(alloc)));
-    match BufReader::with_capacity(alloc, capacity, PrefixedReadIo::new(stream, front)) {
+    let io = PrefixedReadIo::new(stream, Front::new(prefix));
+    match BufReader::with_capacity(alloc, capacity.max(MOST_HELD), io) {
         Ok(reader) => Ok(reader),
         Err(back) => {
             let (_, io) = back;
@@ -150,18 +147,18 @@ fn source_of<S: ByteSource>(reader: Reader<S>) -> S
     reader.into_inner().into_inner().into_inner()
 }
 
-// Copies until an end is reached or a call has failed. A copy that stopped for another reason goes on: its turns were used up, or
-// the prefix failed, which neither comes to.
-fn pump<'a, 'b, R: Wait, S: ByteSource, K: ByteSink, P: Places>(
-    rt: &R,
+// Copies until the source has ended, more than `budget` bytes have come, or a call has failed.
+fn pump<'a, 'b, S: ByteSource, K: ByteSink, P: Places>(
+    budget: u128,
     copy: Copy,
     reader: Reader<LentSource<'a, S, P>>,
-    writer: Writer<LentSink<'b, K, P>>,
+    writer: Outlet<LentSink<'b, K, P>>,
 ) -> Ends<'a, 'b, S, K>
-    requires { Joins S.tells K.tells (K.taken writer.inner.sink.sink.now ++ writer.held) copy.held
-        (reader.held ++ (prefix_left reader.inner.finished reader.inner.prefix.left
-        ++ take reader.inner.io.room (S.left reader.inner.io.source.now)))
-        (P.taken ++ (P.prefix ++ take P.most P.left)) }
+    requires joins { Joins S.tells K.tells (delivered_by (K.taken writer.writer.inner.sink.sink.now) writer.writer) copy.held
+        (reader.held ++ (prefix_left reader.inner.finished reader.inner.prefix ++ S.left reader.inner.io.source.now))
+        (P.taken ++ (P.prefix ++ P.left)) }
+    requires budget { IsTrue S.tells → length (reader.held ++ (prefix_left reader.inner.finished reader.inner.prefix
+        ++ S.left reader.inner.io.source.now)) + P.most ≡ length P.left + budget }
     ensures same_source { result.source.ghost_name ≡ P.source }
     ensures same_sink { result.sink.ghost_name ≡ P.sink }
     ensures ends { CopyEnds S.tells K.tells P.most P.prefix
@@ -169,75 +166,111 @@ fn pump<'a, 'b, R: Wait, S: ByteSource, K: ByteSink, P: Places>(
         (written_since P.taken P.write_faults (K.taken result.sink.now) (K.faults result.sink.now) (K.is_flushed result.sink.now))
         result.ending }
 {
+    let mut budget = budget;
+    let mut copy = copy;
     let mut reader = reader;
     let mut writer = writer;
-    let mut copy = copy;
-    for _ in rt.forever() {
-        match copy.run(&mut reader, &mut writer, 0, u64::MAX) {
-            Step::Pending(next) | Step::Again(next) => copy = next,
-            Step::Ready(copied) => {
-                let Copied { result, rest } = copied;
-                let source = reader.get_ref().get_ref().get_ref();
-                if source.has_failed() {
-                    return give_up(Ending::ReadFault, reader, writer);
-                }
-                if writer.get_ref().get_ref().has_failed() {
-                    return give_up(Ending::WriteFault, reader, writer);
-                }
-                if source.is_over() {
+    loop {
+        let (step, used) = copy_piece(copy, &mut reader, &mut writer, budget);
+        budget -= used as u128;
+        match step {
+            Step::Again(next) => copy = next,
+            Step::Ready(_) => return give_up(Ending::WriteFault, reader, writer),
+            Step::Pending(next) => {
+                if !reader.buffer().is_empty() {
                     return give_up(Ending::TooLong, reader, writer);
                 }
-                if let Ok(_) = result {
-                    if source.has_ended() {
-                        return drain(rt, source_of(reader), writer);
-                    }
+                match refill(&mut reader) {
+                    Ok(0) => return drain(source_of(reader), next, writer),
+                    Ok(_) => copy = next,
+                    Err(_) => return give_up(Ending::ReadFault, reader, writer),
                 }
-                copy = resume(rt, rest);
             }
         }
     }
-    unreachable!()
 }
 
-// A copy that goes on with a rest, which has the memory of a copy already. If it is refused nonetheless, it tries again.
-fn resume<R: Wait>(rt: &R, rest: ByteList) -> Copy
-    requires { length rest ≤ MOST_HELD }
-    ensures { result ≡ record { held = rest; count = 0 } }
+// Copies what is buffered, at most `most` bytes, and answers how many of them. Where that many are copied, it waits.
+fn copy_piece<R: AsyncBufRead, K: ByteSink>(
+    copy: Copy,
+    reader: &mut R,
+    writer: &mut Outlet<K>,
+    most: u128,
+) -> (Step<Copy, Copied>, usize)
+    ensures within { result.1 ≤ min most (length (R.buffered reader.old)) }
+    ensures buffered { R.buffered reader.new ≡ drop result.1 (R.buffered reader.old) }
+    ensures behind { IsTrue R.tells → (R.reader reader.old).left
+        ≡ take result.1 (R.buffered reader.old) ++ (R.reader reader.new).left }
+    ensures joined { IsTrue K.tells → delivered_by (K.taken writer.new.writer.inner.sink) writer.new.writer ++ held_in result.0
+        ≡ delivered_by (K.taken writer.old.writer.inner.sink) writer.old.writer
+        ++ (copy.held ++ take result.1 (R.buffered reader.old)) }
+    ensures runs { PieceRuns (min most (length (R.buffered reader.old))) result.1 (K.faults writer.old.writer.inner.sink)
+        (K.faults writer.new.writer.inner.sink) copy result.0 }
 {
-    let mut rest = rest;
-    for _ in rt.forever() {
-        match Copy::resume(rest) {
-            Ok(copy) => return copy,
-            Err((_, back)) => rest = back,
-        }
+    let bytes = reader.buffered();
+    let size = lesser(most, bytes.len());
+    let (front, _) = bytes.split_at(size);
+    let mut piece = Piece::new(front);
+    let step = copy.run(&mut piece, writer, 1, u64::MAX);
+    let used = size - piece.left().len();
+    reader.consume(used);
+    (step, used)
+}
+
+// The lesser of both.
+fn lesser(most: u128, len: usize) -> usize
+    ensures { result ≡ min most len }
+{
+    if most < len as u128 {
+        return most as usize;
     }
-    unreachable!()
+    len
+}
+
+// Reads where nothing is buffered, and answers how many bytes came: none only at the end.
+fn refill<S: ByteSource>(reader: &mut Reader<S>) -> Result<usize, Failed>
+    requires { reader.old.held ≡ [] }
+    ensures count { IfOk result (λ count. length reader.new.held ≡ count) }
+    ensures left { IsTrue S.tells → reader.new.held ++ (prefix_left reader.new.inner.finished reader.new.inner.prefix
+        ++ S.left reader.new.inner.io) ≡ reader.old.held ++ (prefix_left reader.old.inner.finished reader.old.inner.prefix
+        ++ S.left reader.old.inner.io) }
+    ensures end { IfOk result (λ count. count ≡ 0 → IsTrue S.tells → reader.new.held
+        ++ (prefix_left reader.new.inner.finished reader.new.inner.prefix ++ S.left reader.new.inner.io) ≡ []) }
+    ensures failed { OnErr result (Rose (S.faults reader.old.inner.io) (S.faults reader.new.inner.io)) }
+{
+    match reader.poll_fill(0) {
+        PollCount::Ready(Ok(_)) => Ok(reader.buffer().len()),
+        PollCount::Ready(Err(_)) => Err(Failed),
+        // A source never pauses.
+        PollCount::Pending | PollCount::Again => unreachable!(),
+    }
 }
 
 // Ends here. What is buffered is lost.
 fn give_up<'a, 'b, S: ByteSource, K: ByteSink, P: Places>(
     ending: Ending,
     reader: Reader<LentSource<'a, S, P>>,
-    writer: Writer<LentSink<'b, K, P>>,
+    writer: Outlet<LentSink<'b, K, P>>,
 ) -> Ends<'a, 'b, S, K>
     ensures ending { result.ending ≡ ending }
     ensures source { result.source.now ≡ reader.entry.inner.io.source.now }
-    ensures sink { result.sink.now ≡ writer.entry.inner.sink.sink.now }
+    ensures sink { result.sink.now ≡ writer.entry.writer.inner.sink.sink.now }
     ensures same_source { result.source.ghost_name ≡ P.source }
     ensures same_sink { result.sink.ghost_name ≡ P.sink }
 {
     give_back(ending, source_of(reader), writer.into_inner().into_inner())
 }
 
-// Writes what is buffered, and flushes.
-fn drain<'a, 'b, R: Wait, S: ByteSource, K: ByteSink, P: Places>(
-    rt: &R,
+// Writes what a copy holds and what is buffered, and flushes.
+fn drain<'a, 'b, S: ByteSource, K: ByteSink, P: Places>(
     source: LentSource<'a, S, P>,
-    writer: Writer<LentSink<'b, K, P>>,
+    copy: Copy,
+    writer: Outlet<LentSink<'b, K, P>>,
 ) -> Ends<'a, 'b, S, K>
-    requires over { source.over ≡ false }
-    requires ended { source.ended ≡ true }
-    requires all { IsTrue S.tells → IsTrue K.tells → K.taken writer.inner.sink.sink.now ++ writer.held ≡ P.taken ++ (P.prefix ++ P.left) }
+    requires few { IsTrue S.tells → length P.left ≤ P.most }
+    requires ended { IsTrue S.tells → S.left source.source.now ≡ [] }
+    requires all { IsTrue S.tells → IsTrue K.tells → delivered_by (K.taken writer.writer.inner.sink.sink.now) writer.writer ++ copy.held
+        ≡ P.taken ++ (P.prefix ++ P.left) }
     ensures same_source { result.source.ghost_name ≡ P.source }
     ensures same_sink { result.sink.ghost_name ≡ P.sink }
     ensures ends { CopyEnds S.tells K.tells P.most P.prefix
@@ -246,16 +279,50 @@ fn drain<'a, 'b, R: Wait, S: ByteSource, K: ByteSink, P: Places>(
         result.ending }
 {
     let mut writer = writer;
-    for _ in rt.forever() {
-        if writer.buffer().is_empty() {
-            return flush(source, writer.into_inner());
-        }
-        let _ = writer.poll_flush(0);
-        if writer.get_ref().get_ref().has_failed() {
-            return give_back(Ending::WriteFault, source, writer.into_inner().into_inner());
+    match send_all(copy, &mut writer) {
+        Ok(()) => flush(source, writer.into_inner()),
+        Err(_) => give_back(Ending::WriteFault, source, writer.into_inner().into_inner()),
+    }
+}
+
+// Writes what a copy holds, and what is buffered.
+fn send_all<K: ByteSink>(copy: Copy, writer: &mut Outlet<K>) -> Result<(), Failed>
+    ensures empty { OnOk result (writer.new.writer.held ≡ []) }
+    ensures all { OnOk result (IsTrue K.tells → delivered_by (K.taken writer.new.writer.inner.sink) writer.new.writer
+        ≡ delivered_by (K.taken writer.old.writer.inner.sink) writer.old.writer ++ copy.held) }
+    ensures first { IsTrue K.tells → IsFirst (delivered_by (K.taken writer.new.writer.inner.sink) writer.new.writer)
+        (delivered_by (K.taken writer.old.writer.inner.sink) writer.old.writer ++ copy.held) }
+    ensures failed { OnErr result (Rose (K.faults writer.old.writer.inner.sink) (K.faults writer.new.writer.inner.sink)) }
+{
+    send_held(copy, writer)?;
+    writer.push_all(0)
+}
+
+// Writes what a copy holds.
+fn send_held<K: ByteSink>(copy: Copy, writer: &mut Outlet<K>) -> Result<(), Failed>
+    ensures all { OnOk result (IsTrue K.tells → delivered_by (K.taken writer.new.writer.inner.sink) writer.new.writer
+        ≡ delivered_by (K.taken writer.old.writer.inner.sink) writer.old.writer ++ copy.held) }
+    ensures first { IsTrue K.tells → IsFirst (delivered_by (K.taken writer.new.writer.inner.sink) writer.new.writer)
+        (delivered_by (K.taken writer.old.writer.inner.sink) writer.old.writer ++ copy.held) }
+    ensures failed { OnErr result (Rose (K.faults writer.old.writer.inner.sink) (K.faults writer.new.writer.inner.sink)) }
+    ensures order { K.faults writer.old.writer.inner.sink ≤ K.faults writer.new.writer.inner.sink }
+{
+    let mut copy = copy;
+    loop {
+        let mut none: &[u8] = &[];
+        match copy.run(&mut none, writer, 1, u64::MAX) {
+            Step::Again(next) => copy = next,
+            Step::Ready(copied) => {
+                let Copied { result, rest: _ } = copied;
+                return match result {
+                    Ok(_) => Ok(()),
+                    Err(_) => Err(Failed),
+                };
+            }
+            // No slice and no sink pauses.
+            Step::Pending(_) => unreachable!(),
         }
     }
-    unreachable!()
 }
 
 // Flushes.
@@ -263,8 +330,8 @@ fn flush<'a, 'b, S: ByteSource, K: ByteSink, P: Places>(
     source: LentSource<'a, S, P>,
     stream: SinkStream<LentSink<'b, K, P>>,
 ) -> Ends<'a, 'b, S, K>
-    requires over { source.over ≡ false }
-    requires ended { source.ended ≡ true }
+    requires few { IsTrue S.tells → length P.left ≤ P.most }
+    requires ended { IsTrue S.tells → S.left source.source.now ≡ [] }
     requires all { IsTrue S.tells → IsTrue K.tells → K.taken stream.sink.sink.now ≡ P.taken ++ (P.prefix ++ P.left) }
     ensures same_source { result.source.ghost_name ≡ P.source }
     ensures same_sink { result.sink.ghost_name ≡ P.sink }

@@ -1,7 +1,5 @@
 //! A source and a sink that are lent to streams and come back.
-ghost use Rattle.std.specs.Prelude.{◌≡◌, ◌≤◌, ◌<◌, ℕ, List, [], IsTrue, true, false, length, take, IfOk, OnOk, OnErr};
-ghost use Rattle.rent_buf.specs.Counts.{Rose};
-ghost use Rattle.rent_io.specs.Source.{Gives};
+ghost use Rattle.std.specs.Prelude.{◌≡◌, ℕ, List, []};
 ghost use Rattle.copy_run.specs.Places.{SourceAt, SinkAt};
 
 use crate::copying::Ending;
@@ -54,27 +52,18 @@ pub(crate) struct Ends<'a, 'b, S, K> {
     pub(crate) ending: Ending,
 }
 
-/// A source that gives so many bytes at most, and knows why it gives no more.
+/// A source that is lent.
 pub(crate) struct LentSource<'a, S: ByteSource, P: Places> {
     source: &'a mut S,
-    // How many bytes it may still give.
-    room: usize,
-    // There are more than those.
-    over: bool,
-    // There are no more.
-    ended: bool,
-    failures: u64,
     of: PhantomData<P>,
-    ghost home: { SourceAt S.tells P.most P.left P.read_faults P.source (S.left source.now) (S.faults source.now) source.ghost_name
-        room over ended failures },
+    ghost home: { SourceAt S.tells P.left P.read_faults P.source (S.left source.now) (S.faults source.now) source.ghost_name },
 }
 
-/// A sink that knows whether it failed.
+/// A sink that is lent.
 pub(crate) struct LentSink<'b, K: ByteSink, P: Places> {
     sink: &'b mut K,
-    failures: u64,
     of: PhantomData<P>,
-    ghost home: { SinkAt K.tells P.taken P.write_faults P.sink (K.taken sink.now) (K.faults sink.now) sink.ghost_name failures },
+    ghost home: { SinkAt K.tells P.taken P.write_faults P.sink (K.taken sink.now) (K.faults sink.now) sink.ghost_name },
 }
 
 /// Both.
@@ -83,12 +72,10 @@ pub(crate) struct Lents<'a, 'b, S: ByteSource, K: ByteSink, P: Places> {
     pub(crate) sink: LentSink<'b, K, P>,
 }
 
-/// Lends both ends. The source gives `most` bytes at most.
+/// Lends both ends.
 pub(crate) fn lend<'a, 'b, S: ByteSource, K: ByteSink, P: Places>(
-    most: usize,
     ends: Ends<'a, 'b, S, K>,
 ) -> Lents<'a, 'b, S, K, P>
-    requires most { P.most ≡ most }
     requires source { ends.source.ghost_name ≡ P.source }
     requires sink { ends.sink.ghost_name ≡ P.sink }
     requires left { S.left ends.source.now ≡ P.left }
@@ -97,7 +84,6 @@ pub(crate) fn lend<'a, 'b, S: ByteSource, K: ByteSink, P: Places>(
     requires write_faults { K.faults ends.sink.now ≡ P.write_faults }
     ensures source { result.source.source.now ≡ ends.entry.source.now }
     ensures sink { result.sink.sink.now ≡ ends.entry.sink.now }
-    ensures room { result.source.room ≡ most }
 {
     let Ends {
         source,
@@ -107,15 +93,10 @@ pub(crate) fn lend<'a, 'b, S: ByteSource, K: ByteSink, P: Places>(
     Lents {
         source: LentSource {
             source,
-            room: most,
-            over: false,
-            ended: false,
-            failures: 0,
             of: PhantomData,
         },
         sink: LentSink {
             sink,
-            failures: 0,
             of: PhantomData,
         },
     }
@@ -133,19 +114,8 @@ pub(crate) fn give_back<'a, 'b, S: ByteSource, K: ByteSink, P: Places>(
     ensures same_source { result.source.ghost_name ≡ P.source }
     ensures same_sink { result.sink.ghost_name ≡ P.sink }
 {
-    let LentSource {
-        source,
-        room: _,
-        over: _,
-        ended: _,
-        failures: _,
-        of: _,
-    } = source;
-    let LentSink {
-        sink,
-        failures: _,
-        of: _,
-    } = sink;
+    let LentSource { source, of: _ } = source;
+    let LentSink { sink, of: _ } = sink;
     Ends {
         source,
         sink,
@@ -153,113 +123,16 @@ pub(crate) fn give_back<'a, 'b, S: ByteSource, K: ByteSink, P: Places>(
     }
 }
 
-impl<'a, S: ByteSource, P: Places> LentSource<'a, S, P> {
-    /// A read failed.
-    pub(crate) fn has_failed(&self) -> bool
-        ensures { result ≡ true → 0 < self.now.failures }
-    {
-        self.failures > 0
-    }
-
-    /// There are more bytes than it may give.
-    pub(crate) fn is_over(&self) -> bool
-        ensures { result ≡ self.now.over }
-    {
-        self.over
-    }
-
-    /// The source was read to its end.
-    pub(crate) fn has_ended(&self) -> bool
-        ensures { result ≡ self.now.ended }
-    {
-        self.ended
-    }
-
-    // Looks whether there is a byte behind those that it may give, and gives none.
-    fn probe(&mut self) -> Result<usize, Failed>
-        requires full { self.old.room ≡ 0 }
-        requires open { self.old.over ≡ false }
-        ensures none { IfOk result (λ n. n ≡ 0) }
-        ensures room { self.new.room ≡ 0 }
-        ensures calm { OnOk result (self.new.failures ≡ self.old.failures) }
-        ensures rose { OnErr result (Rose self.old.failures self.new.failures) }
-        ensures later { self.old.failures ≤ self.new.failures }
-    {
-        let mut more = [0];
-        match self.source.read(&mut more) {
-            Ok(0) => {
-                self.ended = true;
-                Ok(0)
-            }
-            Ok(_) => {
-                self.over = true;
-                Ok(0)
-            }
-            Err(failed) => {
-                self.failures = self.failures.saturating_add(1);
-                Err(failed)
-            }
-        }
-    }
-}
-
 impl<'a, S: ByteSource, P: Places> ByteSource for LentSource<'a, S, P> {
     ghost tells = { S.tells };
 
-    ghost left = { λ s. take s.room (S.left s.source.now) };
+    ghost left = { λ s. S.left s.source.now };
 
-    ghost faults = { λ s. s.failures };
+    ghost faults = { λ s. S.faults s.source.now };
 
+    #[tactic(auto, using(crate::proofs::Endings::gave_more))]
     fn read(&mut self, room: &mut [u8]) -> Result<usize, Failed> {
-        if room.is_empty() {
-            return Ok(0);
-        }
-        if self.over {
-            return Ok(0);
-        }
-        if self.ended {
-            return Ok(0);
-        }
-        if self.room == 0 {
-            return self.probe();
-        }
-        let most = room.len().min(self.room);
-        match read_first(self.source, room, most) {
-            Ok(0) => {
-                self.ended = true;
-                Ok(0)
-            }
-            Ok(count) => {
-                self.room -= count;
-                Ok(count)
-            }
-            Err(failed) => {
-                self.failures = self.failures.saturating_add(1);
-                Err(failed)
-            }
-        }
-    }
-}
-
-// Reads into the first bytes of the room, so many.
-fn read_first<S: ByteSource>(source: &mut S, room: &mut [u8], most: usize) -> Result<usize, Failed>
-    requires { most ≤ length room.old }
-    ensures size { length room.new ≡ length room.old }
-    ensures some { IfOk result (λ n. (n ≤ most) × (IsTrue S.tells → Gives (S.left source.old) (S.left source.new) room.new most n)) }
-    ensures calm { OnOk result (IsTrue S.tells → S.faults source.new ≡ S.faults source.old) }
-    ensures none { OnErr result (IsTrue S.tells → S.left source.new ≡ S.left source.old) }
-    ensures rose { OnErr result (Rose (S.faults source.old) (S.faults source.new)) }
-    ensures later { S.faults source.old ≤ S.faults source.new }
-{
-    source.read(&mut room[..most])
-}
-
-impl<'b, K: ByteSink, P: Places> LentSink<'b, K, P> {
-    /// A write or a flush failed.
-    pub(crate) fn has_failed(&self) -> bool
-        ensures { result ≡ true → 0 < self.now.failures }
-    {
-        self.failures > 0
+        self.source.read(room)
     }
 }
 
@@ -268,27 +141,15 @@ impl<'b, K: ByteSink, P: Places> ByteSink for LentSink<'b, K, P> {
 
     ghost taken = { λ s. K.taken s.sink.now };
 
-    ghost faults = { λ s. s.failures };
+    ghost faults = { λ s. K.faults s.sink.now };
 
     ghost is_flushed = { λ s. K.is_flushed s.sink.now };
 
     fn write(&mut self, bytes: &[u8]) -> Result<usize, Failed> {
-        match self.sink.write(bytes) {
-            Ok(count) => Ok(count),
-            Err(failed) => {
-                self.failures = self.failures.saturating_add(1);
-                Err(failed)
-            }
-        }
+        self.sink.write(bytes)
     }
 
     fn flush(&mut self) -> Result<(), Failed> {
-        match self.sink.flush() {
-            Ok(()) => Ok(()),
-            Err(failed) => {
-                self.failures = self.failures.saturating_add(1);
-                Err(failed)
-            }
-        }
+        self.sink.flush()
     }
 }

@@ -2,6 +2,9 @@
 #![tactic(auto)]
 
 pub mod copying;
+mod front;
 mod lent;
+mod outlet;
+mod piece;
 
 pub use copying::{Ending, copy_all};

@@ -236,7 +236,7 @@ fn run_command<R: Threads + Wait + Clock + Sync, S: ByteSource, K: ByteSink>(
         Command::Generate(seed, rounds) => run_generated(alloc, seed, rounds, sink, kept),
         Command::Trace(seed, rounds) => run_trace(alloc, seed, rounds, sink),
         Command::Wake(senders, count) => run_wake(rt, alloc, senders, count, sink),
-        Command::Copy(capacity, word) => run_copy(rt, alloc, capacity, word, source, sink),
+        Command::Copy(capacity, word) => run_copy(alloc, capacity, word, source, sink),
         Command::Unframe => run_unframe(rt, alloc, source, sink),
     }
 }
@@ -415,8 +415,7 @@ fn run_wake<R: Threads + Wait + Clock + Sync, K: ByteSink>(
 }
 
 // Copies the prefix that a word writes, and then what is read.
-fn run_copy<R: Wait, S: ByteSource, K: ByteSink>(
-    rt: &R,
+fn run_copy<S: ByteSource, K: ByteSink>(
     alloc: Global,
     capacity: u32,
     word: &[u8],
@@ -430,15 +429,7 @@ fn run_copy<R: Wait, S: ByteSource, K: ByteSink>(
     let Ok(Some(prefix)) = read_bytes(alloc, word) else {
         return Status::OutOfMemory;
     };
-    match copy_all(
-        rt,
-        alloc,
-        capacity as usize,
-        MOST_INPUT,
-        prefix,
-        source,
-        sink,
-    ) {
+    match copy_all(alloc, capacity as usize, MOST_INPUT, prefix, source, sink) {
         Ending::Done => Status::Done,
         Ending::TooLong => Status::TooLong,
         Ending::ReadFault => Status::ReadFault,

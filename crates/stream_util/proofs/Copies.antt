@@ -13,9 +13,10 @@ use Rattle.rent_io.specs.Reader.{Reader, Taken}
 use Rattle.rent_io.specs.Writer.{Writer}
 use Rattle.rent_io.specs.Counts.{AfterCall, Counts, Rose}
 use Rattle.rent_io.specs.Polls.{WriteFails}
-use Rattle.rent_io.proofs.Runs.{fails_later, rose_later}
+use Rattle.rent_io.specs.Runs.{AfterCalls}
+use Rattle.rent_io.proofs.Runs.{fails_later, one_more, rose_later}
 use Rattle.rent_io.proofs.Sends.{SliceSent, range-to_end}
-use Rattle.stream_util.specs.Copy.{Breaks, CopyFails, Copying, Ends, OneCall, Copies, UsesAll, Waits, Moves, MovesSome, IsCopyEnd}
+use Rattle.stream_util.specs.Copy.{Breaks, CopyFails, Copying, Ends, OneCall, RunCalls, Copies, UsesAll, Waits, Moves, MovesSome, IsCopyEnd}
 use Rattle.stream_util.specs.Copy.{IsSameJoined, count_more}
 use Rattle.stream_util.specs.Copy.{HasCopied, IsRunEnd, Runs, CopiesAll, HasAll}
 use Rattle.stream_util.specs.declared.copy.Copied.{Copied}
@@ -105,31 +106,30 @@ moves_then reads writes before mid now copy next later m n = record {
   counted = omega (arith, m.counted, n.counted, length-append m.sent n.sent);
 }
 
--- No count of a stream that a copy's ends go by fell.
-pub record Grew (before now : Counts) : Type 0 where
-  pub faults : before.faults ≤ now.faults
-  pub pauses : before.pauses ≤ now.pauses
-  pub interrupts : before.interrupts ≤ now.interrupts
-  pub zeros : before.zeros ≤ now.zeros
-
--- Some polls of a copy, all of which are used: what they moved, and no count fell.
+-- Some polls of a copy, all of which are used: what they moved, and what they make of the counts.
 pub record Ran (turns : ℕ) (reads writes : Bool) (before now : Ends) (copy next : Copying) : Type 0 where
   pub uses : UsesAll turns reads writes before now copy next
-  pub reader : Grew before.reader.counts now.reader.counts
-  pub writer : Grew before.writer.counts now.writer.counts
+  pub calls : RunCalls turns before now
 
--- One call more.
-grew_more : (before mid now : Counts) → Grew before mid → AfterCall None mid now → Grew before now
-grew_more before mid now grew call = record {
-  faults = omega (arith, grew.faults, call.faults_stay);
-  pauses = omega (arith, grew.pauses, call.pauses_stay);
-  interrupts = omega (arith, grew.interrupts, call.interrupts_stay);
-  zeros = omega (arith, grew.zeros, call.zeros_stay);
+-- One poll more.
+pub calls_more : (turns most : ℕ) (before mid now : Ends) → turns + 1 ≤ most → RunCalls turns before mid → OneCall mid now
+    → RunCalls most before now
+calls_more turns most before mid now less calls call = record {
+  reader = one_more None turns most before.reader.counts mid.reader.counts now.reader.counts less calls.reader call.reader;
+  writer = one_more None turns most before.writer.counts mid.writer.counts now.writer.counts less calls.writer call.writer;
+  most = omega (arith, less, calls.most, call.one);
 }
 
 -- No call.
-grew_none : (counts : Counts) → Grew counts counts
-grew_none counts = record { faults = omega arith; pauses = omega arith; interrupts = omega arith; zeros = omega arith }
+calls_none : (counts : Counts) → AfterCalls None 0 counts counts
+calls_none counts = record {
+  faults_stay = omega arith;
+  pauses_stay = omega arith;
+  interrupts_stay = omega arith;
+  zeros_stay = omega arith;
+  most_calls = omega arith;
+  under = inl refl;
+}
 
 -- No polls.
 pub ran_none : (reads writes : Bool) (ends : Ends) (copy : Copying) → copy.count < 2 ^ 64 → Ran 0 reads writes ends ends copy copy
@@ -142,8 +142,7 @@ ran_none reads writes ends copy bounded = record {
     reads_break = omega arith;
     writes_break = omega arith;
   };
-  reader = grew_none ends.reader.counts;
-  writer = grew_none ends.writer.counts;
+  calls = record { reader = calls_none ends.reader.counts; writer = calls_none ends.writer.counts; most = omega arith };
 }
 
 -- A copy as it was, but that what it holds is called by another name.
@@ -210,13 +209,11 @@ pub ran_again : (turns : ℕ) (reads writes : Bool) (before mid now : Ends) (cop
 ran_again turns reads writes before mid now copy next later ran call (inl breaks) = record {
   uses = uses_break turns reads writes before mid now copy next later ran call
       (moves_none reads writes mid now next later (omega (arith, ran.uses.moves.counted)) breaks.0 breaks.1.0 breaks.1.1) breaks.2;
-  reader = grew_more before.reader.counts mid.reader.counts now.reader.counts ran.reader call.reader;
-  writer = grew_more before.writer.counts mid.writer.counts now.writer.counts ran.writer call.writer;
+  calls = calls_more turns (turns + 1) before mid now (omega arith) ran.calls call;
 }
 ran_again turns reads writes before mid now copy next later ran call (inr some) = record {
   uses = uses_some turns reads writes before mid now copy next later ran call some;
-  reader = grew_more before.reader.counts mid.reader.counts now.reader.counts ran.reader call.reader;
-  writer = grew_more before.writer.counts mid.writer.counts now.writer.counts ran.writer call.writer;
+  calls = calls_more turns (turns + 1) before mid now (omega arith) ran.calls call;
 }
 
 -- One more poll that has to wait.
@@ -227,8 +224,8 @@ ran_waits turns most reads writes task before mid now copy next later ran waits 
   moves_then reads writes before mid now copy next later ran.uses.moves
       (moves_none reads writes mid now next later (omega (arith, ran.uses.moves.counted)) waits.0 waits.1.0 waits.1.1),
   elim waits.2 [
-    | inl p ↦ inl (rose_later before.reader.counts.pauses mid.reader.counts.pauses now.reader.counts.pauses ran.reader.pauses p.0, p.1)
-    | inr p ↦ inr (rose_later before.writer.counts.pauses mid.writer.counts.pauses now.writer.counts.pauses ran.writer.pauses p.0, p.1)
+    | inl p ↦ inl (rose_later before.reader.counts.pauses mid.reader.counts.pauses now.reader.counts.pauses ran.calls.reader.pauses_stay p.0, p.1)
+    | inr p ↦ inr (rose_later before.writer.counts.pauses mid.writer.counts.pauses now.writer.counts.pauses ran.calls.writer.pauses_stay p.0, p.1)
   ],
 )
 
@@ -240,16 +237,16 @@ run-end turns reads writes before mid now copy next rest (Ok n) ran same left en
   end.0,
   same ∙ end.1,
   (λ r. left r ∙ end.2.0 r),
-  rose_later before.reader.counts.zeros mid.reader.counts.zeros now.reader.counts.zeros ran.reader.zeros end.2.1,
+  rose_later before.reader.counts.zeros mid.reader.counts.zeros now.reader.counts.zeros ran.calls.reader.zeros_stay end.2.1,
 )
 run-end turns reads writes before mid now copy next rest (Err fault) ran same left (inl failed) =
-    inl (fails_later before.reader.counts mid.reader.counts now.reader.counts fault ran.reader.faults failed)
+    inl (fails_later before.reader.counts mid.reader.counts now.reader.counts fault ran.calls.reader.faults_stay failed)
 run-end turns reads writes before mid now copy next rest (Err fault) ran same left (inr (inl failed)) =
-    inr (inl (fails_later before.writer.counts mid.writer.counts now.writer.counts fault ran.writer.faults failed))
+    inr (inl (fails_later before.writer.counts mid.writer.counts now.writer.counts fault ran.calls.writer.faults_stay failed))
 run-end turns reads writes before mid now copy next rest (Err fault) ran same left (inr (inr none)) =
     inr (inr (
       omega (arith, none.0, ap length same),
-      (none.1.0, rose_later before.writer.counts.zeros mid.writer.counts.zeros now.writer.counts.zeros ran.writer.zeros none.1.1),
+      (none.1.0, rose_later before.writer.counts.zeros mid.writer.counts.zeros now.writer.counts.zeros ran.calls.writer.zeros_stay none.1.1),
     ))
 
 -- A write of none of a slice's bytes was counted, where the slice has some.

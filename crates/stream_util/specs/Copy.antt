@@ -7,6 +7,7 @@ use Rattle.rent_io.specs.Completeness.{IsQuiet, GetsOn}
 use Rattle.rent_io.specs.Counts.{AfterCall, Rose}
 use Rattle.rent_io.specs.Polls.{Fails, Pauses, TookNone}
 use Rattle.rent_io.specs.Reader.{AtEnd, Reader, WasFront}
+use Rattle.rent_io.specs.Runs.{AfterCalls}
 use Rattle.rent_io.specs.Writer.{Writer}
 use Rattle.stream_util.specs.declared.copy.Copied.{Copied}
 
@@ -29,6 +30,12 @@ pub record OneCall (before now : Ends) : Type 0 where
   pub reader : AfterCall None before.reader.counts now.reader.counts
   pub writer : AfterCall None before.writer.counts now.writer.counts
   pub one : now.reader.counts.calls + now.writer.counts.calls ≤ before.reader.counts.calls + before.writer.counts.calls + 1
+
+-- So many polls make so many calls at most, of both ends together, under no group, and no count falls.
+pub record RunCalls (turns : ℕ) (before now : Ends) : Type 0 where
+  pub reader : AfterCalls None turns before.reader.counts now.reader.counts
+  pub writer : AfterCalls None turns before.writer.counts now.writer.counts
+  pub most : now.reader.counts.calls + now.writer.counts.calls ≤ before.reader.counts.calls + before.writer.counts.calls + turns
 
 -- No byte moved, where the reader and the writer tell that.
 abbrev pub NothingMoved : Bool → Bool → Ends → Ends → Type 0

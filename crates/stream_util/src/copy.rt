@@ -3,7 +3,7 @@ ghost use Rattle.std.specs.Prelude.{◌≡◌, ◌≤◌, [], length, drop, IfOk
 ghost use Rattle.rent_io.specs.declared.poll.Step.TheVariants.{Ready};
 ghost use Rattle.rent_io.specs.Polls.{TookNone};
 ghost use Rattle.rent_io.specs.Writer.{EndsStay};
-ghost use Rattle.stream_util.specs.Copy.{Copies, CopyCompletes, Runs, CopiesAll, OneCall, IsSameJoined, held_in};
+ghost use Rattle.stream_util.specs.Copy.{Copies, CopyCompletes, Runs, CopiesAll, OneCall, RunCalls, IsSameJoined, held_in};
 
 use rent_buf::{ByteList, IoBufMut as _, IoFault, OutOfMemory, Rent, Slice};
 use rent_io::{AsyncReadRent, AsyncWriteRent, PollBuf, Step};
@@ -94,7 +94,7 @@ impl Copy {
     /// are used: each moved a byte, or a stream was interrupted. Where it ends Ok, the writer got
     /// what the copy held and all that the reader had left, and the number counts that. Whatever the schedule, no byte
     /// is lost, repeated or moved: the bytes that were delivered, those that it holds and those that are left, joined,
-    /// stay the same list.
+    /// stay the same list. It makes as many calls as turns, at most.
     pub fn run<R: AsyncReadRent, W: AsyncWriteRent>(
         self,
         reader: &mut R,
@@ -106,6 +106,8 @@ impl Copy {
             (record { reader = R.reader reader.new; writer = W.writer writer.new }) self result }
         ensures all { CopiesAll R.tells W.tells (record { reader = R.reader reader.old; writer = W.writer writer.old })
             (record { reader = R.reader reader.new; writer = W.writer writer.new }) self result }
+        ensures counts { RunCalls turns (record { reader = R.reader reader.old; writer = W.writer writer.old })
+            (record { reader = R.reader reader.new; writer = W.writer writer.new }) }
         ensures joined { IsSameJoined R.tells W.tells (record { reader = R.reader reader.old; writer = W.writer writer.old })
             (record { reader = R.reader reader.new; writer = W.writer writer.new }) self.held (held_in result) }
         ensures ends { EndsStay (W.writer writer.old) (W.writer writer.new) }

@@ -4,7 +4,6 @@ use copy_run::{Ending, copy_all};
 use rent_buf::ByteList;
 use rent_io::{MemSink, MemSource};
 use std::alloc::Global;
-use std::sync::Wait;
 use std::test::Fail;
 
 // A copy of at most four bytes behind the prefix `ab`: a name, the bytes of a buffer, the input, the reads that fail, the writes
@@ -40,24 +39,23 @@ fn has_taken(sink: &MemSink, want: &[u8]) -> Result<(), Why> {
 }
 
 // How a copy ends, and what was written.
-fn ends<R: Wait>(
-    rt: &R,
+fn ends(
     alloc: Global,
     (capacity, most): (usize, usize),
     prefix: ByteList,
     source: &mut MemSource,
     sink: &mut MemSink,
 ) -> Ending {
-    copy_all(rt, alloc, capacity, most, prefix, source, sink)
+    copy_all(alloc, capacity, most, prefix, source, sink)
 }
 
 // One row.
-fn row<R: Wait>(rt: &R, alloc: Global, row: Row) -> Result<(), Why> {
+fn row(alloc: Global, row: Row) -> Result<(), Why> {
     let (_, capacity, input, reads, writes, ending, written) = row;
     let mut source = MemSource::new(list_of(alloc, input)?, nums_of(alloc, reads)?);
     let mut sink = MemSink::new(alloc, nums_of(alloc, writes)?);
     let prefix = list_of(alloc, "ab")?;
-    let ended = ends(rt, alloc, (capacity, 4), prefix, &mut source, &mut sink);
+    let ended = ends(alloc, (capacity, 4), prefix, &mut source, &mut sink);
     is_like("the ending", ended == ending)?;
     has_taken(&sink, written.as_bytes())
 }
@@ -65,7 +63,7 @@ fn row<R: Wait>(rt: &R, alloc: Global, row: Row) -> Result<(), Why> {
 #[test]
 fn copies_end(rt: HostRuntime) -> Result<(), Fail> {
     for each in COPIES {
-        is_well(&rt, each.0, row(&rt, rt.alloc(), each));
+        is_well(&rt, each.0, row(rt.alloc(), each));
     }
     Ok(())
 }
@@ -80,12 +78,12 @@ fn many(alloc: Global) -> Result<Vec<u8>, Why> {
 }
 
 // A copy of many bytes through buffers of so many.
-fn long<R: Wait>(rt: &R, alloc: Global, bytes: &[u8], capacity: usize) -> Result<(), Why> {
+fn long(alloc: Global, bytes: &[u8], capacity: usize) -> Result<(), Why> {
     let input = ByteList::from_vec(bytes.to_vec(alloc)?);
     let mut source = MemSource::new(input, nums_of(alloc, &[])?);
     let mut sink = MemSink::new(alloc, nums_of(alloc, &[])?);
     let prefix = list_of(alloc, "")?;
-    let ended = ends(rt, alloc, (capacity, 20000), prefix, &mut source, &mut sink);
+    let ended = ends(alloc, (capacity, 20000), prefix, &mut source, &mut sink);
     is_like("the ending", ended == Ending::Done)?;
     has_taken(&sink, bytes)
 }
@@ -100,7 +98,7 @@ const LONG: [(&str, usize); 4] = [
 fn long_copies_keep_each_byte(rt: HostRuntime) -> Result<(), Fail> {
     let bytes = many(rt.alloc())?;
     for (name, capacity) in LONG {
-        is_well(&rt, name, long(&rt, rt.alloc(), &bytes, capacity));
+        is_well(&rt, name, long(rt.alloc(), &bytes, capacity));
     }
     Ok(())
 }

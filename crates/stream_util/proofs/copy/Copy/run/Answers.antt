@@ -1,6 +1,6 @@
 use Rattle.std.proofs.Common.{◌∙◌, ap, length, refl, arith}
 use Rattle.stream_util.specs.Copy.{Ends}
-use Rattle.stream_util.proofs.Copies.{ran_none, ran_again, ran_waits, ran_ends, copies_all, same_joined}
+use Rattle.stream_util.proofs.Copies.{calls_more, ran_none, ran_again, ran_waits, ran_ends, copies_all, same_joined}
 use Rattle.stream_util.proofs.copy.Copy.run.Goals as goal
 
 pub loop-init : goal.loop-init
@@ -43,3 +43,11 @@ loop-preserved g c = (
 
 pub returns-clause-joined : goal.returns-clause-joined
 returns-clause-joined g c = same_joined _ _ _ _ _ _ c.loop.invariant.0.uses.moves
+
+pub returns-in-Pending-clause-counts : goal.returns-in-Pending-clause-counts
+returns-in-Pending-clause-counts g c =
+    calls_more c.loop.counter c.args.turns _ _ _ (omega arith) c.loop.invariant.0.calls c.poll.ensures.counts
+
+pub returns-in-Ready-clause-counts : goal.returns-in-Ready-clause-counts
+returns-in-Ready-clause-counts g c =
+    calls_more c.loop.counter c.args.turns _ _ _ (omega arith) c.loop.invariant.0.calls c.poll.ensures.counts

@@ -1,0 +1,67 @@
+-- Why a poll of a job ends with a fault, and when it waits. Cited by `step` and `PipeJob`.
+use Rattle.std.specs.Prelude.{ℕ, ◌≡◌, ◌≢◌, ◌≤◌, ◌⊎◌, false, [], ◌∷◌, Result, Ok, Err}
+use Rattle.std.specs.FinMap as map
+use Rattle.rent_buf.specs.Counts.{Rose}
+use Rattle.rent_buf.specs.Rent.{Rented}
+use Rattle.rent_buf.specs.declared.fault.IoFault.{IoFault}
+use Rattle.rent_buf.specs.declared.fault.IoFault.TheVariants.{Os, UnexpectedEof, WriteZero, InvalidData, ReadFault, WriteFault}
+use Rattle.rent_buf.specs.declared.fault.IoFault.TheVariants.{OutOfMemory as NoMemory}
+use Rattle.op_slots.specs.declared.slab.TheConstants.{MAX_LIVE}
+use Rattle.ring_core.specs.declared.request.TheConstants.{CANCELED}
+use Rattle.driver_core.specs.declared.operations.TheConstants.{MOST_GIVEN}
+use Rattle.ready_driver.specs.Awaits.{IsSlotUnmet}
+use Rattle.ready_driver.specs.Io.{IoView}
+use Rattle.ready_driver.specs.LegacyState.{LegacyState, holds_all, live_slots}
+use Rattle.pipe_job.specs.declared.step.TheConstants.{AGAIN, NOT_HELD}
+use Rattle.pipe_job.specs.declared.step.Wait.{Wait}
+use Rattle.pipe_job.specs.declared.step.Wait.TheVariants.{Room, Waiting}
+use Rattle.pipe_job.specs.declared.step.Step.{Step}
+use Rattle.pipe_job.specs.declared.step.Step.TheVariants.{Again, Pending, OutOfMemory, Ended}
+
+-- The driver takes no further operation: all slots are live, or so many were submitted.
+abbrev pub TakesNone : {I : Type 0} → LegacyState I Rented → Type 0
+TakesNone driver = (live_slots driver ≡ MAX_LIVE) ⊎ (MOST_GIVEN ≤ driver.given)
+
+-- The causes of a job's error: a call ended with an error, so that the count of these rose; or the job's cancel was asked for; or the driver
+-- takes no further operation; or the user doesn't hold the pipe.
+abbrev pub OsFor : {I : Type 0} → (I → IoView) → ℕ → ℕ → LegacyState I Rented → LegacyState I Rented → ℕ → Type 0
+OsFor view pipe cancels old new e =
+    Rose (view old.handling.io).fails (view new.handling.io).fails
+    ⊎ (((e ≡ CANCELED) × (cancels ≢ 0))
+    ⊎ (((e ≡ AGAIN) × TakesNone new)
+    ⊎ ((e ≡ NOT_HELD) × (holds_all new.handling.table (pipe ∷ []) ≡ false))))
+
+-- The causes of a fault. A refused submission is a `ReadFault`: the object failed, so that its count of faults rose.
+abbrev pub FaultFor : {I : Type 0} → (I → IoView) → ℕ → ℕ → LegacyState I Rented → LegacyState I Rented → IoFault → Type 0
+FaultFor view pipe cancels old new (Os e) = OsFor view pipe cancels old new e
+FaultFor view pipe cancels old new ReadFault = Rose (view old.handling.io).faults (view new.handling.io).faults
+FaultFor view pipe cancels old new UnexpectedEof = Unit {0}
+FaultFor view pipe cancels old new WriteZero = Unit {0}
+FaultFor view pipe cancels old new InvalidData = Unit {0}
+FaultFor view pipe cancels old new WriteFault = ⊥
+FaultFor view pipe cancels old new NoMemory = ⊥
+
+-- The causes of an end, which has one if it is a fault.
+abbrev pub EndsFor : {I : Type 0} → (I → IoView) → ℕ → ℕ → LegacyState I Rented → LegacyState I Rented → Result Unit IoFault → Type 0
+EndsFor view pipe cancels old new (Ok done) = Unit {0}
+EndsFor view pipe cancels old new (Err fault) = FaultFor view pipe cancels old new fault
+
+abbrev pub EndsBy : {I : Type 0} → (I → IoView) → ℕ → ℕ → LegacyState I Rented → LegacyState I Rented → Step → Type 0
+EndsBy view pipe cancels old new (Ended end) = EndsFor view pipe cancels old new end
+EndsBy view pipe cancels old new (Again wait) = Unit {0}
+EndsBy view pipe cancels old new (Pending wait) = Unit {0}
+EndsBy view pipe cancels old new (OutOfMemory wait) = Unit {0}
+
+-- A job that waits has an operation, which waits for a direction that no bit of its handle meets, or would have blocked, so that the count of
+-- these calls rose.
+abbrev pub WaitsFor : {I : Type 0} → (I → IoView) → LegacyState I Rented → LegacyState I Rented → Wait → Type 0
+WaitsFor view old new (Room room) = ⊥
+WaitsFor view old new (Waiting op) =
+    IsSlotUnmet new.handling.records (map.get new.slots.values op.key)
+    ⊎ Rose (view old.handling.io).blocks (view new.handling.io).blocks
+
+abbrev pub WaitsBy : {I : Type 0} → (I → IoView) → LegacyState I Rented → LegacyState I Rented → Step → Type 0
+WaitsBy view old new (Pending wait) = WaitsFor view old new wait
+WaitsBy view old new (Again wait) = Unit {0}
+WaitsBy view old new (OutOfMemory wait) = Unit {0}
+WaitsBy view old new (Ended end) = Unit {0}

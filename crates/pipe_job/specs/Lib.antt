@@ -1,0 +1,5 @@
+pub mod Causes
+pub mod Course
+pub mod PipeJob
+pub mod Steps
+pub mod Waits

@@ -1,0 +1,57 @@
+-- A job over a pipe, and the driver that it fits. Cited by `PipeJob`.
+use Rattle.std.specs.Prelude.{ℕ, ◌≡◌, List, Result, Ok, Err}
+use Rattle.rent_buf.specs.Rent.{Rented}
+use Rattle.rent_buf.specs.declared.fault.IoFault.{IoFault}
+use Rattle.core_exec.specs.declared.job.JobStep.{JobStep}
+use Rattle.core_exec.specs.declared.job.JobStep.TheVariants as job
+use Rattle.driver_core.specs.Ops.{Ops}
+use Rattle.ready_driver.specs.Io.{IoView}
+use Rattle.ready_driver.specs.LegacyState.{LegacyState, ops_in}
+use Rattle.pipe_job.specs.Causes.{FaultFor, WaitsFor}
+use Rattle.pipe_job.specs.Waits.{ApartWaits, FitsWait, HasNone}
+use Rattle.pipe_job.specs.declared.pipe_job.PipeJob.{PipeJob}
+
+-- How often a job was polled, and how often its cancel was asked for.
+abbrev pub polls_of : PipeJob → ℕ
+polls_of job = job.polls
+
+abbrev pub cancels_of : PipeJob → ℕ
+cancels_of job = job.cancels
+
+-- What it is for: its bytes.
+abbrev pub aim_of : PipeJob → List ℕ
+aim_of job = job.course.bytes
+
+-- It received the bytes that it is for, or failed.
+abbrev pub IsAim : List ℕ → Result (List ℕ) IoFault → Type 0
+IsAim aim (Ok bytes) = bytes ≡ aim
+IsAim aim (Err fault) = Unit {0}
+
+-- The driver holds the operation that a job waits for.
+abbrev pub FitsPipe : {I : Type 0} → LegacyState I Rented → PipeJob → Type 0
+FitsPipe driver job = FitsWait (ops_in driver) job.course.pipe job.cancels job.wait
+
+abbrev pub ApartPipes : PipeJob → PipeJob → Type 0
+ApartPipes one other = ApartWaits one.wait other.wait
+
+abbrev pub IsIdle : PipeJob → Type 0
+IsIdle job = HasNone job.wait
+
+-- A job fits every driver.
+abbrev pub FitsEach : PipeJob → Type 0
+FitsEach job = (ops : Ops Rented) → FitsWait ops job.course.pipe job.cancels job.wait
+
+-- The causes of the fault that a poll of a job ends with, if it does.
+abbrev pub EndsJob : {I : Type 0} → (I → IoView) → LegacyState I Rented → LegacyState I Rented → PipeJob
+    → JobStep PipeJob (Result (List ℕ) IoFault) → Type 0
+EndsJob view old new was (job.Done (Ok bytes)) = Unit {0}
+EndsJob view old new was (job.Done (Err fault)) = FaultFor view was.course.pipe was.cancels old new fault
+EndsJob view old new was (job.Pending next) = Unit {0}
+EndsJob view old new was (job.OutOfMemory next) = Unit {0}
+
+-- Why a job is pending behind a poll, if it is.
+abbrev pub WaitsJob : {I : Type 0} → (I → IoView) → LegacyState I Rented → LegacyState I Rented
+    → JobStep PipeJob (Result (List ℕ) IoFault) → Type 0
+WaitsJob view old new (job.Done out) = Unit {0}
+WaitsJob view old new (job.Pending next) = WaitsFor view old new next.wait
+WaitsJob view old new (job.OutOfMemory next) = Unit {0}

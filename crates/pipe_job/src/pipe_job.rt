@@ -1,0 +1,185 @@
+//! A job that sends its bytes into a pipe, and then receives as many.
+ghost use Rattle.std.specs.Prelude.{◌≡◌, ◌<◌, ◌+◌, ◌^◌, ℕ, OnErr, OnOk};
+ghost use Rattle.core_exec.specs.Job.{IfBack, Steps};
+ghost use Rattle.ready_driver.specs.LegacyState.{ops_in};
+ghost use Rattle.pipe_job.specs.PipeJob.{FitsPipe, ApartPipes, IsIdle, IsAim, aim_of, cancels_of, polls_of};
+ghost use Rattle.pipe_job.specs.PipeJob.{EndsJob, FitsEach, WaitsJob};
+ghost use Rattle.pipe_job.specs.Course.{IsSameBytes};
+ghost use Rattle.pipe_job.specs.Steps.{IfWhole, IsWhole, StepsTo, as_step};
+ghost use Rattle.pipe_job.specs.Waits.{FitsWait, HoldsWait, KeepsApart, apart_swaps, idle_apart};
+
+use crate::course::Course;
+use crate::step::{Step, Wait, advance};
+use core_exec::{Job, JobStep};
+use ready_driver::{LegacyDriver, NonBlock};
+use rent_buf::{ByteList, IoFault, OutOfMemory, Rent};
+use ring_core::SharedFd;
+
+/// A job that sends its bytes into a pipe, and then receives as many from it. It is done with what it received, or with why it failed. Its
+/// bytes stay in it, so each operation moves a copy of at most 4096 of them, in memory that is used again.
+pub struct PipeJob {
+    pub(crate) course: Course,
+    pub(crate) wait: Wait,
+    pub(crate) polls: u64,
+    pub(crate) cancels: u64,
+}
+
+impl PipeJob {
+    /// A job of these bytes over a pipe, that was never polled. It takes no memory.
+    pub fn new(pipe: SharedFd, bytes: ByteList) -> PipeJob
+        ensures counts { (polls_of result ≡ 0) × (cancels_of result ≡ 0) }
+        ensures idle { IsIdle result }
+        ensures fits { FitsEach result }
+        ensures aim { aim_of result ≡ bytes }
+    {
+        let bytes = bytes.into_vec();
+        let room = Vec::new(*bytes.allocator());
+        PipeJob {
+            course: Course::new(pipe, ByteList::from_vec(bytes)),
+            wait: Wait::Room(room),
+            polls: 0,
+            cancels: 0,
+        }
+    }
+
+    /// Drops a job, and its operation if it has one. It takes no memory.
+    #[tactic(auto, using(crate::proofs::Frames::fits_holds))]
+    pub fn abandon<I: NonBlock>(self, driver: &mut LegacyDriver<I, Rent>)
+        requires fits { FitsPipe driver.old self }
+        ensures others { (other : PipeJob) → FitsPipe driver.old other → ApartPipes self other → FitsPipe driver.new other }
+    {
+        let PipeJob {
+            course: _,
+            wait,
+            polls: _,
+            cancels: _,
+        } = self;
+        drop_wait(driver, wait);
+    }
+}
+
+// Drops what a job waits for.
+#[tactic(auto, using(crate::proofs::Frames::same_fit, crate::proofs::Frames::dropped_apart))]
+fn drop_wait<I: NonBlock>(driver: &mut LegacyDriver<I, Rent>, wait: Wait)
+    requires fits { HoldsWait (ops_in driver.old) wait }
+    ensures others { KeepsApart (ops_in driver.old) (ops_in driver.new) wait }
+{
+    match wait {
+        Wait::Room(_) => {}
+        Wait::Waiting(op) => driver.drop_op(op),
+    }
+}
+
+// Asks for the cancel of what a job of a pipe waits for, which was asked for so often before.
+#[tactic(auto, using(crate::proofs::Frames::same_fit, crate::proofs::Frames::all_apart, crate::proofs::Frames::canceled_apart, crate::proofs::Frames::canceled_fits))]
+fn cancel_wait<I: NonBlock>(
+    driver: &mut LegacyDriver<I, Rent>,
+    course: &Course,
+    wait: &Wait,
+    cancels: u64,
+) -> Result<(), OutOfMemory>
+    requires fits { FitsWait (ops_in driver.old) course.now.pipe cancels wait.now }
+    ensures fits { OnOk result (FitsWait (ops_in driver.new) course.now.pipe (cancels + 1) wait.now) }
+    ensures others { KeepsApart (ops_in driver.old) (ops_in driver.new) wait.now }
+    ensures err { OnErr result (driver.new ≡ driver.old) }
+{
+    match wait {
+        Wait::Room(_) => Ok(()),
+        Wait::Waiting(op) => driver.cancel_op(op),
+    }
+}
+
+// Polls a job as far as it goes at once: what it waits for then, or how it ended.
+#[tactic(auto, using(crate::proofs::Stepping::steps_on, crate::proofs::Stepping::steps_none))]
+fn run<I: NonBlock>(
+    driver: &mut LegacyDriver<I, Rent>,
+    course: &mut Course,
+    wait: Wait,
+    task: u64,
+    cancels: u64,
+) -> JobStep<Wait, Result<(), IoFault>>
+    requires fits { FitsWait (ops_in driver.old) course.old.pipe cancels wait }
+    ensures same { IsSameBytes course.old course.new }
+    ensures steps { StepsTo I.view course.old.pipe cancels driver.old driver.new wait (as_step result) }
+    ensures whole { IfWhole (as_step result) (IsWhole course.new) }
+{
+    let mut wait = wait;
+    loop {
+        match advance(driver, course, wait, task, cancels) {
+            Step::Again(next) => wait = next,
+            Step::Pending(next) => return JobStep::Pending(next),
+            Step::OutOfMemory(next) => return JobStep::OutOfMemory(next),
+            Step::Ended(result) => return JobStep::Done(result),
+        }
+    }
+}
+
+impl<I: NonBlock> Job<LegacyDriver<I, Rent>> for PipeJob {
+    type Out = Result<ByteList, IoFault>;
+
+    ghost polls = { polls_of };
+
+    ghost cancels = { cancels_of };
+
+    ghost aim = { aim_of };
+
+    ghost meets = { IsAim };
+
+    ghost fits = { FitsPipe };
+
+    ghost apart = { ApartPipes };
+
+    ghost idle = { IsIdle };
+
+    ghost apart_both = { λ one other apart. apart_swaps one.wait other.wait apart };
+
+    ghost apart_idle = { λ one other idle. idle_apart one.wait other.wait idle };
+
+    fn poll(
+        self,
+        driver: &mut LegacyDriver<I, Rent>,
+        task: u64,
+    ) -> JobStep<PipeJob, Result<ByteList, IoFault>>
+        requires fits { FitsPipe driver.old self }
+        requires counter { polls_of self < 2 ^ 62 }
+        ensures step { Steps polls_of cancels_of aim_of IsAim self result }
+        ensures fits { IfBack result (FitsPipe driver.new) }
+        ensures others { (other : PipeJob) → FitsPipe driver.old other → ApartPipes self other → FitsPipe driver.new other }
+        ensures apart { IfBack result (λ job. (other : PipeJob) → FitsPipe driver.old other → ApartPipes self other → ApartPipes job other) }
+        // Each fault has its cause, and it is pending only where more can't be done at once.
+        ensures ends { EndsJob I.view driver.old driver.new self result }
+        ensures waits { WaitsJob I.view driver.old driver.new result }
+    {
+        let PipeJob {
+            course,
+            wait,
+            polls,
+            cancels,
+        } = self;
+        let mut course = course;
+        let polls = polls + 1;
+        match run(driver, &mut course, wait, task, cancels) {
+            JobStep::Pending(wait) => JobStep::Pending(PipeJob {
+                course,
+                wait,
+                polls,
+                cancels,
+            }),
+            JobStep::OutOfMemory(wait) => JobStep::OutOfMemory(PipeJob {
+                course,
+                wait,
+                polls,
+                cancels,
+            }),
+            JobStep::Done(Ok(())) => JobStep::Done(Ok(course.into_bytes())),
+            JobStep::Done(Err(fault)) => JobStep::Done(Err(fault)),
+        }
+    }
+
+    #[tactic(auto, using(crate::proofs::Frames::fits_holds))]
+    fn cancel(&mut self, driver: &mut LegacyDriver<I, Rent>) -> Result<(), OutOfMemory> {
+        cancel_wait(driver, &self.course, &self.wait, self.cancels)?;
+        self.cancels += 1;
+        Ok(())
+    }
+}
