@@ -11,6 +11,7 @@ ghost use Rattle.driver_core.specs.Op.{AddsToken, DropsToken, Holds, KeepsTokens
 ghost use Rattle.driver_core.specs.Ops.{Ops};
 ghost use Rattle.driver_core.specs.Requests.{KeepsRequests, request_at};
 ghost use Rattle.ready_driver.specs.Awaits.{TokensFor};
+ghost use Rattle.op_driver.specs.Returned.{KeepsOthers, PollsRequest};
 
 use driver_core::{Driver, MOST_GIVEN, Op, PollOp, SubmitError, Turned};
 use rent_buf::{IoBufMut, OutOfMemory, VecBuf};
@@ -63,13 +64,15 @@ pub trait OpDriver<B: IoBufMut + Drop>: Driver {
         ensures err { IfErr result (λ refused. (refused.request ≡ request) × KeepsTokens (ops self.old) (ops self.new)) }
         ensures given { OnErr result ((ops self.new).given ≡ (ops self.old).given) };
 
-    /// Polls an operation of this driver for a task. `Pending` returns its token; `Ready` spends it, and its request comes back. The
-    /// completion driver never answers `Err`. The readiness driver does so if memory runs out, and the token comes back. No operation is
-    /// submitted.
+    /// Polls an operation of this driver for a task. `Pending` returns its token; `Ready` spends it, and its request comes back: it
+    /// names what it named, and what it sends is as it was. Each other operation keeps its request. The completion driver never answers
+    /// `Err`. The readiness driver does so if memory runs out, and the token comes back. No operation is submitted.
     fn poll_op(&mut self, op: Op, task: u64) -> Result<PollOp<B>, (OutOfMemory, Op)>
         requires { Holds (ops self.old) op }
         ensures polls { polls self.old self.new op task result }
         ensures tokens { TokensFor (ops self.old) (ops self.new) op result }
+        ensures request { PollsRequest B.buffer (ops self.old) (ops self.new) op result }
+        ensures others { KeepsOthers (ops self.old) (ops self.new) op }
         ensures given { (ops self.new).given ≡ (ops self.old).given };
 
     /// Drops an operation of this driver. No operation is submitted. It takes no memory.

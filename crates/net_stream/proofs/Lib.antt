@@ -1,0 +1,4 @@
+pub mod Requests
+pub mod Frames
+pub mod Told
+pub mod Went

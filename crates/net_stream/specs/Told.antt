@@ -1,0 +1,68 @@
+-- The bytes of a connection over a readiness driver whose object tells its handles.
+use Rattle.std.specs.Prelude.{ℕ, ◌≡◌, Bool, List, [], ◌++◌, Option, None, Some, slice_get, option_map, unwrap_or}
+use Rattle.std.specs.FinMap as map
+use Rattle.rent_buf.specs.Parts.{Parts}
+use Rattle.rent_buf.specs.Rent.{Rented}
+use Rattle.ring_core.specs.declared.request.Outcome.{Outcome}
+use Rattle.ring_core.specs.declared.request.Request.{Request}
+use Rattle.ring_core.specs.declared.request.Request.TheVariants.{Send}
+use Rattle.ring_core.specs.declared.world.HandleKind.TheVariants.{Stream}
+use Rattle.ring_core.specs.declared.world.HandleState.{HandleState}
+use Rattle.ring_core.specs.World.{input_at}
+use Rattle.driver_core.specs.declared.op.Op.{Op}
+use Rattle.driver_core.specs.Ops.{Ops}
+use Rattle.driver_core.specs.Requests.{request_at}
+use Rattle.ready_driver.specs.Io.{IoView}
+use Rattle.ready_driver.specs.LegacyState.{LegacyState}
+use Rattle.ready_driver.specs.Named.{IsCompleted}
+use Rattle.net_stream.specs.declared.connection.Connection.{Connection}
+use Rattle.net_stream.specs.Incoming.{unread}
+
+-- The handles of a driver's object.
+abbrev pub world_of : {I : Type 0} → (I → IoView) → LegacyState I Rented → List HandleState
+world_of view driver = (view driver.handling.io).world
+
+-- The bytes that wait to be read at a handle of it.
+abbrev pub waiting_at : {I : Type 0} → (I → IoView) → LegacyState I Rented → ℕ → List ℕ
+waiting_at view driver h = input_at (world_of view driver) h
+
+-- The bytes that were sent to a handle of these.
+abbrev pub output_at : List HandleState → ℕ → List ℕ
+output_at world h = unwrap_or (option_map (λ handle. handle.output) (slice_get world h)) []
+
+-- Those of a driver's object.
+abbrev pub sent_at : {I : Type 0} → (I → IoView) → LegacyState I Rented → ℕ → List ℕ
+sent_at view driver h = output_at (world_of view driver) h
+
+-- A handle of these is a stream.
+pub record IsStream (world : List HandleState) (h : ℕ) : Type 0 where
+  pub handle : HandleState
+  pub there : slice_get world h ≡ Some handle
+  pub kind : handle.kind ≡ Stream
+
+-- The operation that waits, if one does, isn't completed: no cancel was asked for.
+abbrev pub IsUncanceled : Ops Rented → Option Op → Type 0
+IsUncanceled ops None = Unit {0}
+IsUncanceled ops (Some op) = (outcome : Outcome) → IsCompleted (map.get ops.slots.values op.key) outcome → ⊥
+
+-- The bytes of a send.
+abbrev pub bytes_sent : Option (Request Rented Parts) → List ℕ
+bytes_sent (Some (Send fd buf)) = buf.bytes
+bytes_sent _ = []
+
+-- The bytes that an outbox's send has, if one waits.
+abbrev pub in_flight : Ops Rented → Option Op → List ℕ
+in_flight ops None = []
+in_flight ops (Some op) = bytes_sent (request_at ops op)
+
+-- All bytes that were written and aren't sent: those that a send has, those that the next one is to have, and those of the outbox.
+abbrev pub unsent_in : Ops Rented → Connection → List ℕ
+unsent_in ops conn = in_flight ops conn.outgoing.op ++ (conn.outgoing.unsent ++ conn.outbox.unsent)
+
+-- All bytes that came and weren't read: those of the inbox, and those of a receive that has ended.
+abbrev pub unread_in : Connection → List ℕ
+unread_in conn = unread conn.inbox conn.incoming
+
+-- No cancel was asked for of the operations that a connection waits for.
+abbrev pub IsUncanceledAt : Ops Rented → Connection → Type 0
+IsUncanceledAt ops conn = IsUncanceled ops conn.incoming.op × IsUncanceled ops conn.outgoing.op

@@ -1,0 +1,13 @@
+//! What a call that meets the driver came to.
+
+/// What a call of a connection that meets the driver came to. (not in monoio)
+#[derive(Clone, Copy, Debug, PartialEq, Eq)]
+#[must_use]
+pub enum Progress {
+    /// There was nothing to do: the driver wasn't called.
+    Idle,
+    /// The operation waits. Its task is named by the turn after which another call may do more.
+    Waits,
+    /// The operation ended: bytes moved, the end came, or a fault, which the stream's next call answers.
+    Moved,
+}

@@ -1,0 +1,100 @@
+// A pipe in memory gives back what is sent to it.
+ghost use Rattle.net_stream.specs.Connection.{FitsConnection};
+
+use driver_core::MOST_GIVEN;
+use net_stream::{Connection, Inbox, Outbox};
+use op_driver::OpDriver;
+use ready_driver::{LegacyDriver, MemIo};
+use rent_buf::Rent;
+use rent_io::{AsyncReadRent, AsyncWriteRent, PollBuf};
+use ring_core::{HandleKind, MOST_HANDLES, Names};
+use std::alloc::Global;
+use std::test::Fail;
+
+// How often a connection meets its driver at most.
+const STEPS: usize = 200;
+
+type OnHandles = LegacyDriver<MemIo, Rent>;
+
+// A text that is sent, and the room of each buffer.
+struct Row {
+    text: &'static str,
+    room: usize,
+}
+
+const ROWS: &[Row] = &[
+    Row { text: "fits", room: 64 },
+    Row { text: "more than fits at once", room: 4 },
+    Row { text: "byte by byte", room: 1 },
+];
+
+// A send and a receive, and a turn: whether they could be made.
+#[tactic(auto, using(net_stream::proofs::Frames::turned_fits))]
+fn step<D: OpDriver<Rent>>(driver: &mut D, conn: &mut Connection) -> bool
+    requires { FitsConnection (D.ops driver.old) conn.old }
+    ensures { FitsConnection (D.ops driver.new) conn.new }
+{
+    let names = Names::One(conn.fd.number());
+    if !driver.holds_names(names) || driver.given() >= MOST_GIVEN {
+        return false;
+    }
+    let _ = conn.send(driver, 1);
+    if !driver.holds_names(names) || driver.given() >= MOST_GIVEN {
+        return false;
+    }
+    let _ = conn.receive(driver, 1);
+    let _ = driver.turn();
+    true
+}
+
+// Writes what is left of a text, from a place of it on: the place then.
+fn put(alloc: Global, outbox: &mut Outbox, text: &[u8], at: usize) -> Option<usize> {
+    let rest = text[at.min(text.len())..].to_vec(alloc).ok()?;
+    match outbox.poll_write(rest, 1) {
+        PollBuf::Ready(Ok(count), _) => Some(at.saturating_add(count)),
+        _ => Some(at),
+    }
+}
+
+// Reads what came.
+fn get(alloc: Global, inbox: &mut Inbox, got: &mut Vec<u8>) -> Option<()> {
+    if let PollBuf::Ready(Ok(_), buf) = inbox.poll_read(Rent::with_total(alloc, 3).ok()?, 1) {
+        got.extend_from_slice(buf.as_slice()).ok()?;
+    }
+    Some(())
+}
+
+// Sends a text into a pipe, and gives what came.
+fn round_trip(alloc: Global, row: &Row) -> Option<Vec<u8>> {
+    let mut driver: OnHandles = LegacyDriver::over(alloc, MemIo::new(alloc));
+    let next = driver.handles();
+    if next >= MOST_HANDLES || driver.known(next) {
+        return None;
+    }
+    let fd = driver.give(HandleKind::Pipe).ok()?;
+    let mut conn = Connection::new(alloc, fd, row.room).ok()?;
+    let mut got = Vec::new(alloc);
+    let mut at = 0;
+    for _ in 0..STEPS {
+        match put(alloc, &mut conn.outbox, row.text.as_bytes(), at) {
+            Some(next) => at = next,
+            None => break,
+        }
+        if !step(&mut driver, &mut conn) || get(alloc, &mut conn.inbox, &mut got).is_none() {
+            break;
+        }
+    }
+    conn.end(&mut driver);
+    Some(got)
+}
+
+#[test]
+fn what_is_sent_comes_back(rt: HostRuntime) -> Result<(), Fail> {
+    for row in ROWS {
+        match round_trip(rt.alloc(), row) {
+            Some(bytes) => assert!(rt; bytes.as_slice() == row.text.as_bytes()),
+            None => assert!(rt; false),
+        }
+    }
+    Ok(())
+}
