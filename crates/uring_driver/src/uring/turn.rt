@@ -11,7 +11,7 @@ ghost use Rattle.uring_driver.specs.Op.{ops_in};
 ghost use Rattle.uring_driver.specs.Reap.{HasRoom, treat_one};
 ghost use Rattle.uring_driver.specs.Reaps.{Treats, PostsAll, Reaps, ReapsAll, midway};
 ghost use Rattle.uring_driver.specs.Uring.{ring_in};
-ghost use Rattle.uring_driver.specs.Begun.{HasBegun, CannotBegin, EndsTurn, HasTreated, why_stopped};
+ghost use Rattle.uring_driver.specs.Begun.{HasBegun, CannotBegin, EndsTurn, HasTreated, is_at_hand, why_stopped};
 
 use crate::holding::Handles;
 use crate::submissions::Submissions;
@@ -83,7 +83,7 @@ impl<R: Ring, B: IoBufMut + Drop> IoUringDriver<R, B> {
 
     // A turn that was begun needn't wait: a completion is ready, or the ring was busy.
     pub(crate) fn is_ready(&self, begun: &Begun) -> bool
-        ensures { result ≡ (begun.now.busy || nat_lt 0 (length (R.view (ring_in self.now)).done)) }
+        ensures { result ≡ is_at_hand R.view self.now begun.now }
     {
         begun.busy || self.ring.ready() > 0
     }
