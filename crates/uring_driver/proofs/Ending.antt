@@ -18,11 +18,11 @@ use Rattle.uring_driver.specs.declared.uring.turn.Begun.{Begun}
 use Rattle.uring_driver.specs.declared.uring.turn.Named.{Named}
 use Rattle.uring_driver.specs.Holding.{Holding}
 use Rattle.uring_driver.specs.Uring.{ring_in, pending, whole_ring}
-use Rattle.uring_driver.specs.Submissions.{Enters}
+use Rattle.uring_driver.specs.Submissions.{Arrives, EnteredFor}
 use Rattle.uring_driver.specs.Reap.{HasStray, Treated, treat_each}
 use Rattle.uring_driver.specs.Reaps.{closes_of, PendingJoins, Treats, Reaps, ReapsAll, midway_of}
 use Rattle.uring_driver.specs.Turned.{StopsFor, TreatsReady, TreatsTaken, TreatsFor}
-use Rattle.uring_driver.specs.Begun.{EnteredFor, HasBegun, TookReady, is_at_hand, why_stopped}
+use Rattle.uring_driver.specs.Begun.{HasBegun, TookReady, is_at_hand, why_stopped}
 use Rattle.uring_driver.proofs.Strays.{treats-stray, Split, split}
 
 -- What is told of what was treated, where nobody was named before.
@@ -101,11 +101,11 @@ module _ {R B : Type 0} (view : R → RingView) (tells steady : Bool) (old mid n
   all = treat_each mid.slots.values mid.holding taken
 
   -- What the enter of a turn did to what was pending.
-  enters-by : (busy : Bool) → EnteredFor view tells steady old.ring mid.ring busy → Enters view tells old.ring mid.ring
+  enters-by : (busy : Bool) → EnteredFor view tells steady old.ring mid.ring busy → Arrives view tells old.ring mid.ring
   enters-by false enter = enter.0
   enters-by true enter = enter.0
 
-  pub enters : Enters view tells old.ring mid.ring
+  pub enters : Arrives view tells old.ring mid.ring
   enters = enters-by begun.busy has.entered
 
   -- What was treated is what the turn tells.
@@ -138,7 +138,7 @@ module _ {R B : Type 0} (view : R → RingView) (tells steady : Bool) (old mid n
     treated = ap (λ m. treat_each m old.holding taken) (sym has.same.slots)
         ∙ ap (λ h. treat_each mid.slots.values h taken) (sym has.same.holding) ∙ told-is
         ∙ ap (λ x. told new.slots.values new.holding turned.reaped turned.closed turned.woken all.queued x) is;
-    few = (let a = ends.reaps.ring.few in let b = enters.few_done in omega (arith, a, b));
+    few = (let a = ends.reaps.ring.few_to_come in let b = enters.few_to_come in omega (arith, a, b));
     shown = λ shows. record {
       mid = whole_ring view mid;
       front = enters.told shows;

@@ -26,7 +26,8 @@ use Rattle.uring_driver.specs.Reap.{treat_each}
 use Rattle.uring_driver.specs.Reaps.{ReapsAll, PendingJoins, EndsWith, closes_of, waiting_in, midway_of}
 use Rattle.uring_driver.specs.Turned.{TreatsNone, StopsFor, TreatsFor, TurnsFor, TurnMeets}
 use Rattle.uring_driver.specs.Turned.{IsCalm, GivesNoStray, GoesOn}
-use Rattle.uring_driver.specs.Begun.{EnteredFor, HasBegun, CannotBegin, TookReady, is_at_hand, why_stopped}
+use Rattle.uring_driver.specs.Submissions.{EnteredFor}
+use Rattle.uring_driver.specs.Begun.{HasBegun, CannotBegin, TookReady, is_at_hand, why_stopped}
 use Rattle.uring_driver.proofs.Ending.{ends-of, moves, stops, treats, took}
 use Rattle.uring_driver.proofs.Turning.{turns}
 

@@ -10,16 +10,9 @@ use Rattle.uring_driver.specs.declared.uring.IoUringDriver.{IoUringDriver}
 use Rattle.uring_driver.specs.declared.uring.turn.Begun.{Begun}
 use Rattle.uring_driver.specs.Uring.{ring_in}
 use Rattle.uring_driver.specs.Reap.{HasRoom}
-use Rattle.uring_driver.specs.Pending.{Pending}
-use Rattle.uring_driver.specs.Submissions.{Enters}
+use Rattle.uring_driver.specs.Submissions.{Enters, EnteredFor}
 use Rattle.uring_driver.specs.Submitted.{SameSlots}
 use Rattle.uring_driver.specs.Turned.{TreatsFor, TurnMeets}
-
--- What the enter of a turn that goes on did: all that was pending was taken, or the ring was busy, which a steady one never is.
-abbrev pub EnteredFor : {R : Type 0} → (R → RingView) → Bool → Bool → Pending R → Pending R → Bool → Type 0
-EnteredFor view tells steady old new false = Enters view tells old new × ((view new.ring).queue ≡ []) × (new.due ≡ [])
-EnteredFor view tells steady old new true = Enters view tells old new × Rose (view old.ring).busies (view new.ring).busies ×
-    (IsTrue steady → ⊥)
 
 -- A turn was begun: the driver has entered its ring, and nothing is treated yet.
 pub record HasBegun {R B : Type 0} (view : R → RingView) (tells steady : Bool) (old new : IoUringDriver R B) (begun : Begun) : Type 0 where

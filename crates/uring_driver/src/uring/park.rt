@@ -32,7 +32,7 @@ impl<R: Ring, B: IoBufMut + Drop> Driver for IoUringDriver<R, B> {
 
     ghost legacy = { false };
 
-    /// Room is made once, for as many numbers as are ready, queued and due. A list that names nobody stays with the
+    /// Room is made once, for as many numbers as are ready, queued, due and to come by themselves. A list that names nobody stays with the
     /// driver: so a list takes memory only after a turn named somebody in it, or to grow. After Busy what is ready is treated. Where the
     /// slot of a dropped operation goes, the close of each handle that nobody holds any more joins what is pending; a later turn names it.
     /// (monoio: `submit`)
@@ -46,8 +46,8 @@ impl<R: Ring, B: IoBufMut + Drop> Driver for IoUringDriver<R, B> {
     /// It comes to its wait exactly if its turn treats no completion and doesn't stop, and both drains give nothing. Where the turn stops
     /// with `RingFault` or `OutOfMemory`, the sleeper makes no step. After Busy it makes its steps and doesn't wait. (monoio: `park`)
     ///
-    /// A completion that comes to the ring by itself meanwhile doesn't end the wait: the next turn treats it. So over a ring that
-    /// completes by itself, give the wait a limit by `park_timeout`.
+    /// A completion that comes to the ring by itself meanwhile doesn't end the wait: the next turn treats it. So over a ring of which some
+    /// are to come, give the wait a limit by `park_timeout`.
     fn park<P: Ledger, D: Ledger, T: Wait + Clock>(
         &mut self,
         rt: &T,

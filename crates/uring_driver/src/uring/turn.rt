@@ -19,7 +19,7 @@ use crate::uring::IoUringDriver;
 use crate::uring::leave::end_op;
 use driver_core::{Operations, Stop, Turned};
 use rent_buf::{IoBufMut, NumList, OutOfMemory};
-use ring_core::{Completion, EnterError, Ring, Target};
+use ring_core::{Completion, Ring, Target};
 use std::alloc::Global;
 use std::mem;
 
@@ -58,25 +58,22 @@ pub struct Begun {
 }
 
 impl<R: Ring, B: IoBufMut + Drop> IoUringDriver<R, B> {
-    // Begins a turn: makes room for as many numbers as are ready, queued and due, and enters what is due and what is queued. It takes
-    // the memory that earlier turns left, and only what is missing anew. A ring that is busy doesn't end the turn.
+    // Begins a turn: makes room for as many numbers as are ready, queued, due and to come, enters what is due and what is queued, and has
+    // the ring show what came by itself. It takes the memory that earlier turns left, and only what is missing anew. A ring that is busy
+    // doesn't end the turn.
     pub(crate) fn begin_turn(&mut self) -> Result<Begun, Stop>
         ensures ok { IfOk result (HasBegun R.view R.tells R.steady self.old self.new) }
         ensures err { IfErr result (CannotBegin R.view R.tells R.steady self.old self.new) }
     {
-        let Some(count) = self.ring.waiting() else {
+        let Some(count) = self.ring.expected() else {
             return Err(Stop::OutOfMemory);
         };
         let Ok(named) = nobody(&mut self.spare, self.alloc, count) else {
             return Err(Stop::OutOfMemory);
         };
-        let busy = match self.ring.enter() {
-            Ok(_) => false,
-            Err(EnterError::Busy) => true,
-            Err(EnterError::Fault) => {
-                let _ = keep_empty(&mut self.spare, named);
-                return Err(Stop::RingFault);
-            }
+        let Some(busy) = self.ring.arrive() else {
+            let _ = keep_empty(&mut self.spare, named);
+            return Err(Stop::RingFault);
         };
         Ok(Begun { named, busy })
     }
