@@ -2,6 +2,7 @@
 pub(crate) mod asks;
 pub(crate) mod bench;
 mod faults;
+mod late;
 mod memory;
 mod park;
 mod rings;

@@ -17,7 +17,17 @@ use Rattle.ring_core.specs.Ring.{RingView}
 
 -- The ring in memory with no entries.
 abbrev pub fresh_ring : ℕ → RingView
-fresh_ring entries = record { capacity = entries; queue = []; flying = []; done = []; world = []; spare = 0; faults = 0; busies = 0 }
+fresh_ring entries = record {
+  capacity = entries;
+  queue = [];
+  flying = [];
+  done = [];
+  world = [];
+  spare = 0;
+  faults = 0;
+  busies = 0;
+  to_come = 0;
+}
 
 -- The entry that is in flight at a place.
 abbrev pub entry_at : List Flight → ℕ → Option Entry

@@ -15,9 +15,10 @@ use Rattle.ring_core.specs.declared.ring.EnterError.TheVariants.{Fault, Busy}
 use Rattle.ring_core.specs.Counts.{Rose}
 
 -- A ring: its queue, what is in flight, the completions that are ready, its handles, for how many pushes it has reserved memory,
--- and how often it failed and was busy. Every ring shows its capacity, its counts, `spare`, and the lengths of `queue` and `done`;
--- where it doesn't show its lists their contents mean nothing. Only the ring in memory has handles, in `world`: they are here so that
--- one clause of a driver speaks of every ring.
+-- how often it failed and was busy, and how many completions are still to come by themselves, of the entries that it took. Every ring
+-- shows its capacity, its counts, `spare`, `to_come`, and the lengths of `queue` and `done`; where it doesn't show its lists their
+-- contents mean nothing. Only the ring in memory has handles, in `world`: they are here so that one clause of a driver speaks of every
+-- ring.
 pub record RingView : Type 0 where
   pub capacity : ℕ
   pub queue : List Entry
@@ -27,6 +28,7 @@ pub record RingView : Type 0 where
   pub spare : ℕ
   pub faults : ℕ
   pub busies : ℕ
+  pub to_come : ℕ
 
 -- An entry in flight after a cancel of a key was taken: it is marked where its data word is that key. No serial is compared.
 abbrev pub marked_by : ℕ → Flight → Flight
@@ -83,6 +85,7 @@ pub record IsPushed (tells : Bool) (entry : Entry) (old new : RingView) : Type 0
   pub one_more : length new.queue ≡ length old.queue + 1
   pub same_done : length new.done ≡ length old.done
   pub one_spare_less : new.spare + 1 ≡ old.spare
+  pub no_more : new.to_come ≤ old.to_come
   pub later : IsLater old new
   pub told : IsTrue tells → new ≡ pushed old entry
 
@@ -91,12 +94,14 @@ abbrev pub PushesFor : Bool → Entry → RingView → RingView → Push → Typ
 PushesFor tells entry old new Done = IsPushed tells entry old new
 PushesFor tells entry old new (Full back) = (back ≡ entry) × (new ≡ old) × (length old.queue ≡ old.capacity)
 
--- An enter that took the whole queue, n entries. At most one completion came for each, and none was lost.
+-- An enter that took the whole queue, n entries. At most one completion came for each, and none was lost. For each of these entries that
+-- none came for, one may be to come.
 pub record IsEntered (tells : Bool) (old new : RingView) (n : ℕ) : Type 0 where
   pub all : n ≡ length old.queue
   pub emptied : new.queue ≡ []
   pub more_done : length old.done ≤ length new.done
   pub few_done : length new.done ≤ length old.done + n
+  pub few_to_come : length new.done + new.to_come ≤ length old.done + old.to_come + n
   pub spare : old.spare ≤ new.spare
   pub later : IsLater old new
   pub told : IsTrue tells → new ≡ entered old
@@ -109,13 +114,14 @@ pub record TookFront (count : ℕ) (old new : RingView) : Type 0 where
   pub done : new.done ≡ done_after old.done (take count old.queue)
   pub world : new.world ≡ old.world
 
--- An enter that failed or was busy: a prefix of the queue may have been taken, with at most one completion for each entry of it, and no
--- completion was lost.
+-- An enter that failed or was busy: a prefix of the queue may have been taken, with at most one completion for each entry of it, that came
+-- or is to come, and no completion was lost.
 pub record IsCutShort (tells : Bool) (old new : RingView) : Type 0 where
   pub count : ℕ
   pub rest : length new.queue + count ≡ length old.queue
   pub more_done : length old.done ≤ length new.done
   pub few_done : length new.done ≤ length old.done + count
+  pub few_to_come : length new.done + new.to_come ≤ length old.done + old.to_come + count
   pub spare : old.spare ≤ new.spare
   pub later : IsLater old new
   pub told : IsTrue tells → TookFront count old new
@@ -126,10 +132,21 @@ EntersFor tells old new (Ok n) = IsEntered tells old new n
 EntersFor tells old new (Err Fault) = Rose old.faults new.faults × IsCutShort tells old new
 EntersFor tells old new (Err Busy) = Rose old.busies new.busies × IsCutShort tells old new
 
+-- The completions that came by themselves are ready now: they are of those that were to come. Nothing else has changed, and a ring that
+-- shows its lists had none.
+pub record IsSynced (tells : Bool) (old new : RingView) : Type 0 where
+  pub same_queue : length new.queue ≡ length old.queue
+  pub more_done : length old.done ≤ length new.done
+  pub few_to_come : length new.done + new.to_come ≤ length old.done + old.to_come
+  pub spare : old.spare ≤ new.spare
+  pub later : IsLater old new
+  pub told : IsTrue tells → new ≡ old
+
 -- The oldest completion was removed.
 pub record IsTakenOff (tells : Bool) (old new : RingView) (completion : Completion) : Type 0 where
   pub one_less : length new.done + 1 ≡ length old.done
   pub same_queue : length new.queue ≡ length old.queue
+  pub no_more : new.to_come ≤ old.to_come
   pub spare : old.spare ≤ new.spare
   pub later : IsLater old new
   pub told : IsTrue tells → (old.done ≡ completion ∷ new.done) × (new ≡ with_done old new.done)

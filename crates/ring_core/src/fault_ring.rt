@@ -1,6 +1,6 @@
 //! A ring in memory whose enters fail where they are told to, for tests.
 ghost use Rattle.std.specs.Prelude.{◌≡◌, ◌<◌, refl, true, false, OnOk, OnErr};
-ghost use Rattle.ring_core.specs.Ring.{PushesFor, EntersFor, NextFor, reserved};
+ghost use Rattle.ring_core.specs.Ring.{PushesFor, EntersFor, IsSynced, NextFor, reserved};
 ghost use Rattle.ring_core.specs.FaultRing.{fresh_faults, faulty_ring, with_ring, with_completion, is_next, EntersFaulty};
 
 use crate::entry::{Completion, Entry};
@@ -98,6 +98,10 @@ impl Ring for FaultRing {
         self.ring.standing()
     }
 
+    fn to_come(&self) -> usize {
+        self.ring.to_come()
+    }
+
     fn reserve(&mut self, n: usize) -> Result<(), OutOfMemory>
         ensures ok { OnOk result (faulty_ring self.new ≡ reserved (faulty_ring self.old) n) }
         ensures err { OnErr result (faulty_ring self.new ≡ faulty_ring self.old) }
@@ -131,6 +135,11 @@ impl Ring for FaultRing {
         }
         self.ring.enter()
     }
+
+    fn sync(&mut self)
+        ensures synced { IsSynced true (faulty_ring self.old) (faulty_ring self.new) }
+        ensures same { self.new ≡ self.old }
+    {}
 
     fn next(&mut self) -> Option<Completion>
         ensures first { NextFor true (faulty_ring self.old) (faulty_ring self.new) result }

@@ -63,6 +63,7 @@ impl Model for MemRing {
       spare = r.spare;
       faults = 0;
       busies = 0;
+      to_come = 0;
     } };
 
     ghost invariant = { λ r. RingHasRoom r.entries (deque_len r.queue) (length r.flying.flights) (deque_len r.done) r.spare
@@ -236,6 +237,12 @@ impl Ring for MemRing {
         self.done.len()
     }
 
+    // What is in flight completes only by `execute`, and never by itself.
+    fn to_come(&self) -> usize {
+        let _entries = self.entries;
+        0
+    }
+
     fn reserve(&mut self, n: usize) -> Result<(), OutOfMemory> {
         let (queued, flying, done) = (self.queue.len(), self.flying.len(), self.done.len());
         let Some(room) = total_room(queued, flying, done, self.spare, n) else {
@@ -265,6 +272,8 @@ impl Ring for MemRing {
         take_all(&mut self.queue, &mut self.flying, &mut self.done);
         Ok(taken)
     }
+
+    fn sync(&mut self) {}
 
     fn next(&mut self) -> Option<Completion> {
         self.done.pop_front()

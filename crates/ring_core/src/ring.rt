@@ -1,6 +1,6 @@
 //! What the driver asks of a ring.
 ghost use Rattle.std.specs.Prelude.{◌≡◌, ◌<◌, ◌≤◌, Bool, length, IsTrue, IsOk, OnOk, OnErr};
-ghost use Rattle.ring_core.specs.Ring.{RingView, PushesFor, EntersFor, NextFor, reserved};
+ghost use Rattle.ring_core.specs.Ring.{RingView, PushesFor, EntersFor, IsSynced, NextFor, reserved};
 
 use crate::entry::{Completion, Entry};
 use rent_buf::OutOfMemory;
@@ -26,7 +26,9 @@ pub enum Push {
     Full(Entry),
 }
 
-/// A ring: a submission queue, what is in flight, and the completions that are ready. (io_uring, as monoio's driver uses it)
+/// A ring: a submission queue, what is in flight, and the completions that are ready. For each entry that it takes at most one completion
+/// comes, in any order: in the enter that takes it, or by itself at any time later, or never. One that came by itself is ready after the
+/// next `sync`. (io_uring, as monoio's driver uses it)
 pub trait Ring: Drop {
     // The ring as a value.
     ghost view: { Self → RingView };
@@ -51,6 +53,11 @@ pub trait Ring: Drop {
     fn standing(&self) -> usize
         ensures { result ≡ length (view self.now).done };
 
+    /// How many completions are still to come by themselves, of the entries that it took. It is 0 for a ring that completes an entry in the
+    /// enter that takes it, or by calls of its own alone.
+    fn to_come(&self) -> usize
+        ensures { result ≡ (view self.now).to_come };
+
     /// Reserves the memory of `n` more pushes, and of entering and finishing what they push. If memory runs out, nothing has
     /// changed.
     fn reserve(&mut self, n: usize) -> Result<(), OutOfMemory>
@@ -68,6 +75,11 @@ pub trait Ring: Drop {
     fn enter(&mut self) -> Result<u32, EnterError>
         ensures enters { EntersFor tells (view self.old) (view self.new) result }
         ensures steady { IsTrue steady → IsOk result };
+
+    /// Makes those completions ready that came by themselves since the last time, also over an empty queue. It takes no memory. (io_uring:
+    /// `CompletionQueue::sync`)
+    fn sync(&mut self)
+        ensures { IsSynced tells (view self.old) (view self.new) };
 
     /// Removes and returns the oldest completion; None exactly when none is ready. It takes no memory.
     fn next(&mut self) -> Option<Completion>

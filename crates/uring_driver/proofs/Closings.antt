@@ -1,7 +1,7 @@
 -- What holds of holders and closes always, through each change of a table.
 use Rattle.std.proofs.Common.{◌≡◌, ◌≢◌, ◌∙◌, inl, inr, ℕ, ◌+◌, ◌-◌, ◌<◌, Bool, true, false, [], ◌∷◌, Option, Some, None}
 use Rattle.std.proofs.Common.{sym, ap, subst, arith}
-use Rattle.std.specs.Prelude.{is_some, OnOk, OnErr, Result, Ok, Err}
+use Rattle.std.specs.Prelude.{◌||◌, is_some, OnOk, OnErr, Result, Ok, Err}
 use Rattle.std.proofs.lemmas.Bool.{or_parts}
 use Rattle.std.specs.Ordering.{nat_cmp}
 use Rattle.std.specs.FinMap.{get, insert, remove, len, empty, get-empty, len-empty}
@@ -12,7 +12,7 @@ use Rattle.ring_core.specs.declared.entry.TheConstants.{MOST_HANDLES}
 use Rattle.ring_core.proofs.Numbers.{same-or-not, some-of, none-of}
 use Rattle.driver_core.proofs.Maps.{put-same, put-other, gone-same, gone-other, len-put, len-new, len-gone, len-some, above}
 use Rattle.uring_driver.specs.Making.{maker_ended}
-use Rattle.uring_driver.specs.Holding.{Holding, is_held, closes, knows, places, IsKept}
+use Rattle.uring_driver.specs.Holding.{Holding, no_holding, is_held, closes, knows, places, IsKept}
 
 -- A handle that isn't known is neither held nor closing.
 pub unknown : (holding : Holding) (h : ℕ) → knows holding h ≡ false → (is_held holding h ≡ false) × (closes holding h ≡ false)
@@ -38,6 +38,10 @@ kept-none holding none closed idle = record {
   once = λ h held there.
       let e : ◌≡◌ {A = Option Holders} None (Some held) = sym (ap (λ m. get m h) closed ∙ get-empty {X = Holders} nat_cmp h) ∙ there in cc;
 }
+
+-- Where nothing is held and nothing closing, no handle is known.
+pub known-none : (holding : Holding) → holding ≡ no_holding → (h : ℕ) → knows holding h ≡ false
+known-none holding none h = ap (λ x. knows x h) none ∙ ap (λ o. is_some o || is_some o) (get-empty {X = Holders} nat_cmp h)
 
 module _ (holding : Holding) (kept : IsKept holding) (h : ℕ) where
   -- The table with other holders of a handle, of which there is one.

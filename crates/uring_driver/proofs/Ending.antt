@@ -1,7 +1,8 @@
 -- A whole turn from its begin and its end, over any ring.
-use Rattle.std.proofs.Common.{◌≡◌, ◌≤◌, ℕ, Bool, true, false, List, [], ◌++◌, length, Option, Some, None, refl, sym, ◌∙◌, ap, subst}
+use Rattle.std.proofs.Common.{◌≡◌, ◌≤◌, ◌<◌, ℕ, Bool, true, false, List, [], ◌∷◌, ◌++◌, length, Option, Some, None, refl, sym, ◌∙◌, ap, subst}
 use Rattle.std.proofs.Common.{arith, append_assoc, length-append}
-use Rattle.std.specs.Prelude.{IsTrue, take, drop}
+use Rattle.std.proofs.lemmas.Bool.Decides.{nat_tests}
+use Rattle.std.specs.Prelude.{◌||◌, IsTrue, nat_lt, take, drop}
 use Rattle.std.proofs.lemmas.List.{take-append-drop}
 use Rattle.std.specs.Ordering.{nat_cmp}
 use Rattle.std.specs.FinMap.{FinMap}
@@ -17,11 +18,11 @@ use Rattle.uring_driver.specs.declared.uring.turn.Begun.{Begun}
 use Rattle.uring_driver.specs.declared.uring.turn.Named.{Named}
 use Rattle.uring_driver.specs.Holding.{Holding}
 use Rattle.uring_driver.specs.Uring.{ring_in, pending, whole_ring}
-use Rattle.uring_driver.specs.Submissions.{Enters}
+use Rattle.uring_driver.specs.Submissions.{Arrives, EnteredFor}
 use Rattle.uring_driver.specs.Reap.{HasStray, Treated, treat_each}
 use Rattle.uring_driver.specs.Reaps.{closes_of, PendingJoins, Treats, Reaps, ReapsAll, midway_of}
-use Rattle.uring_driver.specs.Turned.{StopsFor, TreatsTaken, TreatsFor}
-use Rattle.uring_driver.specs.Begun.{EnteredFor, HasBegun, why_stopped}
+use Rattle.uring_driver.specs.Turned.{StopsFor, TreatsReady, TreatsTaken, TreatsFor}
+use Rattle.uring_driver.specs.Begun.{HasBegun, TookReady, is_at_hand, why_stopped}
 use Rattle.uring_driver.proofs.Strays.{treats-stray, Split, split}
 
 -- What is told of what was treated, where nobody was named before.
@@ -100,11 +101,11 @@ module _ {R B : Type 0} (view : R → RingView) (tells steady : Bool) (old mid n
   all = treat_each mid.slots.values mid.holding taken
 
   -- What the enter of a turn did to what was pending.
-  enters-by : (busy : Bool) → EnteredFor view tells steady old.ring mid.ring busy → Enters view tells old.ring mid.ring
+  enters-by : (busy : Bool) → EnteredFor view tells steady old.ring mid.ring busy → Arrives view tells old.ring mid.ring
   enters-by false enter = enter.0
   enters-by true enter = enter.0
 
-  pub enters : Enters view tells old.ring mid.ring
+  pub enters : Arrives view tells old.ring mid.ring
   enters = enters-by begun.busy has.entered
 
   -- What was treated is what the turn tells.
@@ -130,18 +131,20 @@ module _ {R B : Type 0} (view : R → RingView) (tells steady : Bool) (old mid n
       let n = ends.reaps.counted ∙ ends.all none in
       omega (arith, long, n))
 
-  pub treats-taken : TreatsTaken view tells old new turned all.queued bad
-  treats-taken = record {
+  -- What it treated, by the word of a bad completion.
+  treats-as : (b : Option ℕ) → bad ≡ b → TreatsTaken view tells old new turned all.queued b
+  treats-as b is = record {
     taken = taken;
     treated = ap (λ m. treat_each m old.holding taken) (sym has.same.slots)
-        ∙ ap (λ h. treat_each mid.slots.values h taken) (sym has.same.holding) ∙ told-is;
-    few = (let a = ends.reaps.ring.few in let b = enters.few_done in omega (arith, a, b));
+        ∙ ap (λ h. treat_each mid.slots.values h taken) (sym has.same.holding) ∙ told-is
+        ∙ ap (λ x. told new.slots.values new.holding turned.reaped turned.closed turned.woken all.queued x) is;
+    few = (let a = ends.reaps.ring.few_to_come in let b = enters.few_to_come in omega (arith, a, b));
     shown = λ shows. record {
       mid = whole_ring view mid;
       front = enters.told shows;
       rest = (cut shows).rest;
       ready = (cut shows).front;
-      all = all-cut shows;
+      all = λ none. all-cut shows (is ∙ none);
       more = (ends.reaps.ring.told shows).more;
       left = (cut shows).back;
     };
@@ -191,9 +194,36 @@ module _ {R B : Type 0} (view : R → RingView) (tells steady : Bool) (old mid n
 
   -- What it treated, by how its enter went.
   treats-by : (busy : Bool) (b : Option ℕ) → bad ≡ b → TreatsFor view tells old new turned all.queued (why_stopped b busy)
-  treats-by false None is = subst (λ b. TreatsTaken view tells old new turned all.queued b) is treats-taken
-  treats-by true None is = subst (λ b. TreatsTaken view tells old new turned all.queued b) is treats-taken
-  treats-by busy (Some word) is = subst (λ b. TreatsTaken view tells old new turned all.queued b) is treats-taken
+  treats-by false None is = treats-as None is
+  treats-by true None is = treats-as None is
+  treats-by busy (Some word) is = treats-as (Some word) is
 
   pub treats : TreatsFor view tells old new turned all.queued (why_stopped bad begun.busy)
   treats = treats-by begun.busy bad refl
+
+  -- A bad completion was ready.
+  some-bad : (ts : List Completion) (word : ℕ) → (treat_each mid.slots.values mid.holding ts).bad ≡ Some word → 0 < length ts
+  some-bad [] word is = (let f : ⊥ = cc in absurd f)
+  some-bad (c ∷ cs) word is = omega arith
+
+  -- Where completions are ready, it needs no wait.
+  at-hand : (busy : Bool) (ready : ℕ) → 0 < ready → (busy || nat_lt 0 ready) ≡ true
+  at-hand true ready some = refl
+  at-hand false ready some = grind (arith, nat_tests, some)
+
+  -- It treated what was ready, by how its enter went.
+  took-by : (busy : Bool) (b : Option ℕ) → (is : bad ≡ b) →
+      TookReady view tells old new turned all.queued (why_stopped b busy) (treats-by busy b is)
+      (busy || nat_lt 0 (length (view (ring_in mid)).done))
+  unfolding treats-by treats-as
+  took-by false None is = ap (nat_lt 0) (ends.reaps.counted ∙ ends.all is)
+  took-by true None is = refl
+  took-by busy (Some word) is = at-hand busy (length (view (ring_in mid)).done) (
+      let some = some-bad taken word (ends.reaps.treats.bad ∙ is) in
+      let n = ends.reaps.counted in
+      let w = ends.within in
+      omega (arith, some, n, w))
+
+  pub took : TookReady view tells old new turned all.queued (why_stopped bad begun.busy) treats (is_at_hand view mid begun)
+  unfolding treats
+  took = took-by begun.busy bad refl

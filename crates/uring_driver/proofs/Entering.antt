@@ -112,6 +112,7 @@ module _ {R : Type 0} (view : R → RingView) (tells : Bool) where
   enters-none old = record {
     later = later-same (view old.ring) (view old.ring).spare;
     few_done = omega arith;
+    few_to_come = omega arith;
     more_done = omega arith;
     same_room = refl;
     told = λ t. took-none (pending_ring view old) (view old.ring).spare;
@@ -121,6 +122,7 @@ module _ {R : Type 0} (view : R → RingView) (tells : Bool) where
   enters-on a b c f g = record {
     later = later-on (view a.ring) (view b.ring) (view c.ring) f.later g.later;
     few_done = (let x = f.few_done in let y = g.few_done in omega (arith, x, y));
+    few_to_come = (let x = f.few_to_come in let y = g.few_to_come in omega (arith, x, y));
     more_done = (let x = f.more_done in let y = g.more_done in omega (arith, x, y));
     same_room = g.same_room ∙ f.same_room;
     told = λ t. took-on (pending_ring view a) (pending_ring view b) (pending_ring view c) (f.told t) (g.told t);
@@ -132,6 +134,7 @@ module _ {R : Type 0} (view : R → RingView) (tells : Bool) where
   enters-by old ring (Ok n) e = record {
     later = e.later;
     few_done = (let a = e.all in let b = ap length e.emptied in let c = e.few_done in omega (arith, a, b, c));
+    few_to_come = (let a = e.all in let b = ap length e.emptied in let c = e.few_to_come in omega (arith, a, b, c));
     more_done = e.more_done;
     same_room = refl;
     told =
@@ -141,6 +144,7 @@ module _ {R : Type 0} (view : R → RingView) (tells : Bool) where
   enters-by old ring (Err Fault) e = record {
     later = e.1.later;
     few_done = (let a = e.1.rest in let c = e.1.few_done in omega (arith, a, c));
+    few_to_come = (let a = e.1.rest in let c = e.1.few_to_come in omega (arith, a, c));
     more_done = e.1.more_done;
     same_room = refl;
     told = λ t. took-behind e.1.count (view old.ring) (view ring) old.due (e.1.told t);
@@ -148,6 +152,7 @@ module _ {R : Type 0} (view : R → RingView) (tells : Bool) where
   enters-by old ring (Err Busy) e = record {
     later = e.1.later;
     few_done = (let a = e.1.rest in let c = e.1.few_done in omega (arith, a, c));
+    few_to_come = (let a = e.1.rest in let c = e.1.few_to_come in omega (arith, a, c));
     more_done = e.1.more_done;
     same_room = refl;
     told = λ t. took-behind e.1.count (view old.ring) (view ring) old.due (e.1.told t);
@@ -246,6 +251,7 @@ module _ {R : Type 0} (view : R → RingView) (tells : Bool) where
       (later : IsLater (view mid.ring) (view new.ring))
       (more : length (view new.ring).queue + length new.due ≡ length (view mid.ring).queue + length mid.due + 1)
       (done : length (view new.ring).done ≡ length (view mid.ring).done)
+      (to_come : (view new.ring).to_come ≤ (view mid.ring).to_come)
       (due : mid.due ≡ [] → length (view mid.ring).queue < (view mid.ring).capacity → new.due ≡ []) where
     exactly : (result : Result Unit EnterError) → OnOk result (mid.due ≡ []) →
         OnOk result (length (view mid.ring).queue < (view mid.ring).capacity) →
@@ -274,6 +280,7 @@ module _ {R : Type 0} (view : R → RingView) (tells : Bool) where
       later = later-on (view old.ring) (view mid.ring) (view new.ring) enters.later later;
       room = λ h. less ∙ enters.same_room;
       few_done = (let a = enters.few_done in omega (arith, a, more, done));
+      few_to_come = (let a = enters.few_to_come in omega (arith, a, more, done, to_come));
       more_done = (let a = enters.more_done in omega (arith, a, done));
       told = λ h t. (pending_ring view mid, enters.told t, told t);
       exact = λ h s fits. exactly result none room pend kept s fits;

@@ -53,6 +53,10 @@ module _ {B : Type 0} (buffer : B → Buffer) (v : RingView) (slots : FinMap nat
   pub close-named : target c.word ≡ Handle k
   close-named = ap (λ x. target x.word) fin.answer ∙ close-target buffer v slots L place fin.flight k old fin.there closes
 
+  -- So does its serial.
+  close-serial : c.serial ≡ k
+  close-serial = ap (λ x. x.serial) fin.answer ∙ ap (λ e. e.serial) (here buffer v slots L place fin.flight k old fin.there closes).0
+
   not-slot : names_slot (target c.word) ≡ true → ⊥
   not-slot q = (let z : false ≡ true = sym (ap names_slot close-named) ∙ q in cc)
 
@@ -63,7 +67,7 @@ module _ {B : Type 0} (buffer : B → Buffer) (v : RingView) (slots : FinMap nat
     in_slots = old.in_slots;
     in_lists = lists-finished buffer slots slots v v' place told sent got c fin L L.ops L.world (Item.Close k) old.in_lists
         (ap (done_items_in c) close-named) (λ x a. a) (λ i x h q a. a) (λ x a. a)
-        (subst (λ t. DoneFor slots L.ops c t) (sym close-named) tt) (λ i x h p q. absurd (not-slot q));
+        (subst (λ t. DoneFor slots L.ops c t) (sym close-named) close-serial) (λ i x h p q. absurd (not-slot q));
   }
 
 -- An executed close changes no payload.

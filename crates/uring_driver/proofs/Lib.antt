@@ -36,6 +36,7 @@ mod Closings
 mod Lefts
 mod Letting
 mod Answering
+mod Arriving
 mod Starting
 mod Submitting
 mod Submits

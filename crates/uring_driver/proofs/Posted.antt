@@ -130,6 +130,7 @@ module _ {R : Type 0} (view : R → RingView) (tells steady : Bool) where
         later = later-on (view a.ring) (view b.ring) (view c.ring) f.later g.later;
         room = (let x = f.room in let y = g.room in omega (arith, x, y, many));
         few = (let x = f.few in let y = g.few in omega (arith, x, y, long, many));
+        few_to_come = (let x = f.few_to_come in let y = g.few_to_come in omega (arith, x, y, long, many));
         kept = (let x = f.kept in let y = g.kept in omega (arith, x, y, long));
         same = λ none.
             let x = f.same (none-first q q' none) in
@@ -156,6 +157,7 @@ module _ {R : Type 0} (view : R → RingView) (tells steady : Bool) where
         later = off.later;
         room = omega (arith, room);
         few = (let d = off.one_less in let q = off.same_queue in omega (arith, d, q, same));
+        few_to_come = (let d = off.one_less in let q = off.same_queue in let m = off.no_more in omega (arith, d, q, m, same));
         kept = (let d = off.one_less in omega (arith, d));
         same = λ none. record { queue = off.same_queue; due = due; done = off.one_less };
         told = λ shows. record {
@@ -180,6 +182,7 @@ module _ {R : Type 0} (view : R → RingView) (tells steady : Bool) where
     later = later-same (view p.ring) (view p.ring).spare;
     room = omega arith;
     few = omega arith;
+    few_to_come = omega arith;
     kept = omega arith;
     same = λ none. record { queue = refl; due = refl; done = omega arith };
     told = λ shows. record {
@@ -197,6 +200,7 @@ module _ {R : Type 0} (view : R → RingView) (tells steady : Bool) where
     later = posts.later;
     room = posts.room some;
     few = (let a = posts.few_done in omega (arith, a));
+    few_to_come = (let a = posts.few_to_come in omega (arith, a));
     kept = (let a = posts.more_done in omega (arith, a));
     same = λ none. (let f : ⊥ = cc in absurd f);
     told = λ shows. (

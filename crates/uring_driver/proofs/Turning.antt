@@ -26,12 +26,12 @@ use Rattle.uring_driver.specs.declared.uring.turn.Named.{Named}
 use Rattle.uring_driver.specs.Holding.{HandlesStand}
 use Rattle.uring_driver.specs.Stands.{Stands, Answers, owed}
 use Rattle.uring_driver.specs.Uring.{ring_in, due_in, room_in, pending, whole_ring}
-use Rattle.uring_driver.specs.Submissions.{Enters, with_spare}
+use Rattle.uring_driver.specs.Submissions.{Arrives, EnteredFor, with_spare}
 use Rattle.uring_driver.specs.Lists.{queued_of}
 use Rattle.uring_driver.specs.Reap.{Treated, treat_each}
 use Rattle.uring_driver.specs.Reaps.{FitsQueue, closes_of, posted, KeepsUp}
 use Rattle.uring_driver.specs.Turned.{taken_front, reaped_out, TurnsTo, TurnsFor}
-use Rattle.uring_driver.specs.Begun.{EnteredFor, HasBegun, why_stopped}
+use Rattle.uring_driver.specs.Begun.{HasBegun, why_stopped}
 use Rattle.uring_driver.proofs.Amid.{Amid}
 use Rattle.uring_driver.proofs.Answering.{groups-still, answers-parts, fits-of}
 use Rattle.uring_driver.proofs.Begins.{amid-of, amid-front, amid-all}
@@ -75,7 +75,7 @@ module _ {R B : Type 0} (view : R → RingView) (buffer : B → Buffer) (tells s
   }
   says = told-is view tells steady old mid new begun turned named bad has ends reaped closed woken
 
-  abbrev entered : Enters view tells old.ring mid.ring
+  abbrev entered : Arrives view tells old.ring mid.ring
   entered = enters view tells steady old mid new begun turned named bad has ends reaped closed woken
 
   -- What is pending after the enter fits the queue.
@@ -95,7 +95,7 @@ module _ {R B : Type 0} (view : R → RingView) (buffer : B → Buffer) (tells s
   amid-mid K amid = subst (λ h. Amid buffer (whole_ring view mid) mid.slots.values h K) (sym has.same.holding)
       (subst (λ m. Amid buffer (whole_ring view mid) m old.holding K) (sym has.same.slots) amid)
 
-  later-mid : (enter : Enters view tells old.ring mid.ring) → Amid buffer (whole_ring view mid) mid.slots.values mid.holding
+  later-mid : (enter : Arrives view tells old.ring mid.ring) → Amid buffer (whole_ring view mid) mid.slots.values mid.holding
       (taken_front (enter.told shows).count L)
   later-mid enter =
       let front = enter.told shows in
@@ -221,7 +221,7 @@ module _ {R B : Type 0} (view : R → RingView) (buffer : B → Buffer) (tells s
         ∙ (stays-take_each (record L { queue = [] }) L.queue).world)
 
   -- A prefix of the queue has no more entries than the queue.
-  within-queue : (enter : Enters view tells old.ring mid.ring) → (enter.told shows).count ≤ length L.queue
+  within-queue : (enter : Arrives view tells old.ring mid.ring) → (enter.told shows).count ≤ length L.queue
   within-queue enter =
       let w = (enter.told shows).took.within in
       let l = ap length stands.ring.in_lists.queue ∙ length-map (whole_ring view old).queue queued_of in

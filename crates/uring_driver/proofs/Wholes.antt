@@ -26,8 +26,9 @@ use Rattle.uring_driver.specs.Reap.{treat_each}
 use Rattle.uring_driver.specs.Reaps.{ReapsAll, PendingJoins, EndsWith, closes_of, waiting_in, midway_of}
 use Rattle.uring_driver.specs.Turned.{TreatsNone, StopsFor, TreatsFor, TurnsFor, TurnMeets}
 use Rattle.uring_driver.specs.Turned.{IsCalm, GivesNoStray, GoesOn}
-use Rattle.uring_driver.specs.Begun.{EnteredFor, HasBegun, CannotBegin, why_stopped}
-use Rattle.uring_driver.proofs.Ending.{ends-of, moves, stops, treats}
+use Rattle.uring_driver.specs.Submissions.{EnteredFor}
+use Rattle.uring_driver.specs.Begun.{HasBegun, CannotBegin, TookReady, is_at_hand, why_stopped}
+use Rattle.uring_driver.proofs.Ending.{ends-of, moves, stops, treats, took}
 use Rattle.uring_driver.proofs.Turning.{turns}
 
 -- Where no more is left than joined, what is left are the last that joined.
@@ -72,31 +73,41 @@ module _ {R B : Type 0} (view : R → RingView) (buffer : B → Buffer) (tells s
       (IsTrue steady → due_in mid ≡ [] → due_in new ≡ []) → KeepsNumbers mid.slots.values new.slots.values → new.given ≡ mid.given →
       new.members ≡ mid.members →
       turned.reaped ≡ named.reaped.items → turned.closed ≡ named.closed.items → turned.woken ≡ named.woken.items →
-      turned.stop ≡ why_stopped bad begun.busy → TurnMeets view buffer tells steady old new turned
+      turned.stop ≡ why_stopped bad begun.busy →
+      (meets : TurnMeets view buffer tells steady old new turned)
+      × TookReady view tells old new turned meets.queued turned.stop meets.treats (is_at_hand view mid begun)
   whole old mid new begun turned named bad has reaps making due numbers given members reaped closed woken stop =
       let ends = ends-of view tells steady mid new begun.named named bad reaps in
       let queued = (treat_each mid.slots.values mid.holding ends.reaps.taken).queued in
       let stopped_by = subst (λ s. StopsFor view old new turned queued s) (sym stop)
       (stops view tells steady old mid new begun turned named bad has ends reaped closed woken) in
-      let treated_by = subst (λ s. TreatsFor view tells old new turned queued s) (sym stop)
-      (treats view tells steady old mid new begun turned named bad has ends reaped closed woken) in
-      let moved = moves view tells steady old mid new begun turned named bad has ends reaped closed woken in
-      record {
-        queued = queued;
-        turns = λ shows L stands. subst (λ s. TurnsFor view buffer steady L old new turned queued s) (sym stop)
-            (turns view buffer tells steady old mid new begun turned named bad has ends reaped closed woken given members numbers
-            shows L stands making);
-        stops = stopped_by;
-        treats = treated_by;
-        moves = moved;
-        entered = λ shows none. all-entered old new turned queued stopped_by (moved shows) none;
-        none_due = λ always none. due always (none-due old mid begun.busy has.entered always);
-        complete = goes-on old new turned queued turned.stop stopped_by treated_by;
-        tokens = tokens-kept old.slots.values new.slots.values
-            (subst (λ slots. KeepsNumbers slots new.slots.values) has.same.slots numbers);
-        given = given ∙ has.same.given;
-        members = members ∙ has.same.members;
-      }
+      let both =
+      subst
+      (λ s. (t : TreatsFor view tells old new turned queued s)
+      × TookReady view tells old new turned queued s t (is_at_hand view mid begun)) (sym stop) (
+        treats view tells steady old mid new begun turned named bad has ends reaped closed woken,
+        took view tells steady old mid new begun turned named bad has ends reaped closed woken,
+      ) in
+      let treated_by = both.0 in
+      let moved = moves view tells steady old mid new begun turned named bad has ends reaped closed woken in (
+        record {
+          queued = queued;
+          turns = λ shows L stands. subst (λ s. TurnsFor view buffer steady L old new turned queued s) (sym stop)
+              (turns view buffer tells steady old mid new begun turned named bad has ends reaped closed woken given members numbers
+              shows L stands making);
+          stops = stopped_by;
+          treats = treated_by;
+          moves = moved;
+          entered = λ shows none. all-entered old new turned queued stopped_by (moved shows) none;
+          none_due = λ always none. due always (none-due old mid begun.busy has.entered always);
+          complete = goes-on old new turned queued turned.stop stopped_by treated_by;
+          tokens = tokens-kept old.slots.values new.slots.values
+              (subst (λ slots. KeepsNumbers slots new.slots.values) has.same.slots numbers);
+          given = given ∙ has.same.given;
+          members = members ∙ has.same.members;
+        },
+        both.1,
+      )
     where
       none-due : (a b : IoUringDriver R B) (busy : Bool) → EnteredFor view tells steady a.ring b.ring busy → IsTrue steady → due_in b ≡ []
       none-due a b false enter always = enter.2

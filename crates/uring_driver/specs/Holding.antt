@@ -17,6 +17,14 @@ pub record Holding : Type 0 where
   pub closing : Table
   pub makers : ℕ
 
+-- Nobody holds a handle, and none is closing.
+abbrev pub no_holding : Holding
+no_holding = record {
+  table = record { holders = map.empty; spare = 0 };
+  closing = record { holders = map.empty; spare = 0 };
+  makers = 0;
+}
+
 -- It is stored as the tuple of its fields.
 abbrev pub holding_code : Coded Holding
 holding_code = code_by (Table × (Table × ℕ)) (coded× table_code (coded× table_code coded_ℕ))

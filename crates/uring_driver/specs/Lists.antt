@@ -104,10 +104,11 @@ FlightFor buffer slots ops flight (Calls call) = EntryFor buffer slots flight.en
 FlightFor buffer slots ops flight (Cancels key) = ⊥
 FlightFor buffer slots ops flight (Closes h) = (flight.entry ≡ close_entry h) × (h < MOST_HANDLES) × (flight.marked ≡ false)
 
--- What is done, by what its word names: a slot is that of an operation that is done with this outcome, and another word says nothing.
+-- What is done, by what its word names: a slot is that of an operation that is done with this outcome, a handle's close has its number as
+-- its serial too, and a reserved word says nothing.
 abbrev pub DoneFor : {B : Type 0} → finite.FinMap nat_cmp (Slot B) → List Operation → Completion → Target → Type 0
 DoneFor slots ops completion (Keyed key) = CompletionFor slots completion × IsAt ops completion.serial (InDone completion.outcome)
-DoneFor slots ops completion (Handle h) = ⊤
+DoneFor slots ops completion (Handle h) = completion.serial ≡ h
 DoneFor slots ops completion (Reserved word) = ⊤
 
 -- An entry has a cancel's key exactly where it has the cancel's number.

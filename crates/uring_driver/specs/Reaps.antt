@@ -16,7 +16,7 @@ use Rattle.uring_driver.specs.Holding.{Holding}
 use Rattle.uring_driver.specs.Pending.{Pending}
 use Rattle.uring_driver.specs.declared.uring.IoUringDriver.{IoUringDriver}
 use Rattle.uring_driver.specs.Op.{ops_in}
-use Rattle.uring_driver.specs.Submissions.{with_spare, room_made, pending_ring, PostsEach}
+use Rattle.uring_driver.specs.Submissions.{with_spare, room_made, pending_ring, expected_in, PostsEach}
 use Rattle.uring_driver.specs.Reap.{Treated, treat_each}
 
 -- How many completions are ready and how many entries are pending, together.
@@ -71,8 +71,9 @@ pub record ReapsRing {R : Type 0} (view : R → RingView) (tells steady : Bool) 
     (queued : List ℕ) : Type 0 where
   pub later : IsLater (view old.ring) (view new.ring)
   pub room : new.room + length queued ≡ old.room
-  -- No more is ready and pending than was, and none that was ready is lost.
+  -- No more is ready and pending than was, nor with what is to come, and none that was ready is lost.
   pub few : waiting_in view new + length taken ≤ waiting_in view old + length queued
+  pub few_to_come : expected_in view new + length taken ≤ expected_in view old + length queued
   pub kept : length (view old.ring).done ≤ length (view new.ring).done + length taken
   pub same : queued ≡ [] → IsSameBut view old new (length taken)
   pub told : IsTrue tells → ShowsReaps (pending_ring view old) (pending_ring view new) taken queued

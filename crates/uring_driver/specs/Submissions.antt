@@ -1,6 +1,6 @@
 -- The ring as the driver uses it: what is pending, and what entering it and joining it do. Cited by `Submissions`, and by the
 -- driver's calls.
-use Rattle.std.specs.Prelude.{ℕ, ◌≡◌, ◌+◌, ◌<◌, ◌≤◌, ◌==◌, ◌⊎◌, if◌then◌else◌, Bool, IsTrue, List, [], ◌∷◌, ◌++◌, length, drop}
+use Rattle.std.specs.Prelude.{ℕ, ◌≡◌, ◌+◌, ◌<◌, ◌≤◌, ◌==◌, ◌⊎◌, if◌then◌else◌, Bool, true, false, IsTrue, List, [], ◌∷◌, ◌++◌, length, drop}
 use Rattle.ring_core.specs.Counts.{Rose}
 use Rattle.ring_core.specs.declared.entry.Entry.{Entry}
 use Rattle.ring_core.specs.declared.ring.EnterError.{EnterError}
@@ -39,20 +39,40 @@ pending_ring view out = with_due (view out.ring) out.due
 abbrev pub IsSameButWorld : Pending RingView → Pending RingView → Type 0
 IsSameButWorld old new = new ≡ record old { ring = with_world old.ring new.ring.world }
 
+-- How many completions are ready, how many may come of what is pending, and how many are still to come by themselves, together.
+abbrev pub expected_in : {R : Type 0} → (R → RingView) → Pending R → ℕ
+expected_in view out = (length (view out.ring).done + (length (view out.ring).queue + length out.due)) + (view out.ring).to_come
+
 -- A prefix of what is pending was taken, of some length.
 pub record TakesFront (old new : RingView) : Type 0 where
   pub count : ℕ
   pub took : TookFront count old new
 
--- What is pending went towards the ring, and a prefix of it was taken, with at most one completion for each of its entries. No completion
--- was lost.
+-- What is pending went towards the ring, and a prefix of it was taken, with at most one completion for each of its entries, that came or
+-- is to come. No completion was lost.
 pub record Enters {R : Type 0} (view : R → RingView) (tells : Bool) (old new : Pending R) : Type 0 where
   pub later : IsLater (view old.ring) (view new.ring)
   pub few_done : length (view new.ring).done + (length (view new.ring).queue + length new.due) ≤
       length (view old.ring).done + (length (view old.ring).queue + length old.due)
+  pub few_to_come : expected_in view new ≤ expected_in view old
   pub more_done : length (view old.ring).done ≤ length (view new.ring).done
   pub same_room : new.room ≡ old.room
   pub told : IsTrue tells → TakesFront (pending_ring view old) (pending_ring view new)
+
+-- What is pending went towards the ring, and then the completions that came by themselves became ready. A prefix of what was pending was
+-- taken, and each completion that came is of an entry that was taken now, or of those that were to come. None was lost.
+pub record Arrives {R : Type 0} (view : R → RingView) (tells : Bool) (old new : Pending R) : Type 0 where
+  pub later : IsLater (view old.ring) (view new.ring)
+  pub few_to_come : expected_in view new ≤ expected_in view old
+  pub more_done : length (view old.ring).done ≤ length (view new.ring).done
+  pub same_room : new.room ≡ old.room
+  pub told : IsTrue tells → TakesFront (pending_ring view old) (pending_ring view new)
+
+-- What the enter of a turn that goes on did: all that was pending was taken, or the ring was busy, which a steady one never is.
+abbrev pub EnteredFor : {R : Type 0} → (R → RingView) → Bool → Bool → Pending R → Pending R → Bool → Type 0
+EnteredFor view tells steady old new false = Arrives view tells old new × ((view new.ring).queue ≡ []) × (new.due ≡ [])
+EnteredFor view tells steady old new true = Arrives view tells old new × Rose (view old.ring).busies (view new.ring).busies ×
+    (IsTrue steady → ⊥)
 
 -- The next entry can't go in before an enter: the queue is full, or an entry is due.
 abbrev pub MustEnter : {R : Type 0} → (R → RingView) → Pending R → Type 0
@@ -69,6 +89,7 @@ pub record Posts {R : Type 0} (view : R → RingView) (tells steady : Bool) (old
   pub room : 0 < old.room → new.room + 1 ≡ old.room
   pub few_done : length (view new.ring).done + (length (view new.ring).queue + length new.due) ≤
       length (view old.ring).done + (length (view old.ring).queue + length old.due) + 1
+  pub few_to_come : expected_in view new ≤ expected_in view old + 1
   pub more_done : length (view old.ring).done ≤ length (view new.ring).done
   pub told : 0 < old.room → IsTrue tells → (mid : RingView) × TakesFront (pending_ring view old) mid ×
       (pending_ring view new ≡ with_spare (pushed mid entry) (view new.ring).spare)

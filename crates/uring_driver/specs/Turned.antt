@@ -17,7 +17,7 @@ use Rattle.uring_driver.specs.declared.uring.IoUringDriver.{IoUringDriver}
 use Rattle.uring_driver.specs.Holding.{HandlesStand}
 use Rattle.uring_driver.specs.Uring.{ring_in, due_in, pending, whole_ring, given_by, holding_in, members_in}
 use Rattle.uring_driver.specs.Op.{KeepsTokens, ops_in as operations_in}
-use Rattle.uring_driver.specs.Submissions.{TakesFront, Enters}
+use Rattle.uring_driver.specs.Submissions.{TakesFront, Enters, expected_in}
 use Rattle.uring_driver.specs.Stands.{RingStands, Stands, Answers}
 use Rattle.uring_driver.specs.Reap.{HasStray, treat_each}
 use Rattle.uring_driver.specs.Reaps.{waiting_in, closes_of, PendingJoins, EndsWith, KeepsUp}
@@ -57,8 +57,8 @@ pub record TreatsReady {R B : Type 0} (view : R → RingView) (old new : IoUring
   pub more : List Completion
   pub left : (view (ring_in new)).done ≡ rest ++ more
 
--- What a turn treated, over any ring: completions were taken off, and it did and named what they come to, and no more. What is ready and
--- pending grew by no more than the closes that were queued.
+-- What a turn treated, over any ring: completions were taken off, and it did and named what they come to, and no more. What is ready,
+-- pending and to come grew by no more than the closes that were queued.
 pub record TreatsTaken {R B : Type 0} (view : R → RingView) (tells : Bool) (old new : IoUringDriver R B) (turned : Turned)
     (queued : List ℕ) (bad : Option ℕ) : Type 0 where
   pub taken : List Completion
@@ -72,7 +72,7 @@ pub record TreatsTaken {R B : Type 0} (view : R → RingView) (tells : Bool) (ol
     bad = bad;
     left = [];
   }
-  pub few : waiting_in view new.ring + length taken ≤ waiting_in view old.ring + length queued
+  pub few : expected_in view new.ring + length taken ≤ expected_in view old.ring + length queued
   pub shown : IsTrue tells → TreatsReady view old new taken bad
 
 -- What a turn treated, by why it stopped: at a bad completion as at none. Where the ring failed, it only entered what was pending, and no

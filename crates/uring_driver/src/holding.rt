@@ -5,7 +5,7 @@ ghost use Rattle.handle_core.specs.Table.{IsHeld, holders_at, with_holders, with
 ghost use Rattle.handle_core.specs.Table.{with_operation};
 ghost use Rattle.ring_core.specs.Request.{listed};
 ghost use Rattle.driver_core.specs.Holds.{is_nobody, left_holders, with_ops, CanJoin};
-ghost use Rattle.uring_driver.specs.Holding.{closes, knows, user_count, is_users, settle, user_left, close_reaped, places};
+ghost use Rattle.uring_driver.specs.Holding.{closes, knows, user_count, is_users, settle, user_left, close_reaped, places, no_holding};
 ghost use Rattle.uring_driver.specs.Making.{KeepsHolding, CanMake, op_joined, kept_if, lost_if, maker_ended, made_handed, is_old};
 ghost use Rattle.ring_core.specs.Ranks.{one_if};
 
@@ -40,11 +40,7 @@ impl Model for Handles {
 impl Handles {
     /// No handle. It takes no memory.
     pub fn new(alloc: Global) -> Handles
-        ensures { result ≡ record {
-          table = record { holders = map.empty; spare = 0 };
-          closing = record { holders = map.empty; spare = 0 };
-          makers = 0;
-        } }
+        ensures { result ≡ no_holding }
     {
         Handles {
             table: HandleTable::new(alloc),

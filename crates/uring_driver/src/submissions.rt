@@ -6,7 +6,8 @@ ghost use Rattle.ring_core.specs.World.{fresh, look_at, WorldFeeds, WorldFeedsMe
 ghost use Rattle.ring_core.specs.Lends.{with_world};
 ghost use Rattle.ring_core.specs.MemRing.{ExecutesFor};
 ghost use Rattle.uring_driver.specs.Finish.{over_ring, injected};
-ghost use Rattle.uring_driver.specs.Submissions.{with_spare, room_made, pending_ring, IsSameButWorld, Enters, MustEnter, KeptOut, Posts};
+ghost use Rattle.uring_driver.specs.Submissions.{with_spare, room_made, pending_ring, expected_in, IsSameButWorld};
+ghost use Rattle.uring_driver.specs.Submissions.{Enters, EnteredFor, MustEnter, KeptOut, Posts};
 
 use rent_buf::OutOfMemory;
 use ring_core::{
@@ -94,15 +95,15 @@ impl<R: Ring> Submissions<R> {
         self.ring.standing()
     }
 
-    /// How many completions are ready, and how many entries are queued or due; None where that is no `usize`.
-    pub fn waiting(&self) -> Option<usize>
-        ensures some { IfSome result (λ n. n ≡
-            length (R.view self.now.ring).done + (length (R.view self.now.ring).queue + length self.now.due)) }
-        ensures none { IfNone result (2 ^ 64 ≤
-            length (R.view self.now.ring).done + (length (R.view self.now.ring).queue + length self.now.due)) }
+    /// How many completions are ready, how many entries are queued or due, and how many completions are to come by themselves, together;
+    /// None where that is no `usize`.
+    pub fn expected(&self) -> Option<usize>
+        ensures some { IfSome result (λ n. n ≡ expected_in R.view self.now) }
+        ensures none { IfNone result (2 ^ 64 ≤ expected_in R.view self.now) }
     {
         let pending = (self.ring.queued() as usize).checked_add(self.due.len())?;
-        self.ring.standing().checked_add(pending)
+        let waiting = self.ring.standing().checked_add(pending)?;
+        waiting.checked_add(self.ring.to_come())
     }
 
     /// Memory for `count` entries more, where there is less.
@@ -200,6 +201,7 @@ impl<R: Ring> Submissions<R> {
         ensures more { length (R.view self.new.ring).queue + length self.new.due ≡
             length (R.view self.old.ring).queue + length self.old.due + 1 }
         ensures done { length (R.view self.new.ring).done ≡ length (R.view self.old.ring).done }
+        ensures to_come { (R.view self.new.ring).to_come ≤ (R.view self.old.ring).to_come }
     {
         self.room -= 1;
         if !self.due.is_empty() {
@@ -231,6 +233,28 @@ impl<R: Ring> Submissions<R> {
     {
         flush(self)?;
         self.enter_ring()
+    }
+
+    /// What is due goes in, the ring takes its queue, and the completions that came by themselves become ready, also where the ring was
+    /// busy: it answers whether it was. None comes where the ring failed, and then none of them becomes ready.
+    #[tactic(auto, using(crate::proofs::Arriving::arrives))]
+    pub fn arrive(&mut self) -> Option<bool>
+        ensures some { IfSome result (λ busy. EnteredFor R.view R.tells R.steady self.old self.new busy) }
+        ensures none { IfNone result (KeptOut R.steady (R.view self.old.ring) (R.view self.new.ring) EnterError.Fault ×
+            Enters R.view R.tells self.old self.new) }
+        ensures room { self.new.room ≡ self.old.room }
+    {
+        match self.enter() {
+            Ok(()) => {
+                self.ring.sync();
+                Some(false)
+            }
+            Err(EnterError::Busy) => {
+                self.ring.sync();
+                Some(true)
+            }
+            Err(EnterError::Fault) => None,
+        }
     }
 
     /// Removes and returns the oldest completion.

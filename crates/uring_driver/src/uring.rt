@@ -10,14 +10,14 @@ ghost use Rattle.ring_core.specs.declared.ledger.Reply.TheVariants.{Dropped, Ask
 ghost use Rattle.driver_core.specs.declared.op.Op.{Op as Token};
 ghost use Rattle.uring_driver.specs.Op.{number_of, cancel_for, Holds, HoldsNone, KeepsTokens, DropsToken, KeepsRequests};
 ghost use Rattle.uring_driver.specs.Submissions.{IsIdle, TakesFront, PendingMoves, PendingMovesEach, with_spare, room_made, pending_ring};
-ghost use Rattle.uring_driver.specs.Uring.{ring_in, due_in, pending, whole_ring, live_slots, given_by, holds_all, members_in};
+ghost use Rattle.uring_driver.specs.Uring.{ring_in, due_in, pending, whole_ring, live_slots, given_by, holding_in, holds_all, members_in};
 ghost use Rattle.uring_driver.specs.Uring.{group_count};
 ghost use Rattle.driver_core.specs.Answers.{IsUnder};
 ghost use Rattle.driver_core.specs.Groups.{is_under_canceled, joins_if, AreInSlots};
 ghost use Rattle.driver_core.specs.Members.{none, leaves};
 ghost use Rattle.uring_driver.specs.Stands.{Stands, Answers};
 ghost use Rattle.ring_core.specs.Ranks.{one_if};
-ghost use Rattle.uring_driver.specs.Holding.{places};
+ghost use Rattle.uring_driver.specs.Holding.{places, knows, no_holding};
 ghost use Rattle.uring_driver.specs.Making.{KeepsHolding, CanMake};
 ghost use Rattle.uring_driver.specs.Dropped.{DropsOp};
 ghost use Rattle.uring_driver.specs.Submitted.{SameSlots, SubmitsFor, SubmitMoves, AddsToken, GivesRequest, JoinsFor, IsCanceled};
@@ -86,6 +86,9 @@ impl<R: Ring, B: IoBufMut + Drop> IoUringDriver<R, B> {
         ensures ring { IfOk result (λ driver. ring_in driver ≡ ring) }
         ensures none { IfOk result (λ driver. (live_slots driver ≡ 0) × (given_by driver ≡ 0) × HoldsNone driver) }
         ensures due { IfOk result (λ driver. due_in driver ≡ []) }
+        // Nobody holds a handle, also where the ring has some: none is known, so each may be adopted.
+        ensures handles { IfOk result (λ driver. holding_in driver ≡ no_holding) }
+        ensures known { IfOk result (λ driver. (h : ℕ) → knows (holding_in driver) h ≡ false) }
         ensures groups { IfOk result (λ driver. members_in driver ≡ none) }
         ensures err { IfErr result (λ e. e.1 ≡ ring) }
     {

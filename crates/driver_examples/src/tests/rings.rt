@@ -47,12 +47,13 @@ impl HastyRing {
     }
 }
 
-// What is in flight at a place fails.
-fn fail_at(ring: &mut MemRing, place: usize, alloc: Global)
+/// What is in flight at a place fails.
+pub(crate) fn fail_at(ring: &mut MemRing, place: usize, alloc: Global)
     ensures queue { ring.new.queue ≡ ring.old.queue }
     ensures capacity { ring.new.capacity ≡ ring.old.capacity }
     ensures spare { ring.new.spare ≡ ring.old.spare }
     ensures counts { (ring.new.faults ≡ ring.old.faults) × (ring.new.busies ≡ ring.old.busies) }
+    ensures to_come { ring.new.to_come ≡ ring.old.to_come }
     ensures more { length ring.old.done ≤ length ring.new.done }
     ensures few { length ring.new.done ≤ length ring.old.done + 1 }
 {
@@ -73,6 +74,7 @@ fn fail_each(ring: &mut MemRing, count: usize, from_end: bool, alloc: Global)
     ensures capacity { ring.new.capacity ≡ ring.old.capacity }
     ensures spare { ring.new.spare ≡ ring.old.spare }
     ensures counts { (ring.new.faults ≡ ring.old.faults) × (ring.new.busies ≡ ring.old.busies) }
+    ensures to_come { ring.new.to_come ≡ ring.old.to_come }
     ensures more { length ring.old.done ≤ length ring.new.done }
     ensures few { length ring.new.done ≤ length ring.old.done + count }
 {
@@ -103,6 +105,10 @@ impl Ring for HastyRing {
         self.ring.standing()
     }
 
+    fn to_come(&self) -> usize {
+        self.ring.to_come()
+    }
+
     fn reserve(&mut self, n: usize) -> Result<(), OutOfMemory> {
         self.ring.reserve(n)
     }
@@ -127,6 +133,8 @@ impl Ring for HastyRing {
             Err(why) => Err(why),
         }
     }
+
+    fn sync(&mut self) {}
 
     fn next(&mut self) -> Option<Completion> {
         let Some(completion) = self.ring.next() else {

@@ -1,12 +1,13 @@
 //! Turns and parks of the completion driver: a park is a turn that may wait for wakers of other threads in its middle.
-ghost use Rattle.std.specs.Prelude.{◌≡◌, ◌+◌, [], false, length};
+ghost use Rattle.std.specs.Prelude.{◌≡◌, ◌+◌, [], false, length, Some, None, IfNone};
 ghost use Rattle.ring_core.specs.declared.ledger.Event.TheVariants.{Turn};
 ghost use Rattle.ring_core.specs.Step.{step};
+ghost use Rattle.ring_core.specs.Ledger.{Ledger as Machine};
 ghost use Rattle.wake_core.specs.WakerList.{IsInOrder};
 ghost use Rattle.uring_driver.specs.Op.{KeepsRequests};
 ghost use Rattle.uring_driver.specs.Stands.{StandsIfSteady};
 ghost use Rattle.uring_driver.specs.Turned.{TurnMeets};
-ghost use Rattle.uring_driver.specs.Parked.{DrainsFor};
+ghost use Rattle.uring_driver.specs.Parked.{DrainsFor, ParksFor};
 
 use crate::uring::IoUringDriver;
 use driver_core::{Driver, Parked, Turned};
@@ -31,9 +32,9 @@ impl<R: Ring, B: IoBufMut + Drop> Driver for IoUringDriver<R, B> {
 
     ghost legacy = { false };
 
-    /// Room is made once, for as many numbers as are ready, queued and due. A list that names nobody stays with the driver: so a list
-    /// takes memory only after a turn named somebody in it, or to grow. After Busy what was ready is treated. Where the slot of a
-    /// dropped operation goes, the close of each handle that nobody holds any more joins what is pending; a later turn names it.
+    /// Room is made once, for as many numbers as are ready, queued, due and to come by themselves. A list that names nobody stays with the
+    /// driver: so a list takes memory only after a turn named somebody in it, or to grow. After Busy what is ready is treated. Where the
+    /// slot of a dropped operation goes, the close of each handle that nobody holds any more joins what is pending; a later turn names it.
     /// (monoio: `submit`)
     fn submit(&mut self) -> Turned {
         match self.begin_turn() {
@@ -42,13 +43,28 @@ impl<R: Ring, B: IoBufMut + Drop> Driver for IoUringDriver<R, B> {
         }
     }
 
-    /// Where the turn stops with `RingFault` or `OutOfMemory`, the sleeper makes no step. After Busy it makes its steps and
-    /// doesn't wait. (monoio: `park`)
+    /// It comes to its wait exactly if its turn treats no completion and doesn't stop, and both drains give nothing. Where the turn stops
+    /// with `RingFault` or `OutOfMemory`, the sleeper makes no step. After Busy it makes its steps and doesn't wait. (monoio: `park`)
+    ///
+    /// A completion that comes to the ring by itself meanwhile doesn't end the wait: the next turn treats it. So over a ring of which some
+    /// are to come, give the wait a limit by `park_timeout`.
     fn park<P: Ledger, D: Ledger, T: Wait + Clock>(
         &mut self,
         rt: &T,
         sleeper: &mut Sleeper<P, D>,
-    ) -> Parked {
+    ) -> Parked
+        ensures turns { TurnMeets R.view B.buffer R.tells R.steady self.old self.new result.turned }
+        ensures keeps { KeepsRequests self.old self.new }
+        ensures stands { IfNone result.turned.stop ((L : Machine) →
+            StandsIfSteady R.view B.buffer R.steady self.old L → StandsIfSteady R.view B.buffer R.steady self.new (step L Turn).0) }
+        ensures made { sleeper.new.made ≡ sleeper.old.made }
+        ensures taken { sleeper.new.taken ≡ (sleeper.old.taken + length result.remote.first) + length result.remote.again }
+        ensures order { IsInOrder result.remote.first × IsInOrder result.remote.again }
+        ensures drains { DrainsFor result.turned.stop None sleeper.old sleeper.new result.remote }
+
+        // It came to its wait exactly where its turn treated no completion, and nothing was drained.
+        ensures parks { ParksFor R.view B.buffer R.tells R.steady None self.old self.new sleeper.new result }
+    {
         park_for(rt, self, sleeper, None)
     }
 
@@ -58,7 +74,19 @@ impl<R: Ring, B: IoBufMut + Drop> Driver for IoUringDriver<R, B> {
         rt: &T,
         sleeper: &mut Sleeper<P, D>,
         millis: u64,
-    ) -> Parked {
+    ) -> Parked
+        ensures turns { TurnMeets R.view B.buffer R.tells R.steady self.old self.new result.turned }
+        ensures keeps { KeepsRequests self.old self.new }
+        ensures stands { IfNone result.turned.stop ((L : Machine) →
+            StandsIfSteady R.view B.buffer R.steady self.old L → StandsIfSteady R.view B.buffer R.steady self.new (step L Turn).0) }
+        ensures made { sleeper.new.made ≡ sleeper.old.made }
+        ensures taken { sleeper.new.taken ≡ (sleeper.old.taken + length result.remote.first) + length result.remote.again }
+        ensures order { IsInOrder result.remote.first × IsInOrder result.remote.again }
+        ensures drains { DrainsFor result.turned.stop (Some millis) sleeper.old sleeper.new result.remote }
+
+        // It came to its wait exactly where its turn treated no completion, and nothing was drained.
+        ensures parks { ParksFor R.view B.buffer R.tells R.steady (Some millis) self.old self.new sleeper.new result }
+    {
         park_for(rt, self, sleeper, Some(millis))
     }
 
@@ -68,7 +96,6 @@ impl<R: Ring, B: IoBufMut + Drop> Driver for IoUringDriver<R, B> {
 }
 
 // A turn with the sleeper's steps in its middle. They wait no longer than the limit, in milliseconds.
-#[tactic(auto, using(crate::proofs::Parks::makes_round, crate::proofs::Parks::drains_for_treated))]
 fn park_for<R: Ring, B: IoBufMut + Drop, P: Ledger, D: Ledger, T: Wait + Clock>(
     rt: &T,
     driver: &mut IoUringDriver<R, B>,
@@ -81,6 +108,7 @@ fn park_for<R: Ring, B: IoBufMut + Drop, P: Ledger, D: Ledger, T: Wait + Clock>(
     ensures taken { sleeper.new.taken ≡ (sleeper.old.taken + length result.remote.first) + length result.remote.again }
     ensures order { IsInOrder result.remote.first × IsInOrder result.remote.again }
     ensures drains { DrainsFor result.turned.stop limit sleeper.old sleeper.new result.remote }
+    ensures parks { ParksFor R.view B.buffer R.tells R.steady limit driver.old driver.new sleeper.new result }
 {
     match driver.begin_turn() {
         Ok(begun) => {

@@ -11,7 +11,7 @@ ghost use Rattle.uring_driver.specs.Op.{ops_in};
 ghost use Rattle.uring_driver.specs.Reap.{HasRoom, treat_one};
 ghost use Rattle.uring_driver.specs.Reaps.{Treats, PostsAll, Reaps, ReapsAll, midway};
 ghost use Rattle.uring_driver.specs.Uring.{ring_in};
-ghost use Rattle.uring_driver.specs.Begun.{HasBegun, CannotBegin, EndsTurn, HasTreated, why_stopped};
+ghost use Rattle.uring_driver.specs.Begun.{HasBegun, CannotBegin, EndsTurn, HasTreated, is_at_hand, why_stopped};
 
 use crate::holding::Handles;
 use crate::submissions::Submissions;
@@ -19,7 +19,7 @@ use crate::uring::IoUringDriver;
 use crate::uring::leave::end_op;
 use driver_core::{Operations, Stop, Turned};
 use rent_buf::{IoBufMut, NumList, OutOfMemory};
-use ring_core::{Completion, EnterError, Ring, Target};
+use ring_core::{Completion, Ring, Target};
 use std::alloc::Global;
 use std::mem;
 
@@ -58,32 +58,29 @@ pub struct Begun {
 }
 
 impl<R: Ring, B: IoBufMut + Drop> IoUringDriver<R, B> {
-    // Begins a turn: makes room for as many numbers as are ready, queued and due, and enters what is due and what is queued. It takes
-    // the memory that earlier turns left, and only what is missing anew. A ring that is busy doesn't end the turn.
+    // Begins a turn: makes room for as many numbers as are ready, queued, due and to come, enters what is due and what is queued, and has
+    // the ring show what came by itself. It takes the memory that earlier turns left, and only what is missing anew. A ring that is busy
+    // doesn't end the turn.
     pub(crate) fn begin_turn(&mut self) -> Result<Begun, Stop>
         ensures ok { IfOk result (HasBegun R.view R.tells R.steady self.old self.new) }
         ensures err { IfErr result (CannotBegin R.view R.tells R.steady self.old self.new) }
     {
-        let Some(count) = self.ring.waiting() else {
+        let Some(count) = self.ring.expected() else {
             return Err(Stop::OutOfMemory);
         };
         let Ok(named) = nobody(&mut self.spare, self.alloc, count) else {
             return Err(Stop::OutOfMemory);
         };
-        let busy = match self.ring.enter() {
-            Ok(_) => false,
-            Err(EnterError::Busy) => true,
-            Err(EnterError::Fault) => {
-                let _ = keep_empty(&mut self.spare, named);
-                return Err(Stop::RingFault);
-            }
+        let Some(busy) = self.ring.arrive() else {
+            let _ = keep_empty(&mut self.spare, named);
+            return Err(Stop::RingFault);
         };
         Ok(Begun { named, busy })
     }
 
     // A turn that was begun needn't wait: a completion is ready, or the ring was busy.
     pub(crate) fn is_ready(&self, begun: &Begun) -> bool
-        ensures { result ≡ (begun.now.busy || nat_lt 0 (length (R.view (ring_in self.now)).done)) }
+        ensures { result ≡ is_at_hand R.view self.now begun.now }
     {
         begun.busy || self.ring.ready() > 0
     }

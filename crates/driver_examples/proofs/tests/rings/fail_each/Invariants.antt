@@ -8,6 +8,7 @@ invariant-loop-i l = record {
   capacity : l.ring.capacity ≡ l.initial.ring.capacity;
   spare : l.ring.spare ≡ l.initial.ring.spare;
   counts : (l.ring.faults ≡ l.initial.ring.faults) × (l.ring.busies ≡ l.initial.ring.busies);
+  to_come : l.ring.to_come ≡ l.initial.ring.to_come;
   more : length l.initial.ring.done ≤ length l.ring.done;
   few : length l.ring.done ≤ length l.initial.ring.done + l.i;
 }

@@ -20,5 +20,6 @@ returns-in-Ok-clause-executes g c =
       spare = c.self.inside.spare;
       faults = 0;
       busies = 0;
+      to_come = 0;
     }) c.args.place c.in-Some.flight.entry c.in-Ok.outcome) c.in-Some.ensures.same c.complete.ensures.ring)
     c.complete.ensures.answer)

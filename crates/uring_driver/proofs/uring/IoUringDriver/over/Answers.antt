@@ -5,6 +5,7 @@ use Rattle.handle_core.specs.declared.table.Holders.{Holders}
 use Rattle.driver_core.specs.declared.slot.Slot.{Slot}
 use Rattle.driver_core.proofs.Placing.{in-slots-none}
 use Rattle.uring_driver.specs.Holding.{places}
+use Rattle.uring_driver.proofs.Closings.{known-none}
 use Rattle.uring_driver.proofs.Holders.{holding-none}
 use Rattle.uring_driver.proofs.Sound.{sound-empty}
 use Rattle.uring_driver.proofs.Starting.{stands-empty}
@@ -15,6 +16,9 @@ returns-clause-stands g c =
     λ world. stands-empty g.R.Ring.view g.B.IoBufMut.buffer _ c.args.ring c.new.ensures c.new-2.ensures.slots c.new-2.ensures.given
     (ap (λ x. x.table.holders) c.new-3.ensures) (ap (λ x. x.closing.holders) c.new-3.ensures) (ap (λ x. x.makers) c.new-3.ensures)
     c.new-4.ensures c.requires world
+
+pub returns-clause-known : goal.returns-clause-known
+returns-clause-known g c = λ h. known-none c.new-3.result c.new-3.ensures h
 
 pub returns-clause-none : goal.returns-clause-none
 returns-clause-none g c =

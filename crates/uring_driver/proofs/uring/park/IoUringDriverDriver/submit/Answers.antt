@@ -5,7 +5,7 @@ use Rattle.uring_driver.proofs.uring.park.IoUringDriverDriver.submit.Goals as go
 
 pub returns-in-Ok : goal.returns-in-Ok
 returns-in-Ok g c =
-    let meets = c.end_turn.ensures.meets c.args.self.now c.in-Ok.ensures.ok in
+    let meets = (c.end_turn.ensures.meets c.args.self.now c.in-Ok.ensures.ok).0 in
     record {
       turns = meets;
       keeps = subst (λ slots. StaysHeld request_in slots c.end_turn.new.self.slots.values) c.in-Ok.ensures.ok.same.slots
