@@ -1,5 +1,5 @@
 //! The command `faults CAP ENTERS`: lines are answered by the completion driver over a ring that fails and is busy as `ENTERS` says.
-ghost use Rattle.std.specs.Prelude.{◌≡◌, ◌<◌, ◌≤◌, ◌^◌, ◌+◌, ◌∷◌, ◌↔◌, [], List, ℕ, true, All, map, string_bytes, length, IfOk, IfErr, MatchOption, OnOk, IsTrue};
+ghost use Rattle.std.specs.Prelude.{◌≡◌, ◌<◌, ◌≤◌, ◌+◌, ◌∷◌, ◌↔◌, [], List, ℕ, true, map, string_bytes, length, IfOk, IfErr, MatchOption, OnOk, IsTrue};
 ghost use Rattle.rent_io.specs.Call.{reading, writing};
 ghost use Rattle.event_text.specs.TextLook.{line_end};
 ghost use Rattle.fault_run.specs.declared.session.FaultSession.{FaultSession as Session};

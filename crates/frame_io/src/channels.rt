@@ -1,5 +1,5 @@
 // The open channels of a reader.
-ghost use Rattle.std.specs.Prelude.{◌≡◌, ◌<◌, ◌++◌, ◌∷◌, [], false, true, remove, IsTrue, MatchOption};
+ghost use Rattle.std.specs.Prelude.{◌≡◌, ◌<◌, [], false, true, remove, IsTrue, MatchOption};
 ghost use Rattle.frame_io.specs.Channels.{Extends, HasPlace};
 ghost use Rattle.frame_io.specs.Frames.{bytes_of, is_open, without};
 

@@ -1,5 +1,5 @@
 //! A source that is lent to a reader and comes back.
-ghost use Rattle.std.specs.Prelude.{◌≡◌, ◌≤◌, ◌<◌, ◌⊎◌, ℕ, List, [], IsTrue, true, false, length, IfOk, OnOk, OnErr};
+ghost use Rattle.std.specs.Prelude.{◌≡◌, ◌≤◌, ◌<◌, ℕ, List, [], IsTrue, true, false, length, IfOk, OnOk, OnErr};
 ghost use Rattle.rent_io.specs.Counts.{Rose};
 ghost use Rattle.rent_io.specs.Source.{Gives};
 ghost use Rattle.frame_run.specs.Places.{SourceAt, StopsFor, left_of};

@@ -1,14 +1,14 @@
 -- What a call on one operation leaves of the others.
-use Rattle.std.proofs.Common.{ℕ, ◌≡◌, ap, sym, refl, subst, Option, Some, None, Ok, Err, arith}
+use Rattle.std.proofs.Common.{◌≡◌, ap, sym, refl, subst, Option, Some, None, Ok, Err, arith}
 use Rattle.std.specs.Prelude.{Result}
 use Rattle.rent_buf.specs.Parts.{Parts}
-use Rattle.rent_buf.specs.Rent.{Rented, buffer_of_rent}
+use Rattle.rent_buf.specs.Rent.{Rented}
 use Rattle.rent_buf.specs.declared.fault.OutOfMemory.{OutOfMemory as NoMemory}
 use Rattle.ring_core.specs.declared.request.Request.{Request}
 use Rattle.driver_core.specs.declared.op.Op.{Op}
 use Rattle.driver_core.specs.declared.op.PollOp.{PollOp}
 use Rattle.driver_core.specs.declared.op.PollOp.TheVariants.{Pending, Ready}
-use Rattle.driver_core.specs.Op.{AddsToken, DropsToken, Holds, KeepsTokens, number_of}
+use Rattle.driver_core.specs.Op.{AddsToken, DropsToken, KeepsTokens, number_of}
 use Rattle.driver_core.specs.Ops.{Ops}
 use Rattle.driver_core.specs.Requests.{KeepsRequests, request_at}
 use Rattle.ready_driver.specs.Awaits.{TokensFor}

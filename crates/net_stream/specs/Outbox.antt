@@ -5,7 +5,7 @@ use Rattle.rent_io.specs.declared.poll.PollBuf.{PollBuf}
 use Rattle.rent_io.specs.declared.poll.PollBuf.TheVariants.{Ready, Pending, Again}
 use Rattle.rent_io.specs.declared.poll.PollCount.{PollCount}
 use Rattle.rent_io.specs.declared.poll.PollCount.TheVariants.{Ready as CountReady, Pending as CountPending, Again as CountAgain}
-use Rattle.rent_io.specs.Counts.{Counts, Rose, no_counts}
+use Rattle.rent_io.specs.Counts.{Counts, no_counts}
 use Rattle.rent_io.specs.Polls.{Fails as FailsBy, Pauses}
 use Rattle.rent_io.specs.Writer.{Writer}
 use Rattle.net_stream.specs.declared.tally.Turn.{Turn}

@@ -1,5 +1,5 @@
 //! What came at a connection, and its stream to read.
-ghost use Rattle.std.specs.Prelude.{◌≡◌, ◌≤◌, ◌⊎◌, true, false, None, Some, length, drop, IfOk, IsTrue, []};
+ghost use Rattle.std.specs.Prelude.{◌≡◌, ◌≤◌, true, false, None, Some, length, drop, IfOk, IsTrue, []};
 ghost use Rattle.rent_buf.specs.Buffer.{room};
 ghost use Rattle.rent_io.specs.Counts.{AfterCall};
 ghost use Rattle.rent_io.specs.Polls.{CountsNone, IsCaused};

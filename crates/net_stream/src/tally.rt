@@ -1,5 +1,5 @@
 // The counts of a box.
-ghost use Rattle.std.specs.Prelude.{◌≡◌, ◌≤◌, Some};
+ghost use Rattle.std.specs.Prelude.{◌≡◌, Some};
 ghost use Rattle.rent_io.specs.Counts.{AfterCall, Rose, no_counts};
 ghost use Rattle.rent_io.specs.Polls.{Fails, Pauses};
 ghost use Rattle.std.specs.Prelude.{None};

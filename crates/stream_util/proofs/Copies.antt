@@ -11,7 +11,7 @@ use Rattle.rent_buf.specs.Slice.{Cut}
 use Rattle.rent_io.specs.declared.poll.Step.TheVariants.{Ready, Pending}
 use Rattle.rent_io.specs.Reader.{Reader, Taken}
 use Rattle.rent_io.specs.Writer.{Writer}
-use Rattle.rent_io.specs.Counts.{AfterCall, Counts, Rose}
+use Rattle.rent_io.specs.Counts.{Counts, Rose}
 use Rattle.rent_io.specs.Polls.{WriteFails}
 use Rattle.rent_io.specs.Runs.{AfterCalls}
 use Rattle.rent_io.proofs.Runs.{fails_later, one_more, rose_later}

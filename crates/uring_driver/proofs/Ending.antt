@@ -21,7 +21,7 @@ use Rattle.uring_driver.specs.Uring.{ring_in, pending, whole_ring}
 use Rattle.uring_driver.specs.Submissions.{Arrives, EnteredFor}
 use Rattle.uring_driver.specs.Reap.{HasStray, Treated, treat_each}
 use Rattle.uring_driver.specs.Reaps.{closes_of, PendingJoins, Treats, Reaps, ReapsAll, midway_of}
-use Rattle.uring_driver.specs.Turned.{StopsFor, TreatsReady, TreatsTaken, TreatsFor}
+use Rattle.uring_driver.specs.Turned.{StopsFor, TreatsTaken, TreatsFor}
 use Rattle.uring_driver.specs.Begun.{HasBegun, TookReady, is_at_hand, why_stopped}
 use Rattle.uring_driver.proofs.Strays.{treats-stray, Split, split}
 

@@ -1,5 +1,5 @@
 //! The submission of a request, under a cancel handle or none.
-ghost use Rattle.std.specs.Prelude.{ℕ, Option, Some, ◌≡◌, ◌<◌, ◌⊎◌, IfOk, IfSome, IsTrue, MatchResult};
+ghost use Rattle.std.specs.Prelude.{ℕ, Option, Some, ◌≡◌, ◌<◌, IfOk, IfSome, IsTrue, MatchResult};
 ghost use Rattle.rent_buf.specs.Buf.{built};
 ghost use Rattle.ring_core.specs.Request.{named, plain_request};
 ghost use Rattle.driver_core.specs.Tokens.{HasRoom};

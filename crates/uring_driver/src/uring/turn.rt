@@ -1,5 +1,5 @@
 //! What a turn of the driver does: it treats the completions that are ready, in order.
-ghost use Rattle.std.specs.Prelude.{◌≡◌, ◌≤◌, ◌<◌, ◌+◌, ◌++◌, ◌||◌, ◌∷◌, ℕ, [], nat_lt, Some, IsTrue, IfOk, IfErr, option_to_list};
+ghost use Rattle.std.specs.Prelude.{◌≡◌, ◌≤◌, ◌<◌, ◌+◌, ◌++◌, ◌||◌, ◌∷◌, ℕ, [], Some, IsTrue, IfOk, IfErr, option_to_list};
 ghost use Rattle.std.specs.Prelude.{length, vec_len, vec_capacity};
 ghost use Rattle.ring_core.specs.Entry.{target};
 ghost use Rattle.driver_core.specs.Slot.{KeepsNumbers};
