@@ -3,12 +3,13 @@
 
 mod calls;
 
-use anyhow::Result;
+use anyhow::{Result, bail};
 use calls::{Polled, Ring, drop_op, execute, feed, poll, read, stream, turn};
 use held_op::HeldOp;
 use rent_buf::Rent;
-use ring_core::{CANCELED, Request, Told};
+use ring_core::{CANCELED, Request, SharedFd, Told};
 use std::alloc::Global;
+use std::env;
 use std::io::Print;
 
 // A turn, and what it did.
@@ -74,7 +75,39 @@ fn run<R: Print>(rt: &R, alloc: Global, driver: &mut Ring) -> Result<()> {
     Ok(())
 }
 
+// One read, by a buffer that comes back.
+fn round(driver: &mut Ring, fd: SharedFd, buf: Rent) -> Result<Rent> {
+    let held = read(driver, fd, buf)?;
+    turn(driver)?;
+    feed(driver, fd.number(), b"ab")?;
+    execute(driver, 0, Told::Count(2))?;
+    turn(driver)?;
+    match poll(driver, held, 1)? {
+        Polled::Ready(_, Request::Recv { fd: _, buf }) => Ok(buf),
+        Polled::Ready(_, _) => bail!("another request came back"),
+        Polled::Pending(held) => {
+            drop_op(driver, held)?;
+            bail!("the read goes on")
+        }
+    }
+}
+
+// So many reads, one after another, by one buffer.
+fn go_round<R: Print>(rt: &R, alloc: Global, driver: &mut Ring, count: u32) -> Result<()> {
+    let fd = stream(driver)?;
+    let mut buf = Rent::with_total(alloc, 16)?;
+    for _ in 0..count {
+        buf = round(driver, fd, buf)?;
+    }
+    println!(rt; "{count} reads by one buffer: at the end it has {:?}", buf.as_slice())?;
+    Ok(())
+}
+
 fn main(rt: HostRuntime) -> Result<()> {
     let mut driver = Ring::new_with_entries(rt.alloc(), 8)?;
-    run(&rt, rt.alloc(), &mut driver)
+    run(&rt, rt.alloc(), &mut driver)?;
+    match env::args(&rt)?.nth(1) {
+        Some(word) => go_round(&rt, rt.alloc(), &mut driver, word.as_str().parse()?),
+        None => Ok(()),
+    }
 }

@@ -14,7 +14,7 @@ use Rattle.driver_core.specs.Requests.{KeepsRequests, request_at}
 use Rattle.ready_driver.specs.Awaits.{TokensFor}
 use Rattle.op_driver.specs.Returned.{KeepsOthers}
 use Rattle.net_stream.specs.declared.connection.Connection.{Connection}
-use Rattle.net_stream.specs.Connection.{FitsConnection}
+use Rattle.net_stream.specs.Connection.{AreApart, AreBeside, FitsConnection, KeepsBeside}
 use Rattle.net_stream.specs.Drives.{FitsOp, HoldsOp, IfAsked, IsOther, IsRecv, IsSend, KeepsOther}
 
 -- A submission adds an operation that is none of those that were held.
@@ -28,7 +28,8 @@ submitted_other old new op adds keeps = λ other held apart.
     )
 
 -- One that was refused changes none.
-pub refused_other : (old new : Ops Rented) → KeepsTokens old new → new.given ≡ old.given → KeepsRequests old new → KeepsOther old None new None
+pub refused_other : (old new : Ops Rented) → KeepsTokens old new → new.given ≡ old.given → KeepsRequests old new
+    → KeepsOther old None new None
 refused_other old new tokens given keeps = λ other held apart.
     let below = held.1 in
     (((tokens other).0 held.0, omega (arith, below, given)), keeps other held.0 ((tokens other).0 held.0), tt)
@@ -72,6 +73,7 @@ kept_op old new (Some op) P tokens given keeps fits =
     let still = (tokens op).0 fits.0.0 in
     ((still, omega (arith, below, given)), subst (λ r. IfAsked r P) (sym (keeps op fits.0.0 still)) fits.1)
 
+-- A turn keeps what a connection waits for.
 pub turned_fits : (old new : Ops Rented) (conn : Connection) → KeepsTokens old new → new.given ≡ old.given → KeepsRequests old new
     → FitsConnection old conn → FitsConnection new conn
 turned_fits old new conn tokens given keeps fits = record {
@@ -79,3 +81,64 @@ turned_fits old new conn tokens given keeps fits = record {
   sends = kept_op old new conn.outgoing.op (IsSend conn.fd conn.outgoing.room) tokens given keeps fits.sends;
   apart = fits.apart;
 }
+
+-- An operation of another connection isn't one that this waits for.
+is_other : (waits : Option Op) (op : Op) → AreApart waits (Some op) → IsOther waits op
+is_other None op apart = tt
+is_other (Some waited) op apart = apart
+
+-- And the other way round.
+are_apart : (waits : Option Op) (op : Op) → IsOther waits op → AreApart waits (Some op)
+are_apart None op other = tt
+are_apart (Some waited) op other = other
+
+-- Nothing is apart from all.
+no_apart : (waits : Option Op) → AreApart waits None
+no_apart None = tt
+no_apart (Some waited) = tt
+
+-- What a call of one connection leaves of an operation that another waits for.
+record Beside (new : Ops Rented) (now : Connection) (op : Option Op) (P : Request Rented Parts → Type 0) : Type 0 where
+  fits : FitsOp new op P
+  receives : AreApart now.incoming.op op
+  sends : AreApart now.outgoing.op op
+
+beside_op : (old new : Ops Rented) (before now : Connection) (op : Option Op) (P : Request Rented Parts → Type 0)
+    → KeepsBeside old before new now → FitsOp old op P → AreApart before.incoming.op op → AreApart before.outgoing.op op
+    → Beside new now op P
+beside_op old new before now None P keeps fits receives sends =
+    record { fits = tt; receives = no_apart now.incoming.op; sends = no_apart now.outgoing.op }
+beside_op old new before now (Some op) P keeps fits receives sends =
+    let kept = keeps op fits.0 (is_other before.incoming.op op receives) (is_other before.outgoing.op op sends) in
+    record {
+      fits = (kept.0, subst (λ r. IfAsked r P) (sym kept.1) fits.1);
+      receives = are_apart now.incoming.op op kept.2;
+      sends = are_apart now.outgoing.op op kept.3;
+    }
+
+-- A call of one connection keeps what another waits for, and that is none of what the first waits for then.
+pub beside_fits : (old new : Ops Rented) (before now other : Connection) → KeepsBeside old before new now → FitsConnection old other
+    → AreBeside before other → FitsConnection new other × AreBeside now other
+beside_fits old new before now other keeps fits beside =
+    let receive = beside_op old new before now other.incoming.op (IsRecv other.fd) keeps fits.receives beside.both_receive beside.one_sends in
+    let send = beside_op old new before now other.outgoing.op (IsSend other.fd other.outgoing.room) keeps fits.sends beside.one_receives
+      beside.both_send in
+    (
+      record { receives = receive.fits; sends = send.fits; apart = fits.apart },
+      record { both_receive = receive.receives; one_receives = send.receives; one_sends = receive.sends; both_send = send.sends }
+    )
+
+-- Two connections wait for no operation together, whichever is named first.
+pub beside_swaps : (one other : Connection) → AreBeside one other → AreBeside other one
+beside_swaps one other beside = record {
+  both_receive = apart_swaps one.incoming.op other.incoming.op beside.both_receive;
+  one_receives = apart_swaps one.outgoing.op other.incoming.op beside.one_sends;
+  one_sends = apart_swaps one.incoming.op other.outgoing.op beside.one_receives;
+  both_send = apart_swaps one.outgoing.op other.outgoing.op beside.both_send;
+}
+  where
+    apart_swaps : (one other : Option Op) → AreApart one other → AreApart other one
+    apart_swaps None None apart = tt
+    apart_swaps None (Some op) apart = tt
+    apart_swaps (Some op) None apart = tt
+    apart_swaps (Some op) (Some other) apart = λ same. apart (sym same)

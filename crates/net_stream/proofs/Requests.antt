@@ -32,6 +32,7 @@ shape_recv h (MkDir path mode) same = absurd cc
 shape_recv h (Rename from to) same = absurd cc
 shape_recv h (Unlink path remove_dir) same = absurd cc
 
+-- What came back for a receive is one.
 recv_back : (fd : ℕ) (request now : Request Rented Parts) → IsRecv fd request → IsBack buffer_of_rent request now → IsRecv fd now
 recv_back fd (Recv h buf) now is back = subst (λ n. IsRecv n now) is (shape_recv h now back.shape)
 recv_back fd (ReadVec h parts) now is back = absurd is
@@ -74,7 +75,8 @@ plain_send h buf (Send fd kept) same =
     let number : fd ≡ h = cc in
     let bytes : kept.bytes ≡ buf.bytes = ap (λ b. b.bytes) e in
     let total : kept.total ≡ buf.total = ap (λ b. b.total) e in
-    let whole : kept ≡ buf = ap (λ bs. record { bytes = bs; total = kept.total }) bytes ∙ ap (λ n. record { bytes = buf.bytes; total = n }) total in
+    let whole : kept ≡ buf = ap (λ bs. record { bytes = bs; total = kept.total }) bytes
+        ∙ ap (λ n. record { bytes = buf.bytes; total = n }) total in
     ap (λ b. Send fd b) whole ∙ ap (λ n. Send n buf) number
 plain_send h buf (WriteVec fd parts) same = absurd cc
 plain_send h buf (RecvMsg fd kept) same = absurd cc
@@ -93,7 +95,8 @@ plain_send h buf (Rename from to) same = absurd cc
 plain_send h buf (Unlink path remove_dir) same = absurd cc
 
 -- A send that is back is what it was.
-send_back : (fd total : ℕ) (request now : Request Rented Parts) → IsSend fd total request → IsBack buffer_of_rent request now → now ≡ request
+send_back : (fd total : ℕ) (request now : Request Rented Parts) → IsSend fd total request → IsBack buffer_of_rent request now
+    → now ≡ request
 send_back fd total (Recv h buf) now is back = absurd is
 send_back fd total (ReadVec h parts) now is back = absurd is
 send_back fd total (Send h buf) now is back = plain_send h buf now (back.sent refl)
@@ -119,6 +122,7 @@ pub send_same : (fd total : ℕ) (asked : Option (Request Rented Parts)) (now : 
 send_same fd total None now is back = absurd is
 send_same fd total (Some request) now is back = ap Some (sym (send_back fd total request now is back))
 
+-- What is known of a send that is back is what was known.
 pub send_stays : (fd total : ℕ) (asked now : Option (Request Rented Parts)) → IfAsked asked (IsSend fd total)
     → IsBackOf buffer_of_rent asked now → now ≡ asked
 send_stays fd total None now is back = absurd is
@@ -131,6 +135,7 @@ pub send_itself : (fd total : ℕ) (asked : Option (Request Rented Parts)) → I
 send_itself fd total None is = absurd is
 send_itself fd total (Some request) is = record { shape = refl; sent = λ sends. refl }
 
+-- It is a send to that handle still.
 pub send_kept : (fd total : ℕ) (asked now : Option (Request Rented Parts)) → IfAsked asked (IsSend fd total)
     → IsBackOf buffer_of_rent asked now → IfAsked now (IsSend fd total)
 send_kept fd total None now is back = absurd is
@@ -143,6 +148,7 @@ pub record RecvOf (fd : ℕ) (request : Request Rented Parts) : Type 0 where
   pub buf : Rented
   pub request_is : request ≡ Recv fd buf
 
+-- A receive is that of some buffer.
 pub recv_is : (fd : ℕ) (request : Request Rented Parts) → IsRecv fd request → RecvOf fd request
 recv_is fd (Recv h buf) is = record { buf = buf; request_is = ap (λ n. Recv n buf) is }
 recv_is fd (ReadVec h parts) is = absurd is
@@ -162,27 +168,3 @@ recv_is fd (PollAdd h read) is = absurd is
 recv_is fd (MkDir path mode) is = absurd is
 recv_is fd (Rename from to) is = absurd is
 recv_is fd (Unlink path remove_dir) is = absurd is
-
-pub record SendOf (fd : ℕ) (request : Request Rented Parts) : Type 0 where
-  pub buf : Rented
-  pub request_is : request ≡ Send fd buf
-
-pub send_is : (fd total : ℕ) (request : Request Rented Parts) → IsSend fd total request → SendOf fd request
-send_is fd total (Recv h buf) is = absurd is
-send_is fd total (ReadVec h parts) is = absurd is
-send_is fd total (Send h buf) is = record { buf = buf; request_is = ap (λ n. Send n buf) is.0 }
-send_is fd total (WriteVec h parts) is = absurd is
-send_is fd total (RecvMsg h buf) is = absurd is
-send_is fd total (SendMsg h addr buf) is = absurd is
-send_is fd total (Read h pos buf) is = absurd is
-send_is fd total (Write h pos buf) is = absurd is
-send_is fd total (SpliceTo h pipe len) is = absurd is
-send_is fd total (SpliceFrom pipe h len) is = absurd is
-send_is fd total (Accept h) is = absurd is
-send_is fd total (Open path flags mode) is = absurd is
-send_is fd total (Connect h addr) is = absurd is
-send_is fd total (Fsync h data_only) is = absurd is
-send_is fd total (PollAdd h read) is = absurd is
-send_is fd total (MkDir path mode) is = absurd is
-send_is fd total (Rename from to) is = absurd is
-send_is fd total (Unlink path remove_dir) is = absurd is

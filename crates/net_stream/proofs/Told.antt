@@ -1,5 +1,6 @@
 -- Over an object that tells its handles no byte is lost, repeated or moved.
-use Rattle.std.proofs.Common.{ℕ, zero, suc, ◌≡◌, ◌∙◌, ap, sym, refl, subst, Bool, IsTrue, true, false, List, [], ◌++◌, take, drop, Option, Some, None, Ok, Err, inl, inr}
+use Rattle.std.proofs.Common.{ℕ, zero, suc, ◌≡◌, ◌∙◌, ap, sym, refl, subst, Bool, IsTrue, true, false, List, [], ◌++◌, take, drop, Option}
+use Rattle.std.proofs.Common.{Some, None, Ok, Err, inl, inr}
 use Rattle.std.specs.Prelude.{Result, option_map, unwrap_or, slice_get}
 use Rattle.std.specs.FinMap as map
 use Rattle.std.proofs.lemmas.List.{append-nil, append_assoc, take-append-drop}
@@ -38,7 +39,7 @@ use Rattle.ready_driver.specs.Calling.{Called, CallsOnce, request_in}
 use Rattle.ready_driver.specs.Io.{IoView, CallsFor, IsMoved}
 use Rattle.ready_driver.specs.LegacyPolls.{EndsFor as PollEndsFor, EndsOp, HandsOver, outcome_by, outcome_for}
 use Rattle.ready_driver.specs.LegacyState.{LegacyState, ops_in}
-use Rattle.ready_driver.specs.Named.{IsCompleted, KeepsSlot}
+use Rattle.ready_driver.specs.Named.{IsCompleted}
 use Rattle.driver_core.specs.declared.op.SubmitError.{SubmitError}
 use Rattle.driver_core.specs.declared.op.SubmitFault.{SubmitFault}
 use Rattle.op_driver.specs.Legacy.{LegacyPolls, LegacySubmits}
@@ -56,7 +57,8 @@ use Rattle.net_stream.proofs.Requests.{recv_is}
 
 -- What a driver's object says of its calls.
 abbrev pub Lawful : {I : Type 0} → (I → IoView) → Bool → Bool → Called I → Type 0
-Lawful {I} view tells memory called = (old : I) (request : Request Buffer Parts) (new : I) (now : Request Buffer Parts) (answer : CallAnswer)
+Lawful {I} view tells memory called = (old : I) (request : Request Buffer Parts) (new : I) (now : Request Buffer Parts)
+    (answer : CallAnswer)
     → called old request new now answer → CallsFor tells memory (view old) request (view new) now answer
 
 -- The operation that waits, if one does, is a receive from a handle.
@@ -64,6 +66,7 @@ abbrev AsksRecv : Ops Rented → Option Op → ℕ → Type 0
 AsksRecv ops None fd = Unit {0}
 AsksRecv ops (Some op) fd = IfAsked (request_at ops op) (IsRecv fd)
 
+-- The operation of one that fits is a receive.
 fits_asks : (ops : Ops Rented) (op : Option Op) (fd : ℕ) → FitsOp ops op (IsRecv fd) → AsksRecv ops op fd
 fits_asks ops None fd fits = tt
 fits_asks ops (Some op) fd fits = fits.1
@@ -79,15 +82,11 @@ new_uncanceled old new request op slots outcome is =
     never : IsCompleted (Some (new_slot old request)) outcome → ⊥
     never is = absurd cc
 
+-- A new operation has its request.
 pub new_asks : (old new : Ops Rented) (request : Request Rented Parts) (op : Op)
     → new.slots.values ≡ map.insert old.slots.values op.key (new_slot old request) → request_at new op ≡ Some request
 new_asks old new request op slots =
     ap asked_in (ap (λ m. map.get m op.key) slots ∙ put-same old.slots.values op.key (new_slot old request))
-
--- A poll that returns no operation leaves it as it is.
-kept_uncanceled : (old new : Ops Rented) (op : Op) → KeepsSlot old.slots.values op.key new.slots.values → IsUncanceled old (Some op)
-    → IsUncanceled new (Some op)
-kept_uncanceled old new op keeps flies outcome is = flies outcome ((keeps.completed outcome).0 is)
 
 -- The two ways to look up a request agree.
 pub same_asked : (slot : Option (Slot Rented)) → asked_in slot ≡ request_in slot
@@ -102,6 +101,7 @@ input_rest zero None = refl
 input_rest (suc k) None = refl
 input_rest k (Some handle) = refl
 
+-- The same of a handle of a world.
 input_left : (k h : ℕ) (world : List HandleState) → input_at (amended world h (without_front k)) h ≡ drop k (input_at world h)
 input_left k h world =
     ap (λ found. unwrap_or (option_map (λ handle. handle.input) found) []) (get-amended (without_front k) world h)
@@ -145,6 +145,7 @@ given_unread (Some ended) before inbox now later true is gives =
       ∙ (append-nil (came ended.0 ended.1)
       ∙ (ap (λ e. came_in e) (sym is) ∙ ap (λ bs. bs ++ came_in before.ended) (sym gives.0.0))))
 
+-- So it is after what a call left.
 settled_unread : (coming : Coming) (inbox : Inboxed) (now : Connection) (result : Result Progress SubmitFault)
     → Settles coming inbox now result → unread_in now ≡ unread inbox coming
 settled_unread coming inbox now (Ok Idle) settles =
@@ -175,10 +176,14 @@ module _ {I : Type 0} (view : I → IoView) (tells memory : Bool) (files : I →
   call_came true slot new before after fd buf request outcome t flies asks is (inl none) = absurd (flies outcome none.1)
   call_came true slot new before after fd buf request outcome t flies asks is (inr made) =
       let from = recv_is fd made.request (subst (λ o. IfAsked o (IsRecv fd)) made.asked asks) in
-      let does = law before (plain_request buffer_of_rent made.request) after (plain_request buffer_of_rent request) (Done outcome) made.calls in
-      let moved : IsMoved (view before).world (Recv fd (buffer_of_rent from.buf)) (view after).world (Recv fd (buffer_of_rent buf)) outcome =
-        subst (λ now. IsMoved (view before).world (Recv fd (buffer_of_rent from.buf)) (view after).world (plain_request buffer_of_rent now) outcome) is
-        (subst (λ asked. IsMoved (view before).world (plain_request buffer_of_rent asked) (view after).world (plain_request buffer_of_rent request) outcome)
+      let does = law before (plain_request buffer_of_rent made.request) after (plain_request buffer_of_rent request)
+          (Done outcome) made.calls in
+      let moved : IsMoved (view before).world (Recv fd (buffer_of_rent from.buf)) (view after).world (Recv fd
+          (buffer_of_rent buf)) outcome =
+        subst (λ now. IsMoved (view before).world (Recv fd (buffer_of_rent from.buf)) (view after).world
+            (plain_request buffer_of_rent now) outcome) is
+        (subst (λ asked. IsMoved (view before).world (plain_request buffer_of_rent asked) (view after).world
+            (plain_request buffer_of_rent request) outcome)
           from.request_is (does.moved t)) in
       recv_told moved.told (view before).world (view after).world fd from.buf buf outcome moved.outcome_is moved.world moved.holds.holds
 
@@ -188,8 +193,10 @@ module _ {I : Type 0} (view : I → IoView) (tells memory : Bool) (files : I →
       → IfAsked (request_at (ops_in old) op) (IsRecv fd) → done.request ≡ Recv fd buf
       → came done.outcome buf.bytes ++ waiting_at view new fd ≡ waiting_at view old fd
   ended_came old new op task fd done buf t ends flies asks is =
-      let moved = call_came (is_met_at old.handling.records (unless (files old.handling.io) (slot_awaits (map.get old.slots.values op.key))))
-        (map.get old.slots.values op.key) (map.get new.slots.values op.key) old.handling.io ends.mid.io fd buf done.request ends.call t flies
+      let moved = call_came (is_met_at old.handling.records (unless (files old.handling.io) (slot_awaits
+          (map.get old.slots.values op.key))))
+        (map.get old.slots.values op.key) (map.get new.slots.values op.key) old.handling.io ends.mid.io fd buf done.request ends.call t
+            flies
         (subst (λ o. IfAsked o (IsRecv fd)) (same_asked (map.get old.slots.values op.key)) asks) is ends.calls in
       let out : done.outcome ≡ ends.call = ends.outcome ∙ same_outcome ends.mid.table ends.call moved.1 in
       let unmade : made_by done.outcome ≡ None = ap made_by out ∙ moved.1 in
@@ -200,10 +207,13 @@ module _ {I : Type 0} (view : I → IoView) (tells memory : Bool) (files : I →
 
   -- A poll that returned none: no handle has changed.
   pub stayed_world : (old new : LegacyState I Rented) (op back : Op) (task : ℕ) → IsTrue tells
-      → PollEndsFor files buffer_of_rent called view tells memory old new op task (Ok (Pending back)) → world_of view new ≡ world_of view old
-  stayed_world old new op back task t ends = by-call (is_met_at old.handling.records (unless (files old.handling.io) (slot_awaits (map.get old.slots.values op.key)))) ends.2
+      → PollEndsFor files buffer_of_rent called view tells memory old new op task (Ok (Pending back))
+          → world_of view new ≡ world_of view old
+  stayed_world old new op back task t ends = by-call (is_met_at old.handling.records (unless (files old.handling.io) (slot_awaits
+      (map.get old.slots.values op.key)))) ends.2
     where
-      by-call : (b : Bool) → CallsOnce b buffer_of_rent called (map.get old.slots.values op.key) old.handling.io (map.get new.slots.values op.key)
+      by-call : (b : Bool) → CallsOnce b buffer_of_rent called (map.get old.slots.values op.key) old.handling.io
+          (map.get new.slots.values op.key)
           new.handling.io (Ok (Pending back)) → world_of view new ≡ world_of view old
       by-call false calls = ap (λ io. (view io).world) calls.object
       by-call true calls = (law old.handling.io (plain_request buffer_of_rent calls.made.request) new.handling.io
@@ -211,9 +221,11 @@ module _ {I : Type 0} (view : I → IoView) (tells memory : Bool) (files : I →
 
   pub starved_world : (old new : LegacyState I Rented) (op : Op) (error : NoMemory × Op) (task : ℕ) → IsTrue tells
       → PollEndsFor files buffer_of_rent called view tells memory old new op task (Err error) → world_of view new ≡ world_of view old
-  starved_world old new op error task t ends = by-call (is_met_at old.handling.records (unless (files old.handling.io) (slot_awaits (map.get old.slots.values op.key)))) ends.2
+  starved_world old new op error task t ends = by-call (is_met_at old.handling.records (unless (files old.handling.io) (slot_awaits
+      (map.get old.slots.values op.key)))) ends.2
     where
-      by-call : (b : Bool) → CallsOnce b buffer_of_rent called (map.get old.slots.values op.key) old.handling.io (map.get new.slots.values op.key)
+      by-call : (b : Bool) → CallsOnce b buffer_of_rent called (map.get old.slots.values op.key) old.handling.io
+          (map.get new.slots.values op.key)
           new.handling.io (Err error) → world_of view new ≡ world_of view old
       by-call false calls = ap (λ io. (view io).world) calls.object
       by-call true (inl none) = ap (λ io. (view io).world) none.object
@@ -261,9 +273,11 @@ module _ {I : Type 0} (view : I → IoView) (tells memory : Bool) (files : I →
   has_waiting old mid before between (Some op) is t has none flies fits = record {
     none = ap (λ c. c.ended) has.1 ∙ none;
     world = ap (world_of view) has.0;
-    flies = subst (λ c. IsUncanceled (ops_in mid) c.op) (sym has.1) (subst (λ d. IsUncanceled (ops_in d) before.incoming.op) (sym has.0) flies);
+    flies = subst (λ c. IsUncanceled (ops_in mid) c.op) (sym has.1) (subst (λ d. IsUncanceled (ops_in d) before.incoming.op)
+        (sym has.0) flies);
     asks = subst (λ c. AsksRecv (ops_in mid) c.op before.fd) (sym has.1)
-      (subst (λ d. AsksRecv (ops_in d) before.incoming.op before.fd) (sym has.0) (fits_asks (ops_in old) before.incoming.op before.fd fits));
+      (subst (λ d. AsksRecv (ops_in d) before.incoming.op before.fd) (sym has.0) (fits_asks
+          (ops_in old) before.incoming.op before.fd fits));
   }
   has_waiting old mid before between None is t has none flies fits =
       let begun = has.1 in
@@ -278,21 +292,25 @@ module _ {I : Type 0} (view : I → IoView) (tells memory : Bool) (files : I →
       }
 
   -- Where a receive is left waiting, what came and wasn't read is what it was.
-  left_came : (came_to : Polled) (old new : LegacyState I Rented) (before now : Connection) (after : Coming) (result : Result Progress SubmitFault)
+  left_came : (came_to : Polled) (old new : LegacyState I Rented) (before now : Connection) (after : Coming)
+      (result : Result Progress SubmitFault)
       → before.incoming.ended ≡ None → LeavesReceive came_to after before now result
       → came_in after.ended ++ waiting_at view new before.fd ≡ waiting_at view old before.fd
       → unread_in now ++ waiting_at view new before.fd ≡ unread_in before ++ waiting_at view old before.fd
   left_came Waits old new before now after result none leaves came =
-      ap (λ c. unread_in c ++ waiting_at view new before.fd) leaves.1 ∙ kept_came before.inbox.arrived after before.incoming (waiting_at view new before.fd) (waiting_at view old before.fd) none came
+      ap (λ c. unread_in c ++ waiting_at view new before.fd) leaves.1 ∙ kept_came before.inbox.arrived after before.incoming
+          (waiting_at view new before.fd) (waiting_at view old before.fd) none came
   left_came HasEnded old new before now after result none leaves came =
       ap (λ bs. bs ++ waiting_at view new before.fd) (settled_unread after before.inbox now result leaves)
         ∙ kept_came before.inbox.arrived after before.incoming (waiting_at view new before.fd) (waiting_at view old before.fd) none came
   left_came NoRoom old new before now after result none leaves came =
-      ap (λ c. unread_in c ++ waiting_at view new before.fd) leaves.1 ∙ kept_came before.inbox.arrived after before.incoming (waiting_at view new before.fd) (waiting_at view old before.fd) none came
+      ap (λ c. unread_in c ++ waiting_at view new before.fd) leaves.1 ∙ kept_came before.inbox.arrived after before.incoming
+          (waiting_at view new before.fd) (waiting_at view old before.fd) none came
 
   -- A receive loses no byte, and moves none but to what came.
   pub receives_came : (old new : LegacyState I Rented) (task : ℕ) (before now : Connection) (result : Result Progress SubmitFault)
-      → ReceivesFor (LegacySubmits view tells memory) (LegacyPolls files buffer_of_rent called view tells memory) old new before now task result
+      → ReceivesFor (LegacySubmits view tells memory) (LegacyPolls files buffer_of_rent called view tells memory) old new before now task
+          result
       → IsUncanceled (ops_in old) before.incoming.op → FitsOp (ops_in old) before.incoming.op (IsRecv before.fd)
       → IsTrue tells → unread_in now ++ waiting_at view new before.fd ≡ unread_in before ++ waiting_at view old before.fd
   receives_came old new task before now result (inl r) flies fits t =

@@ -1,5 +1,6 @@
 -- Over an object that tells its handles what was written is what was sent, and then what is unsent.
-use Rattle.std.proofs.Common.{ℕ, ◌≡◌, ◌∙◌, ◌≤◌, ap, sym, refl, subst, arith, Bool, IsTrue, true, false, List, [], ◌∷◌, ◌++◌, length, take, drop, Option, Some, None, Ok, Err, inl, inr, append-nil}
+use Rattle.std.proofs.Common.{ℕ, ◌≡◌, ◌∙◌, ◌≤◌, ap, sym, refl, subst, arith, Bool, IsTrue, true, false, List, [], ◌∷◌, ◌++◌, length, take}
+use Rattle.std.proofs.Common.{drop, Option, Some, None, Ok, Err, inl, inr}
 use Rattle.std.specs.Prelude.{Result, option_map, unwrap_or}
 use Rattle.std.specs.FinMap as map
 use Rattle.std.proofs.lemmas.List.{append_assoc, drop_min, length-take, take-take, take-append-drop}
@@ -49,7 +50,8 @@ use Rattle.net_stream.specs.Outbox.{Outboxed}
 use Rattle.net_stream.specs.Outgoing.{Going, PollsSend, SentOutIf, has_bytes, sent_by}
 use Rattle.net_stream.specs.Told.{IsStream, IsUncanceled, bytes_sent, in_flight, output_at, sent_at, unsent_in, world_of}
 use Rattle.net_stream.proofs.Requests.{send_itself, send_stays}
-use Rattle.net_stream.proofs.Told.{Lawful, begun_world, new_asks, new_uncanceled, refused_world, same_asked, same_outcome, starved_world, stayed_world}
+use Rattle.net_stream.proofs.Told.{Lawful, begun_world, new_asks, new_uncanceled, refused_world, same_asked, same_outcome, starved_world}
+use Rattle.net_stream.proofs.Told.{stayed_world}
 
 -- The first bytes of what a send offers are the first of its buffer.
 offered_front : (k most total : ℕ) (bytes : List ℕ) → k ≤ length (take most (take total bytes))
@@ -65,6 +67,7 @@ output_joined : (bytes : List ℕ) (handle : HandleState) → handle.kind ≡ St
     → (with_sent bytes handle).output ≡ handle.output ++ bytes
 output_joined bytes handle kind = ap (λ k. (sent_to_kind k bytes handle).output) kind
 
+-- The same of a handle of a world.
 output_after : (bytes : List ℕ) (h : ℕ) (world : List HandleState) → IsStream world h
     → output_at (amended world h (with_sent bytes)) h ≡ output_at world h ++ bytes
 output_after bytes h world stream =
@@ -81,7 +84,8 @@ send_told : (told : Told) (old new : List HandleState) (fd : ℕ) (buf : Rented)
     → (output_at new fd ++ drop (sent_by outcome) buf.bytes ≡ output_at old fd ++ buf.bytes) × (made_by outcome ≡ None)
 send_told (told.Count k) old new fd buf outcome stream out world ends =
     let counts = subst (CallEndsFor (Send fd (buffer_of_rent buf)) (Send fd (buffer_of_rent buf))) out ends in
-    let front : take k (sent_of (Send fd (buffer_of_rent buf))) ≡ take k buf.bytes = offered_front k MOST_ASKED buf.total buf.bytes counts.0 in
+    let front : take k (sent_of (Send fd (buffer_of_rent buf))) ≡ take k buf.bytes = offered_front k MOST_ASKED buf.total buf.bytes
+        counts.0 in
     (
       ap (λ o. output_at new fd ++ drop (sent_by o) buf.bytes) out
         ∙ (ap (λ w. output_at w fd ++ drop k buf.bytes) world
@@ -99,6 +103,7 @@ abbrev AsksSend : Ops Rented → Option Op → ℕ → ℕ → Type 0
 AsksSend ops None fd total = Unit {0}
 AsksSend ops (Some op) fd total = IfAsked (request_at ops op) (IsSend fd total)
 
+-- The operation of one that fits is a send.
 fits_asks : (ops : Ops Rented) (op : Option Op) (fd total : ℕ) → FitsOp ops op (IsSend fd total) → AsksSend ops op fd total
 fits_asks ops None fd total fits = tt
 fits_asks ops (Some op) fd total fits = fits.1
@@ -125,6 +130,7 @@ prepared before going outbox (inr loads) =
       ∙ (take-append-drop room all
       ∙ ap (λ bs. bs ++ all) (sym (no_bytes before.outgoing.unsent loads.0))))
 
+-- No send waits by that.
 prepared_op : (before : Connection) (going : Going) (outbox : Outboxed) → Prepares before going outbox → going.op ≡ before.outgoing.op
 prepared_op before going outbox (inl same) = ap (λ g. g.op) same.1
 prepared_op before going outbox (inr loads) = ap (λ g. g.op) loads.2.taken
@@ -143,10 +149,13 @@ module _ {I : Type 0} (view : I → IoView) (tells memory : Bool) (files : I →
   call_went true slot new before after fd buf request outcome t stream flies asks is (inr made) =
       let same : Some made.request ≡ Some (Send fd buf) = sym made.asked ∙ asks in
       let from : made.request ≡ Send fd buf = cc in
-      let does = law before (plain_request buffer_of_rent made.request) after (plain_request buffer_of_rent request) (Done outcome) made.calls in
+      let does = law before (plain_request buffer_of_rent made.request) after (plain_request buffer_of_rent request)
+          (Done outcome) made.calls in
       let moved : IsMoved (view before).world (Send fd (buffer_of_rent buf)) (view after).world (Send fd (buffer_of_rent buf)) outcome =
-        subst (λ now. IsMoved (view before).world (Send fd (buffer_of_rent buf)) (view after).world (plain_request buffer_of_rent now) outcome) is
-        (subst (λ asked. IsMoved (view before).world (plain_request buffer_of_rent asked) (view after).world (plain_request buffer_of_rent request) outcome)
+        subst (λ now. IsMoved (view before).world (Send fd (buffer_of_rent buf)) (view after).world
+            (plain_request buffer_of_rent now) outcome) is
+        (subst (λ asked. IsMoved (view before).world (plain_request buffer_of_rent asked) (view after).world
+            (plain_request buffer_of_rent request) outcome)
           from (does.moved t)) in
       let ends : CallEndsFor (Send fd (buffer_of_rent buf)) (Send fd (buffer_of_rent buf)) outcome =
         subst (λ now. CallEndsFor (Send fd (buffer_of_rent buf)) (plain_request buffer_of_rent now) outcome) is
@@ -160,8 +169,10 @@ module _ {I : Type 0} (view : I → IoView) (tells memory : Bool) (files : I →
       → request_at (ops_in old) op ≡ Some (Send fd buf) → done.request ≡ Send fd buf
       → sent_at view new fd ++ drop (sent_by done.outcome) buf.bytes ≡ sent_at view old fd ++ buf.bytes
   ended_went old new op task fd done buf t stream ends flies asks is =
-      let moved = call_went (is_met_at old.handling.records (unless (files old.handling.io) (slot_awaits (map.get old.slots.values op.key))))
-        (map.get old.slots.values op.key) (map.get new.slots.values op.key) old.handling.io ends.mid.io fd buf done.request ends.call t stream flies
+      let moved = call_went (is_met_at old.handling.records (unless (files old.handling.io) (slot_awaits
+          (map.get old.slots.values op.key))))
+        (map.get old.slots.values op.key) (map.get new.slots.values op.key) old.handling.io ends.mid.io fd buf done.request ends.call t
+            stream flies
         (sym (same_asked (map.get old.slots.values op.key)) ∙ asks) is ends.calls in
       let out : done.outcome ≡ ends.call = ends.outcome ∙ same_outcome ends.mid.table ends.call moved.1 in
       let unmade : made_by done.outcome ≡ None = ap made_by out ∙ moved.1 in
@@ -241,7 +252,8 @@ module _ {I : Type 0} (view : I → IoView) (tells memory : Bool) (files : I →
       ∙ ap (λ d. going_with (ops_in d) before.outgoing before.outbox.unsent) has.0);
     out = subst (λ g. SentOutIf g.op g.unsent) (sym has.1) out;
     world = ap (world_of view) has.0;
-    flies = subst (λ g. IsUncanceled (ops_in mid) g.op) (sym has.1) (subst (λ d. IsUncanceled (ops_in d) before.outgoing.op) (sym has.0) flies);
+    flies = subst (λ g. IsUncanceled (ops_in mid) g.op) (sym has.1) (subst (λ d. IsUncanceled (ops_in d) before.outgoing.op)
+        (sym has.0) flies);
     asks = subst (λ g. AsksSend (ops_in mid) g.op before.fd g.room) (sym has.1)
       (subst (λ d. AsksSend (ops_in d) before.outgoing.op before.fd before.outgoing.room) (sym has.0)
         (fits_asks (ops_in old) before.outgoing.op before.fd before.outgoing.room fits));
@@ -249,7 +261,8 @@ module _ {I : Type 0} (view : I → IoView) (tells memory : Bool) (files : I →
   has_sending old mid before between outbox None is t has out flies fits =
       let begun = has.begun in
       let request : Request Rented Parts = Send before.fd (record { bytes = has.going.unsent; total = has.going.room }) in
-      let asked : request_at (ops_in mid) begun.op ≡ Some request = new_asks (ops_in old) (ops_in mid) request begun.op begun.submitted.slots in
+      let asked : request_at (ops_in mid) begun.op ≡ Some request = new_asks (ops_in old)
+          (ops_in mid) request begun.op begun.submitted.slots in
       record {
         same = ap (λ g. going_with (ops_in mid) g outbox.unsent) begun.now_is
           ∙ (ap (λ o. bytes_sent o ++ outbox.unsent) asked
@@ -273,10 +286,12 @@ module _ {I : Type 0} (view : I → IoView) (tells memory : Bool) (files : I →
 
   -- A send loses no byte, and moves none but to the output.
   pub sends_went : (old new : LegacyState I Rented) (task : ℕ) (before now : Connection) (result : Result Progress SubmitFault)
-      → SendsFor ops_in (LegacySubmits view tells memory) (LegacyPolls files buffer_of_rent called view tells memory) old new before now task
+      → SendsFor ops_in (LegacySubmits view tells memory) (LegacyPolls files buffer_of_rent called view tells memory) old new before now
+          task
         result
       → SentOutIf before.outgoing.op before.outgoing.unsent → IsUncanceled (ops_in old) before.outgoing.op
-      → FitsOp (ops_in old) before.outgoing.op (IsSend before.fd before.outgoing.room) → IsTrue tells → IsStream (world_of view old) before.fd
+      → FitsOp (ops_in old) before.outgoing.op (IsSend before.fd before.outgoing.room) → IsTrue tells
+          → IsStream (world_of view old) before.fd
       → sent_at view new before.fd ++ unsent_in (ops_in new) now ≡ sent_at view old before.fd ++ unsent_in (ops_in old) before
   sends_went old new task before now result (inl r) out flies fits t stream =
       let w = has_sending old r.mid before r.between.outgoing r.between.outbox before.outgoing.op refl t r.has out flies fits in
@@ -284,8 +299,10 @@ module _ {I : Type 0} (view : I → IoView) (tells memory : Bool) (files : I →
       let polls = subst (λ h. PollsSend ops_in (LegacyPolls files buffer_of_rent called view tells memory) r.mid new h r.between.outgoing
         r.polls_it.after task r.polls_it.came_to r.polls_it.fault) number r.polls_it.polls_it in
       ap (λ bs. sent_at view new before.fd ++ bs)
-        (left_unsent (ops_in new) r.polls_it.came_to r.polls_it.after r.between.outbox r.polls_it.fault r.between now result r.polls_it.leaves)
-        ∙ (polled_went r.mid new before.fd task r.between.outgoing r.polls_it.after r.between.outbox.unsent r.polls_it.came_to r.polls_it.fault t
+        (left_unsent (ops_in new) r.polls_it.came_to r.polls_it.after r.between.outbox r.polls_it.fault r.between now result
+            r.polls_it.leaves)
+        ∙ (polled_went r.mid new before.fd task r.between.outgoing r.polls_it.after r.between.outbox.unsent r.polls_it.came_to
+            r.polls_it.fault t
           (subst (λ ws. IsStream ws before.fd) (sym w.world) stream) polls w.out w.flies w.asks
         ∙ (ap (λ ws. output_at ws before.fd ++ going_with (ops_in r.mid) r.between.outgoing r.between.outbox.unsent) w.world
         ∙ ap (λ bs. sent_at view old before.fd ++ bs) w.same))
@@ -303,4 +320,5 @@ module _ {I : Type 0} (view : I → IoView) (tells memory : Bool) (files : I →
         ∙ (ap (λ o. sent_at view old before.fd ++ (in_flight (ops_in new) o ++ (refused.going.unsent ++ refused.outbox.unsent)))
           (prepared_op before refused.going refused.outbox refused.prepares ∙ gone)
         ∙ (ap (λ bs. sent_at view old before.fd ++ bs) (prepared before refused.going refused.outbox refused.prepares)
-        ∙ ap (λ o. sent_at view old before.fd ++ (in_flight (ops_in old) o ++ (before.outgoing.unsent ++ before.outbox.unsent))) (sym gone))))
+        ∙ ap (λ o. sent_at view old before.fd ++ (in_flight (ops_in old) o ++ (before.outgoing.unsent ++ before.outbox.unsent)))
+            (sym gone))))

@@ -40,6 +40,13 @@ pub record FitsConnection (ops : Ops Rented) (conn : Connection) : Type 0 where
   pub sends : FitsOp ops conn.outgoing.op (IsSend conn.fd conn.outgoing.room)
   pub apart : AreApart conn.incoming.op conn.outgoing.op
 
+-- Two connections wait for no operation together.
+pub record AreBeside (one other : Connection) : Type 0 where
+  pub both_receive : AreApart one.incoming.op other.incoming.op
+  pub one_receives : AreApart one.incoming.op other.outgoing.op
+  pub one_sends : AreApart one.outgoing.op other.incoming.op
+  pub both_send : AreApart one.outgoing.op other.outgoing.op
+
 -- Each operation that the driver held and that the connection didn't wait for it holds, with its request, and the connection doesn't wait
 -- for it now.
 abbrev pub KeepsBeside : Ops Rented → Connection → Ops Rented → Connection → Type 0
@@ -89,7 +96,8 @@ ReceivesNone submits old new before now result =
       × (now ≡ before)))
 
 -- What a receive did: one submission at most, and one poll at most.
-abbrev pub ReceivesFor : {D : Type 0} → Submission D → Polling D → D → D → Connection → Connection → ℕ → Result Progress SubmitFault → Type 0
+abbrev pub ReceivesFor : {D : Type 0} → Submission D → Polling D → D → D → Connection → Connection → ℕ → Result Progress SubmitFault
+    → Type 0
 ReceivesFor submits polls old new before now task result =
     Receives submits polls old new before now task result ⊎ ReceivesNone submits old new before now result
 
@@ -104,7 +112,8 @@ Prepares before going outbox =
     ⊎ ((has_bytes before.outgoing.unsent ≡ false) × WantsSent before.outbox × Loads before.outgoing before.outbox going outbox)
 
 -- A send was submitted, where no fault is to be answered first.
-pub record BegunNext {D : Type 0} (submits : Submission D) (old mid : D) (before : Connection) (between : Going) (outbox : Outboxed) : Type 0
+pub record BegunNext {D : Type 0} (submits : Submission D) (old mid : D) (before : Connection) (between : Going)
+    (outbox : Outboxed) : Type 0
   where
     pub none : has_failed before.outbox.fault ≡ false
     pub going : Going

@@ -1,5 +1,6 @@
 -- What goes at a connection once its outbox gave it.
-use Rattle.std.specs.Prelude.{ℕ, zero, suc, ◌≡◌, Bool, true, false, List, [], ◌∷◌, Option, None, Some, Result, Ok, Err, drop, length, min, take}
+use Rattle.std.specs.Prelude.{ℕ, zero, suc, ◌≡◌, Bool, true, false, List, [], ◌∷◌, Option, None, Some, Result, Ok, Err, drop, length, min}
+use Rattle.std.specs.Prelude.{take}
 use Rattle.rent_buf.specs.Rent.{Rented}
 use Rattle.rent_buf.specs.declared.fault.IoFault.{IoFault}
 use Rattle.rent_buf.specs.declared.fault.IoFault.TheVariants.{Os, WriteZero}
@@ -108,7 +109,8 @@ pub record EndsSend {D : Type 0} (ops : D → Ops Rented) (polls : Polling D) (m
 
 -- A poll of the send that waits, which brought this fault, if any.
 abbrev pub PollsSend : {D : Type 0} → (D → Ops Rented) → Polling D → D → D → ℕ → Going → Going → ℕ → Polled → Option IoFault → Type 0
-PollsSend ops polls mid new fd before now task Waits fault = StaysSend polls mid new before now task (λ op. Ok (Pending op)) × (fault ≡ None)
+PollsSend ops polls mid new fd before now task Waits fault = StaysSend polls mid new before now task (λ op. Ok (Pending op)) ×
+    (fault ≡ None)
 PollsSend ops polls mid new fd before now task Ended fault = EndsSend ops polls mid new fd before now task fault
 PollsSend ops polls mid new fd before now task OutOfMemory fault =
     (error : NoMemory) × StaysSend polls mid new before now task (λ op. Err (error, op)) × (fault ≡ None)

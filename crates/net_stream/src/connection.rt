@@ -178,12 +178,12 @@ impl Connection {
         }
     }
 
-    /// Sends: it submits a send of what was written, if none waits, and polls it once, for a task that a turn of the driver names when another
-    /// call may do more. What a short send leaves goes with the next one; a fault is answered by the outbox, and nothing is sent until it was.
-    /// Fewer than `MOST_GIVEN` operations were submitted before.
+    /// Sends: it submits a send of what was written, if none waits, and polls it once, for a task that a turn of the driver names when
+    /// another call may do more. What a short send leaves goes with the next one; a fault is answered by the outbox, and nothing is sent
+    /// until it was. Fewer than `MOST_GIVEN` operations were submitted before.
     ///
-    /// A send that the driver refuses loses nothing, and the fault says why; `OutOfMemory` comes also where its poll found no memory, and then
-    /// it waits on. Each of these may be called again. (monoio: `TcpStream::write`, without its stream)
+    /// A send that the driver refuses loses nothing, and the fault says why; `OutOfMemory` comes also where its poll found no memory, and
+    /// then it waits on. Each of these may be called again. (monoio: `TcpStream::write`, without its stream)
     pub fn send<D: OpDriver<Rent>>(
         &mut self,
         driver: &mut D,
@@ -205,8 +205,8 @@ impl Connection {
         }
     }
 
-    /// Lets the connection go: what waits is dropped, and the handle comes back, which its user holds still. Bytes that weren't read or sent
-    /// are lost: a user who wants them sent flushes first.
+    /// Lets the connection go: what waits is dropped, and the handle comes back, which its user holds still. Bytes that weren't read or
+    /// sent are lost: a user who wants them sent flushes first.
     pub fn end<D: OpDriver<Rent>>(self, driver: &mut D) -> SharedFd
         requires fits { FitsConnection (D.ops driver.old) self }
         ensures fd { result ≡ self.fd }

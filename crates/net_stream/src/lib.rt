@@ -1,5 +1,5 @@
-//! Streams over a driver: a connection owns the bytes that came at a handle and those that are to go, streams meet only these, and its calls
-//! `receive` and `send` meet the driver.
+//! Streams over a driver: a connection owns the bytes that came at a handle and those that are to go, streams meet only these, and its
+//! calls `receive` and `send` meet the driver.
 #![tactic(auto)]
 
 pub mod connection;

@@ -213,8 +213,8 @@ impl AsyncWriteRent for Outbox {
 
     ghost writer = { outbox_writer };
 
-    /// Takes as many of the bytes as there is room for. Where there is none, or a send waits, it is pending, until a call of the connection's
-    /// `send` has moved more. A fault of a send is answered once.
+    /// Takes as many of the bytes as there is room for. Where there is none it is pending, until a call of the
+    /// connection's `send` has moved more. A fault of a send is answered once.
     fn poll_write<T: IoBuf>(&mut self, buf: T, task: u64) -> PollBuf<T>
         ensures writes { Writes true self.old.unsent self.new.unsent (T.content buf) buf result }
         ensures none { CountsNone (length (T.content buf)) self.old.counts self.new.counts result }

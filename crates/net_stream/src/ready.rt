@@ -13,9 +13,9 @@ use ready_driver::{LegacyDriver, NonBlock};
 use rent_buf::Rent;
 
 impl Connection {
-    /// `receive` over the readiness driver. Where its object tells its handles no byte is lost, repeated or moved: what came and wasn't read,
-    /// and then what waits at the handle, is what it was. So it is where nobody asked for the receive's cancel. (monoio: `TcpStream::read`,
-    /// without its stream)
+    /// `receive` over the readiness driver. Where its object tells its handles no byte is lost, repeated or moved: what came and wasn't
+    /// read, and then what waits at the handle, is what it was. So it is where nobody asked for the receive's cancel. (monoio:
+    /// `TcpStream::read`, without its stream)
     pub fn receive_ready<I: NonBlock>(
         &mut self,
         driver: &mut LegacyDriver<I, Rent>,
@@ -27,8 +27,8 @@ impl Connection {
         requires uncanceled { IsUncanceled (ops_in driver.old) self.old.incoming.op }
         ensures receives { ReceivesFor (LegacySubmits I.view I.tells I.memory)
             (LegacyPolls I.files buffer_of_rent I.called I.view I.tells I.memory) driver.old driver.new self.old self.new task result }
-        ensures came { IsTrue I.tells →
-            unread_in self.new ++ waiting_at I.view driver.new self.old.fd ≡ unread_in self.old ++ waiting_at I.view driver.old self.old.fd }
+        ensures came { IsTrue I.tells → unread_in self.new ++ waiting_at I.view driver.new self.old.fd
+            ≡ unread_in self.old ++ waiting_at I.view driver.old self.old.fd }
         ensures same { OnlyComes self.old self.new }
         ensures fits { FitsConnection (ops_in driver.new) self.new }
         ensures others { KeepsBeside (ops_in driver.old) self.old (ops_in driver.new) self.new }
@@ -37,8 +37,8 @@ impl Connection {
         self.receive(driver, task)
     }
 
-    /// `send` over the readiness driver. Where its object tells its handles no byte is lost, repeated or moved: what was sent to the stream,
-    /// and then what was written and isn't sent, is what it was. So it is where nobody asked for the send's cancel. (monoio:
+    /// `send` over the readiness driver. Where its object tells its handles no byte is lost, repeated or moved: what was sent to the
+    /// stream, and then what was written and isn't sent, is what it was. So it is where nobody asked for the send's cancel. (monoio:
     /// `TcpStream::write`, without its stream)
     pub fn send_ready<I: NonBlock>(
         &mut self,

@@ -101,6 +101,15 @@ fn commands_that_read_nothing(rt: HostRuntime) {
     }
 }
 
+// The longest run that `gen` makes. It is long where it isn't compiled.
+#[rattlefmt::skip]
+const LONGEST: Case = ("gen 7 100000", "", None, None, Status::Done, "events 700001 refused 25093 ready 74907;");
+
+#[test]
+fn the_longest_run_is_generated(rt: HostRuntime) {
+    assert_eq!(rt; case_holds(&rt, rt.alloc(), LONGEST), Ok(()));
+}
+
 // The same of `copy`, for the input `cd`.
 #[rattlefmt::skip]
 const COPIES: [Case; 13] = [
