@@ -14,7 +14,7 @@ use Rattle.driver_core.specs.Requests.{KeepsRequests, request_at}
 use Rattle.ready_driver.specs.Awaits.{TokensFor}
 use Rattle.op_driver.specs.Returned.{KeepsOthers}
 use Rattle.net_stream.specs.declared.connection.Connection.{Connection}
-use Rattle.net_stream.specs.Connection.{AreApart, AreBeside, FitsConnection, KeepsBeside}
+use Rattle.net_stream.specs.Connection.{AreApart, AreBeside, FitsConnection, KeepsBeside, KeepsOutside}
 use Rattle.net_stream.specs.Drives.{FitsOp, HoldsOp, IfAsked, IsOther, IsRecv, IsSend, KeepsOther}
 
 -- A submission adds an operation that is none of those that were held.
@@ -127,6 +127,23 @@ beside_fits old new before now other keeps fits beside =
       record { receives = receive.fits; sends = send.fits; apart = fits.apart },
       record { both_receive = receive.receives; one_receives = send.receives; one_sends = receive.sends; both_send = send.sends }
     )
+
+-- The end of one connection keeps what another waits for.
+ended_op : (old new : Ops Rented) (ended : Connection) (op : Option Op) (P : Request Rented Parts → Type 0)
+    → KeepsOutside old ended new → FitsOp old op P → AreApart ended.incoming.op op → AreApart ended.outgoing.op op → FitsOp new op P
+ended_op old new ended None P keeps fits receives sends = tt
+ended_op old new ended (Some op) P keeps fits receives sends =
+    let kept = keeps op fits.0 (is_other ended.incoming.op op receives) (is_other ended.outgoing.op op sends) in
+    (kept.0, subst (λ r. IfAsked r P) (sym kept.1) fits.1)
+
+-- So it is of both its operations.
+pub ended_fits : (old new : Ops Rented) (ended other : Connection) → KeepsOutside old ended new → FitsConnection old other
+    → AreBeside ended other → FitsConnection new other
+ended_fits old new ended other keeps fits beside = record {
+  receives = ended_op old new ended other.incoming.op (IsRecv other.fd) keeps fits.receives beside.both_receive beside.one_sends;
+  sends = ended_op old new ended other.outgoing.op (IsSend other.fd other.outgoing.room) keeps fits.sends beside.one_receives beside.both_send;
+  apart = fits.apart;
+}
 
 -- Two connections wait for no operation together, whichever is named first.
 pub beside_swaps : (one other : Connection) → AreBeside one other → AreBeside other one

@@ -53,6 +53,11 @@ abbrev pub KeepsBeside : Ops Rented → Connection → Ops Rented → Connection
 KeepsBeside old before new now = (other : Op) → HoldsOp old other → IsOther before.incoming.op other → IsOther before.outgoing.op other →
     HoldsOp new other × (request_at new other ≡ request_at old other) × IsOther now.incoming.op other × IsOther now.outgoing.op other
 
+-- Each operation that the driver held and that the connection didn't wait for it holds, with its request.
+abbrev pub KeepsOutside : Ops Rented → Connection → Ops Rented → Type 0
+KeepsOutside old conn new = (other : Op) → HoldsOp old other → IsOther conn.incoming.op other → IsOther conn.outgoing.op other →
+    HoldsOp new other × (request_at new other ≡ request_at old other)
+
 -- Of a connection only what comes has changed.
 abbrev pub OnlyComes : Connection → Connection → Type 0
 OnlyComes before now = now ≡ record before { inbox = now.inbox; incoming = now.incoming }

@@ -1,9 +1,8 @@
 //! A handle with what came at it and what is to go.
 ghost use Rattle.std.specs.Prelude.{◌≡◌, ◌≤◌, ◌<◌, ◌+◌, ◌∷◌, [], None, Ok, IsTrue, IsSome, IfOk};
-ghost use Rattle.driver_core.specs.declared.op.Op.{Op as Token};
-ghost use Rattle.net_stream.specs.Connection.{FitsConnection, HasSendFor, KeepsBeside, OnlyComes, OnlyGoes, PollsSendFor, PreparesFor};
+ghost use Rattle.net_stream.specs.Connection.{FitsConnection, HasSendFor, KeepsBeside, KeepsOutside, OnlyComes, OnlyGoes, PollsSendFor, PreparesFor};
 ghost use Rattle.net_stream.specs.Connection.{ReceivesFor, SendsFor, Settles, fresh_connection};
-ghost use Rattle.net_stream.specs.Drives.{HoldsOp, IsHeldOp, IsOther, KeepsOther};
+ghost use Rattle.net_stream.specs.Drives.{IsHeldOp, KeepsOther};
 
 use crate::inbox::Inbox;
 use crate::incoming::{Incoming, Polled};
@@ -210,8 +209,7 @@ impl Connection {
     pub fn end<D: OpDriver<Rent>>(self, driver: &mut D) -> SharedFd
         requires fits { FitsConnection (D.ops driver.old) self }
         ensures fd { result ≡ self.fd }
-        ensures others { (other : Token) → HoldsOp (D.ops driver.old) other → IsOther self.incoming.op other →
-            IsOther self.outgoing.op other → HoldsOp (D.ops driver.new) other }
+        ensures others { KeepsOutside (D.ops driver.old) self (D.ops driver.new) }
         ensures given { (D.ops driver.new).given ≡ (D.ops driver.old).given }
     {
         let Connection {
