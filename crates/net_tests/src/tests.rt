@@ -1,4 +1,5 @@
 // A pipe in memory gives back what is sent to it.
+ghost use Rattle.ready_driver.specs.LegacyState.{ops_in};
 ghost use Rattle.net_stream.specs.Connection.{FitsConnection};
 
 use driver_core::MOST_GIVEN;
@@ -64,7 +65,29 @@ fn get(alloc: Global, inbox: &mut Inbox, got: &mut Vec<u8>) -> Option<()> {
     Some(())
 }
 
-// Sends a text into a pipe, and gives what came.
+// Sends a text, and gives what came.
+fn pass(alloc: Global, driver: &mut OnHandles, conn: &mut Connection, text: &[u8]) -> Vec<u8>
+    requires { FitsConnection (ops_in driver.old) conn.old }
+    ensures { FitsConnection (ops_in driver.new) conn.new }
+{
+    let mut got = Vec::new(alloc);
+    let mut at = 0;
+    for _ in 0..STEPS {
+        match put(alloc, &mut conn.outbox, text, at) {
+            Some(next) => at = next,
+            None => return got,
+        }
+        if !step(driver, conn) {
+            return got;
+        }
+        if get(alloc, &mut conn.inbox, &mut got).is_none() {
+            return got;
+        }
+    }
+    got
+}
+
+// The same through a pipe of a driver of its own.
 fn round_trip(alloc: Global, row: &Row) -> Option<Vec<u8>> {
     let mut driver: OnHandles = LegacyDriver::over(alloc, MemIo::new(alloc));
     let next = driver.handles();
@@ -73,17 +96,7 @@ fn round_trip(alloc: Global, row: &Row) -> Option<Vec<u8>> {
     }
     let fd = driver.give(HandleKind::Pipe).ok()?;
     let mut conn = Connection::new(alloc, fd, row.room).ok()?;
-    let mut got = Vec::new(alloc);
-    let mut at = 0;
-    for _ in 0..STEPS {
-        match put(alloc, &mut conn.outbox, row.text.as_bytes(), at) {
-            Some(next) => at = next,
-            None => break,
-        }
-        if !step(&mut driver, &mut conn) || get(alloc, &mut conn.inbox, &mut got).is_none() {
-            break;
-        }
-    }
+    let got = pass(alloc, &mut driver, &mut conn, row.text.as_bytes());
     conn.end(&mut driver);
     Some(got)
 }
