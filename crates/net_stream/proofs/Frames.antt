@@ -8,14 +8,14 @@ use Rattle.ring_core.specs.declared.request.Request.{Request}
 use Rattle.driver_core.specs.declared.op.Op.{Op}
 use Rattle.driver_core.specs.declared.op.PollOp.{PollOp}
 use Rattle.driver_core.specs.declared.op.PollOp.TheVariants.{Pending, Ready}
-use Rattle.driver_core.specs.Op.{AddsToken, DropsToken, KeepsTokens, number_of}
+use Rattle.driver_core.specs.Op.{AddsToken, DropsToken, Holds, KeepsTokens, number_of}
 use Rattle.driver_core.specs.Ops.{Ops}
 use Rattle.driver_core.specs.Requests.{KeepsRequests, request_at}
 use Rattle.ready_driver.specs.Awaits.{TokensFor}
 use Rattle.op_driver.specs.Returned.{KeepsOthers}
 use Rattle.net_stream.specs.declared.connection.Connection.{Connection}
 use Rattle.net_stream.specs.Connection.{AreApart, AreBeside, FitsConnection, KeepsBeside, KeepsOutside}
-use Rattle.net_stream.specs.Drives.{FitsOp, HoldsOp, IfAsked, IsOther, IsRecv, IsSend, KeepsOther}
+use Rattle.net_stream.specs.Drives.{FitsOp, HoldsNoMore, HoldsOp, IsGone, IfAsked, IsOther, IsRecv, IsSend, KeepsOther}
 
 -- A submission adds an operation that is none of those that were held.
 pub submitted_other : (old new : Ops Rented) (op : Op) → AddsToken old new op → KeepsRequests old new → KeepsOther old None new (Some op)
@@ -159,3 +159,16 @@ beside_swaps one other beside = record {
     apart_swaps None (Some op) apart = tt
     apart_swaps (Some op) None apart = tt
     apart_swaps (Some op) (Some other) apart = λ same. apart (sym same)
+
+-- A drop leaves its operation gone, and makes none.
+pub dropped_gone : (old new : Ops Rented) (op : Op) → DropsToken old new op → Holds new op → ⊥
+dropped_gone old new op drops held = ((drops op).0 held).1 refl
+
+-- It makes none.
+pub dropped_fewer : (old new : Ops Rented) (op : Op) → DropsToken old new op → HoldsNoMore old new
+dropped_fewer old new op drops = λ other held. ((drops other).0 held).0
+
+-- What is gone stays gone where none is made.
+pub still_gone : (old new : Ops Rented) (op : Option Op) → IsGone old op → HoldsNoMore old new → IsGone new op
+still_gone old new None gone fewer = tt
+still_gone old new (Some op) gone fewer = λ held. gone (fewer op held)

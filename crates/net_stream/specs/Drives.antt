@@ -57,3 +57,12 @@ KeepsOther old waited new waits = (other : Op) → HoldsOp old other → IsOther
 abbrev pub IsHeldOp : Ops Rented → Option Op → Type 0
 IsHeldOp ops None = Unit {0}
 IsHeldOp ops (Some op) = HoldsOp ops op
+
+-- The operation that waited, if one did, is gone.
+abbrev pub IsGone : Ops Rented → Option Op → Type 0
+IsGone ops None = Unit {0}
+IsGone ops (Some op) = Holds ops op → ⊥
+
+-- A call makes no operation.
+abbrev pub HoldsNoMore : Ops Rented → Ops Rented → Type 0
+HoldsNoMore old new = (op : Op) → Holds new op → Holds old op

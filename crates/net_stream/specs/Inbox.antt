@@ -6,6 +6,8 @@ use Rattle.ring_core.specs.declared.request.Outcome.{Outcome}
 use Rattle.ring_core.specs.declared.request.Outcome.TheVariants.{Count, From, Made, Fail}
 use Rattle.rent_io.specs.declared.poll.PollBuf.{PollBuf}
 use Rattle.rent_io.specs.declared.poll.PollBuf.TheVariants.{Ready, Pending, Again}
+use Rattle.rent_io.specs.declared.poll.PollCount.{PollCount}
+use Rattle.rent_io.specs.declared.poll.PollCount.TheVariants.{Ready as CountReady, Pending as CountPending, Again as CountAgain}
 use Rattle.rent_io.specs.Counts.{Counts, Rose, no_counts}
 use Rattle.rent_io.specs.Polls.{Fails as FailsBy, Pauses}
 use Rattle.rent_io.specs.Reader.{Reader}
@@ -49,15 +51,25 @@ ReadsInbox inbox room (Again back) = ⊥
 
 -- What is to be answered, and what was counted for it. Nothing is given yet.
 abbrev pub Turns : ℕ → ℕ → Inboxed → Inboxed → Turn → Type 0
-Turns room task old new (Gives n) = GivesInbox old room n × (new.arrived ≡ old.arrived)
+Turns room task old new (Gives n) = GivesInbox old room n × (new.arrived ≡ old.arrived) × (new.fault ≡ old.fault)
     × (n ≡ 0 → (room ≡ 0) ⊎ Rose old.counts.zeros new.counts.zeros)
-Turns room task old new Waits = WaitsInbox old × (new.arrived ≡ old.arrived) × Pauses task old.counts new.counts
-Turns room task old new (Fails fault) = FailsInbox old fault × (new.arrived ≡ old.arrived) × FailsBy old.counts new.counts fault
+Turns room task old new Waits = WaitsInbox old × (new.arrived ≡ old.arrived) × (new.fault ≡ old.fault) × Pauses task old.counts new.counts
+Turns room task old new (Fails fault) =
+    FailsInbox old fault × (new.arrived ≡ old.arrived) × (new.fault ≡ None) × FailsBy old.counts new.counts fault
 
--- A read changes nothing else: what came is as it was but for what was given, and a fault is answered once.
-pub record KeepsInbox (old new : Inboxed) : Type 0 where
-  pub ended : new.ended ≡ old.ended
-  pub fault : (new.fault ≡ old.fault) ⊎ ((new.fault ≡ None) × (old.arrived ≡ []))
+-- The fault that no call answered yet, after a read: none once it is answered, and else what it was.
+abbrev pub FaultAfter : {T : Type 0} → Option IoFault → Option IoFault → PollBuf T → Type 0
+FaultAfter old new (Ready (Ok n) back) = new ≡ old
+FaultAfter old new (Ready (Err fault) back) = new ≡ None
+FaultAfter old new (Pending back) = new ≡ old
+FaultAfter old new (Again back) = new ≡ old
+
+-- The same after a fill, a flush or a shutdown.
+abbrev pub FaultFor : Option IoFault → Option IoFault → PollCount → Type 0
+FaultFor old new (CountReady (Ok n)) = new ≡ old
+FaultFor old new (CountReady (Err fault)) = new ≡ None
+FaultFor old new CountPending = new ≡ old
+FaultFor old new CountAgain = new ≡ old
 
 -- More may come: all that came was read, and no end and no fault came.
 abbrev pub WantsMore : Inboxed → Type 0

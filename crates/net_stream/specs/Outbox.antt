@@ -53,9 +53,9 @@ WritesOutbox outbox size (Again back) = ⊥
 
 -- What a write is to answer, and what was counted for it. Nothing is taken yet.
 abbrev pub TurnsWrite : ℕ → ℕ → Outboxed → Outboxed → Turn → Type 0
-TurnsWrite size task old new (Gives n) = TakesOutbox old size n
-TurnsWrite size task old new Waits = FullOutbox old × Pauses task old.counts new.counts
-TurnsWrite size task old new (Fails fault) = (old.fault ≡ Some fault) × FailsBy old.counts new.counts fault
+TurnsWrite size task old new (Gives n) = TakesOutbox old size n × (new.fault ≡ old.fault)
+TurnsWrite size task old new Waits = FullOutbox old × (new.fault ≡ old.fault) × Pauses task old.counts new.counts
+TurnsWrite size task old new (Fails fault) = (old.fault ≡ Some fault) × (new.fault ≡ None) × FailsBy old.counts new.counts fault
 
 -- All that was written is sent, and no fault came.
 abbrev pub IsSent : Outboxed → Type 0
@@ -74,14 +74,9 @@ FlushesOutbox outbox CountAgain = ⊥
 
 -- What a flush is to answer, and what was counted for it.
 abbrev pub TurnsFlush : ℕ → Outboxed → Outboxed → Turn → Type 0
-TurnsFlush task old new (Gives n) = IsSent old
-TurnsFlush task old new Waits = IsUnsent old × Pauses task old.counts new.counts
-TurnsFlush task old new (Fails fault) = (old.fault ≡ Some fault) × FailsBy old.counts new.counts fault
-
--- A call on the stream leaves what a send has, and a fault is answered once.
-pub record KeepsOutbox (old new : Outboxed) : Type 0 where
-  pub sending : new.sending ≡ old.sending
-  pub fault : (new.fault ≡ old.fault) ⊎ (new.fault ≡ None)
+TurnsFlush task old new (Gives n) = IsSent old × (new.fault ≡ old.fault)
+TurnsFlush task old new Waits = IsUnsent old × (new.fault ≡ old.fault) × Pauses task old.counts new.counts
+TurnsFlush task old new (Fails fault) = (old.fault ≡ Some fault) × (new.fault ≡ None) × FailsBy old.counts new.counts fault
 
 -- No byte was written or sent, and no flush or shutdown succeeded.
 pub record SameBytes (old new : Outboxed) : Type 0 where

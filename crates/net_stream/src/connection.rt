@@ -2,7 +2,7 @@
 ghost use Rattle.std.specs.Prelude.{◌≡◌, ◌≤◌, ◌<◌, ◌+◌, ◌∷◌, [], None, Ok, IsTrue, IsSome, IfOk};
 ghost use Rattle.net_stream.specs.Connection.{FitsConnection, HasSendFor, KeepsBeside, KeepsOutside, OnlyComes, OnlyGoes, PollsSendFor, PreparesFor};
 ghost use Rattle.net_stream.specs.Connection.{ReceivesFor, SendsFor, Settles, fresh_connection};
-ghost use Rattle.net_stream.specs.Drives.{IsHeldOp, KeepsOther};
+ghost use Rattle.net_stream.specs.Drives.{HoldsNoMore, IsGone, IsHeldOp, KeepsOther};
 
 use crate::inbox::Inbox;
 use crate::incoming::{Incoming, Polled};
@@ -34,6 +34,8 @@ pub struct Connection {
 fn drop_waiting<D: OpDriver<Rent>>(driver: &mut D, op: Option<Op>)
     requires { IsHeldOp (D.ops driver.old) op }
     ensures others { KeepsOther (D.ops driver.old) op (D.ops driver.new) None }
+    ensures gone { IsGone (D.ops driver.new) op }
+    ensures fewer { HoldsNoMore (D.ops driver.old) (D.ops driver.new) }
     ensures given { (D.ops driver.new).given ≡ (D.ops driver.old).given }
 {
     match op {
@@ -209,6 +211,7 @@ impl Connection {
     pub fn end<D: OpDriver<Rent>>(self, driver: &mut D) -> SharedFd
         requires fits { FitsConnection (D.ops driver.old) self }
         ensures fd { result ≡ self.fd }
+        ensures gone { IsGone (D.ops driver.new) self.incoming.op × IsGone (D.ops driver.new) self.outgoing.op }
         ensures others { KeepsOutside (D.ops driver.old) self (D.ops driver.new) }
         ensures given { (D.ops driver.new).given ≡ (D.ops driver.old).given }
     {

@@ -4,7 +4,7 @@ ghost use Rattle.rent_buf.specs.Buffer.{room};
 ghost use Rattle.rent_io.specs.Counts.{AfterCall};
 ghost use Rattle.rent_io.specs.Polls.{CountsNone, IsCaused};
 ghost use Rattle.rent_io.specs.Reader.{Reads, ReadsParts, first_room as room_of};
-ghost use Rattle.net_stream.specs.Inbox.{KeepsInbox, ReadsInbox, Turns, WantsMore, fresh_inbox, inbox_reader};
+ghost use Rattle.net_stream.specs.Inbox.{FaultAfter, ReadsInbox, Turns, WantsMore, fresh_inbox, inbox_reader};
 ghost use Rattle.net_stream.specs.Inbox.{came, fault_of, is_end, received};
 
 use crate::tally::{Tally, Turn};
@@ -144,7 +144,7 @@ impl Inbox {
     // What a read with so much room is to answer, which is counted.
     fn turn(&mut self, room: usize, task: u64) -> Turn
         ensures turns { Turns room task self.old self.new result }
-        ensures keeps { KeepsInbox self.old self.new }
+        ensures ended { self.new.ended ≡ self.old.ended }
         ensures counts { AfterCall None self.old.counts self.new.counts }
     {
         let count = self.arrived().len().min(room);
@@ -182,7 +182,8 @@ impl AsyncReadRent for Inbox {
         ensures cause { IsCaused task self.old.counts self.new.counts result }
         ensures counts { AfterCall None self.old.counts self.new.counts }
         ensures inbox { ReadsInbox self.old (room (T.buffer buf)) result }
-        ensures keeps { KeepsInbox self.old self.new }
+        ensures once { FaultAfter self.old.fault self.new.fault result }
+        ensures ended { self.new.ended ≡ self.old.ended }
     {
         let mut buf = buf;
         match self.turn(buf.bytes_total(), task) {
@@ -205,7 +206,8 @@ impl AsyncReadRent for Inbox {
         ensures cause { IsCaused task self.old.counts self.new.counts result }
         ensures counts { AfterCall None self.old.counts self.new.counts }
         ensures inbox { ReadsInbox self.old (room_of (T.held buf)) result }
-        ensures keeps { KeepsInbox self.old self.new }
+        ensures once { FaultAfter self.old.fault self.new.fault result }
+        ensures ended { self.new.ended ≡ self.old.ended }
     {
         let mut buf = buf;
         match self.turn(first_room(&buf), task) {

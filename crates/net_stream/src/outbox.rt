@@ -4,7 +4,8 @@ ghost use Rattle.std.specs.List.{concat};
 ghost use Rattle.rent_io.specs.Counts.{AfterCall};
 ghost use Rattle.rent_io.specs.Polls.{CountsNone, IsWriteCaused, IsFlushCaused};
 ghost use Rattle.rent_io.specs.Writer.{CountsDone, EndsStay, Writes, first_part as part_of};
-ghost use Rattle.net_stream.specs.Outbox.{FlushesOutbox, KeepsOutbox, PutIn, SameBytes, TakenOut, TurnsFlush, TurnsWrite};
+ghost use Rattle.net_stream.specs.Inbox.{FaultAfter, FaultFor};
+ghost use Rattle.net_stream.specs.Outbox.{FlushesOutbox, PutIn, SameBytes, TakenOut, TurnsFlush, TurnsWrite};
 ghost use Rattle.net_stream.specs.Outbox.{WantsSent, WritesOutbox, fresh_outbox, has_failed, outbox_writer};
 
 use crate::tally::{Tally, Turn};
@@ -140,7 +141,7 @@ impl Outbox {
     // What a write of so many bytes is to answer, which is counted.
     fn turn(&mut self, size: usize, task: u64) -> Turn
         ensures turns { TurnsWrite size task self.old self.new result }
-        ensures keeps { KeepsOutbox self.old self.new }
+        ensures sending { self.new.sending ≡ self.old.sending }
         ensures same { SameBytes self.old self.new }
         ensures counts { AfterCall None self.old.counts self.new.counts }
     {
@@ -162,7 +163,7 @@ impl Outbox {
     // What a flush is to answer, which is counted.
     fn flushing(&mut self, task: u64) -> Turn
         ensures turns { TurnsFlush task self.old self.new result }
-        ensures keeps { KeepsOutbox self.old self.new }
+        ensures sending { self.new.sending ≡ self.old.sending }
         ensures same { SameBytes self.old self.new }
         ensures counts { AfterCall None self.old.counts self.new.counts }
     {
@@ -194,7 +195,8 @@ impl Outbox {
         ensures cause { IsWriteCaused task self.old.counts self.new.counts result }
         ensures counts { AfterCall None self.old.counts self.new.counts }
         ensures outbox { WritesOutbox self.old (length bytes.now) result }
-        ensures keeps { KeepsOutbox self.old self.new }
+        ensures once { FaultAfter self.old.fault self.new.fault result }
+        ensures sending { self.new.sending ≡ self.old.sending }
     {
         match self.turn(bytes.len(), task) {
             Turn::Gives(count) => {
@@ -222,7 +224,8 @@ impl AsyncWriteRent for Outbox {
         ensures cause { IsWriteCaused task self.old.counts self.new.counts result }
         ensures counts { AfterCall None self.old.counts self.new.counts }
         ensures outbox { WritesOutbox self.old (length (T.content buf)) result }
-        ensures keeps { KeepsOutbox self.old self.new }
+        ensures once { FaultAfter self.old.fault self.new.fault result }
+        ensures sending { self.new.sending ≡ self.old.sending }
     {
         match self.write(buf.bytes(), task) {
             PollBuf::Ready(outcome, ()) => PollBuf::Ready(outcome, buf),
@@ -240,7 +243,8 @@ impl AsyncWriteRent for Outbox {
         ensures cause { IsWriteCaused task self.old.counts self.new.counts result }
         ensures counts { AfterCall None self.old.counts self.new.counts }
         ensures outbox { WritesOutbox self.old (length (part_of (T.parts buf))) result }
-        ensures keeps { KeepsOutbox self.old self.new }
+        ensures once { FaultAfter self.old.fault self.new.fault result }
+        ensures sending { self.new.sending ≡ self.old.sending }
     {
         match self.write(first_part(&buf), task) {
             PollBuf::Ready(outcome, ()) => PollBuf::Ready(outcome, buf),
@@ -257,7 +261,8 @@ impl AsyncWriteRent for Outbox {
         ensures cause { IsFlushCaused task self.old.counts self.new.counts result }
         ensures counts { AfterCall None self.old.counts self.new.counts }
         ensures outbox { FlushesOutbox self.old result }
-        ensures keeps { KeepsOutbox self.old self.new }
+        ensures once { FaultFor self.old.fault self.new.fault result }
+        ensures sending { self.new.sending ≡ self.old.sending }
     {
         match self.flushing(task) {
             Turn::Gives(_) => {
@@ -277,7 +282,8 @@ impl AsyncWriteRent for Outbox {
         ensures cause { IsFlushCaused task self.old.counts self.new.counts result }
         ensures counts { AfterCall None self.old.counts self.new.counts }
         ensures outbox { FlushesOutbox self.old result }
-        ensures keeps { KeepsOutbox self.old self.new }
+        ensures once { FaultFor self.old.fault self.new.fault result }
+        ensures sending { self.new.sending ≡ self.old.sending }
     {
         match self.flushing(task) {
             Turn::Gives(_) => {
