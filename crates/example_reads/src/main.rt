@@ -99,7 +99,10 @@ fn go_round<R: Print>(rt: &R, alloc: Global, driver: &mut Ring, count: u32) -> R
     for _ in 0..count {
         buf = round(driver, fd, buf)?;
     }
-    println!(rt; "{count} reads by one buffer: at the end it has {:?}", buf.as_slice())?;
+    println!(rt;
+        "{count} reads by one buffer: at the end it has {:?}",
+        buf.as_slice()
+    )?;
     Ok(())
 }
 

@@ -20,11 +20,10 @@ use Rattle.net_stream.specs.Drives.{FitsOp, HoldsNoMore, HoldsOp, IsGone, IfAske
 -- A submission adds an operation that is none of those that were held.
 pub submitted_other : (old new : Ops Rented) (op : Op) → AddsToken old new op → KeepsRequests old new → KeepsOther old None new (Some op)
 submitted_other old new op adds keeps = λ other held apart.
-    let below = held.1 in let next = adds.next in let number = adds.number in
-    (
+    let below = held.1 in let next = adds.next in let number = adds.number in (
       (adds.kept other held.0, omega (arith, below, next)),
       keeps other held.0 (adds.kept other held.0),
-      λ same. let e : number_of other ≡ number_of op = ap number_of same in absurd (omega (arith, below, number, e))
+      λ same. let e : number_of other ≡ number_of op = ap number_of same in absurd (omega (arith, below, number, e)),
     )
 
 -- One that was refused changes none.
@@ -122,10 +121,9 @@ pub beside_fits : (old new : Ops Rented) (before now other : Connection) → Kee
 beside_fits old new before now other keeps fits beside =
     let receive = beside_op old new before now other.incoming.op (IsRecv other.fd) keeps fits.receives beside.both_receive beside.one_sends in
     let send = beside_op old new before now other.outgoing.op (IsSend other.fd other.outgoing.room) keeps fits.sends beside.one_receives
-      beside.both_send in
-    (
+    beside.both_send in (
       record { receives = receive.fits; sends = send.fits; apart = fits.apart },
-      record { both_receive = receive.receives; one_receives = send.receives; one_sends = receive.sends; both_send = send.sends }
+      record { both_receive = receive.receives; one_receives = send.receives; one_sends = receive.sends; both_send = send.sends },
     )
 
 -- The end of one connection keeps what another waits for.

@@ -76,7 +76,7 @@ plain_send h buf (Send fd kept) same =
     let bytes : kept.bytes ≡ buf.bytes = ap (λ b. b.bytes) e in
     let total : kept.total ≡ buf.total = ap (λ b. b.total) e in
     let whole : kept ≡ buf = ap (λ bs. record { bytes = bs; total = kept.total }) bytes
-        ∙ ap (λ n. record { bytes = buf.bytes; total = n }) total in
+    ∙ ap (λ n. record { bytes = buf.bytes; total = n }) total in
     ap (λ b. Send fd b) whole ∙ ap (λ n. Send n buf) number
 plain_send h buf (WriteVec fd parts) same = absurd cc
 plain_send h buf (RecvMsg fd kept) same = absurd cc

@@ -76,7 +76,7 @@ pub new_uncanceled : (old new : Ops Rented) (request : Request Rented Parts) (op
     → new.slots.values ≡ map.insert old.slots.values op.key (new_slot old request) → IsUncanceled new (Some op)
 new_uncanceled old new request op slots outcome is =
     let there : map.get new.slots.values op.key ≡ Some (new_slot old request) =
-      ap (λ m. map.get m op.key) slots ∙ put-same old.slots.values op.key (new_slot old request) in
+    ap (λ m. map.get m op.key) slots ∙ put-same old.slots.values op.key (new_slot old request) in
     absurd (never (subst (λ s. IsCompleted s outcome) there is))
   where
     never : IsCompleted (Some (new_slot old request)) outcome → ⊥
@@ -96,7 +96,7 @@ same_asked (Some slot) = refl
 -- Once the first bytes of its input left, a handle has the rest.
 input_rest : (k : ℕ) (found : Option HandleState)
     → unwrap_or (option_map (λ handle. handle.input) (option_map (without_front k) found)) []
-      ≡ drop k (unwrap_or (option_map (λ handle. handle.input) found) [])
+    ≡ drop k (unwrap_or (option_map (λ handle. handle.input) found) [])
 input_rest zero None = refl
 input_rest (suc k) None = refl
 input_rest k (Some handle) = refl
@@ -117,16 +117,15 @@ recv_told : (told : Told) (old new : List HandleState) (fd : ℕ) (from buf : Re
     → outcome ≡ (call_effect old (Recv fd (buffer_of_rent from)) told).outcome
     → new ≡ (call_effect old (Recv fd (buffer_of_rent from)) told).world
     → held_of (plain_request buffer_of_rent (Recv fd buf))
-      ≡ held (Recv fd (buffer_of_rent from)) told (call_effect old (Recv fd (buffer_of_rent from)) told).got
+    ≡ held (Recv fd (buffer_of_rent from)) told (call_effect old (Recv fd (buffer_of_rent from)) told).got
     → (came outcome buf.bytes ++ input_at new fd ≡ input_at old fd) × (made_by outcome ≡ None)
-recv_told (told.Count k) old new fd from buf outcome out world holds =
-    (
-      ap (λ o. came o buf.bytes ++ input_at new fd) out
-        ∙ (ap (λ bs. bs ++ input_at new fd) (ap held_bytes holds)
-        ∙ (ap (λ w. take k (input_at old fd) ++ input_at w fd) world
-        ∙ (ap (λ rest. take k (input_at old fd) ++ rest) (input_left k fd old) ∙ take-append-drop k (input_at old fd)))),
-      ap made_by out
-    )
+recv_told (told.Count k) old new fd from buf outcome out world holds = (
+  ap (λ o. came o buf.bytes ++ input_at new fd) out
+      ∙ (ap (λ bs. bs ++ input_at new fd) (ap held_bytes holds)
+      ∙ (ap (λ w. take k (input_at old fd) ++ input_at w fd) world
+      ∙ (ap (λ rest. take k (input_at old fd) ++ rest) (input_left k fd old) ∙ take-append-drop k (input_at old fd)))),
+  ap made_by out,
+)
 recv_told (told.Fail e) old new fd from buf outcome out world holds =
     (ap (λ o. came o buf.bytes ++ input_at new fd) out ∙ ap (λ w. input_at w fd) world, ap made_by out)
 
@@ -141,9 +140,9 @@ given_unread ended before inbox now later false is gives = ap (λ c. unread late
 given_unread None before inbox now later true is gives = absurd gives
 given_unread (Some ended) before inbox now later true is gives =
     ap (λ c. unread later c) gives.1
-      ∙ (ap (λ b. b.arrived ++ []) gives.2
-      ∙ (append-nil (came ended.0 ended.1)
-      ∙ (ap (λ e. came_in e) (sym is) ∙ ap (λ bs. bs ++ came_in before.ended) (sym gives.0.0))))
+    ∙ (ap (λ b. b.arrived ++ []) gives.2
+    ∙ (append-nil (came ended.0 ended.1)
+    ∙ (ap (λ e. came_in e) (sym is) ∙ ap (λ bs. bs ++ came_in before.ended) (sym gives.0.0))))
 
 -- So it is after what a call left.
 settled_unread : (coming : Coming) (inbox : Inboxed) (now : Connection) (result : Result Progress SubmitFault)
@@ -161,8 +160,8 @@ kept_came : (arrived : List ℕ) (after before : Coming) (waiting waited : List 
     → (arrived ++ came_in after.ended) ++ waiting ≡ (arrived ++ came_in before.ended) ++ waited
 kept_came arrived after before waiting waited none came =
     append_assoc arrived (came_in after.ended) waiting
-      ∙ (ap (λ bs. arrived ++ bs) came
-      ∙ ap (λ bs. bs ++ waited) (sym (append-nil arrived) ∙ ap (λ e. arrived ++ came_in e) (sym none)))
+    ∙ (ap (λ bs. arrived ++ bs) came
+    ∙ ap (λ bs. bs ++ waited) (sym (append-nil arrived) ∙ ap (λ e. arrived ++ came_in e) (sym none)))
 
 module _ {I : Type 0} (view : I → IoView) (tells memory : Bool) (files : I → ℕ → Bool) (called : Called I)
     (law : Lawful view tells memory called) where
@@ -177,14 +176,14 @@ module _ {I : Type 0} (view : I → IoView) (tells memory : Bool) (files : I →
   call_came true slot new before after fd buf request outcome t flies asks is (inr made) =
       let from = recv_is fd made.request (subst (λ o. IfAsked o (IsRecv fd)) made.asked asks) in
       let does = law before (plain_request buffer_of_rent made.request) after (plain_request buffer_of_rent request)
-          (Done outcome) made.calls in
+      (Done outcome) made.calls in
       let moved : IsMoved (view before).world (Recv fd (buffer_of_rent from.buf)) (view after).world (Recv fd
-          (buffer_of_rent buf)) outcome =
-        subst (λ now. IsMoved (view before).world (Recv fd (buffer_of_rent from.buf)) (view after).world
-            (plain_request buffer_of_rent now) outcome) is
-        (subst (λ asked. IsMoved (view before).world (plain_request buffer_of_rent asked) (view after).world
-            (plain_request buffer_of_rent request) outcome)
-          from.request_is (does.moved t)) in
+      (buffer_of_rent buf)) outcome =
+      subst (λ now. IsMoved (view before).world (Recv fd (buffer_of_rent from.buf)) (view after).world
+      (plain_request buffer_of_rent now) outcome) is
+      (subst (λ asked. IsMoved (view before).world (plain_request buffer_of_rent asked) (view after).world
+      (plain_request buffer_of_rent request) outcome)
+      from.request_is (does.moved t)) in
       recv_told moved.told (view before).world (view after).world fd from.buf buf outcome moved.outcome_is moved.world moved.holds.holds
 
   -- A poll that returned a receive: what came is what left the input.
@@ -194,21 +193,21 @@ module _ {I : Type 0} (view : I → IoView) (tells memory : Bool) (files : I →
       → came done.outcome buf.bytes ++ waiting_at view new fd ≡ waiting_at view old fd
   ended_came old new op task fd done buf t ends flies asks is =
       let moved = call_came (is_met_at old.handling.records (unless (files old.handling.io) (slot_awaits
-          (map.get old.slots.values op.key))))
-        (map.get old.slots.values op.key) (map.get new.slots.values op.key) old.handling.io ends.mid.io fd buf done.request ends.call t
-            flies
-        (subst (λ o. IfAsked o (IsRecv fd)) (same_asked (map.get old.slots.values op.key)) asks) is ends.calls in
+      (map.get old.slots.values op.key))))
+      (map.get old.slots.values op.key) (map.get new.slots.values op.key) old.handling.io ends.mid.io fd buf done.request ends.call t
+      flies
+      (subst (λ o. IfAsked o (IsRecv fd)) (same_asked (map.get old.slots.values op.key)) asks) is ends.calls in
       let out : done.outcome ≡ ends.call = ends.outcome ∙ same_outcome ends.mid.table ends.call moved.1 in
       let unmade : made_by done.outcome ≡ None = ap made_by out ∙ moved.1 in
       let handed : ends.handed ≡ ends.mid = subst (λ m. HandsOver view tells memory ends.mid m ends.handed) unmade ends.hands in
       let world : (view new.handling.io).world ≡ (view ends.mid.io).world = ends.lets.object.world t ∙ ap (λ h. (view h.io).world) handed in
       ap (λ o. came o buf.bytes ++ waiting_at view new fd) out
-        ∙ (ap (λ w. came ends.call buf.bytes ++ input_at w fd) world ∙ moved.0)
+      ∙ (ap (λ w. came ends.call buf.bytes ++ input_at w fd) world ∙ moved.0)
 
   -- A poll that returned none: no handle has changed.
   pub stayed_world : (old new : LegacyState I Rented) (op back : Op) (task : ℕ) → IsTrue tells
       → PollEndsFor files buffer_of_rent called view tells memory old new op task (Ok (Pending back))
-          → world_of view new ≡ world_of view old
+      → world_of view new ≡ world_of view old
   stayed_world old new op back task t ends = by-call (is_met_at old.handling.records (unless (files old.handling.io) (slot_awaits
       (map.get old.slots.values op.key)))) ends.2
     where
@@ -217,7 +216,7 @@ module _ {I : Type 0} (view : I → IoView) (tells memory : Bool) (files : I →
           new.handling.io (Ok (Pending back)) → world_of view new ≡ world_of view old
       by-call false calls = ap (λ io. (view io).world) calls.object
       by-call true calls = (law old.handling.io (plain_request buffer_of_rent calls.made.request) new.handling.io
-        (plain_request buffer_of_rent calls.now) WouldBlock calls.made.calls).0.world t
+          (plain_request buffer_of_rent calls.now) WouldBlock calls.made.calls).0.world t
 
   pub starved_world : (old new : LegacyState I Rented) (op : Op) (error : NoMemory × Op) (task : ℕ) → IsTrue tells
       → PollEndsFor files buffer_of_rent called view tells memory old new op task (Err error) → world_of view new ≡ world_of view old
@@ -230,7 +229,7 @@ module _ {I : Type 0} (view : I → IoView) (tells memory : Bool) (files : I →
       by-call false calls = ap (λ io. (view io).world) calls.object
       by-call true (inl none) = ap (λ io. (view io).world) none.object
       by-call true (inr calls) = (law old.handling.io (plain_request buffer_of_rent calls.made.request) new.handling.io
-        (plain_request buffer_of_rent calls.now) OutOfMemory calls.made.calls).0.world t
+          (plain_request buffer_of_rent calls.now) OutOfMemory calls.made.calls).0.world t
 
   -- A submission leaves the handles.
   pub begun_world : (old new : LegacyState I Rented) (request : Request Rented Parts) (op : Op) → IsTrue tells
@@ -248,16 +247,16 @@ module _ {I : Type 0} (view : I → IoView) (tells memory : Bool) (files : I →
       → came_in now.ended ++ waiting_at view new fd ≡ waiting_at view old fd
   polled_came old new fd task before now Waits t polls none flies fits =
       ap (λ coming. came_in coming.ended ++ waiting_at view new fd) polls.same
-        ∙ (ap (λ ended. came_in ended ++ waiting_at view new fd) none
-        ∙ ap (λ w. input_at w fd) (stayed_world old new polls.op polls.op task t polls.polled.ends))
+      ∙ (ap (λ ended. came_in ended ++ waiting_at view new fd) none
+      ∙ ap (λ w. input_at w fd) (stayed_world old new polls.op polls.op task t polls.polled.ends))
   polled_came old new fd task before now HasEnded t polls none flies fits =
       ap (λ coming. came_in coming.ended ++ waiting_at view new fd) polls.now_is
-        ∙ ended_came old new polls.op task fd polls.done polls.buf t polls.polled.ends
-          (subst (IsUncanceled (ops_in old)) polls.waited flies) (subst (λ o. AsksRecv (ops_in old) o fd) polls.waited fits) polls.request
+      ∙ ended_came old new polls.op task fd polls.done polls.buf t polls.polled.ends
+      (subst (IsUncanceled (ops_in old)) polls.waited flies) (subst (λ o. AsksRecv (ops_in old) o fd) polls.waited fits) polls.request
   polled_came old new fd task before now NoRoom t polls none flies fits =
       ap (λ coming. came_in coming.ended ++ waiting_at view new fd) polls.1.same
-        ∙ (ap (λ ended. came_in ended ++ waiting_at view new fd) none
-        ∙ ap (λ w. input_at w fd) (starved_world old new polls.1.op (polls.0, polls.1.op) task t polls.1.polled.ends))
+      ∙ (ap (λ ended. came_in ended ++ waiting_at view new fd) none
+      ∙ ap (λ w. input_at w fd) (starved_world old new polls.1.op (polls.0, polls.1.op) task t polls.1.polled.ends))
 
   -- The receive that waits before the poll: nothing has ended, no handle has changed, it isn't completed, and it is one.
   record Waiting (old mid : LegacyState I Rented) (fd : ℕ) (between : Coming) : Type 0 where
@@ -276,8 +275,8 @@ module _ {I : Type 0} (view : I → IoView) (tells memory : Bool) (files : I →
     flies = subst (λ c. IsUncanceled (ops_in mid) c.op) (sym has.1) (subst (λ d. IsUncanceled (ops_in d) before.incoming.op)
         (sym has.0) flies);
     asks = subst (λ c. AsksRecv (ops_in mid) c.op before.fd) (sym has.1)
-      (subst (λ d. AsksRecv (ops_in d) before.incoming.op before.fd) (sym has.0) (fits_asks
-          (ops_in old) before.incoming.op before.fd fits));
+        (subst (λ d. AsksRecv (ops_in d) before.incoming.op before.fd) (sym has.0) (fits_asks
+        (ops_in old) before.incoming.op before.fd fits));
   }
   has_waiting old mid before between None is t has none flies fits =
       let begun = has.1 in
@@ -285,9 +284,9 @@ module _ {I : Type 0} (view : I → IoView) (tells memory : Bool) (files : I →
         none = ap (λ c. c.ended) begun.now_is;
         world = begun_world old mid begun.request begun.op t begun.submitted;
         flies = subst (λ c. IsUncanceled (ops_in mid) c.op) (sym begun.now_is)
-          (new_uncanceled (ops_in old) (ops_in mid) begun.request begun.op begun.submitted.slots);
+            (new_uncanceled (ops_in old) (ops_in mid) begun.request begun.op begun.submitted.slots);
         asks = subst (λ c. AsksRecv (ops_in mid) c.op before.fd) (sym begun.now_is)
-          (subst (λ o. IfAsked o (IsRecv before.fd)) (sym (new_asks (ops_in old) (ops_in mid) begun.request begun.op begun.submitted.slots
+            (subst (λ o. IfAsked o (IsRecv before.fd)) (sym (new_asks (ops_in old) (ops_in mid) begun.request begun.op begun.submitted.slots
             ∙ ap Some begun.asks.request_is)) refl);
       }
 
@@ -299,30 +298,30 @@ module _ {I : Type 0} (view : I → IoView) (tells memory : Bool) (files : I →
       → unread_in now ++ waiting_at view new before.fd ≡ unread_in before ++ waiting_at view old before.fd
   left_came Waits old new before now after result none leaves came =
       ap (λ c. unread_in c ++ waiting_at view new before.fd) leaves.1 ∙ kept_came before.inbox.arrived after before.incoming
-          (waiting_at view new before.fd) (waiting_at view old before.fd) none came
+      (waiting_at view new before.fd) (waiting_at view old before.fd) none came
   left_came HasEnded old new before now after result none leaves came =
       ap (λ bs. bs ++ waiting_at view new before.fd) (settled_unread after before.inbox now result leaves)
-        ∙ kept_came before.inbox.arrived after before.incoming (waiting_at view new before.fd) (waiting_at view old before.fd) none came
+      ∙ kept_came before.inbox.arrived after before.incoming (waiting_at view new before.fd) (waiting_at view old before.fd) none came
   left_came NoRoom old new before now after result none leaves came =
       ap (λ c. unread_in c ++ waiting_at view new before.fd) leaves.1 ∙ kept_came before.inbox.arrived after before.incoming
-          (waiting_at view new before.fd) (waiting_at view old before.fd) none came
+      (waiting_at view new before.fd) (waiting_at view old before.fd) none came
 
   -- A receive loses no byte, and moves none but to what came.
   pub receives_came : (old new : LegacyState I Rented) (task : ℕ) (before now : Connection) (result : Result Progress SubmitFault)
       → ReceivesFor (LegacySubmits view tells memory) (LegacyPolls files buffer_of_rent called view tells memory) old new before now task
-          result
+      result
       → IsUncanceled (ops_in old) before.incoming.op → FitsOp (ops_in old) before.incoming.op (IsRecv before.fd)
       → IsTrue tells → unread_in now ++ waiting_at view new before.fd ≡ unread_in before ++ waiting_at view old before.fd
   receives_came old new task before now result (inl r) flies fits t =
       let w = has_waiting old r.mid before r.between before.incoming.op refl t r.has r.none flies fits in
       left_came r.came_to r.mid new before now r.after result r.none r.leaves
-        (polled_came r.mid new before.fd task r.between r.after r.came_to t r.polls_it w.none w.flies w.asks)
-        ∙ ap (λ ws. unread_in before ++ input_at ws before.fd) w.world
+      (polled_came r.mid new before.fd task r.between r.after r.came_to t r.polls_it w.none w.flies w.asks)
+      ∙ ap (λ ws. unread_in before ++ input_at ws before.fd) w.world
   receives_came old new task before now result (inr (inl r)) flies fits t =
       ap (λ bs. bs ++ waiting_at view new before.fd) (settled_unread before.incoming before.inbox now result r.2)
-        ∙ ap (λ d. unread_in before ++ waiting_at view d before.fd) r.0
+      ∙ ap (λ d. unread_in before ++ waiting_at view d before.fd) r.0
   receives_came old new task before now result (inr (inr (inl r))) flies fits t =
       ap (λ c. unread_in c ++ waiting_at view new before.fd) r.1 ∙ ap (λ d. unread_in before ++ waiting_at view d before.fd) r.0
   receives_came old new task before now result (inr (inr (inr r))) flies fits t =
       ap (λ c. unread_in c ++ waiting_at view new before.fd) r.4
-        ∙ ap (λ ws. unread_in before ++ input_at ws before.fd) (refused_world old new r.3.request r.3.refused t r.3.submitted)
+      ∙ ap (λ ws. unread_in before ++ input_at ws before.fd) (refused_world old new r.3.request r.3.refused t r.3.submitted)

@@ -60,7 +60,7 @@ offered_front k most total bytes within =
     let outer = length-take most (take total bytes) in
     let inner = length-take total bytes in
     take-take k most (take total bytes) (omega (arith, within, outer))
-      ∙ take-take k total bytes (omega (arith, within, outer, inner))
+    ∙ take-take k total bytes (omega (arith, within, outer, inner))
 
 -- Bytes that are sent to a stream join its output.
 output_joined : (bytes : List ℕ) (handle : HandleState) → handle.kind ≡ Stream
@@ -72,7 +72,7 @@ output_after : (bytes : List ℕ) (h : ℕ) (world : List HandleState) → IsStr
     → output_at (amended world h (with_sent bytes)) h ≡ output_at world h ++ bytes
 output_after bytes h world stream =
     ap (λ found. unwrap_or (option_map (λ handle. handle.output) found) [])
-      (get-amended (with_sent bytes) world h ∙ ap (option_map (with_sent bytes)) stream.there)
+    (get-amended (with_sent bytes) world h ∙ ap (option_map (with_sent bytes)) stream.there)
     ∙ (output_joined bytes stream.handle stream.kind
     ∙ ap (λ found. unwrap_or (option_map (λ handle. handle.output) found) [] ++ bytes) (sym stream.there))
 
@@ -85,15 +85,14 @@ send_told : (told : Told) (old new : List HandleState) (fd : ℕ) (buf : Rented)
 send_told (told.Count k) old new fd buf outcome stream out world ends =
     let counts = subst (CallEndsFor (Send fd (buffer_of_rent buf)) (Send fd (buffer_of_rent buf))) out ends in
     let front : take k (sent_of (Send fd (buffer_of_rent buf))) ≡ take k buf.bytes = offered_front k MOST_ASKED buf.total buf.bytes
-        counts.0 in
-    (
+    counts.0 in (
       ap (λ o. output_at new fd ++ drop (sent_by o) buf.bytes) out
-        ∙ (ap (λ w. output_at w fd ++ drop k buf.bytes) world
-        ∙ (ap (λ bs. bs ++ drop k buf.bytes) (output_after (take k (sent_of (Send fd (buffer_of_rent buf)))) fd old stream)
-        ∙ (ap (λ bs. (output_at old fd ++ bs) ++ drop k buf.bytes) front
-        ∙ (append_assoc (output_at old fd) (take k buf.bytes) (drop k buf.bytes)
-        ∙ ap (λ bs. output_at old fd ++ bs) (take-append-drop k buf.bytes))))),
-      ap made_by out
+          ∙ (ap (λ w. output_at w fd ++ drop k buf.bytes) world
+          ∙ (ap (λ bs. bs ++ drop k buf.bytes) (output_after (take k (sent_of (Send fd (buffer_of_rent buf)))) fd old stream)
+          ∙ (ap (λ bs. (output_at old fd ++ bs) ++ drop k buf.bytes) front
+          ∙ (append_assoc (output_at old fd) (take k buf.bytes) (drop k buf.bytes)
+          ∙ ap (λ bs. output_at old fd ++ bs) (take-append-drop k buf.bytes))))),
+      ap made_by out,
     )
 send_told (told.Fail e) old new fd buf outcome stream out world ends =
     (ap (λ o. output_at new fd ++ drop (sent_by o) buf.bytes) out ∙ ap (λ w. output_at w fd ++ buf.bytes) world, ap made_by out)
@@ -126,9 +125,9 @@ prepared before going outbox (inr loads) =
     let all = before.outbox.unsent in
     let room = before.outgoing.room in
     ap (λ g. g.unsent ++ outbox.unsent) loads.2.taken
-      ∙ (ap (λ bs. take room all ++ bs) (loads.2.left.unsent ∙ drop_min room all)
-      ∙ (take-append-drop room all
-      ∙ ap (λ bs. bs ++ all) (sym (no_bytes before.outgoing.unsent loads.0))))
+    ∙ (ap (λ bs. take room all ++ bs) (loads.2.left.unsent ∙ drop_min room all)
+    ∙ (take-append-drop room all
+    ∙ ap (λ bs. bs ++ all) (sym (no_bytes before.outgoing.unsent loads.0))))
 
 -- No send waits by that.
 prepared_op : (before : Connection) (going : Going) (outbox : Outboxed) → Prepares before going outbox → going.op ≡ before.outgoing.op
@@ -143,23 +142,23 @@ module _ {I : Type 0} (view : I → IoView) (tells memory : Bool) (files : I →
       → ((o : Outcome) → IsCompleted slot o → ⊥) → request_in slot ≡ Some (Send fd buf) → request ≡ Send fd buf
       → CallsOnce b buffer_of_rent called slot before new after (Ok (Ready (record { outcome = outcome; request = request })))
       → (output_at (view after).world fd ++ drop (sent_by outcome) buf.bytes ≡ output_at (view before).world fd ++ buf.bytes)
-        × (made_by outcome ≡ None)
+      × (made_by outcome ≡ None)
   call_went false slot new before after fd buf request outcome t stream flies asks is calls = absurd calls
   call_went true slot new before after fd buf request outcome t stream flies asks is (inl none) = absurd (flies outcome none.1)
   call_went true slot new before after fd buf request outcome t stream flies asks is (inr made) =
       let same : Some made.request ≡ Some (Send fd buf) = sym made.asked ∙ asks in
       let from : made.request ≡ Send fd buf = cc in
       let does = law before (plain_request buffer_of_rent made.request) after (plain_request buffer_of_rent request)
-          (Done outcome) made.calls in
+      (Done outcome) made.calls in
       let moved : IsMoved (view before).world (Send fd (buffer_of_rent buf)) (view after).world (Send fd (buffer_of_rent buf)) outcome =
-        subst (λ now. IsMoved (view before).world (Send fd (buffer_of_rent buf)) (view after).world
-            (plain_request buffer_of_rent now) outcome) is
-        (subst (λ asked. IsMoved (view before).world (plain_request buffer_of_rent asked) (view after).world
-            (plain_request buffer_of_rent request) outcome)
-          from (does.moved t)) in
+      subst (λ now. IsMoved (view before).world (Send fd (buffer_of_rent buf)) (view after).world
+      (plain_request buffer_of_rent now) outcome) is
+      (subst (λ asked. IsMoved (view before).world (plain_request buffer_of_rent asked) (view after).world
+      (plain_request buffer_of_rent request) outcome)
+      from (does.moved t)) in
       let ends : CallEndsFor (Send fd (buffer_of_rent buf)) (Send fd (buffer_of_rent buf)) outcome =
-        subst (λ now. CallEndsFor (Send fd (buffer_of_rent buf)) (plain_request buffer_of_rent now) outcome) is
-        (subst (λ asked. CallEndsFor (plain_request buffer_of_rent asked) (plain_request buffer_of_rent request) outcome) from does.ends) in
+      subst (λ now. CallEndsFor (Send fd (buffer_of_rent buf)) (plain_request buffer_of_rent now) outcome) is
+      (subst (λ asked. CallEndsFor (plain_request buffer_of_rent asked) (plain_request buffer_of_rent request) outcome) from does.ends) in
       send_told moved.told (view before).world (view after).world fd buf outcome stream moved.outcome_is moved.world ends
 
   -- A poll that returned a send: what it took is what joined the output.
@@ -170,22 +169,22 @@ module _ {I : Type 0} (view : I → IoView) (tells memory : Bool) (files : I →
       → sent_at view new fd ++ drop (sent_by done.outcome) buf.bytes ≡ sent_at view old fd ++ buf.bytes
   ended_went old new op task fd done buf t stream ends flies asks is =
       let moved = call_went (is_met_at old.handling.records (unless (files old.handling.io) (slot_awaits
-          (map.get old.slots.values op.key))))
-        (map.get old.slots.values op.key) (map.get new.slots.values op.key) old.handling.io ends.mid.io fd buf done.request ends.call t
-            stream flies
-        (sym (same_asked (map.get old.slots.values op.key)) ∙ asks) is ends.calls in
+      (map.get old.slots.values op.key))))
+      (map.get old.slots.values op.key) (map.get new.slots.values op.key) old.handling.io ends.mid.io fd buf done.request ends.call t
+      stream flies
+      (sym (same_asked (map.get old.slots.values op.key)) ∙ asks) is ends.calls in
       let out : done.outcome ≡ ends.call = ends.outcome ∙ same_outcome ends.mid.table ends.call moved.1 in
       let unmade : made_by done.outcome ≡ None = ap made_by out ∙ moved.1 in
       let handed : ends.handed ≡ ends.mid = subst (λ m. HandsOver view tells memory ends.mid m ends.handed) unmade ends.hands in
       let world : (view new.handling.io).world ≡ (view ends.mid.io).world = ends.lets.object.world t ∙ ap (λ h. (view h.io).world) handed in
       ap (λ o. sent_at view new fd ++ drop (sent_by o) buf.bytes) out
-        ∙ (ap (λ w. output_at w fd ++ drop (sent_by ends.call) buf.bytes) world ∙ moved.0)
+      ∙ (ap (λ w. output_at w fd ++ drop (sent_by ends.call) buf.bytes) world ∙ moved.0)
 
   -- A send that waits on has its bytes.
   kept_flight : (old new : LegacyState I Rented) (op : Op) (task fd total : ℕ) (result : Result (PollOp Rented) (NoMemory × Op))
       → PollEndsFor files buffer_of_rent called view tells memory old new op task result
       → (PollsRequest buffer_of_rent (ops_in old) (ops_in new) op result
-        → IsBackOf buffer_of_rent (request_at (ops_in old) op) (request_at (ops_in new) op))
+      → IsBackOf buffer_of_rent (request_at (ops_in old) op) (request_at (ops_in new) op))
       → IfAsked (request_at (ops_in old) op) (IsSend fd total) → in_flight (ops_in new) (Some op) ≡ in_flight (ops_in old) (Some op)
   kept_flight old new op task fd total result ends stays asks =
       let there = send_itself fd total (request_at (ops_in old) op) asks in
@@ -198,8 +197,8 @@ module _ {I : Type 0} (view : I → IoView) (tells memory : Bool) (files : I →
       → sent_at view new fd ++ going_with (ops_in new) now more ≡ sent_at view old fd ++ going_with (ops_in old) before more
   stayed_went old new fd before now more same world flight =
       ap (λ g. sent_at view new fd ++ going_with (ops_in new) g more) same
-        ∙ (ap (λ w. output_at w fd ++ going_with (ops_in new) before more) world
-        ∙ ap (λ bs. sent_at view old fd ++ (bs ++ (before.unsent ++ more))) flight)
+      ∙ (ap (λ w. output_at w fd ++ going_with (ops_in new) before more) world
+      ∙ ap (λ bs. sent_at view old fd ++ (bs ++ (before.unsent ++ more))) flight)
 
   -- A poll of the send that waits: what it took is what joined the output, in front of more.
   polled_went : (old new : LegacyState I Rented) (fd task : ℕ) (before now : Going) (more : List ℕ) (came_to : Polled)
@@ -209,29 +208,29 @@ module _ {I : Type 0} (view : I → IoView) (tells memory : Bool) (files : I →
       → sent_at view new fd ++ going_with (ops_in new) now more ≡ sent_at view old fd ++ going_with (ops_in old) before more
   polled_went old new fd task before now more Waits fault t stream polls out flies asks =
       stayed_went old new fd before now more polls.0.same
-        (stayed_world view tells memory files called law old new polls.0.op polls.0.op task t polls.0.polled.ends)
-        (subst (λ o. in_flight (ops_in new) o ≡ in_flight (ops_in old) o) (sym polls.0.waited)
-          (kept_flight old new polls.0.op task fd before.room (Ok (Pending polls.0.op)) polls.0.polled.ends (λ p. p)
-            (subst (λ o. AsksSend (ops_in old) o fd before.room) polls.0.waited asks)))
+      (stayed_world view tells memory files called law old new polls.0.op polls.0.op task t polls.0.polled.ends)
+      (subst (λ o. in_flight (ops_in new) o ≡ in_flight (ops_in old) o) (sym polls.0.waited)
+      (kept_flight old new polls.0.op task fd before.room (Ok (Pending polls.0.op)) polls.0.polled.ends (λ p. p)
+      (subst (λ o. AsksSend (ops_in old) o fd before.room) polls.0.waited asks)))
   polled_went old new fd task before now more HasEnded fault t stream polls out flies asks =
       let went = ended_went old new polls.op task fd polls.done polls.buf t stream polls.polled.ends
-        (subst (IsUncanceled (ops_in old)) polls.waited flies) polls.asked polls.request in
+      (subst (IsUncanceled (ops_in old)) polls.waited flies) polls.asked polls.request in
       let none : before.unsent ≡ [] = subst (λ o. SentOutIf o before.unsent) polls.waited out in
       let flight : in_flight (ops_in old) before.op ≡ polls.buf.bytes =
-        ap (in_flight (ops_in old)) polls.waited ∙ ap bytes_sent polls.asked in
+      ap (in_flight (ops_in old)) polls.waited ∙ ap bytes_sent polls.asked in
       let had : going_with (ops_in old) before more ≡ polls.buf.bytes ++ more =
-        ap (λ bs. bs ++ (before.unsent ++ more)) flight ∙ ap (λ bs. polls.buf.bytes ++ (bs ++ more)) none in
+      ap (λ bs. bs ++ (before.unsent ++ more)) flight ∙ ap (λ bs. polls.buf.bytes ++ (bs ++ more)) none in
       ap (λ g. sent_at view new fd ++ going_with (ops_in new) g more) polls.now_is
-        ∙ (sym (append_assoc (sent_at view new fd) (drop (sent_by polls.done.outcome) polls.buf.bytes) more)
-        ∙ (ap (λ bs. bs ++ more) went
-        ∙ (append_assoc (sent_at view old fd) polls.buf.bytes more
-        ∙ ap (λ bs. sent_at view old fd ++ bs) (sym had))))
+      ∙ (sym (append_assoc (sent_at view new fd) (drop (sent_by polls.done.outcome) polls.buf.bytes) more)
+      ∙ (ap (λ bs. bs ++ more) went
+      ∙ (append_assoc (sent_at view old fd) polls.buf.bytes more
+      ∙ ap (λ bs. sent_at view old fd ++ bs) (sym had))))
   polled_went old new fd task before now more NoRoom fault t stream polls out flies asks =
       stayed_went old new fd before now more polls.1.same
-        (starved_world view tells memory files called law old new polls.1.op (polls.0, polls.1.op) task t polls.1.polled.ends)
-        (subst (λ o. in_flight (ops_in new) o ≡ in_flight (ops_in old) o) (sym polls.1.waited)
-          (kept_flight old new polls.1.op task fd before.room (Err (polls.0, polls.1.op)) polls.1.polled.ends (λ p. p)
-            (subst (λ o. AsksSend (ops_in old) o fd before.room) polls.1.waited asks)))
+      (starved_world view tells memory files called law old new polls.1.op (polls.0, polls.1.op) task t polls.1.polled.ends)
+      (subst (λ o. in_flight (ops_in new) o ≡ in_flight (ops_in old) o) (sym polls.1.waited)
+      (kept_flight old new polls.1.op task fd before.room (Err (polls.0, polls.1.op)) polls.1.polled.ends (λ p. p)
+      (subst (λ o. AsksSend (ops_in old) o fd before.room) polls.1.waited asks)))
 
   -- The send that waits before the poll: no byte is lost by it, no handle has changed, it isn't completed, and it is one.
   record Sending (old mid : LegacyState I Rented) (before : Connection) (between : Going) (outbox : Outboxed) : Type 0 where
@@ -248,32 +247,32 @@ module _ {I : Type 0} (view : I → IoView) (tells memory : Bool) (files : I →
       → Sending old mid before between outbox
   has_sending old mid before between outbox (Some op) is t has out flies fits = record {
     same = ap (λ g. going_with (ops_in mid) g outbox.unsent) has.1
-      ∙ (ap (λ b. going_with (ops_in mid) before.outgoing b.unsent) has.2
-      ∙ ap (λ d. going_with (ops_in d) before.outgoing before.outbox.unsent) has.0);
+        ∙ (ap (λ b. going_with (ops_in mid) before.outgoing b.unsent) has.2
+        ∙ ap (λ d. going_with (ops_in d) before.outgoing before.outbox.unsent) has.0);
     out = subst (λ g. SentOutIf g.op g.unsent) (sym has.1) out;
     world = ap (world_of view) has.0;
     flies = subst (λ g. IsUncanceled (ops_in mid) g.op) (sym has.1) (subst (λ d. IsUncanceled (ops_in d) before.outgoing.op)
         (sym has.0) flies);
     asks = subst (λ g. AsksSend (ops_in mid) g.op before.fd g.room) (sym has.1)
-      (subst (λ d. AsksSend (ops_in d) before.outgoing.op before.fd before.outgoing.room) (sym has.0)
+        (subst (λ d. AsksSend (ops_in d) before.outgoing.op before.fd before.outgoing.room) (sym has.0)
         (fits_asks (ops_in old) before.outgoing.op before.fd before.outgoing.room fits));
   }
   has_sending old mid before between outbox None is t has out flies fits =
       let begun = has.begun in
       let request : Request Rented Parts = Send before.fd (record { bytes = has.going.unsent; total = has.going.room }) in
       let asked : request_at (ops_in mid) begun.op ≡ Some request = new_asks (ops_in old)
-          (ops_in mid) request begun.op begun.submitted.slots in
+      (ops_in mid) request begun.op begun.submitted.slots in
       record {
         same = ap (λ g. going_with (ops_in mid) g outbox.unsent) begun.now_is
-          ∙ (ap (λ o. bytes_sent o ++ outbox.unsent) asked
-          ∙ (prepared before has.going outbox has.prepares
-          ∙ ap (λ o. in_flight (ops_in old) o ++ (before.outgoing.unsent ++ before.outbox.unsent)) (sym is)));
+            ∙ (ap (λ o. bytes_sent o ++ outbox.unsent) asked
+            ∙ (prepared before has.going outbox has.prepares
+            ∙ ap (λ o. in_flight (ops_in old) o ++ (before.outgoing.unsent ++ before.outbox.unsent)) (sym is)));
         out = subst (λ g. SentOutIf g.op g.unsent) (sym begun.now_is) refl;
         world = begun_world view tells memory files called law old mid request begun.op t begun.submitted;
         flies = subst (λ g. IsUncanceled (ops_in mid) g.op) (sym begun.now_is)
-          (new_uncanceled (ops_in old) (ops_in mid) request begun.op begun.submitted.slots);
+            (new_uncanceled (ops_in old) (ops_in mid) request begun.op begun.submitted.slots);
         asks = subst (λ g. AsksSend (ops_in mid) g.op before.fd g.room) (sym begun.now_is)
-          (subst (λ o. IfAsked o (IsSend before.fd has.going.room)) (sym asked) (refl, refl));
+            (subst (λ o. IfAsked o (IsSend before.fd has.going.room)) (sym asked) (refl, refl));
       }
 
   -- What a poll leaves of the connection has the bytes that it leaves.
@@ -287,38 +286,38 @@ module _ {I : Type 0} (view : I → IoView) (tells memory : Bool) (files : I →
   -- A send loses no byte, and moves none but to the output.
   pub sends_went : (old new : LegacyState I Rented) (task : ℕ) (before now : Connection) (result : Result Progress SubmitFault)
       → SendsFor ops_in (LegacySubmits view tells memory) (LegacyPolls files buffer_of_rent called view tells memory) old new before now
-          task
-        result
+      task
+      result
       → SentOutIf before.outgoing.op before.outgoing.unsent → IsUncanceled (ops_in old) before.outgoing.op
       → FitsOp (ops_in old) before.outgoing.op (IsSend before.fd before.outgoing.room) → IsTrue tells
-          → IsStream (world_of view old) before.fd
+      → IsStream (world_of view old) before.fd
       → sent_at view new before.fd ++ unsent_in (ops_in new) now ≡ sent_at view old before.fd ++ unsent_in (ops_in old) before
   sends_went old new task before now result (inl r) out flies fits t stream =
       let w = has_sending old r.mid before r.between.outgoing r.between.outbox before.outgoing.op refl t r.has out flies fits in
       let number : r.between.fd ≡ before.fd = ap (λ c. c.fd) r.same in
       let polls = subst (λ h. PollsSend ops_in (LegacyPolls files buffer_of_rent called view tells memory) r.mid new h r.between.outgoing
-        r.polls_it.after task r.polls_it.came_to r.polls_it.fault) number r.polls_it.polls_it in
+      r.polls_it.after task r.polls_it.came_to r.polls_it.fault) number r.polls_it.polls_it in
       ap (λ bs. sent_at view new before.fd ++ bs)
-        (left_unsent (ops_in new) r.polls_it.came_to r.polls_it.after r.between.outbox r.polls_it.fault r.between now result
-            r.polls_it.leaves)
-        ∙ (polled_went r.mid new before.fd task r.between.outgoing r.polls_it.after r.between.outbox.unsent r.polls_it.came_to
-            r.polls_it.fault t
-          (subst (λ ws. IsStream ws before.fd) (sym w.world) stream) polls w.out w.flies w.asks
-        ∙ (ap (λ ws. output_at ws before.fd ++ going_with (ops_in r.mid) r.between.outgoing r.between.outbox.unsent) w.world
-        ∙ ap (λ bs. sent_at view old before.fd ++ bs) w.same))
+      (left_unsent (ops_in new) r.polls_it.came_to r.polls_it.after r.between.outbox r.polls_it.fault r.between now result
+      r.polls_it.leaves)
+      ∙ (polled_went r.mid new before.fd task r.between.outgoing r.polls_it.after r.between.outbox.unsent r.polls_it.came_to
+      r.polls_it.fault t
+      (subst (λ ws. IsStream ws before.fd) (sym w.world) stream) polls w.out w.flies w.asks
+      ∙ (ap (λ ws. output_at ws before.fd ++ going_with (ops_in r.mid) r.between.outgoing r.between.outbox.unsent) w.world
+      ∙ ap (λ bs. sent_at view old before.fd ++ bs) w.same))
   sends_went old new task before now result (inr (inl r)) out flies fits t stream =
       ap (λ c. sent_at view new before.fd ++ unsent_in (ops_in new) c) r.1
-        ∙ ap (λ d. sent_at view d before.fd ++ unsent_in (ops_in d) before) r.0
+      ∙ ap (λ d. sent_at view d before.fd ++ unsent_in (ops_in d) before) r.0
   sends_went old new task before now result (inr (inr r)) out flies fits t stream =
       let refused = r.2 in
       let gone : before.outgoing.op ≡ None = refused.idle in
       ap (λ c. sent_at view new before.fd ++ unsent_in (ops_in new) c) refused.now_is
-        ∙ (ap (λ ws. output_at ws before.fd ++ going_with (ops_in new) refused.going refused.outbox.unsent)
-          (refused_world view tells memory files called law old new
-            (Send before.fd (record { bytes = refused.going.unsent; total = refused.going.room })) refused.refused.refused t
-            refused.refused.submitted)
-        ∙ (ap (λ o. sent_at view old before.fd ++ (in_flight (ops_in new) o ++ (refused.going.unsent ++ refused.outbox.unsent)))
-          (prepared_op before refused.going refused.outbox refused.prepares ∙ gone)
-        ∙ (ap (λ bs. sent_at view old before.fd ++ bs) (prepared before refused.going refused.outbox refused.prepares)
-        ∙ ap (λ o. sent_at view old before.fd ++ (in_flight (ops_in old) o ++ (before.outgoing.unsent ++ before.outbox.unsent)))
-            (sym gone))))
+      ∙ (ap (λ ws. output_at ws before.fd ++ going_with (ops_in new) refused.going refused.outbox.unsent)
+      (refused_world view tells memory files called law old new
+      (Send before.fd (record { bytes = refused.going.unsent; total = refused.going.room })) refused.refused.refused t
+      refused.refused.submitted)
+      ∙ (ap (λ o. sent_at view old before.fd ++ (in_flight (ops_in new) o ++ (refused.going.unsent ++ refused.outbox.unsent)))
+      (prepared_op before refused.going refused.outbox refused.prepares ∙ gone)
+      ∙ (ap (λ bs. sent_at view old before.fd ++ bs) (prepared before refused.going refused.outbox refused.prepares)
+      ∙ ap (λ o. sent_at view old before.fd ++ (in_flight (ops_in old) o ++ (before.outgoing.unsent ++ before.outbox.unsent)))
+      (sym gone))))

@@ -98,7 +98,7 @@ ReceivesNone submits old new before now result =
     ((new ≡ old) × (before.incoming.op ≡ None) × Settles before.incoming before.inbox now result)
     ⊎ (((new ≡ old) × (now ≡ before) × (result ≡ Ok Idle) × (WantsMore before.inbox → ⊥))
     ⊎ ((why : SubmitFault) × (result ≡ Err why) × WantsMore before.inbox × RefusedReceive submits old new before.fd now.incoming why
-      × (now ≡ before)))
+    × (now ≡ before)))
 
 -- What a receive did: one submission at most, and one poll at most.
 abbrev pub ReceivesFor : {D : Type 0} → Submission D → Polling D → D → D → Connection → Connection → ℕ → Result Progress SubmitFault

@@ -12,7 +12,6 @@ use rent_buf::{Rent, VecBuf};
 use ring_core::{Outcome, Request};
 use std::marker::Model;
 
-
 /// The receive that a connection waits for, or what came of the last one. (not in monoio)
 pub struct Incoming {
     // Its buffer, while none waits.
@@ -135,7 +134,12 @@ impl Incoming {
     }
 
     // Polls the receive that waits.
-    pub(crate) fn poll<D: OpDriver<Rent>>(&mut self, driver: &mut D, fd: SharedFd, task: u64) -> Polled
+    pub(crate) fn poll<D: OpDriver<Rent>>(
+        &mut self,
+        driver: &mut D,
+        fd: SharedFd,
+        task: u64,
+    ) -> Polled
         requires waits { IsSome self.old.op }
         requires fits { FitsOp (D.ops driver.old) self.old.op (IsRecv fd) }
         ensures polls { PollsReceive D.polls driver.old driver.new fd self.old self.new task result }

@@ -14,7 +14,6 @@ use ring_core::{Outcome, Request};
 use std::marker::Model;
 use std::mem;
 
-
 /// The send that a connection waits for, or the bytes that the next one is to have. (not in monoio)
 pub struct Outgoing {
     // The buffer with the bytes of the next send, while none waits.

@@ -24,9 +24,18 @@ struct Row {
 }
 
 const ROWS: &[Row] = &[
-    Row { text: "fits", room: 64 },
-    Row { text: "more than fits at once", room: 4 },
-    Row { text: "byte by byte", room: 1 },
+    Row {
+        text: "fits",
+        room: 64,
+    },
+    Row {
+        text: "more than fits at once",
+        room: 4,
+    },
+    Row {
+        text: "byte by byte",
+        room: 1,
+    },
 ];
 
 // A send and a receive, and a turn: whether they could be made.

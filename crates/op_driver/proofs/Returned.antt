@@ -123,7 +123,7 @@ same_back buffer (Some slot) number is = plain_back buffer slot.request slot.req
 
 module _ {I B : Type 0} (view : I → IoView) (tells memory : Bool) (buffer : B → Buffer) (called : Called I)
     (law : (old : I) (request : Request Buffer Parts) (new : I) (now : Request Buffer Parts) (answer : CallAnswer)
-      → called old request new now answer → CallsFor tells memory (view old) request (view new) now answer) where
+    → called old request new now answer → CallsFor tells memory (view old) request (view new) now answer) where
   -- A call that wasn't made left the request in its slot.
   unmade_back : (slot new : Option (Slot B)) (before after : I) (answer : CallAnswer)
       (calls : CallsInSlot buffer called slot new before after answer)
@@ -162,7 +162,7 @@ module _ {I B : Type 0} (view : I → IoView) (tells memory : Bool) (buffer : B 
   ready_back true slot new before after done (inr made) =
       back_as buffer slot made.request done.request made.asked
       (ended_back buffer made.request done.request done.outcome
-        (law before (plain_request buffer made.request) after (plain_request buffer done.request) (Done done.outcome) made.calls).ends)
+      (law before (plain_request buffer made.request) after (plain_request buffer done.request) (Done done.outcome) made.calls).ends)
 
   -- The poll of a token whose slot has a request.
   pub legacy_back_of : (files : I → ℕ → Bool) (old new : LegacyState I B) (op : Op) (task : ℕ) (result : Result (PollOp B) (NoMemory × Op))
