@@ -9,7 +9,7 @@ use Rattle.ready_driver.specs.declared.scheduled_io.Waiter.{Waiter}
 use Rattle.ready_driver.specs.declared.scheduled_io.wait_list.Entry.{Entry}
 use Rattle.ready_driver.specs.declared.scheduled_io.wait_list.Entry.TheVariants.{Waits, Gap}
 use Rattle.ready_driver.specs.ScheduledIo.{waiter_of, kept, is_met, taken, left, tasks_of}
-use Rattle.ready_driver.specs.WaitList.{live, is_live, is_taken, is_left, task_of, IsCounted, IsPlace}
+use Rattle.ready_driver.specs.WaitList.{live, is_live, is_taken, is_left, task_of, HasGaps, IsPlace}
 
 -- An operation that doesn't wait is put at the end.
 pub kept-new : (ws : List Waiter) (w : Waiter) → waiter_of ws w.serial ≡ None → kept ws w ≡ ws ++ w ∷ []
@@ -22,7 +22,7 @@ kept-new (v ∷ ws) w none = by-first (eqb v.serial w.serial) (kept-new ws w) no
     by-first false later at = ap (λ us. v ∷ us) (later at)
 
 -- One entry more at the end is one operation more.
-live-joined : (es : List Entry) (w : Waiter) → live (es ++ Waits w ∷ []) ≡ live es ++ w ∷ []
+pub live-joined : (es : List Entry) (w : Waiter) → live (es ++ Waits w ∷ []) ≡ live es ++ w ∷ []
 live-joined [] w = refl
 live-joined (Waits v ∷ es) w = ap (λ us. v ∷ us) (live-joined es w)
 live-joined (Gap n ∷ es) w = live-joined es w
@@ -37,6 +37,7 @@ live-squeezed [] = refl
 live-squeezed (Waits v ∷ es) = ap (λ us. v ∷ us) (live-squeezed es)
 live-squeezed (Gap n ∷ es) = live-squeezed es
 
+-- So it is of entries that are those without the gaps.
 pub live_squeezed : (es ys : List Entry) → ys ≡ filter is_live es → live ys ≡ live es
 live_squeezed es ys is = ap live is ∙ live-squeezed es
 
@@ -52,6 +53,7 @@ live-left ready (Waits v ∷ es) = by-met (is_met ready v) (live-left ready es)
     by-met true later = later
     by-met false later = ap (λ us. v ∷ us) later
 
+-- So it is of entries that are those which the bits leave.
 pub live_left : (ready : ℕ) (es ys : List Entry) → ys ≡ filter (is_left ready) es → live ys ≡ left ready (live es)
 live_left ready es ys is = ap live is ∙ live-left ready es
 
@@ -113,19 +115,19 @@ counted-live p gone (Waits v ∷ es) = by-test (p (Waits v)) (counted-live p gon
     by-test false later = later
 
 -- There are no gaps then.
-pub counted_filtered : (p : Entry → Bool) → ((n : ℕ) → p (Gap n) ≡ false) → (es ys : List Entry) → ys ≡ filter p es → IsCounted 0 ys
-counted_filtered p gone es ys is = subst (IsCounted 0) (sym is) (let all = counted-live p gone es in omega (arith, all))
+pub counted_filtered : (p : Entry → Bool) → ((n : ℕ) → p (Gap n) ≡ false) → (es ys : List Entry) → ys ≡ filter p es → HasGaps 0 ys
+counted_filtered p gone es ys is = subst (HasGaps 0) (sym is) (let all = counted-live p gone es in omega (arith, all))
 
 -- One entry more that is no gap leaves the gaps.
-pub counted_joined : (gaps : ℕ) (es ys : List Entry) (w : Waiter) → ys ≡ es ++ Waits w ∷ [] → IsCounted gaps es → IsCounted gaps ys
-counted_joined gaps es ys w is counted = subst (IsCounted gaps) (sym is) (
+pub counted_joined : (gaps : ℕ) (es ys : List Entry) (w : Waiter) → ys ≡ es ++ Waits w ∷ [] → HasGaps gaps es → HasGaps gaps ys
+counted_joined gaps es ys w is counted = subst (HasGaps gaps) (sym is) (
     let more = length-append (live es) (w ∷ []) in
     let all = length-append es (Waits w ∷ []) in
     let lives = ap length (live-joined es w) in
     omega (arith, more, all, lives, counted))
 
 -- A gap in place of an operation is one gap more.
-gap-set : (es : List Entry) (i n : ℕ) (w : Waiter) → i < length es → get_or es i (Gap n) ≡ Waits w →
+pub gap-set : (es : List Entry) (i n : ℕ) (w : Waiter) → i < length es → get_or es i (Gap n) ≡ Waits w →
     suc (length (live (set es i (Gap n)))) ≡ length (live es)
 gap-set [] i n w inside is = absurd (omega (arith, inside))
 gap-set (e ∷ es) zero n w inside is = subst (λ x. suc (length (live es)) ≡ length (live (x ∷ es))) (sym is) refl
@@ -133,7 +135,7 @@ gap-set (Waits v ∷ es) (suc i) n w inside is = ap suc (gap-set es i n w (omega
 gap-set (Gap m ∷ es) (suc i) n w inside is = gap-set es i n w (omega (arith, inside)) is
 
 -- An operation in place of an operation leaves the gaps.
-waits-set : (es : List Entry) (i : ℕ) (v w : Waiter) → i < length es → get_or es i (Waits v) ≡ Waits w →
+pub waits-set : (es : List Entry) (i : ℕ) (v w : Waiter) → i < length es → get_or es i (Waits v) ≡ Waits w →
     length (live (set es i (Waits v))) ≡ length (live es)
 waits-set [] i v w inside is = absurd (omega (arith, inside))
 waits-set (e ∷ es) zero v w inside is = subst (λ x. suc (length (live es)) ≡ length (live (x ∷ es))) (sym is) refl
@@ -141,17 +143,17 @@ waits-set (Waits u ∷ es) (suc i) v w inside is = ap suc (waits-set es i v w (o
 waits-set (Gap m ∷ es) (suc i) v w inside is = waits-set es i v w (omega (arith, inside)) is
 
 -- So the gaps are counted once one is left at an operation's place.
-pub counted_gap : (gaps : ℕ) (es ys : List Entry) (n i : ℕ) (w : Waiter) → ys ≡ set es i (Gap n) → IsPlace es n i w → IsCounted gaps es →
-    IsCounted (gaps + 1) ys
-counted_gap gaps es ys n i w is there counted = subst (IsCounted (gaps + 1)) (sym is) (
+pub counted_gap : (gaps : ℕ) (es ys : List Entry) (n i : ℕ) (w : Waiter) → ys ≡ set es i (Gap n) → IsPlace es n i w → HasGaps gaps es →
+    HasGaps (gaps + 1) ys
+counted_gap gaps es ys n i w is there counted = subst (HasGaps (gaps + 1)) (sym is) (
     let one = gap-set es i n w there.within (there.is (Gap n)) in
     let all : length (set es i (Gap n)) ≡ length es = length-set es i (Gap n) in
     omega (arith, one, all, counted))
 
 -- And once an operation's entry is renewed at its place.
 pub counted_renewed : (gaps : ℕ) (es ys : List Entry) (n i : ℕ) (v w : Waiter) → ys ≡ set es i (Waits v) → IsPlace es n i w →
-    IsCounted gaps es → IsCounted gaps ys
-counted_renewed gaps es ys n i v w is there counted = subst (IsCounted gaps) (sym is) (
+    HasGaps gaps es → HasGaps gaps ys
+counted_renewed gaps es ys n i v w is there counted = subst (HasGaps gaps) (sym is) (
     let one = waits-set es i v w there.within (there.is (Waits v)) in
     let all : length (set es i (Waits v)) ≡ length es = length-set es i (Waits v) in
     omega (arith, one, all, counted))

@@ -4,6 +4,7 @@ pub mod Places
 pub mod Gaps
 pub mod Memory
 pub mod Ordered
+pub mod Spots
 pub mod Lists
 pub mod Looking
 pub mod Flat

@@ -3,13 +3,12 @@ use Rattle.std.proofs.Common.{◌≡◌, ◌⊎◌, inl, inr, ℕ, suc, Bool, tr
 use Rattle.std.proofs.Common.{refl, sym, ap, subst, arith}
 use Rattle.std.specs.Prelude.{◌+◌, ◌≤◌, IsTrue, filter, option_map, is_some, Result, Ok, Err, OnOk, OnErr}
 use Rattle.std.proofs.lemmas.Bool.{not-true}
-use Rattle.std.proofs.lemmas.List.Filters.{length-filter_both}
 use Rattle.ready_driver.specs.declared.ready.Direction.{Direction}
 use Rattle.ready_driver.specs.declared.scheduled_io.Waiter.{Waiter}
 use Rattle.ready_driver.specs.Ready.{meets, mask_of}
 use Rattle.ready_driver.specs.Rooms.{Rooms, room_of}
 use Rattle.ready_driver.specs.ScheduledIo.{waiter_of, kept, is_met, taken, left, forgotten, IsWaitingIn, HasRoom, IsSound}
-use Rattle.ready_driver.proofs.Waiting.{once-kept, once-filtered}
+use Rattle.ready_driver.proofs.Waiting.{once-kept, once-filtered, filtered-fits}
 
 -- Room for every direction is room for every entry.
 pub room-all : (rooms : Rooms) (n : ℕ) → ((d : Direction) → n ≤ room_of rooms d) → (ws : List Waiter) → HasRoom rooms n ws
@@ -78,10 +77,6 @@ room_there rooms n d (w ∷ ws) serial room is = by-first (eqb w.serial serial) 
 -- A set of bits leaves an entry.
 abbrev is_left : ℕ → Waiter → Bool
 is_left ready w = not (is_met ready w)
-
--- A filter keeps no more than there is.
-filtered-fits : (p : Waiter → Bool) (ws : List Waiter) → length (filter p ws) ≤ length ws
-filtered-fits p ws = let both = length-filter_both p (λ w. not (p w)) (λ w. refl) ws in omega arith
 
 -- What is kept stays true where the room grew.
 pub sound_grown : (ws : List Waiter) (old new : Rooms) → IsSound ws old → ((d : Direction) → room_of old d ≤ room_of new d) → IsSound ws new

@@ -1,69 +1,14 @@
 -- What waits on a handle, by place: where an operation's entry is, and what a change at that place leaves.
-use Rattle.std.proofs.Common.{◌≡◌, ◌≢◌, ◌∙◌, ℕ, suc, Bool, true, false, cond, eqb, ltb, not, Option, Some, None, List, [], ◌∷◌}
-use Rattle.std.proofs.Common.{length, refl, sym, ap, subst, arith, one-add, inl, inr}
-use Rattle.std.proofs.lemmas.Bool.{cases_lt, lt-ltb, le-ltb, eqb-true, ne_eqb}
-use Rattle.std.specs.Prelude.{◌+◌, option_map, position, IfSome, IfNone}
-use Rattle.std.specs.List.{position_or_len}
+use Rattle.std.proofs.Common.{◌≡◌, ◌≢◌, ◌∙◌, ℕ, suc, Bool, true, false, cond, eqb, not, Option, Some, None, List, [], ◌∷◌}
+use Rattle.std.proofs.Common.{refl, sym, ap, subst, arith}
+use Rattle.std.proofs.lemmas.Bool.{eqb-true, ne_eqb}
+use Rattle.std.specs.Prelude.{option_map, IfSome, IfNone}
 use Rattle.ready_driver.specs.declared.scheduled_io.Waiter.{Waiter}
 use Rattle.ready_driver.specs.declared.scheduled_io.wait_list.Entry.{Entry}
 use Rattle.ready_driver.specs.declared.scheduled_io.wait_list.Entry.TheVariants.{Waits, Gap}
 use Rattle.ready_driver.specs.ScheduledIo.{waiter_of, kept, forgotten}
-use Rattle.ready_driver.specs.WaitList.{live, is_of, number_of, IsPlace, IsAway, IsSpot}
+use Rattle.ready_driver.specs.WaitList.{live, is_of, number_of, spot_in, IsPlace, IsAway, IsSpot}
 use Rattle.ready_driver.proofs.Waiting.{forgotten-none}
-
--- A place that is one more, in a list that is one longer.
-place-suc : (a n : ℕ) → cond (ltb (1 + a) (suc n)) (Some (1 + a)) None ≡ option_map suc (cond (ltb a n) (Some a) None)
-place-suc a n = elim (cases_lt a n) [
-  | inl below ↦
-      ap (λ b. cond b (Some (1 + a)) None) (lt-ltb (1 + a) (suc n) (omega arith)) ∙ ap (λ k. Some k) (one-add a)
-      ∙ sym (ap (λ b. option_map suc (cond b (Some a) None)) (lt-ltb a n below))
-  | inr above ↦
-      ap (λ b. cond b (Some (1 + a)) None) (le-ltb (1 + a) (suc n) (omega arith))
-      ∙ sym (ap (λ b. option_map suc (cond b (Some a) None)) (le-ltb a n above))
-]
-
--- The first place of a list that is one longer.
-position-cons : {X : Type 0} (p : X → Bool) (x : X) (xs : List X)
-    → position p (x ∷ xs) ≡ cond (p x) (Some 0) (option_map suc (position p xs))
-position-cons p x xs = by-first (p x)
-  where
-    by-first : (b : Bool) → cond (ltb (cond (not b) (1 + position_or_len p xs) 0) (suc (length xs)))
-        (Some (cond (not b) (1 + position_or_len p xs) 0)) None ≡ cond b (Some 0) (option_map suc (position p xs))
-    by-first true = ap (λ b. cond b (Some 0) None) (lt-ltb 0 (suc (length xs)) (omega arith))
-    by-first false = place-suc (position_or_len p xs) (length xs)
-
--- An induction over a first place.
-pub at-place : {X : Type 0} (p : X → Bool) (P : List X → ℕ → Type 0)
-    → ((x : X) (xs : List X) → p x ≡ true → P (x ∷ xs) 0)
-    → ((x : X) (xs : List X) (i : ℕ) → p x ≡ false → P xs i → P (x ∷ xs) (suc i))
-    → (xs : List X) (i : ℕ) → position p xs ≡ Some i → P xs i
-at-place p P here later [] i is = absurd (cc)
-at-place p P here later (x ∷ xs) i is =
-    by-first (p x) refl (λ j at. at-place p P here later xs j at) (sym (position-cons p x xs) ∙ is)
-  where
-    by-place : (o : Option ℕ) → p x ≡ false → ((j : ℕ) → o ≡ Some j → P xs j) → option_map suc o ≡ Some i → P (x ∷ xs) i
-    by-place None other rec at = absurd (cc)
-    by-place (Some j) other rec at = let is_next : suc j ≡ i = cc in subst (P (x ∷ xs)) is_next (later x xs j other (rec j refl))
-
-    by-first : (b : Bool) → p x ≡ b → ((j : ℕ) → position p xs ≡ Some j → P xs j)
-        → cond b (Some 0) (option_map suc (position p xs)) ≡ Some i → P (x ∷ xs) i
-    by-first true same rec at = let is_first : 0 ≡ i = cc in subst (P (x ∷ xs)) is_first (here x xs same)
-    by-first false other rec at = by-place (position p xs) other rec at
-
--- An induction over a list with no such place.
-pub at-none : {X : Type 0} (p : X → Bool) (P : List X → Type 0) → P [] → ((x : X) (xs : List X) → p x ≡ false → P xs → P (x ∷ xs))
-    → (xs : List X) → position p xs ≡ None → P xs
-at-none p P empty later [] is = empty
-at-none p P empty later (x ∷ xs) is = by-first (p x) refl (λ at. at-none p P empty later xs at) (sym (position-cons p x xs) ∙ is)
-  where
-    by-place : (o : Option ℕ) → p x ≡ false → (o ≡ None → P xs) → option_map suc o ≡ None → P (x ∷ xs)
-    by-place None other rec at = later x xs other (rec refl)
-    by-place (Some j) other rec at = absurd (cc)
-
-    by-first : (b : Bool) → p x ≡ b → (position p xs ≡ None → P xs)
-        → cond b (Some 0) (option_map suc (position p xs)) ≡ None → P (x ∷ xs)
-    by-first true same rec at = absurd (cc)
-    by-first false other rec at = by-place (position p xs) other rec at
 
 -- The first entry is that of an operation: there it is found, renewed and forgotten.
 pub place-first : (n : ℕ) (w : Waiter) (es : List Entry) → eqb w.serial n ≡ true → IsPlace (Waits w ∷ es) n 0 w
@@ -138,20 +83,46 @@ spot-later n e es i other there = record {
   gone = λ m d is. away-later n e es other (there.gone m d is);
 }
 
--- At its first place an operation's entry is found, renewed and forgotten.
-spot-there : (n : ℕ) (es : List Entry) (i : ℕ) → position (is_of n) es ≡ Some i → IsSpot es n i
-spot-there n = at-place (is_of n) (λ es i. IsSpot es n i) (spot-first n) (spot-later n)
+-- Where a table has an operation, its entry is found, renewed and forgotten.
+spot-there : (n : ℕ) (es : List Entry) (i : ℕ) → spot_in n es ≡ Some i → IsSpot es n i
+spot-there n [] i is = (let f : ⊥ = cc in absurd f)
+spot-there n (e ∷ es) i is = by-first (is_of n e) refl (spot_in n es) (λ j at. spot-there n es j at) is
+  where
+    by-first : (b : Bool) → is_of n e ≡ b → (o : Option ℕ) → ((j : ℕ) → o ≡ Some j → IsSpot es n j)
+        → cond b (Some 0) (option_map suc o) ≡ Some i → IsSpot (e ∷ es) n i
+    by-first true same o later at = let is_first : 0 ≡ i = cc in subst (IsSpot (e ∷ es) n) is_first (spot-first n e es same)
+    by-first false other None later at = (let f : ⊥ = cc in absurd f)
+    by-first false other (Some j) later at =
+        let is_next : suc j ≡ i = cc in subst (IsSpot (e ∷ es) n) is_next (spot-later n e es j other (later j refl))
 
--- An operation with no place doesn't wait.
-away-there : (n : ℕ) (es : List Entry) → position (is_of n) es ≡ None → IsAway es n
-away-there n = at-none (is_of n) (λ es. IsAway es n) (away-empty n) (away-later n)
+-- One that it doesn't have doesn't wait.
+away-there : (n : ℕ) (es : List Entry) → spot_in n es ≡ None → IsAway es n
+away-there n [] is = refl
+away-there n (e ∷ es) is = by-first (is_of n e) refl (spot_in n es) (λ at. away-there n es at) is
+  where
+    by-first : (b : Bool) → is_of n e ≡ b → (o : Option ℕ) → (o ≡ None → IsAway es n)
+        → cond b (Some 0) (option_map suc o) ≡ None → IsAway (e ∷ es) n
+    by-first true same o later at = (let f : ⊥ = cc in absurd f)
+    by-first false other None later at = away-later n e es other (later refl)
+    by-first false other (Some j) later at = (let f : ⊥ = cc in absurd f)
 
--- What a search for an operation's entry found is its place.
-pub spot_is : (n : ℕ) (es : List Entry) (o : Option ℕ) → o ≡ position (is_of n) es → IfSome o (λ at. IsSpot es n at)
+-- So what a look-up found is an operation's place.
+pub spot_is : (n : ℕ) (es : List Entry) (o : Option ℕ) → o ≡ spot_in n es → IfSome o (λ at. IsSpot es n at)
 spot_is n es None is = tt
 spot_is n es (Some i) is = spot-there n es i (sym is)
 
--- Where a search for an operation's entry found nothing, it doesn't wait.
-pub away_is : (n : ℕ) (es : List Entry) (o : Option ℕ) → o ≡ position (is_of n) es → IfNone o (IsAway es n)
+-- Where it found nothing, the operation doesn't wait.
+pub away_is : (n : ℕ) (es : List Entry) (o : Option ℕ) → o ≡ spot_in n es → IfNone o (IsAway es n)
 away_is n es None is = away-there n es (sym is)
 away_is n es (Some i) is = tt
+
+-- An operation that doesn't wait has no place.
+pub spot-away : (n : ℕ) (es : List Entry) → IsAway es n → spot_in n es ≡ None
+spot-away n [] away = refl
+spot-away n (Gap m ∷ es) away = ap (option_map suc) (spot-away n es away)
+spot-away n (Waits v ∷ es) away = by-first (eqb v.serial n) (spot-away n es) away
+  where
+    by-first : (b : Bool) → (IsAway es n → spot_in n es ≡ None) → cond b (Some v) (waiter_of (live es) n) ≡ None
+        → cond b (Some 0) (option_map suc (spot_in n es)) ≡ None
+    by-first true later at = (let f : ⊥ = cc in absurd f)
+    by-first false later at = ap (option_map suc) (later at)

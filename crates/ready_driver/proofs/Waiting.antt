@@ -1,8 +1,9 @@
 -- What waits on a handle, by operation: what each change leaves of each entry.
-use Rattle.std.proofs.Common.{◌≡◌, ◌≢◌, ◌∙◌, ℕ, Bool, true, false, cond, eqb, Option, Some, None, List, [], ◌∷◌}
-use Rattle.std.proofs.Common.{refl, sym, ap, subst, inl, inr, eq-eqb}
-use Rattle.std.specs.Prelude.{IsTrue, IfSome, Contains, filter, ◌||◌, not}
+use Rattle.std.proofs.Common.{◌≡◌, ◌≢◌, ◌∙◌, ◌++◌, ℕ, Bool, true, false, cond, eqb, Option, Some, None, List, [], ◌∷◌}
+use Rattle.std.proofs.Common.{refl, sym, ap, subst, inl, inr, eq-eqb, arith}
+use Rattle.std.specs.Prelude.{◌≤◌, IsTrue, IfSome, Contains, filter, length, ◌||◌, not}
 use Rattle.std.specs.List.{list_any}
+use Rattle.std.proofs.lemmas.List.Filters.{length-filter_both}
 use Rattle.std.proofs.Math.Nat.{zero-lt-suc}
 use Rattle.std.proofs.lemmas.Bool.{ne_eqb}
 use Rattle.std.proofs.lemmas.Bool.Decides.{eqb_tells}
@@ -163,6 +164,16 @@ taken_named ready (w ∷ ws) n = elim (eqb_tells w.serial n) [
       subst (IsNamed ready (w ∷ ws)) (sym (found-later w ws n apart.0)) (named-later ready w ws (waiter_of ws n) (taken_named ready ws n))
 ]
 
+-- So it is among the tasks of a list that these were added to.
+pub named_added : (ready : ℕ) (ws : List Waiter) (front tasks : List ℕ) → tasks ≡ front ++ tasks_of (taken ready ws) →
+    (n : ℕ) → IfSome (waiter_of ws n) (λ w. IsTrue (is_met ready w) → Contains tasks w.task)
+named_added ready ws front tasks is n = by-find (waiter_of ws n) (taken_named ready ws n)
+  where
+    by-find : (o : Option Waiter) → IsNamed ready ws o → IfSome o (λ w. IsTrue (is_met ready w) → Contains tasks w.task)
+    by-find None named = tt
+    by-find (Some w) named = λ met.
+        subst (λ ts. Contains ts w.task) (sym is) (Contains-append_right front (tasks_of (taken ready ws)) w.task (named met))
+
 -- A set of bits that meets nobody takes nothing, and leaves everything.
 pub none_met : (ready : ℕ) (ws : List Waiter) → list_any (is_met ready) ws ≡ false → (taken ready ws ≡ []) × (left ready ws ≡ ws)
 none_met ready [] none = (refl, refl)
@@ -173,3 +184,7 @@ none_met ready (w ∷ ws) none = by-test (is_met ready w) none (none_met ready w
         → (cond m (w ∷ taken ready ws) (taken ready ws) ≡ []) × (cond (not m) (w ∷ left ready ws) (left ready ws) ≡ w ∷ ws)
     by-test true any later = absurd (cc)
     by-test false any later = ((later any).0, ap (λ ys. w ∷ ys) (later any).1)
+
+-- A filter keeps no more than there is.
+pub filtered-fits : (p : Waiter → Bool) (ws : List Waiter) → length (filter p ws) ≤ length ws
+filtered-fits p ws = let both = length-filter_both p (λ w. not (p w)) (λ w. refl) ws in omega arith

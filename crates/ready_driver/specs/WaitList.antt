@@ -1,6 +1,7 @@
 -- A waiting list by its entries, with the gaps that operations left. Cited by `WaitList`.
-use Rattle.std.specs.Prelude.{ℕ, suc, ◌≡◌, ◌≤◌, ◌<◌, ◌+◌, ◌==◌, ⊤, Bool, true, false, not, List, [], ◌∷◌, length, Some, None}
-use Rattle.std.specs.Prelude.{slice_index_or, slice_set}
+use Rattle.std.specs.Prelude.{ℕ, suc, ◌≡◌, ◌≤◌, ◌<◌, ◌+◌, ◌-◌, ◌==◌, ⊤, Bool, true, false, not, List, [], ◌∷◌, length, Option, Some, None}
+use Rattle.std.specs.Prelude.{nat_eq, min, if◌then◌else◌, option_map, slice_index_or, slice_set}
+use Rattle.std.specs.HashMap.{HashMap, hash_map_len, get_by}
 use Rattle.ready_driver.specs.declared.scheduled_io.Waiter.{Waiter}
 use Rattle.ready_driver.specs.declared.scheduled_io.wait_list.Entry.{Entry}
 use Rattle.ready_driver.specs.declared.scheduled_io.wait_list.Entry.TheVariants.{Waits, Gap}
@@ -48,8 +49,8 @@ live (Waits w ∷ es) = w ∷ live es
 live (Gap serial ∷ es) = live es
 
 -- So many of the entries are gaps.
-abbrev pub IsCounted : ℕ → List Entry → Type 0
-IsCounted gaps entries = gaps + length (live entries) ≡ length entries
+abbrev pub HasGaps : ℕ → List Entry → Type 0
+HasGaps gaps entries = gaps + length (live entries) ≡ length entries
 
 -- The entries are in the order of their numbers, which aren't below this one.
 abbrev pub IsAscendingFrom : ℕ → List Entry → Type 0
@@ -59,6 +60,22 @@ IsAscendingFrom least (e ∷ es) = (least ≤ number_of e) × IsAscendingFrom (s
 -- Where a mark says so the entries are in the order of their numbers.
 abbrev pub IsInOrder : Bool → List Entry → Type 0
 IsInOrder in_order entries = in_order ≡ true → IsAscendingFrom 0 entries
+
+-- The place of an operation's entry, if it waits.
+abbrev pub spot_in : ℕ → List Entry → Option ℕ
+spot_in serial [] = None
+spot_in serial (e ∷ es) = if is_of serial e then Some 0 else option_map suc (spot_in serial es)
+
+-- A table has the place of each operation that waits, by its number, and no other.
+pub record IsIndexed {S : Type 0} (places : HashMap ℕ ℕ S) (entries : List Entry) : Type 0 where
+  pub at : (n : ℕ) → get_by (nat_eq n) places ≡ spot_in n entries
+  pub count : hash_map_len places ≡ length (live entries)
+
+-- For how many more operations there is memory: for their entries, and for their places, but for the first one, which needs none.
+abbrev pub spare_of : Bool → List Entry → ℕ → ℕ → ℕ
+spare_of true [] entries places = entries
+spare_of false [] entries places = min entries places
+spare_of in_order (e ∷ es) entries places = min entries (places - length (live (e ∷ es)))
 
 -- An operation has a number above that of the last entry.
 abbrev pub IsBehind : List Entry → ℕ → Type 0

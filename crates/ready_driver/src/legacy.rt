@@ -25,7 +25,7 @@ ghost use Rattle.ready_driver.specs.LegacyPolls.{EndsFor, outcome_for, HandsOver
 ghost use Rattle.ready_driver.specs.LegacyState.{Holds, HoldsNone, KeepsTokens, DropsToken, KeepsRequests};
 ghost use Rattle.ready_driver.specs.LegacyState.{holds_all, ops_in, live_slots, group_count};
 ghost use Rattle.ready_driver.specs.LegacyStands.{LegacyStands, LegacyAnswers, SubmitsFor, PollsFor, WaitsFor};
-ghost use Rattle.ready_driver.specs.Named.{PollsSlotFor, canceled_slots};
+ghost use Rattle.ready_driver.specs.Named.{IsOnlyCanceled, PollsSlotFor, canceled_slots};
 ghost use Rattle.ready_driver.specs.Polling.{OpsStand, asked_at};
 ghost use Rattle.ready_driver.specs.Turns.{AreReported};
 ghost use Rattle.ready_driver.specs.Registry.{HasMadeRoom, IsSameButRoom, LetsGo, MakesReady};
@@ -150,10 +150,12 @@ impl<I: NonBlock, B: IoBufMut + Drop> LegacyDriver<I, B> {
         self.ops.len()
     }
 
-    /// How many operations were submitted, which is the number of the next one: each operation has a lower number. (not in monoio)
+    /// How many operations were submitted, which is the number of the next one: each operation has a lower number, and one that has ended
+    /// before its last poll was canceled. (not in monoio)
     pub fn given(&self) -> u64
         ensures value { result ≡ self.now.given }
         ensures numbers { (op : Token) → Holds self.now op → number_of op < self.now.given }
+        ensures canceled { (key : ℕ) → IsOnlyCanceled (map.get self.now.slots.values key) }
     {
         self.ops.given()
     }

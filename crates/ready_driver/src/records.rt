@@ -1,6 +1,7 @@
 //! What a driver keeps of each of its handles: what it is ready for, what waits for it, and whether it is registered.
-ghost use Rattle.std.specs.Prelude.{◌≡◌, ◌-◌, ◌<◌, true, max, length, bit_or, None, option_map, OnOk, OnErr};
+ghost use Rattle.std.specs.Prelude.{◌≡◌, ◌-◌, ◌+◌, ◌++◌, ◌≤◌, ◌<◌, true, max, length, bit_or, None, option_map, OnOk, OnErr};
 ghost use Rattle.std.specs.FinMap as map;
+ghost use Rattle.std.specs.Vec.{vec_len, vec_capacity};
 ghost use Rattle.ready_driver.specs.ScheduledIo.{waiter_of, forgotten, taken, left, tasks_of};
 ghost use Rattle.ready_driver.specs.Records.{fresh_record, record_at, io_at, is_registered, with_record, changed, without_record};
 ghost use Rattle.ready_driver.specs.Records.{with_io, with_registered};
@@ -158,5 +159,21 @@ impl Records {
         };
         one.io.set_readiness(ready);
         one.io.wake(ready)
+    }
+
+    /// Treats a report of a handle as `report` does, and adds the tasks to a list that has room for all that wait for the handle. It takes
+    /// no memory.
+    pub fn report_into(&mut self, h: u64, ready: Ready, woken: &mut Vec<u64>)
+        requires { vec_len woken.old + length (io_at self.old h).waiting ≤ vec_capacity woken.old }
+        ensures tasks { woken.new.items ≡ woken.old.items ++ tasks_of (taken ready (io_at self.old h).waiting) }
+        ensures rest { self.new ≡ changed self.old h
+            (with_io (λ io. record { ready = bit_or io.ready ready; waiting = left ready io.waiting })) }
+        ensures capacity { vec_capacity woken.new ≡ vec_capacity woken.old }
+    {
+        let Some(one) = self.handles.get_mut(&h) else {
+            return;
+        };
+        one.io.set_readiness(ready);
+        one.io.wake_into(ready, woken);
     }
 }

@@ -1,6 +1,7 @@
 //! The bits of one handle, and the operations that wait for them.
-ghost use Rattle.std.specs.Prelude.{◌≡◌, ◌≤◌, ◌<◌, ◌+◌, ℕ, [], Some, None, false, bit_or, length, option_map};
+ghost use Rattle.std.specs.Prelude.{◌≡◌, ◌≤◌, ◌<◌, ◌+◌, ◌++◌, ℕ, [], Some, None, false, bit_or, length, option_map};
 ghost use Rattle.std.specs.Prelude.{Contains, IsTrue, IsOk, IfOk, IfSome, OnOk, OnErr};
+ghost use Rattle.std.specs.Vec.{vec_len, vec_capacity};
 ghost use Rattle.ready_driver.specs.declared.ready.Direction.{Direction};
 ghost use Rattle.ready_driver.specs.Rooms.{room_of};
 ghost use Rattle.ready_driver.specs.Ready.{meets, mask_of, without, bits_for};
@@ -9,6 +10,7 @@ ghost use Rattle.ready_driver.specs.ScheduledIo.{IsWaitingIn, IsOnceEach, Change
 
 mod polls;
 mod rooms;
+mod spots;
 mod wait_list;
 
 use crate::ready::{Direction, Ready};
@@ -44,9 +46,9 @@ impl Waiter {
 /// The bits of one handle, and the operations that wait for them, each with its newest task (monoio: `ScheduledIo`). A clause
 /// sees the bits and the list of what waits, in the order in which it began to wait.
 ///
-/// A wake looks at each operation that waits on this handle. Each other call looks at few of them, where they wait in the order of their
-/// numbers, as they do that begin to wait in the order in which they were submitted, and else at each, a few times at most. None moves those
-/// that wait behind one that is taken out, but once in as many calls as they are.
+/// A wake looks at each operation that waits on this handle. Each other call finds its operation without a look at the others: by halves,
+/// where they wait in the order of their numbers, and else by a table of their places. None moves those that wait behind one that is taken
+/// out, but once in as many calls as they are.
 #[derive(Debug, Drop)]
 pub struct ScheduledIo {
     readiness: Ready,
@@ -182,6 +184,24 @@ impl ScheduledIo {
             (λ w. IsTrue (is_met ready w) → Contains result w.task) }
     {
         NumList::from_vec(self.take_tasks(ready))
+    }
+
+    /// Takes what waits in the directions that these bits meet, as `wake` does, and adds the tasks to a list that has room for all that
+    /// wait, in the order in which they began to wait (not in monoio). It takes no memory, and what is reserved for `wake` stays.
+    #[tactic(auto, using(crate::proofs::Waiting::left_each))]
+    pub fn wake_into(&mut self, ready: Ready, tasks: &mut Vec<u64>)
+        requires { vec_len tasks.old + length self.old.waiting ≤ vec_capacity tasks.old }
+        ensures tasks { tasks.new.items ≡ tasks.old.items ++ tasks_of (taken ready self.old.waiting) }
+        ensures rest { self.new ≡ record self.old { waiting = left ready self.old.waiting } }
+        ensures capacity { vec_capacity tasks.new ≡ vec_capacity tasks.old }
+
+        // Of each operation: it waits on exactly if its direction isn't met. If it is, its task is named.
+        ensures each { (n : ℕ) → waiter_of self.new.waiting n ≡ unless_met ready (waiter_of self.old.waiting n) }
+        ensures named { (n : ℕ) → IfSome (waiter_of self.old.waiting n)
+            (λ w. IsTrue (is_met ready w) → Contains tasks.new.items w.task) }
+    {
+        self.waiting.name_tasks(ready, tasks);
+        self.waiting.leave(ready);
     }
 
     // Takes what waits in the directions that these bits meet. Where nothing does, the reserved memory stays.

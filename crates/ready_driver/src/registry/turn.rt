@@ -83,7 +83,6 @@ fn treat(records: &mut Records, reports: &Reports, woken: &mut Vec<u64>)
 }
 
 // Treats a report, in memory that was reserved for the tasks that it wakes.
-#[tactic(auto, using(crate::proofs::Reporting::woken_few))]
 fn treat_one(records: &mut Records, report: Report, woken: &mut Vec<u64>)
     requires { vec_len woken.old + length (io_at records.old report.key).waiting ≤ vec_capacity woken.old }
     ensures records { records.new ≡ reported records.old report }
@@ -91,6 +90,5 @@ fn treat_one(records: &mut Records, report: Report, woken: &mut Vec<u64>)
     ensures len { vec_len woken.new ≡ vec_len woken.old + length (woken_by records.old report) }
     ensures capacity { vec_capacity woken.old ≤ vec_capacity woken.new }
 {
-    let tasks = records.report(report.key as u64, report.ready);
-    let _ = woken.extend_from_slice(tasks.as_slice());
+    records.report_into(report.key as u64, report.ready, woken);
 }
