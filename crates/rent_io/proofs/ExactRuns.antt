@@ -1,16 +1,19 @@
 -- Polls of an exact read, one behind the other.
 use Rattle.std.proofs.Common.{◌≡◌, ◌∙◌, ℕ, ◌+◌, ◌-◌, ◌≤◌, ◌⊎◌, inl, inr, List, [], ◌++◌, Bool, length, take, sym, ap, arith}
-use Rattle.std.proofs.Common.{length-append}
-use Rattle.std.specs.Prelude.{IsTrue, Option, Result, Ok, Err}
+use Rattle.std.proofs.Common.{add-zero, length-append, refl}
+use Rattle.std.specs.Prelude.{IsTrue, Result, Ok, Err}
 use Rattle.std.proofs.lemmas.List.{length-take, length-drop}
 use Rattle.rent_buf.specs.Buffer.{Buffer, BufferBounds, room, put, shown}
+use Rattle.rent_buf.specs.Parts.{Parts}
 use Rattle.rent_buf.specs.declared.fault.IoFault.{IoFault}
-use Rattle.rent_io.specs.Counts.{AfterCall}
+use Rattle.rent_io.specs.declared.poll.Step.{Step}
+use Rattle.rent_io.specs.declared.poll.Step.TheVariants.{Ready, Pending, Again}
 use Rattle.rent_io.specs.Polls.{Fails}
 use Rattle.rent_io.specs.Reader.{Reader}
-use Rattle.rent_io.specs.ReadExact.{Filling, lacks, with_more, filled_with, GoesOn, IsFilled, EndsEarly, IsExactEnd}
-use Rattle.rent_io.specs.Runs.{AreUsed, HasFilled, StopsFilling, ExactRunEnd}
-use Rattle.rent_io.proofs.Runs.{Stays, fails_later, rose_later, front_twice, front_paused, used_paused, used_moved}
+use Rattle.rent_io.specs.ReadExact.{Filling, lacks, with_more, filled_with, GoesOn, IsFilled, EndsEarly, IsExactEnd, ReadsExact}
+use Rattle.rent_io.specs.Runs.{EndsExact, HasFilled, StopsFilling, ExactRunEnd}
+use Rattle.rent_io.specs.State.{Ran}
+use Rattle.rent_io.proofs.Runs.{Stays, breaking, fails_later, rose_later, front_twice, front_paused}
 use Rattle.rent_io.proofs.Stored.{more_twice, filled_twice, nothing_behind, room_more}
 
 -- What is lacking behind u.
@@ -18,7 +21,7 @@ lacks_behind : (f : Filling) (u : List ℕ) → lacks (filled_with f u) ≡ lack
 lacks_behind f u = omega (arith, room_more f u)
 
 -- A poll that goes on adds its bytes.
-pub fill_goes_on : (tells : Bool) (before mid now : Reader) (f g next : Filling) → f.buffer.begin + f.filled ≤ length f.buffer.bytes
+fill_goes_on : (tells : Bool) (before mid now : Reader) (f g next : Filling) → f.buffer.begin + f.filled ≤ length f.buffer.bytes
     → HasFilled tells before.left mid.left f g → Stays tells mid now g next ⊎ GoesOn tells mid.left now.left g next
     → HasFilled tells before.left now.left f next
 fill_goes_on tells before mid now f g next bound has (inl paused) = record {
@@ -86,27 +89,39 @@ fill_cause tells before mid now f g back fault bound stay zeros has same (inr ea
     }
 
 -- How a poll ends is how the polls end.
-pub fill_ends : (tells : Bool) (before mid now : Reader) (f g : Filling) (back : Buffer) (end : Result ℕ IoFault)
+fill_ends : (tells : Bool) (before mid now : Reader) (f g : Filling) (back : Buffer) (end : Result ℕ IoFault)
     → f.buffer.begin + f.filled ≤ length f.buffer.bytes → before.counts.faults ≤ mid.counts.faults → before.counts.zeros ≤ mid.counts.zeros
     → HasFilled tells before.left mid.left f g → IsExactEnd tells mid now g back end → ExactRunEnd tells before now f back end
 fill_ends tells before mid now f g back (Ok n) bound stay zeros has end = fill_is_done tells before mid now f g back n bound has end
 fill_ends tells before mid now f g back (Err fault) bound stay zeros has end =
     fill_cause tells before mid now f g back fault bound stay zeros has end.0 end.1
 
+-- No polls of an exact read.
+pub fill_none : (tells : Bool) (left : List ℕ) (f : Filling) → HasFilled tells left left f f
+fill_none tells left f = record {
+  got = [];
+  within = omega arith;
+  is_next = ap (λ n. record f { filled = n }) (sym (add-zero f.filled));
+  front = λ t. refl;
+}
+
+-- One poll more of an exact read.
+pub fill_more : {T : Type 0} (tells : Bool) (task : ℕ) (before mid now : Reader) (buffer : T → Buffer) (under : T → List (ℕ × ℕ))
+    (beside : T → Parts) (f g : Filling) (step : Step Filling (Result ℕ IoFault × T)) → f.buffer.begin + f.filled ≤ length f.buffer.bytes
+    → before.counts.faults ≤ mid.counts.faults → before.counts.zeros ≤ mid.counts.zeros → HasFilled tells before.left mid.left f g
+    → ReadsExact tells task mid now buffer under beside g step
+    → Ran (EndsExact tells before now buffer under beside f) (HasFilled tells before.left now.left f) step
+fill_more tells task before mid now buffer under beside f g (Ready end) bound stay zeros has is = (
+  fill_ends tells before mid now f g (buffer end.1) end.0 bound stay zeros has is.0,
+  is.1 ∙ ap (λ (x : Filling). x.under) has.is_next,
+  is.2 ∙ ap (λ (x : Filling). x.beside) has.is_next,
+)
+fill_more tells task before mid now buffer under beside f g (Pending next) bound stay zeros has is =
+    fill_goes_on tells before mid now f g next bound has (inl (is.0, is.1))
+fill_more tells task before mid now buffer under beside f g (Again next) bound stay zeros has is =
+    fill_goes_on tells before mid now f g next bound has (breaking tells mid now g next (GoesOn tells mid.left now.left g next) is)
+
 -- Bytes that a range shows are among the buffer's.
 pub filled_within : (b : Buffer) (n : ℕ) → BufferBounds b → n ≤ length (shown b) → b.begin + n ≤ length b.bytes
 filled_within b n bounds among =
     omega (arith, bounds.within, among, length-drop b.begin (take b.end b.bytes), length-take b.end b.bytes)
-
--- Each poll of an exact read that goes on is used.
-pub fill_used : (tells : Bool) (before mid now : Reader) (group : Option ℕ) (k : ℕ) (f g next : Filling)
-    → AreUsed k f.filled g.filled before.counts mid.counts → AfterCall group mid.counts now.counts
-    → Stays tells mid now g next ⊎ GoesOn tells mid.left now.left g next → AreUsed (k + 1) f.filled next.filled before.counts now.counts
-fill_used tells before mid now group k f g next used call (inl paused) =
-    let same : next.filled ≡ g.filled = ap (λ (x : Filling). x.filled) paused.0 in
-    used_paused k f.filled g.filled f.filled next.filled before.counts mid.counts now.counts used (omega (arith, same)) call.pauses_stay
-    call.interrupts_stay paused.2
-fill_used tells before mid now group k f g next used call (inr goes) =
-    let more : next.filled ≡ g.filled + length goes.got = ap (λ x. x.filled) goes.is_next in
-    used_moved k f.filled g.filled f.filled next.filled
-    before.counts mid.counts now.counts used (omega (arith, goes.some, more)) call.pauses_stay call.interrupts_stay

@@ -15,5 +15,6 @@ pub mod SendRuns
 pub mod Sends
 pub mod SingleParts
 pub mod SinkRuns
+pub mod States
 pub mod Stored
 pub mod Texts

@@ -1,16 +1,17 @@
 -- Polls of reads of lines, one behind the other.
 use Rattle.std.proofs.Common.{◌≡◌, ◌∙◌, ℕ, ◌+◌, ◌≤◌, ◌⊎◌, inl, inr, List, [], ◌∷◌, ◌++◌, Bool, length, sym, ap, subst, arith}
-use Rattle.std.proofs.Common.{append_assoc, append-nil, length-append}
-use Rattle.std.specs.Prelude.{◌≢◌, IsTrue, Option, Result, Ok, Err}
-use Rattle.std.proofs.lemmas.List.Elements.{All-append}
+use Rattle.std.proofs.Common.{add-zero, append_assoc, append-nil, length-append, refl}
+use Rattle.std.specs.Prelude.{◌≢◌, IsTrue, Result, Ok, Err}
+use Rattle.std.proofs.lemmas.List.Elements.{All-append, All-nil}
 use Rattle.rent_buf.specs.declared.fault.IoFault.{IoFault}
-use Rattle.rent_io.specs.Counts.{AfterCall}
+use Rattle.rent_io.specs.declared.poll.Step.{Step}
+use Rattle.rent_io.specs.declared.poll.Step.TheVariants.{Ready, Pending, Again}
 use Rattle.rent_io.specs.Reader.{AtEnd, Reader, WasFront}
-use Rattle.rent_io.specs.ReadUntil.{Until, Lacks, IsLine, ReadsOn, IsUntilEnd}
-use Rattle.rent_io.specs.ReadLine.{Lining, TextOf, LineGoesOn, HasLine, LineFails}
-use Rattle.rent_io.specs.LineRuns.{IsWholeLine, HasAdded, UntilRunEnd, HasLined, EndsLine, StopsLine}
-use Rattle.rent_io.specs.Runs.{AreUsed}
-use Rattle.rent_io.proofs.Runs.{Stays, fails_later, front_twice, front_paused, used_paused, used_moved}
+use Rattle.rent_io.specs.ReadUntil.{Until, Lacks, IsLine, ReadsOn, IsUntilEnd, ReadsUntil}
+use Rattle.rent_io.specs.ReadLine.{Lining, TextOf, LineGoesOn, HasLine, LineFails, ReadsLine}
+use Rattle.rent_io.specs.LineRuns.{IsWholeLine, HasAdded, UntilRunEnd, HasLined, EndsLine, LineRunEnd, StopsLine}
+use Rattle.rent_io.specs.State.{Ran}
+use Rattle.rent_io.proofs.Runs.{Stays, breaking, fails_later, front_twice, front_paused}
 
 -- Bytes without a delimiter, and then others without it.
 lacks_both : (d : ℕ) (u v : List ℕ) → Lacks d u → Lacks d v → Lacks d (u ++ v)
@@ -48,7 +49,7 @@ added_twice u got more =
     ∙ ap (make (u.bytes ++ (got ++ more))) count
 
 -- A poll that goes on adds its bytes.
-pub until_goes_on : (tells : Bool) (before mid now : Reader) (u g next : Until) → HasAdded tells before.left mid.left u g
+until_goes_on : (tells : Bool) (before mid now : Reader) (u g next : Until) → HasAdded tells before.left mid.left u g
     → Stays tells mid now g next ⊎ ReadsOn tells mid.left now.left g next → HasAdded tells before.left now.left u next
 until_goes_on tells before mid now u g next has (inl paused) = record {
   got = has.got;
@@ -64,7 +65,7 @@ until_goes_on tells before mid now u g next has (inr reads) = record {
 }
 
 -- How a poll ends is how the polls end.
-pub until_ends : (tells : Bool) (before mid now : Reader) (u g : Until) (back : List ℕ) (end : Result ℕ IoFault)
+until_ends : (tells : Bool) (before mid now : Reader) (u g : Until) (back : List ℕ) (end : Result ℕ IoFault)
     → before.counts.faults ≤ mid.counts.faults → HasAdded tells before.left mid.left u g → IsUntilEnd tells mid now g back end
     → UntilRunEnd tells before now u back end
 until_ends tells before mid now u g back (Ok n) stay has read =
@@ -98,7 +99,7 @@ lined_twice : (l : Lining) (got more : List ℕ) → lined (lined l got) more �
 lined_twice l got more = ap (λ b. record l { added = b }) (append_assoc l.added got more)
 
 -- A poll that goes on adds its bytes to the line.
-pub line_runs_on : (tells : Bool) (before mid now : Reader) (l g next : Lining) → HasLined tells before.left mid.left l g
+line_runs_on : (tells : Bool) (before mid now : Reader) (l g next : Lining) → HasLined tells before.left mid.left l g
     → Stays tells mid now g next ⊎ LineGoesOn tells mid.left now.left g next → HasLined tells before.left now.left l next
 line_runs_on tells before mid now l g next has (inl paused) = record {
   got = has.got;
@@ -114,7 +115,7 @@ line_runs_on tells before mid now l g next has (inr goes) = record {
 }
 
 -- How a poll of a line ends is how its polls end.
-pub line_run_ends : (tells : Bool) (before mid now : Reader) (l g : Lining) (back : List ℕ) (end : Result ℕ IoFault)
+line_run_ends : (tells : Bool) (before mid now : Reader) (l g : Lining) (back : List ℕ) (end : Result ℕ IoFault)
     → before.counts.faults ≤ mid.counts.faults → HasLined tells before.left mid.left l g
     → HasLine tells mid now g back end ⊎ LineFails tells mid now g back end
     → EndsLine tells before.left now.left l back end ⊎ StopsLine tells before now l back end
@@ -139,30 +140,42 @@ line_run_ends tells before mid now l g back end stay has (inr failed) = inr (rec
   front = front_paused tells before.left mid.left now.left has.got has.front failed.same;
 })
 
--- Each poll of a read up to a delimiter that goes on is used.
-pub until_used : (tells : Bool) (before mid now : Reader) (group : Option ℕ) (k : ℕ) (u g next : Until)
-    → AreUsed k u.added g.added before.counts mid.counts → AfterCall group mid.counts now.counts
-    → Stays tells mid now g next ⊎ ReadsOn tells mid.left now.left g next → AreUsed (k + 1) u.added next.added before.counts now.counts
-until_used tells before mid now group k u g next used call (inl paused) =
-    let same : next.added ≡ g.added = ap (λ (x : Until). x.added) paused.0 in
-    used_paused k u.added g.added u.added next.added before.counts mid.counts now.counts used (omega (arith, same)) call.pauses_stay
-    call.interrupts_stay paused.2
-until_used tells before mid now group k u g next used call (inr goes) =
-    let more : next.added ≡ g.added + length goes.got = ap (λ x. x.added) goes.is_next in
-    used_moved k u.added g.added u.added next.added
-    before.counts mid.counts now.counts used (omega (arith, goes.some, more)) call.pauses_stay call.interrupts_stay
+-- No polls of a read up to a delimiter.
+pub until_none : (tells : Bool) (left : List ℕ) (u : Until) → HasAdded tells left left u u
+until_none tells left u = record {
+  got = [];
+  others = All-nil (λ byte. byte ≢ u.delim);
+  is_next = ap (λ b. record u { bytes = b }) (sym (append-nil u.bytes))
+      ∙ ap (λ n. record u { bytes = u.bytes ++ []; added = n }) (sym (add-zero u.added));
+  front = λ t. refl;
+}
 
--- Each poll of a read of a line that goes on is used.
-pub line_used : (tells : Bool) (before mid now : Reader) (group : Option ℕ) (k : ℕ) (l g next : Lining)
-    → AreUsed k (length l.added) (length g.added) before.counts mid.counts → AfterCall group mid.counts now.counts
-    → Stays tells mid now g next ⊎ LineGoesOn tells mid.left now.left g next
-    → AreUsed (k + 1) (length l.added) (length next.added) before.counts now.counts
-line_used tells before mid now group k l g next used call (inl paused) =
-    let same : length next.added ≡ length g.added = ap (λ (x : Lining). length x.added) paused.0 in
-    used_paused k (length l.added) (length g.added) (length l.added) (length next.added)
-    before.counts mid.counts now.counts used (omega (arith, same)) call.pauses_stay call.interrupts_stay paused.2
-line_used tells before mid now group k l g next used call (inr goes) =
-    let more : length next.added ≡ length g.added + length goes.got =
-    ap (λ (x : Lining). length x.added) goes.is_next ∙ length-append g.added goes.got in
-    used_moved k (length l.added) (length g.added) (length l.added) (length next.added)
-    before.counts mid.counts now.counts used (omega (arith, goes.some, more)) call.pauses_stay call.interrupts_stay
+-- One poll more of a read up to a delimiter.
+pub until_more : (tells : Bool) (task : ℕ) (before mid now : Reader) (u g : Until) (step : Step Until (Result ℕ IoFault × List ℕ))
+    → before.counts.faults ≤ mid.counts.faults → HasAdded tells before.left mid.left u g → ReadsUntil tells task mid now g step
+    → Ran (λ end. UntilRunEnd tells before now u end.1 end.0) (HasAdded tells before.left now.left u) step
+until_more tells task before mid now u g (Ready end) stay has is = until_ends tells before mid now u g end.1 end.0 stay has is
+until_more tells task before mid now u g (Pending next) stay has is = until_goes_on tells before mid now u g next has (inl (is.0, is.1))
+until_more tells task before mid now u g (Again next) stay has is =
+    until_goes_on tells before mid now u g next has (breaking tells mid now g next (ReadsOn tells mid.left now.left g next) is)
+
+-- No polls of a read of a line.
+pub line_none : (tells : Bool) (left : List ℕ) (l : Lining) → HasLined tells left left l l
+line_none tells left l = record {
+  got = [];
+  others = All-nil (λ byte. byte ≢ 10);
+  is_next = ap (λ b. record l { added = b }) (sym (append-nil l.added));
+  front = λ t. refl;
+}
+
+-- One poll more of a read of a line.
+pub line_more : {T : Type 0} (tells : Bool) (task : ℕ) (before mid now : Reader) (bytes : T → List ℕ) (l g : Lining)
+    (step : Step Lining (Result ℕ IoFault × T)) → before.counts.faults ≤ mid.counts.faults → HasLined tells before.left mid.left l g
+    → ReadsLine tells task mid now bytes g step
+    → Ran (λ end. LineRunEnd tells before now l (bytes end.1) end.0) (HasLined tells before.left now.left l) step
+line_more tells task before mid now bytes l g (Ready end) stay has is =
+    line_run_ends tells before mid now l g (bytes end.1) end.0 stay has is
+line_more tells task before mid now bytes l g (Pending next) stay has is =
+    line_runs_on tells before mid now l g next has (inl (is.0, is.1))
+line_more tells task before mid now bytes l g (Again next) stay has is =
+    line_runs_on tells before mid now l g next has (breaking tells mid now g next (LineGoesOn tells mid.left now.left g next) is)

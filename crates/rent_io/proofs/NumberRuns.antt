@@ -1,14 +1,15 @@
 -- Polls of a read of a number, one behind the other.
 use Rattle.std.proofs.Common.{◌≡◌, ◌∙◌, ℕ, ◌≤◌, ◌⊎◌, inl, inr, List, ◌++◌, Bool, length, sym, ap, arith}
-use Rattle.std.proofs.Common.{append_assoc, length-append, ◌+◌}
-use Rattle.std.specs.Prelude.{Option, Result, Ok, Err}
+use Rattle.std.proofs.Common.{[], append_assoc, append-nil, length-append, refl}
+use Rattle.std.specs.Prelude.{Result, Ok, Err}
 use Rattle.rent_buf.specs.declared.fault.IoFault.{IoFault}
-use Rattle.rent_io.specs.Counts.{AfterCall}
+use Rattle.rent_io.specs.declared.poll.Step.{Step}
+use Rattle.rent_io.specs.declared.poll.Step.TheVariants.{Ready, Pending, Again}
 use Rattle.rent_io.specs.Reader.{Reader}
-use Rattle.rent_io.specs.ReadNumber.{Numbering, HasMore, IsNumberEnd}
+use Rattle.rent_io.specs.ReadNumber.{Numbering, HasMore, IsNumberEnd, ReadsNumber}
 use Rattle.rent_io.specs.LineRuns.{HasDigits, NumberRunEnd}
-use Rattle.rent_io.specs.Runs.{AreUsed}
-use Rattle.rent_io.proofs.Runs.{Stays, fails_later, rose_later, front_twice, front_paused, used_paused, used_moved}
+use Rattle.rent_io.specs.State.{Ran}
+use Rattle.rent_io.proofs.Runs.{Stays, breaking, fails_later, rose_later, front_twice, front_paused}
 
 -- A read of a number that has these bytes too.
 abbrev pub with_digits : Numbering → List ℕ → Numbering
@@ -19,7 +20,7 @@ digits_twice : (r : Numbering) (got more : List ℕ) → with_digits (with_digit
 digits_twice r got more = ap (λ b. record r { bytes = b }) (append_assoc r.bytes got more)
 
 -- A poll that goes on adds its bytes.
-pub number_goes_on : (tells : Bool) (before mid now : Reader) (r g next : Numbering) → HasDigits tells before.left mid.left r g
+number_goes_on : (tells : Bool) (before mid now : Reader) (r g next : Numbering) → HasDigits tells before.left mid.left r g
     → Stays tells mid now g next ⊎ HasMore tells mid.left now.left g next → HasDigits tells before.left now.left r next
 number_goes_on tells before mid now r g next has (inl paused) = record {
   got = has.got;
@@ -33,7 +34,7 @@ number_goes_on tells before mid now r g next has (inr more) = record {
 }
 
 -- How a poll ends is how the polls end.
-pub number_ends : {N : Type 0} (tells : Bool) (before mid now : Reader) (value : Bool → List ℕ → N) (r g : Numbering)
+number_ends : {N : Type 0} (tells : Bool) (before mid now : Reader) (value : Bool → List ℕ → N) (r g : Numbering)
     (end : Result N IoFault) → before.counts.faults ≤ mid.counts.faults → before.counts.zeros ≤ mid.counts.zeros
     → HasDigits tells before.left mid.left r g
     → IsNumberEnd tells mid now value g end → NumberRunEnd tells before now value r end
@@ -69,17 +70,18 @@ number_ends tells before mid now value r g (Err fault) stay zeros has failed =
       ];
     }
 
--- Each poll of a read of a number that goes on is used.
-pub number_used : (tells : Bool) (before mid now : Reader) (group : Option ℕ) (k : ℕ) (r g next : Numbering)
-    → AreUsed k (length r.bytes) (length g.bytes) before.counts mid.counts → AfterCall group mid.counts now.counts
-    → Stays tells mid now g next ⊎ HasMore tells mid.left now.left g next
-    → AreUsed (k + 1) (length r.bytes) (length next.bytes) before.counts now.counts
-number_used tells before mid now group k r g next used call (inl paused) =
-    let same : length next.bytes ≡ length g.bytes = ap (λ (x : Numbering). length x.bytes) paused.0 in
-    used_paused k (length r.bytes) (length g.bytes) (length r.bytes) (length next.bytes)
-    before.counts mid.counts now.counts used (omega (arith, same)) call.pauses_stay call.interrupts_stay paused.2
-number_used tells before mid now group k r g next used call (inr goes) =
-    let more : length next.bytes ≡ length g.bytes + length goes.got =
-    ap (λ (x : Numbering). length x.bytes) goes.is_next ∙ length-append g.bytes goes.got in
-    used_moved k (length r.bytes) (length g.bytes) (length r.bytes) (length next.bytes)
-    before.counts mid.counts now.counts used (omega (arith, goes.some, more)) call.pauses_stay call.interrupts_stay
+-- No polls of a read of a number.
+pub number_none : (tells : Bool) (left : List ℕ) (r : Numbering) → HasDigits tells left left r r
+number_none tells left r = record { got = []; is_next = ap (λ b. record r { bytes = b }) (sym (append-nil r.bytes)); front = λ t. refl }
+
+-- One poll more of a read of a number.
+pub number_more : {N : Type 0} (tells : Bool) (task : ℕ) (before mid now : Reader) (value : Bool → List ℕ → N) (r g : Numbering)
+    (step : Step Numbering (Result N IoFault)) → before.counts.faults ≤ mid.counts.faults → before.counts.zeros ≤ mid.counts.zeros
+    → HasDigits tells before.left mid.left r g → ReadsNumber tells task mid now value g step
+    → Ran (NumberRunEnd tells before now value r) (HasDigits tells before.left now.left r) step
+number_more tells task before mid now value r g (Ready end) stay zeros has is =
+    number_ends tells before mid now value r g end stay zeros has is
+number_more tells task before mid now value r g (Pending next) stay zeros has is =
+    number_goes_on tells before mid now r g next has (inl (is.0, is.1))
+number_more tells task before mid now value r g (Again next) stay zeros has is =
+    number_goes_on tells before mid now r g next has (breaking tells mid now g next (HasMore tells mid.left now.left g next) is)

@@ -4,7 +4,7 @@ use Rattle.std.specs.Prelude.{IsTrue}
 use Rattle.std.proofs.lemmas.List.{length-take, take-append-drop}
 use Rattle.rent_buf.specs.Buffer.{Buffer, room, put}
 use Rattle.rent_buf.specs.Parts.{Parts, parts_stored}
-use Rattle.rent_io.specs.Reader.{Taken, Scattered, first_room, WasFront}
+use Rattle.rent_io.specs.Reader.{FrontRead, Taken, Scattered, first_room, WasFront}
 use Rattle.rent_io.specs.Source.{Gives}
 use Rattle.rent_io.specs.declared.source_stream.TheConstants.{PIECE}
 
@@ -44,4 +44,14 @@ scattered_piece tells left rest piece parts back size n is long within stored_is
   is_stored = stored_is;
   front = piece-front tells left rest piece size n gives;
   at_end = piece-end tells left rest piece (first_room parts) size n is gives;
+}
+
+-- A read straight into a buffer of fixed length.
+pub front_read : (tells : Bool) (left rest buf back : List ℕ) (n : ℕ) → n ≤ length buf → length back ≡ length buf
+    → (IsTrue tells → Gives left rest back (length buf) n) → FrontRead tells left rest buf back n
+front_read tells left rest buf back n within long gives = record {
+  fits = within;
+  same_length = long;
+  front = piece-front tells left rest back (length buf) n gives;
+  at_end = λ t. (gives t).at_end;
 }

@@ -6,8 +6,8 @@ use Rattle.rent_io.specs.Counts.{Counts, AfterCall, Rose}
 use Rattle.rent_io.specs.Polls.{Fails, IsFlushCaused}
 use Rattle.rent_io.specs.declared.poll.PollCount.TheVariants.{Ready}
 use Rattle.rent_io.specs.Reader.{Reader, WasFront}
-use Rattle.rent_io.specs.ReadExact.{Paused, Interrupted}
-use Rattle.rent_io.specs.Runs.{AfterCalls, AreUsed}
+use Rattle.rent_io.specs.ReadExact.{Interrupted}
+use Rattle.rent_io.specs.Runs.{AfterCalls}
 
 -- The group of the last call that was made.
 under_more : (group before mid now : Option ℕ) → (mid ≡ before) ⊎ (mid ≡ group) → (now ≡ mid) ⊎ (now ≡ group)
@@ -42,51 +42,14 @@ pub front_paused : (tells : Bool) (left mid rest u : List ℕ) → WasFront tell
     → WasFront tells left u rest
 front_paused tells left mid rest u first same = λ t. first t ∙ ap (λ l. u ++ l) (same t)
 
--- One poll more that paused or was interrupted, and moved nothing back.
-pub used_paused : (polls from upto from' upto' : ℕ) (before mid now : Counts) → AreUsed polls from upto before mid
-    → from' + upto ≤ from + upto' → mid.pauses ≤ now.pauses → mid.interrupts ≤ now.interrupts
-    → Rose mid.pauses now.pauses ⊎ Rose mid.interrupts now.interrupts → AreUsed (polls + 1) from' upto' before now
-used_paused polls from upto from' upto' before mid now used moved pauses interrupts (inl rose) = record {
-  paused = used.paused + 1;
-  interrupted = used.interrupted;
-  each = omega (arith, used.each, moved);
-  pauses = omega (arith, used.pauses, rose);
-  interrupts = omega (arith, used.interrupts, interrupts);
-}
-used_paused polls from upto from' upto' before mid now used moved pauses interrupts (inr rose) = record {
-  paused = used.paused;
-  interrupted = used.interrupted + 1;
-  each = omega (arith, used.each, moved);
-  pauses = omega (arith, used.pauses, pauses);
-  interrupts = omega (arith, used.interrupts, rose);
-}
-
--- One poll more that moved a byte at least.
-pub used_moved : (polls from upto from' upto' : ℕ) (before mid now : Counts) → AreUsed polls from upto before mid
-    → from' + upto + 1 ≤ from + upto' → mid.pauses ≤ now.pauses → mid.interrupts ≤ now.interrupts
-    → AreUsed (polls + 1) from' upto' before now
-used_moved polls from upto from' upto' before mid now used moved pauses interrupts = record {
-  paused = used.paused;
-  interrupted = used.interrupted;
-  each = omega (arith, used.each, moved);
-  pauses = omega (arith, used.pauses, pauses);
-  interrupts = omega (arith, used.interrupts, interrupts);
-}
-
--- It is as it was, since the stream paused or was interrupted.
+-- It is as it was.
 abbrev pub Stays : {S : Type 0} → Bool → Reader → Reader → S → S → Type 0
 Stays tells before now f next = (next ≡ f) × (IsTrue tells → before.left ≡ now.left)
-    × (Rose before.counts.pauses now.counts.pauses ⊎ Rose before.counts.interrupts now.counts.interrupts)
 
--- A poll that answers Pending stays so.
-pub pausing : {S : Type 0} (tells : Bool) (task : ℕ) (before now : Reader) (f next : S) (G : Type 0)
-    → Paused tells task before now f next → Stays tells before now f next ⊎ G
-pausing tells task before now f next G is = inl (is.0, is.1, inl is.2.0)
-
--- And one that was interrupted.
+-- A poll that was interrupted, or went on, leaves it as it was, or went on.
 pub breaking : {S : Type 0} (tells : Bool) (before now : Reader) (f next : S) (G : Type 0)
     → Interrupted tells before now f next ⊎ G → Stays tells before now f next ⊎ G
-breaking tells before now f next G (inl is) = inl (is.0, is.1, inr is.2)
+breaking tells before now f next G (inl is) = inl (is.0, is.1)
 breaking tells before now f next G (inr goes) = inr goes
 
 -- Faults that came later came.

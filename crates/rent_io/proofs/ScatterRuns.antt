@@ -1,21 +1,23 @@
 -- Polls of a read into all parts of a vector, one behind the other.
 use Rattle.std.proofs.Common.{◌≡◌, ◌∙◌, ℕ, zero, suc, ◌<◌, ◌≤◌, ◌⊎◌, inl, inr, [], ◌∷◌, ◌++◌, Bool, take, refl, sym, ap, subst, arith}
-use Rattle.std.proofs.Common.{append_assoc, append-nil, ◌+◌, length, length-append}
-use Rattle.std.specs.Prelude.{IsTrue, Option, Result, Ok, Err}
+use Rattle.std.proofs.Common.{List, append_assoc, append-nil}
+use Rattle.std.specs.Prelude.{IsTrue, Result, Ok, Err}
 use Rattle.std.proofs.lemmas.List.{take-take}
 use Rattle.rent_buf.specs.Parts.{Parts, part_at, part_put}
 use Rattle.rent_buf.specs.declared.fault.IoFault.{IoFault}
-use Rattle.rent_io.specs.Counts.{AfterCall}
+use Rattle.rent_io.specs.declared.poll.Step.{Step}
+use Rattle.rent_io.specs.declared.poll.Step.TheVariants.{Ready, Pending, Again}
 use Rattle.rent_io.specs.Polls.{Fails}
 use Rattle.rent_io.specs.Reader.{Reader}
 use Rattle.rent_io.specs.ReadVectoredExact.{Scattering, has_read, read_of, rooms, ScatterGoesOn, ScatterEndsEarly, IsScatterEnd}
+use Rattle.rent_io.specs.ReadVectoredExact.{ReadsScattered}
 use Rattle.rent_io.specs.ScatterRuns.{HasScattered, StopsScattering, ScatterRunEnd}
-use Rattle.rent_io.specs.Runs.{AreUsed}
-use Rattle.rent_io.proofs.Runs.{Stays, fails_later, rose_later, front_twice, front_paused, used_paused, used_moved}
+use Rattle.rent_io.specs.State.{Ran}
+use Rattle.rent_io.proofs.Runs.{Stays, breaking, fails_later, rose_later, front_twice, front_paused}
 use Rattle.rent_io.proofs.Scatters.{put_rooms}
 
 -- A poll that goes on adds its bytes.
-pub scatter_goes_on : (tells : Bool) (before mid now : Reader) (s g next : Scattering) → HasScattered tells before.left mid.left s g
+scatter_goes_on : (tells : Bool) (before mid now : Reader) (s g next : Scattering) → HasScattered tells before.left mid.left s g
     → Stays tells mid now g next ⊎ ScatterGoesOn tells mid.left now.left g next → HasScattered tells before.left now.left s next
 scatter_goes_on tells before mid now s g next has (inl paused) = record {
   got = has.got;
@@ -81,7 +83,7 @@ scatter_stops tells before mid now s g back fault stay zeros has same (inr early
     }
 
 -- How a poll ends is how the polls end.
-pub scatter_ends : (tells : Bool) (before mid now : Reader) (s g : Scattering) (back : Parts) (end : Result ℕ IoFault)
+scatter_ends : (tells : Bool) (before mid now : Reader) (s g : Scattering) (back : Parts) (end : Result ℕ IoFault)
     → before.counts.faults ≤ mid.counts.faults → before.counts.zeros ≤ mid.counts.zeros → HasScattered tells before.left mid.left s g
     → IsScatterEnd tells mid now g back end
     → ScatterRunEnd tells before now s back end
@@ -96,17 +98,24 @@ scatter_ends tells before mid now s g back (Ok n) stay zeros has full = record {
 scatter_ends tells before mid now s g back (Err fault) stay zeros has failed =
     scatter_stops tells before mid now s g back fault stay zeros has failed.0 failed.1
 
--- Each poll of a read into all parts that goes on is used.
-pub scatter_used : (tells : Bool) (before mid now : Reader) (group : Option ℕ) (k : ℕ) (s g next : Scattering)
-    → AreUsed k (length (has_read s)) (length (has_read g)) before.counts mid.counts → AfterCall group mid.counts now.counts
-    → Stays tells mid now g next ⊎ ScatterGoesOn tells mid.left now.left g next
-    → AreUsed (k + 1) (length (has_read s)) (length (has_read next)) before.counts now.counts
-scatter_used tells before mid now group k s g next used call (inl paused) =
-    let same : length (has_read next) ≡ length (has_read g) = ap (λ (x : Scattering). length (has_read x)) paused.0 in
-    used_paused k (length (has_read s)) (length (has_read g)) (length (has_read s)) (length (has_read next))
-    before.counts mid.counts now.counts used (omega (arith, same)) call.pauses_stay call.interrupts_stay paused.2
-scatter_used tells before mid now group k s g next used call (inr goes) =
-    let more : length (has_read next) ≡ length (has_read g) + length goes.got =
-    ap length goes.is_read ∙ length-append (has_read g) goes.got in
-    used_moved k (length (has_read s)) (length (has_read g)) (length (has_read s)) (length (has_read next))
-    before.counts mid.counts now.counts used (omega (arith, goes.some, more)) call.pauses_stay call.interrupts_stay
+-- No polls of a read into all parts.
+pub scatter_none : (tells : Bool) (left : List ℕ) (s : Scattering) → HasScattered tells left left s s
+scatter_none tells left s = record {
+  got = [];
+  is_read = sym (append-nil (has_read s));
+  same_rooms = refl;
+  same_total = refl;
+  front = λ t. refl;
+}
+
+-- One poll more of a read into all parts.
+pub scatter_more : {T : Type 0} (tells : Bool) (task : ℕ) (before mid now : Reader) (held : T → Parts) (s g : Scattering)
+    (step : Step Scattering (Result ℕ IoFault × T)) → before.counts.faults ≤ mid.counts.faults → before.counts.zeros ≤ mid.counts.zeros
+    → HasScattered tells before.left mid.left s g → ReadsScattered tells task mid now held g step
+    → Ran (λ end. ScatterRunEnd tells before now s (held end.1) end.0) (HasScattered tells before.left now.left s) step
+scatter_more tells task before mid now held s g (Ready end) stay zeros has is =
+    scatter_ends tells before mid now s g (held end.1) end.0 stay zeros has is
+scatter_more tells task before mid now held s g (Pending next) stay zeros has is =
+    scatter_goes_on tells before mid now s g next has (inl (is.0, is.1))
+scatter_more tells task before mid now held s g (Again next) stay zeros has is =
+    scatter_goes_on tells before mid now s g next has (breaking tells mid now g next (ScatterGoesOn tells mid.left now.left g next) is)

@@ -1,52 +1,22 @@
 -- Polls of a write of all bytes, one behind the other.
-use Rattle.std.proofs.Common.{◌∙◌, ℕ, ◌≤◌, ◌⊎◌, inl, inr, ◌++◌, Bool, sym, ap, append_assoc, ◌+◌, arith, length, ◌≡◌, length-append}
-use Rattle.std.specs.Prelude.{IsTrue, Option, Result, Ok, Err}
+use Rattle.std.proofs.Common.{◌≡◌, ◌∙◌, ℕ, ◌≤◌, ◌⊎◌, inl, inr, [], ◌++◌, Bool, refl, sym, ap, append_assoc, append-nil}
+use Rattle.std.specs.Prelude.{IsTrue, Result, Ok, Err}
 use Rattle.rent_buf.specs.declared.fault.IoFault.{IoFault}
-use Rattle.rent_io.specs.Counts.{AfterCall, Rose}
-use Rattle.rent_io.specs.Writer.{Writer}
-use Rattle.rent_io.specs.WriteAll.{Sending, SendsOn, WaitsAll, BreaksAll, IsAllEnd}
-use Rattle.rent_io.specs.Runs.{AreUsed, HasSent, AllRunEnd}
-use Rattle.rent_io.proofs.Runs.{fails_later, rose_later, used_paused, used_moved}
+use Rattle.rent_io.specs.declared.poll.Step.{Step}
+use Rattle.rent_io.specs.declared.poll.Step.TheVariants.{Ready, Pending, Again}
+use Rattle.rent_io.specs.Writer.{EndsStay, Writer}
+use Rattle.rent_io.specs.WriteAll.{Sending, SendsOn, BreaksAll, IsAllEnd, WritesAll}
+use Rattle.rent_io.specs.Runs.{AllRunEnd, EndsAll, HasSent}
+use Rattle.rent_io.specs.State.{Ran}
+use Rattle.rent_io.proofs.Runs.{fails_later, rose_later}
 
--- It is as it was, since the stream paused or was interrupted.
-abbrev pub StaysAll : {T : Type 0} → Bool → Writer → Writer → Sending T → Sending T → Type 0
-StaysAll tells before now s next = (next ≡ s) × (IsTrue tells → now.delivered ≡ before.delivered)
-    × (Rose before.counts.pauses now.counts.pauses ⊎ Rose before.counts.interrupts now.counts.interrupts)
-
--- A poll that answers Pending stays so.
-pub pausing_all : {T : Type 0} (tells : Bool) (task : ℕ) (before now : Writer) (s next : Sending T) (G : Type 0)
-    → WaitsAll tells task before now s next → StaysAll tells before now s next ⊎ G
-pausing_all tells task before now s next G is = inl (is.0, is.1, inl is.2.0)
-
--- And one that was interrupted.
-pub breaking_all : {T : Type 0} (tells : Bool) (before now : Writer) (s next : Sending T) (G : Type 0)
-    → BreaksAll tells before now s next ⊎ G → StaysAll tells before now s next ⊎ G
-breaking_all tells before now s next G (inl is) = inl (is.0, is.1, inr is.2)
-breaking_all tells before now s next G (inr goes) = inr goes
-
--- A poll that goes on sends the next bytes.
-pub send_goes_on : {T : Type 0} (tells : Bool) (before mid now : Writer) (s g next : Sending T)
-    → HasSent tells before.delivered mid.delivered s g
-    → StaysAll tells mid now g next ⊎ SendsOn tells mid.delivered now.delivered g next
-    → HasSent tells before.delivered now.delivered s next
-send_goes_on tells before mid now s g next has (inl waits) = record {
-  sent = has.sent;
-  cut = has.cut ∙ ap (λ x. has.sent ++ x.rest) (sym waits.0);
-  same_buf = ap (λ x. x.buf) waits.0 ∙ has.same_buf;
-  same_total = ap (λ x. x.total) waits.0 ∙ has.same_total;
-  joined = λ t. waits.1 t ∙ has.joined t;
-}
-send_goes_on tells before mid now s g next has (inr sends) = record {
-  sent = has.sent ++ sends.sent;
-  cut = has.cut ∙ ap (λ l. has.sent ++ l) sends.cut ∙ sym (append_assoc has.sent sends.sent next.rest);
-  same_buf = sends.same_buf ∙ has.same_buf;
-  same_total = sends.same_total ∙ has.same_total;
-  joined = λ t. sends.joined t ∙ ap (λ l. l ++ sends.sent) (has.joined t) ∙ append_assoc before.delivered has.sent sends.sent;
-}
+-- A stream that flushed and shut down as often, twice.
+ends_twice : (before mid now : Writer) → EndsStay before mid → EndsStay mid now → EndsStay before now
+ends_twice before mid now first second = (second.0 ∙ first.0, second.1 ∙ first.1)
 
 -- How a poll ends is how the polls end.
-pub send_ends : {T : Type 0} (tells : Bool) (before mid now : Writer) (s g : Sending T) (end : Result ℕ IoFault)
-    → before.counts.faults ≤ mid.counts.faults → before.counts.zeros ≤ mid.counts.zeros → HasSent tells before.delivered mid.delivered s g
+send_ends : {T : Type 0} (tells : Bool) (before mid now : Writer) (s g : Sending T) (end : Result ℕ IoFault)
+    → before.counts.faults ≤ mid.counts.faults → before.counts.zeros ≤ mid.counts.zeros → HasSent tells before mid s g
     → IsAllEnd tells mid now g end
     → AllRunEnd tells before now s end
 send_ends tells before mid now s g (Ok n) stay zeros has all = (
@@ -65,16 +35,51 @@ send_ends tells before mid now s g (Err fault) stay zeros has failed = record {
   ];
 }
 
--- Each poll of a write of all bytes that goes on is used.
-pub send_used : {T : Type 0} (tells : Bool) (before mid now : Writer) (group : Option ℕ) (k : ℕ) (s g next : Sending T)
-    → AreUsed k (length g.rest) (length s.rest) before.counts mid.counts → AfterCall group mid.counts now.counts
-    → StaysAll tells mid now g next ⊎ SendsOn tells mid.delivered now.delivered g next
-    → AreUsed (k + 1) (length next.rest) (length s.rest) before.counts now.counts
-send_used tells before mid now group k s g next used call (inl waits) =
-    let same : length next.rest ≡ length g.rest = ap (λ x. length x.rest) waits.0 in
-    used_paused k (length g.rest) (length s.rest) (length next.rest) (length s.rest) before.counts mid.counts now.counts used
-    (omega (arith, same)) call.pauses_stay call.interrupts_stay waits.2
-send_used tells before mid now group k s g next used call (inr sends) =
-    let less : length g.rest ≡ length sends.sent + length next.rest = ap length sends.cut ∙ length-append sends.sent next.rest in
-    used_moved k (length g.rest) (length s.rest) (length next.rest) (length s.rest) before.counts mid.counts now.counts used
-    (omega (arith, sends.some, less)) call.pauses_stay call.interrupts_stay
+-- No polls of a write of all bytes.
+pub send_none : {T : Type 0} (tells : Bool) (writer : Writer) (s : Sending T) → HasSent tells writer writer s s
+send_none tells writer s = record {
+  sent = [];
+  cut = refl;
+  same_buf = refl;
+  same_total = refl;
+  joined = λ t. sym (append-nil writer.delivered);
+  ends = (refl, refl);
+}
+
+module _ {T : Type 0} (tells : Bool) (before mid now : Writer) (s g next : Sending T) (has : HasSent tells before mid s g)
+    (ends : EndsStay mid now) where
+  -- A poll that leaves it as it was.
+  send_stays : next ≡ g → (IsTrue tells → now.delivered ≡ mid.delivered) → HasSent tells before now s next
+  send_stays same delivered = record {
+    sent = has.sent;
+    cut = has.cut ∙ ap (λ x. has.sent ++ x.rest) (sym same);
+    same_buf = ap (λ x. x.buf) same ∙ has.same_buf;
+    same_total = ap (λ x. x.total) same ∙ has.same_total;
+    joined = λ t. delivered t ∙ has.joined t;
+    ends = ends_twice before mid now has.ends ends;
+  }
+
+  -- A poll that was interrupted, or sends the next bytes.
+  send_again : BreaksAll tells mid now g next ⊎ SendsOn tells mid.delivered now.delivered g next → HasSent tells before now s next
+  send_again (inl breaks) = send_stays breaks.0 breaks.1
+  send_again (inr sends) = record {
+    sent = has.sent ++ sends.sent;
+    cut = has.cut ∙ ap (λ l. has.sent ++ l) sends.cut ∙ sym (append_assoc has.sent sends.sent next.rest);
+    same_buf = sends.same_buf ∙ has.same_buf;
+    same_total = sends.same_total ∙ has.same_total;
+    joined = λ t. sends.joined t ∙ ap (λ l. l ++ sends.sent) (has.joined t) ∙ append_assoc before.delivered has.sent sends.sent;
+    ends = ends_twice before mid now has.ends ends;
+  }
+
+-- One poll more of a write of all bytes.
+pub send_more : {T : Type 0} (tells : Bool) (task : ℕ) (before mid now : Writer) (s g : Sending T)
+    (step : Step (Sending T) (Result ℕ IoFault × T)) → before.counts.faults ≤ mid.counts.faults → before.counts.zeros ≤ mid.counts.zeros
+    → HasSent tells before mid s g → WritesAll tells task mid now g step × EndsStay mid now
+    → Ran (EndsAll tells before now s) (HasSent tells before now s) step
+send_more tells task before mid now s g (Ready end) stay zeros has is = (
+  send_ends tells before mid now s g end.0 stay zeros has is.0.0,
+  is.0.1 ∙ has.same_buf,
+  ends_twice before mid now has.ends is.1,
+)
+send_more tells task before mid now s g (Pending next) stay zeros has is = send_stays tells before mid now s g next has is.1 is.0.0 is.0.1
+send_more tells task before mid now s g (Again next) stay zeros has is = send_again tells before mid now s g next has is.1 is.0

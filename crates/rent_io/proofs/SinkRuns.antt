@@ -1,11 +1,12 @@
 -- Polls of a send and a flush, one behind the other.
-use Rattle.std.proofs.Common.{◌≡◌, ◌∙◌, ℕ, ◌+◌, ◌≤◌, inl, inr, refl, sym, ap, subst, arith}
-use Rattle.std.specs.Prelude.{Option, None, Some, IsSome, Result, Ok, Err}
-use Rattle.rent_io.specs.declared.poll.Step.TheVariants.{Ready}
-use Rattle.rent_io.specs.Counts.{AfterCall, Rose}
-use Rattle.rent_io.specs.ItemSink.{ItemSink, unsent, NothingDone, IsTaken, HasSend, SendsAndFlushes, RunsSend}
-use Rattle.rent_io.specs.Runs.{AreUsed}
-use Rattle.rent_io.proofs.Runs.{rose_later, used_paused, used_moved}
+use Rattle.std.proofs.Common.{◌≡◌, ◌∙◌, ◌≤◌, inl, inr, refl, sym, subst}
+use Rattle.std.specs.Prelude.{Option, None, IsSome, Result, Ok, Err}
+use Rattle.rent_io.specs.declared.poll.Step.{Step}
+use Rattle.rent_io.specs.declared.poll.Step.TheVariants.{Ready, Pending, Again}
+use Rattle.rent_io.specs.Counts.{Rose}
+use Rattle.rent_io.specs.ItemSink.{ItemSink, NothingDone, IsTaken, HasSend, SendEnd, SendsAndFlushes}
+use Rattle.rent_io.specs.State.{Ran}
+use Rattle.rent_io.proofs.Runs.{rose_later}
 
 -- An item that was taken stays so where nothing is done.
 taken_stays : {I : Type 0} (before mid now : ItemSink) (item : Option I) → IsTaken before mid item → NothingDone mid now
@@ -14,7 +15,7 @@ taken_stays before mid now item taken nothing =
     (taken.0, nothing.1 ∙ taken.1, subst (λ n. Rose before.sends n) (sym nothing.0) taken.2)
 
 -- A poll that does nothing leaves what was done.
-pub sink_waits : {I : Type 0} (before mid now : ItemSink) (item g next : Option I) → HasSend before mid item g → next ≡ g
+sink_waits : {I : Type 0} (before mid now : ItemSink) (item g next : Option I) → HasSend before mid item g → next ≡ g
     → NothingDone mid now → HasSend before now item next
 sink_waits before mid now item g next (inl as_was) same nothing =
     inl (same ∙ as_was.0, (nothing.0 ∙ as_was.1.0, nothing.1 ∙ as_was.1.1))
@@ -26,16 +27,16 @@ none-some : {I : Type 0} (item : Option I) → item ≡ None → IsSome item →
 none-some item none some = let gone = subst IsSome none some in cc
 
 -- A poll that takes an item takes the one that wasn't taken before.
-pub sink_takes : {I : Type 0} (before mid now : ItemSink) (item g next : Option I) → HasSend before mid item g → IsSome g
+sink_takes : {I : Type 0} (before mid now : ItemSink) (item g next : Option I) → HasSend before mid item g → IsSome g
     → next ≡ None → now.flushes ≡ mid.flushes → Rose mid.sends now.sends → HasSend before now item next
 sink_takes before mid now item g next (inl as_was) some none flushes rose =
     inr (none, (subst IsSome as_was.0 some, flushes ∙ as_was.1.1, subst (λ n. Rose n now.sends) as_was.1.0 rose))
 sink_takes before mid now item g next (inr was_taken) some none flushes rose = absurd (none-some g was_taken.0 some)
 
 -- How a poll ends is how the polls end.
-pub sink_ends : {I E : Type 0} (before mid now : ItemSink) (item g : Option I) (end : Result (Unit {0}) E)
+sink_ends : {I E : Type 0} (before mid now : ItemSink) (item g : Option I) (end : Result (Unit {0}) E)
     → before.counts.faults ≤ mid.counts.faults → HasSend before mid item g → SendsAndFlushes mid now g (Ready end)
-    → RunsSend before now item (Ready end)
+    → SendEnd before now item end
 sink_ends before mid now item g (Ok done) stay (inl as_was) end =
     (subst (λ n. Rose n now.flushes) as_was.1.1 end.2, inl (sym as_was.0 ∙ end.0, end.1 ∙ as_was.1.0))
 sink_ends before mid now item g (Ok done) stay (inr was_taken) end =
@@ -50,27 +51,14 @@ sink_ends before mid now item g (Err error) stay (inr was_taken) end = (
   inr (taken_stays before mid now item was_taken.1 end.0),
 )
 
--- An item that is there is one.
-unsent-some : {I : Type 0} (item : Option I) → IsSome item → unsent item ≡ 1
-unsent-some None some = absurd cc
-unsent-some (Some item) some = refl
+-- No polls of a send and a flush.
+pub sink_none : {I : Type 0} (sink : ItemSink) (item : Option I) → HasSend sink sink item item
+sink_none sink item = inl (refl, (refl, refl))
 
--- A poll that waits is used.
-pub waits_used : {I : Type 0} (before mid now : ItemSink) (group : Option ℕ) (k : ℕ) (item g next : Option I)
-    → AreUsed k (unsent g) (unsent item) before.counts mid.counts → next ≡ g → AfterCall group mid.counts now.counts
-    → Rose mid.counts.pauses now.counts.pauses
-    → AreUsed (k + 1) (unsent next) (unsent item) before.counts now.counts
-waits_used before mid now group k item g next used same call rose =
-    let stays : unsent next ≡ unsent g = ap unsent same in
-    used_paused k (unsent g) (unsent item) (unsent next) (unsent item) before.counts mid.counts now.counts used (omega (arith, stays))
-    call.pauses_stay call.interrupts_stay (inl rose)
-
--- A poll that takes the item is used.
-pub takes_used : {I : Type 0} (before mid now : ItemSink) (group : Option ℕ) (k : ℕ) (item g next : Option I)
-    → AreUsed k (unsent g) (unsent item) before.counts mid.counts → IsSome g → next ≡ None → AfterCall group mid.counts now.counts
-    → AreUsed (k + 1) (unsent next) (unsent item) before.counts now.counts
-takes_used before mid now group k item g next used some none call =
-    let one = unsent-some g some in
-    let gone : unsent next ≡ 0 = ap unsent none in
-    used_moved k (unsent g) (unsent item) (unsent next) (unsent item) before.counts mid.counts now.counts used (omega (arith, one, gone))
-    call.pauses_stay call.interrupts_stay
+-- One poll more of a send and a flush.
+pub sink_more : {I E : Type 0} (before mid now : ItemSink) (item g : Option I) (step : Step (Option I) (Result (Unit {0}) E))
+    → before.counts.faults ≤ mid.counts.faults → HasSend before mid item g → SendsAndFlushes mid now g step
+    → Ran (SendEnd before now item) (HasSend before now item) step
+sink_more before mid now item g (Ready end) stay has is = sink_ends before mid now item g end stay has is
+sink_more before mid now item g (Pending next) stay has is = sink_waits before mid now item g next has is.0 is.1
+sink_more before mid now item g (Again next) stay has is = sink_takes before mid now item g next has is.0 is.1 is.2 is.3

@@ -1,6 +1,6 @@
 -- What a poll answers while its stream neither fails nor pauses: it doesn't wait, and each fault that is left has a reason. The clause
--- `complete` of each state's `poll` cites `Completes`, with the faults that its state may still end with.
-use Rattle.std.specs.Prelude.{ℕ, ◌≡◌, ◌<◌, ◌⊎◌, Bool, true, IsTrue, List, ◌++◌, length, IsUtf8, Result, IfErr}
+-- `complete` of `poll` cites `Completes`, with the faults that its state may still end with.
+use Rattle.std.specs.Prelude.{ℕ, ◌≡◌, ◌<◌, ◌⊎◌, Bool, true, IsTrue, List, ◌++◌, length, IsUtf8, IfErr}
 use Rattle.rent_buf.specs.declared.fault.IoFault.{IoFault}
 use Rattle.rent_buf.specs.declared.fault.IoFault.TheVariants.{UnexpectedEof, OutOfMemory, InvalidData}
 use Rattle.rent_io.specs.declared.poll.Step.{Step}
@@ -16,21 +16,21 @@ abbrev pub IsQuiet : Counts → Counts → Type 0
 IsQuiet before now =
     (¬ Rose before.faults now.faults) × (¬ Rose before.pauses now.pauses) × (¬ Rose before.interrupts now.interrupts)
 
--- A poll got on: it ended, with Ok or with one of these faults; or it answers Again, with a state that is further. It didn't wait.
-abbrev pub GetsOn : {S R N E : Type 0} → Step S R → (R → Result N E) → (E → Type 0) → (S → Type 0) → Type 0
-GetsOn (Ready end) outcome faults further = IfErr (outcome end) faults
-GetsOn (Pending next) outcome faults further = ⊥
-GetsOn (Again next) outcome faults further = further next
+-- A poll got on: it ended so; or it answers Again, with a state that is further. It didn't wait.
+abbrev pub GetsOn : {S R : Type 0} → Step S R → (R → Type 0) → (S → Type 0) → Type 0
+GetsOn (Ready end) ends further = ends end
+GetsOn (Pending next) ends further = ⊥
+GetsOn (Again next) ends further = further next
+
+-- A poll in which none of them rose got on.
+abbrev pub Completes : {S R : Type 0} → Counts → Counts → Step S R → (R → Type 0) → (S → Type 0) → Type 0
+Completes before now step ends further = IsQuiet before now → GetsOn step ends further
 
 -- A poll of a flush or a shutdown got on: it is done, or ended with one of these faults; or it answers Again, and this is so.
 abbrev pub CountGetsOn : PollCount → (IoFault → Type 0) → Type 0 → Type 0
 CountGetsOn (CountReady end) faults further = IfErr end faults
 CountGetsOn CountPending faults further = ⊥
 CountGetsOn CountAgain faults further = further
-
--- A poll in which none of them rose got on.
-abbrev pub Completes : {S R N E : Type 0} → Counts → Counts → Step S R → (R → Result N E) → (E → Type 0) → (S → Type 0) → Type 0
-Completes before now step outcome faults further = IsQuiet before now → GetsOn step outcome faults further
 
 -- Reading: a read gave none of some room, and a stream that tells its bytes had fewer left than were wanted. So one that has enough left
 -- never ends a read with a fault.

@@ -56,12 +56,9 @@ IsTaken before now item = IsSome item × (now.flushes ≡ before.flushes) × Ros
 abbrev pub HasSend : {I : Type 0} → ItemSink → ItemSink → Option I → Option I → Type 0
 HasSend before now item next = ((next ≡ item) × NothingDone before now) ⊎ ((next ≡ None) × IsTaken before now item)
 
--- Polls of a send and a flush, however the sink answered them: one law for every schedule of pauses and errors. The clause `run` of
--- its `drive` cites it.
-abbrev pub RunsSend : {I E : Type 0} → ItemSink → ItemSink → Option I → Step (Option I) (Result (Unit {0}) E) → Type 0
-RunsSend before now item (Ready (Ok done)) = Rose before.flushes now.flushes
+-- How polls of a send and a flush end: one law for every schedule of pauses and errors. The clause `run` of `drive` cites it.
+abbrev pub SendEnd : {I E : Type 0} → ItemSink → ItemSink → Option I → Result (Unit {0}) E → Type 0
+SendEnd before now item (Ok done) = Rose before.flushes now.flushes
     × (((item ≡ None) × (now.sends ≡ before.sends)) ⊎ (IsSome item × Rose before.sends now.sends))
-RunsSend before now item (Ready (Err error)) = Rose before.counts.faults now.counts.faults
+SendEnd before now item (Err error) = Rose before.counts.faults now.counts.faults
     × (NothingDone before now ⊎ IsTaken before now item)
-RunsSend before now item (Pending next) = HasSend before now item next
-RunsSend before now item (Again next) = HasSend before now item next

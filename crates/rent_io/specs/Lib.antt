@@ -19,7 +19,7 @@ pub mod ScatterRuns
 pub mod Scripted
 pub mod Sink
 pub mod Source
-pub mod Under
+pub mod State
 pub mod WriteAll
 pub mod WriteVectoredAll
 pub mod Writer

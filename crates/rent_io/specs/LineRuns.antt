@@ -1,10 +1,8 @@
 -- What reads of lines and of numbers have done after many polls: one law for every schedule of pauses, short fills, interrupts and
--- faults. The clause `run` of each `drive` cites it.
+-- faults. The clause `run` of `drive` cites it.
 use Rattle.std.specs.Prelude.{ℕ, ◌≡◌, ◌+◌, ◌<◌, ◌⊎◌, Bool, IsTrue, List, [], ◌++◌, length, Result, Ok, Err}
 use Rattle.rent_buf.specs.declared.fault.IoFault.{IoFault}
 use Rattle.rent_buf.specs.declared.fault.IoFault.TheVariants.{UnexpectedEof, OutOfMemory}
-use Rattle.rent_io.specs.declared.poll.Step.{Step}
-use Rattle.rent_io.specs.declared.poll.Step.TheVariants.{Ready, Pending, Again}
 use Rattle.rent_io.specs.Counts.{Rose}
 use Rattle.rent_io.specs.Polls.{Fails}
 use Rattle.rent_io.specs.Reader.{Reader, WasFront}
@@ -44,12 +42,6 @@ abbrev pub UntilRunEnd : Bool → Reader → Reader → Until → List ℕ → R
 UntilRunEnd tells before now u back (Ok n) = AddsLine tells before.left now.left u back n
 UntilRunEnd tells before now u back (Err fault) = StopsAdding tells before now u back fault
 
--- Polls of a read up to a delimiter, however the stream answered them.
-abbrev pub RunsUntil : Bool → Reader → Reader → Until → Step Until (Result ℕ IoFault × List ℕ) → Type 0
-RunsUntil tells before now u (Ready end) = UntilRunEnd tells before now u end.1 end.0
-RunsUntil tells before now u (Pending next) = HasAdded tells before.left now.left u next
-RunsUntil tells before now u (Again next) = HasAdded tells before.left now.left u next
-
 -- A read of a line that isn't done: the bytes that left the stream were added, and none of them is a newline.
 pub record HasLined (tells : Bool) (left rest : List ℕ) (l next : Lining) : Type 0 where
   pub got : List ℕ
@@ -73,12 +65,9 @@ pub record StopsLine (tells : Bool) (before now : Reader) (l : Lining) (back : L
   pub is_text : TextOf l.text (l.added ++ got) (Err fault) end back
   pub front : WasFront tells before.left got now.left
 
--- Polls of a read of a line, however the stream answered them.
-abbrev pub RunsLine : {T : Type 0} → Bool → Reader → Reader → (T → List ℕ) → Lining → Step Lining (Result ℕ IoFault × T) → Type 0
-RunsLine tells before now bytes l (Ready end) = EndsLine tells before.left now.left l (bytes end.1) end.0
-    ⊎ StopsLine tells before now l (bytes end.1) end.0
-RunsLine tells before now bytes l (Pending next) = HasLined tells before.left now.left l next
-RunsLine tells before now bytes l (Again next) = HasLined tells before.left now.left l next
+-- How polls of a read of a line end: with the line, or at a fault.
+abbrev pub LineRunEnd : Bool → Reader → Reader → Lining → List ℕ → Result ℕ IoFault → Type 0
+LineRunEnd tells before now l back end = EndsLine tells before.left now.left l back end ⊎ StopsLine tells before now l back end
 
 -- A read of a number that isn't done: it has the bytes that left the stream behind those before them.
 pub record HasDigits (tells : Bool) (left rest : List ℕ) (r next : Numbering) : Type 0 where
@@ -98,10 +87,3 @@ pub record StopsNumber (tells : Bool) (before now : Reader) (r : Numbering) (fau
 abbrev pub NumberRunEnd : {N : Type 0} → Bool → Reader → Reader → (Bool → List ℕ → N) → Numbering → Result N IoFault → Type 0
 NumberRunEnd tells before now value r (Ok n) = IsNumber tells before.left now.left r value n
 NumberRunEnd tells before now value r (Err fault) = StopsNumber tells before now r fault
-
--- Polls of a read of a number, however the stream answered them.
-abbrev pub RunsNumber : {N : Type 0} → Bool → Reader → Reader → (Bool → List ℕ → N) → Numbering → Step Numbering (Result N IoFault)
-    → Type 0
-RunsNumber tells before now value r (Ready end) = NumberRunEnd tells before now value r end
-RunsNumber tells before now value r (Pending next) = HasDigits tells before.left now.left r next
-RunsNumber tells before now value r (Again next) = HasDigits tells before.left now.left r next

@@ -1,5 +1,5 @@
 -- A stream that is read, and what a poll of a read does. Each clause on readers cites it.
-use Rattle.std.specs.Prelude.{ℕ, ◌≡◌, ◌≤◌, ◌⊎◌, nat_eq, min, if◌then◌else◌, Bool, IsTrue, List, [], ◌∷◌, ◌++◌, length, Some, Ok}
+use Rattle.std.specs.Prelude.{ℕ, ◌≡◌, ◌≤◌, ◌⊎◌, nat_eq, min, if◌then◌else◌, Bool, IsTrue, List, [], ◌∷◌, ◌++◌, length, take, Some, Ok}
 use Rattle.std.specs.Prelude.{Err}
 use Rattle.rent_buf.specs.Buffer.{Buffer, room, stored}
 use Rattle.rent_buf.specs.Parts.{Parts, parts_stored}
@@ -38,6 +38,20 @@ Reads tells left rest buffer under beside buf (Ready (Ok n) back) =
 Reads tells left rest buffer under beside buf (Ready (Err fault) back) = (back ≡ buf) × (IsTrue tells → left ≡ rest)
 Reads tells left rest buffer under beside buf (Pending back) = (back ≡ buf) × (IsTrue tells → left ≡ rest)
 Reads tells left rest buffer under beside buf (Again back) = (back ≡ buf) × (IsTrue tells → left ≡ rest)
+
+-- A read of n bytes into a buffer of fixed length: they are its first bytes now, and its length stays. Those behind them may be others.
+pub record FrontRead (tells : Bool) (left rest buf back : List ℕ) (n : ℕ) : Type 0 where
+  pub fits : n ≤ length buf
+  pub same_length : length back ≡ length buf
+  pub front : WasFront tells left (take n back) rest
+  pub at_end : NoneOnlyAtEnd tells left (length buf) n
+
+-- A poll of such a read: n bytes are read, or nothing leaves the stream and the length of the buffer stays.
+abbrev pub ReadsFixed : Bool → List ℕ → List ℕ → List ℕ → PollBuf (List ℕ) → Type 0
+ReadsFixed tells left rest buf (Ready (Ok n) back) = FrontRead tells left rest buf back n
+ReadsFixed tells left rest buf (Ready (Err fault) back) = (length back ≡ length buf) × (IsTrue tells → left ≡ rest)
+ReadsFixed tells left rest buf (Pending back) = (length back ≡ length buf) × (IsTrue tells → left ≡ rest)
+ReadsFixed tells left rest buf (Again back) = (length back ≡ length buf) × (IsTrue tells → left ≡ rest)
 
 -- The room of the first part that has any, or 0.
 abbrev pub first_room : Parts → ℕ

@@ -1,16 +1,14 @@
--- What a state has done after many polls: one law for every schedule of pauses, short calls, interrupts and faults. The clause `run` of
--- each `drive` cites it.
+-- What an exact read and a write of all bytes have done after many polls: one law for every schedule of pauses, short calls, interrupts
+-- and faults. The clause `run` of `drive` cites it.
 use Rattle.std.specs.Prelude.{ℕ, ◌≡◌, ◌+◌, ◌-◌, ◌^◌, ◌<◌, ◌≤◌, ◌⊎◌, min, Bool, IsTrue, List, [], ◌++◌, length, Option, Result, Ok, Err}
 use Rattle.rent_buf.specs.Buffer.{Buffer, put}
 use Rattle.rent_buf.specs.Parts.{Parts}
 use Rattle.rent_buf.specs.declared.fault.IoFault.{IoFault}
 use Rattle.rent_buf.specs.declared.fault.IoFault.TheVariants.{UnexpectedEof, WriteZero}
-use Rattle.rent_io.specs.declared.poll.Step.{Step}
-use Rattle.rent_io.specs.declared.poll.Step.TheVariants.{Ready, Pending, Again}
 use Rattle.rent_io.specs.Counts.{Counts, Rose}
 use Rattle.rent_io.specs.Polls.{Fails}
 use Rattle.rent_io.specs.Reader.{Reader, WasFront}
-use Rattle.rent_io.specs.Writer.{Writer}
+use Rattle.rent_io.specs.Writer.{EndsStay, Writer}
 use Rattle.rent_io.specs.ReadExact.{Filling, lacks, with_more, filled_with, IsFilled}
 use Rattle.rent_io.specs.WriteAll.{Sending}
 
@@ -32,12 +30,6 @@ pub record AreUsed (polls from upto : ℕ) (before now : Counts) : Type 0 where
   pub pauses : min (before.pauses + paused) (2 ^ 64 - 1) ≤ now.pauses
   pub interrupts : min (before.interrupts + interrupted) (2 ^ 64 - 1) ≤ now.interrupts
 
--- A fact of a state that isn't done.
-abbrev pub IfGoesOn : {S R : Type 0} → Step S R → (S → Type 0) → Type 0
-IfGoesOn (Ready end) P = Unit {0}
-IfGoesOn (Pending next) P = P next
-IfGoesOn (Again next) P = P next
-
 -- An exact read that isn't done: the bytes that left the stream stand behind those before them, each once and in order.
 pub record HasFilled (tells : Bool) (left rest : List ℕ) (f next : Filling) : Type 0 where
   pub got : List ℕ
@@ -58,21 +50,21 @@ abbrev pub ExactRunEnd : Bool → Reader → Reader → Filling → Buffer → R
 ExactRunEnd tells before now f back (Ok n) = IsFilled tells before.left now.left f back n
 ExactRunEnd tells before now f back (Err fault) = StopsFilling tells before now f back fault
 
--- Polls of an exact read, however the stream answered them.
-abbrev pub RunsExact : {T : Type 0} → Bool → Reader → Reader → (T → Buffer) → (T → List (ℕ × ℕ)) → (T → Parts) → Filling
-    → Step Filling (Result ℕ IoFault × T) → Type 0
-RunsExact tells before now buffer under beside f (Ready end) =
+-- The same of the buffer as it comes back; the ranges under it and the parts beside it stay.
+abbrev pub EndsExact : {T : Type 0} → Bool → Reader → Reader → (T → Buffer) → (T → List (ℕ × ℕ)) → (T → Parts) → Filling
+    → Result ℕ IoFault × T → Type 0
+EndsExact tells before now buffer under beside f end =
     ExactRunEnd tells before now f (buffer end.1) end.0 × (under end.1 ≡ f.under) × (beside end.1 ≡ f.beside)
-RunsExact tells before now buffer under beside f (Pending next) = HasFilled tells before.left now.left f next
-RunsExact tells before now buffer under beside f (Again next) = HasFilled tells before.left now.left f next
 
--- A write of all bytes that isn't done: those that were delivered are the first ones, each once and in order.
-pub record HasSent {T : Type 0} (tells : Bool) (before now : List ℕ) (s next : Sending T) : Type 0 where
+-- A write of all bytes that isn't done: those that were delivered are the first ones, each once and in order, and nothing was flushed or
+-- shut down.
+pub record HasSent {T : Type 0} (tells : Bool) (before now : Writer) (s next : Sending T) : Type 0 where
   pub sent : List ℕ
   pub cut : s.rest ≡ sent ++ next.rest
   pub same_buf : next.buf ≡ s.buf
   pub same_total : next.total ≡ s.total
-  pub joined : IsTrue tells → now ≡ before ++ sent
+  pub joined : IsTrue tells → now.delivered ≡ before.delivered ++ sent
+  pub ends : EndsStay before now
 
 -- A write of all bytes that ended at a fault: the first ones were delivered, and the stream's faults rose, or it took none of the rest.
 pub record StopsSending {T : Type 0} (tells : Bool) (before now : Writer) (s : Sending T) (fault : IoFault) : Type 0 where
@@ -88,8 +80,6 @@ abbrev pub AllRunEnd : {T : Type 0} → Bool → Writer → Writer → Sending T
 AllRunEnd tells before now s (Ok n) = (n ≡ s.total) × (IsTrue tells → now.delivered ≡ before.delivered ++ s.rest)
 AllRunEnd tells before now s (Err fault) = StopsSending tells before now s fault
 
--- Polls of a write of all bytes, however the stream answered them.
-abbrev pub RunsAll : {T : Type 0} → Bool → Writer → Writer → Sending T → Step (Sending T) (Result ℕ IoFault × T) → Type 0
-RunsAll tells before now s (Ready end) = AllRunEnd tells before now s end.0 × (end.1 ≡ s.buf)
-RunsAll tells before now s (Pending next) = HasSent tells before.delivered now.delivered s next
-RunsAll tells before now s (Again next) = HasSent tells before.delivered now.delivered s next
+-- The same with the buffer, which comes back as it was; nothing was flushed or shut down.
+abbrev pub EndsAll : {T : Type 0} → Bool → Writer → Writer → Sending T → Result ℕ IoFault × T → Type 0
+EndsAll tells before now s end = AllRunEnd tells before now s end.0 × (end.1 ≡ s.buf) × EndsStay before now

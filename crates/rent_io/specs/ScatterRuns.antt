@@ -1,11 +1,9 @@
 -- What a read into all parts of a vector has done after many polls: one law for every schedule of pauses, short reads, interrupts and
--- faults. The clause `run` of its `drive` cites it.
+-- faults. The clause `run` of `drive` cites it.
 use Rattle.std.specs.Prelude.{ℕ, ◌≡◌, ◌<◌, ◌⊎◌, Bool, IsTrue, List, [], ◌++◌, Result, Ok, Err}
 use Rattle.rent_buf.specs.Parts.{Parts, part_at}
 use Rattle.rent_buf.specs.declared.fault.IoFault.{IoFault}
 use Rattle.rent_buf.specs.declared.fault.IoFault.TheVariants.{UnexpectedEof}
-use Rattle.rent_io.specs.declared.poll.Step.{Step}
-use Rattle.rent_io.specs.declared.poll.Step.TheVariants.{Ready, Pending, Again}
 use Rattle.rent_io.specs.Counts.{Rose}
 use Rattle.rent_io.specs.Polls.{Fails}
 use Rattle.rent_io.specs.Reader.{Reader, WasFront}
@@ -36,10 +34,3 @@ pub record StopsScattering (tells : Bool) (before now : Reader) (s : Scattering)
 abbrev pub ScatterRunEnd : Bool → Reader → Reader → Scattering → Parts → Result ℕ IoFault → Type 0
 ScatterRunEnd tells before now s back (Ok n) = IsScattered tells before.left now.left s back n
 ScatterRunEnd tells before now s back (Err fault) = StopsScattering tells before now s back fault
-
--- Its polls, however the stream answered them.
-abbrev pub RunsScattered : {T : Type 0} → Bool → Reader → Reader → (T → Parts) → Scattering → Step Scattering (Result ℕ IoFault × T)
-    → Type 0
-RunsScattered tells before now held s (Ready end) = ScatterRunEnd tells before now s (held end.1) end.0
-RunsScattered tells before now held s (Pending next) = HasScattered tells before.left now.left s next
-RunsScattered tells before now held s (Again next) = HasScattered tells before.left now.left s next

@@ -3,12 +3,12 @@ ghost use Rattle.std.specs.Prelude.{◌≡◌, true, false, IfOk, IsOk};
 ghost use Rattle.rent_io.specs.ReadExact.{filling};
 ghost use Rattle.rent_io.specs.ReadNumber.{number_of};
 ghost use Rattle.rent_io.specs.ReadVectoredExact.{scattering};
-ghost use Rattle.rent_io.specs.Under.{under};
+ghost use Rattle.rent_io.specs.State.{under};
 
 use crate::async_rent_cancelable::CancelableAsyncReadRent;
-use crate::cancelable_read::{
-    CancelableReadExact, CancelableReadNumber, CancelableReadVectoredExact,
-};
+use crate::read_exact::CancelableReadExact;
+use crate::read_number::CancelableReadNumber;
+use crate::read_vectored_exact::CancelableReadVectoredExact;
 use cancel_core::CancelHandle;
 use rent_buf::{IoBufMut, IoVecBufMut, OutOfMemory};
 use std::alloc::Global;

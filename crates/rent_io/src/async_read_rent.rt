@@ -3,11 +3,11 @@ ghost use Rattle.std.specs.Prelude.{Bool, true, None, length};
 ghost use Rattle.rent_buf.specs.Buffer.{room};
 ghost use Rattle.rent_io.specs.Counts.{AfterCall, slice_counts};
 ghost use Rattle.rent_io.specs.Polls.{IsCaused, CountsNone};
-ghost use Rattle.rent_io.specs.Reader.{Reader, Reads, ReadsParts, GivesUpTo, first_room as room_of};
+ghost use Rattle.rent_io.specs.Reader.{Reader, Reads, ReadsFixed, ReadsParts, GivesUpTo, first_room as room_of};
 
 use crate::poll::PollBuf;
 use crate::vectored::first_room;
-use rent_buf::{IoBufMut, IoVecBufMut};
+use rent_buf::{FixedVec, IoBufMut, IoVecBufMut};
 
 /// A stream that is read (monoio: `AsyncReadRent`). Each call makes one read at most.
 pub trait AsyncReadRent {
@@ -34,6 +34,18 @@ pub trait AsyncReadRent {
         ensures none { CountsNone (room_of (T.held buf)) (reader self.old).counts (reader self.new).counts result }
         ensures cause { IsCaused task (reader self.old).counts (reader self.new).counts result }
         ensures counts { AfterCall None (reader self.old).counts (reader self.new).counts };
+
+    /// As `poll_read`, into a buffer of fixed length (not in monoio): the bytes behind those that were read may be
+    /// others afterwards, also at a fault. So a stream over a source lends it the whole buffer, and stores no byte twice.
+    #[tactic(auto, using(crate::proofs::Fronts::fixed_read))]
+    fn poll_fixed(&mut self, buf: FixedVec, task: u64) -> PollBuf<FixedVec>
+        ensures reads { ReadsFixed tells (reader self.old).left (reader self.new).left buf result }
+        ensures none { CountsNone (length buf) (reader self.old).counts (reader self.new).counts result }
+        ensures cause { IsCaused task (reader self.old).counts (reader self.new).counts result }
+        ensures counts { AfterCall None (reader self.old).counts (reader self.new).counts }
+    {
+        self.poll_read(buf, task)
+    }
 }
 
 impl<A: AsyncReadRent> AsyncReadRent for &mut A {
@@ -47,6 +59,10 @@ impl<A: AsyncReadRent> AsyncReadRent for &mut A {
 
     fn poll_readv<T: IoVecBufMut>(&mut self, buf: T, task: u64) -> PollBuf<T> {
         (**self).poll_readv(buf, task)
+    }
+
+    fn poll_fixed(&mut self, buf: FixedVec, task: u64) -> PollBuf<FixedVec> {
+        (**self).poll_fixed(buf, task)
     }
 }
 

@@ -1,13 +1,12 @@
 // The whole writes of a stream, as calls of the stream.
 ghost use Rattle.std.specs.Prelude.{◌≡◌, ◌^◌, ◌<◌, length, sum_by, IsOk, IfOk};
-ghost use Rattle.rent_io.specs.Under.{under};
+ghost use Rattle.rent_io.specs.State.{plain, under};
 ghost use Rattle.rent_io.specs.WriteAll.{sending, sending_parts};
 
 use crate::async_rent_cancelable::CancelableAsyncWriteRent;
 use crate::async_write_rent::AsyncWriteRent;
-use crate::cancelable_write::{CancelableWriteAll, CancelableWriteVectoredAll};
-use crate::write_all::WriteAll;
-use crate::write_vectored_all::WriteVectoredAll;
+use crate::write_all::{CancelableWriteAll, WriteAll};
+use crate::write_vectored_all::{CancelableWriteVectoredAll, WriteVectoredAll};
 use cancel_core::CancelHandle;
 use rent_buf::{IoBuf, IoVecBuf, OutOfMemory};
 
@@ -15,7 +14,7 @@ use rent_buf::{IoBuf, IoVecBuf, OutOfMemory};
 pub trait AsyncWriteRentExt: AsyncWriteRent {
     /// A write of this buffer's bytes (monoio: `write_all`).
     fn write_all<T: IoBuf>(&self, buf: T) -> WriteAll<T>
-        ensures { result ≡ sending buf (T.content buf) }
+        ensures { result ≡ plain (sending buf (T.content buf)) }
     {
         WriteAll::new(buf)
     }
@@ -28,7 +27,7 @@ pub trait AsyncWriteRentExt: AsyncWriteRent {
     ) -> Result<WriteVectoredAll<T>, (OutOfMemory, T)>
         requires { sum_by length (T.parts buf) < 2 ^ 64 }
         ensures made { IsOk result }
-        ensures value { IfOk result (λ s. s ≡ sending_parts buf (T.parts buf)) }
+        ensures value { IfOk result (λ s. s ≡ plain (sending_parts buf (T.parts buf))) }
     {
         WriteVectoredAll::new(buf)
     }

@@ -1,26 +1,26 @@
-// A read that fills its buffer.
-ghost use Rattle.std.specs.Prelude.{◌≡◌, ◌+◌, ◌<◌, ◌≤◌, length, None};
-ghost use Rattle.rent_io.specs.Completeness.{Completes, IsShort};
-ghost use Rattle.rent_io.specs.Counts.{AfterCall};
+//! A read that fills its buffer.
+ghost use Rattle.std.specs.Prelude.{◌≡◌, ◌+◌, ◌≤◌, length, IfErr};
+ghost use Rattle.rent_io.specs.Completeness.{IsShort};
 ghost use Rattle.rent_io.specs.ReadExact.{ReadsExact, filling, lacks};
-ghost use Rattle.rent_io.specs.Runs.{AfterCalls, AreUsed, IfGoesOn, RunsExact};
+ghost use Rattle.rent_io.specs.Runs.{EndsExact, HasFilled};
+ghost use Rattle.rent_io.specs.State.{plain, under};
 
 use crate::async_read_rent::AsyncReadRent;
 use crate::calls::{Plain, ReadCall};
 use crate::poll::{PollBuf, Step};
+use crate::state::{Polled, StateBy};
+use cancel_core::CancelHandle;
 use rent_buf::{BufResult, IoBufMut, IoFault, SliceMut};
 use std::marker::Model;
 
-/// A read that fills its buffer, as `read_exact` starts it (monoio: the future of `read_exact`). A clause sees it as
-/// the buffer, and how many bytes of its range are filled.
+/// The state of a `ReadExact`. A clause sees it as the buffer, and how many bytes of its range are filled.
 #[derive(Debug, Drop)]
-#[must_use]
-pub struct ReadExact<T: IoBufMut> {
+pub struct ExactState<T: IoBufMut> {
     buf: T,
     filled: usize,
 }
 
-impl<T: IoBufMut> Model for ReadExact<T> {
+impl<T: IoBufMut> Model for ExactState<T> {
     ghost use Rattle.std.specs.Prelude.{◌≤◌, length};
     ghost use Rattle.rent_buf.specs.Buffer.{room, shown};
     ghost use Rattle.rent_io.specs.ReadExact.{Filling};
@@ -32,92 +32,68 @@ impl<T: IoBufMut> Model for ReadExact<T> {
     ghost invariant = { λ s. (s.filled ≤ room (T.buffer s.buf)) × (s.filled ≤ length (shown (T.buffer s.buf))) };
 }
 
-impl<T: IoBufMut> ReadExact<T> {
-    /// A read that fills this buffer's range from its start.
-    pub fn new(buf: T) -> ReadExact<T>
+/// A read that fills its buffer, as `read_exact` starts it (monoio: the future of `read_exact`). It is done with the
+/// number of the bytes that the range has room for, once it is full; with `UnexpectedEof`, where a read gave no byte
+/// though there is room; or with the stream's fault (`ReadsExact`). Over many polls the bytes that left the stream are
+/// stored in the range, one behind the other, each once (`HasFilled`, `EndsExact`).
+pub type ReadExact<T> = StateBy<ExactState<T>, Plain>;
+
+/// The same under a cancel group (monoio: the future of `cancelable_read_exact`).
+pub type CancelableReadExact<T> = StateBy<ExactState<T>, CancelHandle>;
+
+impl<T: IoBufMut> ExactState<T> {
+    // A read that starts.
+    pub(crate) fn new(buf: T) -> ExactState<T>
         ensures { result ≡ filling (T.buffer buf) (T.under buf) (T.beside buf) }
     {
-        ReadExact { buf, filled: 0 }
+        ExactState { buf, filled: 0 }
     }
+}
 
-    /// Makes one read at most. It is done with the number of the bytes that the range has room for, once it is full;
-    /// with `UnexpectedEof`, where a read gave no byte though there is room; or with the stream's fault. At `Pending`
-    /// nothing was read, and at `Again` the stream was interrupted, or some bytes were read and more are to come.
-    #[tactic(auto, using(crate::proofs::Completeness::exact_completes))]
-    pub fn poll<A: AsyncReadRent>(
-        self,
-        io: &mut A,
-        task: u64,
-    ) -> Step<ReadExact<T>, BufResult<usize, T>>
-        ensures answer { ReadsExact A.tells task (A.reader io.old) (A.reader io.new) T.buffer T.under T.beside self result }
-        ensures counts { AfterCall None (A.reader io.old).counts (A.reader io.new).counts }
-        ensures complete { Completes (A.reader io.old).counts (A.reader io.new).counts result (λ end. end.0)
-            (IsShort A.tells (A.reader io.old) (A.reader io.new) (lacks self)) (λ next. self.filled < next.filled) }
+impl<T: IoBufMut> StateBy<ExactState<T>, Plain> {
+    /// A read that fills this buffer's range from its start.
+    pub fn new(buf: T) -> ReadExact<T>
+        ensures { result ≡ plain (filling (T.buffer buf) (T.under buf) (T.beside buf)) }
     {
-        self.poll_by(io, &Plain, task)
+        StateBy::by(ExactState::new(buf), Plain)
     }
+}
 
-    /// Polls it until it is done, `polls` times at most: again at once also after a pause, so it is for tests and
-    /// proofs (not in monoio). Whatever the stream answered, the bytes that left it are stored in the range, one behind
-    /// the other, each once. `Again` means that the polls are used up.
-    pub fn drive<A: AsyncReadRent>(
-        self,
-        io: &mut A,
-        task: u64,
-        polls: u64,
-    ) -> Step<ReadExact<T>, BufResult<usize, T>>
-        ensures run { RunsExact A.tells (A.reader io.old) (A.reader io.new) T.buffer T.under T.beside self result }
-        ensures used { IfGoesOn result (λ next. AreUsed polls self.filled next.filled
-            (A.reader io.old).counts (A.reader io.new).counts) }
-        ensures counts { AfterCalls None polls (A.reader io.old).counts (A.reader io.new).counts }
+impl<T: IoBufMut> StateBy<ExactState<T>, CancelHandle> {
+    /// A read that fills this buffer's range from its start, under the group of `c`.
+    pub fn new(buf: T, c: CancelHandle) -> CancelableReadExact<T>
+        ensures { result ≡ under c (filling (T.buffer buf) (T.under buf) (T.beside buf)) }
     {
-        self.drive_by(io, &Plain, task, polls)
+        StateBy::by(ExactState::new(buf), c)
     }
+}
 
-    // So many polls at most by this call.
-    pub(crate) fn drive_by<A: AsyncReadRent, C: ReadCall<A>>(
-        self,
-        io: &mut A,
-        call: &C,
-        task: u64,
-        polls: u64,
-    ) -> Step<ReadExact<T>, BufResult<usize, T>>
-        ensures run { RunsExact A.tells (A.reader io.old) (A.reader io.new) T.buffer T.under T.beside self result }
-        ensures used { IfGoesOn result (λ next. AreUsed polls self.filled next.filled
-            (A.reader io.old).counts (A.reader io.new).counts) }
-        ensures counts { AfterCalls (C.group call.now) polls (A.reader io.old).counts (A.reader io.new).counts }
-    {
-        self.keeps_bounds();
-        let mut state = self;
-        for _ in 0..polls {
-            match state.poll_by(io, call, task) {
-                Step::Ready((outcome, buf)) => return Step::Ready((outcome, buf)),
-                Step::Pending(next) => state = next,
-                Step::Again(next) => state = next,
-            }
-        }
-        Step::Again(state)
-    }
+impl<T: IoBufMut, A: AsyncReadRent, C: ReadCall<A>> Polled<A, C> for ExactState<T> {
+    type End = BufResult<usize, T>;
 
-    // Does nothing, and tells that the filled bytes are among the initialised ones.
+    ghost counts = { λ io. (A.reader io).counts };
+
+    ghost moved = { λ f. f.filled };
+
+    ghost due = { λ f. 0 };
+
+    ghost holds = { λ f. f.buffer.begin + f.filled ≤ length f.buffer.bytes };
+
+    ghost answers = { λ task before now f step. ReadsExact A.tells task (A.reader before) (A.reader now) T.buffer T.under T.beside f step };
+
+    ghost short = { λ before now f end. IfErr end.0 (IsShort A.tells (A.reader before) (A.reader now) (lacks f)) };
+
+    ghost goes = { λ before now f next. HasFilled A.tells (A.reader before).left (A.reader now).left f next };
+
+    ghost ended = { λ before now f end. EndsExact A.tells (A.reader before) (A.reader now) T.buffer T.under T.beside f end };
+
     #[tactic(auto, using(crate::proofs::ExactRuns::filled_within))]
-    fn keeps_bounds(&self)
-        ensures { self.now.buffer.begin + self.now.filled ≤ length self.now.buffer.bytes }
-    {
+    fn laws(&self) {
         self.buf.keeps_bounds();
     }
 
-    // A poll by this call.
-    pub(crate) fn poll_by<A: AsyncReadRent, C: ReadCall<A>>(
-        self,
-        io: &mut A,
-        call: &C,
-        task: u64,
-    ) -> Step<ReadExact<T>, BufResult<usize, T>>
-        ensures answer { ReadsExact A.tells task (A.reader io.old) (A.reader io.new) T.buffer T.under T.beside self result }
-        ensures counts { AfterCall (C.group call.now) (A.reader io.old).counts (A.reader io.new).counts }
-    {
-        let ReadExact { buf, filled } = self;
+    fn poll_by(self, io: &mut A, call: &C, task: u64) -> Step<ExactState<T>, BufResult<usize, T>> {
+        let ExactState { buf, filled } = self;
         let total = buf.bytes_total();
         if filled == total {
             return Step::Ready((Ok(total), buf));
@@ -132,14 +108,14 @@ impl<T: IoBufMut> ReadExact<T> {
                 if filled == total {
                     return Step::Ready((Ok(total), buf));
                 }
-                Step::Again(ReadExact { buf, filled })
+                Step::Again(ExactState { buf, filled })
             }
             PollBuf::Ready(Err(fault), part) => Step::Ready((Err(fault), part.into_inner())),
-            PollBuf::Pending(part) => Step::Pending(ReadExact {
+            PollBuf::Pending(part) => Step::Pending(ExactState {
                 buf: part.into_inner(),
                 filled,
             }),
-            PollBuf::Again(part) => Step::Again(ReadExact {
+            PollBuf::Again(part) => Step::Again(ExactState {
                 buf: part.into_inner(),
                 filled,
             }),

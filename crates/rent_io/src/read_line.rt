@@ -1,28 +1,27 @@
-// A read of a line.
-ghost use Rattle.std.specs.Prelude.{◌≡◌, ◌<◌, ◌≤◌, [], IsUtf8, MatchBool, length, take, drop, string_bytes, None};
-ghost use Rattle.rent_io.specs.Completeness.{Completes, IsNoLine};
-ghost use Rattle.rent_io.specs.Counts.{AfterCall};
-ghost use Rattle.rent_io.specs.LineRuns.{RunsLine};
-ghost use Rattle.rent_io.specs.Runs.{AfterCalls, AreUsed, IfGoesOn};
+//! A read of a line.
+ghost use Rattle.std.specs.Prelude.{◌≡◌, ◌≤◌, [], IsUtf8, MatchBool, length, take, drop, string_bytes, IfErr};
+ghost use Rattle.rent_io.specs.Completeness.{IsNoLine};
+ghost use Rattle.rent_io.specs.LineRuns.{HasLined, LineRunEnd};
 ghost use Rattle.rent_io.specs.ReadLine.{ReadsLine, TextOf};
+ghost use Rattle.rent_io.specs.State.{plain};
 
 use crate::async_buf_read::AsyncBufRead;
+use crate::calls::Plain;
 use crate::poll::Step;
-use crate::read_until::ReadUntil;
+use crate::read_until::UntilState;
+use crate::state::{Polled, StateBy};
 use rent_buf::{BufResult, ByteList, IoFault};
 use std::marker::Model;
 use std::str;
 
-/// A read of a line, as `read_line` starts it (monoio: the future of `read_line`). A clause sees it as the bytes of
-/// the text before it, and those that were added.
+/// The state of a `ReadLine`. A clause sees it as the bytes of the text before it, and those that were added.
 #[derive(Debug, Drop)]
-#[must_use]
-pub struct ReadLine {
-    until: ReadUntil,
+pub struct LineState {
+    until: UntilState,
     start: usize,
 }
 
-impl Model for ReadLine {
+impl Model for LineState {
     ghost use Rattle.std.specs.Prelude.{take, drop};
     ghost use Rattle.rent_io.specs.ReadLine.{Lining, IsLining};
 
@@ -32,6 +31,13 @@ impl Model for ReadLine {
 
     ghost invariant = { λ s. IsLining s.until s.start };
 }
+
+/// A read of a line, as `read_line` starts it (monoio: the future of `read_line`). Each poll makes one fill at most,
+/// and adds what is buffered, up to and with the newline. It is done with the number of the bytes that were added, once
+/// the newline came or the stream ended; with `InvalidData`, where they aren't UTF-8; with `OutOfMemory`; or with the
+/// stream's fault. Bytes that aren't UTF-8 are taken back (`ReadsLine`). Over many polls the bytes that left the stream
+/// were added, up to and with the first newline (`HasLined`, `LineRunEnd`).
+pub type ReadLine = StateBy<LineState, Plain>;
 
 // Whether bytes are UTF-8.
 fn is_text(bytes: &[u8]) -> bool
@@ -68,65 +74,62 @@ fn into_text(
     }
 }
 
-impl ReadLine {
+impl StateBy<LineState, Plain> {
     /// A read that adds the bytes up to and with a newline to a text.
     pub fn new(buf: String) -> ReadLine
+        ensures { result ≡ plain (record { text = string_bytes buf; added = [] }) }
+    {
+        StateBy::by(LineState::new(buf), Plain)
+    }
+}
+
+impl LineState {
+    // A read that starts.
+    fn new(buf: String) -> LineState
         ensures { result ≡ record { text = string_bytes buf; added = [] } }
     {
         let _ = buf.as_str().as_bytes();
         let start = buf.len();
         let bytes = ByteList::from_vec(buf.into_bytes());
-        ReadLine {
-            until: ReadUntil::new(b'\n', bytes),
+        LineState {
+            until: UntilState::new(b'\n', bytes),
             start,
         }
     }
+}
 
-    /// Makes one fill at most, and adds what is buffered, up to and with the newline. It is done with the number of
-    /// the bytes that were added, once the newline came or the stream ended; with `InvalidData`, where they aren't
-    /// UTF-8; with `OutOfMemory`; or with the stream's fault. Bytes that aren't UTF-8 are taken back. At `Pending`
-    /// nothing was added, and at `Again` the stream was interrupted, or bytes were added that aren't a newline.
-    #[tactic(auto, using(crate::proofs::Completeness::line_completes))]
-    pub fn poll<A: AsyncBufRead>(
+impl<A: AsyncBufRead> Polled<A, Plain> for LineState {
+    type End = BufResult<usize, String>;
+
+    ghost counts = { λ io. (A.reader io).counts };
+
+    ghost moved = { λ l. length l.added };
+
+    ghost due = { λ l. 0 };
+
+    ghost holds = { λ l. Unit {0} };
+
+    ghost answers = { λ task before now l step. ReadsLine A.tells task (A.reader before) (A.reader now) string_bytes l step };
+
+    ghost short = { λ before now l end. IfErr end.0 (IsNoLine A.tells l.added (A.reader before).left) };
+
+    ghost goes = { λ before now l next. HasLined A.tells (A.reader before).left (A.reader now).left l next };
+
+    ghost ended = { λ before now l end. LineRunEnd A.tells (A.reader before) (A.reader now) l (string_bytes end.1) end.0 };
+
+    fn laws(&self) {}
+
+    fn poll_by(
         self,
         io: &mut A,
+        call: &Plain,
         task: u64,
-    ) -> Step<ReadLine, BufResult<usize, String>>
-        ensures answer { ReadsLine A.tells task (A.reader io.old) (A.reader io.new) string_bytes self result }
-        ensures counts { AfterCall None (A.reader io.old).counts (A.reader io.new).counts }
-        ensures complete { Completes (A.reader io.old).counts (A.reader io.new).counts result (λ end. end.0)
-            (IsNoLine A.tells self.added (A.reader io.old).left) (λ next. length self.added < length next.added) }
-    {
-        let ReadLine { until, start } = self;
-        match until.poll(io, task) {
+    ) -> Step<LineState, BufResult<usize, String>> {
+        let LineState { until, start } = self;
+        match until.poll_by(io, call, task) {
             Step::Ready((outcome, bytes)) => Step::Ready(into_text(outcome, bytes, start)),
-            Step::Pending(until) => Step::Pending(ReadLine { until, start }),
-            Step::Again(until) => Step::Again(ReadLine { until, start }),
+            Step::Pending(until) => Step::Pending(LineState { until, start }),
+            Step::Again(until) => Step::Again(LineState { until, start }),
         }
-    }
-
-    /// Polls it until it is done, `polls` times at most: again at once also after a pause, so it is for tests and
-    /// proofs (not in monoio). Whatever the stream answered, the bytes that left it were added, up to and with the
-    /// first newline, and are taken back where they aren't UTF-8. `Again` means that the polls are used up.
-    pub fn drive<A: AsyncBufRead>(
-        self,
-        io: &mut A,
-        task: u64,
-        polls: u64,
-    ) -> Step<ReadLine, BufResult<usize, String>>
-        ensures run { RunsLine A.tells (A.reader io.old) (A.reader io.new) string_bytes self result }
-        ensures used { IfGoesOn result (λ next. AreUsed polls (length self.added) (length next.added)
-            (A.reader io.old).counts (A.reader io.new).counts) }
-        ensures counts { AfterCalls None polls (A.reader io.old).counts (A.reader io.new).counts }
-    {
-        let mut state = self;
-        for _ in 0..polls {
-            match state.poll(io, task) {
-                Step::Ready((outcome, buf)) => return Step::Ready((outcome, buf)),
-                Step::Pending(next) => state = next,
-                Step::Again(next) => state = next,
-            }
-        }
-        Step::Again(state)
     }
 }

@@ -1,31 +1,31 @@
-// A read of a number.
-ghost use Rattle.std.specs.Prelude.{◌≡◌, ◌-◌, ◌<◌, length, IfOk, None};
-ghost use Rattle.rent_io.specs.Completeness.{Completes, IsShort};
-ghost use Rattle.rent_io.specs.Counts.{AfterCall};
-ghost use Rattle.rent_io.specs.LineRuns.{RunsNumber};
-ghost use Rattle.rent_io.specs.Runs.{AfterCalls, AreUsed, IfGoesOn};
+//! A read of a number.
+ghost use Rattle.std.specs.Prelude.{◌≡◌, ◌-◌, length, IfOk, IfErr};
+ghost use Rattle.rent_io.specs.Completeness.{IsShort};
+ghost use Rattle.rent_io.specs.LineRuns.{HasDigits, NumberRunEnd};
 ghost use Rattle.rent_io.specs.ReadNumber.{number_of, ReadsNumber};
+ghost use Rattle.rent_io.specs.State.{plain, under};
 
 use crate::async_read_rent::AsyncReadRent;
 use crate::calls::{Plain, ReadCall};
 use crate::number::Number;
 use crate::poll::Step;
-use crate::read_exact::ReadExact;
+use crate::read_exact::ExactState;
+use crate::state::{Polled, StateBy};
+use cancel_core::CancelHandle;
 use rent_buf::{IoBuf as _, IoFault, OutOfMemory, Rent};
 use std::alloc::Global;
 use std::marker::{Model, PhantomData};
 
-/// A read of a number, as `read_u16` and its like start it (monoio: the future of `read_u16` and its like). A clause
-/// sees it as the order of the bytes, those that it has, and how many there will be.
+/// The state of a `ReadNumber`. A clause sees it as the order of the bytes, those that it has, and how many there will
+/// be.
 #[derive(Drop)]
-#[must_use]
-pub struct ReadNumber<N: Number> {
-    exact: ReadExact<Rent>,
+pub struct NumberState<N: Number> {
+    exact: ExactState<Rent>,
     little: bool,
     number: PhantomData<N>,
 }
 
-impl<N: Number> Model for ReadNumber<N> {
+impl<N: Number> Model for NumberState<N> {
     ghost use Rattle.rent_io.specs.ReadNumber.{Numbering, IsReading};
 
     ghost Value = { Numbering };
@@ -35,90 +35,75 @@ impl<N: Number> Model for ReadNumber<N> {
     ghost invariant = { λ r. IsReading N.SIZE r.exact };
 }
 
-impl<N: Number> ReadNumber<N> {
-    /// A read of a number, whose least significant byte is the first one if it is `little`, and else the last one; or
-    /// `OutOfMemory`.
-    pub fn new(alloc: Global, little: bool) -> Result<ReadNumber<N>, OutOfMemory>
+/// A read of a number, as `read_u16` and its like start it (monoio: the future of `read_u16` and its like). It is done
+/// with the number, once all its bytes are there; with `UnexpectedEof`, where the stream ended before; or with the
+/// stream's fault (`ReadsNumber`). Over many polls the number is that of the bytes that left the stream (`HasDigits`,
+/// `NumberRunEnd`).
+pub type ReadNumber<N> = StateBy<NumberState<N>, Plain>;
+
+/// The same under a cancel group (monoio: the future of `cancelable_read_u16` and its like).
+pub type CancelableReadNumber<N> = StateBy<NumberState<N>, CancelHandle>;
+
+impl<N: Number> NumberState<N> {
+    // A read that starts.
+    pub(crate) fn new(alloc: Global, little: bool) -> Result<NumberState<N>, OutOfMemory>
         ensures { IfOk result (λ r. r ≡ number_of little N.SIZE) }
     {
         let rent = Rent::with_total(alloc, N::SIZE)?;
-        Ok(ReadNumber {
-            exact: ReadExact::new(rent),
+        Ok(NumberState {
+            exact: ExactState::new(rent),
             little,
             number: PhantomData,
         })
     }
+}
 
-    /// Makes one read at most. It is done with the number, once all its bytes are there; with `UnexpectedEof`, where
-    /// the stream ended before; or with the stream's fault. At `Pending` nothing was read, and at `Again` the stream
-    /// was interrupted, or some bytes were read and more are to come.
-    #[tactic(auto, using(crate::proofs::Completeness::number_completes))]
-    pub fn poll<A: AsyncReadRent>(
-        self,
-        io: &mut A,
-        task: u64,
-    ) -> Step<ReadNumber<N>, Result<N, IoFault>>
-        ensures answer { ReadsNumber A.tells task (A.reader io.old) (A.reader io.new) N.value self result }
-        ensures counts { AfterCall None (A.reader io.old).counts (A.reader io.new).counts }
-        ensures complete { Completes (A.reader io.old).counts (A.reader io.new).counts result (λ end. end)
-            (IsShort A.tells (A.reader io.old) (A.reader io.new) (self.size - length self.bytes))
-            (λ next. length self.bytes < length next.bytes) }
+impl<N: Number> StateBy<NumberState<N>, Plain> {
+    /// A read of a number, whose least significant byte is the first one if it is `little`, and else the last one; or
+    /// `OutOfMemory`.
+    pub fn new(alloc: Global, little: bool) -> Result<ReadNumber<N>, OutOfMemory>
+        ensures { IfOk result (λ r. r ≡ plain (number_of little N.SIZE)) }
     {
-        self.poll_by(io, &Plain, task)
+        Ok(StateBy::by(NumberState::new(alloc, little)?, Plain))
     }
+}
 
-    /// Polls it until it is done, `polls` times at most: again at once also after a pause, so it is for tests and
-    /// proofs (not in monoio). Whatever the stream answered, the number is that of the bytes that left it. `Again`
-    /// means that the polls are used up.
-    pub fn drive<A: AsyncReadRent>(
-        self,
-        io: &mut A,
-        task: u64,
-        polls: u64,
-    ) -> Step<ReadNumber<N>, Result<N, IoFault>>
-        ensures run { RunsNumber A.tells (A.reader io.old) (A.reader io.new) N.value self result }
-        ensures used { IfGoesOn result (λ next. AreUsed polls (length self.bytes) (length next.bytes)
-            (A.reader io.old).counts (A.reader io.new).counts) }
-        ensures counts { AfterCalls None polls (A.reader io.old).counts (A.reader io.new).counts }
+impl<N: Number> StateBy<NumberState<N>, CancelHandle> {
+    /// The same under the group of `c`.
+    pub fn new(
+        alloc: Global,
+        little: bool,
+        c: CancelHandle,
+    ) -> Result<CancelableReadNumber<N>, OutOfMemory>
+        ensures { IfOk result (λ r. r ≡ under c (number_of little N.SIZE)) }
     {
-        self.drive_by(io, &Plain, task, polls)
+        Ok(StateBy::by(NumberState::new(alloc, little)?, c))
     }
+}
 
-    // So many polls at most by this call.
-    pub(crate) fn drive_by<A: AsyncReadRent, C: ReadCall<A>>(
-        self,
-        io: &mut A,
-        call: &C,
-        task: u64,
-        polls: u64,
-    ) -> Step<ReadNumber<N>, Result<N, IoFault>>
-        ensures run { RunsNumber A.tells (A.reader io.old) (A.reader io.new) N.value self result }
-        ensures used { IfGoesOn result (λ next. AreUsed polls (length self.bytes) (length next.bytes)
-            (A.reader io.old).counts (A.reader io.new).counts) }
-        ensures counts { AfterCalls (C.group call.now) polls (A.reader io.old).counts (A.reader io.new).counts }
-    {
-        let mut state = self;
-        for _ in 0..polls {
-            match state.poll_by(io, call, task) {
-                Step::Ready(outcome) => return Step::Ready(outcome),
-                Step::Pending(next) => state = next,
-                Step::Again(next) => state = next,
-            }
-        }
-        Step::Again(state)
-    }
+impl<N: Number, A: AsyncReadRent, C: ReadCall<A>> Polled<A, C> for NumberState<N> {
+    type End = Result<N, IoFault>;
 
-    // A poll by this call.
-    pub(crate) fn poll_by<A: AsyncReadRent, C: ReadCall<A>>(
-        self,
-        io: &mut A,
-        call: &C,
-        task: u64,
-    ) -> Step<ReadNumber<N>, Result<N, IoFault>>
-        ensures answer { ReadsNumber A.tells task (A.reader io.old) (A.reader io.new) N.value self result }
-        ensures counts { AfterCall (C.group call.now) (A.reader io.old).counts (A.reader io.new).counts }
-    {
-        let ReadNumber {
+    ghost counts = { λ io. (A.reader io).counts };
+
+    ghost moved = { λ r. length r.bytes };
+
+    ghost due = { λ r. 0 };
+
+    ghost holds = { λ r. Unit {0} };
+
+    ghost answers = { λ task before now r step. ReadsNumber A.tells task (A.reader before) (A.reader now) N.value r step };
+
+    ghost short = { λ before now r end. IfErr end (IsShort A.tells (A.reader before) (A.reader now) (r.size - length r.bytes)) };
+
+    ghost goes = { λ before now r next. HasDigits A.tells (A.reader before).left (A.reader now).left r next };
+
+    ghost ended = { λ before now r end. NumberRunEnd A.tells (A.reader before) (A.reader now) N.value r end };
+
+    fn laws(&self) {}
+
+    fn poll_by(self, io: &mut A, call: &C, task: u64) -> Step<NumberState<N>, Result<N, IoFault>> {
+        let NumberState {
             exact,
             little,
             number,
@@ -128,12 +113,12 @@ impl<N: Number> ReadNumber<N> {
                 Ok(_) => Step::Ready(Ok(N::of(rent.bytes(), little))),
                 Err(fault) => Step::Ready(Err(fault)),
             },
-            Step::Pending(exact) => Step::Pending(ReadNumber {
+            Step::Pending(exact) => Step::Pending(NumberState {
                 exact,
                 little,
                 number,
             }),
-            Step::Again(exact) => Step::Again(ReadNumber {
+            Step::Again(exact) => Step::Again(NumberState {
                 exact,
                 little,
                 number,

@@ -1,29 +1,28 @@
-// A read up to a delimiter.
-ghost use Rattle.std.specs.Prelude.{◌≡◌, ◌+◌, ◌<◌, ◌≤◌, length, take, MatchBool, None};
+//! A read up to a delimiter.
+ghost use Rattle.std.specs.Prelude.{◌≡◌, ◌<◌, ◌≤◌, length, take, MatchBool, IfErr};
 ghost use Rattle.rent_buf.specs.declared.fault.IoFault.TheVariants.{OutOfMemory};
-ghost use Rattle.rent_io.specs.Completeness.{Completes};
-ghost use Rattle.rent_io.specs.Counts.{AfterCall};
-ghost use Rattle.rent_io.specs.LineRuns.{RunsUntil};
-ghost use Rattle.rent_io.specs.Runs.{AfterCalls, AreUsed, IfGoesOn};
+ghost use Rattle.rent_io.specs.LineRuns.{HasAdded, UntilRunEnd};
 ghost use Rattle.rent_io.specs.ReadUntil.{Lacks, IsLine, ReadsUntil};
+ghost use Rattle.rent_io.specs.State.{plain};
 
 use crate::async_buf_read::AsyncBufRead;
+use crate::calls::Plain;
 use crate::poll::{PollCount, Step};
+use crate::state::{Polled, StateBy};
 use memchr::memchr;
 use rent_buf::{BufResult, ByteList, IoFault};
 use std::marker::Model;
 
-/// A read up to a delimiter, as `read_until` starts it (monoio: the future of `read_until`). A clause sees it as the
-/// delimiter, the bytes with those that were added, and how many were added.
+/// The state of a `ReadUntil`. A clause sees it as the delimiter, the bytes with those that were added, and how many
+/// were added.
 #[derive(Debug, Drop)]
-#[must_use]
-pub struct ReadUntil {
+pub struct UntilState {
     delim: u8,
     buf: ByteList,
     added: usize,
 }
 
-impl Model for ReadUntil {
+impl Model for UntilState {
     ghost use Rattle.std.specs.Prelude.{◌≤◌, length};
     ghost use Rattle.rent_io.specs.ReadUntil.{Until};
 
@@ -33,6 +32,13 @@ impl Model for ReadUntil {
 
     ghost invariant = { λ s. s.added ≤ length s.buf };
 }
+
+/// A read up to a delimiter, as `read_until` starts it (monoio: the future of `read_until`). Each poll makes one fill
+/// at most, and adds what is buffered, up to and with the delimiter. It is done with the number of the bytes that were
+/// added, once the delimiter came or the stream ended; with `OutOfMemory`; or with the stream's fault: what was added
+/// stays (`ReadsUntil`). Over many polls the bytes that left the stream were added, up to and with the first delimiter
+/// (`HasAdded`, `UntilRunEnd`).
+pub type ReadUntil = StateBy<UntilState, Plain>;
 
 // Where the bytes up to the delimiter end, and whether it is there.
 fn line_end(delim: u8, bytes: &[u8]) -> (usize, bool)
@@ -46,46 +52,56 @@ fn line_end(delim: u8, bytes: &[u8]) -> (usize, bool)
     }
 }
 
-impl ReadUntil {
+impl StateBy<UntilState, Plain> {
     /// A read that adds the bytes up to and with `delim` to `buf`.
     pub fn new(delim: u8, buf: ByteList) -> ReadUntil
+        ensures { result ≡ plain (record { delim = delim; bytes = buf; added = 0 }) }
+    {
+        StateBy::by(UntilState::new(delim, buf), Plain)
+    }
+}
+
+impl UntilState {
+    // A read that starts.
+    pub(crate) fn new(delim: u8, buf: ByteList) -> UntilState
         ensures { result ≡ record { delim = delim; bytes = buf; added = 0 } }
     {
-        ReadUntil {
+        UntilState {
             delim,
             buf,
             added: 0,
         }
     }
+}
 
-    // The bytes.
-    pub(crate) fn into_bytes(self) -> ByteList
-        ensures { result ≡ self.bytes }
-    {
-        let ReadUntil {
-            delim: _,
-            buf,
-            added: _,
-        } = self;
-        buf
-    }
+impl<A: AsyncBufRead> Polled<A, Plain> for UntilState {
+    type End = BufResult<usize, ByteList>;
 
-    /// Makes one fill at most, and adds what is buffered, up to and with the delimiter. It is done with the number of
-    /// the bytes that were added, once the delimiter came or the stream ended; with `OutOfMemory`; or with the stream's
-    /// fault: what was added stays. At `Pending` nothing was added, and at `Again` the stream was interrupted, or bytes
-    /// were added that aren't the delimiter.
-    #[tactic(auto, using(crate::proofs::Completeness::until_completes))]
-    pub fn poll<A: AsyncBufRead>(
+    ghost counts = { λ io. (A.reader io).counts };
+
+    ghost moved = { λ u. u.added };
+
+    ghost due = { λ u. 0 };
+
+    ghost holds = { λ u. Unit {0} };
+
+    ghost answers = { λ task before now u step. ReadsUntil A.tells task (A.reader before) (A.reader now) u step };
+
+    ghost short = { λ before now u end. IfErr end.0 (λ fault. fault ≡ OutOfMemory) };
+
+    ghost goes = { λ before now u next. HasAdded A.tells (A.reader before).left (A.reader now).left u next };
+
+    ghost ended = { λ before now u end. UntilRunEnd A.tells (A.reader before) (A.reader now) u end.1 end.0 };
+
+    fn laws(&self) {}
+
+    fn poll_by(
         self,
         io: &mut A,
+        _call: &Plain,
         task: u64,
-    ) -> Step<ReadUntil, BufResult<usize, ByteList>>
-        ensures answer { ReadsUntil A.tells task (A.reader io.old) (A.reader io.new) self result }
-        ensures counts { AfterCall None (A.reader io.old).counts (A.reader io.new).counts }
-        ensures complete { Completes (A.reader io.old).counts (A.reader io.new).counts result (λ end. end.0)
-            (λ fault. fault ≡ OutOfMemory) (λ next. self.added < next.added) }
-    {
-        let ReadUntil {
+    ) -> Step<UntilState, BufResult<usize, ByteList>> {
+        let UntilState {
             delim,
             mut buf,
             added,
@@ -106,36 +122,11 @@ impl ReadUntil {
                 if found {
                     return Step::Ready((Ok(added), buf));
                 }
-                Step::Again(ReadUntil { delim, buf, added })
+                Step::Again(UntilState { delim, buf, added })
             }
             PollCount::Ready(Err(fault)) => Step::Ready((Err(fault), buf)),
-            PollCount::Pending => Step::Pending(ReadUntil { delim, buf, added }),
-            PollCount::Again => Step::Again(ReadUntil { delim, buf, added }),
+            PollCount::Pending => Step::Pending(UntilState { delim, buf, added }),
+            PollCount::Again => Step::Again(UntilState { delim, buf, added }),
         }
-    }
-
-    /// Polls it until it is done, `polls` times at most: again at once also after a pause, so it is for tests and
-    /// proofs (not in monoio). Whatever the stream answered, the bytes that left it were added, up to and with the
-    /// first delimiter. `Again` means that the polls are used up.
-    pub fn drive<A: AsyncBufRead>(
-        self,
-        io: &mut A,
-        task: u64,
-        polls: u64,
-    ) -> Step<ReadUntil, BufResult<usize, ByteList>>
-        ensures run { RunsUntil A.tells (A.reader io.old) (A.reader io.new) self result }
-        ensures used { IfGoesOn result (λ next. AreUsed polls self.added next.added
-            (A.reader io.old).counts (A.reader io.new).counts) }
-        ensures counts { AfterCalls None polls (A.reader io.old).counts (A.reader io.new).counts }
-    {
-        let mut state = self;
-        for _ in 0..polls {
-            match state.poll(io, task) {
-                Step::Ready((outcome, buf)) => return Step::Ready((outcome, buf)),
-                Step::Pending(next) => state = next,
-                Step::Again(next) => state = next,
-            }
-        }
-        Step::Again(state)
     }
 }

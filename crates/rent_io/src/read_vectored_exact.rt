@@ -1,32 +1,31 @@
-// A read that fills all parts of a vector of buffers.
-ghost use Rattle.std.specs.Prelude.{◌≡◌, ◌<◌, ◌≤◌, length, IsOk, IfOk, None};
+//! A read that fills all parts of a vector of buffers.
+ghost use Rattle.std.specs.Prelude.{◌≡◌, ◌<◌, ◌≤◌, length, IsOk, IfOk, IfErr};
 ghost use Rattle.rent_buf.specs.Parts.{part_at};
-ghost use Rattle.rent_io.specs.Completeness.{Completes, IsShort};
-ghost use Rattle.rent_io.specs.Counts.{AfterCall};
+ghost use Rattle.rent_io.specs.Completeness.{IsShort};
 ghost use Rattle.rent_io.specs.ReadVectoredExact.{AreFullBefore, ReadsScattered, has_read, read_of, scattering, wanted};
-ghost use Rattle.rent_io.specs.Runs.{AfterCalls, AreUsed, IfGoesOn};
-ghost use Rattle.rent_io.specs.ScatterRuns.{RunsScattered};
+ghost use Rattle.rent_io.specs.ScatterRuns.{HasScattered, ScatterRunEnd};
+ghost use Rattle.rent_io.specs.State.{plain, under};
 
 use crate::async_read_rent::AsyncReadRent;
 use crate::calls::{Plain, ReadCall};
 use crate::part_room::read_part;
 use crate::poll::{PollBuf, Step};
+use crate::state::{Polled, StateBy};
+use cancel_core::CancelHandle;
 use rent_buf::{BufResult, IoFault, IoVecBufMut, OutOfMemory};
 use std::marker::Model;
 
-/// A read that fills all parts of a vector of buffers, as `read_vectored_exact` starts it (monoio: the future of
-/// `read_vectored_exact`). A clause sees it as the parts, the number of one before which all are full, how many
-/// bytes of that one are filled, and the sum of the rooms.
+/// The state of a `ReadVectoredExact`. A clause sees it as the parts, the number of one before which all are full, how
+/// many bytes of that one are filled, and the sum of the rooms.
 #[derive(Debug, Drop)]
-#[must_use]
-pub struct ReadVectoredExact<T: IoVecBufMut> {
+pub struct VectoredExactState<T: IoVecBufMut> {
     buf: T,
     part: usize,
     filled: usize,
     total: usize,
 }
 
-impl<T: IoVecBufMut> Model for ReadVectoredExact<T> {
+impl<T: IoVecBufMut> Model for VectoredExactState<T> {
     ghost use Rattle.std.specs.Prelude.{◌≤◌, length};
     ghost use Rattle.rent_buf.specs.Parts.{part_at};
     ghost use Rattle.rent_io.specs.ReadVectoredExact.{Scattering, AreFullBefore};
@@ -39,92 +38,81 @@ impl<T: IoVecBufMut> Model for ReadVectoredExact<T> {
         × (s.filled ≤ length (part_at (T.held s.buf) s.part).bytes) };
 }
 
-impl<T: IoVecBufMut> ReadVectoredExact<T> {
-    /// A read that fills these parts, from the first on. It takes no memory, so the answer is always `Ok`.
+/// A read that fills all parts of a vector of buffers, as `read_vectored_exact` starts it (monoio: the future of
+/// `read_vectored_exact`): each poll reads into the first part that isn't full. It is done with the sum of the rooms,
+/// once every part is full; with `UnexpectedEof`, where a read gave no byte though there is room; or with the stream's
+/// fault (`ReadsScattered`). Over many polls the bytes that left the stream stand in the parts, one behind the other,
+/// each once (`HasScattered`, `ScatterRunEnd`).
+pub type ReadVectoredExact<T> = StateBy<VectoredExactState<T>, Plain>;
+
+/// The same under a cancel group (monoio: the future of `cancelable_read_vectored_exact`).
+pub type CancelableReadVectoredExact<T> = StateBy<VectoredExactState<T>, CancelHandle>;
+
+impl<T: IoVecBufMut> VectoredExactState<T> {
+    // A read that starts.
     #[tactic(auto, using(crate::proofs::Scatters::none_before))]
-    pub fn new(buf: T) -> Result<ReadVectoredExact<T>, (OutOfMemory, T)>
-        ensures made { IsOk result }
-        ensures value { IfOk result (λ s. s ≡ scattering (T.held buf)) }
+    pub(crate) fn new(buf: T) -> VectoredExactState<T>
+        ensures { result ≡ scattering (T.held buf) }
     {
         let total = buf.total_room();
-        Ok(ReadVectoredExact {
+        VectoredExactState {
             buf,
             part: 0,
             filled: 0,
             total,
-        })
-    }
-
-    /// Makes one read at most, into the first part that isn't full. It is done with the sum of the rooms, once every
-    /// part is full; with `UnexpectedEof`, where a read gave no byte though there is room; or with the stream's fault.
-    /// At `Pending` nothing was read, and at `Again` the stream was interrupted, or some bytes were read and more are
-    /// to come.
-    #[tactic(auto, using(crate::proofs::Completeness::scatter_completes))]
-    pub fn poll<A: AsyncReadRent>(
-        self,
-        io: &mut A,
-        task: u64,
-    ) -> Step<ReadVectoredExact<T>, BufResult<usize, T>>
-        ensures answer { ReadsScattered A.tells task (A.reader io.old) (A.reader io.new) T.held self result }
-        ensures counts { AfterCall None (A.reader io.old).counts (A.reader io.new).counts }
-        ensures complete { Completes (A.reader io.old).counts (A.reader io.new).counts result (λ end. end.0)
-            (IsShort A.tells (A.reader io.old) (A.reader io.new) (wanted self)) (λ next. length (has_read self) < length (has_read next)) }
-    {
-        self.poll_by(io, &Plain, task)
-    }
-
-    /// Polls it until it is done, `polls` times at most: again at once also after a pause, so it is for tests and
-    /// proofs (not in monoio). Whatever the stream answered, the bytes that left it stand in the parts, one behind the
-    /// other, each once. `Again` means that the polls are used up.
-    pub fn drive<A: AsyncReadRent>(
-        self,
-        io: &mut A,
-        task: u64,
-        polls: u64,
-    ) -> Step<ReadVectoredExact<T>, BufResult<usize, T>>
-        ensures run { RunsScattered A.tells (A.reader io.old) (A.reader io.new) T.held self result }
-        ensures used { IfGoesOn result (λ next. AreUsed polls (length (has_read self)) (length (has_read next))
-            (A.reader io.old).counts (A.reader io.new).counts) }
-        ensures counts { AfterCalls None polls (A.reader io.old).counts (A.reader io.new).counts }
-    {
-        self.drive_by(io, &Plain, task, polls)
-    }
-
-    // So many polls at most by this call.
-    pub(crate) fn drive_by<A: AsyncReadRent, C: ReadCall<A>>(
-        self,
-        io: &mut A,
-        call: &C,
-        task: u64,
-        polls: u64,
-    ) -> Step<ReadVectoredExact<T>, BufResult<usize, T>>
-        ensures run { RunsScattered A.tells (A.reader io.old) (A.reader io.new) T.held self result }
-        ensures used { IfGoesOn result (λ next. AreUsed polls (length (has_read self)) (length (has_read next))
-            (A.reader io.old).counts (A.reader io.new).counts) }
-        ensures counts { AfterCalls (C.group call.now) polls (A.reader io.old).counts (A.reader io.new).counts }
-    {
-        let mut state = self;
-        for _ in 0..polls {
-            match state.poll_by(io, call, task) {
-                Step::Ready((outcome, buf)) => return Step::Ready((outcome, buf)),
-                Step::Pending(next) => state = next,
-                Step::Again(next) => state = next,
-            }
         }
-        Step::Again(state)
     }
+}
 
-    // A poll by this call.
-    pub(crate) fn poll_by<A: AsyncReadRent, C: ReadCall<A>>(
+impl<T: IoVecBufMut> StateBy<VectoredExactState<T>, Plain> {
+    /// A read that fills these parts, from the first on. It takes no memory, so the answer is always `Ok`.
+    pub fn new(buf: T) -> Result<ReadVectoredExact<T>, (OutOfMemory, T)>
+        ensures made { IsOk result }
+        ensures value { IfOk result (λ s. s ≡ plain (scattering (T.held buf))) }
+    {
+        Ok(StateBy::by(VectoredExactState::new(buf), Plain))
+    }
+}
+
+impl<T: IoVecBufMut> StateBy<VectoredExactState<T>, CancelHandle> {
+    /// A read that fills these parts, from the first on, under the group of `c`. It takes no memory, so the answer is
+    /// always `Ok`.
+    pub fn new(buf: T, c: CancelHandle) -> Result<CancelableReadVectoredExact<T>, (OutOfMemory, T)>
+        ensures made { IsOk result }
+        ensures value { IfOk result (λ s. s ≡ under c (scattering (T.held buf))) }
+    {
+        Ok(StateBy::by(VectoredExactState::new(buf), c))
+    }
+}
+
+impl<T: IoVecBufMut, A: AsyncReadRent, C: ReadCall<A>> Polled<A, C> for VectoredExactState<T> {
+    type End = BufResult<usize, T>;
+
+    ghost counts = { λ io. (A.reader io).counts };
+
+    ghost moved = { λ s. length (has_read s) };
+
+    ghost due = { λ s. 0 };
+
+    ghost holds = { λ s. Unit {0} };
+
+    ghost answers = { λ task before now s step. ReadsScattered A.tells task (A.reader before) (A.reader now) T.held s step };
+
+    ghost short = { λ before now s end. IfErr end.0 (IsShort A.tells (A.reader before) (A.reader now) (wanted s)) };
+
+    ghost goes = { λ before now s next. HasScattered A.tells (A.reader before).left (A.reader now).left s next };
+
+    ghost ended = { λ before now s end. ScatterRunEnd A.tells (A.reader before) (A.reader now) s (T.held end.1) end.0 };
+
+    fn laws(&self) {}
+
+    fn poll_by(
         self,
         io: &mut A,
         call: &C,
         task: u64,
-    ) -> Step<ReadVectoredExact<T>, BufResult<usize, T>>
-        ensures answer { ReadsScattered A.tells task (A.reader io.old) (A.reader io.new) T.held self result }
-        ensures counts { AfterCall (C.group call.now) (A.reader io.old).counts (A.reader io.new).counts }
-    {
-        let ReadVectoredExact {
+    ) -> Step<VectoredExactState<T>, BufResult<usize, T>> {
+        let VectoredExactState {
             buf,
             part,
             filled,
@@ -145,7 +133,7 @@ impl<T: IoVecBufMut> ReadVectoredExact<T> {
                 if part >= buf.parts_len() {
                     return Step::Ready((Ok(total), buf));
                 }
-                Step::Again(ReadVectoredExact {
+                Step::Again(VectoredExactState {
                     buf,
                     part,
                     filled,
@@ -153,13 +141,13 @@ impl<T: IoVecBufMut> ReadVectoredExact<T> {
                 })
             }
             PollBuf::Ready(Err(fault), buf) => Step::Ready((Err(fault), buf)),
-            PollBuf::Pending(buf) => Step::Pending(ReadVectoredExact {
+            PollBuf::Pending(buf) => Step::Pending(VectoredExactState {
                 buf,
                 part,
                 filled,
                 total,
             }),
-            PollBuf::Again(buf) => Step::Again(ReadVectoredExact {
+            PollBuf::Again(buf) => Step::Again(VectoredExactState {
                 buf,
                 part,
                 filled,

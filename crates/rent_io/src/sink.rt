@@ -1,11 +1,12 @@
-// Sinks of items, and a send that is flushed.
-ghost use Rattle.std.specs.Prelude.{◌≡◌, None, Some, IsSome};
-ghost use Rattle.rent_io.specs.Completeness.{Completes};
+//! Sinks of items, and a send that is flushed.
+ghost use Rattle.std.specs.Prelude.{◌≡◌, None, Some, IfErr};
 ghost use Rattle.rent_io.specs.Counts.{AfterCall};
-ghost use Rattle.rent_io.specs.ItemSink.{ItemSink, IsSent, IsDone, CausesDone, SendsAndFlushes, RunsSend, unsent};
-ghost use Rattle.rent_io.specs.Runs.{AfterCalls, AreUsed, IfGoesOn};
+ghost use Rattle.rent_io.specs.ItemSink.{ItemSink, IsSent, IsDone, CausesDone, HasSend, SendEnd, SendsAndFlushes, unsent};
+ghost use Rattle.rent_io.specs.State.{plain};
 
+use crate::calls::Plain;
 use crate::poll::Step;
+use crate::state::{Polled, StateBy};
 use std::marker::Model;
 
 /// The answer of a poll of a send (not in monoio).
@@ -74,15 +75,13 @@ impl<I, S: Sink<I>> Sink<I> for &mut S {
     }
 }
 
-/// A send of one item and then a flush, as `send_and_flush` starts it (monoio: the future of `send_and_flush`). A
-/// clause sees it as the item, until it is taken.
+/// The state of a `SendAndFlush`. A clause sees it as the item, until it is taken.
 #[derive(Debug, Drop)]
-#[must_use]
-pub struct SendAndFlush<I> {
+pub struct SendState<I> {
     item: Option<I>,
 }
 
-impl<I> Model for SendAndFlush<I> {
+impl<I> Model for SendState<I> {
     ghost use Rattle.std.specs.Prelude.{Option};
 
     ghost Value = { Option I };
@@ -90,63 +89,59 @@ impl<I> Model for SendAndFlush<I> {
     ghost view = { λ s. s.item };
 }
 
-impl<I> SendAndFlush<I> {
+/// A send of one item and then a flush, as `send_and_flush` starts it (monoio: the future of `send_and_flush`). Each
+/// poll makes one send or one flush. A poll that the item is taken in answers `Again`; it is done once a later poll
+/// flushed, or with the sink's error (`SendsAndFlushes`). Over many polls the item is taken in one, and a flush comes in
+/// a later one (`HasSend`, `SendEnd`).
+pub type SendAndFlush<I> = StateBy<SendState<I>, Plain>;
+
+impl<I> StateBy<SendState<I>, Plain> {
     /// A send of this item.
     pub fn new(item: I) -> SendAndFlush<I>
-        ensures { result ≡ Some item }
+        ensures { result ≡ plain (Some item) }
     {
-        SendAndFlush { item: Some(item) }
+        StateBy::by(SendState { item: Some(item) }, Plain)
     }
+}
 
-    /// Makes one send or one flush. A poll that the item is taken in answers `Again`; it is done once a later poll
-    /// flushed, or with the sink's error.
-    #[tactic(auto, using(crate::proofs::Completeness::send_completes))]
-    pub fn poll<S: Sink<I>>(
+impl<I, S: Sink<I>> Polled<S, Plain> for SendState<I> {
+    type End = Result<(), S::Error>;
+
+    ghost counts = { λ sink. (S.sink sink).counts };
+
+    ghost moved = { λ item. 0 };
+
+    ghost due = { λ item. unsent item };
+
+    ghost holds = { λ item. Unit {0} };
+
+    ghost answers = { λ task before now item step. SendsAndFlushes (S.sink before) (S.sink now) item step };
+
+    ghost short = { λ before now item end. IfErr end (λ error. ⊥) };
+
+    ghost goes = { λ before now item next. HasSend (S.sink before) (S.sink now) item next };
+
+    ghost ended = { λ before now item end. SendEnd (S.sink before) (S.sink now) item end };
+
+    fn laws(&self) {}
+
+    fn poll_by(
         self,
         sink: &mut S,
+        _call: &Plain,
         task: u64,
-    ) -> Step<SendAndFlush<I>, Result<(), S::Error>>
-        ensures answer { SendsAndFlushes (S.sink sink.old) (S.sink sink.new) self result }
-        ensures counts { AfterCall None (S.sink sink.old).counts (S.sink sink.new).counts }
-        ensures complete { Completes (S.sink sink.old).counts (S.sink sink.new).counts result (λ end. end) (λ error. ⊥)
-            (λ next. IsSome self × (next ≡ None)) }
-    {
-        let SendAndFlush { item } = self;
+    ) -> Step<SendState<I>, Result<(), S::Error>> {
+        let SendState { item } = self;
         match item {
             Some(item) => match sink.poll_send(item, task) {
-                SinkPoll::Ready(Ok(())) => Step::Again(SendAndFlush { item: None }),
+                SinkPoll::Ready(Ok(())) => Step::Again(SendState { item: None }),
                 SinkPoll::Ready(Err(error)) => Step::Ready(Err(error)),
-                SinkPoll::Pending(item) => Step::Pending(SendAndFlush { item: Some(item) }),
+                SinkPoll::Pending(item) => Step::Pending(SendState { item: Some(item) }),
             },
             None => match sink.poll_flush(task) {
                 SinkDone::Ready(outcome) => Step::Ready(outcome),
-                SinkDone::Pending => Step::Pending(SendAndFlush { item: None }),
+                SinkDone::Pending => Step::Pending(SendState { item: None }),
             },
         }
-    }
-
-    /// Polls it until it is done, `polls` times at most: again at once also after a pause, so it is for tests and proofs
-    /// (not in monoio). Whatever the sink answered, the item is taken in
-    /// one poll, and a flush comes in a later one. `Again` means that the polls are used up.
-    pub fn drive<S: Sink<I>>(
-        self,
-        sink: &mut S,
-        task: u64,
-        polls: u64,
-    ) -> Step<SendAndFlush<I>, Result<(), S::Error>>
-        ensures run { RunsSend (S.sink sink.old) (S.sink sink.new) self result }
-        ensures used { IfGoesOn result (λ next. AreUsed polls (unsent next) (unsent self)
-            (S.sink sink.old).counts (S.sink sink.new).counts) }
-        ensures counts { AfterCalls None polls (S.sink sink.old).counts (S.sink sink.new).counts }
-    {
-        let mut state = self;
-        for _ in 0..polls {
-            match state.poll(sink, task) {
-                Step::Ready(outcome) => return Step::Ready(outcome),
-                Step::Pending(next) => state = next,
-                Step::Again(next) => state = next,
-            }
-        }
-        Step::Again(state)
     }
 }

@@ -9,7 +9,7 @@ use crate::async_read_rent::AsyncReadRent;
 use crate::poll::PollBuf;
 use crate::source::ByteSource;
 use crate::vectored::first_room;
-use rent_buf::{IoBufMut, IoFault, IoVecBufMut, OutOfMemory};
+use rent_buf::{FixedVec, IoBufMut, IoFault, IoVecBufMut, OutOfMemory};
 use std::alloc::Global;
 use std::marker::Model;
 
@@ -114,6 +114,16 @@ impl<S: ByteSource> AsyncReadRent for SourceStream<S> {
                 PollBuf::Ready(Ok(count), buf)
             }
             Err(_) => PollBuf::Ready(Err(IoFault::ReadFault), buf),
+        }
+    }
+
+    /// One read of the source, of the whole buffer. `ReadFault` where the source failed.
+    #[tactic(auto, using(crate::proofs::Pieces::front_read))]
+    fn poll_fixed(&mut self, buf: FixedVec, _task: u64) -> PollBuf<FixedVec> {
+        let mut items = buf.into_vec();
+        match self.source.read(items.as_mut_slice()) {
+            Ok(count) => PollBuf::Ready(Ok(count), FixedVec::from_vec(items)),
+            Err(_) => PollBuf::Ready(Err(IoFault::ReadFault), FixedVec::from_vec(items)),
         }
     }
 }

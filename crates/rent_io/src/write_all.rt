@@ -1,28 +1,28 @@
-// A write of all bytes of a buffer.
-ghost use Rattle.std.specs.Prelude.{◌≡◌, ◌+◌, ◌<◌, ◌≤◌, length, drop, None};
-ghost use Rattle.rent_io.specs.Completeness.{Completes};
-ghost use Rattle.rent_io.specs.Counts.{AfterCall};
+//! A write of all bytes of a buffer.
+ghost use Rattle.std.specs.Prelude.{◌≡◌, length, IfErr};
 ghost use Rattle.rent_io.specs.Polls.{TookNone};
-ghost use Rattle.rent_io.specs.Runs.{AfterCalls, AreUsed, IfGoesOn, RunsAll};
+ghost use Rattle.rent_io.specs.Runs.{EndsAll, HasSent};
+ghost use Rattle.rent_io.specs.State.{plain, under};
 ghost use Rattle.rent_io.specs.WriteAll.{WritesAll, sending};
 ghost use Rattle.rent_io.specs.Writer.{EndsStay};
 
 use crate::async_write_rent::AsyncWriteRent;
 use crate::calls::{Plain, WriteCall};
 use crate::poll::{PollBuf, Step};
+use crate::state::{Polled, StateBy};
+use cancel_core::CancelHandle;
 use rent_buf::{BufResult, IoBuf, IoFault, Slice};
 use std::marker::Model;
 
-/// A write of all bytes of a buffer, as `write_all` starts it (monoio: the future of `write_all`). A clause sees it
-/// as the buffer, the bytes that are still to be written, and how many bytes the buffer has.
+/// The state of a `WriteAll`. A clause sees it as the buffer, the bytes that are still to be written, and how many
+/// bytes the buffer has.
 #[derive(Debug, Drop)]
-#[must_use]
-pub struct WriteAll<T: IoBuf> {
+pub struct AllState<T: IoBuf> {
     buf: T,
     sent: usize,
 }
 
-impl<T: IoBuf> Model for WriteAll<T> {
+impl<T: IoBuf> Model for AllState<T> {
     ghost use Rattle.std.specs.Prelude.{◌≤◌, length, drop};
     ghost use Rattle.rent_io.specs.WriteAll.{Sending};
 
@@ -33,88 +33,66 @@ impl<T: IoBuf> Model for WriteAll<T> {
     ghost invariant = { λ s. s.sent ≤ length (T.content s.buf) };
 }
 
-impl<T: IoBuf> WriteAll<T> {
-    /// A write of this buffer's bytes.
-    pub fn new(buf: T) -> WriteAll<T>
+/// A write of all bytes of a buffer, as `write_all` starts it (monoio: the future of `write_all`). It is done with the
+/// number of the buffer's bytes, once all are delivered; with `WriteZero`, where a write took none of some bytes; or
+/// with the stream's fault (`WritesAll`). Over many polls the bytes that the stream took are the first ones, each once
+/// and in order (`HasSent`, `EndsAll`).
+pub type WriteAll<T> = StateBy<AllState<T>, Plain>;
+
+/// The same under a cancel group (monoio: the future of `write_all` of `CancelableAsyncWriteRentExt`).
+pub type CancelableWriteAll<T> = StateBy<AllState<T>, CancelHandle>;
+
+impl<T: IoBuf> AllState<T> {
+    // A write that starts.
+    pub(crate) fn new(buf: T) -> AllState<T>
         ensures { result ≡ sending buf (T.content buf) }
     {
-        WriteAll { buf, sent: 0 }
+        AllState { buf, sent: 0 }
     }
+}
 
-    /// Makes one write at most. It is done with the number of the buffer's bytes, once all are delivered; with
-    /// `WriteZero`, where a write took none of some bytes; or with the stream's fault. At `Pending` nothing was
-    /// written, and at `Again` the stream was interrupted, or some bytes were written and more are to be.
-    #[tactic(auto, using(crate::proofs::Completeness::all_completes))]
-    pub fn poll<A: AsyncWriteRent>(
-        self,
-        io: &mut A,
-        task: u64,
-    ) -> Step<WriteAll<T>, BufResult<usize, T>>
-        ensures answer { WritesAll A.tells task (A.writer io.old) (A.writer io.new) self result }
-        ensures ends { EndsStay (A.writer io.old) (A.writer io.new) }
-        ensures counts { AfterCall None (A.writer io.old).counts (A.writer io.new).counts }
-        ensures complete { Completes (A.writer io.old).counts (A.writer io.new).counts result (λ end. end.0)
-            (TookNone (A.writer io.old).counts (A.writer io.new).counts)
-            (λ next. length next.rest < length self.rest) }
+impl<T: IoBuf> StateBy<AllState<T>, Plain> {
+    /// A write of this buffer's bytes.
+    pub fn new(buf: T) -> WriteAll<T>
+        ensures { result ≡ plain (sending buf (T.content buf)) }
     {
-        self.poll_by(io, &Plain, task)
+        StateBy::by(AllState::new(buf), Plain)
     }
+}
 
-    /// Polls it until it is done, `polls` times at most: again at once also after a pause, so it is for tests and
-    /// proofs (not in monoio). Whatever the stream answered, the bytes that it took are the first ones, each once and
-    /// in order. `Again` means that the polls are used up.
-    pub fn drive<A: AsyncWriteRent>(
-        self,
-        io: &mut A,
-        task: u64,
-        polls: u64,
-    ) -> Step<WriteAll<T>, BufResult<usize, T>>
-        ensures run { RunsAll A.tells (A.writer io.old) (A.writer io.new) self result }
-        ensures ends { EndsStay (A.writer io.old) (A.writer io.new) }
-        ensures used { IfGoesOn result (λ next. AreUsed polls (length next.rest) (length self.rest)
-            (A.writer io.old).counts (A.writer io.new).counts) }
-        ensures counts { AfterCalls None polls (A.writer io.old).counts (A.writer io.new).counts }
+impl<T: IoBuf> StateBy<AllState<T>, CancelHandle> {
+    /// A write of this buffer's bytes, under the group of `c`.
+    pub fn new(buf: T, c: CancelHandle) -> CancelableWriteAll<T>
+        ensures { result ≡ under c (sending buf (T.content buf)) }
     {
-        self.drive_by(io, &Plain, task, polls)
+        StateBy::by(AllState::new(buf), c)
     }
+}
 
-    // So many polls at most by this call.
-    pub(crate) fn drive_by<A: AsyncWriteRent, C: WriteCall<A>>(
-        self,
-        io: &mut A,
-        call: &C,
-        task: u64,
-        polls: u64,
-    ) -> Step<WriteAll<T>, BufResult<usize, T>>
-        ensures run { RunsAll A.tells (A.writer io.old) (A.writer io.new) self result }
-        ensures ends { EndsStay (A.writer io.old) (A.writer io.new) }
-        ensures used { IfGoesOn result (λ next. AreUsed polls (length next.rest) (length self.rest)
-            (A.writer io.old).counts (A.writer io.new).counts) }
-        ensures counts { AfterCalls (C.group call.now) polls (A.writer io.old).counts (A.writer io.new).counts }
-    {
-        let mut state = self;
-        for _ in 0..polls {
-            match state.poll_by(io, call, task) {
-                Step::Ready((outcome, buf)) => return Step::Ready((outcome, buf)),
-                Step::Pending(next) => state = next,
-                Step::Again(next) => state = next,
-            }
-        }
-        Step::Again(state)
-    }
+impl<T: IoBuf, A: AsyncWriteRent, C: WriteCall<A>> Polled<A, C> for AllState<T> {
+    type End = BufResult<usize, T>;
 
-    // A poll by this call.
-    pub(crate) fn poll_by<A: AsyncWriteRent, C: WriteCall<A>>(
-        self,
-        io: &mut A,
-        call: &C,
-        task: u64,
-    ) -> Step<WriteAll<T>, BufResult<usize, T>>
-        ensures answer { WritesAll A.tells task (A.writer io.old) (A.writer io.new) self result }
-        ensures ends { EndsStay (A.writer io.old) (A.writer io.new) }
-        ensures counts { AfterCall (C.group call.now) (A.writer io.old).counts (A.writer io.new).counts }
-    {
-        let WriteAll { buf, sent } = self;
+    ghost counts = { λ io. (A.writer io).counts };
+
+    ghost moved = { λ s. 0 };
+
+    ghost due = { λ s. length s.rest };
+
+    ghost holds = { λ s. Unit {0} };
+
+    ghost answers = { λ task before now s step. WritesAll A.tells task (A.writer before) (A.writer now) s step
+        × EndsStay (A.writer before) (A.writer now) };
+
+    ghost short = { λ before now s end. IfErr end.0 (TookNone (A.writer before).counts (A.writer now).counts) };
+
+    ghost goes = { λ before now s next. HasSent A.tells (A.writer before) (A.writer now) s next };
+
+    ghost ended = { λ before now s end. EndsAll A.tells (A.writer before) (A.writer now) s end };
+
+    fn laws(&self) {}
+
+    fn poll_by(self, io: &mut A, call: &C, task: u64) -> Step<AllState<T>, BufResult<usize, T>> {
+        let AllState { buf, sent } = self;
         let total = buf.bytes_init();
         if sent == total {
             return Step::Ready((Ok(total), buf));
@@ -129,14 +107,14 @@ impl<T: IoBuf> WriteAll<T> {
                 if sent == total {
                     return Step::Ready((Ok(total), buf));
                 }
-                Step::Again(WriteAll { buf, sent })
+                Step::Again(AllState { buf, sent })
             }
             PollBuf::Ready(Err(fault), part) => Step::Ready((Err(fault), part.into_inner())),
-            PollBuf::Pending(part) => Step::Pending(WriteAll {
+            PollBuf::Pending(part) => Step::Pending(AllState {
                 buf: part.into_inner(),
                 sent,
             }),
-            PollBuf::Again(part) => Step::Again(WriteAll {
+            PollBuf::Again(part) => Step::Again(AllState {
                 buf: part.into_inner(),
                 sent,
             }),

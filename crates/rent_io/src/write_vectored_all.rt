@@ -1,9 +1,8 @@
-// A write of all bytes of a vector of buffers.
-ghost use Rattle.std.specs.Prelude.{◌≡◌, ◌^◌, ◌<◌, ◌≤◌, [], length, sum_by, slice_index_or, IsOk, IfOk, None};
-ghost use Rattle.rent_io.specs.Completeness.{Completes};
-ghost use Rattle.rent_io.specs.Counts.{AfterCall};
+//! A write of all bytes of a vector of buffers.
+ghost use Rattle.std.specs.Prelude.{◌≡◌, ◌^◌, ◌<◌, ◌≤◌, [], length, sum_by, slice_index_or, IsOk, IfOk, IfErr};
 ghost use Rattle.rent_io.specs.Polls.{TookNone};
-ghost use Rattle.rent_io.specs.Runs.{AfterCalls, AreUsed, IfGoesOn, RunsAll};
+ghost use Rattle.rent_io.specs.Runs.{EndsAll, HasSent};
+ghost use Rattle.rent_io.specs.State.{plain, under};
 ghost use Rattle.rent_io.specs.WriteAll.{WritesAll, sending_parts};
 ghost use Rattle.rent_io.specs.WriteVectoredAll.{rest_from};
 ghost use Rattle.rent_io.specs.Writer.{EndsStay};
@@ -12,15 +11,15 @@ use crate::async_write_rent::AsyncWriteRent;
 use crate::calls::{Plain, WriteCall};
 use crate::part::PartFrom;
 use crate::poll::{PollBuf, Step};
+use crate::state::{Polled, StateBy};
+use cancel_core::CancelHandle;
 use rent_buf::{BufResult, IoFault, IoVecBuf, OutOfMemory};
 use std::marker::Model;
 
-/// A write of all bytes of a vector of buffers, as `write_vectored_all` starts it (monoio: the future of
-/// `write_vectored_all`). A clause sees it as the vector, the bytes that are still to be written, and how many bytes
-/// the vector has.
+/// The state of a `WriteVectoredAll`. A clause sees it as the vector, the bytes that are still to be written, and how
+/// many bytes the vector has.
 #[derive(Debug, Drop)]
-#[must_use]
-pub struct WriteVectoredAll<T: IoVecBuf> {
+pub struct VectoredAllState<T: IoVecBuf> {
     buf: T,
     // The first part that isn't written whole, and how much of it is written.
     part: usize,
@@ -28,7 +27,7 @@ pub struct WriteVectoredAll<T: IoVecBuf> {
     total: usize,
 }
 
-impl<T: IoVecBuf> Model for WriteVectoredAll<T> {
+impl<T: IoVecBuf> Model for VectoredAllState<T> {
     ghost use Rattle.std.specs.Prelude.{◌≤◌, ◌≡◌, [], length, sum_by, slice_index_or};
     ghost use Rattle.rent_io.specs.WriteAll.{Sending};
     ghost use Rattle.rent_io.specs.WriteVectoredAll.{rest_from};
@@ -40,98 +39,83 @@ impl<T: IoVecBuf> Model for WriteVectoredAll<T> {
     ghost invariant = { λ s. s.sent ≤ length (slice_index_or (T.parts s.buf) s.part []) };
 }
 
-impl<T: IoVecBuf> WriteVectoredAll<T> {
+/// A write of all bytes of a vector of buffers, as `write_vectored_all` starts it (monoio: the future of
+/// `write_vectored_all`): each poll writes of one part that has bytes left. It is done as a `WriteAll`, with the number
+/// of the vector's bytes.
+pub type WriteVectoredAll<T> = StateBy<VectoredAllState<T>, Plain>;
+
+/// The same under a cancel group (monoio: the future of `write_vectored_all` of `CancelableAsyncWriteRentExt`).
+pub type CancelableWriteVectoredAll<T> = StateBy<VectoredAllState<T>, CancelHandle>;
+
+impl<T: IoVecBuf> VectoredAllState<T> {
+    // A write that starts.
+    pub(crate) fn new(buf: T) -> VectoredAllState<T>
+        requires { sum_by length (T.parts buf) < 2 ^ 64 }
+        ensures { result ≡ sending_parts buf (T.parts buf) }
+    {
+        let total = total_len(&buf);
+        VectoredAllState {
+            buf,
+            part: 0,
+            sent: 0,
+            total,
+        }
+    }
+}
+
+impl<T: IoVecBuf> StateBy<VectoredAllState<T>, Plain> {
     /// A write of the bytes of the parts, in order. `Ranges::read_fits` tests whether their number fits `usize`. It
     /// takes no memory, so the answer is always `Ok`.
     pub fn new(buf: T) -> Result<WriteVectoredAll<T>, (OutOfMemory, T)>
         requires { sum_by length (T.parts buf) < 2 ^ 64 }
         ensures made { IsOk result }
-        ensures value { IfOk result (λ s. s ≡ sending_parts buf (T.parts buf)) }
+        ensures value { IfOk result (λ s. s ≡ plain (sending_parts buf (T.parts buf))) }
     {
-        let total = total_len(&buf);
-        Ok(WriteVectoredAll {
-            buf,
-            part: 0,
-            sent: 0,
-            total,
-        })
+        Ok(StateBy::by(VectoredAllState::new(buf), Plain))
     }
+}
 
-    /// Makes one write at most, of a part that has bytes left. It is done with the number of the vector's bytes, once
-    /// all are delivered; with `WriteZero`, where a write took none of some bytes; or with the stream's fault. At
-    /// `Pending` nothing was written, and at `Again` the stream was interrupted, or some bytes were written and more
-    /// are to be.
-    #[tactic(auto, using(crate::proofs::Completeness::all_completes))]
-    pub fn poll<A: AsyncWriteRent>(
-        self,
-        io: &mut A,
-        task: u64,
-    ) -> Step<WriteVectoredAll<T>, BufResult<usize, T>>
-        ensures answer { WritesAll A.tells task (A.writer io.old) (A.writer io.new) self result }
-        ensures ends { EndsStay (A.writer io.old) (A.writer io.new) }
-        ensures counts { AfterCall None (A.writer io.old).counts (A.writer io.new).counts }
-        ensures complete { Completes (A.writer io.old).counts (A.writer io.new).counts result (λ end. end.0)
-            (TookNone (A.writer io.old).counts (A.writer io.new).counts)
-            (λ next. length next.rest < length self.rest) }
+impl<T: IoVecBuf> StateBy<VectoredAllState<T>, CancelHandle> {
+    /// A write of the bytes of the parts, in order, under the group of `c`. It takes no memory, so the answer is always
+    /// `Ok`.
+    pub fn new(buf: T, c: CancelHandle) -> Result<CancelableWriteVectoredAll<T>, (OutOfMemory, T)>
+        requires { sum_by length (T.parts buf) < 2 ^ 64 }
+        ensures made { IsOk result }
+        ensures value { IfOk result (λ s. s ≡ under c (sending_parts buf (T.parts buf))) }
     {
-        self.poll_by(io, &Plain, task)
+        Ok(StateBy::by(VectoredAllState::new(buf), c))
     }
+}
 
-    /// Polls it until it is done, `polls` times at most: again at once also after a pause, so it is for tests and
-    /// proofs (not in monoio). Whatever the stream answered, the bytes that it took are the first ones, each once and
-    /// in order. `Again` means that the polls are used up.
-    pub fn drive<A: AsyncWriteRent>(
-        self,
-        io: &mut A,
-        task: u64,
-        polls: u64,
-    ) -> Step<WriteVectoredAll<T>, BufResult<usize, T>>
-        ensures run { RunsAll A.tells (A.writer io.old) (A.writer io.new) self result }
-        ensures ends { EndsStay (A.writer io.old) (A.writer io.new) }
-        ensures used { IfGoesOn result (λ next. AreUsed polls (length next.rest) (length self.rest)
-            (A.writer io.old).counts (A.writer io.new).counts) }
-        ensures counts { AfterCalls None polls (A.writer io.old).counts (A.writer io.new).counts }
-    {
-        self.drive_by(io, &Plain, task, polls)
-    }
+impl<T: IoVecBuf, A: AsyncWriteRent, C: WriteCall<A>> Polled<A, C> for VectoredAllState<T> {
+    type End = BufResult<usize, T>;
 
-    // So many polls at most by this call.
-    pub(crate) fn drive_by<A: AsyncWriteRent, C: WriteCall<A>>(
+    ghost counts = { λ io. (A.writer io).counts };
+
+    ghost moved = { λ s. 0 };
+
+    ghost due = { λ s. length s.rest };
+
+    ghost holds = { λ s. Unit {0} };
+
+    ghost answers = { λ task before now s step. WritesAll A.tells task (A.writer before) (A.writer now) s step
+        × EndsStay (A.writer before) (A.writer now) };
+
+    ghost short = { λ before now s end. IfErr end.0 (TookNone (A.writer before).counts (A.writer now).counts) };
+
+    ghost goes = { λ before now s next. HasSent A.tells (A.writer before) (A.writer now) s next };
+
+    ghost ended = { λ before now s end. EndsAll A.tells (A.writer before) (A.writer now) s end };
+
+    fn laws(&self) {}
+
+    fn poll_by(
         self,
         io: &mut A,
         call: &C,
         task: u64,
-        polls: u64,
-    ) -> Step<WriteVectoredAll<T>, BufResult<usize, T>>
-        ensures run { RunsAll A.tells (A.writer io.old) (A.writer io.new) self result }
-        ensures ends { EndsStay (A.writer io.old) (A.writer io.new) }
-        ensures used { IfGoesOn result (λ next. AreUsed polls (length next.rest) (length self.rest)
-            (A.writer io.old).counts (A.writer io.new).counts) }
-        ensures counts { AfterCalls (C.group call.now) polls (A.writer io.old).counts (A.writer io.new).counts }
-    {
-        let mut state = self;
-        for _ in 0..polls {
-            match state.poll_by(io, call, task) {
-                Step::Ready((outcome, buf)) => return Step::Ready((outcome, buf)),
-                Step::Pending(next) => state = next,
-                Step::Again(next) => state = next,
-            }
-        }
-        Step::Again(state)
-    }
-
-    // A poll by this call.
-    pub(crate) fn poll_by<A: AsyncWriteRent, C: WriteCall<A>>(
-        self,
-        io: &mut A,
-        call: &C,
-        task: u64,
-    ) -> Step<WriteVectoredAll<T>, BufResult<usize, T>>
-        ensures answer { WritesAll A.tells task (A.writer io.old) (A.writer io.new) self result }
-        ensures ends { EndsStay (A.writer io.old) (A.writer io.new) }
-        ensures counts { AfterCall (C.group call.now) (A.writer io.old).counts (A.writer io.new).counts }
-    {
-        let WriteVectoredAll {
+    ) -> Step<VectoredAllState<T>, BufResult<usize, T>> {
+        let VectoredAllState {
             buf,
             part,
             sent,
@@ -152,7 +136,7 @@ impl<T: IoVecBuf> WriteVectoredAll<T> {
                 if part >= buf.parts_len() {
                     return Step::Ready((Ok(total), buf));
                 }
-                Step::Again(WriteVectoredAll {
+                Step::Again(VectoredAllState {
                     buf,
                     part,
                     sent,
@@ -160,13 +144,13 @@ impl<T: IoVecBuf> WriteVectoredAll<T> {
                 })
             }
             PollBuf::Ready(Err(fault), slice) => Step::Ready((Err(fault), slice.into_inner())),
-            PollBuf::Pending(slice) => Step::Pending(WriteVectoredAll {
+            PollBuf::Pending(slice) => Step::Pending(VectoredAllState {
                 buf: slice.into_inner(),
                 part,
                 sent,
                 total,
             }),
-            PollBuf::Again(slice) => Step::Again(WriteVectoredAll {
+            PollBuf::Again(slice) => Step::Again(VectoredAllState {
                 buf: slice.into_inner(),
                 part,
                 sent,

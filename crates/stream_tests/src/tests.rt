@@ -5,6 +5,7 @@ mod chain;
 mod copies;
 mod ends;
 mod files;
+mod fixed;
 mod halves;
 mod lines;
 mod noting;

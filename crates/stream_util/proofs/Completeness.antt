@@ -87,8 +87,8 @@ shutdown-end before now (Err fault) quiet (inr none, same) = none
 -- A shutdown gets on.
 pub shutdown_completes : {W : Type 0} (writer : W → Writer) (tells : Bool) (task : ℕ) (part : W) (step : Step W (Result ℕ IoFault × W))
     → ShutsDown writer tells task part step
-    → Completes (writer part).counts (writer (part_in step)).counts step (λ end. end.0)
-    (TookNone (writer part).counts (writer (part_in step)).counts) (λ next. ⊥)
+    → Completes (writer part).counts (writer (part_in step)).counts step
+    (λ end. IfErr end.0 (TookNone (writer part).counts (writer (part_in step)).counts)) (λ next. ⊥)
 shutdown_completes writer tells task part (Ready end) is quiet = shutdown-end (writer part) (writer end.1) end.0 quiet is.1
 shutdown_completes writer tells task part (Pending next) is quiet = quiet.1 is.1.0
 shutdown_completes writer tells task part (Again next) is quiet = quiet.2 is.1

@@ -1,5 +1,5 @@
 -- A copy from a reader to a writer: what each poll of it does, and what many do.
-use Rattle.std.specs.Prelude.{ℕ, ◌≡◌, ◌+◌, ◌-◌, ◌^◌, ◌<◌, ◌≤◌, ◌⊎◌, min, Bool, IsTrue, List, [], ◌++◌, length, None, Result, Ok, Err}
+use Rattle.std.specs.Prelude.{ℕ, ◌≡◌, ◌+◌, ◌-◌, ◌^◌, ◌<◌, ◌≤◌, ◌⊎◌, min, Bool, IsTrue, List, [], ◌++◌, length, None, Result, Ok, Err, IfErr}
 use Rattle.rent_buf.specs.declared.fault.IoFault.{IoFault}
 use Rattle.rent_io.specs.declared.poll.Step.{Step}
 use Rattle.rent_io.specs.declared.poll.Step.TheVariants.{Ready, Pending, Again}
@@ -94,7 +94,7 @@ Copies reads writes task before now copy (Again next) =
 abbrev pub CopyCompletes : Bool → Bool → Ends → Ends → Copying → Step Copying Copied → (IoFault → Type 0) → Type 0
 CopyCompletes reads writes before now copy step faults = IsQuiet before.reader.counts now.reader.counts
     → IsQuiet before.writer.counts now.writer.counts
-    → GetsOn step (λ copied. copied.result) faults (λ next. MovesSome reads writes before now copy next)
+    → GetsOn step (λ copied. IfErr copied.result faults) (λ next. MovesSome reads writes before now copy next)
 
 -- What an answer holds: what was read and not delivered.
 abbrev pub held_in : Step Copying Copied → List ℕ

@@ -177,7 +177,7 @@ impl<R: AsyncReadRent> BufReader<R> {
         let buf = mem::replace(&mut self.buf, empty);
         self.begin = 0;
         self.end = 0;
-        match self.inner.poll_read(buf, task) {
+        match self.inner.poll_fixed(buf, task) {
             PollBuf::Ready(Ok(count), buf) => {
                 self.buf = buf;
                 self.end = count;

@@ -10,7 +10,9 @@ ghost use Rattle.stream_util.specs.BufWriter.{FlushCompletes, OfferCompletes, Wr
 ghost use Rattle.stream_util.specs.BufWriter.{GetsFurther, IfAgain, IfCountAgain, IfOfferAgain};
 ghost use Rattle.stream_util.specs.BufWriter.{fresh_writer, counts_over, writer_over};
 
-use rent_buf::{ByteList, IoBuf, IoBufMut, IoFault, IoVecBuf, IoVecBufMut, OutOfMemory, Slice};
+use rent_buf::{
+    ByteList, FixedVec, IoBuf, IoBufMut, IoFault, IoVecBuf, IoVecBufMut, OutOfMemory, Slice,
+};
 use rent_io::vectored::first_part;
 use rent_io::{AsyncBufRead, AsyncReadRent, AsyncWriteRent, PollBuf, PollCount};
 use std::alloc::Global;
@@ -364,6 +366,10 @@ impl<W: AsyncReadRent> AsyncReadRent for BufWriter<W> {
 
     fn poll_readv<T: IoVecBufMut>(&mut self, buf: T, task: u64) -> PollBuf<T> {
         self.inner.poll_readv(buf, task)
+    }
+
+    fn poll_fixed(&mut self, buf: FixedVec, task: u64) -> PollBuf<FixedVec> {
+        self.inner.poll_fixed(buf, task)
     }
 }
 

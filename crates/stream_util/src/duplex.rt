@@ -3,7 +3,7 @@ ghost use Rattle.std.specs.Prelude.{◌≡◌};
 
 use crate::split::Split;
 use cancel_core::CancelHandle;
-use rent_buf::{IoBuf, IoBufMut, IoVecBuf, IoVecBufMut};
+use rent_buf::{FixedVec, IoBuf, IoBufMut, IoVecBuf, IoVecBufMut};
 use rent_io::{
     AsyncReadRent, AsyncWriteRent, CancelableAsyncReadRent, CancelableAsyncWriteRent, PollBuf,
     PollCount,
@@ -62,6 +62,10 @@ impl<R: AsyncReadRent, W> AsyncReadRent for Duplex<R, W> {
 
     fn poll_readv<B: IoVecBufMut>(&mut self, buf: B, task: u64) -> PollBuf<B> {
         self.read.poll_readv(buf, task)
+    }
+
+    fn poll_fixed(&mut self, buf: FixedVec, task: u64) -> PollBuf<FixedVec> {
+        self.read.poll_fixed(buf, task)
     }
 }
 

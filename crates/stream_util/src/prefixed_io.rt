@@ -8,7 +8,7 @@ ghost use Rattle.stream_util.specs.PrefixedReadIo.{PrefixEnds, PrefixRule, prefi
 
 use crate::split::Split;
 use cancel_core::CancelHandle;
-use rent_buf::{IoBuf, IoBufMut, IoFault, IoVecBuf, IoVecBufMut};
+use rent_buf::{FixedVec, IoBuf, IoBufMut, IoFault, IoVecBuf, IoVecBufMut};
 use rent_io::vectored::first_room;
 use rent_io::{
     AsyncReadRent, AsyncWriteRent, ByteSource, CancelableAsyncReadRent, CancelableAsyncWriteRent,
@@ -269,6 +269,15 @@ impl<I: AsyncReadRent, P: ByteSource> AsyncReadRent for PrefixedReadIo<I, P> {
             Front::Answered(answer) => answer,
             Front::Behind(buf) => self.io.poll_readv(buf, task),
         }
+    }
+
+    /// As `poll_read` until the prefix has ended, and then a read of the stream inside.
+    #[tactic(auto, using(rent_io::proofs::Fronts::fixed_read))]
+    fn poll_fixed(&mut self, buf: FixedVec, task: u64) -> PollBuf<FixedVec> {
+        if !self.finished {
+            return self.poll_read(buf, task);
+        }
+        self.io.poll_fixed(buf, task)
     }
 }
 

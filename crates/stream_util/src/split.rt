@@ -6,7 +6,7 @@ ghost use Rattle.rent_io.specs.Polls.{TookNone};
 ghost use Rattle.stream_util.specs.Split.{Half, one_more, ShutsDown, part_in};
 
 use cancel_core::CancelHandle;
-use rent_buf::{IoBuf, IoBufMut, IoFault, IoVecBuf, IoVecBufMut};
+use rent_buf::{FixedVec, IoBuf, IoBufMut, IoFault, IoVecBuf, IoVecBufMut};
 use rent_io::{
     AsyncReadRent, AsyncWriteRent, CancelableAsyncReadRent, CancelableAsyncWriteRent, PollBuf,
     PollCount, Step,
@@ -209,8 +209,8 @@ impl<T: Split> Shutdown<T> {
     pub fn poll(self, task: u64) -> Step<Shutdown<T>, (Result<u64, IoFault>, T::Write)>
         ensures answer { ShutsDown T.Write.writer T.Write.tells task self result }
         ensures counts { AfterCall None (T.Write.writer self).counts (T.Write.writer (part_in result)).counts }
-        ensures complete { Completes (T.Write.writer self).counts (T.Write.writer (part_in result)).counts result (λ end. end.0)
-            (TookNone (T.Write.writer self).counts (T.Write.writer (part_in result)).counts) (λ next. ⊥) }
+        ensures complete { Completes (T.Write.writer self).counts (T.Write.writer (part_in result)).counts result
+            (λ end. IfErr end.0 (TookNone (T.Write.writer self).counts (T.Write.writer (part_in result)).counts)) (λ next. ⊥) }
     {
         let Shutdown { mut part } = self;
         match part.poll_shutdown(task) {
@@ -233,6 +233,10 @@ impl<T: Split> AsyncReadRent for OwnedReadHalf<T> {
 
     fn poll_readv<B: IoVecBufMut>(&mut self, buf: B, task: u64) -> PollBuf<B> {
         self.part.poll_readv(buf, task)
+    }
+
+    fn poll_fixed(&mut self, buf: FixedVec, task: u64) -> PollBuf<FixedVec> {
+        self.part.poll_fixed(buf, task)
     }
 }
 

@@ -1,0 +1,20 @@
+use Rattle.rent_io.proofs.Completeness.{number_advances}
+use Rattle.rent_io.proofs.NumberRuns.{number_more, number_none}
+use Rattle.rent_io.proofs.read_number.NumberStatePolled.laws.Goals as goal
+
+pub returns-clause-no_polls : goal.returns-clause-no_polls
+returns-clause-no_polls g c =
+    let r = g.A.AsyncReadRent.reader in
+    λ io s. number_none g.A.AsyncReadRent.tells (r io).left s
+
+pub returns-clause-one_more : goal.returns-clause-one_more
+returns-clause-one_more g c =
+    let r = g.A.AsyncReadRent.reader in
+    λ task start mid now s t step holds faults zeros.
+    number_more g.A.AsyncReadRent.tells task (r start) (r mid) (r now) g.N.Number.value s t step faults zeros
+
+pub returns-clause-advances : goal.returns-clause-advances
+returns-clause-advances g c =
+    let r = g.A.AsyncReadRent.reader in
+    λ task before now s step.
+    number_advances g.A.AsyncReadRent.tells task (r before) (r now) g.N.Number.value s step
