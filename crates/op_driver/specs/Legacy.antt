@@ -1,15 +1,19 @@
 -- What the calls of the readiness driver do, over any object: its own clauses. Cited by its `OpDriver`.
-use Rattle.std.specs.Prelude.{ℕ, ◌≡◌, ◌++◌, Bool, None, Result, Ok, Err, option_to_list}
+use Rattle.std.specs.Prelude.{ℕ, ◌≡◌, ◌↔◌, ◌++◌, Bool, true, None, Some, Result, Ok, Err, option_to_list}
 use Rattle.std.specs.FinMap as map
 use Rattle.rent_buf.specs.Buffer.{Buffer}
 use Rattle.rent_buf.specs.Parts.{Parts}
 use Rattle.rent_buf.specs.declared.fault.OutOfMemory.{OutOfMemory}
 use Rattle.ring_core.specs.declared.request.Request.{Request}
-use Rattle.driver_core.specs.Holds.{named_in, without_ops, unheld_by}
+use Rattle.handle_core.specs.declared.table.Released.{Released}
+use Rattle.handle_core.specs.declared.table.Released.TheVariants.{Last}
+use Rattle.handle_core.specs.Table.{holders_at, without_user}
+use Rattle.driver_core.specs.Holds.{is_nobody, named_in, settled, without_ops, unheld_by}
 use Rattle.driver_core.specs.Members.{leaves}
 use Rattle.driver_core.specs.declared.op.Op.{Op as Token}
 use Rattle.driver_core.specs.declared.op.PollOp.{PollOp}
 use Rattle.driver_core.specs.declared.op.SubmitError.{SubmitError}
+use Rattle.driver_core.specs.declared.op.Submitted.{Submitted}
 use Rattle.driver_core.specs.declared.op.Submitted.TheVariants.{Op}
 use Rattle.ready_driver.specs.Awaits.{BlocksUnless, IsSlotUnmet}
 use Rattle.ready_driver.specs.Calling.{Called}
@@ -17,9 +21,9 @@ use Rattle.ready_driver.specs.Errors.{FailsFor}
 use Rattle.ready_driver.specs.Io.{IoView}
 use Rattle.ready_driver.specs.LegacyCalls.{JoinsFor, SubmitRefused, waiting_task, unwaited}
 use Rattle.ready_driver.specs.LegacyPolls.{EndsFor}
-use Rattle.ready_driver.specs.LegacyState.{LegacyState, ops_in}
+use Rattle.ready_driver.specs.LegacyState.{LegacyState, SameOps, ops_in}
 use Rattle.ready_driver.specs.Named.{PollsSlotFor, canceled_slots}
-use Rattle.ready_driver.specs.Registry.{LetsGo}
+use Rattle.ready_driver.specs.Registry.{LetsGo, unheld_if}
 
 -- A submission under no group: the handles that its request names are registered, and the new operation holds them. One that is refused
 -- says why, and what it left.
@@ -27,6 +31,12 @@ abbrev pub LegacySubmits : {I B : Type 0} → (I → IoView) → Bool → Bool �
     Result Token (SubmitError B) → Type 0
 LegacySubmits view tells memory old new request (Ok op) = JoinsFor view tells memory old new request None (Op op)
 LegacySubmits view tells memory old new request (Err refused) = SubmitRefused view tells memory request old new refused
+
+-- The same under a group. Under a canceled one nothing changes, and the request comes back.
+abbrev pub LegacyJoins : {I B : Type 0} → (I → IoView) → Bool → Bool → LegacyState I B → LegacyState I B → Request B Parts → ℕ →
+    Result (Submitted B) (SubmitError B) → Type 0
+LegacyJoins view tells memory old new request group (Ok submitted) = JoinsFor view tells memory old new request (Some group) submitted
+LegacyJoins view tells memory old new request group (Err refused) = SubmitRefused view tells memory request old new refused
 
 -- A poll: what it did to the slot at the token's key, to handles and to groups, and which call it made; when it is pending, and when it
 -- ends with an error.
@@ -58,3 +68,12 @@ pub record LegacyCanceled {I B : Type 0} (old new : LegacyState I B) (op : Token
 abbrev pub LegacyCancels : {I B : Type 0} → LegacyState I B → LegacyState I B → Token → Result Unit OutOfMemory → Type 0
 LegacyCancels old new op (Ok done) = LegacyCanceled old new op
 LegacyCancels old new op (Err error) = new ≡ old
+
+-- A handle is given up: its user holds it once less, and where nobody holds it then the object was asked for its close.
+pub record LegacyCloses {I B : Type 0} (view : I → IoView) (tells memory : Bool) (old new : LegacyState I B) (fd : ℕ)
+    (answer : Released) : Type 0 where
+  pub last : answer ≡ Last ↔ is_nobody (without_user (holders_at old.handling.table fd)) ≡ true
+  pub handles : LetsGo view tells memory old.handling
+      (settled old.handling.table fd (without_user (holders_at old.handling.table fd)))
+      (unheld_if (is_nobody (without_user (holders_at old.handling.table fd))) fd) new.handling
+  pub rest : SameOps old new

@@ -1,3 +1,4 @@
 pub mod Returned
 pub mod Uring
 pub mod Legacy
+pub mod Entered

@@ -3,11 +3,13 @@ ghost use Rattle.std.specs.Prelude.{◌≡◌, ◌<◌, IsTrue, Some, IfOk, IfEr
 ghost use Rattle.ring_core.specs.Request.{named};
 ghost use Rattle.driver_core.specs.Op.{AddsToken, KeepsTokens};
 ghost use Rattle.driver_core.specs.Requests.{KeepsRequests, request_at};
-ghost use Rattle.ready_driver.specs.LegacyState.{holds_all, ops_in};
-ghost use Rattle.op_driver.specs.Legacy.{LegacySubmits, LegacyPolls, LegacyDrops, LegacyCancels};
+ghost use Rattle.ready_driver.specs.LegacyState.{group_count, holds_all, ops_in};
+ghost use Rattle.op_driver.specs.Entered.{AddsTokenIf, GivesBack};
+ghost use Rattle.op_driver.specs.Legacy.{LegacySubmits, LegacyJoins, LegacyPolls, LegacyDrops, LegacyCancels, LegacyCloses};
 
 use crate::op_driver::OpDriver;
-use driver_core::{Driver, MOST_GIVEN, Op, PollOp, SubmitError, Submitted, Turned};
+use driver_core::{CancelHandle, Driver, MOST_GIVEN, Op, PollOp, SubmitError, Submitted, Turned};
+use handle_core::{Released, SharedFd};
 use ready_driver::{LegacyDriver, NonBlock};
 use rent_buf::{IoBufMut, OutOfMemory, VecBuf};
 use ring_core::{Names, Request};
@@ -19,11 +21,17 @@ impl<I: NonBlock, B: IoBufMut + Drop> OpDriver<B> for LegacyDriver<I, B> {
 
     ghost submits = { LegacySubmits I.view I.tells I.memory };
 
+    ghost groups = { group_count };
+
+    ghost joins = { LegacyJoins I.view I.tells I.memory };
+
     ghost polls = { LegacyPolls I.files B.buffer I.called I.view I.tells I.memory };
 
     ghost drops = { LegacyDrops I.view I.tells I.memory };
 
     ghost cancels = { LegacyCancels };
+
+    ghost closes = { LegacyCloses I.view I.tells I.memory };
 
     fn holds_names(&self, names: Names) -> bool {
         self.holds_names(names)
@@ -53,6 +61,28 @@ impl<I: NonBlock, B: IoBufMut + Drop> OpDriver<B> for LegacyDriver<I, B> {
         }
     }
 
+    fn has_group(&self, group: CancelHandle) -> bool {
+        group.group() < self.groups()
+    }
+
+    fn submit_under(
+        &mut self,
+        request: Request<B, VecBuf>,
+        group: CancelHandle,
+    ) -> Result<Submitted<B>, SubmitError<B>>
+        requires held { IsTrue (holds_all self.old.handling.table (named request)) }
+        requires known { group < group_count self.old }
+        requires counter { (ops_in self.old).given < MOST_GIVEN }
+        ensures joins { LegacyJoins I.view I.tells I.memory self.old self.new request group result }
+        ensures token { IfOk result (AddsTokenIf (ops_in self.old) (ops_in self.new)) }
+        ensures request { IfOk result (GivesBack (ops_in self.new) request) }
+        ensures requests { KeepsRequests (ops_in self.old) (ops_in self.new) }
+        ensures err { IfErr result (λ refused. (refused.request ≡ request) × KeepsTokens (ops_in self.old) (ops_in self.new)) }
+        ensures given { OnErr result ((ops_in self.new).given ≡ (ops_in self.old).given) }
+    {
+        self.submit_with(request, Some(group))
+    }
+
     fn poll_op(&mut self, op: Op, task: u64) -> Result<PollOp<B>, (OutOfMemory, Op)> {
         self.poll_op(op, task)
     }
@@ -63,6 +93,10 @@ impl<I: NonBlock, B: IoBufMut + Drop> OpDriver<B> for LegacyDriver<I, B> {
 
     fn cancel_op(&mut self, op: &Op) -> Result<(), OutOfMemory> {
         self.cancel_op(op)
+    }
+
+    fn close_fd(&mut self, fd: SharedFd) -> Released {
+        self.close(fd)
     }
 
     fn turn(&mut self) -> Turned {

@@ -1,19 +1,23 @@
 //! What a program asks of a driver that isn't to matter to it.
-ghost use Rattle.std.specs.Prelude.{◌≡◌, ◌<◌, ◌↔◌, Bool, IsTrue, List, ℕ, Some, Result, IfOk, IfErr, OnErr};
+ghost use Rattle.std.specs.Prelude.{◌≡◌, ◌<◌, ◌↔◌, ◌∷◌, [], Bool, IsTrue, List, ℕ, Some, Result, IfOk, IfErr, OnErr};
 ghost use Rattle.rent_buf.specs.Parts.{Parts};
 ghost use Rattle.rent_buf.specs.declared.fault.OutOfMemory.{OutOfMemory as NoMemory};
+ghost use Rattle.handle_core.specs.declared.table.Released.{Released as Answer};
 ghost use Rattle.ring_core.specs.Request.{listed, named};
 ghost use Rattle.ring_core.specs.declared.request.Request.{Request as Asked};
 ghost use Rattle.driver_core.specs.declared.op.Op.{Op as Token};
 ghost use Rattle.driver_core.specs.declared.op.PollOp.{PollOp as Polled};
 ghost use Rattle.driver_core.specs.declared.op.SubmitError.{SubmitError as Refused};
+ghost use Rattle.driver_core.specs.declared.op.Submitted.{Submitted as Entered};
 ghost use Rattle.driver_core.specs.Op.{AddsToken, DropsToken, Holds, KeepsTokens};
 ghost use Rattle.driver_core.specs.Ops.{Ops};
 ghost use Rattle.driver_core.specs.Requests.{KeepsRequests, request_at};
 ghost use Rattle.ready_driver.specs.Awaits.{TokensFor};
+ghost use Rattle.op_driver.specs.Entered.{AddsTokenIf, GivesBack};
 ghost use Rattle.op_driver.specs.Returned.{KeepsOthers, PollsRequest};
 
-use driver_core::{Driver, MOST_GIVEN, Op, PollOp, SubmitError, Turned};
+use driver_core::{CancelHandle, Driver, MOST_GIVEN, Op, PollOp, SubmitError, Submitted, Turned};
+use handle_core::{Released, SharedFd};
 use rent_buf::{IoBufMut, OutOfMemory, VecBuf};
 use ring_core::{Names, Request};
 
@@ -30,6 +34,12 @@ pub trait OpDriver<B: IoBufMut + Drop>: Driver {
     // What a submission does: the driver before it and after it, the request, and what it answers.
     ghost submits: { Self → Self → Asked B Parts → Result Token (Refused B) → Type 0 };
 
+    // How many cancel groups were made: the handle of one is its number.
+    ghost groups: { Self → ℕ };
+
+    // What a submission under a group does: the driver before it and after it, the request, the group, and what it answers.
+    ghost joins: { Self → Self → Asked B Parts → ℕ → Result (Entered B) (Refused B) → Type 0 };
+
     // What a poll does: the driver before it and after it, the token, the task, and what it answers.
     ghost polls: { Self → Self → Token → ℕ → Result (Polled B) (NoMemory × Token) → Type 0 };
 
@@ -38,6 +48,9 @@ pub trait OpDriver<B: IoBufMut + Drop>: Driver {
 
     // What asking for a cancel does: the driver before it and after it, the token, and what it answers.
     ghost cancels: { Self → Self → Token → Result Unit NoMemory → Type 0 };
+
+    // What giving a handle up does: the driver before it and after it, the handle, and what it answers.
+    ghost closes: { Self → Self → ℕ → Answer → Type 0 };
 
     /// The user holds each of these handles, as `submit_op` asks of those that its request names.
     fn holds_names(&self, names: Names) -> bool
@@ -60,6 +73,27 @@ pub trait OpDriver<B: IoBufMut + Drop>: Driver {
         ensures submits { submits self.old self.new request result }
         ensures token { IfOk result (λ op. AddsToken (ops self.old) (ops self.new) op) }
         ensures request { IfOk result (λ op. request_at (ops self.new) op ≡ Some request) }
+        ensures requests { KeepsRequests (ops self.old) (ops self.new) }
+        ensures err { IfErr result (λ refused. (refused.request ≡ request) × KeepsTokens (ops self.old) (ops self.new)) }
+        ensures given { OnErr result ((ops self.new).given ≡ (ops self.old).given) };
+
+    /// This driver made the group of a handle, as `submit_under` asks.
+    fn has_group(&self, group: CancelHandle) -> bool
+        ensures { IsTrue result ↔ group < groups self.now };
+
+    /// Submits a request as `submit_op`, under a group that this driver made. Under a canceled group none is submitted, and the request
+    /// comes back as it was.
+    fn submit_under(
+        &mut self,
+        request: Request<B, VecBuf>,
+        group: CancelHandle,
+    ) -> Result<Submitted<B>, SubmitError<B>>
+        requires held { IsTrue (held self.old (named request)) }
+        requires known { group < groups self.old }
+        requires counter { (ops self.old).given < MOST_GIVEN }
+        ensures joins { joins self.old self.new request group result }
+        ensures token { IfOk result (AddsTokenIf (ops self.old) (ops self.new)) }
+        ensures request { IfOk result (GivesBack (ops self.new) request) }
         ensures requests { KeepsRequests (ops self.old) (ops self.new) }
         ensures err { IfErr result (λ refused. (refused.request ≡ request) × KeepsTokens (ops self.old) (ops self.new)) }
         ensures given { OnErr result ((ops self.new).given ≡ (ops self.old).given) };
@@ -88,6 +122,15 @@ pub trait OpDriver<B: IoBufMut + Drop>: Driver {
     fn cancel_op(&mut self, op: &Op) -> Result<(), OutOfMemory>
         requires { Holds (ops self.old) op.now }
         ensures cancels { cancels self.old self.new op.now result }
+        ensures tokens { KeepsTokens (ops self.old) (ops self.new) }
+        ensures requests { KeepsRequests (ops self.old) (ops self.new) }
+        ensures given { (ops self.new).given ≡ (ops self.old).given };
+
+    /// Gives a handle up that the user holds, as `close` of the drivers: it is closed once nobody holds it, and each operation that names
+    /// it holds it. Each operation stays, with its request. It takes no memory.
+    fn close_fd(&mut self, fd: SharedFd) -> Released
+        requires { IsTrue (held self.old (fd ∷ [])) }
+        ensures closes { closes self.old self.new fd result }
         ensures tokens { KeepsTokens (ops self.old) (ops self.new) }
         ensures requests { KeepsRequests (ops self.old) (ops self.new) }
         ensures given { (ops self.new).given ≡ (ops self.old).given };
