@@ -1,5 +1,5 @@
 -- What a call on one operation leaves of the others.
-use Rattle.std.proofs.Common.{◌≡◌, ap, sym, refl, subst, Option, Some, None, Ok, Err, arith}
+use Rattle.std.proofs.Common.{◌≡◌, ◌∙◌, ap, sym, refl, subst, Option, Some, None, Ok, Err, arith}
 use Rattle.std.specs.Prelude.{Result}
 use Rattle.rent_buf.specs.Parts.{Parts}
 use Rattle.rent_buf.specs.Rent.{Rented}
@@ -16,6 +16,7 @@ use Rattle.op_driver.specs.Returned.{KeepsOthers}
 use Rattle.net_stream.specs.declared.connection.Connection.{Connection}
 use Rattle.net_stream.specs.Connection.{AreApart, AreBeside, FitsConnection, KeepsBeside, KeepsOutside}
 use Rattle.net_stream.specs.Drives.{FitsOp, HoldsNoMore, HoldsOp, IsGone, IfAsked, IsOther, IsRecv, IsSend, KeepsOther}
+use Rattle.net_stream.specs.Told.{bytes_sent, in_flight}
 
 -- A submission adds an operation that is none of those that were held.
 pub submitted_other : (old new : Ops Rented) (op : Op) → AddsToken old new op → KeepsRequests old new → KeepsOther old None new (Some op)
@@ -46,6 +47,18 @@ polled_other old new op (Ok (Ready done)) tokens keeps given other held apart =
 polled_other old new op (Err error) tokens keeps given other held apart =
     let below = held.1 in
     (((tokens.1 other).0 held.0, omega (arith, below, given)), keeps other apart held.0)
+
+-- Where nothing was called each is kept.
+pub same_other : (ops : Ops Rented) (waits : Option Op) → KeepsOther ops waits ops waits
+same_other ops waits = λ other held apart. (held, refl, apart)
+
+-- Each is kept by two calls that keep it.
+pub then_other : (old mid new : Ops Rented) (waited between waits : Option Op) → KeepsOther old waited mid between
+    → KeepsOther mid between new waits → KeepsOther old waited new waits
+then_other old mid new waited between waits first second = λ other held apart.
+    let once = first other held apart in
+    let twice = second other once.0 once.2 in
+    (twice.0, twice.1 ∙ once.1, twice.2)
 
 -- A drop keeps each other operation.
 pub dropped_other : (old new : Ops Rented) (op : Op) → DropsToken old new op → KeepsRequests old new → new.given ≡ old.given
@@ -102,6 +115,7 @@ record Beside (new : Ops Rented) (now : Connection) (op : Option Op) (P : Reques
   receives : AreApart now.incoming.op op
   sends : AreApart now.outgoing.op op
 
+-- A call of one connection keeps one operation of another.
 beside_op : (old new : Ops Rented) (before now : Connection) (op : Option Op) (P : Request Rented Parts → Type 0)
     → KeepsBeside old before new now → FitsOp old op P → AreApart before.incoming.op op → AreApart before.outgoing.op op
     → Beside new now op P
@@ -126,6 +140,18 @@ beside_fits old new before now other keeps fits beside =
       record { both_receive = receive.receives; one_receives = send.receives; one_sends = receive.sends; both_send = send.sends },
     )
 
+-- It keeps the bytes that the other's send has.
+pub beside_flight : (old new : Ops Rented) (before now other : Connection) → KeepsBeside old before new now → FitsConnection old other
+    → AreBeside before other → in_flight new other.outgoing.op ≡ in_flight old other.outgoing.op
+beside_flight old new before now other keeps fits beside =
+    kept other.outgoing.op fits.sends beside.one_receives beside.both_send
+  where
+    kept : (op : Option Op) → FitsOp old op (IsSend other.fd other.outgoing.room) → AreApart before.incoming.op op
+        → AreApart before.outgoing.op op → in_flight new op ≡ in_flight old op
+    kept None fits receives sends = refl
+    kept (Some op) fits receives sends =
+        ap bytes_sent (keeps op fits.0 (is_other before.incoming.op op receives) (is_other before.outgoing.op op sends)).1
+
 -- The end of one connection keeps what another waits for.
 ended_op : (old new : Ops Rented) (ended : Connection) (op : Option Op) (P : Request Rented Parts → Type 0)
     → KeepsOutside old ended new → FitsOp old op P → AreApart ended.incoming.op op → AreApart ended.outgoing.op op → FitsOp new op P
@@ -142,6 +168,15 @@ ended_fits old new ended other keeps fits beside = record {
   sends = ended_op old new ended other.outgoing.op (IsSend other.fd other.outgoing.room) keeps fits.sends beside.one_receives beside.both_send;
   apart = fits.apart;
 }
+
+-- The end of a connection behind a call that keeps every token and every request, as the close of its handle.
+pub closed_outside : (old mid new : Ops Rented) (conn : Connection) → KeepsTokens old mid → mid.given ≡ old.given → KeepsRequests old mid
+    → KeepsOutside mid conn new → KeepsOutside old conn new
+closed_outside old mid new conn tokens given keeps outside = λ other held receives sends.
+    let below = held.1 in
+    let still = (tokens other).0 held.0 in
+    let kept = outside other (still, omega (arith, below, given)) receives sends in
+    (kept.0, kept.1 ∙ keeps other held.0 still)
 
 -- Two connections wait for no operation together, whichever is named first.
 pub beside_swaps : (one other : Connection) → AreBeside one other → AreBeside other one

@@ -36,7 +36,8 @@ use Rattle.ready_driver.specs.Calling.{Called, CallsOnce, request_in}
 use Rattle.ready_driver.specs.Io.{EndsFor as CallEndsFor, IoView, IsMoved}
 use Rattle.ready_driver.specs.LegacyPolls.{EndsFor as PollEndsFor, EndsOp, HandsOver}
 use Rattle.ready_driver.specs.LegacyState.{LegacyState, ops_in}
-use Rattle.ready_driver.specs.Named.{IsCompleted}
+use Rattle.ready_driver.specs.Named.{IsOnlyCanceled}
+use Rattle.ready_driver.proofs.Naming.{completed-only}
 use Rattle.op_driver.specs.Legacy.{LegacyPolls, LegacySubmits}
 use Rattle.op_driver.specs.Returned.{IsBackOf, PollsRequest}
 use Rattle.op_driver.proofs.Returned.{legacy_back_of}
@@ -48,10 +49,10 @@ use Rattle.net_stream.specs.declared.incoming.Polled.TheVariants.{Waits, Ended a
 use Rattle.net_stream.specs.Connection.{HasSend, LeavesSend, Prepares, SendsFor}
 use Rattle.net_stream.specs.Outbox.{Outboxed}
 use Rattle.net_stream.specs.Outgoing.{Going, PollsSend, SentOutIf, has_bytes, sent_by}
-use Rattle.net_stream.specs.Told.{IsStream, IsUncanceled, bytes_sent, in_flight, output_at, sent_at, unsent_in, world_of}
+use Rattle.net_stream.specs.Told.{IsSentTo, IsStream, bytes_sent, in_flight, output_at, sent_at, unsent_in, world_of}
 use Rattle.net_stream.proofs.Requests.{send_itself, send_stays}
-use Rattle.net_stream.proofs.Told.{Lawful, begun_world, new_asks, new_uncanceled, refused_world, same_asked, same_outcome, starved_world}
-use Rattle.net_stream.proofs.Told.{stayed_world}
+use Rattle.net_stream.proofs.Told.{EndsByCancel, Lawful, begun_world, new_asks, new_by_cancel, refused_world, same_asked, same_outcome}
+use Rattle.net_stream.proofs.Told.{starved_world, stayed_world}
 
 -- The first bytes of what a send offers are the first of its buffer.
 offered_front : (k most total : ℕ) (bytes : List ℕ) → k ≤ length (take most (take total bytes))
@@ -76,26 +77,31 @@ output_after bytes h world stream =
     ∙ (output_joined bytes stream.handle stream.kind
     ∙ ap (λ found. unwrap_or (option_map (λ handle. handle.output) found) [] ++ bytes) (sym stream.there))
 
--- What a send's call took of its buffer joined the output.
-send_told : (told : Told) (old new : List HandleState) (fd : ℕ) (buf : Rented) (outcome : Outcome) → IsStream old fd
+-- What a send's call took of its buffer joined the output of a stream.
+send_told : (told : Told) (old new : List HandleState) (fd : ℕ) (buf : Rented) (outcome : Outcome)
     → outcome ≡ (call_effect old (Send fd (buffer_of_rent buf)) told).outcome
     → new ≡ (call_effect old (Send fd (buffer_of_rent buf)) told).world
     → CallEndsFor (Send fd (buffer_of_rent buf)) (Send fd (buffer_of_rent buf)) outcome
-    → (output_at new fd ++ drop (sent_by outcome) buf.bytes ≡ output_at old fd ++ buf.bytes) × (made_by outcome ≡ None)
-send_told (told.Count k) old new fd buf outcome stream out world ends =
+    → (IsStream old fd → output_at new fd ++ drop (sent_by outcome) buf.bytes ≡ output_at old fd ++ buf.bytes)
+    × (made_by outcome ≡ None) × IsSentTo old fd new
+send_told (told.Count k) old new fd buf outcome out world ends =
     let counts = subst (CallEndsFor (Send fd (buffer_of_rent buf)) (Send fd (buffer_of_rent buf))) out ends in
     let front : take k (sent_of (Send fd (buffer_of_rent buf))) ≡ take k buf.bytes = offered_front k MOST_ASKED buf.total buf.bytes
     counts.0 in (
-      ap (λ o. output_at new fd ++ drop (sent_by o) buf.bytes) out
+      λ stream. ap (λ o. output_at new fd ++ drop (sent_by o) buf.bytes) out
           ∙ (ap (λ w. output_at w fd ++ drop k buf.bytes) world
           ∙ (ap (λ bs. bs ++ drop k buf.bytes) (output_after (take k (sent_of (Send fd (buffer_of_rent buf)))) fd old stream)
           ∙ (ap (λ bs. (output_at old fd ++ bs) ++ drop k buf.bytes) front
           ∙ (append_assoc (output_at old fd) (take k buf.bytes) (drop k buf.bytes)
           ∙ ap (λ bs. output_at old fd ++ bs) (take-append-drop k buf.bytes))))),
       ap made_by out,
+      inr (take k (sent_of (Send fd (buffer_of_rent buf))), world),
     )
-send_told (told.Fail e) old new fd buf outcome stream out world ends =
-    (ap (λ o. output_at new fd ++ drop (sent_by o) buf.bytes) out ∙ ap (λ w. output_at w fd ++ buf.bytes) world, ap made_by out)
+send_told (told.Fail e) old new fd buf outcome out world ends = (
+  λ stream. ap (λ o. output_at new fd ++ drop (sent_by o) buf.bytes) out ∙ ap (λ w. output_at w fd ++ buf.bytes) world,
+  ap made_by out,
+  inl world,
+)
 
 -- The operation that waits, if one does, is a send to a handle.
 abbrev AsksSend : Ops Rented → Option Op → ℕ → ℕ → Type 0
@@ -136,16 +142,22 @@ prepared_op before going outbox (inr loads) = ap (λ g. g.op) loads.2.taken
 
 module _ {I : Type 0} (view : I → IoView) (tells memory : Bool) (files : I → ℕ → Bool) (called : Called I)
     (law : Lawful view tells memory called) where
-  -- What a send's call took, of an operation that wasn't completed.
+  -- What a send's call took: one that was canceled made none.
   call_went : (b : Bool) (slot new : Option (Slot Rented)) (before after : I) (fd : ℕ) (buf : Rented) (request : Request Rented Parts)
-      (outcome : Outcome) → IsTrue tells → IsStream (view before).world fd
-      → ((o : Outcome) → IsCompleted slot o → ⊥) → request_in slot ≡ Some (Send fd buf) → request ≡ Send fd buf
+      (outcome : Outcome) → IsTrue tells → IsOnlyCanceled slot → request_in slot ≡ Some (Send fd buf) → request ≡ Send fd buf
       → CallsOnce b buffer_of_rent called slot before new after (Ok (Ready (record { outcome = outcome; request = request })))
-      → (output_at (view after).world fd ++ drop (sent_by outcome) buf.bytes ≡ output_at (view before).world fd ++ buf.bytes)
-      × (made_by outcome ≡ None)
-  call_went false slot new before after fd buf request outcome t stream flies asks is calls = absurd calls
-  call_went true slot new before after fd buf request outcome t stream flies asks is (inl none) = absurd (flies outcome none.1)
-  call_went true slot new before after fd buf request outcome t stream flies asks is (inr made) =
+      → (IsStream (view before).world fd
+      → output_at (view after).world fd ++ drop (sent_by outcome) buf.bytes ≡ output_at (view before).world fd ++ buf.bytes)
+      × (made_by outcome ≡ None) × IsSentTo (view before).world fd (view after).world
+  call_went false slot new before after fd buf request outcome t only asks is calls = absurd calls
+  call_went true slot new before after fd buf request outcome t only asks is (inl none) =
+      let out = completed-only slot outcome only none.1 in (
+        λ stream. ap (λ o. output_at (view after).world fd ++ drop (sent_by o) buf.bytes) out
+            ∙ ap (λ io. output_at (view io).world fd ++ buf.bytes) none.0,
+        ap made_by out,
+        inl (ap (λ io. (view io).world) none.0),
+      )
+  call_went true slot new before after fd buf request outcome t only asks is (inr made) =
       let same : Some made.request ≡ Some (Send fd buf) = sym made.asked ∙ asks in
       let from : made.request ≡ Send fd buf = cc in
       let does = law before (plain_request buffer_of_rent made.request) after (plain_request buffer_of_rent request)
@@ -159,26 +171,29 @@ module _ {I : Type 0} (view : I → IoView) (tells memory : Bool) (files : I →
       let ends : CallEndsFor (Send fd (buffer_of_rent buf)) (Send fd (buffer_of_rent buf)) outcome =
       subst (λ now. CallEndsFor (Send fd (buffer_of_rent buf)) (plain_request buffer_of_rent now) outcome) is
       (subst (λ asked. CallEndsFor (plain_request buffer_of_rent asked) (plain_request buffer_of_rent request) outcome) from does.ends) in
-      send_told moved.told (view before).world (view after).world fd buf outcome stream moved.outcome_is moved.world ends
+      send_told moved.told (view before).world (view after).world fd buf outcome moved.outcome_is moved.world ends
 
   -- A poll that returned a send: what it took is what joined the output.
   ended_went : (old new : LegacyState I Rented) (op : Op) (task fd : ℕ) (done : Ended Rented) (buf : Rented) → IsTrue tells
-      → IsStream (world_of view old) fd
-      → EndsOp files buffer_of_rent called view tells memory old new op task done → IsUncanceled (ops_in old) (Some op)
+      → EndsOp files buffer_of_rent called view tells memory old new op task done → EndsByCancel (ops_in old) (Some op)
       → request_at (ops_in old) op ≡ Some (Send fd buf) → done.request ≡ Send fd buf
-      → sent_at view new fd ++ drop (sent_by done.outcome) buf.bytes ≡ sent_at view old fd ++ buf.bytes
-  ended_went old new op task fd done buf t stream ends flies asks is =
+      → (IsStream (world_of view old) fd
+      → sent_at view new fd ++ drop (sent_by done.outcome) buf.bytes ≡ sent_at view old fd ++ buf.bytes)
+      × IsSentTo (world_of view old) fd (world_of view new)
+  ended_went old new op task fd done buf t ends only asks is =
       let moved = call_went (is_met_at old.handling.records (unless (files old.handling.io) (slot_awaits
       (map.get old.slots.values op.key))))
       (map.get old.slots.values op.key) (map.get new.slots.values op.key) old.handling.io ends.mid.io fd buf done.request ends.call t
-      stream flies
+      only
       (sym (same_asked (map.get old.slots.values op.key)) ∙ asks) is ends.calls in
       let out : done.outcome ≡ ends.call = ends.outcome ∙ same_outcome ends.mid.table ends.call moved.1 in
       let unmade : made_by done.outcome ≡ None = ap made_by out ∙ moved.1 in
       let handed : ends.handed ≡ ends.mid = subst (λ m. HandsOver view tells memory ends.mid m ends.handed) unmade ends.hands in
-      let world : (view new.handling.io).world ≡ (view ends.mid.io).world = ends.lets.object.world t ∙ ap (λ h. (view h.io).world) handed in
-      ap (λ o. sent_at view new fd ++ drop (sent_by o) buf.bytes) out
-      ∙ (ap (λ w. output_at w fd ++ drop (sent_by ends.call) buf.bytes) world ∙ moved.0)
+      let world : (view new.handling.io).world ≡ (view ends.mid.io).world = ends.lets.object.world t ∙ ap (λ h. (view h.io).world) handed in (
+        λ stream. ap (λ o. sent_at view new fd ++ drop (sent_by o) buf.bytes) out
+            ∙ (ap (λ w. output_at w fd ++ drop (sent_by ends.call) buf.bytes) world ∙ moved.0 stream),
+        subst (λ w. IsSentTo (world_of view old) fd w) (sym world) moved.2,
+      )
 
   -- A send that waits on has its bytes.
   kept_flight : (old new : LegacyState I Rented) (op : Op) (task fd total : ℕ) (result : Result (PollOp Rented) (NoMemory × Op))
@@ -202,62 +217,71 @@ module _ {I : Type 0} (view : I → IoView) (tells memory : Bool) (files : I →
 
   -- A poll of the send that waits: what it took is what joined the output, in front of more.
   polled_went : (old new : LegacyState I Rented) (fd task : ℕ) (before now : Going) (more : List ℕ) (came_to : Polled)
-      (fault : Option IoFault) → IsTrue tells → IsStream (world_of view old) fd
+      (fault : Option IoFault) → IsTrue tells
       → PollsSend ops_in (LegacyPolls files buffer_of_rent called view tells memory) old new fd before now task came_to fault
-      → SentOutIf before.op before.unsent → IsUncanceled (ops_in old) before.op → AsksSend (ops_in old) before.op fd before.room
-      → sent_at view new fd ++ going_with (ops_in new) now more ≡ sent_at view old fd ++ going_with (ops_in old) before more
-  polled_went old new fd task before now more Waits fault t stream polls out flies asks =
-      stayed_went old new fd before now more polls.0.same
-      (stayed_world view tells memory files called law old new polls.0.op polls.0.op task t polls.0.polled.ends)
-      (subst (λ o. in_flight (ops_in new) o ≡ in_flight (ops_in old) o) (sym polls.0.waited)
-      (kept_flight old new polls.0.op task fd before.room (Ok (Pending polls.0.op)) polls.0.polled.ends (λ p. p)
-      (subst (λ o. AsksSend (ops_in old) o fd before.room) polls.0.waited asks)))
-  polled_went old new fd task before now more HasEnded fault t stream polls out flies asks =
-      let went = ended_went old new polls.op task fd polls.done polls.buf t stream polls.polled.ends
-      (subst (IsUncanceled (ops_in old)) polls.waited flies) polls.asked polls.request in
+      → SentOutIf before.op before.unsent → EndsByCancel (ops_in old) before.op → AsksSend (ops_in old) before.op fd before.room
+      → (IsStream (world_of view old) fd
+      → sent_at view new fd ++ going_with (ops_in new) now more ≡ sent_at view old fd ++ going_with (ops_in old) before more)
+      × IsSentTo (world_of view old) fd (world_of view new)
+  polled_went old new fd task before now more Waits fault t polls out only asks =
+      let world = stayed_world view tells memory files called law old new polls.0.op polls.0.op task t polls.0.polled.ends in (
+        λ stream. stayed_went old new fd before now more polls.0.same world
+            (subst (λ o. in_flight (ops_in new) o ≡ in_flight (ops_in old) o) (sym polls.0.waited)
+            (kept_flight old new polls.0.op task fd before.room (Ok (Pending polls.0.op)) polls.0.polled.ends (λ p. p)
+            (subst (λ o. AsksSend (ops_in old) o fd before.room) polls.0.waited asks))),
+        inl world,
+      )
+  polled_went old new fd task before now more HasEnded fault t polls out only asks =
+      let went = ended_went old new polls.op task fd polls.done polls.buf t polls.polled.ends
+      (subst (EndsByCancel (ops_in old)) polls.waited only) polls.asked polls.request in
       let none : before.unsent ≡ [] = subst (λ o. SentOutIf o before.unsent) polls.waited out in
       let flight : in_flight (ops_in old) before.op ≡ polls.buf.bytes =
       ap (in_flight (ops_in old)) polls.waited ∙ ap bytes_sent polls.asked in
       let had : going_with (ops_in old) before more ≡ polls.buf.bytes ++ more =
-      ap (λ bs. bs ++ (before.unsent ++ more)) flight ∙ ap (λ bs. polls.buf.bytes ++ (bs ++ more)) none in
-      ap (λ g. sent_at view new fd ++ going_with (ops_in new) g more) polls.now_is
-      ∙ (sym (append_assoc (sent_at view new fd) (drop (sent_by polls.done.outcome) polls.buf.bytes) more)
-      ∙ (ap (λ bs. bs ++ more) went
-      ∙ (append_assoc (sent_at view old fd) polls.buf.bytes more
-      ∙ ap (λ bs. sent_at view old fd ++ bs) (sym had))))
-  polled_went old new fd task before now more NoRoom fault t stream polls out flies asks =
-      stayed_went old new fd before now more polls.1.same
-      (starved_world view tells memory files called law old new polls.1.op (polls.0, polls.1.op) task t polls.1.polled.ends)
-      (subst (λ o. in_flight (ops_in new) o ≡ in_flight (ops_in old) o) (sym polls.1.waited)
-      (kept_flight old new polls.1.op task fd before.room (Err (polls.0, polls.1.op)) polls.1.polled.ends (λ p. p)
-      (subst (λ o. AsksSend (ops_in old) o fd before.room) polls.1.waited asks)))
+      ap (λ bs. bs ++ (before.unsent ++ more)) flight ∙ ap (λ bs. polls.buf.bytes ++ (bs ++ more)) none in (
+        λ stream. ap (λ g. sent_at view new fd ++ going_with (ops_in new) g more) polls.now_is
+            ∙ (sym (append_assoc (sent_at view new fd) (drop (sent_by polls.done.outcome) polls.buf.bytes) more)
+            ∙ (ap (λ bs. bs ++ more) (went.0 stream)
+            ∙ (append_assoc (sent_at view old fd) polls.buf.bytes more
+            ∙ ap (λ bs. sent_at view old fd ++ bs) (sym had)))),
+        went.1,
+      )
+  polled_went old new fd task before now more NoRoom fault t polls out only asks =
+      let world = starved_world view tells memory files called law old new polls.1.op (polls.0, polls.1.op) task t
+      polls.1.polled.ends in (
+        λ stream. stayed_went old new fd before now more polls.1.same world
+            (subst (λ o. in_flight (ops_in new) o ≡ in_flight (ops_in old) o) (sym polls.1.waited)
+            (kept_flight old new polls.1.op task fd before.room (Err (polls.0, polls.1.op)) polls.1.polled.ends (λ p. p)
+            (subst (λ o. AsksSend (ops_in old) o fd before.room) polls.1.waited asks))),
+        inl world,
+      )
 
-  -- The send that waits before the poll: no byte is lost by it, no handle has changed, it isn't completed, and it is one.
+  -- The send that waits before the poll: no byte is lost by it, no handle has changed, only a cancel ended it, and it is one.
   record Sending (old mid : LegacyState I Rented) (before : Connection) (between : Going) (outbox : Outboxed) : Type 0 where
     same : going_with (ops_in mid) between outbox.unsent ≡ unsent_in (ops_in old) before
     out : SentOutIf between.op between.unsent
     world : world_of view mid ≡ world_of view old
-    flies : IsUncanceled (ops_in mid) between.op
+    only : EndsByCancel (ops_in mid) between.op
     asks : AsksSend (ops_in mid) between.op before.fd between.room
 
   has_sending : (old mid : LegacyState I Rented) (before : Connection) (between : Going) (outbox : Outboxed) (waited : Option Op)
       → before.outgoing.op ≡ waited → IsTrue tells
       → HasSend (LegacySubmits view tells memory) old mid before between outbox waited → SentOutIf before.outgoing.op before.outgoing.unsent
-      → IsUncanceled (ops_in old) before.outgoing.op → FitsOp (ops_in old) before.outgoing.op (IsSend before.fd before.outgoing.room)
+      → EndsByCancel (ops_in old) before.outgoing.op → FitsOp (ops_in old) before.outgoing.op (IsSend before.fd before.outgoing.room)
       → Sending old mid before between outbox
-  has_sending old mid before between outbox (Some op) is t has out flies fits = record {
+  has_sending old mid before between outbox (Some op) is t has out only fits = record {
     same = ap (λ g. going_with (ops_in mid) g outbox.unsent) has.1
         ∙ (ap (λ b. going_with (ops_in mid) before.outgoing b.unsent) has.2
         ∙ ap (λ d. going_with (ops_in d) before.outgoing before.outbox.unsent) has.0);
     out = subst (λ g. SentOutIf g.op g.unsent) (sym has.1) out;
     world = ap (world_of view) has.0;
-    flies = subst (λ g. IsUncanceled (ops_in mid) g.op) (sym has.1) (subst (λ d. IsUncanceled (ops_in d) before.outgoing.op)
-        (sym has.0) flies);
+    only = subst (λ g. EndsByCancel (ops_in mid) g.op) (sym has.1) (subst (λ d. EndsByCancel (ops_in d) before.outgoing.op)
+        (sym has.0) only);
     asks = subst (λ g. AsksSend (ops_in mid) g.op before.fd g.room) (sym has.1)
         (subst (λ d. AsksSend (ops_in d) before.outgoing.op before.fd before.outgoing.room) (sym has.0)
         (fits_asks (ops_in old) before.outgoing.op before.fd before.outgoing.room fits));
   }
-  has_sending old mid before between outbox None is t has out flies fits =
+  has_sending old mid before between outbox None is t has out only fits =
       let begun = has.begun in
       let request : Request Rented Parts = Send before.fd (record { bytes = has.going.unsent; total = has.going.room }) in
       let asked : request_at (ops_in mid) begun.op ≡ Some request = new_asks (ops_in old)
@@ -269,8 +293,8 @@ module _ {I : Type 0} (view : I → IoView) (tells memory : Bool) (files : I →
             ∙ ap (λ o. in_flight (ops_in old) o ++ (before.outgoing.unsent ++ before.outbox.unsent)) (sym is)));
         out = subst (λ g. SentOutIf g.op g.unsent) (sym begun.now_is) refl;
         world = begun_world view tells memory files called law old mid request begun.op t begun.submitted;
-        flies = subst (λ g. IsUncanceled (ops_in mid) g.op) (sym begun.now_is)
-            (new_uncanceled (ops_in old) (ops_in mid) request begun.op begun.submitted.slots);
+        only = subst (λ g. EndsByCancel (ops_in mid) g.op) (sym begun.now_is)
+            (new_by_cancel (ops_in old) (ops_in mid) request begun.op begun.submitted.slots);
         asks = subst (λ g. AsksSend (ops_in mid) g.op before.fd g.room) (sym begun.now_is)
             (subst (λ o. IfAsked o (IsSend before.fd has.going.room)) (sym asked) (refl, refl));
       }
@@ -283,41 +307,48 @@ module _ {I : Type 0} (view : I → IoView) (tells memory : Bool) (files : I →
   left_unsent ops HasEnded after outbox fault before now result leaves = ap (unsent_in ops) leaves.1
   left_unsent ops NoRoom after outbox fault before now result leaves = ap (unsent_in ops) leaves.1
 
-  -- A send loses no byte, and moves none but to the output.
+  -- A send to a stream loses no byte, and moves none but to the output. Of the handles only its own has changed, by what was sent.
   pub sends_went : (old new : LegacyState I Rented) (task : ℕ) (before now : Connection) (result : Result Progress SubmitFault)
       → SendsFor ops_in (LegacySubmits view tells memory) (LegacyPolls files buffer_of_rent called view tells memory) old new before now
       task
       result
-      → SentOutIf before.outgoing.op before.outgoing.unsent → IsUncanceled (ops_in old) before.outgoing.op
+      → SentOutIf before.outgoing.op before.outgoing.unsent → EndsByCancel (ops_in old) before.outgoing.op
       → FitsOp (ops_in old) before.outgoing.op (IsSend before.fd before.outgoing.room) → IsTrue tells
-      → IsStream (world_of view old) before.fd
-      → sent_at view new before.fd ++ unsent_in (ops_in new) now ≡ sent_at view old before.fd ++ unsent_in (ops_in old) before
-  sends_went old new task before now result (inl r) out flies fits t stream =
-      let w = has_sending old r.mid before r.between.outgoing r.between.outbox before.outgoing.op refl t r.has out flies fits in
+      → (IsStream (world_of view old) before.fd
+      → sent_at view new before.fd ++ unsent_in (ops_in new) now ≡ sent_at view old before.fd ++ unsent_in (ops_in old) before)
+      × IsSentTo (world_of view old) before.fd (world_of view new)
+  sends_went old new task before now result (inl r) out only fits t =
+      let w = has_sending old r.mid before r.between.outgoing r.between.outbox before.outgoing.op refl t r.has out only fits in
       let number : r.between.fd ≡ before.fd = ap (λ c. c.fd) r.same in
       let polls = subst (λ h. PollsSend ops_in (LegacyPolls files buffer_of_rent called view tells memory) r.mid new h r.between.outgoing
       r.polls_it.after task r.polls_it.came_to r.polls_it.fault) number r.polls_it.polls_it in
-      ap (λ bs. sent_at view new before.fd ++ bs)
-      (left_unsent (ops_in new) r.polls_it.came_to r.polls_it.after r.between.outbox r.polls_it.fault r.between now result
-      r.polls_it.leaves)
-      ∙ (polled_went r.mid new before.fd task r.between.outgoing r.polls_it.after r.between.outbox.unsent r.polls_it.came_to
-      r.polls_it.fault t
-      (subst (λ ws. IsStream ws before.fd) (sym w.world) stream) polls w.out w.flies w.asks
-      ∙ (ap (λ ws. output_at ws before.fd ++ going_with (ops_in r.mid) r.between.outgoing r.between.outbox.unsent) w.world
-      ∙ ap (λ bs. sent_at view old before.fd ++ bs) w.same))
-  sends_went old new task before now result (inr (inl r)) out flies fits t stream =
-      ap (λ c. sent_at view new before.fd ++ unsent_in (ops_in new) c) r.1
-      ∙ ap (λ d. sent_at view d before.fd ++ unsent_in (ops_in d) before) r.0
-  sends_went old new task before now result (inr (inr r)) out flies fits t stream =
+      let polled = polled_went r.mid new before.fd task r.between.outgoing r.polls_it.after r.between.outbox.unsent r.polls_it.came_to
+      r.polls_it.fault t polls w.out w.only w.asks in (
+        λ stream. ap (λ bs. sent_at view new before.fd ++ bs)
+            (left_unsent (ops_in new) r.polls_it.came_to r.polls_it.after r.between.outbox r.polls_it.fault r.between now result
+            r.polls_it.leaves)
+            ∙ (polled.0 (subst (λ ws. IsStream ws before.fd) (sym w.world) stream)
+            ∙ (ap (λ ws. output_at ws before.fd ++ going_with (ops_in r.mid) r.between.outgoing r.between.outbox.unsent) w.world
+            ∙ ap (λ bs. sent_at view old before.fd ++ bs) w.same)),
+        subst (λ ws. IsSentTo ws before.fd (world_of view new)) w.world polled.1,
+      )
+  sends_went old new task before now result (inr (inl r)) out only fits t = (
+    λ stream. ap (λ c. sent_at view new before.fd ++ unsent_in (ops_in new) c) r.1
+        ∙ ap (λ d. sent_at view d before.fd ++ unsent_in (ops_in d) before) r.0,
+    inl (ap (world_of view) r.0),
+  )
+  sends_went old new task before now result (inr (inr r)) out only fits t =
       let refused = r.2 in
       let gone : before.outgoing.op ≡ None = refused.idle in
-      ap (λ c. sent_at view new before.fd ++ unsent_in (ops_in new) c) refused.now_is
-      ∙ (ap (λ ws. output_at ws before.fd ++ going_with (ops_in new) refused.going refused.outbox.unsent)
-      (refused_world view tells memory files called law old new
+      let world = refused_world view tells memory files called law old new
       (Send before.fd (record { bytes = refused.going.unsent; total = refused.going.room })) refused.refused.refused t
-      refused.refused.submitted)
-      ∙ (ap (λ o. sent_at view old before.fd ++ (in_flight (ops_in new) o ++ (refused.going.unsent ++ refused.outbox.unsent)))
-      (prepared_op before refused.going refused.outbox refused.prepares ∙ gone)
-      ∙ (ap (λ bs. sent_at view old before.fd ++ bs) (prepared before refused.going refused.outbox refused.prepares)
-      ∙ ap (λ o. sent_at view old before.fd ++ (in_flight (ops_in old) o ++ (before.outgoing.unsent ++ before.outbox.unsent)))
-      (sym gone))))
+      refused.refused.submitted in (
+        λ stream. ap (λ c. sent_at view new before.fd ++ unsent_in (ops_in new) c) refused.now_is
+            ∙ (ap (λ ws. output_at ws before.fd ++ going_with (ops_in new) refused.going refused.outbox.unsent) world
+            ∙ (ap (λ o. sent_at view old before.fd ++ (in_flight (ops_in new) o ++ (refused.going.unsent ++ refused.outbox.unsent)))
+            (prepared_op before refused.going refused.outbox refused.prepares ∙ gone)
+            ∙ (ap (λ bs. sent_at view old before.fd ++ bs) (prepared before refused.going refused.outbox refused.prepares)
+            ∙ ap (λ o. sent_at view old before.fd ++ (in_flight (ops_in old) o ++ (before.outgoing.unsent ++ before.outbox.unsent)))
+            (sym gone)))),
+        inl world,
+      )

@@ -2,6 +2,9 @@
 use Rattle.std.specs.Prelude.{ℕ, ◌≡◌, ◌≢◌, ◌⊎◌, Bool, true, false, Option, None, Some, Result, Ok, Err}
 use Rattle.rent_buf.specs.Rent.{Rented}
 use Rattle.rent_buf.specs.declared.fault.IoFault.{IoFault}
+use Rattle.rent_buf.specs.declared.fault.IoFault.TheVariants.{Os}
+use Rattle.ring_core.specs.declared.request.TheConstants.{CANCELED}
+use Rattle.handle_core.specs.declared.table.Released.{Released}
 use Rattle.driver_core.specs.declared.op.Op.{Op}
 use Rattle.driver_core.specs.declared.op.SubmitFault.{SubmitFault}
 use Rattle.driver_core.specs.declared.op.SubmitFault.TheVariants as refused
@@ -12,11 +15,11 @@ use Rattle.net_stream.specs.declared.incoming.Polled.{Polled}
 use Rattle.net_stream.specs.declared.incoming.Polled.TheVariants as polled
 use Rattle.net_stream.specs.declared.progress.Progress.{Progress}
 use Rattle.net_stream.specs.declared.progress.Progress.TheVariants.{Idle, Waits, Moved}
-use Rattle.net_stream.specs.Drives.{FitsOp, HoldsOp, IsOther, IsRecv, IsSend, Submission, Polling}
+use Rattle.net_stream.specs.Drives.{DropsFor, FitsOp, HoldsOp, IsOther, IsRecv, IsSend, Joining, Polling, Submission, under}
 use Rattle.net_stream.specs.Inbox.{Inboxed, WantsMore, fresh_inbox}
-use Rattle.net_stream.specs.Incoming.{BegunReceive, Coming, Gives, PollsReceive, RefusedReceive, idle_coming}
-use Rattle.net_stream.specs.Outbox.{Outboxed, WantsSent, fresh_outbox, has_failed}
-use Rattle.net_stream.specs.Outgoing.{BegunSend, Going, Loads, PollsSend, RefusedSend, has_bytes, idle_going}
+use Rattle.net_stream.specs.Incoming.{BegunReceive, CanceledReceive, Coming, Gives, PollsReceive, RefusedReceive, idle_coming}
+use Rattle.net_stream.specs.Outbox.{Outboxed, WantsSent, fresh_outbox, has_failed, later_fault}
+use Rattle.net_stream.specs.Outgoing.{BegunSend, CanceledSend, Going, Loads, PollsSend, RefusedSend, has_bytes, idle_going}
 
 -- A connection of a handle that waits for nothing, with so much room in each direction.
 abbrev pub fresh_connection : ℕ → ℕ → Connection
@@ -106,6 +109,21 @@ abbrev pub ReceivesFor : {D : Type 0} → Submission D → Polling D → D → D
 ReceivesFor submits polls old new before now task result =
     Receives submits polls old new before now task result ⊎ ReceivesNone submits old new before now result
 
+-- A receive under a group that is canceled: none was submitted, and the inbox answers that once.
+pub record ReceivesCanceled {D : Type 0} (joins : Joining D) (old new : D) (before now : Connection) (group : ℕ)
+    (result : Result Progress SubmitFault) : Type 0 where
+  pub wants : WantsMore before.inbox
+  pub idle : before.incoming ≡ idle_coming
+  pub canceled : CanceledReceive joins old new before.fd group now.incoming
+  pub now_is : now ≡ record before { inbox = record before.inbox { fault = Some (Os CANCELED) } }
+  pub moved : result ≡ Ok Moved
+
+-- What a receive under a group did.
+abbrev pub ReceivesUnder : {D : Type 0} → Joining D → Polling D → D → D → Connection → Connection → ℕ → ℕ → Result Progress SubmitFault
+    → Type 0
+ReceivesUnder joins polls old new before now group task result =
+    ReceivesFor (under joins group) polls old new before now task result ⊎ ReceivesCanceled joins old new before now group result
+
 -- Of a connection only what goes has changed.
 abbrev pub OnlyGoes : Connection → Connection → Type 0
 OnlyGoes before now = now ≡ record before { outbox = now.outbox; outgoing = now.outgoing }
@@ -156,6 +174,25 @@ HasSendFor submits old mid before now (Ok true) = HasSend submits old mid before
 HasSendFor submits old mid before now (Ok false) = (mid ≡ old) × (now ≡ before) × WantsNone before
 HasSendFor submits old mid before now (Err why) = RefusedNext submits old mid before now why
 
+-- A send under a group that is canceled: none was submitted, what it was to have is the next one's, and the outbox answers that once.
+pub record CanceledNext {D : Type 0} (joins : Joining D) (old new : D) (before now : Connection) (group : ℕ) : Type 0 where
+  pub idle : before.outgoing.op ≡ None
+  pub none : has_failed before.outbox.fault ≡ false
+  pub going : Going
+  pub outbox : Outboxed
+  pub prepares : Prepares before going outbox
+  pub canceled : CanceledSend joins old new before.fd group going now.outgoing
+  pub now_is : now ≡ record before {
+    outgoing = going;
+    outbox = record outbox { sending = has_bytes going.unsent; fault = Some (Os CANCELED) };
+  }
+
+-- Whether a send waits, where its submission is under a group.
+abbrev pub HasSendUnder : {D : Type 0} → Joining D → D → D → Connection → Connection → ℕ → Result (Option Bool) SubmitFault → Type 0
+HasSendUnder joins old mid before now group (Ok (Some waits)) = HasSendFor (under joins group) old mid before now (Ok waits)
+HasSendUnder joins old mid before now group (Ok None) = CanceledNext joins old mid before now group
+HasSendUnder joins old mid before now group (Err why) = HasSendFor (under joins group) old mid before now (Err why)
+
 -- What a send leaves, by what its poll came to. The outbox knows whether some bytes are left, and the fault.
 abbrev pub LeavesSend : Polled → Going → Outboxed → Option IoFault → Connection → Connection → Result Progress SubmitFault → Type 0
 LeavesSend polled.Waits after outbox fault before now result =
@@ -163,7 +200,7 @@ LeavesSend polled.Waits after outbox fault before now result =
 LeavesSend polled.OutOfMemory after outbox fault before now result =
     (result ≡ Err refused.OutOfMemory) × (now ≡ record before { outgoing = after; outbox = outbox })
 LeavesSend polled.Ended after outbox fault before now result = (result ≡ Ok Moved)
-    × (now ≡ record before { outgoing = after; outbox = record outbox { sending = has_bytes after.unsent; fault = fault } })
+    × (now ≡ record before { outgoing = after; outbox = record outbox { sending = has_bytes after.unsent; fault = later_fault fault outbox.fault } })
 
 -- The send that waits was polled, and left this.
 pub record PollsSendFor {D : Type 0} (ops : D → Ops Rented) (polls : Polling D) (mid new : D) (before now : Connection) (task : ℕ)
@@ -194,3 +231,25 @@ abbrev pub SendsFor : {D : Type 0} → (D → Ops Rented) → Submission D → P
     Result Progress SubmitFault → Type 0
 SendsFor ops submits polls old new before now task result =
     Sends ops submits polls old new before now task result ⊎ SendsNone submits old new before now result
+
+-- What a send under a group did.
+abbrev pub SendsUnder : {D : Type 0} → (D → Ops Rented) → Joining D → Polling D → D → D → Connection → Connection → ℕ → ℕ →
+    Result Progress SubmitFault → Type 0
+SendsUnder ops joins polls old new before now group task result =
+    SendsFor ops (under joins group) polls old new before now task result
+    ⊎ (CanceledNext joins old new before now group × (result ≡ Ok Moved))
+
+-- What waited was dropped: the receive, and then the send.
+pub record EndsFor {D : Type 0} (drops : D → D → Op → Type 0) (old new : D) (conn : Connection) : Type 0 where
+  pub mid : D
+  pub receive : DropsFor drops old mid conn.incoming.op
+  pub send : DropsFor drops mid new conn.outgoing.op
+
+-- The handle was given up, and then what waited was dropped.
+pub record Closes {D : Type 0} (closes : D → D → ℕ → Released → Type 0) (drops : D → D → Op → Type 0) (old new : D) (conn : Connection)
+    : Type 0
+  where
+    pub mid : D
+    pub answer : Released
+    pub closed : closes old mid conn.fd answer
+    pub ends : EndsFor drops mid new conn

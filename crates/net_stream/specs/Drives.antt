@@ -1,5 +1,5 @@
 -- What a connection asks of its driver, and what becomes of its bytes by the answer.
-use Rattle.std.specs.Prelude.{ℕ, ◌≡◌, ◌≢◌, ◌<◌, Option, None, Some, Result}
+use Rattle.std.specs.Prelude.{ℕ, ◌≡◌, ◌≢◌, ◌<◌, Option, None, Some, Result, Ok, Err}
 use Rattle.rent_buf.specs.Parts.{Parts}
 use Rattle.rent_buf.specs.Rent.{Rented}
 use Rattle.rent_buf.specs.declared.fault.OutOfMemory.{OutOfMemory as NoMemory}
@@ -8,6 +8,8 @@ use Rattle.ring_core.specs.declared.request.Request.TheVariants.{Recv, Send}
 use Rattle.driver_core.specs.declared.op.Op.{Op}
 use Rattle.driver_core.specs.declared.op.PollOp.{PollOp}
 use Rattle.driver_core.specs.declared.op.SubmitError.{SubmitError}
+use Rattle.driver_core.specs.declared.op.Submitted.{Submitted}
+use Rattle.driver_core.specs.declared.op.Submitted.TheVariants as submitted
 use Rattle.driver_core.specs.Op.{Holds, number_of}
 use Rattle.driver_core.specs.Ops.{Ops}
 use Rattle.driver_core.specs.Requests.{request_at}
@@ -18,6 +20,18 @@ Submission D = D → D → Request Rented Parts → Result Op (SubmitError Rente
 
 abbrev pub Polling : Type 0 → Type 1
 Polling D = D → D → Op → ℕ → Result (PollOp Rented) (NoMemory × Op) → Type 0
+
+-- A driver's submission under a group: the same, with the group.
+abbrev pub Joining : Type 0 → Type 1
+Joining D = D → D → Request Rented Parts → ℕ → Result (Submitted Rented) (SubmitError Rented) → Type 0
+
+-- A submission under a group that isn't canceled, as a submission.
+abbrev pub entered : Result Op (SubmitError Rented) → Result (Submitted Rented) (SubmitError Rented)
+entered (Ok op) = Ok (submitted.Op op)
+entered (Err refused) = Err refused
+
+abbrev pub under : {D : Type 0} → Joining D → ℕ → Submission D
+under joins group old new request result = joins old new request group (entered result)
 
 -- The driver holds an operation, one of those that were submitted.
 abbrev pub HoldsOp : Ops Rented → Op → Type 0
@@ -57,6 +71,11 @@ KeepsOther old waited new waits = (other : Op) → HoldsOp old other → IsOther
 abbrev pub IsHeldOp : Ops Rented → Option Op → Type 0
 IsHeldOp ops None = Unit {0}
 IsHeldOp ops (Some op) = HoldsOp ops op
+
+-- The operation that waits, if one does, was dropped.
+abbrev pub DropsFor : {D : Type 0} → (D → D → Op → Type 0) → D → D → Option Op → Type 0
+DropsFor drops old new None = new ≡ old
+DropsFor drops old new (Some op) = drops old new op
 
 -- The operation that waited, if one did, is gone.
 abbrev pub IsGone : Ops Rented → Option Op → Type 0

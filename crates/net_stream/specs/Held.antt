@@ -9,6 +9,11 @@ abbrev pub bytes_here : Option Rented → List ℕ
 bytes_here None = []
 bytes_here (Some buf) = buf.bytes
 
+-- The buffer, where it is here, and else one of nothing.
+abbrev pub buffer_here : Option Rented → Rented
+buffer_here None = record { bytes = []; total = 0 }
+buffer_here (Some buf) = buf
+
 -- The buffer is here exactly where no operation waits.
 abbrev pub IsApart : Option Rented → Option Op → Type 0
 IsApart None None = ⊥

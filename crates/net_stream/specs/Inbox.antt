@@ -1,5 +1,6 @@
 -- What came at a connection, as its stream sees it.
 use Rattle.std.specs.Prelude.{ℕ, zero, suc, ◌≡◌, ◌⊎◌, Bool, true, false, List, [], Option, None, Some, Ok, Err, min, length}
+use Rattle.rent_buf.specs.Rent.{Rented}
 use Rattle.rent_buf.specs.declared.fault.IoFault.{IoFault}
 use Rattle.rent_buf.specs.declared.fault.IoFault.TheVariants.{Os}
 use Rattle.ring_core.specs.declared.request.Outcome.{Outcome}
@@ -75,13 +76,14 @@ FaultFor old new CountAgain = new ≡ old
 abbrev pub WantsMore : Inboxed → Type 0
 WantsMore inbox = (inbox.arrived ≡ []) × (inbox.ended ≡ false) × (inbox.fault ≡ None)
 
--- The end came with a count of none.
-abbrev pub is_end : Outcome → Bool
-is_end (Count zero) = true
-is_end (Count (suc k)) = false
-is_end (From k addr) = false
-is_end (Made h) = false
-is_end (Fail e) = false
+-- The end came with a count of none, into a buffer with room.
+abbrev pub is_end : Outcome → ℕ → Bool
+is_end (Count zero) zero = false
+is_end (Count zero) (suc room) = true
+is_end (Count (suc k)) room = false
+is_end (From k addr) room = false
+is_end (Made h) room = false
+is_end (Fail e) room = false
 
 -- The fault of an outcome.
 abbrev pub fault_of : Outcome → Option IoFault
@@ -90,13 +92,14 @@ fault_of (From k addr) = None
 fault_of (Made h) = None
 fault_of (Fail e) = Some (Os e)
 
--- What came: what the buffer holds behind a count, and nothing behind another outcome.
+-- What came: what the buffer holds after a count, and nothing after another outcome.
 abbrev pub came : Outcome → List ℕ → List ℕ
 came (Count k) bytes = bytes
-came (From k addr) bytes = []
+came (From k addr) bytes = bytes
 came (Made h) bytes = []
 came (Fail e) bytes = []
 
--- An inbox whose receive ended so, with these bytes in its buffer.
-abbrev pub received : Outcome → List ℕ → Inboxed → Inboxed
-received outcome bytes inbox = record inbox { arrived = came outcome bytes; ended = is_end outcome; fault = fault_of outcome }
+-- An inbox whose receive ended so, with this buffer.
+abbrev pub received : Outcome → Rented → Inboxed → Inboxed
+received outcome buf inbox =
+    record inbox { arrived = came outcome buf.bytes; ended = is_end outcome buf.total; fault = fault_of outcome }

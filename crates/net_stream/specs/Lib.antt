@@ -6,3 +6,4 @@ pub mod Incoming
 pub mod Outgoing
 pub mod Connection
 pub mod Told
+pub mod Listener

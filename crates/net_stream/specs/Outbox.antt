@@ -98,6 +98,11 @@ abbrev pub has_failed : Option IoFault → Bool
 has_failed None = false
 has_failed (Some fault) = true
 
+-- The fault to answer after a send: its own, and else the one that no call answered yet.
+abbrev pub later_fault : Option IoFault → Option IoFault → Option IoFault
+later_fault None before = before
+later_fault (Some fault) before = Some fault
+
 -- A send has taken the first bytes. No room got lost.
 pub record TakenOut (count : ℕ) (old new : Outboxed) : Type 0 where
   pub unsent : new.unsent ≡ drop count old.unsent

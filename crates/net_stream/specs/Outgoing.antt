@@ -1,12 +1,14 @@
 -- What goes at a connection once its outbox gave it.
 use Rattle.std.specs.Prelude.{ℕ, zero, suc, ◌≡◌, Bool, true, false, List, [], ◌∷◌, Option, None, Some, Result, Ok, Err, drop, length, min}
 use Rattle.std.specs.Prelude.{take}
+use Rattle.rent_buf.specs.Parts.{Parts}
 use Rattle.rent_buf.specs.Rent.{Rented}
 use Rattle.rent_buf.specs.declared.fault.IoFault.{IoFault}
 use Rattle.rent_buf.specs.declared.fault.IoFault.TheVariants.{Os, WriteZero}
 use Rattle.rent_buf.specs.declared.fault.OutOfMemory.{OutOfMemory as NoMemory}
 use Rattle.ring_core.specs.declared.request.Outcome.{Outcome}
 use Rattle.ring_core.specs.declared.request.Outcome.TheVariants.{Count, From, Made, Fail}
+use Rattle.ring_core.specs.declared.request.Request.{Request}
 use Rattle.ring_core.specs.declared.request.Request.TheVariants.{Send}
 use Rattle.driver_core.specs.declared.op.Done.{Done}
 use Rattle.driver_core.specs.declared.op.Op.{Op}
@@ -14,11 +16,12 @@ use Rattle.driver_core.specs.declared.op.PollOp.{PollOp}
 use Rattle.driver_core.specs.declared.op.PollOp.TheVariants.{Pending, Ready}
 use Rattle.driver_core.specs.declared.op.SubmitError.{SubmitError}
 use Rattle.driver_core.specs.declared.op.SubmitFault.{SubmitFault}
+use Rattle.driver_core.specs.declared.op.Submitted.TheVariants.{Canceled}
 use Rattle.driver_core.specs.Ops.{Ops}
 use Rattle.driver_core.specs.Requests.{request_at}
 use Rattle.net_stream.specs.declared.incoming.Polled.{Polled}
 use Rattle.net_stream.specs.declared.incoming.Polled.TheVariants.{Waits, Ended, OutOfMemory}
-use Rattle.net_stream.specs.Drives.{Submission, Polling}
+use Rattle.net_stream.specs.Drives.{Joining, Polling, Submission, under}
 use Rattle.net_stream.specs.Outbox.{Outboxed, TakenOut}
 
 -- It is the bytes that the next send is to have, while none waits, how many it has room for, and the send that waits, if one does.
@@ -85,6 +88,18 @@ pub record RefusedSend {D : Type 0} (submits : Submission D) (old new : D) (fd :
 abbrev pub BeginsSend : {D : Type 0} → Submission D → D → D → ℕ → Going → Going → Result Unit SubmitFault → Type 0
 BeginsSend submits old new fd before now (Ok done) = BegunSend submits old new fd before now
 BeginsSend submits old new fd before now (Err why) = RefusedSend submits old new fd before now why
+
+-- Under a canceled group none was submitted: the bytes are the next one's.
+pub record CanceledSend {D : Type 0} (joins : Joining D) (old new : D) (fd group : ℕ) (before now : Going) : Type 0 where
+  pub back : Request Rented Parts
+  pub submitted : joins old new (Send fd (record { bytes = before.unsent; total = before.room })) group (Ok (Canceled back))
+  pub same : now ≡ before
+
+-- A submission of a send under a group: whether it waits.
+abbrev pub JoinsSend : {D : Type 0} → Joining D → D → D → ℕ → ℕ → Going → Going → Result Bool SubmitFault → Type 0
+JoinsSend joins old new fd group before now (Ok true) = BegunSend (under joins group) old new fd before now
+JoinsSend joins old new fd group before now (Ok false) = CanceledSend joins old new fd group before now
+JoinsSend joins old new fd group before now (Err why) = RefusedSend (under joins group) old new fd before now why
 
 -- The send that waits was polled, for this task, and waits on: nothing changed here.
 pub record StaysSend {D : Type 0} (polls : Polling D) (mid new : D) (before now : Going) (task : ℕ)

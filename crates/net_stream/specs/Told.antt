@@ -1,20 +1,19 @@
 -- The bytes of a connection over a readiness driver whose object tells its handles.
-use Rattle.std.specs.Prelude.{ℕ, ◌≡◌, List, [], ◌++◌, Option, None, Some, slice_get, option_map, unwrap_or}
-use Rattle.std.specs.FinMap as map
+use Rattle.std.specs.Prelude.{ℕ, ◌≡◌, ◌⊎◌, List, [], ◌++◌, Option, None, Some, slice_get, option_map, unwrap_or}
 use Rattle.rent_buf.specs.Parts.{Parts}
 use Rattle.rent_buf.specs.Rent.{Rented}
-use Rattle.ring_core.specs.declared.request.Outcome.{Outcome}
 use Rattle.ring_core.specs.declared.request.Request.{Request}
 use Rattle.ring_core.specs.declared.request.Request.TheVariants.{Send}
 use Rattle.ring_core.specs.declared.world.HandleKind.TheVariants.{Stream}
 use Rattle.ring_core.specs.declared.world.HandleState.{HandleState}
+use Rattle.ring_core.specs.Effect.{with_sent, without_front}
+use Rattle.ring_core.specs.Lists.{amended}
 use Rattle.ring_core.specs.World.{input_at}
 use Rattle.driver_core.specs.declared.op.Op.{Op}
 use Rattle.driver_core.specs.Ops.{Ops}
 use Rattle.driver_core.specs.Requests.{request_at}
 use Rattle.ready_driver.specs.Io.{IoView}
 use Rattle.ready_driver.specs.LegacyState.{LegacyState}
-use Rattle.ready_driver.specs.Named.{IsCompleted}
 use Rattle.net_stream.specs.declared.connection.Connection.{Connection}
 use Rattle.net_stream.specs.Incoming.{unread}
 
@@ -40,10 +39,13 @@ pub record IsStream (world : List HandleState) (h : ℕ) : Type 0 where
   pub there : slice_get world h ≡ Some handle
   pub kind : handle.kind ≡ Stream
 
--- The operation that waits, if one does, isn't completed: no cancel was asked for.
-abbrev pub IsUncanceled : Ops Rented → Option Op → Type 0
-IsUncanceled ops None = Unit {0}
-IsUncanceled ops (Some op) = (outcome : Outcome) → IsCompleted (map.get ops.slots.values op.key) outcome → ⊥
+-- Of these handles only one has changed: the first bytes of its input were taken, if any were.
+abbrev pub IsTaken : List HandleState → ℕ → List HandleState → Type 0
+IsTaken old h new = (new ≡ old) ⊎ ((count : ℕ) × (new ≡ amended old h (without_front count)))
+
+-- Of these handles only one has changed: bytes were sent to it, if any were.
+abbrev pub IsSentTo : List HandleState → ℕ → List HandleState → Type 0
+IsSentTo old h new = (new ≡ old) ⊎ ((bytes : List ℕ) × (new ≡ amended old h (with_sent bytes)))
 
 -- The bytes of a send.
 abbrev pub bytes_sent : Option (Request Rented Parts) → List ℕ
@@ -62,7 +64,3 @@ unsent_in ops conn = in_flight ops conn.outgoing.op ++ (conn.outgoing.unsent ++ 
 -- All bytes that came and weren't read: those of the inbox, and those of a receive that has ended.
 abbrev pub unread_in : Connection → List ℕ
 unread_in conn = unread conn.inbox conn.incoming
-
--- No cancel was asked for of the operations that a connection waits for.
-abbrev pub IsUncanceledAt : Ops Rented → Connection → Type 0
-IsUncanceledAt ops conn = IsUncanceled ops conn.incoming.op × IsUncanceled ops conn.outgoing.op

@@ -1,18 +1,20 @@
 //! A handle with what came at it and what is to go.
-ghost use Rattle.std.specs.Prelude.{◌≡◌, ◌≤◌, ◌<◌, ◌+◌, ◌∷◌, [], None, Ok, IsTrue, IsSome, IfOk};
+ghost use Rattle.std.specs.Prelude.{◌≡◌, ◌≤◌, ◌<◌, ◌+◌, ◌∷◌, [], true, None, Some, Ok, IsTrue, IsSome, IfOk, max};
 ghost use Rattle.net_stream.specs.Connection.{FitsConnection, HasSendFor, KeepsBeside, KeepsOutside, OnlyComes, OnlyGoes, PollsSendFor, PreparesFor};
-ghost use Rattle.net_stream.specs.Connection.{ReceivesFor, SendsFor, Settles, fresh_connection};
-ghost use Rattle.net_stream.specs.Drives.{HoldsNoMore, IsGone, IsHeldOp, KeepsOther};
+ghost use Rattle.net_stream.specs.Connection.{Closes, EndsFor, HasSendUnder, ReceivesFor, ReceivesUnder, SendsFor, SendsUnder};
+ghost use Rattle.net_stream.specs.Connection.{Settles, fresh_connection};
+ghost use Rattle.net_stream.specs.Drives.{DropsFor, HoldsNoMore, IsGone, IsHeldOp, KeepsOther};
 
 use crate::inbox::Inbox;
 use crate::incoming::{Incoming, Polled};
 use crate::outbox::Outbox;
 use crate::outgoing::Outgoing;
 use crate::progress::Progress;
-use driver_core::{MOST_GIVEN, Op, SubmitFault};
+use driver_core::{CancelHandle, MOST_GIVEN, Op, SubmitFault};
 use handle_core::SharedFd;
 use op_driver::OpDriver;
-use rent_buf::{OutOfMemory, Rent};
+use rent_buf::{IoFault, OutOfMemory, Rent};
+use ring_core::CANCELED;
 use std::alloc::Global;
 
 /// A handle that its user holds, what came at it, and what is to go. Its two boxes are streams: `&mut connection.inbox` is read, and
@@ -33,6 +35,7 @@ pub struct Connection {
 // Drops the operation that waits, if one does.
 fn drop_waiting<D: OpDriver<Rent>>(driver: &mut D, op: Option<Op>)
     requires { IsHeldOp (D.ops driver.old) op }
+    ensures drops { DropsFor D.drops driver.old driver.new op }
     ensures others { KeepsOther (D.ops driver.old) op (D.ops driver.new) None }
     ensures gone { IsGone (D.ops driver.new) op }
     ensures fewer { HoldsNoMore (D.ops driver.old) (D.ops driver.new) }
@@ -45,10 +48,11 @@ fn drop_waiting<D: OpDriver<Rent>>(driver: &mut D, op: Option<Op>)
 }
 
 impl Connection {
-    /// A connection of a handle that waits for nothing, with room for so many bytes in each direction.
+    /// A connection of a handle that waits for nothing, with room for so many bytes in each direction, for one at least.
     pub fn new(alloc: Global, fd: SharedFd, room: usize) -> Result<Connection, OutOfMemory>
-        ensures { IfOk result (λ conn. conn ≡ fresh_connection fd room) }
+        ensures { IfOk result (λ conn. conn ≡ fresh_connection fd (max 1 room)) }
     {
+        let room = room.max(1);
         let arrived = Rent::with_total(alloc, room)?;
         let coming = Rent::with_total(alloc, room)?;
         let written = Rent::with_total(alloc, room)?;
@@ -92,6 +96,7 @@ impl Connection {
         ensures receives { ReceivesFor D.submits D.polls driver.old driver.new self.old self.new task result }
         ensures same { OnlyComes self.old self.new }
         ensures fits { FitsConnection (D.ops driver.new) self.new }
+        ensures keeps { KeepsOther (D.ops driver.old) self.old.incoming.op (D.ops driver.new) self.new.incoming.op }
         ensures others { KeepsBeside (D.ops driver.old) self.old (D.ops driver.new) self.new }
         ensures given { (D.ops driver.new).given ≤ (D.ops driver.old).given + 1 }
     {
@@ -103,6 +108,44 @@ impl Connection {
                 return Ok(Progress::Idle);
             }
             self.incoming.submit(driver, self.fd)?;
+        }
+        match self.incoming.poll(driver, self.fd, task) {
+            Polled::Waits => Ok(Progress::Waits),
+            Polled::OutOfMemory => Err(SubmitFault::OutOfMemory),
+            Polled::Ended => Ok(self.settle()),
+        }
+    }
+
+    /// Receives as `receive`, with a submission under a group of the driver. Where the group is canceled none is submitted, and the inbox
+    /// answers `Os(CANCELED)` once. A receive that waits already is polled, whatever it is under. (monoio:
+    /// `TcpStream::cancelable_read`, without its stream)
+    pub fn receive_under<D: OpDriver<Rent>>(
+        &mut self,
+        driver: &mut D,
+        group: CancelHandle,
+        task: u64,
+    ) -> Result<Progress, SubmitFault>
+        requires fits { FitsConnection (D.ops driver.old) self.old }
+        requires held { IsTrue (D.held driver.old (self.old.fd ∷ [])) }
+        requires known { group < D.groups driver.old }
+        requires counter { (D.ops driver.old).given < MOST_GIVEN }
+        ensures receives { ReceivesUnder D.joins D.polls driver.old driver.new self.old self.new group task result }
+        ensures same { OnlyComes self.old self.new }
+        ensures fits { FitsConnection (D.ops driver.new) self.new }
+        ensures keeps { KeepsOther (D.ops driver.old) self.old.incoming.op (D.ops driver.new) self.new.incoming.op }
+        ensures others { KeepsBeside (D.ops driver.old) self.old (D.ops driver.new) self.new }
+        ensures given { (D.ops driver.new).given ≤ (D.ops driver.old).given + 1 }
+    {
+        if self.incoming.has_ended() {
+            return Ok(self.settle());
+        }
+        let waits = self.incoming.waits();
+        if !waits && !self.inbox.wants_more() {
+            return Ok(Progress::Idle);
+        }
+        if !waits && !self.incoming.submit_under(driver, self.fd, group)? {
+            self.inbox.cancel();
+            return Ok(Progress::Moved);
         }
         match self.incoming.poll(driver, self.fd, task) {
             Polled::Waits => Ok(Progress::Waits),
@@ -141,6 +184,7 @@ impl Connection {
         ensures same { OnlyGoes self.old self.new }
         ensures waits { IfOk result (λ waits. IsTrue waits → IsSome self.new.outgoing.op) }
         ensures fits { FitsConnection (D.ops driver.new) self.new }
+        ensures keeps { KeepsOther (D.ops driver.old) self.old.outgoing.op (D.ops driver.new) self.new.outgoing.op }
         ensures others { KeepsBeside (D.ops driver.old) self.old (D.ops driver.new) self.new }
         ensures given { (D.ops driver.new).given ≤ (D.ops driver.old).given + 1 }
     {
@@ -154,6 +198,38 @@ impl Connection {
         Ok(true)
     }
 
+    // The same, with a submission under a group: nothing where that is canceled, which the outbox answers once.
+    fn has_send_under<D: OpDriver<Rent>>(
+        &mut self,
+        driver: &mut D,
+        group: CancelHandle,
+    ) -> Result<Option<bool>, SubmitFault>
+        requires fits { FitsConnection (D.ops driver.old) self.old }
+        requires held { IsTrue (D.held driver.old (self.old.fd ∷ [])) }
+        requires known { group < D.groups driver.old }
+        requires counter { (D.ops driver.old).given < MOST_GIVEN }
+        ensures has { HasSendUnder D.joins driver.old driver.new self.old self.new group result }
+        ensures same { OnlyGoes self.old self.new }
+        ensures waits { IfOk result (λ has. has ≡ Some true → IsSome self.new.outgoing.op) }
+        ensures fits { FitsConnection (D.ops driver.new) self.new }
+        ensures keeps { KeepsOther (D.ops driver.old) self.old.outgoing.op (D.ops driver.new) self.new.outgoing.op }
+        ensures others { KeepsBeside (D.ops driver.old) self.old (D.ops driver.new) self.new }
+        ensures given { (D.ops driver.new).given ≤ (D.ops driver.old).given + 1 }
+    {
+        if self.outgoing.waits() {
+            return Ok(Some(true));
+        }
+        if !self.prepare() {
+            return Ok(Some(false));
+        }
+        if self.outgoing.submit_under(driver, self.fd, group)? {
+            return Ok(Some(true));
+        }
+        let rest = self.outgoing.has_rest();
+        self.outbox.note_sent(rest, Some(IoFault::Os(CANCELED)));
+        Ok(None)
+    }
+
     // Polls the send that waits.
     fn poll_send<D: OpDriver<Rent>>(
         &mut self,
@@ -165,6 +241,7 @@ impl Connection {
         ensures polls { PollsSendFor D.ops D.polls driver.old driver.new self.old self.new task result }
         ensures same { OnlyGoes self.old self.new }
         ensures fits { FitsConnection (D.ops driver.new) self.new }
+        ensures keeps { KeepsOther (D.ops driver.old) self.old.outgoing.op (D.ops driver.new) self.new.outgoing.op }
         ensures others { KeepsBeside (D.ops driver.old) self.old (D.ops driver.new) self.new }
         ensures given { (D.ops driver.new).given ≡ (D.ops driver.old).given }
     {
@@ -196,6 +273,7 @@ impl Connection {
         ensures sends { SendsFor D.ops D.submits D.polls driver.old driver.new self.old self.new task result }
         ensures same { OnlyGoes self.old self.new }
         ensures fits { FitsConnection (D.ops driver.new) self.new }
+        ensures keeps { KeepsOther (D.ops driver.old) self.old.outgoing.op (D.ops driver.new) self.new.outgoing.op }
         ensures others { KeepsBeside (D.ops driver.old) self.old (D.ops driver.new) self.new }
         ensures given { (D.ops driver.new).given ≤ (D.ops driver.old).given + 1 }
     {
@@ -206,11 +284,40 @@ impl Connection {
         }
     }
 
+    /// Sends as `send`, with a submission under a group of the driver. Where the group is canceled none is submitted, nothing is lost, and
+    /// the outbox answers `Os(CANCELED)` once. A send that waits already is polled, whatever it is under. (monoio:
+    /// `TcpStream::cancelable_write`, without its stream)
+    pub fn send_under<D: OpDriver<Rent>>(
+        &mut self,
+        driver: &mut D,
+        group: CancelHandle,
+        task: u64,
+    ) -> Result<Progress, SubmitFault>
+        requires fits { FitsConnection (D.ops driver.old) self.old }
+        requires held { IsTrue (D.held driver.old (self.old.fd ∷ [])) }
+        requires known { group < D.groups driver.old }
+        requires counter { (D.ops driver.old).given < MOST_GIVEN }
+        ensures sends { SendsUnder D.ops D.joins D.polls driver.old driver.new self.old self.new group task result }
+        ensures same { OnlyGoes self.old self.new }
+        ensures fits { FitsConnection (D.ops driver.new) self.new }
+        ensures keeps { KeepsOther (D.ops driver.old) self.old.outgoing.op (D.ops driver.new) self.new.outgoing.op }
+        ensures others { KeepsBeside (D.ops driver.old) self.old (D.ops driver.new) self.new }
+        ensures given { (D.ops driver.new).given ≤ (D.ops driver.old).given + 1 }
+    {
+        match self.has_send_under(driver, group) {
+            Ok(Some(true)) => self.poll_send(driver, task),
+            Ok(Some(false)) => Ok(Progress::Idle),
+            Ok(None) => Ok(Progress::Moved),
+            Err(why) => Err(why),
+        }
+    }
+
     /// Lets the connection go: what waits is dropped, and the handle comes back, which its user holds still. Bytes that weren't read or
     /// sent are lost: a user who wants them sent flushes first.
     pub fn end<D: OpDriver<Rent>>(self, driver: &mut D) -> SharedFd
         requires fits { FitsConnection (D.ops driver.old) self }
         ensures fd { result ≡ self.fd }
+        ensures drops { EndsFor D.drops driver.old driver.new self }
         ensures gone { IsGone (D.ops driver.new) self.incoming.op × IsGone (D.ops driver.new) self.outgoing.op }
         ensures others { KeepsOutside (D.ops driver.old) self (D.ops driver.new) }
         ensures given { (D.ops driver.new).given ≡ (D.ops driver.old).given }
@@ -225,5 +332,20 @@ impl Connection {
         drop_waiting(driver, incoming.into_op());
         drop_waiting(driver, outgoing.into_op());
         fd
+    }
+
+    /// Closes the connection: its handle is given up, and then what waits is dropped. The handle is closed once nobody holds it: here, unless
+    /// its user holds it more than once, or another operation does. Bytes that weren't read or sent are lost. (monoio: `Drop` of
+    /// `TcpStream`)
+    pub fn close<D: OpDriver<Rent>>(self, driver: &mut D)
+        requires fits { FitsConnection (D.ops driver.old) self }
+        requires held { IsTrue (D.held driver.old (self.fd ∷ [])) }
+        ensures closes { Closes D.closes D.drops driver.old driver.new self }
+        ensures gone { IsGone (D.ops driver.new) self.incoming.op × IsGone (D.ops driver.new) self.outgoing.op }
+        ensures others { KeepsOutside (D.ops driver.old) self (D.ops driver.new) }
+        ensures given { (D.ops driver.new).given ≡ (D.ops driver.old).given }
+    {
+        let _ = driver.close_fd(self.fd);
+        let _ = self.end(driver);
     }
 }

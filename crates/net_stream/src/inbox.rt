@@ -1,6 +1,7 @@
 //! What came at a connection, and its stream to read.
 ghost use Rattle.std.specs.Prelude.{◌≡◌, ◌≤◌, true, false, None, Some, length, drop, IfOk, IsTrue, []};
 ghost use Rattle.rent_buf.specs.Buffer.{room};
+ghost use Rattle.rent_buf.specs.declared.fault.IoFault.TheVariants.{Os};
 ghost use Rattle.rent_io.specs.Counts.{AfterCall};
 ghost use Rattle.rent_io.specs.Polls.{CountsNone, IsCaused};
 ghost use Rattle.rent_io.specs.Reader.{Reads, ReadsParts, first_room as room_of};
@@ -11,7 +12,7 @@ use crate::tally::{Tally, Turn};
 use rent_buf::{IoBufMut, IoFault, IoVecBufMut, OutOfMemory, Rent};
 use rent_io::vectored::first_room;
 use rent_io::{AsyncBufRead, AsyncReadRent, PollBuf, PollCount};
-use ring_core::Outcome;
+use ring_core::{CANCELED, Outcome};
 use std::alloc::Global;
 use std::marker::Model;
 use std::mem;
@@ -45,12 +46,12 @@ impl Model for Inbox {
     ghost invariant = { λ b. b.start ≤ length b.buf.bytes };
 }
 
-// The end came with a count of none.
-fn is_end(outcome: Outcome) -> bool
-    ensures { result ≡ is_end outcome }
+// The end came with a count of none, into a buffer with room.
+fn is_end(outcome: Outcome, room: usize) -> bool
+    ensures { result ≡ is_end outcome room }
 {
     match outcome {
-        Outcome::Count(count) => count == 0,
+        Outcome::Count(0) => room != 0,
         _ => false,
     }
 }
@@ -71,18 +72,18 @@ fn came(outcome: Outcome, buf: Rent) -> Rent
 {
     let mut buf = buf;
     match outcome {
-        Outcome::Count(_) => {}
+        Outcome::Count(_) | Outcome::From(_, _) => {}
         _ => buf.clear(),
     }
     buf
 }
 
 impl Inbox {
-    /// One at which nothing came, with room for so many bytes at a time.
+    /// One at which nothing came, with room for so many bytes at a time, for one at least.
     pub fn new(alloc: Global, room: usize) -> Result<Inbox, OutOfMemory>
         ensures { IfOk result (λ inbox. inbox ≡ fresh_inbox) }
     {
-        Ok(Inbox::over(Rent::with_total(alloc, room)?))
+        Ok(Inbox::over(Rent::with_total(alloc, room.max(1))?))
     }
 
     // One over an empty buffer.
@@ -133,12 +134,20 @@ impl Inbox {
     // Takes in what came of a receive that ended so, and gives back its own buffer.
     pub(crate) fn take_in(&mut self, outcome: Outcome, buf: Rent) -> Rent
         requires { WantsMore self.old }
-        ensures { self.new ≡ received outcome buf.bytes self.old }
+        ensures { self.new ≡ received outcome buf self.old }
     {
-        self.ended = is_end(outcome);
+        self.ended = is_end(outcome, buf.total());
         self.fault = fault_of(outcome);
         self.start = 0;
         mem::replace(&mut self.buf, came(outcome, buf))
+    }
+
+    // A receive was canceled before it was submitted.
+    pub(crate) fn cancel(&mut self)
+        ensures { self.new ≡ record self.old { fault = Some (Os CANCELED) } }
+    {
+        let _ = self.buf.len();
+        self.fault = Some(IoFault::Os(CANCELED));
     }
 
     // What a read with so much room is to answer, which is counted.

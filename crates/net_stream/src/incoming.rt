@@ -1,11 +1,13 @@
 // What comes at a handle, before an inbox has it.
-ghost use Rattle.std.specs.Prelude.{◌≡◌, ◌≤◌, ◌<◌, ◌+◌, ◌∷◌, [], None, Some, IsTrue, IsSome, OnOk};
+ghost use Rattle.std.specs.Prelude.{◌≡◌, ◌≤◌, ◌<◌, ◌+◌, ◌∷◌, [], None, Some, IsTrue, IsSome, IfOk, OnOk};
 ghost use Rattle.ring_core.specs.declared.request.Request.TheVariants.{Recv};
 ghost use Rattle.net_stream.specs.Drives.{FitsOp, IsRecv, KeepsOther};
-ghost use Rattle.net_stream.specs.Incoming.{BeginsReceive, Gives, PollsReceive, idle_coming};
+ghost use Rattle.net_stream.specs.Incoming.{BeginsReceive, Gives, JoinsReceive, PollsReceive, idle_coming};
 
 use crate::inbox::Inbox;
-use driver_core::{Done, MOST_GIVEN, Op, PollOp, SubmitError, SubmitFault};
+use driver_core::{
+    CancelHandle, Done, MOST_GIVEN, Op, PollOp, SubmitError, SubmitFault, Submitted,
+};
 use handle_core::SharedFd;
 use op_driver::OpDriver;
 use rent_buf::{Rent, VecBuf};
@@ -121,6 +123,47 @@ impl Incoming {
                     Ok(op) => {
                         hold(&mut self.op, op);
                         Ok(())
+                    }
+                    Err(refused) => {
+                        let SubmitError { why, request } = refused;
+                        self.buf = Some(buffer_of(request, fd));
+                        Err(why)
+                    }
+                }
+            }
+            None => unreachable!(),
+        }
+    }
+
+    // Submits a receive into its buffer under a group: whether it waits. Under a canceled group none does.
+    pub(crate) fn submit_under<D: OpDriver<Rent>>(
+        &mut self,
+        driver: &mut D,
+        fd: SharedFd,
+        group: CancelHandle,
+    ) -> Result<bool, SubmitFault>
+        requires none { self.old ≡ idle_coming }
+        requires held { IsTrue (D.held driver.old (fd ∷ [])) }
+        requires known { group < D.groups driver.old }
+        requires counter { (D.ops driver.old).given < MOST_GIVEN }
+        ensures joins { JoinsReceive D.joins driver.old driver.new fd group self.new result }
+        ensures fits { FitsOp (D.ops driver.new) self.new.op (IsRecv fd) }
+        ensures others { KeepsOther (D.ops driver.old) self.old.op (D.ops driver.new) self.new.op }
+        ensures given { (D.ops driver.new).given ≤ (D.ops driver.old).given + 1 }
+        ensures waits { IfOk result (λ waits. IsTrue waits → IsSome self.new.op) }
+    {
+        match self.buf.take() {
+            Some(buf) => {
+                let mut buf = buf;
+                buf.clear();
+                match driver.submit_under(Request::Recv { fd, buf }, group) {
+                    Ok(Submitted::Op(op)) => {
+                        hold(&mut self.op, op);
+                        Ok(true)
+                    }
+                    Ok(Submitted::Canceled(request)) => {
+                        self.buf = Some(buffer_of(request, fd));
+                        Ok(false)
                     }
                     Err(refused) => {
                         let SubmitError { why, request } = refused;

@@ -5,6 +5,7 @@
 pub mod connection;
 pub mod inbox;
 pub mod incoming;
+pub mod listener;
 pub mod outbox;
 pub mod outgoing;
 pub mod progress;
@@ -13,5 +14,6 @@ mod tally;
 
 pub use connection::Connection;
 pub use inbox::Inbox;
+pub use listener::{Accepted, Listener};
 pub use outbox::Outbox;
 pub use progress::Progress;

@@ -1,12 +1,12 @@
 //! What is to go at a connection, and its stream to write.
-ghost use Rattle.std.specs.Prelude.{◌≡◌, ◌≤◌, ◌+◌, ◌++◌, [], true, None, length, IfOk, IsTrue};
+ghost use Rattle.std.specs.Prelude.{◌≡◌, ◌≤◌, ◌+◌, ◌++◌, [], true, false, None, length, max, IfOk, IsTrue};
 ghost use Rattle.std.specs.List.{concat};
 ghost use Rattle.rent_io.specs.Counts.{AfterCall};
 ghost use Rattle.rent_io.specs.Polls.{CountsNone, IsWriteCaused, IsFlushCaused};
 ghost use Rattle.rent_io.specs.Writer.{CountsDone, EndsStay, Writes, first_part as part_of};
 ghost use Rattle.net_stream.specs.Inbox.{FaultAfter, FaultFor};
 ghost use Rattle.net_stream.specs.Outbox.{FlushesOutbox, PutIn, SameBytes, TakenOut, TurnsFlush, TurnsWrite};
-ghost use Rattle.net_stream.specs.Outbox.{WantsSent, WritesOutbox, fresh_outbox, has_failed, outbox_writer};
+ghost use Rattle.net_stream.specs.Outbox.{WantsSent, WritesOutbox, fresh_outbox, has_failed, later_fault, outbox_writer};
 
 use crate::tally::{Tally, Turn};
 use rent_buf::{IoBuf, IoBufMut, IoFault, IoVecBuf, OutOfMemory, Rent};
@@ -14,6 +14,7 @@ use rent_io::vectored::first_part;
 use rent_io::{AsyncWriteRent, PollBuf, PollCount};
 use std::alloc::Global;
 use std::marker::Model;
+use std::mem;
 
 /// What is to go at a connection: a stream to write. It takes what there is room for, and pauses where there is none. A
 /// flush is done once all is sent. (not in monoio)
@@ -62,11 +63,11 @@ fn append(buf: &mut Rent, bytes: &[u8])
 }
 
 impl Outbox {
-    /// One with room for so many bytes, to which nothing was written.
+    /// One with room for so many bytes, for one at least, to which nothing was written.
     pub fn new(alloc: Global, room: usize) -> Result<Outbox, OutOfMemory>
-        ensures { IfOk result (λ outbox. outbox ≡ fresh_outbox room) }
+        ensures { IfOk result (λ outbox. outbox ≡ fresh_outbox (max 1 room)) }
     {
-        Ok(Outbox::over(Rent::with_total(alloc, room)?))
+        Ok(Outbox::over(Rent::with_total(alloc, room.max(1))?))
     }
 
     // One over an empty buffer.
@@ -129,13 +130,31 @@ impl Outbox {
         }
     }
 
-    // The last send ended: whether it left some bytes, and its fault.
+    // Gives all its bytes for an empty buffer, where that has as much room and no send has taken some: whether it did. Then the buffer has
+    // them, and none was copied.
+    pub(crate) fn swap_out(&mut self, empty: &mut Rent) -> bool
+        requires { empty.old.bytes ≡ [] }
+        ensures yes { IsTrue result → (empty.new.bytes ≡ self.old.unsent) × TakenOut (length self.old.unsent) self.old self.new }
+        ensures no { result ≡ false → (self.new ≡ self.old) × (empty.new ≡ empty.old) }
+        ensures total { empty.new.total ≡ empty.old.total }
+    {
+        if self.start != 0 || self.buf.total() != empty.total() {
+            return false;
+        }
+        mem::swap(&mut self.buf, empty);
+        self.sending = true;
+        true
+    }
+
+    // The last send ended: whether it left some bytes, and its fault. One that no call answered yet stays where it brought none.
     pub(crate) fn note_sent(&mut self, rest: bool, fault: Option<IoFault>)
-        ensures { self.new ≡ record self.old { sending = rest; fault = fault } }
+        ensures { self.new ≡ record self.old { sending = rest; fault = later_fault fault self.old.fault } }
     {
         let _ = self.buf.len();
         self.sending = rest;
-        self.fault = fault;
+        if fault.is_some() {
+            self.fault = fault;
+        }
     }
 
     // What a write of so many bytes is to answer, which is counted.

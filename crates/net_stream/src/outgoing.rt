@@ -1,12 +1,14 @@
 // What goes to a handle, once an outbox gave it.
-ghost use Rattle.std.specs.Prelude.{◌≡◌, ◌≤◌, ◌<◌, ◌+◌, ◌∷◌, [], None, IsTrue, IsSome, OnOk, drop};
+ghost use Rattle.std.specs.Prelude.{◌≡◌, ◌≤◌, ◌<◌, ◌+◌, ◌∷◌, [], None, IsTrue, IsSome, IfOk, OnOk, drop};
 ghost use Rattle.ring_core.specs.declared.request.Request.TheVariants.{Send};
 ghost use Rattle.net_stream.specs.Drives.{FitsOp, IsSend, KeepsOther};
-ghost use Rattle.net_stream.specs.Outgoing.{BeginsSend, Loads, PollsSend, SentOutIf, has_bytes, idle_going, send_fault, sent_by};
+ghost use Rattle.net_stream.specs.Outgoing.{BeginsSend, JoinsSend, Loads, PollsSend, SentOutIf, has_bytes, idle_going, send_fault, sent_by};
 
 use crate::incoming::{Polled, hold};
 use crate::outbox::Outbox;
-use driver_core::{Done, MOST_GIVEN, Op, PollOp, SubmitError, SubmitFault};
+use driver_core::{
+    CancelHandle, Done, MOST_GIVEN, Op, PollOp, SubmitError, SubmitFault, Submitted,
+};
 use handle_core::SharedFd;
 use op_driver::OpDriver;
 use rent_buf::{IoBufMut, IoFault, Rent, VecBuf};
@@ -131,13 +133,17 @@ impl Outgoing {
         }
     }
 
-    // Takes bytes of an outbox, as many as there is room for.
+    // Takes bytes of an outbox, as many as there is room for. Where it takes all, the two buffers change places.
     pub(crate) fn load(&mut self, outbox: &mut Outbox)
         requires none { (self.old.op ≡ None) × (self.old.unsent ≡ []) }
         ensures loads { Loads self.old outbox.old self.new outbox.new }
     {
         match &mut self.buf {
             Some(buf) => {
+                if outbox.swap_out(buf) {
+                    buf.keeps_bounds();
+                    return;
+                }
                 buf.keeps_bounds();
                 let bytes = outbox.unsent();
                 let count = buf.total().min(bytes.len());
@@ -169,6 +175,44 @@ impl Outgoing {
                 Ok(op) => {
                     hold(&mut self.op, op);
                     Ok(())
+                }
+                Err(refused) => {
+                    let SubmitError { why, request } = refused;
+                    self.buf = Some(buffer_of(request, fd, self.spare.total()));
+                    Err(why)
+                }
+            },
+            None => unreachable!(),
+        }
+    }
+
+    // Submits a send of its buffer under a group: whether it waits. Under a canceled group none does.
+    pub(crate) fn submit_under<D: OpDriver<Rent>>(
+        &mut self,
+        driver: &mut D,
+        fd: SharedFd,
+        group: CancelHandle,
+    ) -> Result<bool, SubmitFault>
+        requires none { self.old.op ≡ None }
+        requires held { IsTrue (D.held driver.old (fd ∷ [])) }
+        requires known { group < D.groups driver.old }
+        requires counter { (D.ops driver.old).given < MOST_GIVEN }
+        ensures joins { JoinsSend D.joins driver.old driver.new fd group self.old self.new result }
+        ensures fits { FitsOp (D.ops driver.new) self.new.op (IsSend fd self.new.room) }
+        ensures others { KeepsOther (D.ops driver.old) self.old.op (D.ops driver.new) self.new.op }
+        ensures given { (D.ops driver.new).given ≤ (D.ops driver.old).given + 1 }
+        ensures waits { IfOk result (λ waits. IsTrue waits → IsSome self.new.op) }
+        ensures room { self.new.room ≡ self.old.room }
+    {
+        match self.buf.take() {
+            Some(buf) => match driver.submit_under(Request::Send { fd, buf }, group) {
+                Ok(Submitted::Op(op)) => {
+                    hold(&mut self.op, op);
+                    Ok(true)
+                }
+                Ok(Submitted::Canceled(request)) => {
+                    self.buf = Some(buffer_of(request, fd, self.spare.total()));
+                    Ok(false)
                 }
                 Err(refused) => {
                     let SubmitError { why, request } = refused;

@@ -4,7 +4,7 @@
 #[derive(Clone, Copy, Debug, PartialEq, Eq)]
 #[must_use]
 pub enum Progress {
-    /// There was nothing to do: the driver wasn't called.
+    /// There was nothing to do, and the driver wasn't asked; or a receive ended whose bytes the inbox takes once it is read empty.
     Idle,
     /// The operation waits. Its task is named by the turn after which another call may do more.
     Waits,

@@ -3,6 +3,7 @@ ghost use Rattle.ready_driver.specs.LegacyState.{ops_in};
 ghost use Rattle.net_stream.specs.Connection.{FitsConnection};
 
 use driver_core::MOST_GIVEN;
+use handle_core::SharedFd;
 use net_stream::{Connection, Inbox, Outbox};
 use op_driver::OpDriver;
 use ready_driver::{LegacyDriver, MemIo};
@@ -11,6 +12,9 @@ use rent_io::{AsyncReadRent, AsyncWriteRent, PollBuf};
 use ring_core::{HandleKind, MOST_HANDLES, Names};
 use std::alloc::Global;
 use std::test::Fail;
+
+mod copies;
+mod lines;
 
 // How often a connection meets its driver at most.
 const STEPS: usize = 200;
@@ -35,6 +39,11 @@ const ROWS: &[Row] = &[
     Row {
         text: "byte by byte",
         room: 1,
+    },
+    // A room of none is one of one.
+    Row {
+        text: "no room",
+        room: 0,
     },
 ];
 
@@ -96,17 +105,37 @@ fn pass(alloc: Global, driver: &mut OnHandles, conn: &mut Connection, text: &[u8
     got
 }
 
-// The same through a pipe of a driver of its own.
-fn round_trip(alloc: Global, row: &Row) -> Option<Vec<u8>> {
-    let mut driver: OnHandles = LegacyDriver::over(alloc, MemIo::new(alloc));
+// A handle of this kind, which its user holds.
+fn give(driver: &mut OnHandles, kind: HandleKind) -> Option<SharedFd> {
     let next = driver.handles();
     if next >= MOST_HANDLES || driver.known(next) {
         return None;
     }
-    let fd = driver.give(HandleKind::Pipe).ok()?;
+    driver.give(kind).ok()
+}
+
+// Closes a connection: whether its handle is known no more.
+fn close(driver: &mut OnHandles, conn: Connection) -> bool
+    requires { FitsConnection (ops_in driver.old) conn }
+{
+    let h = conn.fd.number();
+    if driver.holds_names(Names::One(h)) {
+        conn.close(driver);
+        return !driver.known(h);
+    }
+    conn.end(driver);
+    false
+}
+
+// The same through a pipe of a driver of its own, which is closed then.
+fn round_trip(alloc: Global, row: &Row) -> Option<Vec<u8>> {
+    let mut driver: OnHandles = LegacyDriver::over(alloc, MemIo::new(alloc));
+    let fd = give(&mut driver, HandleKind::Pipe)?;
     let mut conn = Connection::new(alloc, fd, row.room).ok()?;
     let got = pass(alloc, &mut driver, &mut conn, row.text.as_bytes());
-    conn.end(&mut driver);
+    if !close(&mut driver, conn) {
+        return None;
+    }
     Some(got)
 }
 
