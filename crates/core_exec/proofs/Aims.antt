@@ -1,6 +1,6 @@
 -- Aims and soundness, from call to call.
 use Rattle.std.proofs.Common.{ℕ, ◌≡◌, ◌≢◌, ◌∙◌, inl, inr, ap, sym, refl, subst, Bool, true, false, List, Some, None, get_or}
-use Rattle.std.specs.Prelude.{Option, option_map, IsSome}
+use Rattle.std.specs.Prelude.{◌==◌, Option, option_map, IsSome}
 use Rattle.std.specs.List.{All}
 use Rattle.std.proofs.lemmas.Bool.Decides.{eqb_tells}
 use Rattle.std.proofs.lemmas.List.Elements.{All-append}
@@ -38,6 +38,16 @@ module _ {J O : Type 0} (aim : J → List ℕ) (meets : List ℕ → O → Type 
   aims_ready now named old outputs has = record {
     of_jobs = λ t there. ap (aim_in aim) (same_job _ (old t)) ∙ has.of_jobs t (there_before _ (old t) there);
     of_outputs = has.of_outputs;
+  }
+
+  -- So have tasks of which one is woken.
+  pub aims_woken : (t : ℕ) (old new : ℕ → Option (Task J)) (before after : List (ℕ × O))
+      → ((s : ℕ) → new s ≡ option_map (with_mark (s == t)) (old s)) → after ≡ before → HasAims aim meets aims old before
+      → HasAims aim meets aims new after
+  aims_woken t old new before after each outputs has = record {
+    of_jobs = λ s there. ap (λ x. aim_in aim (job_in x)) (each s) ∙ ap (aim_in aim) (same_job (s == t) (old s))
+        ∙ has.of_jobs s (there_before (s == t) (old s) (subst (λ x. IsSome x) (each s) there));
+    of_outputs = subst (λ x. All (λ o. meets (aims o.0) o.1) x) (sym outputs) has.of_outputs;
   }
 
   -- Tasks and outputs that are the same have the same aims.
@@ -96,6 +106,16 @@ module _ {D J : Type 0} (fits : D → J → Type 0) (apart : J → J → Type 0)
     all_apart = λ s t one other differ is are. sound.all_apart s t one other differ (sym (ap job_in (same s)) ∙ is) (sym (ap job_in
         (same t)) ∙ are);
   }
+
+  -- So are those of which one is woken.
+  pub sound_woken : (t : ℕ) (old new : ℕ → Option (Task J)) → ((s : ℕ) → new s ≡ option_map (with_mark (s == t)) (old s))
+      → AreSound fits apart driver (λ s. job_in (old s)) → AreSound fits apart driver (λ s. job_in (new s))
+  sound_woken t old new each sound =
+      let jobs : (s : ℕ) → job_in (new s) ≡ job_in (old s) = λ s. ap job_in (each s) ∙ same_job (s == t) (old s) in
+      record {
+        all_fit = λ s job is. sound.all_fit s job (sym (jobs s) ∙ is);
+        all_apart = λ s r one other differ is are. sound.all_apart s r one other differ (sym (jobs s) ∙ is) (sym (jobs r) ∙ are);
+      }
 
   -- So they are with one more that fits and has no operation.
   pub sound_spawn : (old new : ℕ → Option (Task J)) (t : ℕ) (job : J) (deadline : Option ℕ) → new t ≡ Some (fresh job deadline)

@@ -129,14 +129,22 @@ module _ {J : Type 0} where
   marked_more b (Some task) = (refl, refl, λ m. ap (λ a. a || b) m)
 
   -- Marks leave what is set.
-  pub set_marked : (now : ℕ) (named : List ℕ) (old new : ℕ → Option (Task J)) (before after : Deadlines) → AreSet now old before
-      → ((s : ℕ) → new s ≡ option_map (with_mark (has_number s named)) (old s)) → after ≡ before → AreSet now new after
-  set_marked now named old new before after set each same = λ s d canceled has.
-      let more = marked_more (has_number s named) (old s) in
+  set_by : (now : ℕ) (marks : ℕ → Bool) (old new : ℕ → Option (Task J)) (before after : Deadlines) → AreSet now old before
+      → ((s : ℕ) → new s ≡ option_map (with_mark (marks s)) (old s)) → after ≡ before → AreSet now new after
+  set_by now marks old new before after set each same = λ s d canceled has.
+      let more = marked_more (marks s) (old s) in
       elim (set s d (sym more.0 ∙ sym (ap canceled_of (each s)) ∙ canceled) (sym more.1 ∙ sym (ap deadline_of (each s)) ∙ has)) [
         | inl is ↦ inl (ap (λ x. is_set x d s) same ∙ is)
         | inr is ↦ inr (ap mark_of (each s) ∙ more.2 is.0, is.1)
       ]
+
+  pub set_marked : (now : ℕ) (named : List ℕ) (old new : ℕ → Option (Task J)) (before after : Deadlines) → AreSet now old before
+      → ((s : ℕ) → new s ≡ option_map (with_mark (has_number s named)) (old s)) → after ≡ before → AreSet now new after
+  set_marked now named = set_by now (λ s. has_number s named)
+
+  pub set_woken : (now t : ℕ) (old new : ℕ → Option (Task J)) (before after : Deadlines) → AreSet now old before
+      → ((s : ℕ) → new s ≡ option_map (with_mark (s == t)) (old s)) → after ≡ before → AreSet now new after
+  set_woken now t = set_by now (λ s. s == t)
 
   -- Marks of numbers, and then of those that are late.
   pub named_or_late : (now s : ℕ) (named : List ℕ) (old mid new : ℕ → Option (Task J)) → mid s ≡ option_map (with_mark

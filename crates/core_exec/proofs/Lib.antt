@@ -4,6 +4,7 @@ pub mod Late
 pub mod Looping
 pub mod Marking
 pub mod Pairs
+pub mod Placing
 pub mod Reaching
 pub mod Stepping
 pub mod Turning

@@ -1,5 +1,5 @@
 -- An executor, by its unfinished tasks and its outputs. Cited by `Exec`.
-use Rattle.std.specs.Prelude.{ℕ, ◌≡◌, ◌≢◌, ◌≤◌, ◌<◌, ◌+◌, true, false, List, Option, Some, None, IsSome}
+use Rattle.std.specs.Prelude.{ℕ, ◌≡◌, ◌≢◌, ◌≤◌, ◌<◌, ◌+◌, true, false, List, length, Option, Some, None, IsSome}
 use Rattle.std.specs.List.{All}
 use Rattle.std.specs.Vec.{vec_len, vec_capacity}
 use Rattle.std.specs.BTreeMap.{btree_map_len}
@@ -8,6 +8,7 @@ use Rattle.core_exec.specs.declared.exec.Exec.{Exec}
 use Rattle.core_exec.specs.declared.turn.Ran.{Ran}
 use Rattle.core_exec.specs.Tasks.{AreSound, HaveJobs, task_at, job_at, job_in, aim_in}
 use Rattle.core_exec.specs.Marks.{AreListed, HasDeadlines, ready_tasks}
+use Rattle.core_exec.specs.Places.{ArePlaced, StayPlaced}
 use Rattle.core_exec.specs.Turns.{AddsOutputs, AreCounted, Turns}
 
 -- The unfinished task of a number; its job; how many are unfinished.
@@ -59,8 +60,14 @@ abbrev pub OutputsOf : {D J O : Type 0} → (J → List ℕ) → (List ℕ → O
     → Type 0
 OutputsOf aim meets was old new ran = AddsOutputs aim meets was ran.done.items (outputs_of old) (outputs_of new)
 
+-- Each task is in as many places as before, and there are as many unfinished tasks and outputs in all: none is lost, and none comes twice.
+abbrev pub KeepsPlaces : {D J O : Type 0} → Exec D J O → Exec D J O → Type 0
+KeepsPlaces old new = StayPlaced (tasks_of old) (outputs_of old) (tasks_of new) (outputs_of new)
+    × (length (outputs_of new) + left_of new ≡ length (outputs_of old) + left_of old)
+
 -- What each call keeps: the marked tasks are found, and the deadlines that are to come; each task has its job, which was polled in a turn
--- each at most, and its cancel was asked for once where the task was canceled, and else never; its number was given; its output has room.
+-- each at most, and its cancel was asked for once where the task was canceled, and else never; its number was given; its output has room;
+-- and it is unfinished, or has one output that wasn't taken, or none.
 pub record Stands {D J O : Type 0} (polls cancels : J → ℕ) (exec : Exec D J O) : Type 0 where
   pub listed : AreListed exec.ready
   pub deadlines : HasDeadlines exec.ready
@@ -68,6 +75,7 @@ pub record Stands {D J O : Type 0} (polls cancels : J → ℕ) (exec : Exec D J 
   pub counted : AreCounted polls cancels exec.turns (task_at exec.ready.table)
   pub numbers : (t : ℕ) → IsSome (task_at exec.ready.table t) → t < exec.spawned
   pub room : vec_len exec.outputs + btree_map_len exec.ready.table.tree ≤ vec_capacity exec.outputs
+  pub placed : ArePlaced exec.spawned (task_at exec.ready.table) exec.outputs.items
 
 -- Each unfinished job has the aim of its number, and each output meets that of its task.
 pub record HasAims {J O : Type 0} (aim : J → List ℕ) (meets : List ℕ → O → Type 0) (aims : ℕ → List ℕ)

@@ -2,6 +2,7 @@ pub mod Deadlines
 pub mod Exec
 pub mod Job
 pub mod Marks
+pub mod Places
 pub mod Polls
 pub mod Steps
 pub mod Tasks

@@ -1,12 +1,14 @@
 //! An executor: jobs by number, and the turns that poll them.
 ghost use Rattle.std.specs.Prelude.{◌≡◌, ◌≢◌, ◌<◌, ◌≤◌, ◌+◌, ◌^◌, ◌↔◌, ℕ, List, []};
-ghost use Rattle.std.specs.Prelude.{Some, None, IsSome, IsOk, IfOk, IfErr, IfSome, OnOk, OnErr, IsNone, IfNone};
+ghost use Rattle.std.specs.Prelude.{◌==◌, Some, None, IsSome, IsOk, IfOk, IfErr, IfSome, OnOk, OnErr, IsNone, IfNone, option_map};
 ghost use Rattle.std.specs.List.{All};
 ghost use Rattle.std.specs.List.Sorted.{IsNonDecreasingBy, IsPermutation};
 ghost use Rattle.std.specs.Vec.{vec_len, vec_capacity};
-ghost use Rattle.core_exec.specs.Tasks.{IsApart, unmarked_in};
-ghost use Rattle.core_exec.specs.Turns.{Reaches};
-ghost use Rattle.core_exec.specs.Exec.{IsSound, KeepsDriver, MeetAims, OutputsOf, Spawns, Stands, TakesOut, TurnsTo};
+ghost use Rattle.core_exec.specs.Tasks.{HaveJobs, IsApart, unmarked_in};
+ghost use Rattle.core_exec.specs.Turns.{AreCounted, Reaches};
+ghost use Rattle.core_exec.specs.Exec.{IsSound, KeepsDriver, KeepsPlaces, MeetAims, OutputsOf, Spawns, Stands, TakesOut, TurnsTo};
+ghost use Rattle.core_exec.specs.Marks.{AreListed, HasDeadlines, with_mark};
+ghost use Rattle.core_exec.specs.Places.{ArePlaced, outputs_at};
 ghost use Rattle.core_exec.specs.Exec.{jobs_of, left_of, moment_of, outputs_of, ready_of, spawned_of, tasks_of, turns_of};
 
 use crate::deadlines::Deadlines;
@@ -84,7 +86,7 @@ impl<D, J: Job<D>> Exec<D, J, J::Out> {
     /// names them, and those whose deadline has come and that weren't canceled. Each ready task is polled once, in ascending order; a late
     /// one is canceled before. If memory runs out at a task, the turn ends there, and that task and those behind it are ready in the next
     /// turn. `OutOfMemory` comes if memory runs out for the lists of the answer; then no task is polled, and the ready ones are marked.
-    #[tactic(auto, using(crate::proofs::Aims::aims_ready, crate::proofs::Aims::aims_same, crate::proofs::Aims::aims_turn))]
+    #[tactic(auto, using(crate::proofs::Aims::aims_ready, crate::proofs::Aims::aims_same, crate::proofs::Aims::aims_turn, crate::proofs::Placing::stay_marked, crate::proofs::Placing::stay_turn, crate::proofs::Placing::placed_marked, crate::proofs::Placing::placed_turn))]
     pub fn turn(&mut self, now: u64, named: &[u64]) -> Result<Ran, OutOfMemory>
         requires stands { Stands J.polls J.cancels self.old }
         requires sound { IsSound J.fits J.apart self.old }
@@ -100,6 +102,7 @@ impl<D, J: Job<D>> Exec<D, J, J::Out> {
         ensures turns { IfOk result (λ ran. TurnsTo J.polls J.cancels J.aim now named.now self.old self.new ran) }
         ensures reaches { IfOk result (λ ran. Reaches (ready_of now named.now self.old) (tasks_of self.new) ran.polled.items ran.stopped) }
         ensures outputs { IfOk result (λ ran. OutputsOf J.aim J.meets (ready_of now named.now self.old) self.old self.new ran) }
+        ensures places { KeepsPlaces self.old self.new }
         ensures counted { OnOk result (turns_of self.new ≡ turns_of self.old + 1) }
 
         // Without memory for the lists, the ready tasks are marked.
@@ -122,8 +125,24 @@ impl<D, J: Job<D>> Exec<D, J, J::Out> {
         Ok(ran)
     }
 
+    /// Makes an unfinished task ready in the next turn, as a waker from another thread does. It takes no memory, and a number of no
+    /// unfinished task is ignored. (monoio: `Waker::wake`)
+    #[tactic(auto, using(crate::proofs::Aims::aims_woken, crate::proofs::Aims::sound_woken, crate::proofs::Placing::placed_woken, crate::proofs::Late::set_woken))]
+    pub fn wake(&mut self, t: u64)
+        requires stands { Stands J.polls J.cancels self.old }
+        ensures stands { Stands J.polls J.cancels self.new }
+        ensures tasks { (s : ℕ) → tasks_of self.new s ≡ option_map (with_mark (s == t)) (tasks_of self.old s) }
+        ensures kept { KeepsDriver self.old self.new }
+        ensures numbers { (spawned_of self.new ≡ spawned_of self.old) × (left_of self.new ≡ left_of self.old) }
+        ensures outputs { outputs_of self.new ≡ outputs_of self.old }
+        ensures sound { IsSound J.fits J.apart self.old → IsSound J.fits J.apart self.new }
+        ensures aims { (aims : ℕ → List ℕ) → MeetAims J.aim J.meets aims self.old → MeetAims J.aim J.meets aims self.new }
+    {
+        self.ready.mark(t);
+    }
+
     // Room for one more task: for its mark, and for its output.
-    #[tactic(auto, using(crate::proofs::Counted::unmarked_within))]
+    #[tactic(auto, using(crate::proofs::Counted::unmarked_within, crate::proofs::Placing::placed_same))]
     fn reserve(&mut self) -> Result<(), OutOfMemory>
         requires stands { Stands J.polls J.cancels self.old }
         ensures stands { Stands J.polls J.cancels self.new }
@@ -141,12 +160,18 @@ impl<D, J: Job<D>> Exec<D, J, J::Out> {
     }
 
     // Spawns a job, with a deadline or without.
-    #[tactic(auto, using(crate::proofs::Aims::aims_spawn, crate::proofs::Aims::aims_same, crate::proofs::Aims::sound_spawn, crate::proofs::Aims::sound_same))]
+    #[tactic(auto, using(crate::proofs::Aims::aims_spawn, crate::proofs::Aims::aims_same, crate::proofs::Aims::sound_spawn, crate::proofs::Aims::sound_same, crate::proofs::Placing::placed_same))]
     fn spawn_at(&mut self, job: J, deadline: Option<u64>) -> Result<u64, (OutOfMemory, J)>
         requires stands { Stands J.polls J.cancels self.old }
         requires counts { (J.polls job ≡ 0) × (J.cancels job ≡ 0) }
         requires counter { spawned_of self.old < 2 ^ 62 }
-        ensures stands { Stands J.polls J.cancels self.new }
+        ensures listed { AreListed self.new.ready }
+        ensures deadlines { HasDeadlines self.new.ready }
+        ensures jobs { HaveJobs (tasks_of self.new) }
+        ensures turns { AreCounted J.polls J.cancels (turns_of self.new) (tasks_of self.new) }
+        ensures below { (t : ℕ) → IsSome (tasks_of self.new t) → t < spawned_of self.new }
+        ensures room { vec_len self.new.outputs + left_of self.new ≤ vec_capacity self.new.outputs }
+        ensures placed { ArePlaced (spawned_of self.new) (tasks_of self.new) (outputs_of self.new) }
         ensures ok { IfOk result (Spawns job deadline self.old self.new) }
         ensures rest { (s : ℕ) → s ≢ spawned_of self.old → tasks_of self.new s ≡ tasks_of self.old s }
         ensures err { IfErr result (λ refused. (refused.1 ≡ job) × ((s : ℕ) → tasks_of self.new s ≡ tasks_of self.old s)) }
@@ -232,12 +257,14 @@ impl<D, J: Job<D>> Exec<D, J, J::Out> {
     }
 
     /// Takes the outputs that weren't taken, each with its task, ascending by task. If memory runs out, they stay.
-    #[tactic(auto, using(crate::proofs::Aims::sound_same))]
+    #[tactic(auto, using(crate::proofs::Aims::sound_same, crate::proofs::Placing::placed_same, crate::proofs::Placing::placed_taken))]
     pub fn take_done(&mut self) -> Result<Vec<(u64, J::Out)>, OutOfMemory>
         requires stands { Stands J.polls J.cancels self.old }
         ensures stands { Stands J.polls J.cancels self.new }
         ensures ok { IfOk result (λ taken. IsPermutation (outputs_of self.old) taken.items) }
         ensures ascending { IfOk result (λ taken. IsNonDecreasingBy (λ o. o.0) taken.items) }
+        ensures once { IfOk result (λ taken. (t : ℕ) → outputs_at taken.items t ≤ 1) }
+        ensures of_spawned { IfOk result (λ taken. (t : ℕ) → spawned_of self.old ≤ t → outputs_at taken.items t ≡ 0) }
         ensures meet { IfOk result (λ taken. (aims : ℕ → List ℕ) → MeetAims J.aim J.meets aims self.old
             → All (λ o. J.meets (aims o.0) o.1) taken.items) }
         ensures taken { OnOk result (outputs_of self.new ≡ []) }
@@ -276,6 +303,7 @@ impl<D, J: Job<D>> Exec<D, J, J::Out> {
     }
 
     // Takes out an unfinished task: its job.
+    #[tactic(auto, using(crate::proofs::Placing::placed_out))]
     fn take_out(&mut self, t: u64) -> J
         requires stands { Stands J.polls J.cancels self.old }
         requires there { IsSome (tasks_of self.old t) }

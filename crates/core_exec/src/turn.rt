@@ -9,6 +9,7 @@ ghost use Rattle.core_exec.specs.Tasks.{AreSound, HaveJobs, FlagsOf, task_at, jo
 ghost use Rattle.core_exec.specs.Marks.{AreListed, Covers, HasDeadlines, is_late};
 ghost use Rattle.core_exec.specs.Visits.{VisitsTask, GivesOutput, MarksAfter};
 ghost use Rattle.core_exec.specs.Steps.{StepsTask, StepsOutput, MarksStep, with_number, polls_at, ends_at, is_polled, is_done, is_stopped};
+ghost use Rattle.core_exec.specs.Places.{StayPlaced};
 ghost use Rattle.core_exec.specs.Turns.{AddsOutputs, GrowsByOne, HasRoom, Reaches, Turns};
 
 use crate::deadlines::Deadlines;
@@ -226,6 +227,7 @@ pub(crate) fn poll_ready<D, J: Job<D>>(
         ran.new.polled.items ran.new.canceled.items ran.new.done.items result.1 }
     ensures reaches { Reaches (task_at ready.old.table) (task_at ready.new.table) ran.new.polled.items result.1 }
     ensures outputs { AddsOutputs J.aim J.meets (task_at ready.old.table) ran.new.done.items outputs.old.items outputs.new.items }
+    ensures places { StayPlaced (task_at ready.old.table) outputs.old.items (task_at ready.new.table) outputs.new.items }
     ensures covers { Covers (task_at ready.new.table) (drop result.0 ready.new.marks.items) }
     ensures came { result.0 ≤ vec_len ready.new.marks }
     ensures marks_room { vec_len ready.new.marks + unmarked_in ready.new.table ≤ vec_capacity ready.new.marks + result.0 }

@@ -1,5 +1,5 @@
 -- What calls on operations leave of jobs that wait for others.
-use Rattle.std.proofs.Common.{ℕ, ◌≡◌, ap, sym, Ok, Err, arith}
+use Rattle.std.proofs.Common.{ℕ, ◌≡◌, ap, sym, subst, Ok, Err, Some, arith}
 use Rattle.std.specs.Prelude.{Option, Result}
 use Rattle.rent_buf.specs.declared.fault.OutOfMemory.{OutOfMemory}
 use Rattle.driver_core.specs.declared.op.Op.{Op}

@@ -26,6 +26,11 @@ abbrev pub IsUnsent : {B : Type 0} → State B → Type 0
 IsUnsent (Unsent request) = Unit {0}
 IsUnsent (Waiting op) = ⊥
 
+-- The operation that a job waits for is gone, if it waits for one.
+abbrev pub IsGone : {B : Type 0} → Ops B → State B → Type 0
+IsGone ops (Unsent request) = Unit {0}
+IsGone ops (Waiting op) = Holds ops op → ⊥
+
 -- Each state that fits the operations and doesn't wait for that of a state fits them afterwards.
 abbrev pub KeepsApart : {B : Type 0} → Ops B → Ops B → State B → Type 0
 KeepsApart {B} old new state = (other : State B) → FitsState old other → ApartStates state other → FitsState new other
@@ -45,6 +50,9 @@ cancels_of job = job.cancels
 -- A job fits a driver whose operations are these.
 abbrev pub FitsOps : {D B : Type 0} → (D → Ops B) → D → OpJob B → Type 0
 FitsOps ops driver job = FitsState (ops driver) job.state
+
+abbrev pub GoneOps : {D B : Type 0} → (D → Ops B) → D → OpJob B → Type 0
+GoneOps ops driver job = IsGone (ops driver) job.state
 
 abbrev pub ApartOps : {B : Type 0} → OpJob B → OpJob B → Type 0
 ApartOps one other = ApartStates one.state other.state

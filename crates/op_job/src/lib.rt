@@ -5,4 +5,4 @@ mod op_job;
 mod turns;
 
 pub use op_job::{OpEnd, OpJob};
-pub use turns::{OpExec, turn};
+pub use turns::{OpExec, abandon_all, turn};

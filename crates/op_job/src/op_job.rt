@@ -1,6 +1,6 @@
 //! A job that submits one request, and is done as its operation ends.
 ghost use Rattle.std.specs.Prelude.{◌≡◌};
-ghost use Rattle.op_job.specs.OpJob.{AnyEnd, AsksOp, ApartOps, ApartStates, FitsOps, FitsState, HasNoOp, KeepsApart};
+ghost use Rattle.op_job.specs.OpJob.{AnyEnd, AsksOp, ApartOps, ApartStates, FitsOps, FitsState, GoneOps, HasNoOp, KeepsApart};
 ghost use Rattle.op_job.specs.OpJob.{apart_swaps, cancels_of, no_aim, polls_of, unsent_apart};
 ghost use Rattle.core_exec.specs.Job.{IfBack};
 
@@ -54,6 +54,7 @@ impl<B: IoBufMut + Drop> OpJob<B> {
     /// Drops a job, and its operation if it has one. Each other job that fits the driver and doesn't wait for the same operation fits still.
     pub fn abandon<D: OpDriver<B>>(self, driver: &mut D)
         requires fits { FitsOps D.ops driver.old self }
+        ensures gone { GoneOps D.ops driver.new self }
         ensures others { (other : OpJob B) → FitsOps D.ops driver.old other → ApartOps self other → FitsOps D.ops driver.new other }
     {
         let OpJob {

@@ -1,7 +1,7 @@
 // A turn of a driver, and one of the executor over it.
 ghost use Rattle.std.specs.Prelude.{◌≡◌, ◌<◌, ◌≤◌, ◌+◌, ◌^◌, ℕ, true, false, IfOk, OnErr};
 ghost use Rattle.core_exec.specs.Turns.{Reaches};
-ghost use Rattle.core_exec.specs.Exec.{IsSound, Stands, TurnsTo, left_of, moment_of, ready_of, tasks_of, turns_of};
+ghost use Rattle.core_exec.specs.Exec.{IsSound, KeepsPlaces, Stands, TurnsTo, left_of, moment_of, ready_of, spawned_of, tasks_of, turns_of};
 ghost use Rattle.op_job.specs.OpJob.{ApartOps, FitsOps, cancels_of, no_aim, polls_of};
 
 use crate::op_job::{OpEnd, OpJob};
@@ -39,6 +39,8 @@ pub fn turn<B: IoBufMut + Drop, D: OpDriver<B>>(
     ensures moment { moment_of exec.new ≡ now }
     ensures turns { IfOk result.1 (λ ran. TurnsTo polls_of cancels_of no_aim now result.0.woken exec.old exec.new ran) }
     ensures reaches { IfOk result.1 (λ ran. Reaches (ready_of now result.0.woken exec.old) (tasks_of exec.new) ran.polled.items ran.stopped) }
+    ensures places { KeepsPlaces exec.old exec.new }
+    ensures spawned { spawned_of exec.new ≡ spawned_of exec.old }
     ensures marked { OnErr result.1 ((t : ℕ) → tasks_of exec.new t ≡ ready_of now result.0.woken exec.old t) }
 {
     let turned = turn_driver(exec);

@@ -8,7 +8,7 @@ use Rattle.driver_core.specs.Ops.{Ops}
 use Rattle.ready_driver.specs.Io.{IoView}
 use Rattle.ready_driver.specs.LegacyState.{LegacyState, ops_in}
 use Rattle.pipe_job.specs.Causes.{FaultFor, WaitsFor}
-use Rattle.pipe_job.specs.Waits.{ApartWaits, FitsWait, HasNone}
+use Rattle.pipe_job.specs.Waits.{ApartWaits, FitsWait, HasNone, IsGone}
 use Rattle.pipe_job.specs.declared.pipe_job.PipeJob.{PipeJob}
 
 -- How often a job was polled, and how often its cancel was asked for.
@@ -30,6 +30,9 @@ IsAim aim (Err fault) = Unit {0}
 -- The driver holds the operation that a job waits for.
 abbrev pub FitsPipe : {I : Type 0} → LegacyState I Rented → PipeJob → Type 0
 FitsPipe driver job = FitsWait (ops_in driver) job.course.pipe job.cancels job.wait
+
+abbrev pub IsGonePipe : {I : Type 0} → LegacyState I Rented → PipeJob → Type 0
+IsGonePipe driver job = IsGone (ops_in driver) job.wait
 
 abbrev pub ApartPipes : PipeJob → PipeJob → Type 0
 ApartPipes one other = ApartWaits one.wait other.wait

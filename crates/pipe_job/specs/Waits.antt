@@ -40,6 +40,11 @@ abbrev pub HoldsWait : Ops Rented → Wait → Type 0
 HoldsWait ops (Room room) = Unit {0}
 HoldsWait ops (Waiting op) = Holds ops op
 
+-- The operation that a job waits for is gone, if it waits for one.
+abbrev pub IsGone : Ops Rented → Wait → Type 0
+IsGone ops (Room room) = Unit {0}
+IsGone ops (Waiting op) = Holds ops op → ⊥
+
 -- Two jobs don't wait for the same operation.
 abbrev pub ApartWaits : Wait → Wait → Type 0
 ApartWaits (Waiting one) (Waiting other) = one ≢ other

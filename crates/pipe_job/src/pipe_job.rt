@@ -3,10 +3,10 @@ ghost use Rattle.std.specs.Prelude.{◌≡◌, ◌<◌, ◌+◌, ◌^◌, ℕ, O
 ghost use Rattle.core_exec.specs.Job.{IfBack, Steps};
 ghost use Rattle.ready_driver.specs.LegacyState.{ops_in};
 ghost use Rattle.pipe_job.specs.PipeJob.{FitsPipe, ApartPipes, IsIdle, IsAim, aim_of, cancels_of, polls_of};
-ghost use Rattle.pipe_job.specs.PipeJob.{EndsJob, FitsEach, WaitsJob};
+ghost use Rattle.pipe_job.specs.PipeJob.{EndsJob, FitsEach, IsGonePipe, WaitsJob};
 ghost use Rattle.pipe_job.specs.Course.{IsSameBytes};
 ghost use Rattle.pipe_job.specs.Steps.{IfWhole, IsWhole, StepsTo, as_step};
-ghost use Rattle.pipe_job.specs.Waits.{FitsWait, HoldsWait, KeepsApart, apart_swaps, idle_apart};
+ghost use Rattle.pipe_job.specs.Waits.{FitsWait, HoldsWait, IsGone, KeepsApart, apart_swaps, idle_apart};
 
 use crate::course::Course;
 use crate::step::{Step, Wait, advance};
@@ -46,6 +46,7 @@ impl PipeJob {
     #[tactic(auto, using(crate::proofs::Frames::fits_holds))]
     pub fn abandon<I: NonBlock>(self, driver: &mut LegacyDriver<I, Rent>)
         requires fits { FitsPipe driver.old self }
+        ensures gone { IsGonePipe driver.new self }
         ensures others { (other : PipeJob) → FitsPipe driver.old other → ApartPipes self other → FitsPipe driver.new other }
     {
         let PipeJob {
@@ -62,6 +63,7 @@ impl PipeJob {
 #[tactic(auto, using(crate::proofs::Frames::same_fit, crate::proofs::Frames::dropped_apart))]
 fn drop_wait<I: NonBlock>(driver: &mut LegacyDriver<I, Rent>, wait: Wait)
     requires fits { HoldsWait (ops_in driver.old) wait }
+    ensures gone { IsGone (ops_in driver.new) wait }
     ensures others { KeepsApart (ops_in driver.old) (ops_in driver.new) wait }
 {
     match wait {

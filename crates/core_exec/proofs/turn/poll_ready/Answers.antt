@@ -6,6 +6,7 @@ use Rattle.core_exec.specs.Marks.{Covers}
 use Rattle.core_exec.specs.Turns.{Turns, Reaches}
 use Rattle.core_exec.proofs.Reaching.{Turning, rising_sorted, turning_starts}
 use Rattle.core_exec.proofs.Looping.{loop_next, loop_stops, loop_outputs, outputs_none, marks_step}
+use Rattle.core_exec.proofs.Placing.{places_step}
 use Rattle.core_exec.proofs.turn.poll_ready.Given as given
 use Rattle.core_exec.proofs.turn.poll_ready.Goals as goal
 
@@ -32,6 +33,7 @@ loop-k-init g c = record {
       c.requires.listed.covers)));
   outputs = outputs_none g.J.Job.aim g.J.Job.meets
       (task_at c.args.ready.now.table) c.args.ran.now.done.items c.args.outputs.now.items c.requires.done.0;
+  places = λ s. refl;
   marks_room = search rules;
   len = refl;
   capacity = refl;
@@ -75,6 +77,13 @@ returns-then-stops-clause-covers g c =
     ∙ c.loop-k.invariant.marks))
     (stopped_here g c).2
 
+pub returns-then-stops-clause-places : goal.returns-then-stops-clause-places
+returns-then-stops-clause-places g c = λ s.
+    places_step g.J.Job.polls g.J.Job.cancels g.J.Job.aim g.J.Job.meets _ c.index-t.result.now
+    (task_at c.loop-k.ready.table) (task_at c.poll_at-seen.new.ready.table) c.loop-k.outputs.items c.poll_at-seen.new.outputs.items
+    c.poll_at-seen.result c.poll_at-seen.ensures.this c.poll_at-seen.ensures.rest c.poll_at-seen.ensures.output s
+    ∙ c.loop-k.invariant.places s
+
 -- one number more
 pub loop-k-preserved : goal.loop-k-preserved
 loop-k-preserved g c =
@@ -107,6 +116,10 @@ loop-k-preserved g c =
           c.poll_at-seen.ensures.polled c.poll_at-seen.ensures.canceled c.poll_at-seen.ensures.done g.J.Job.meets
           c.args.outputs.now.items c.loop-k.outputs.items c.poll_at-seen.new.outputs.items
           c.loop-k.invariant.outputs c.poll_at-seen.ensures.output;
+      places = λ s. places_step g.J.Job.polls g.J.Job.cancels g.J.Job.aim g.J.Job.meets _ c.index-t.result.now
+          (task_at c.loop-k.ready.table) (task_at c.poll_at-seen.new.ready.table) c.loop-k.outputs.items c.poll_at-seen.new.outputs.items
+          c.poll_at-seen.result c.poll_at-seen.ensures.this c.poll_at-seen.ensures.rest c.poll_at-seen.ensures.output s
+          ∙ c.loop-k.invariant.places s;
       marks_room =
           let more = marks_step c.poll_at-seen.result _ _ c.poll_at-seen.ensures.unmarked in
           let len = ap (λ v. vec_len v) c.poll_at-seen.ensures.marks.0 in

@@ -3,6 +3,7 @@ use Rattle.std.specs.Vec.{vec_len, vec_capacity}
 use Rattle.std.specs.BTreeMap.{btree_map_len}
 use Rattle.core_exec.specs.Tasks.{AreSound, HaveJobs, task_at, job_at, unmarked_in}
 use Rattle.core_exec.specs.Marks.{HasDeadlines}
+use Rattle.core_exec.specs.Places.{StayPlaced}
 use Rattle.core_exec.specs.Turns.{AddsOutputs}
 use Rattle.core_exec.proofs.Reaching.{Turning}
 use Rattle.core_exec.proofs.turn.poll_ready.Given as goal
@@ -18,6 +19,7 @@ invariant-loop-k g l = record {
   turning : Turning g.J.Job.polls g.J.Job.cancels g.J.Job.aim l.initial.ready.moment (task_at l.initial.ready.table) (task_at l.ready.table)
       l.ran.polled.items l.ran.canceled.items l.ran.done.items (drop l.k l.initial.ready.marks.items);
   outputs : AddsOutputs g.J.Job.aim g.J.Job.meets (task_at l.initial.ready.table) l.ran.done.items l.initial.outputs.items l.outputs.items;
+  places : StayPlaced (task_at l.initial.ready.table) l.initial.outputs.items (task_at l.ready.table) l.outputs.items;
   marks_room : vec_len l.ready.marks + unmarked_in l.ready.table ≤ vec_capacity l.ready.marks + l.k;
   len : vec_len l.outputs + btree_map_len l.ready.table.tree ≡ vec_len l.initial.outputs + btree_map_len l.initial.ready.table.tree;
   capacity : vec_capacity l.outputs ≡ vec_capacity l.initial.outputs;

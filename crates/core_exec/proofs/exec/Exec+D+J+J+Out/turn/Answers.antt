@@ -1,9 +1,11 @@
-use Rattle.std.proofs.Common.{◌≡◌, sym, subst}
+use Rattle.std.proofs.Common.{rules, ◌≡◌, sym, subst}
 use Rattle.core_exec.specs.Tasks.{task_at}
 use Rattle.core_exec.specs.Marks.{ready_tasks}
 use Rattle.core_exec.specs.Turns.{AddsOutputs, Reaches}
 use Rattle.core_exec.specs.Exec.{HasAims, tasks_of}
+use Rattle.core_exec.specs.Places.{ArePlaced}
 use Rattle.core_exec.proofs.Aims.{aims_ready, aims_turn}
+use Rattle.core_exec.proofs.Placing.{placed_turn}
 use Rattle.core_exec.proofs.exec.Exec+D+J+J+Out.turn.Goals as goal
 
 -- the tasks that the turn began with are the ready ones
@@ -37,3 +39,14 @@ returns-clause-aims g c = λ aims has.
     c.poll_ready-came.ensures.outputs
     (subst (λ was. HasAims g.J.Job.aim g.J.Job.meets aims was c.args.self.now.outputs.items) (sym ready)
     (aims_ready g.J.Job.aim g.J.Job.meets aims c.args.now c.args.named.now (tasks_of c.args.self.now) c.args.self.now.outputs.items has)))
+
+-- each task is in one place at most still
+pub returns-clause-stands : goal.returns-clause-stands
+returns-clause-stands g c =
+    let after = c.poll_ready-came.new in
+    let placed : ArePlaced c.args.self.now.spawned (task_at c.drop_first.new.self.table) after.outputs.items =
+    subst (λ table. ArePlaced c.args.self.now.spawned (task_at table) after.outputs.items) (sym c.drop_first.ensures.table)
+    (placed_turn c.args.self.now.spawned c.args.now c.args.named.now (tasks_of c.args.self.now) (task_at c.mark_ready.new.self.table)
+    (task_at after.ready.table) c.args.self.now.outputs.items after.outputs.items c.mark_ready.ensures.each c.poll_ready-came.ensures.places
+    c.requires.stands.numbers c.requires.stands.placed) in
+    search rules
