@@ -13,9 +13,6 @@ use ring_core::{HandleKind, MOST_HANDLES, Names};
 use std::alloc::Global;
 use std::test::Fail;
 
-mod copies;
-mod lines;
-
 // How often a connection meets its driver at most.
 const STEPS: usize = 200;
 
