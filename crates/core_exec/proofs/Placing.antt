@@ -9,7 +9,7 @@ use Rattle.std.proofs.lemmas.List.Sums.{sum_by_push}
 use Rattle.core_exec.specs.declared.table.Task.{Task}
 use Rattle.core_exec.specs.declared.visit.Visit.{Visit}
 use Rattle.core_exec.specs.declared.visit.Visit.TheVariants.{Done, Pending, Short, Refused}
-use Rattle.core_exec.specs.Tasks.{job_in, mark_of}
+use Rattle.core_exec.specs.Tasks.{job_in}
 use Rattle.core_exec.specs.Marks.{has_number, is_late, with_mark, ready_tasks}
 use Rattle.core_exec.specs.Places.{ArePlaced, StayPlaced, outputs_at, places}
 use Rattle.core_exec.specs.Steps.{StepsTask, StepsOutput}
@@ -194,6 +194,7 @@ pub taken_once : {J O : Type 0} (spawned : ℕ) (tasks : ℕ → Option (Task J)
 taken_once spawned tasks before taken moved placed t =
     let few = placed.once t in let same = outputs_moved before taken moved t in omega (arith, few, same)
 
+-- A task that wasn't spawned has none of them.
 pub taken_spawned : {J O : Type 0} (spawned : ℕ) (tasks : ℕ → Option (Task J)) (before taken : List (ℕ × O)) → IsPermutation before taken
     → ArePlaced spawned tasks before → (t : ℕ) → spawned ≤ t → outputs_at taken t ≡ 0
 taken_spawned spawned tasks before taken moved placed t late = outputs_moved before taken moved t ∙ placed.of_spawned t late

@@ -1,6 +1,6 @@
 -- Where a task is: unfinished, or behind it an output that wasn't taken. Cited by `Exec`.
-use Rattle.std.specs.Prelude.{ℕ, ◌≡◌, ◌≤◌, ◌<◌, ◌+◌, ◌==◌, cond, is_some, length, List, Option}
-use Rattle.std.specs.List.{All, count_by}
+use Rattle.std.specs.Prelude.{ℕ, ◌≡◌, ◌≤◌, ◌+◌, ◌==◌, cond, is_some, List, Option}
+use Rattle.std.specs.List.{count_by}
 use Rattle.core_exec.specs.declared.table.Task.{Task}
 
 -- How many of some outputs are those of a task.

@@ -1,5 +1,5 @@
 -- Marks of several numbers, one after another.
-use Rattle.std.proofs.Common.{ℕ, ◌≡◌, ◌∙◌, ap, sym, refl, subst, Bool, true, false, List, [], ◌∷◌, ◌++◌, Some, None}
+use Rattle.std.proofs.Common.{ℕ, ◌≡◌, ◌∙◌, ap, sym, refl, subst, Bool, List, [], ◌∷◌, ◌++◌, Some, None}
 use Rattle.std.specs.Prelude.{◌||◌, ◌==◌, Option, option_map}
 use Rattle.core_exec.specs.declared.table.Task.{Task}
 use Rattle.core_exec.specs.Marks.{has_number, is_late, ready_tasks, with_mark}
@@ -39,6 +39,7 @@ marks_both xs ys was mid is first second s =
     second s ∙ ap (λ x. option_map (with_mark (has_number s ys)) x) (first s) ∙ two_marks (has_number s xs) (has_number s ys) (was s)
     ∙ ap (λ b. option_map (with_mark b) (was s)) (sym (has_both s xs ys))
 
+-- A mark makes no task late.
 late_same : {J : Type 0} (now : ℕ) (b : Bool) (x : Option (Task J)) → is_late now (option_map (with_mark b) x) ≡ is_late now x
 late_same now b None = refl
 late_same now b (Some task) = refl

@@ -1,8 +1,6 @@
 -- Whom wakers wake. Cited by `wake_all`.
 use Rattle.std.specs.Prelude.{ℕ, ◌≡◌, List, [], ◌∷◌, ◌++◌, Option, option_map}
-use Rattle.core_exec.specs.declared.exec.Exec.{Exec}
 use Rattle.core_exec.specs.declared.table.Task.{Task}
-use Rattle.core_exec.specs.Exec.{tasks_of}
 use Rattle.core_exec.specs.Marks.{has_number, with_mark}
 use Rattle.driver_core.specs.declared.driver.Parked.{Parked}
 use Rattle.wake_core.specs.declared.waker.Waker.{Waker}

@@ -1,4 +1,4 @@
-use Rattle.std.proofs.Common.{◌≡◌, ◌+◌, ◌∙◌, ap}
+use Rattle.std.proofs.Common.{◌+◌, ◌∙◌, ap}
 use Rattle.core_exec.specs.Tasks.{task_at}
 use Rattle.core_exec.proofs.Placing.{placed_spawn}
 use Rattle.core_exec.proofs.exec.Exec+D+J+J+Out.spawn_at.Goals as goal
