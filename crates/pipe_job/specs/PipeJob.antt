@@ -1,15 +1,19 @@
 -- A job over a pipe, and the driver that it fits. Cited by `PipeJob`.
-use Rattle.std.specs.Prelude.{ℕ, ◌≡◌, List, Result, Ok, Err}
+use Rattle.std.specs.Prelude.{ℕ, ◌≡◌, List, Result, Ok, Err, IsOk}
 use Rattle.rent_buf.specs.Rent.{Rented}
 use Rattle.rent_buf.specs.declared.fault.IoFault.{IoFault}
+use Rattle.rent_buf.specs.declared.fault.OutOfMemory.{OutOfMemory}
 use Rattle.core_exec.specs.declared.job.JobStep.{JobStep}
 use Rattle.core_exec.specs.declared.job.JobStep.TheVariants as job
 use Rattle.driver_core.specs.Ops.{Ops}
 use Rattle.ready_driver.specs.Io.{IoView}
 use Rattle.ready_driver.specs.LegacyState.{LegacyState, ops_in}
+use Rattle.op_driver.specs.Legacy.{LegacyCancels}
 use Rattle.pipe_job.specs.Causes.{FaultFor, WaitsFor}
 use Rattle.pipe_job.specs.Waits.{ApartWaits, FitsWait, HasNone, IsGone}
 use Rattle.pipe_job.specs.declared.pipe_job.PipeJob.{PipeJob}
+use Rattle.pipe_job.specs.declared.step.Wait.{Wait}
+use Rattle.pipe_job.specs.declared.step.Wait.TheVariants.{Room, Waiting}
 
 -- How often a job was polled, and how often its cancel was asked for.
 abbrev pub polls_of : PipeJob → ℕ
@@ -39,6 +43,14 @@ ApartPipes one other = ApartWaits one.wait other.wait
 
 abbrev pub IsIdle : PipeJob → Type 0
 IsIdle job = HasNone job.wait
+
+-- A cancel is the driver's, of the operation that a job waits for; without one nothing is asked for, and the driver is as it was.
+abbrev pub AsksWait : {I : Type 0} → LegacyState I Rented → LegacyState I Rented → Wait → Result Unit OutOfMemory → Type 0
+AsksWait old new (Room room) result = (new ≡ old) × IsOk result
+AsksWait old new (Waiting op) result = LegacyCancels old new op result
+
+abbrev pub AsksPipe : {I : Type 0} → LegacyState I Rented → LegacyState I Rented → PipeJob → Result Unit OutOfMemory → Type 0
+AsksPipe old new job result = AsksWait old new job.wait result
 
 -- A job fits every driver.
 abbrev pub FitsEach : PipeJob → Type 0

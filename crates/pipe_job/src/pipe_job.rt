@@ -3,7 +3,7 @@ ghost use Rattle.std.specs.Prelude.{◌≡◌, ◌<◌, ◌+◌, ◌^◌, ℕ, O
 ghost use Rattle.core_exec.specs.Job.{IfBack, Steps};
 ghost use Rattle.ready_driver.specs.LegacyState.{ops_in};
 ghost use Rattle.pipe_job.specs.PipeJob.{FitsPipe, ApartPipes, IsIdle, IsAim, aim_of, cancels_of, polls_of};
-ghost use Rattle.pipe_job.specs.PipeJob.{EndsJob, FitsEach, IsGonePipe, WaitsJob};
+ghost use Rattle.pipe_job.specs.PipeJob.{AsksPipe, AsksWait, EndsJob, FitsEach, IsGonePipe, WaitsJob};
 ghost use Rattle.pipe_job.specs.Course.{IsSameBytes};
 ghost use Rattle.pipe_job.specs.Steps.{IfWhole, IsWhole, StepsTo, as_step};
 ghost use Rattle.pipe_job.specs.Waits.{FitsWait, HoldsWait, IsGone, KeepsApart, apart_swaps, idle_apart};
@@ -83,6 +83,7 @@ fn cancel_wait<I: NonBlock>(
     requires fits { FitsWait (ops_in driver.old) course.now.pipe cancels wait.now }
     ensures fits { OnOk result (FitsWait (ops_in driver.new) course.now.pipe (cancels + 1) wait.now) }
     ensures others { KeepsApart (ops_in driver.old) (ops_in driver.new) wait.now }
+    ensures asks { AsksWait driver.old driver.new wait.now result }
     ensures err { OnErr result (driver.new ≡ driver.old) }
 {
     match wait {
@@ -179,7 +180,19 @@ impl<I: NonBlock> Job<LegacyDriver<I, Rent>> for PipeJob {
     }
 
     #[tactic(auto, using(crate::proofs::Frames::fits_holds))]
-    fn cancel(&mut self, driver: &mut LegacyDriver<I, Rent>) -> Result<(), OutOfMemory> {
+    fn cancel(&mut self, driver: &mut LegacyDriver<I, Rent>) -> Result<(), OutOfMemory>
+        requires fits { FitsPipe driver.old self.old }
+        requires counter { cancels_of self.old < 2 ^ 62 }
+        ensures ok { OnOk result (cancels_of self.new ≡ cancels_of self.old + 1) }
+        ensures err { OnErr result (self.new ≡ self.old) }
+        ensures polls { polls_of self.new ≡ polls_of self.old }
+        ensures aim { aim_of self.new ≡ aim_of self.old }
+        ensures fits { FitsPipe driver.new self.new }
+        ensures others { (other : PipeJob) → FitsPipe driver.old other → ApartPipes self.old other → FitsPipe driver.new other }
+        ensures apart { (other : PipeJob) → FitsPipe driver.old other → ApartPipes self.old other → ApartPipes self.new other }
+        // The driver is asked for the cancel of the operation that it waits for.
+        ensures asks { AsksPipe driver.old driver.new self.old result }
+    {
         cancel_wait(driver, &self.course, &self.wait, self.cancels)?;
         self.cancels += 1;
         Ok(())
