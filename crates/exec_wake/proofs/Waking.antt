@@ -1,10 +1,12 @@
 -- Marks of several numbers, one after another.
-use Rattle.std.proofs.Common.{ℕ, ◌≡◌, ◌∙◌, ap, sym, refl, subst, Bool, List, [], ◌∷◌, ◌++◌, Some, None}
-use Rattle.std.specs.Prelude.{◌||◌, ◌==◌, Option, option_map}
+use Rattle.std.proofs.Common.{ℕ, ◌≡◌, ◌+◌, ◌∙◌, ap, sym, refl, subst, Bool, cond, List, [], ◌∷◌, ◌++◌, Some, None, length}
+use Rattle.std.specs.Prelude.{◌||◌, ◌==◌, Option, is_some, option_map}
 use Rattle.core_exec.specs.declared.table.Task.{Task}
 use Rattle.core_exec.specs.Marks.{has_number, is_late, ready_tasks, with_mark}
+use Rattle.core_exec.specs.Places.{StayPlaced, outputs_at}
 use Rattle.core_exec.proofs.Marking.{no_mark, or_assoc, two_marks}
-use Rattle.core_exec.specs.Turns.{Reaches, Turns}
+use Rattle.core_exec.proofs.Placing.{places_ready}
+use Rattle.core_exec.specs.Turns.{AddsOutputs, Reaches, Turns}
 use Rattle.exec_wake.specs.Wakes.{MarksTasks}
 
 -- Those that are marked, and then those that are left to mark, are all.
@@ -73,7 +75,33 @@ reached_all now marked named was mid is polled stopped marks reaches =
     let same : ready_tasks now named mid ≡ ready_tasks now (marked ++ named) was = λ i s. ready_behind now marked named was mid marks s i in
     subst (λ x. Reaches x is polled stopped) same reaches
 
+-- The outputs of those that are done join the others.
+pub added_all : {J O : Type 0} (aim : J → List ℕ) (meets : List ℕ → O → Type 0) (now : ℕ) (marked named : List ℕ)
+    (was mid : ℕ → Option (Task J)) (done : List ℕ) (before between after : List (ℕ × O)) → MarksTasks marked was mid → between ≡ before
+    → AddsOutputs aim meets (ready_tasks now named mid) done between after
+    → AddsOutputs aim meets (ready_tasks now (marked ++ named) was) done before after
+added_all aim meets now marked named was mid done before between after marks outputs adds =
+    let same : ready_tasks now named mid ≡ ready_tasks now (marked ++ named) was = λ i s. ready_behind now marked named was mid marks s i in
+    subst (λ x. AddsOutputs aim meets x done before after) same
+    (subst (λ x. AddsOutputs aim meets (ready_tasks now named mid) done x after) outputs adds)
+
 -- Where no task was polled, these are marked.
 pub marked_all : {J : Type 0} (now : ℕ) (marked named : List ℕ) (was mid is : ℕ → Option (Task J)) → MarksTasks marked was mid
     → ((s : ℕ) → is s ≡ ready_tasks now named mid s) → (s : ℕ) → is s ≡ ready_tasks now (marked ++ named) was s
 marked_all now marked named was mid is marks same s = same s ∙ ready_behind now marked named was mid marks s
+
+-- A turn behind such marks leaves each task in as many places.
+stay_all : {J O : Type 0} (marked : List ℕ) (was mid is : ℕ → Option (Task J)) (before after : List (ℕ × O)) → MarksTasks marked was mid
+    → StayPlaced mid before is after → StayPlaced was before is after
+stay_all marked was mid is before after marks stay t =
+    stay t ∙ (ap (λ x. outputs_at before t + cond (is_some x) 1 0) (marks t) ∙ places_ready (has_number t marked) before t (was t))
+
+-- So it loses none, and there are as many unfinished tasks and outputs in all.
+pub placed_all : {J O : Type 0} (marked : List ℕ) (was mid is : ℕ → Option (Task J)) (before between after : List (ℕ × O)) (n m k : ℕ)
+    → MarksTasks marked was mid → between ≡ before → m ≡ n
+    → StayPlaced mid between is after × (length after + k ≡ length between + m)
+    → StayPlaced was before is after × (length after + k ≡ length before + n)
+placed_all marked was mid is before between after n m k marks outputs counts stay = (
+  stay_all marked was mid is before after marks (subst (λ x. StayPlaced mid x is after) outputs stay.0),
+  stay.1 ∙ (ap (λ x. length x + m) outputs ∙ ap (λ x. length before + x) counts),
+)

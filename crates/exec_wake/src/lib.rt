@@ -3,4 +3,4 @@
 
 mod wakes;
 
-pub use wakes::wake_all;
+pub use wakes::{turn_parked, wake_all, wake_parked};
