@@ -7,7 +7,9 @@ use Rattle.driver_core.specs.declared.op.PollOp.{PollOp}
 use Rattle.driver_core.specs.declared.op.PollOp.TheVariants.{Pending, Ready}
 use Rattle.driver_core.specs.Op.{AddsToken, DropsToken, KeepsTokens, number_of}
 use Rattle.driver_core.specs.Ops.{Ops}
+use Rattle.driver_core.specs.Slot.{number_at}
 use Rattle.ready_driver.specs.Awaits.{TokensFor}
+use Rattle.ready_driver.specs.LegacyState.{LegacyState, ops_in}
 use Rattle.op_job.specs.declared.op_job.State.{State}
 use Rattle.op_job.specs.declared.op_job.State.TheVariants.{Unsent, Waiting}
 use Rattle.core_exec.specs.Tasks.{AreSound, IsApart}
@@ -16,7 +18,8 @@ use Rattle.op_job.specs.OpJob.{ApartOps, ApartStates, FitsOps, FitsState, KeepsA
 
 module _ {B : Type 0} where
   -- A call that keeps every token keeps each state.
-  pub kept_fits : (old new : Ops B) → KeepsTokens old new → new.given ≡ old.given → (state : State B) → FitsState old state → FitsState new state
+  pub kept_fits : (old new : Ops B) → KeepsTokens old new → new.given ≡ old.given → (state : State B) → FitsState old state
+      → FitsState new state
   kept_fits old new keeps given (Unsent request) fits = tt
   kept_fits old new keeps given (Waiting op) fits = ((keeps op).0 fits.0, let below = fits.1 in omega (arith, below, given))
 
@@ -37,13 +40,16 @@ module _ {B : Type 0} where
   -- A submission keeps each state.
   pub submitted_fits : (old new : Ops B) (op : Op) → AddsToken old new op → (state : State B) → FitsState old state → FitsState new state
   submitted_fits old new op adds (Unsent request) fits = tt
-  submitted_fits old new op adds (Waiting other) fits = (adds.kept other fits.0, let below = fits.1 in let next = adds.next in omega (arith, below, next))
+  submitted_fits old new op adds (Waiting other) fits =
+      (adds.kept other fits.0, let below = fits.1 in let next = adds.next in omega (arith, below, next))
 
   -- Its operation is no other's.
-  pub submitted_apart : (old new : Ops B) (op : Op) → AddsToken old new op → (other : State B) → FitsState old other → ApartStates {B = B} (Waiting op) other
+  pub submitted_apart : (old new : Ops B) (op : Op) → AddsToken old new op → (other : State B) → FitsState old other
+      → ApartStates {B = B} (Waiting op) other
   submitted_apart old new op adds (Unsent request) fits = tt
   submitted_apart old new op adds (Waiting other) fits = λ same.
-      let below = fits.1 in let number = adds.number in let e : number_of op ≡ number_of other = ap number_of same in absurd (omega (arith, below, number, e))
+      let below = fits.1 in let number = adds.number in let e : number_of op ≡ number_of other = ap number_of same in
+      absurd (omega (arith, below, number, e))
 
 -- Jobs that are sound over a driver are so behind a call that keeps every token.
 pub kept_sound : {D B : Type 0} (ops : D → Ops B) (old new : D) (jobs : ℕ → Option (OpJob B)) → KeepsTokens (ops old) (ops new)
@@ -52,6 +58,18 @@ kept_sound ops old new jobs keeps given sound = record {
   all_fit = λ t job is. kept_fits (ops old) (ops new) keeps given job.state (sound.all_fit t job is);
   all_apart = sound.all_apart;
 }
+
+-- Where the slots' values are the same, every token is held as before.
+same_tokens : {I B : Type 0} (old new : LegacyState I B) → new.slots.values ≡ old.slots.values → KeepsTokens (ops_in old) (ops_in new)
+same_tokens old new same op = (
+  (λ held. subst (λ v. number_at v op.key ≡ Some (number_of op)) (sym same) held),
+  (λ held. subst (λ v. number_at v op.key ≡ Some (number_of op)) same held),
+)
+
+-- Over a readiness driver they are so behind a call that leaves each slot.
+pub slots_sound : {I B : Type 0} (old new : LegacyState I B) (jobs : ℕ → Option (OpJob B)) → new.slots ≡ old.slots
+    → new.given ≡ old.given → AreSound (FitsOps ops_in) ApartOps old jobs → AreSound (FitsOps ops_in) ApartOps new jobs
+slots_sound old new jobs slots given sound = kept_sound ops_in old new jobs (same_tokens old new (ap (λ s. s.values) slots)) given sound
 
 -- Jobs are sound behind the drop of one that was apart from them.
 pub abandoned_sound : {D B : Type 0} (ops : D → Ops B) (old new : D) (jobs : ℕ → Option (OpJob B)) (job : OpJob B)

@@ -1,5 +1,5 @@
 -- A job of one operation, and the driver that holds it. Cited by `OpJob`.
-use Rattle.std.specs.Prelude.{ℕ, ◌≡◌, ◌≢◌, ◌<◌, List, [], Result}
+use Rattle.std.specs.Prelude.{ℕ, ◌≡◌, ◌≢◌, ◌<◌, List, [], Result, IsOk}
 use Rattle.rent_buf.specs.declared.fault.OutOfMemory.{OutOfMemory}
 use Rattle.std.proofs.Common.{sym}
 use Rattle.driver_core.specs.declared.op.Op.{Op}
@@ -37,13 +37,14 @@ KeepsApart {B} old new state = (other : State B) → FitsState old other → Apa
 
 -- A cancel is that of the operation that a job waits for, as the driver says it, and without one it changes nothing.
 abbrev pub AsksOp : {D B : Type 0} → (D → D → Op → Result Unit OutOfMemory → Type 0) → D → D → State B → Result Unit OutOfMemory → Type 0
-AsksOp cancels old new (Unsent request) result = new ≡ old
+AsksOp cancels old new (Unsent request) result = (new ≡ old) × IsOk result
 AsksOp cancels old new (Waiting op) result = cancels old new op result
 
--- How often a job was polled, and how often its cancel was asked for.
+-- How often a job was polled.
 abbrev pub polls_of : {B : Type 0} → OpJob B → ℕ
 polls_of job = job.polls
 
+-- How often its cancel was asked for.
 abbrev pub cancels_of : {B : Type 0} → OpJob B → ℕ
 cancels_of job = job.cancels
 
@@ -51,12 +52,19 @@ cancels_of job = job.cancels
 abbrev pub FitsOps : {D B : Type 0} → (D → Ops B) → D → OpJob B → Type 0
 FitsOps ops driver job = FitsState (ops driver) job.state
 
+-- The operation that a job waited for is gone, if it waited for one.
 abbrev pub GoneOps : {D B : Type 0} → (D → Ops B) → D → OpJob B → Type 0
 GoneOps ops driver job = IsGone (ops driver) job.state
 
+-- A cancel of a job is that of the operation that it waits for, as the driver says it.
+abbrev pub AsksOps : {D B : Type 0} → (D → D → Op → Result Unit OutOfMemory → Type 0) → D → D → OpJob B → Result Unit OutOfMemory → Type 0
+AsksOps cancels old new job result = AsksOp cancels old new job.state result
+
+-- Two jobs don't wait for the same operation.
 abbrev pub ApartOps : {B : Type 0} → OpJob B → OpJob B → Type 0
 ApartOps one other = ApartStates one.state other.state
 
+-- A job has no operation.
 abbrev pub HasNoOp : {B : Type 0} → OpJob B → Type 0
 HasNoOp job = IsUnsent job.state
 
@@ -64,6 +72,7 @@ HasNoOp job = IsUnsent job.state
 abbrev pub no_aim : {B : Type 0} → OpJob B → List ℕ
 no_aim job = []
 
+-- So each output meets that.
 abbrev pub AnyEnd : {B : Type 0} → List ℕ → OpEnd B → Type 0
 AnyEnd aim end = Unit {0}
 

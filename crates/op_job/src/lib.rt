@@ -2,7 +2,9 @@
 #![tactic(auto)]
 
 mod op_job;
+mod parks;
 mod turns;
 
 pub use op_job::{OpEnd, OpJob};
+pub use parks::park;
 pub use turns::{OpExec, abandon_all, turn};

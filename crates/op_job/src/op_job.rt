@@ -1,6 +1,6 @@
 //! A job that submits one request, and is done as its operation ends.
-ghost use Rattle.std.specs.Prelude.{◌≡◌};
-ghost use Rattle.op_job.specs.OpJob.{AnyEnd, AsksOp, ApartOps, ApartStates, FitsOps, FitsState, GoneOps, HasNoOp, KeepsApart};
+ghost use Rattle.std.specs.Prelude.{◌≡◌, ◌<◌, ◌+◌, ◌^◌, OnErr, OnOk};
+ghost use Rattle.op_job.specs.OpJob.{AnyEnd, AsksOp, AsksOps, ApartOps, ApartStates, FitsOps, FitsState, GoneOps, HasNoOp, KeepsApart};
 ghost use Rattle.op_job.specs.OpJob.{apart_swaps, cancels_of, no_aim, polls_of, unsent_apart};
 ghost use Rattle.core_exec.specs.Job.{IfBack};
 
@@ -51,7 +51,8 @@ impl<B: IoBufMut + Drop> OpJob<B> {
         }
     }
 
-    /// Drops a job, and its operation if it has one. Each other job that fits the driver and doesn't wait for the same operation fits still.
+    /// Drops a job, and its operation if it has one. Each other job that fits the driver and doesn't wait for the same operation fits
+    /// still.
     pub fn abandon<D: OpDriver<B>>(self, driver: &mut D)
         requires fits { FitsOps D.ops driver.old self }
         ensures gone { GoneOps D.ops driver.new self }
@@ -121,7 +122,8 @@ fn poll_state<B: IoBufMut + Drop, D: OpDriver<B>>(
     requires fits { FitsState (D.ops driver.old) state }
     ensures fits { IfBack result (FitsState (D.ops driver.new)) }
     ensures others { KeepsApart (D.ops driver.old) (D.ops driver.new) state }
-    ensures apart { IfBack result (λ next. (other : State B) → FitsState (D.ops driver.old) other → ApartStates state other → ApartStates next other) }
+    ensures apart { IfBack result (λ next. (other : State B) → FitsState (D.ops driver.old) other → ApartStates state other
+        → ApartStates next other) }
 {
     match state {
         State::Unsent(request) => {
@@ -193,7 +195,19 @@ impl<B: IoBufMut + Drop, D: OpDriver<B>> Job<D> for OpJob<B> {
         }
     }
 
-    fn cancel(&mut self, driver: &mut D) -> Result<(), OutOfMemory> {
+    fn cancel(&mut self, driver: &mut D) -> Result<(), OutOfMemory>
+        requires fits { FitsOps D.ops driver.old self.old }
+        requires counter { cancels_of self.old < 2 ^ 62 }
+        ensures ok { OnOk result (cancels_of self.new ≡ cancels_of self.old + 1) }
+        ensures err { OnErr result (self.new ≡ self.old) }
+        ensures polls { polls_of self.new ≡ polls_of self.old }
+        ensures aim { no_aim self.new ≡ no_aim self.old }
+        ensures fits { FitsOps D.ops driver.new self.new }
+        ensures others { (other : OpJob B) → FitsOps D.ops driver.old other → ApartOps self.old other → FitsOps D.ops driver.new other }
+        ensures apart { (other : OpJob B) → FitsOps D.ops driver.old other → ApartOps self.old other → ApartOps self.new other }
+        // The driver is asked for the cancel of the operation that it waits for.
+        ensures asks { AsksOps D.cancels driver.old driver.new self.old result }
+    {
         cancel_state(driver, &self.state)?;
         self.cancels += 1;
         Ok(())

@@ -38,7 +38,8 @@ pub fn turn<B: IoBufMut + Drop, D: OpDriver<B>>(
     ensures sound { IsSound (FitsOps D.ops) ApartOps exec.new }
     ensures moment { moment_of exec.new ≡ now }
     ensures turns { IfOk result.1 (λ ran. TurnsTo polls_of cancels_of no_aim now result.0.woken exec.old exec.new ran) }
-    ensures reaches { IfOk result.1 (λ ran. Reaches (ready_of now result.0.woken exec.old) (tasks_of exec.new) ran.polled.items ran.stopped) }
+    ensures reaches { IfOk result.1 (λ ran. Reaches (ready_of now result.0.woken exec.old) (tasks_of exec.new) ran.polled.items
+        ran.stopped) }
     ensures places { KeepsPlaces exec.old exec.new }
     ensures spawned { spawned_of exec.new ≡ spawned_of exec.old }
     ensures marked { OnErr result.1 ((t : ℕ) → tasks_of exec.new t ≡ ready_of now result.0.woken exec.old t) }
