@@ -22,7 +22,7 @@ use Rattle.ready_driver.specs.Records.{Kept, changed, io_at, quiet, with_io}
 use Rattle.ready_driver.specs.Registry.{Handling, TriesFor}
 use Rattle.ready_driver.specs.ScheduledIo.{entry_of}
 use Rattle.ready_driver.proofs.Bearing.{bits-kept}
-use Rattle.pipe_job.specs.Causes.{FaultFor, WaitsFor}
+use Rattle.pipe_job.specs.Causes.{PipeFaultFor, WaitsFor}
 use Rattle.pipe_job.specs.declared.step.Wait.TheVariants.{Waiting}
 use Rattle.rent_buf.specs.Buffer.{Buffer}
 use Rattle.rent_buf.specs.Parts.{Parts}
@@ -43,7 +43,8 @@ use Rattle.pipe_job.specs.Waits.{FitsWait, IsOwn, MovesIf}
 
 -- What an object says of its calls.
 abbrev pub Lawful : {I : Type 0} → (I → IoView) → Bool → Bool → Called I → Type 0
-Lawful {I} view tells memory called = (old : I) (request : Request Buffer Parts) (new : I) (now : Request Buffer Parts) (answer : CallAnswer)
+Lawful {I} view tells memory called = (old : I) (request : Request Buffer Parts) (new : I) (now : Request Buffer Parts)
+    (answer : CallAnswer)
     → called old request new now answer → CallsFor tells memory (view old) request (view new) now answer
 
 module _ {I : Type 0} (view : I → IoView) (tells memory : Bool) (called : Called I) (law : Lawful view tells memory called) where
@@ -62,10 +63,12 @@ module _ {I : Type 0} (view : I → IoView) (tells memory : Bool) (called : Call
 
   -- A pending poll leaves what its slot's request moves, and the object's counts don't fall.
   pub pending_moves : (b : Bool) (pipe : ℕ) (slot new : Option (Slot Rented)) (before after : I) (back : Op)
-      → CallsOnce b buffer_of_rent called slot before new after (Ok (Pending back)) → MovesIf pipe (request_in slot) → MovesIf pipe (request_in new)
+      → CallsOnce b buffer_of_rent called slot before new after (Ok (Pending back)) → MovesIf pipe (request_in slot)
+      → MovesIf pipe (request_in new)
   pending_moves false pipe slot new before after back calls moves = subst (λ s. MovesIf pipe (request_in s)) (sym calls.slot_is) moves
   pending_moves true pipe slot new before after back calls moves =
-      let does = law before (plain_request buffer_of_rent calls.made.request) after (plain_request buffer_of_rent calls.now) WouldBlock calls.made.calls in
+      let does = law before (plain_request buffer_of_rent calls.made.request) after (plain_request buffer_of_rent calls.now) WouldBlock
+      calls.made.calls in
       unmade_moves pipe slot new before after calls.now calls.made.request calls.made.asked calls.stays does.0.same moves
 
   -- So does one for which memory ran out.
@@ -74,23 +77,31 @@ module _ {I : Type 0} (view : I → IoView) (tells memory : Bool) (called : Call
   starved_moves false pipe slot new before after error calls moves = subst (λ s. MovesIf pipe (request_in s)) (sym calls.slot_is) moves
   starved_moves true pipe slot new before after error (inl none) moves = subst (λ s. MovesIf pipe (request_in s)) (sym none.slot_is) moves
   starved_moves true pipe slot new before after error (inr calls) moves =
-      let does = law before (plain_request buffer_of_rent calls.made.request) after (plain_request buffer_of_rent calls.now) OutOfMemory calls.made.calls in
+      let does = law before (plain_request buffer_of_rent calls.made.request) after (plain_request buffer_of_rent calls.now) OutOfMemory
+      calls.made.calls in
       unmade_moves pipe slot new before after calls.now calls.made.request calls.made.asked calls.stays does.0.same moves
 
   -- The counts of the object don't fall in a poll's call.
   pub called_later : (b : Bool) (slot new : Option (Slot Rented)) (before after : I) (result : Result (PollOp Rented) (NoMemory × Op))
       → CallsOnce b buffer_of_rent called slot before new after result → IsLater (view before) (view after)
-  called_later false slot new before after (Ok (Pending back)) calls = subst (λ io. IsLater (view before) (view io)) (sym calls.object) (same_later (view before))
+  called_later false slot new before after (Ok (Pending back)) calls =
+      subst (λ io. IsLater (view before) (view io)) (sym calls.object) (same_later (view before))
   called_later false slot new before after (Ok (Ready done)) calls = absurd calls
-  called_later false slot new before after (Err error) calls = subst (λ io. IsLater (view before) (view io)) (sym calls.object) (same_later (view before))
+  called_later false slot new before after (Err error) calls =
+      subst (λ io. IsLater (view before) (view io)) (sym calls.object) (same_later (view before))
   called_later true slot new before after (Ok (Pending back)) calls =
-      (law before (plain_request buffer_of_rent calls.made.request) after (plain_request buffer_of_rent calls.now) WouldBlock calls.made.calls).0.later
-  called_later true slot new before after (Ok (Ready done)) (inl none) = subst (λ io. IsLater (view before) (view io)) (sym none.0) (same_later (view before))
+      (law before (plain_request buffer_of_rent calls.made.request) after (plain_request buffer_of_rent calls.now) WouldBlock
+      calls.made.calls).0.later
+  called_later true slot new before after (Ok (Ready done)) (inl none) =
+      subst (λ io. IsLater (view before) (view io)) (sym none.0) (same_later (view before))
   called_later true slot new before after (Ok (Ready done)) (inr made) =
-      (law before (plain_request buffer_of_rent made.request) after (plain_request buffer_of_rent done.request) (Done done.outcome) made.calls).later
-  called_later true slot new before after (Err error) (inl none) = subst (λ io. IsLater (view before) (view io)) (sym none.object) (same_later (view before))
+      (law before (plain_request buffer_of_rent made.request) after (plain_request buffer_of_rent done.request) (Done done.outcome)
+      made.calls).later
+  called_later true slot new before after (Err error) (inl none) =
+      subst (λ io. IsLater (view before) (view io)) (sym none.object) (same_later (view before))
   called_later true slot new before after (Err error) (inr calls) =
-      (law before (plain_request buffer_of_rent calls.made.request) after (plain_request buffer_of_rent calls.now) OutOfMemory calls.made.calls).0.later
+      (law before (plain_request buffer_of_rent calls.made.request) after (plain_request buffer_of_rent calls.now) OutOfMemory
+      calls.made.calls).0.later
 
   -- A job that waits for its operation fits the driver still.
   pub pending_fit : (files : I → ℕ → Bool) (old new : LegacyState I Rented) (op back : Op) (task pipe cancels : ℕ)
@@ -102,7 +113,8 @@ module _ {I : Type 0} (view : I → IoView) (tells memory : Bool) (called : Call
         (tokens.1 op).0 fits.0,
         (let below = fits.1 in omega (arith, below, given)),
         record {
-          moves = pending_moves (is_met_at old.handling.records (unless (files old.handling.io) (slot_awaits (map.get old.slots.values op.key)))) pipe
+          moves = pending_moves (is_met_at old.handling.records
+              (unless (files old.handling.io) (slot_awaits (map.get old.slots.values op.key)))) pipe
               (map.get old.slots.values op.key) (map.get new.slots.values op.key) old.handling.io new.handling.io back ends.2 fits.2.moves;
           asked = λ outcome is. fits.2.asked outcome ((slots.completed outcome).0 is);
         },
@@ -118,7 +130,8 @@ module _ {I : Type 0} (view : I → IoView) (tells memory : Bool) (called : Call
         (tokens.1 op).0 fits.0,
         (let below = fits.1 in omega (arith, below, given)),
         record {
-          moves = starved_moves (is_met_at old.handling.records (unless (files old.handling.io) (slot_awaits (map.get old.slots.values op.key)))) pipe
+          moves = starved_moves (is_met_at old.handling.records
+              (unless (files old.handling.io) (slot_awaits (map.get old.slots.values op.key)))) pipe
               (map.get old.slots.values op.key) (map.get new.slots.values op.key) old.handling.io new.handling.io error ends.2 fits.2.moves;
           asked = λ outcome is. fits.2.asked outcome ((slots.completed outcome).0 is);
         },
@@ -127,7 +140,8 @@ module _ {I : Type 0} (view : I → IoView) (tells memory : Bool) (called : Call
   -- No bit of a handle meets the direction still, once its operation waits.
   unmet_by : (b : Bool) (h : ℕ) (dir : Direction) (kept records after : Kept) (number task : ℕ) (back : Op)
       → is_met_at kept (if b then None else Some (h, dir)) ≡ false → records.handles ≡ kept.handles
-      → LeavesFor {B = Rented} (if b then None else Some (h, dir)) records number task after (Ok (Pending back)) → IsUnmetAt after (Some (h, dir))
+      → LeavesFor {B = Rented} (if b then None else Some (h, dir)) records number task after (Ok (Pending back))
+      → IsUnmetAt after (Some (h, dir))
   unmet_by true h dir kept records after number task back unmet room leaves = absurd cc
   unmet_by false h dir kept records after number task back unmet room leaves =
       let same : io_at records h ≡ io_at kept h = ap (λ hs. unwrap_or (option_map (λ r. r.io) (map.get hs h)) quiet) room in
@@ -139,7 +153,8 @@ module _ {I : Type 0} (view : I → IoView) (tells memory : Bool) (called : Call
         direction = dir;
         awaited_is = refl;
         unmet = ap (λ k. meets (io_at k h).ready (mask_of dir)) is
-            ∙ ap (λ r. meets r (mask_of dir)) (bits-kept records h (with_io (with_waiter (entry_of number task dir))) (λ one. refl) h) ∙ none;
+            ∙ ap (λ r. meets r (mask_of dir)) (bits-kept records h (with_io (with_waiter (entry_of number task dir)))
+            (λ one. refl) h) ∙ none;
       }
 
   unmet_after : (f : ℕ → Bool) (awaited : Option (ℕ × Direction)) (kept records after : Kept) (number task : ℕ) (back : Op)
@@ -157,8 +172,10 @@ module _ {I : Type 0} (view : I → IoView) (tells memory : Bool) (called : Call
       subst (λ o. WaitsFor view old new (Waiting o)) (sym same)
       (by-met (is_met_at old.handling.records (unless (files old.handling.io) (slot_awaits (map.get old.slots.values op.key)))) refl ends.2)
     where
-      by-met : (b : Bool) → is_met_at old.handling.records (unless (files old.handling.io) (slot_awaits (map.get old.slots.values op.key))) ≡ b
-          → CallsOnce b buffer_of_rent called (map.get old.slots.values op.key) old.handling.io (map.get new.slots.values op.key) new.handling.io
+      by-met : (b : Bool) → is_met_at old.handling.records
+          (unless (files old.handling.io) (slot_awaits (map.get old.slots.values op.key))) ≡ b
+          → CallsOnce b buffer_of_rent called (map.get old.slots.values op.key) old.handling.io (map.get new.slots.values op.key)
+          new.handling.io
           (Ok (Pending back)) → WaitsFor view old new (Waiting op)
       by-met true met calls = inr (law old.handling.io (plain_request buffer_of_rent calls.made.request) new.handling.io
           (plain_request buffer_of_rent calls.now) WouldBlock calls.made.calls).1
@@ -198,12 +215,14 @@ made_stays pipe asked now (Made h) made moves ends =
 
 module _ {I : Type 0} (view : I → IoView) (tells memory : Bool) (called : Called I) (law : Lawful view tells memory called) where
   -- The call of a job's operation made no handle.
-  call_makes : (b : Bool) (pipe : ℕ) (slot new : Option (Slot Rented)) (before after : I) (done : Ended Rented) → MovesIf pipe (request_in slot)
+  call_makes : (b : Bool) (pipe : ℕ) (slot new : Option (Slot Rented)) (before after : I) (done : Ended Rented)
+      → MovesIf pipe (request_in slot)
       → CallsOnce b buffer_of_rent called slot before new after (Ok (Ready done)) → (view after).made ≡ (view before).made
   call_makes false pipe slot new before after done moves calls = absurd calls
   call_makes true pipe slot new before after done moves (inl none) = ap (λ io. (view io).made) none.0
   call_makes true pipe slot new before after done moves (inr made) =
-      let does = law before (plain_request buffer_of_rent made.request) after (plain_request buffer_of_rent done.request) (Done done.outcome) made.calls in
+      let does = law before (plain_request buffer_of_rent made.request) after (plain_request buffer_of_rent done.request)
+      (Done done.outcome) made.calls in
       does.made ∙ made_stays pipe (plain_request buffer_of_rent made.request) (plain_request buffer_of_rent done.request) done.outcome
       (view before).made (subst (MovesIf pipe) made.asked moves) does.ends
 
@@ -215,22 +234,25 @@ module _ {I : Type 0} (view : I → IoView) (tells memory : Bool) (called : Call
       let none : ends.handed ≡ ends.mid = subst (λ o. HandsOver view tells memory ends.mid (made_by o) ends.handed) fails ends.hands in
       ends.lets.object.made ∙ ap (λ h. (view h.io).made) none
       ∙ call_makes (is_met_at old.handling.records (unless (files old.handling.io) (slot_awaits (map.get old.slots.values op.key)))) pipe
-      (map.get old.slots.values op.key) (map.get new.slots.values op.key) old.handling.io ends.mid.io (record done { outcome = ends.call }) moves ends.calls
+      (map.get old.slots.values op.key) (map.get new.slots.values op.key) old.handling.io ends.mid.io (record done { outcome = ends.call })
+      moves ends.calls
 
   -- The causes of an error of a job's operation.
   error_causes : (old new : LegacyState I Rented) (op : Op) (pipe cancels e : ℕ)
       → ErrorFor old.handling.table (map.get old.slots.values op.key) (view old.handling.io) (view new.handling.io) (Fail e)
       → (view new.handling.io).made ≡ (view old.handling.io).made → IsOwn pipe cancels (map.get old.slots.values op.key)
-      → FaultFor view pipe cancels old new (fault.Os e)
+      → PipeFaultFor view pipe cancels old new (fault.Os e)
   error_causes old new op pipe cancels e (inl rose) made own = inl rose
   error_causes old new op pipe cancels e (inr (inl asked)) made own = inr (inl (asked.error, own.asked (Fail CANCELED) asked.asked))
   error_causes old new op pipe cancels e (inr (inr refused)) made own =
-      absurd (let more = refused.made in let same : suc (view old.handling.io).made ≡ (view old.handling.io).made = sym more ∙ made in omega (arith, same))
+      absurd (let more = refused.made in let same : suc (view old.handling.io).made ≡ (view old.handling.io).made = sym more ∙ made in
+      omega (arith, same))
 
   -- The causes of a fault with which a job's operation ends.
-  pub ready_causes : (files : I → ℕ → Bool) (old new : LegacyState I Rented) (op : Op) (task pipe cancels : ℕ) (done : Ended Rented) (why : IoFault)
+  pub ready_causes : (files : I → ℕ → Bool) (old new : LegacyState I Rented) (op : Op) (task pipe cancels : ℕ) (done : Ended Rented)
+      (why : IoFault)
       → EndsOp files buffer_of_rent called view tells memory old new op task done → FailsFor view old new op (Ok (Ready done))
-      → FitsWait (ops_in old) pipe cancels (Waiting op) → IsFaultOf done.outcome why → FaultFor view pipe cancels old new why
+      → FitsWait (ops_in old) pipe cancels (Waiting op) → IsFaultOf done.outcome why → PipeFaultFor view pipe cancels old new why
   ready_causes files old new op task pipe cancels done (fault.Os e) ends fails fits is =
       error_causes old new op pipe cancels e
       (subst (ErrorFor old.handling.table (map.get old.slots.values op.key) (view old.handling.io) (view new.handling.io)) is fails)
@@ -256,22 +278,27 @@ module _ {I : Type 0} (view : I → IoView) (tells memory : Bool) (called : Call
   tries_later false h old new tries = tries.0.later
 
   hands_later : (old new : Handling I) (made : Option ℕ) → HandsOver view tells memory old made new → IsLater (view old.io) (view new.io)
-  hands_later old new None hands = subst (λ h. IsLater (view old.io) (view h.io)) (sym hands) (same_later view tells memory called law (view old.io))
+  hands_later old new None hands = subst (λ h. IsLater (view old.io) (view h.io)) (sym hands)
+      (same_later view tells memory called law (view old.io))
   hands_later old new (Some h) hands = tries_later hands.1.taken h (view old.io) (view new.io) hands.1.tries
 
   -- Nor in a poll.
-  pub poll_later : (files : I → ℕ → Bool) (old new : LegacyState I Rented) (op : Op) (task : ℕ) (result : Result (PollOp Rented) (NoMemory × Op))
+  pub poll_later : (files : I → ℕ → Bool) (old new : LegacyState I Rented) (op : Op) (task : ℕ)
+      (result : Result (PollOp Rented) (NoMemory × Op))
       → PollEndsFor files buffer_of_rent called view tells memory old new op task result
       → IsLater (view old.handling.io) (view new.handling.io)
   poll_later files old new op task (Ok (Pending back)) ends =
-      called_later view tells memory called law (is_met_at old.handling.records (unless (files old.handling.io) (slot_awaits (map.get old.slots.values op.key))))
+      called_later view tells memory called law (is_met_at old.handling.records
+      (unless (files old.handling.io) (slot_awaits (map.get old.slots.values op.key))))
       (map.get old.slots.values op.key) (map.get new.slots.values op.key) old.handling.io new.handling.io (Ok (Pending back)) ends.2
   poll_later files old new op task (Err error) ends =
-      called_later view tells memory called law (is_met_at old.handling.records (unless (files old.handling.io) (slot_awaits (map.get old.slots.values op.key))))
+      called_later view tells memory called law (is_met_at old.handling.records
+      (unless (files old.handling.io) (slot_awaits (map.get old.slots.values op.key))))
       (map.get old.slots.values op.key) (map.get new.slots.values op.key) old.handling.io new.handling.io (Err error) ends.2
   poll_later files old new op task (Ok (Ready done)) ends =
       both_later (view old.handling.io) (view ends.mid.io) (view new.handling.io)
-      (called_later view tells memory called law (is_met_at old.handling.records (unless (files old.handling.io) (slot_awaits (map.get old.slots.values op.key))))
+      (called_later view tells memory called law (is_met_at old.handling.records
+      (unless (files old.handling.io) (slot_awaits (map.get old.slots.values op.key))))
       (map.get old.slots.values op.key) (map.get new.slots.values op.key) old.handling.io ends.mid.io
       (Ok (Ready (record done { outcome = ends.call }))) ends.calls)
       (both_later (view ends.mid.io) (view ends.handed.io) (view new.handling.io)

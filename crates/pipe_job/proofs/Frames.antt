@@ -57,6 +57,7 @@ beside_fit_at old new op others given holds pipe cancels (Room room) fits apart 
 beside_fit_at old new op others given holds pipe cancels (Waiting other) fits apart =
     stays_fit old new other pipe cancels (others other.key (λ same. apart (sym (same_token old op other holds fits.0 same)))) given fits
 
+-- So it keeps what each other job waits for.
 beside_fit : (old new : Ops Rented) (op : Op) → ((k : ℕ) → k ≢ op.key → map.get new.slots.values k ≡ map.get old.slots.values k)
     → old.given ≤ new.given → Holds old op → KeepsApart old new (Waiting op)
 beside_fit old new op others given holds = record { keep = beside_fit_at old new op others given holds }
@@ -95,6 +96,7 @@ canceled_if-other : (b : Bool) (slots : map.FinMap nat_cmp (Slot Rented)) (key :
 canceled_if-other true slots key slot k other = put-other slots key _ k other
 canceled_if-other false slots key slot k other = refl
 
+-- So it is where there may be no slot at the key.
 canceled-other : (slots : map.FinMap nat_cmp (Slot Rented)) (key : ℕ) (slot : Option (Slot Rented)) (k : ℕ) → k ≢ key
     → map.get (canceled_in slots key slot) k ≡ map.get slots k
 canceled-other slots key None k other = refl
@@ -149,6 +151,7 @@ submitted_fits old new op request adds slots pipe cancels (Waiting other) fits =
         let number = adds.number in let below = fits.1 in let e : number_of other ≡ number_of op = ap number_of is in
         omega (arith, number, below, e)
 
+-- So it keeps what each job waits for.
 pub submitted_keeps : (old new : Ops Rented) (op : Op) (request : Request Rented Parts) (wait : Wait) → AddsToken old new op
     → new.slots.values ≡ map.insert old.slots.values op.key (new_slot old request) → KeepsApart old new wait
 submitted_keeps old new op request wait adds slots = record {
@@ -182,7 +185,8 @@ submitted_apart old new op adds pipe cancels (Waiting other) fits = λ same.
 pub kept_sound : {I : Type 0} (old new : LegacyState I Rented) (jobs : ℕ → Option PipeJob) → new.slots ≡ old.slots → new.given ≡ old.given
     → AreSound FitsPipe ApartPipes old jobs → AreSound FitsPipe ApartPipes new jobs
 kept_sound old new jobs slots given sound = record {
-  all_fit = λ t job is. all_fit (ops_in old) (ops_in new) (ap (λ s. s.values) slots) given job.course.pipe job.cancels job.wait (sound.all_fit t job is);
+  all_fit = λ t job is. all_fit (ops_in old) (ops_in new) (ap (λ s. s.values) slots) given job.course.pipe job.cancels job.wait
+      (sound.all_fit t job is);
   all_apart = sound.all_apart;
 }
 

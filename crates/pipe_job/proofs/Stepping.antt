@@ -16,7 +16,7 @@ use Rattle.ready_driver.specs.Io.{IoView, IsLater}
 use Rattle.ready_driver.specs.LegacyPolls.{EndsFor as PollEndsFor}
 use Rattle.ready_driver.specs.LegacyState.{LegacyState, ops_in}
 use Rattle.ready_driver.specs.Named.{PollsSlotFor}
-use Rattle.pipe_job.specs.Causes.{EndsBy, FaultFor, WaitsBy}
+use Rattle.pipe_job.specs.Causes.{StepEndsFor, PipeFaultFor, WaitsBy}
 use Rattle.pipe_job.specs.Steps.{StepFor, StepsTo}
 use Rattle.pipe_job.specs.Waits.{ApartWaits, FitsWait, IfBack, KeepsApart, StaysApart}
 use Rattle.pipe_job.specs.declared.step.Wait.{Wait}
@@ -40,8 +40,9 @@ rose_since one two three first rose = omega (arith, first, rose)
 
 module _ {I : Type 0} (view : I → IoView) where
   -- A fault has its cause since an earlier call.
-  fault_since : (pipe cancels : ℕ) (old mid new : LegacyState I Rented) (why : IoFault) → IsLater (view old.handling.io) (view mid.handling.io)
-      → FaultFor view pipe cancels mid new why → FaultFor view pipe cancels old new why
+  fault_since : (pipe cancels : ℕ) (old mid new : LegacyState I Rented) (why : IoFault)
+      → IsLater (view old.handling.io) (view mid.handling.io)
+      → PipeFaultFor view pipe cancels mid new why → PipeFaultFor view pipe cancels old new why
   fault_since pipe cancels old mid new (fault.Os e) later (inl rose) = inl (rose_since _ _ _ later.fails rose)
   fault_since pipe cancels old mid new (fault.Os e) later (inr other) = inr other
   fault_since pipe cancels old mid new fault.UnexpectedEof later is = tt
@@ -52,7 +53,7 @@ module _ {I : Type 0} (view : I → IoView) where
   fault_since pipe cancels old mid new fault.OutOfMemory later is = absurd is
 
   ends_since : (pipe cancels : ℕ) (old mid new : LegacyState I Rented) (next : Step) → IsLater (view old.handling.io) (view mid.handling.io)
-      → EndsBy view pipe cancels mid new next → EndsBy view pipe cancels old new next
+      → StepEndsFor view pipe cancels mid new next → StepEndsFor view pipe cancels old new next
   ends_since pipe cancels old mid new (step.Again wait) later ends = tt
   ends_since pipe cancels old mid new (step.Pending wait) later ends = tt
   ends_since pipe cancels old mid new (step.OutOfMemory wait) later ends = tt
@@ -73,11 +74,14 @@ module _ {I : Type 0} (view : I → IoView) where
   apart_since : (old mid : Ops Rented) (wait further : Wait) (next : Step) → KeepsApart old mid wait → StaysApart old wait further
       → IfBack next (StaysApart mid further) → IfBack next (StaysApart old wait)
   apart_since old mid wait further (step.Again last) keeps first second =
-      λ pipe cancels other fits apart. second pipe cancels other (keeps.keep pipe cancels other fits apart) (first pipe cancels other fits apart)
+      λ pipe cancels other fits apart. second pipe cancels other (keeps.keep pipe cancels other fits apart)
+      (first pipe cancels other fits apart)
   apart_since old mid wait further (step.Pending last) keeps first second =
-      λ pipe cancels other fits apart. second pipe cancels other (keeps.keep pipe cancels other fits apart) (first pipe cancels other fits apart)
+      λ pipe cancels other fits apart. second pipe cancels other (keeps.keep pipe cancels other fits apart)
+      (first pipe cancels other fits apart)
   apart_since old mid wait further (step.OutOfMemory last) keeps first second =
-      λ pipe cancels other fits apart. second pipe cancels other (keeps.keep pipe cancels other fits apart) (first pipe cancels other fits apart)
+      λ pipe cancels other fits apart. second pipe cancels other (keeps.keep pipe cancels other fits apart)
+      (first pipe cancels other fits apart)
   apart_since old mid wait further (step.Ended end) keeps first second = tt
 
   -- A step behind others.
@@ -87,7 +91,8 @@ module _ {I : Type 0} (view : I → IoView) where
   steps_on pipe cancels old mid new wait further next first second = record {
     fits = second.fits;
     others = record {
-      keep = λ p n other fits apart. second.others.keep p n other (first.others.keep p n other fits apart) (first.apart p n other fits apart);
+      keep = λ p n other fits apart. second.others.keep p n other (first.others.keep p n other fits apart)
+          (first.apart p n other fits apart);
     };
     apart = apart_since (ops_in old) (ops_in mid) wait further next first.others first.apart second.apart;
     later = later_both (view old.handling.io) (view mid.handling.io) (view new.handling.io) first.later second.later;
@@ -114,7 +119,8 @@ same_apart ops op back same pipe cancels other fits apart = subst (λ o. ApartWa
 module _ {I : Type 0} (view : I → IoView) (tells memory : Bool) (called : Called I) (law : Lawful view tells memory called) where
   -- The step that follows the poll of a job's operation.
   pub answered_steps : (files : I → ℕ → Bool) (old new : LegacyState I Rented) (op : Op) (task pipe cancels : ℕ) (answer : PollOp Rented)
-      (next : Step) → PollEndsFor files buffer_of_rent called view tells memory old new op task (Ok answer) → FailsFor view old new op (Ok answer)
+      (next : Step) → PollEndsFor files buffer_of_rent called view tells memory old new op task (Ok answer)
+      → FailsFor view old new op (Ok answer)
       → PollsSlotFor (ops_in old) (ops_in new) op (Ok answer) → TokensFor (ops_in old) (ops_in new) op (Ok answer) → new.given ≡ old.given
       → FitsWait (ops_in old) pipe cancels (Waiting op) → StepFor answer next → StepsTo view pipe cancels old new (Waiting op) next
   answered_steps files old new op task pipe cancels (polled.Pending back) (step.Pending wait) ends fails slots tokens given fits is =
@@ -126,35 +132,44 @@ module _ {I : Type 0} (view : I → IoView) (tells memory : Bool) (called : Call
         ends = tt;
         waits = pending_waits view tells memory called law files old new op back task ends tokens.0;
       })
-  answered_steps files old new op task pipe cancels (polled.Pending back) (step.Again wait) ends fails slots tokens given fits is = absurd is
-  answered_steps files old new op task pipe cancels (polled.Pending back) (step.OutOfMemory wait) ends fails slots tokens given fits is = absurd is
+  answered_steps files old new op task pipe cancels (polled.Pending back) (step.Again wait) ends fails slots tokens given fits is =
+      absurd is
+  answered_steps files old new op task pipe cancels (polled.Pending back) (step.OutOfMemory wait) ends fails slots tokens given fits is =
+      absurd is
   answered_steps files old new op task pipe cancels (polled.Pending back) (step.Ended end) ends fails slots tokens given fits is = absurd is
-  answered_steps files old new op task pipe cancels (polled.Ready done) (step.Again (Room room)) ends fails slots tokens given fits is = record {
-    fits = tt;
-    others = polled_apart (ops_in old) (ops_in new) op (Ok (polled.Ready done)) slots given fits.0;
-    apart = λ p n other fit apart. tt;
-    later = poll_later view tells memory called law files old new op task (Ok (polled.Ready done)) ends;
-    ends = tt;
-    waits = tt;
-  }
-  answered_steps files old new op task pipe cancels (polled.Ready done) (step.Again (Waiting other)) ends fails slots tokens given fits is = absurd is
-  answered_steps files old new op task pipe cancels (polled.Ready done) (step.Pending wait) ends fails slots tokens given fits is = absurd is
-  answered_steps files old new op task pipe cancels (polled.Ready done) (step.OutOfMemory wait) ends fails slots tokens given fits is = absurd is
-  answered_steps files old new op task pipe cancels (polled.Ready done) (step.Ended (Ok whole)) ends fails slots tokens given fits is = absurd is
-  answered_steps files old new op task pipe cancels (polled.Ready done) (step.Ended (Err why)) ends fails slots tokens given fits is = record {
-    fits = tt;
-    others = polled_apart (ops_in old) (ops_in new) op (Ok (polled.Ready done)) slots given fits.0;
-    apart = tt;
-    later = poll_later view tells memory called law files old new op task (Ok (polled.Ready done)) ends;
-    ends = ready_causes view tells memory called law files old new op task pipe cancels done why ends fails fits is;
-    waits = tt;
-  }
+  answered_steps files old new op task pipe cancels (polled.Ready done) (step.Again (Room room)) ends fails slots tokens given fits is =
+      record {
+        fits = tt;
+        others = polled_apart (ops_in old) (ops_in new) op (Ok (polled.Ready done)) slots given fits.0;
+        apart = λ p n other fit apart. tt;
+        later = poll_later view tells memory called law files old new op task (Ok (polled.Ready done)) ends;
+        ends = tt;
+        waits = tt;
+      }
+  answered_steps files old new op task pipe cancels (polled.Ready done) (step.Again (Waiting other)) ends fails slots tokens given fits is =
+      absurd is
+  answered_steps files old new op task pipe cancels (polled.Ready done) (step.Pending wait) ends fails slots tokens given fits is =
+      absurd is
+  answered_steps files old new op task pipe cancels (polled.Ready done) (step.OutOfMemory wait) ends fails slots tokens given fits is =
+      absurd is
+  answered_steps files old new op task pipe cancels (polled.Ready done) (step.Ended (Ok whole)) ends fails slots tokens given fits is =
+      absurd is
+  answered_steps files old new op task pipe cancels (polled.Ready done) (step.Ended (Err why)) ends fails slots tokens given fits is =
+      record {
+        fits = tt;
+        others = polled_apart (ops_in old) (ops_in new) op (Ok (polled.Ready done)) slots given fits.0;
+        apart = tt;
+        later = poll_later view tells memory called law files old new op task (Ok (polled.Ready done)) ends;
+        ends = ready_causes view tells memory called law files old new op task pipe cancels done why ends fails fits is;
+        waits = tt;
+      }
 
   -- The step that follows one for which memory ran out.
   pub starved_steps : (files : I → ℕ → Bool) (old new : LegacyState I Rented) (op : Op) (task pipe cancels : ℕ) (error : NoMemory × Op)
       → PollEndsFor files buffer_of_rent called view tells memory old new op task (Err error)
       → PollsSlotFor (ops_in old) (ops_in new) op (Err error) → TokensFor (ops_in old) (ops_in new) op (Err error) → new.given ≡ old.given
-      → FitsWait (ops_in old) pipe cancels (Waiting op) → StepsTo view pipe cancels old new (Waiting op) (step.OutOfMemory (Waiting error.1))
+      → FitsWait (ops_in old) pipe cancels (Waiting op)
+      → StepsTo view pipe cancels old new (Waiting op) (step.OutOfMemory (Waiting error.1))
   starved_steps files old new op task pipe cancels error ends slots tokens given fits = record {
     fits = starved_fit view tells memory called law files old new op error task pipe cancels ends slots tokens given fits;
     others = polled_apart (ops_in old) (ops_in new) op (Err error) slots given fits.0;

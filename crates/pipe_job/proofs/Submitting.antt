@@ -19,7 +19,8 @@ use Rattle.pipe_job.specs.Causes.{TakesNone}
 use Rattle.pipe_job.specs.Course.{MovesOn}
 
 -- A request that moves bytes of a pipe names just the pipe.
-pub moves_named : (pipe : ℕ) (request : Request Rented Parts) → MovesOn pipe (plain_request buffer_of_rent request) → named request ≡ pipe ∷ []
+pub moves_named : (pipe : ℕ) (request : Request Rented Parts) → MovesOn pipe (plain_request buffer_of_rent request)
+    → named request ≡ pipe ∷ []
 moves_named pipe (Recv fd buf) moves = ap (λ h. h ∷ []) moves
 moves_named pipe (Send fd buf) moves = ap (λ h. h ∷ []) moves
 moves_named pipe (ReadVec fd parts) moves = absurd moves

@@ -22,8 +22,8 @@ use Rattle.pipe_job.specs.declared.step.Step.TheVariants.{Again, Pending, OutOfM
 abbrev pub TakesNone : {I : Type 0} → LegacyState I Rented → Type 0
 TakesNone driver = (live_slots driver ≡ MAX_LIVE) ⊎ (MOST_GIVEN ≤ driver.given)
 
--- The causes of a job's error: a call ended with an error, so that the count of these rose; or the job's cancel was asked for; or the driver
--- takes no further operation; or the user doesn't hold the pipe.
+-- The causes of a job's error: a call ended with an error, so that the count of these rose; or the job's cancel was asked for; or the
+-- driver takes no further operation; or the user doesn't hold the pipe.
 abbrev pub OsFor : {I : Type 0} → (I → IoView) → ℕ → ℕ → LegacyState I Rented → LegacyState I Rented → ℕ → Type 0
 OsFor view pipe cancels old new e =
     Rose (view old.handling.io).fails (view new.handling.io).fails
@@ -32,34 +32,36 @@ OsFor view pipe cancels old new e =
     ⊎ ((e ≡ NOT_HELD) × (holds_all new.handling.table (pipe ∷ []) ≡ false))))
 
 -- The causes of a fault. A refused submission is a `ReadFault`: the object failed, so that its count of faults rose.
-abbrev pub FaultFor : {I : Type 0} → (I → IoView) → ℕ → ℕ → LegacyState I Rented → LegacyState I Rented → IoFault → Type 0
-FaultFor view pipe cancels old new (Os e) = OsFor view pipe cancels old new e
-FaultFor view pipe cancels old new ReadFault = Rose (view old.handling.io).faults (view new.handling.io).faults
-FaultFor view pipe cancels old new UnexpectedEof = Unit {0}
-FaultFor view pipe cancels old new WriteZero = Unit {0}
-FaultFor view pipe cancels old new InvalidData = Unit {0}
-FaultFor view pipe cancels old new WriteFault = ⊥
-FaultFor view pipe cancels old new NoMemory = ⊥
+abbrev pub PipeFaultFor : {I : Type 0} → (I → IoView) → ℕ → ℕ → LegacyState I Rented → LegacyState I Rented → IoFault → Type 0
+PipeFaultFor view pipe cancels old new (Os e) = OsFor view pipe cancels old new e
+PipeFaultFor view pipe cancels old new ReadFault = Rose (view old.handling.io).faults (view new.handling.io).faults
+PipeFaultFor view pipe cancels old new UnexpectedEof = Unit {0}
+PipeFaultFor view pipe cancels old new WriteZero = Unit {0}
+PipeFaultFor view pipe cancels old new InvalidData = Unit {0}
+PipeFaultFor view pipe cancels old new WriteFault = ⊥
+PipeFaultFor view pipe cancels old new NoMemory = ⊥
 
 -- The causes of an end, which has one if it is a fault.
-abbrev pub EndsFor : {I : Type 0} → (I → IoView) → ℕ → ℕ → LegacyState I Rented → LegacyState I Rented → Result Unit IoFault → Type 0
-EndsFor view pipe cancels old new (Ok done) = Unit {0}
-EndsFor view pipe cancels old new (Err fault) = FaultFor view pipe cancels old new fault
+abbrev pub PipeEndsFor : {I : Type 0} → (I → IoView) → ℕ → ℕ → LegacyState I Rented → LegacyState I Rented → Result Unit IoFault → Type 0
+PipeEndsFor view pipe cancels old new (Ok done) = Unit {0}
+PipeEndsFor view pipe cancels old new (Err fault) = PipeFaultFor view pipe cancels old new fault
 
-abbrev pub EndsBy : {I : Type 0} → (I → IoView) → ℕ → ℕ → LegacyState I Rented → LegacyState I Rented → Step → Type 0
-EndsBy view pipe cancels old new (Ended end) = EndsFor view pipe cancels old new end
-EndsBy view pipe cancels old new (Again wait) = Unit {0}
-EndsBy view pipe cancels old new (Pending wait) = Unit {0}
-EndsBy view pipe cancels old new (OutOfMemory wait) = Unit {0}
+-- The same of a step, if it ends.
+abbrev pub StepEndsFor : {I : Type 0} → (I → IoView) → ℕ → ℕ → LegacyState I Rented → LegacyState I Rented → Step → Type 0
+StepEndsFor view pipe cancels old new (Ended end) = PipeEndsFor view pipe cancels old new end
+StepEndsFor view pipe cancels old new (Again wait) = Unit {0}
+StepEndsFor view pipe cancels old new (Pending wait) = Unit {0}
+StepEndsFor view pipe cancels old new (OutOfMemory wait) = Unit {0}
 
--- A job that waits has an operation, which waits for a direction that no bit of its handle meets, or would have blocked, so that the count of
--- these calls rose.
+-- A job that waits has an operation, which waits for a direction that no bit of its handle meets, or would have blocked, so that the count
+-- of these calls rose.
 abbrev pub WaitsFor : {I : Type 0} → (I → IoView) → LegacyState I Rented → LegacyState I Rented → Wait → Type 0
 WaitsFor view old new (Room room) = ⊥
 WaitsFor view old new (Waiting op) =
     IsSlotUnmet new.handling.records (map.get new.slots.values op.key)
     ⊎ Rose (view old.handling.io).blocks (view new.handling.io).blocks
 
+-- The same of a step, if it waits.
 abbrev pub WaitsBy : {I : Type 0} → (I → IoView) → LegacyState I Rented → LegacyState I Rented → Step → Type 0
 WaitsBy view old new (Pending wait) = WaitsFor view old new wait
 WaitsBy view old new (Again wait) = Unit {0}

@@ -9,16 +9,17 @@ use Rattle.driver_core.specs.Ops.{Ops}
 use Rattle.ready_driver.specs.Io.{IoView}
 use Rattle.ready_driver.specs.LegacyState.{LegacyState, ops_in}
 use Rattle.op_driver.specs.Legacy.{LegacyCancels}
-use Rattle.pipe_job.specs.Causes.{FaultFor, WaitsFor}
-use Rattle.pipe_job.specs.Waits.{ApartWaits, FitsWait, HasNone, IsGone}
+use Rattle.pipe_job.specs.Causes.{PipeFaultFor, WaitsFor}
+use Rattle.pipe_job.specs.Waits.{ApartWaits, FitsWait, HasNone, IsGoneWait}
 use Rattle.pipe_job.specs.declared.pipe_job.PipeJob.{PipeJob}
 use Rattle.pipe_job.specs.declared.step.Wait.{Wait}
 use Rattle.pipe_job.specs.declared.step.Wait.TheVariants.{Room, Waiting}
 
--- How often a job was polled, and how often its cancel was asked for.
+-- How often a job was polled.
 abbrev pub polls_of : PipeJob → ℕ
 polls_of job = job.polls
 
+-- How often its cancel was asked for.
 abbrev pub cancels_of : PipeJob → ℕ
 cancels_of job = job.cancels
 
@@ -35,12 +36,15 @@ IsAim aim (Err fault) = Unit {0}
 abbrev pub FitsPipe : {I : Type 0} → LegacyState I Rented → PipeJob → Type 0
 FitsPipe driver job = FitsWait (ops_in driver) job.course.pipe job.cancels job.wait
 
+-- The operation that a job waited for is gone, if it waited for one.
 abbrev pub IsGonePipe : {I : Type 0} → LegacyState I Rented → PipeJob → Type 0
-IsGonePipe driver job = IsGone (ops_in driver) job.wait
+IsGonePipe driver job = IsGoneWait (ops_in driver) job.wait
 
+-- Two jobs don't wait for the same operation.
 abbrev pub ApartPipes : PipeJob → PipeJob → Type 0
 ApartPipes one other = ApartWaits one.wait other.wait
 
+-- A job has no operation.
 abbrev pub IsIdle : PipeJob → Type 0
 IsIdle job = HasNone job.wait
 
@@ -49,6 +53,7 @@ abbrev pub AsksWait : {I : Type 0} → LegacyState I Rented → LegacyState I Re
 AsksWait old new (Room room) result = (new ≡ old) × IsOk result
 AsksWait old new (Waiting op) result = LegacyCancels old new op result
 
+-- The same of a job.
 abbrev pub AsksPipe : {I : Type 0} → LegacyState I Rented → LegacyState I Rented → PipeJob → Result Unit OutOfMemory → Type 0
 AsksPipe old new job result = AsksWait old new job.wait result
 
@@ -60,7 +65,7 @@ FitsEach job = (ops : Ops Rented) → FitsWait ops job.course.pipe job.cancels j
 abbrev pub EndsJob : {I : Type 0} → (I → IoView) → LegacyState I Rented → LegacyState I Rented → PipeJob
     → JobStep PipeJob (Result (List ℕ) IoFault) → Type 0
 EndsJob view old new was (job.Done (Ok bytes)) = Unit {0}
-EndsJob view old new was (job.Done (Err fault)) = FaultFor view was.course.pipe was.cancels old new fault
+EndsJob view old new was (job.Done (Err fault)) = PipeFaultFor view was.course.pipe was.cancels old new fault
 EndsJob view old new was (job.Pending next) = Unit {0}
 EndsJob view old new was (job.OutOfMemory next) = Unit {0}
 

@@ -8,7 +8,7 @@ use Rattle.driver_core.specs.declared.op.PollOp.{PollOp}
 use Rattle.driver_core.specs.declared.op.PollOp.TheVariants as polled
 use Rattle.ready_driver.specs.Io.{IoView, IsLater}
 use Rattle.ready_driver.specs.LegacyState.{LegacyState, ops_in}
-use Rattle.pipe_job.specs.Causes.{EndsBy, WaitsBy}
+use Rattle.pipe_job.specs.Causes.{StepEndsFor, WaitsBy}
 use Rattle.pipe_job.specs.Course.{Coursed, IsFaultOf}
 use Rattle.pipe_job.specs.Waits.{FitsWait, HasNone, IfBack, KeepsApart, StaysApart}
 use Rattle.pipe_job.specs.declared.step.Wait.{Wait}
@@ -24,7 +24,7 @@ pub record StepsTo {I : Type 0} (view : I → IoView) (pipe cancels : ℕ) (old 
   pub others : KeepsApart (ops_in old) (ops_in new) wait
   pub apart : IfBack step (StaysApart (ops_in old) wait)
   pub later : IsLater (view old.handling.io) (view new.handling.io)
-  pub ends : EndsBy view pipe cancels old new step
+  pub ends : StepEndsFor view pipe cancels old new step
   pub waits : WaitsBy view old new step
 
 -- A poll that isn't done ends as such a step.

@@ -29,7 +29,8 @@ pub record IsOwn (pipe cancels : ℕ) (slot : Option (Slot Rented)) : Type 0 whe
   pub moves : MovesIf pipe (request_in slot)
   pub asked : (outcome : Outcome) → IsCompleted slot outcome → cancels ≢ 0
 
--- The driver holds the operation that a job waits for, which is one of those that were submitted, and its slot is that of the job's operation.
+-- The driver holds the operation that a job waits for, which is one of those that were submitted, and its slot is that of the job's
+-- operation.
 abbrev pub FitsWait : Ops Rented → ℕ → ℕ → Wait → Type 0
 FitsWait ops pipe cancels (Room room) = Unit {0}
 FitsWait ops pipe cancels (Waiting op) =
@@ -41,9 +42,9 @@ HoldsWait ops (Room room) = Unit {0}
 HoldsWait ops (Waiting op) = Holds ops op
 
 -- The operation that a job waits for is gone, if it waits for one.
-abbrev pub IsGone : Ops Rented → Wait → Type 0
-IsGone ops (Room room) = Unit {0}
-IsGone ops (Waiting op) = Holds ops op → ⊥
+abbrev pub IsGoneWait : Ops Rented → Wait → Type 0
+IsGoneWait ops (Room room) = Unit {0}
+IsGoneWait ops (Waiting op) = Holds ops op → ⊥
 
 -- Two jobs don't wait for the same operation.
 abbrev pub ApartWaits : Wait → Wait → Type 0
@@ -62,7 +63,8 @@ pub record KeepsApart (old new : Ops Rented) (wait : Wait) : Type 0 where
 
 -- What a job waits for next is apart from what each other one waits for, if what it waited for was.
 abbrev pub StaysApart : Ops Rented → Wait → Wait → Type 0
-StaysApart old wait next = (pipe cancels : ℕ) (other : Wait) → FitsWait old pipe cancels other → ApartWaits wait other → ApartWaits next other
+StaysApart old wait next = (pipe cancels : ℕ) (other : Wait) → FitsWait old pipe cancels other → ApartWaits wait other
+    → ApartWaits next other
 
 -- A fact of what a job waits for behind a step, if it isn't done.
 abbrev pub IfBack : Step → (Wait → Type 0) → Type 0

@@ -1,12 +1,12 @@
 //! A job that sends its bytes into a pipe, and then receives as many.
-ghost use Rattle.std.specs.Prelude.{◌≡◌, ◌<◌, ◌+◌, ◌^◌, ℕ, OnErr, OnOk};
+ghost use Rattle.std.specs.Prelude.{◌≡◌, ◌<◌, ◌+◌, ◌^◌, OnErr, OnOk};
 ghost use Rattle.core_exec.specs.Job.{IfBack, Steps};
 ghost use Rattle.ready_driver.specs.LegacyState.{ops_in};
 ghost use Rattle.pipe_job.specs.PipeJob.{FitsPipe, ApartPipes, IsIdle, IsAim, aim_of, cancels_of, polls_of};
 ghost use Rattle.pipe_job.specs.PipeJob.{AsksPipe, AsksWait, EndsJob, FitsEach, IsGonePipe, WaitsJob};
 ghost use Rattle.pipe_job.specs.Course.{IsSameBytes};
 ghost use Rattle.pipe_job.specs.Steps.{IfWhole, IsWhole, StepsTo, as_step};
-ghost use Rattle.pipe_job.specs.Waits.{FitsWait, HoldsWait, IsGone, KeepsApart, apart_swaps, idle_apart};
+ghost use Rattle.pipe_job.specs.Waits.{FitsWait, HoldsWait, IsGoneWait, KeepsApart, apart_swaps, idle_apart};
 
 use crate::course::Course;
 use crate::step::{Step, Wait, advance};
@@ -63,7 +63,7 @@ impl PipeJob {
 #[tactic(auto, using(crate::proofs::Frames::same_fit, crate::proofs::Frames::dropped_apart))]
 fn drop_wait<I: NonBlock>(driver: &mut LegacyDriver<I, Rent>, wait: Wait)
     requires fits { HoldsWait (ops_in driver.old) wait }
-    ensures gone { IsGone (ops_in driver.new) wait }
+    ensures gone { IsGoneWait (ops_in driver.new) wait }
     ensures others { KeepsApart (ops_in driver.old) (ops_in driver.new) wait }
 {
     match wait {
@@ -148,7 +148,8 @@ impl<I: NonBlock> Job<LegacyDriver<I, Rent>> for PipeJob {
         ensures step { Steps polls_of cancels_of aim_of IsAim self result }
         ensures fits { IfBack result (FitsPipe driver.new) }
         ensures others { (other : PipeJob) → FitsPipe driver.old other → ApartPipes self other → FitsPipe driver.new other }
-        ensures apart { IfBack result (λ job. (other : PipeJob) → FitsPipe driver.old other → ApartPipes self other → ApartPipes job other) }
+        ensures apart { IfBack result (λ job. (other : PipeJob) → FitsPipe driver.old other → ApartPipes self other
+            → ApartPipes job other) }
         // Each fault has its cause, and it is pending only where more can't be done at once.
         ensures ends { EndsJob I.view driver.old driver.new self result }
         ensures waits { WaitsJob I.view driver.old driver.new result }

@@ -1,14 +1,13 @@
 // One step of a poll: a submission, or the poll of an operation.
-ghost use Rattle.std.specs.Prelude.{◌≡◌, ◌<◌, ◌+◌, ℕ, None, IsTrue, IfOk, IfErr};
-ghost use Rattle.rent_buf.specs.Rent.{buffer_of_rent};
-ghost use Rattle.ring_core.specs.Request.{named, plain_request};
+ghost use Rattle.std.specs.Prelude.{◌<◌, ◌+◌, None, IsTrue, IfOk, IfErr};
+ghost use Rattle.ring_core.specs.Request.{named};
 ghost use Rattle.driver_core.specs.Op.{AddsToken};
 ghost use Rattle.ready_driver.specs.LegacyState.{holds_all, ops_in};
 ghost use Rattle.ready_driver.specs.LegacyCalls.{JoinsOp, SubmitRefused};
 ghost use Rattle.ready_driver.specs.Io.{IsLater};
 ghost use Rattle.pipe_job.specs.Course.{IsSameBytes, left_of};
 ghost use Rattle.pipe_job.specs.Waits.{FitsWait, IfBack, IfAgain, KeepsApart, StaysApart, most_steps};
-ghost use Rattle.pipe_job.specs.Causes.{EndsBy, WaitsBy};
+ghost use Rattle.pipe_job.specs.Causes.{StepEndsFor, WaitsBy};
 ghost use Rattle.pipe_job.specs.Steps.{IfWhole, IsWhole, StepFor, StepsTo};
 
 use crate::course::Course;
@@ -80,7 +79,7 @@ fn submit<I: NonBlock>(
     ensures others { KeepsApart (ops_in driver.old) (ops_in driver.new) (Wait.Room room) }
     ensures apart { IfBack result (StaysApart (ops_in driver.old) (Wait.Room room)) }
     ensures later { IsLater (I.view driver.old.handling.io) (I.view driver.new.handling.io) }
-    ensures ends { EndsBy I.view course.now.pipe cancels driver.old driver.new result }
+    ensures ends { StepEndsFor I.view course.now.pipe cancels driver.old driver.new result }
     ensures waits { WaitsBy I.view driver.old driver.new result }
     ensures less { IfAgain result (λ next. most_steps course.now next < most_steps course.now (Wait.Room room)) }
     ensures whole { IfWhole result (IsWhole course.now) }

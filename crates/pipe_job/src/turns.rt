@@ -1,7 +1,8 @@
 // A turn of the driver, and one of an executor of such jobs.
 ghost use Rattle.std.specs.Prelude.{◌≡◌, ◌<◌, ◌≤◌, ◌+◌, ◌^◌, ℕ, List, true, false, IfOk, OnErr};
 ghost use Rattle.core_exec.specs.Turns.{Reaches};
-ghost use Rattle.core_exec.specs.Exec.{IsSound, KeepsPlaces, MeetAims, Stands, TurnsTo, left_of, moment_of, ready_of, spawned_of, tasks_of, turns_of};
+ghost use Rattle.core_exec.specs.Exec.{IsSound, KeepsPlaces, MeetAims, Stands, TurnsTo, left_of, moment_of, ready_of, spawned_of, tasks_of};
+ghost use Rattle.core_exec.specs.Exec.{turns_of};
 ghost use Rattle.pipe_job.specs.PipeJob.{FitsPipe, ApartPipes, IsAim, aim_of, cancels_of, polls_of};
 
 use crate::pipe_job::PipeJob;
@@ -38,7 +39,8 @@ pub fn turn<I: NonBlock>(exec: &mut PipeExec<I>, now: u64) -> (Turned, Result<Ra
     ensures counted { turns_of exec.new ≤ turns_of exec.old + 1 }
     ensures aims { (aims : ℕ → List ℕ) → MeetAims aim_of IsAim aims exec.old → MeetAims aim_of IsAim aims exec.new }
     ensures turns { IfOk result.1 (λ ran. TurnsTo polls_of cancels_of aim_of now result.0.woken exec.old exec.new ran) }
-    ensures reaches { IfOk result.1 (λ ran. Reaches (ready_of now result.0.woken exec.old) (tasks_of exec.new) ran.polled.items ran.stopped) }
+    ensures reaches { IfOk result.1 (λ ran. Reaches (ready_of now result.0.woken exec.old) (tasks_of exec.new) ran.polled.items
+        ran.stopped) }
     ensures places { KeepsPlaces exec.old exec.new }
     ensures spawned { spawned_of exec.new ≡ spawned_of exec.old }
     ensures marked { OnErr result.1 ((t : ℕ) → tasks_of exec.new t ≡ ready_of now result.0.woken exec.old t) }
