@@ -14,7 +14,7 @@ use Rattle.driver_core.specs.Requests.{KeepsRequests, request_at}
 use Rattle.ready_driver.specs.Awaits.{TokensFor}
 use Rattle.op_driver.specs.Returned.{KeepsOthers}
 use Rattle.net_stream.specs.declared.connection.Connection.{Connection}
-use Rattle.net_stream.specs.Connection.{AreApart, AreBeside, FitsConnection, KeepsBeside, KeepsOutside}
+use Rattle.net_stream.specs.Connection.{AreDifferent, AreBeside, FitsConnection, KeepsBeside, KeepsOutside}
 use Rattle.net_stream.specs.Drives.{FitsOp, HoldsNoMore, HoldsOp, IsGone, IfAsked, IsOther, IsRecv, IsSend, KeepsOther}
 use Rattle.net_stream.specs.Told.{bytes_sent, in_flight}
 
@@ -95,29 +95,29 @@ turned_fits old new conn tokens given keeps fits = record {
 }
 
 -- An operation of another connection isn't one that this waits for.
-is_other : (waits : Option Op) (op : Op) → AreApart waits (Some op) → IsOther waits op
+pub is_other : (waits : Option Op) (op : Op) → AreDifferent waits (Some op) → IsOther waits op
 is_other None op apart = tt
 is_other (Some waited) op apart = apart
 
--- And the other way round.
-are_apart : (waits : Option Op) (op : Op) → IsOther waits op → AreApart waits (Some op)
+-- And one that isn't is different from it.
+pub are_apart : (waits : Option Op) (op : Op) → IsOther waits op → AreDifferent waits (Some op)
 are_apart None op other = tt
 are_apart (Some waited) op other = other
 
--- Nothing is apart from all.
-no_apart : (waits : Option Op) → AreApart waits None
+-- Nothing is different from each.
+pub no_apart : (waits : Option Op) → AreDifferent waits None
 no_apart None = tt
 no_apart (Some waited) = tt
 
 -- What a call of one connection leaves of an operation that another waits for.
 record Beside (new : Ops Rented) (now : Connection) (op : Option Op) (P : Request Rented Parts → Type 0) : Type 0 where
   fits : FitsOp new op P
-  receives : AreApart now.incoming.op op
-  sends : AreApart now.outgoing.op op
+  receives : AreDifferent now.incoming.op op
+  sends : AreDifferent now.outgoing.op op
 
 -- A call of one connection keeps one operation of another.
 beside_op : (old new : Ops Rented) (before now : Connection) (op : Option Op) (P : Request Rented Parts → Type 0)
-    → KeepsBeside old before new now → FitsOp old op P → AreApart before.incoming.op op → AreApart before.outgoing.op op
+    → KeepsBeside old before new now → FitsOp old op P → AreDifferent before.incoming.op op → AreDifferent before.outgoing.op op
     → Beside new now op P
 beside_op old new before now None P keeps fits receives sends =
     record { fits = tt; receives = no_apart now.incoming.op; sends = no_apart now.outgoing.op }
@@ -133,7 +133,8 @@ beside_op old new before now (Some op) P keeps fits receives sends =
 pub beside_fits : (old new : Ops Rented) (before now other : Connection) → KeepsBeside old before new now → FitsConnection old other
     → AreBeside before other → FitsConnection new other × AreBeside now other
 beside_fits old new before now other keeps fits beside =
-    let receive = beside_op old new before now other.incoming.op (IsRecv other.fd) keeps fits.receives beside.both_receive beside.one_sends in
+    let receive = beside_op old new before now other.incoming.op (IsRecv other.fd) keeps fits.receives beside.both_receive beside.one_sends
+    in
     let send = beside_op old new before now other.outgoing.op (IsSend other.fd other.outgoing.room) keeps fits.sends beside.one_receives
     beside.both_send in (
       record { receives = receive.fits; sends = send.fits; apart = fits.apart },
@@ -146,15 +147,15 @@ pub beside_flight : (old new : Ops Rented) (before now other : Connection) → K
 beside_flight old new before now other keeps fits beside =
     kept other.outgoing.op fits.sends beside.one_receives beside.both_send
   where
-    kept : (op : Option Op) → FitsOp old op (IsSend other.fd other.outgoing.room) → AreApart before.incoming.op op
-        → AreApart before.outgoing.op op → in_flight new op ≡ in_flight old op
+    kept : (op : Option Op) → FitsOp old op (IsSend other.fd other.outgoing.room) → AreDifferent before.incoming.op op
+        → AreDifferent before.outgoing.op op → in_flight new op ≡ in_flight old op
     kept None fits receives sends = refl
     kept (Some op) fits receives sends =
         ap bytes_sent (keeps op fits.0 (is_other before.incoming.op op receives) (is_other before.outgoing.op op sends)).1
 
 -- The end of one connection keeps what another waits for.
 ended_op : (old new : Ops Rented) (ended : Connection) (op : Option Op) (P : Request Rented Parts → Type 0)
-    → KeepsOutside old ended new → FitsOp old op P → AreApart ended.incoming.op op → AreApart ended.outgoing.op op → FitsOp new op P
+    → KeepsOutside old ended new → FitsOp old op P → AreDifferent ended.incoming.op op → AreDifferent ended.outgoing.op op → FitsOp new op P
 ended_op old new ended None P keeps fits receives sends = tt
 ended_op old new ended (Some op) P keeps fits receives sends =
     let kept = keeps op fits.0 (is_other ended.incoming.op op receives) (is_other ended.outgoing.op op sends) in
@@ -165,7 +166,8 @@ pub ended_fits : (old new : Ops Rented) (ended other : Connection) → KeepsOuts
     → AreBeside ended other → FitsConnection new other
 ended_fits old new ended other keeps fits beside = record {
   receives = ended_op old new ended other.incoming.op (IsRecv other.fd) keeps fits.receives beside.both_receive beside.one_sends;
-  sends = ended_op old new ended other.outgoing.op (IsSend other.fd other.outgoing.room) keeps fits.sends beside.one_receives beside.both_send;
+  sends = ended_op old new ended other.outgoing.op (IsSend other.fd other.outgoing.room) keeps fits.sends beside.one_receives
+      beside.both_send;
   apart = fits.apart;
 }
 
@@ -187,7 +189,7 @@ beside_swaps one other beside = record {
   both_send = apart_swaps one.outgoing.op other.outgoing.op beside.both_send;
 }
   where
-    apart_swaps : (one other : Option Op) → AreApart one other → AreApart other one
+    apart_swaps : (one other : Option Op) → AreDifferent one other → AreDifferent other one
     apart_swaps None None apart = tt
     apart_swaps None (Some op) apart = tt
     apart_swaps (Some op) None apart = tt

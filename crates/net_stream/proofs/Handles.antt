@@ -11,10 +11,11 @@ use Rattle.ring_core.proofs.Amended.{get-amended, get-amended-other}
 use Rattle.ring_core.proofs.Numbers.{same-or-not}
 use Rattle.net_stream.specs.Told.{IsSentTo, IsStream, IsTaken, output_at}
 
--- Of a handle that was looked up: what waits at it, and what was sent to it.
+-- What waits at a handle that was looked up.
 abbrev input_in : Option HandleState → List ℕ
 input_in found = unwrap_or (option_map (λ handle. handle.input) found) []
 
+-- What was sent to it.
 abbrev output_in : Option HandleState → List ℕ
 output_in found = unwrap_or (option_map (λ handle. handle.output) found) []
 

@@ -4,3 +4,4 @@ pub mod Told
 pub mod Went
 pub mod Handles
 pub mod Accepts
+pub mod Executions

@@ -214,7 +214,8 @@ module _ {I : Type 0} (view : I → IoView) (tells memory : Bool) (files : I →
       let out : done.outcome ≡ ends.call = ends.outcome ∙ same_outcome ends.mid.table ends.call moved.1 in
       let unmade : made_by done.outcome ≡ None = ap made_by out ∙ moved.1 in
       let handed : ends.handed ≡ ends.mid = subst (λ m. HandsOver view tells memory ends.mid m ends.handed) unmade ends.hands in
-      let world : (view new.handling.io).world ≡ (view ends.mid.io).world = ends.lets.object.world t ∙ ap (λ h. (view h.io).world) handed in (
+      let world : (view new.handling.io).world ≡ (view ends.mid.io).world = ends.lets.object.world t
+      ∙ ap (λ h. (view h.io).world) handed in (
         ap (λ o. came o buf.bytes ++ waiting_at view new fd) out
             ∙ (ap (λ w. came ends.call buf.bytes ++ input_at w fd) world ∙ moved.0),
         subst (λ w. IsTaken (world_of view old) fd w) (sym world) moved.2,

@@ -46,7 +46,7 @@ use Rattle.net_stream.specs.Drives.{FitsOp, IfAsked, IsSend}
 use Rattle.net_stream.specs.declared.connection.Connection.{Connection}
 use Rattle.net_stream.specs.declared.incoming.Polled.{Polled}
 use Rattle.net_stream.specs.declared.incoming.Polled.TheVariants.{Waits, Ended as HasEnded, OutOfMemory as NoRoom}
-use Rattle.net_stream.specs.Connection.{HasSend, LeavesSend, Prepares, SendsFor}
+use Rattle.net_stream.specs.Connection.{HasSendOp, LeavesSend, Prepares, SendsFor}
 use Rattle.net_stream.specs.Outbox.{Outboxed}
 use Rattle.net_stream.specs.Outgoing.{Going, PollsSend, SentOutIf, has_bytes, sent_by}
 use Rattle.net_stream.specs.Told.{IsSentTo, IsStream, bytes_sent, in_flight, output_at, sent_at, unsent_in, world_of}
@@ -189,7 +189,8 @@ module _ {I : Type 0} (view : I → IoView) (tells memory : Bool) (files : I →
       let out : done.outcome ≡ ends.call = ends.outcome ∙ same_outcome ends.mid.table ends.call moved.1 in
       let unmade : made_by done.outcome ≡ None = ap made_by out ∙ moved.1 in
       let handed : ends.handed ≡ ends.mid = subst (λ m. HandsOver view tells memory ends.mid m ends.handed) unmade ends.hands in
-      let world : (view new.handling.io).world ≡ (view ends.mid.io).world = ends.lets.object.world t ∙ ap (λ h. (view h.io).world) handed in (
+      let world : (view new.handling.io).world ≡ (view ends.mid.io).world = ends.lets.object.world t
+      ∙ ap (λ h. (view h.io).world) handed in (
         λ stream. ap (λ o. sent_at view new fd ++ drop (sent_by o) buf.bytes) out
             ∙ (ap (λ w. output_at w fd ++ drop (sent_by ends.call) buf.bytes) world ∙ moved.0 stream),
         subst (λ w. IsSentTo (world_of view old) fd w) (sym world) moved.2,
@@ -266,7 +267,8 @@ module _ {I : Type 0} (view : I → IoView) (tells memory : Bool) (files : I →
 
   has_sending : (old mid : LegacyState I Rented) (before : Connection) (between : Going) (outbox : Outboxed) (waited : Option Op)
       → before.outgoing.op ≡ waited → IsTrue tells
-      → HasSend (LegacySubmits view tells memory) old mid before between outbox waited → SentOutIf before.outgoing.op before.outgoing.unsent
+      → HasSendOp (LegacySubmits view tells memory) old mid before between outbox waited
+      → SentOutIf before.outgoing.op before.outgoing.unsent
       → EndsByCancel (ops_in old) before.outgoing.op → FitsOp (ops_in old) before.outgoing.op (IsSend before.fd before.outgoing.room)
       → Sending old mid before between outbox
   has_sending old mid before between outbox (Some op) is t has out only fits = record {

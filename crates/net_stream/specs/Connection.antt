@@ -32,23 +32,23 @@ fresh_connection fd room = record {
 }
 
 -- Two operations that wait, if both do, aren't the same.
-abbrev pub AreApart : Option Op → Option Op → Type 0
-AreApart None other = Unit {0}
-AreApart (Some op) None = Unit {0}
-AreApart (Some op) (Some other) = other ≢ op
+abbrev pub AreDifferent : Option Op → Option Op → Type 0
+AreDifferent None other = Unit {0}
+AreDifferent (Some op) None = Unit {0}
+AreDifferent (Some op) (Some other) = other ≢ op
 
 -- The driver has the operations that a connection waits for: a receive from its handle, and a send to it. Its streams don't matter.
 pub record FitsConnection (ops : Ops Rented) (conn : Connection) : Type 0 where
   pub receives : FitsOp ops conn.incoming.op (IsRecv conn.fd)
   pub sends : FitsOp ops conn.outgoing.op (IsSend conn.fd conn.outgoing.room)
-  pub apart : AreApart conn.incoming.op conn.outgoing.op
+  pub apart : AreDifferent conn.incoming.op conn.outgoing.op
 
 -- Two connections wait for no operation together.
 pub record AreBeside (one other : Connection) : Type 0 where
-  pub both_receive : AreApart one.incoming.op other.incoming.op
-  pub one_receives : AreApart one.incoming.op other.outgoing.op
-  pub one_sends : AreApart one.outgoing.op other.incoming.op
-  pub both_send : AreApart one.outgoing.op other.outgoing.op
+  pub both_receive : AreDifferent one.incoming.op other.incoming.op
+  pub one_receives : AreDifferent one.incoming.op other.outgoing.op
+  pub one_sends : AreDifferent one.outgoing.op other.incoming.op
+  pub both_send : AreDifferent one.outgoing.op other.outgoing.op
 
 -- Each operation that the driver held and that the connection didn't wait for it holds, with its request, and the connection doesn't wait
 -- for it now.
@@ -164,13 +164,13 @@ PreparesFor before now true = (has_failed before.outbox.fault ≡ false) × Prep
 PreparesFor before now false = (now ≡ before) × WantsNone before
 
 -- The send that waited, or a new one.
-abbrev pub HasSend : {D : Type 0} → Submission D → D → D → Connection → Going → Outboxed → Option Op → Type 0
-HasSend submits old mid before between outbox (Some op) = (mid ≡ old) × (between ≡ before.outgoing) × (outbox ≡ before.outbox)
-HasSend submits old mid before between outbox None = BegunNext submits old mid before between outbox
+abbrev pub HasSendOp : {D : Type 0} → Submission D → D → D → Connection → Going → Outboxed → Option Op → Type 0
+HasSendOp submits old mid before between outbox (Some op) = (mid ≡ old) × (between ≡ before.outgoing) × (outbox ≡ before.outbox)
+HasSendOp submits old mid before between outbox None = BegunNext submits old mid before between outbox
 
 -- Whether a send waits, and what the connection is then; or its submission was refused.
 abbrev pub HasSendFor : {D : Type 0} → Submission D → D → D → Connection → Connection → Result Bool SubmitFault → Type 0
-HasSendFor submits old mid before now (Ok true) = HasSend submits old mid before now.outgoing now.outbox before.outgoing.op
+HasSendFor submits old mid before now (Ok true) = HasSendOp submits old mid before now.outgoing now.outbox before.outgoing.op
 HasSendFor submits old mid before now (Ok false) = (mid ≡ old) × (now ≡ before) × WantsNone before
 HasSendFor submits old mid before now (Err why) = RefusedNext submits old mid before now why
 
@@ -200,7 +200,14 @@ LeavesSend polled.Waits after outbox fault before now result =
 LeavesSend polled.OutOfMemory after outbox fault before now result =
     (result ≡ Err refused.OutOfMemory) × (now ≡ record before { outgoing = after; outbox = outbox })
 LeavesSend polled.Ended after outbox fault before now result = (result ≡ Ok Moved)
-    × (now ≡ record before { outgoing = after; outbox = record outbox { sending = has_bytes after.unsent; fault = later_fault fault outbox.fault } })
+    × (now ≡ record before {
+      outgoing = after;
+      outbox = record outbox {
+        sending = has_bytes after.unsent;
+        fault = later_fault fault
+            outbox.fault;
+      };
+    })
 
 -- The send that waits was polled, and left this.
 pub record PollsSendFor {D : Type 0} (ops : D → Ops Rented) (polls : Polling D) (mid new : D) (before now : Connection) (task : ℕ)
@@ -217,7 +224,7 @@ pub record Sends {D : Type 0} (ops : D → Ops Rented) (submits : Submission D) 
   pub mid : D
   pub between : Connection
   pub same : OnlyGoes before between
-  pub has : HasSend submits old mid before between.outgoing between.outbox before.outgoing.op
+  pub has : HasSendOp submits old mid before between.outgoing between.outbox before.outgoing.op
   pub polls_it : PollsSendFor ops polls mid new between now task result
 
 -- None waited: a fault is to be answered first, or there is nothing to send; or the submission was refused.
@@ -240,7 +247,7 @@ SendsUnder ops joins polls old new before now group task result =
     ⊎ (CanceledNext joins old new before now group × (result ≡ Ok Moved))
 
 -- What waited was dropped: the receive, and then the send.
-pub record EndsFor {D : Type 0} (drops : D → D → Op → Type 0) (old new : D) (conn : Connection) : Type 0 where
+pub record EndDrops {D : Type 0} (drops : D → D → Op → Type 0) (old new : D) (conn : Connection) : Type 0 where
   pub mid : D
   pub receive : DropsFor drops old mid conn.incoming.op
   pub send : DropsFor drops mid new conn.outgoing.op
@@ -252,4 +259,4 @@ pub record Closes {D : Type 0} (closes : D → D → ℕ → Released → Type 0
     pub mid : D
     pub answer : Released
     pub closed : closes old mid conn.fd answer
-    pub ends : EndsFor drops mid new conn
+    pub ends : EndDrops drops mid new conn

@@ -66,11 +66,11 @@ FaultAfter old new (Pending back) = new ≡ old
 FaultAfter old new (Again back) = new ≡ old
 
 -- The same after a fill, a flush or a shutdown.
-abbrev pub FaultFor : Option IoFault → Option IoFault → PollCount → Type 0
-FaultFor old new (CountReady (Ok n)) = new ≡ old
-FaultFor old new (CountReady (Err fault)) = new ≡ None
-FaultFor old new CountPending = new ≡ old
-FaultFor old new CountAgain = new ≡ old
+abbrev pub FaultTold : Option IoFault → Option IoFault → PollCount → Type 0
+FaultTold old new (CountReady (Ok n)) = new ≡ old
+FaultTold old new (CountReady (Err fault)) = new ≡ None
+FaultTold old new CountPending = new ≡ old
+FaultTold old new CountAgain = new ≡ old
 
 -- More may come: all that came was read, and no end and no fault came.
 abbrev pub WantsMore : Inboxed → Type 0

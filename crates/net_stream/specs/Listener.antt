@@ -33,7 +33,8 @@ IsAccept fd _ = ⊥
 abbrev pub FitsListener : Ops Rented → Listener → Type 0
 FitsListener ops listener = FitsOp ops listener.op (IsAccept listener.fd)
 
--- What an accept came to, by its operation's outcome: the handle that was made, or its error. An outcome that no accept has is the error 22.
+-- What an accept came to, by its operation's outcome: the handle that was made, or its error. An outcome that no accept has is the error
+-- 22.
 abbrev pub accepted_of : Outcome → Accepted
 accepted_of (ended.Made h) = Made h
 accepted_of (ended.Fail error) = Failed (Os error)
@@ -69,7 +70,7 @@ pub record RefusesAccept {D : Type 0} (submits : Submission D) (old new : D) (be
   pub why_is : why ≡ refused.why
 
 -- What an accept did: one submission at most, and one poll at most.
-abbrev pub AcceptsFor : {D : Type 0} → Submission D → Polling D → D → D → Listener → Listener → ℕ → Result Accepted SubmitFault → Type 0
-AcceptsFor submits polls old new before now task result =
+abbrev pub AcceptsOnce : {D : Type 0} → Submission D → Polling D → D → D → Listener → Listener → ℕ → Result Accepted SubmitFault → Type 0
+AcceptsOnce submits polls old new before now task result =
     Accepts submits polls old new before now task result
     ⊎ ((why : SubmitFault) × (result ≡ Err why) × RefusesAccept submits old new before why × (now ≡ before))

@@ -1,7 +1,7 @@
 //! A handle with what came at it and what is to go.
 ghost use Rattle.std.specs.Prelude.{◌≡◌, ◌≤◌, ◌<◌, ◌+◌, ◌∷◌, [], true, None, Some, Ok, IsTrue, IsSome, IfOk, max};
 ghost use Rattle.net_stream.specs.Connection.{FitsConnection, HasSendFor, KeepsBeside, KeepsOutside, OnlyComes, OnlyGoes, PollsSendFor, PreparesFor};
-ghost use Rattle.net_stream.specs.Connection.{Closes, EndsFor, HasSendUnder, ReceivesFor, ReceivesUnder, SendsFor, SendsUnder};
+ghost use Rattle.net_stream.specs.Connection.{Closes, EndDrops, HasSendUnder, ReceivesFor, ReceivesUnder, SendsFor, SendsUnder};
 ghost use Rattle.net_stream.specs.Connection.{Settles, fresh_connection};
 ghost use Rattle.net_stream.specs.Drives.{DropsFor, HoldsNoMore, IsGone, IsHeldOp, KeepsOther};
 
@@ -317,7 +317,7 @@ impl Connection {
     pub fn end<D: OpDriver<Rent>>(self, driver: &mut D) -> SharedFd
         requires fits { FitsConnection (D.ops driver.old) self }
         ensures fd { result ≡ self.fd }
-        ensures drops { EndsFor D.drops driver.old driver.new self }
+        ensures drops { EndDrops D.drops driver.old driver.new self }
         ensures gone { IsGone (D.ops driver.new) self.incoming.op × IsGone (D.ops driver.new) self.outgoing.op }
         ensures others { KeepsOutside (D.ops driver.old) self (D.ops driver.new) }
         ensures given { (D.ops driver.new).given ≡ (D.ops driver.old).given }

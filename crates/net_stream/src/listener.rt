@@ -1,7 +1,7 @@
 //! A handle that listens, and the accept that waits at it.
 ghost use Rattle.std.specs.Prelude.{◌≡◌, ◌≤◌, ◌<◌, ◌+◌, ◌∷◌, [], None, Some, IsTrue, IfOk, IfErr, OnErr};
 ghost use Rattle.net_stream.specs.Drives.{FitsOp, IsGone, KeepsOther};
-ghost use Rattle.net_stream.specs.Listener.{AcceptsFor, FitsListener, HasAccept, IsAccept, RefusesAccept, accepted_of, fresh_listener};
+ghost use Rattle.net_stream.specs.Listener.{AcceptsOnce, FitsListener, HasAccept, IsAccept, RefusesAccept, accepted_of, fresh_listener};
 
 use crate::incoming::hold;
 use driver_core::{MOST_GIVEN, Op, PollOp, SubmitFault};
@@ -89,7 +89,7 @@ impl Listener {
         requires fits { FitsListener (D.ops driver.old) self.old }
         requires held { IsTrue (D.held driver.old (self.old.fd ∷ [])) }
         requires counter { (D.ops driver.old).given < MOST_GIVEN }
-        ensures accepts { AcceptsFor D.submits D.polls driver.old driver.new self.old self.new task result }
+        ensures accepts { AcceptsOnce D.submits D.polls driver.old driver.new self.old self.new task result }
         ensures fd { self.new.fd ≡ self.old.fd }
         ensures fits { FitsListener (D.ops driver.new) self.new }
         ensures others { KeepsOther (D.ops driver.old) self.old.op (D.ops driver.new) self.new.op }

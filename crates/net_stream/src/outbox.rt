@@ -4,7 +4,7 @@ ghost use Rattle.std.specs.List.{concat};
 ghost use Rattle.rent_io.specs.Counts.{AfterCall};
 ghost use Rattle.rent_io.specs.Polls.{CountsNone, IsWriteCaused, IsFlushCaused};
 ghost use Rattle.rent_io.specs.Writer.{CountsDone, EndsStay, Writes, first_part as part_of};
-ghost use Rattle.net_stream.specs.Inbox.{FaultAfter, FaultFor};
+ghost use Rattle.net_stream.specs.Inbox.{FaultAfter, FaultTold};
 ghost use Rattle.net_stream.specs.Outbox.{FlushesOutbox, PutIn, SameBytes, TakenOut, TurnsFlush, TurnsWrite};
 ghost use Rattle.net_stream.specs.Outbox.{WantsSent, WritesOutbox, fresh_outbox, has_failed, later_fault, outbox_writer};
 
@@ -280,7 +280,7 @@ impl AsyncWriteRent for Outbox {
         ensures cause { IsFlushCaused task self.old.counts self.new.counts result }
         ensures counts { AfterCall None self.old.counts self.new.counts }
         ensures outbox { FlushesOutbox self.old result }
-        ensures once { FaultFor self.old.fault self.new.fault result }
+        ensures once { FaultTold self.old.fault self.new.fault result }
         ensures sending { self.new.sending ≡ self.old.sending }
     {
         match self.flushing(task) {
@@ -301,7 +301,7 @@ impl AsyncWriteRent for Outbox {
         ensures cause { IsFlushCaused task self.old.counts self.new.counts result }
         ensures counts { AfterCall None self.old.counts self.new.counts }
         ensures outbox { FlushesOutbox self.old result }
-        ensures once { FaultFor self.old.fault self.new.fault result }
+        ensures once { FaultTold self.old.fault self.new.fault result }
         ensures sending { self.new.sending ≡ self.old.sending }
     {
         match self.flushing(task) {

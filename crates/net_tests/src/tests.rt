@@ -13,6 +13,8 @@ use ring_core::{HandleKind, MOST_HANDLES, Names};
 use std::alloc::Global;
 use std::test::Fail;
 
+mod ring;
+
 // How often a connection meets its driver at most.
 const STEPS: usize = 200;
 
@@ -46,7 +48,7 @@ const ROWS: &[Row] = &[
 
 // A send and a receive, and a turn: whether they could be made.
 #[tactic(auto, using(net_stream::proofs::Frames::turned_fits))]
-fn step<D: OpDriver<Rent>>(driver: &mut D, conn: &mut Connection) -> bool
+pub(crate) fn step<D: OpDriver<Rent>>(driver: &mut D, conn: &mut Connection) -> bool
     requires { FitsConnection (D.ops driver.old) conn.old }
     ensures { FitsConnection (D.ops driver.new) conn.new }
 {
@@ -64,7 +66,7 @@ fn step<D: OpDriver<Rent>>(driver: &mut D, conn: &mut Connection) -> bool
 }
 
 // Writes what is left of a text, from a place of it on: the place then.
-fn put(alloc: Global, outbox: &mut Outbox, text: &[u8], at: usize) -> Option<usize> {
+pub(crate) fn put(alloc: Global, outbox: &mut Outbox, text: &[u8], at: usize) -> Option<usize> {
     let rest = text[at.min(text.len())..].to_vec(alloc).ok()?;
     match outbox.poll_write(rest, 1) {
         PollBuf::Ready(Ok(count), _) => Some(at.saturating_add(count)),
@@ -73,7 +75,7 @@ fn put(alloc: Global, outbox: &mut Outbox, text: &[u8], at: usize) -> Option<usi
 }
 
 // Reads what came.
-fn get(alloc: Global, inbox: &mut Inbox, got: &mut Vec<u8>) -> Option<()> {
+pub(crate) fn get(alloc: Global, inbox: &mut Inbox, got: &mut Vec<u8>) -> Option<()> {
     if let PollBuf::Ready(Ok(_), buf) = inbox.poll_read(Rent::with_total(alloc, 3).ok()?, 1) {
         got.extend_from_slice(buf.as_slice()).ok()?;
     }

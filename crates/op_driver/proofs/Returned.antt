@@ -34,7 +34,8 @@ use Rattle.ready_driver.specs.Named.{PollsSlotFor}
 use Rattle.op_driver.specs.Returned.{IsBack, IsBackOf, KeepsOthers, PollsRequest}
 
 -- A request as plain data has its shape, and its way.
-shape_plain : {B : Type 0} (buffer : B → Buffer) (request : Request B Parts) → shape_of (plain_request buffer request) ≡ shape_of request
+pub shape_plain : {B : Type 0} (buffer : B → Buffer) (request : Request B Parts)
+    → shape_of (plain_request buffer request) ≡ shape_of request
 shape_plain buffer (Recv fd buf) = refl
 shape_plain buffer (ReadVec fd parts) = refl
 shape_plain buffer (Send fd buf) = refl
@@ -54,7 +55,8 @@ shape_plain buffer (MkDir path mode) = refl
 shape_plain buffer (Rename from to) = refl
 shape_plain buffer (Unlink path remove_dir) = refl
 
-way_plain : {B : Type 0} (buffer : B → Buffer) (request : Request B Parts) → way_of (plain_request buffer request) ≡ way_of request
+-- Its way is the same.
+pub way_plain : {B : Type 0} (buffer : B → Buffer) (request : Request B Parts) → way_of (plain_request buffer request) ≡ way_of request
 way_plain buffer (Recv fd buf) = refl
 way_plain buffer (ReadVec fd parts) = refl
 way_plain buffer (Send fd buf) = refl
@@ -116,7 +118,7 @@ back_as buffer slot request now asked back =
     subst (λ o. IsBackOf buffer o (Some now)) (sym asked ∙ same_in slot) back
 
 -- A slot that is there has its request.
-same_back : {B : Type 0} (buffer : B → Buffer) (slot : Option (Slot B)) (number : ℕ) → serial_of slot ≡ Some number
+pub same_back : {B : Type 0} (buffer : B → Buffer) (slot : Option (Slot B)) (number : ℕ) → serial_of slot ≡ Some number
     → IsBackOf buffer (asked_in slot) (asked_in slot)
 same_back buffer None number is = absurd cc
 same_back buffer (Some slot) number is = plain_back buffer slot.request slot.request refl
@@ -213,6 +215,7 @@ uring_back buffer old new op (Pending back) holds tokens request keeps =
 uring_back buffer old new op (Ready done) holds tokens request keeps =
     subst (λ o. IsBackOf buffer o (Some done.request)) (sym request) (plain_back buffer done.request done.request refl)
 
+-- Each other operation that the completion driver held keeps its request in a poll.
 pub uring_others : {B : Type 0} (old new : Ops B) (op : Op) (answer : PollOp B) → PollsTokens old new op answer → KeepsRequests old new
     → KeepsOthers old new op
 uring_others old new op (Pending back) tokens keeps other apart held = keeps other held ((tokens.1 other).0 held)

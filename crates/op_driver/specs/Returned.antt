@@ -33,3 +33,7 @@ PollsRequest buffer old new op (Err error) = IsBackOf buffer (request_at old op)
 -- Each other operation has its request, with what it holds, unchanged.
 abbrev pub KeepsOthers : {B : Type 0} → Ops B → Ops B → Op → Type 0
 KeepsOthers old new op = (other : Op) → other ≢ op → Holds old other → request_at new other ≡ request_at old other
+
+-- Each operation that is held has its request still: it names what it named, and what it sends is as it was. Bytes may have come to it.
+abbrev pub KeepsBack : {B : Type 0} → (B → Buffer) → Ops B → Ops B → Type 0
+KeepsBack buffer old new = (op : Op) → Holds old op → IsBackOf buffer (request_at old op) (request_at new op)
