@@ -2,5 +2,7 @@
 #![tactic(auto)]
 
 mod round;
+mod run;
 
 pub use round::{Round, copy_round};
+pub use run::{CopyFault, copy};

@@ -62,7 +62,7 @@ fn receive<I: NonBlock>(
 }
 
 // Sends, where that may be asked.
-fn send<I: NonBlock>(
+pub(crate) fn send<I: NonBlock>(
     driver: &mut LegacyDriver<I, Rent>,
     conn: &mut Connection,
     task: u64,

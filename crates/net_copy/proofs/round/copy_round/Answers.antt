@@ -19,7 +19,8 @@ returns-clause-line g c = λ tells stream.
     (record c.args.to.now { outbox = c.run-copied.new.writer }) c.send-sent.new.conn c.args.copy.held (held_in c.run-copied.result)
     (c.receive-received.ensures.came tells) (c.receive-received.ensures.handles tells) c.receive-received.ensures.same
     (beside_flight (ops_in c.args.driver.now) (ops_in c.receive-received.new.driver) c.args.from.now c.receive-received.new.conn
-    c.args.to.now c.receive-received.ensures.others c.requires.to c.requires.beside) refl refl (c.run-copied.ensures.joined refl refl) stream
+    c.args.to.now c.receive-received.ensures.others c.requires.to c.requires.beside) refl refl (c.run-copied.ensures.joined refl refl)
+    stream
     (c.send-sent.ensures.handles tells) c.send-sent.ensures.same (c.send-sent.ensures.went tells)
 
 pub returns-clause-streams : goal.returns-clause-streams
