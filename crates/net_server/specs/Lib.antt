@@ -1,0 +1,4 @@
+pub mod Serving
+pub mod NetJob
+pub mod Closing
+pub mod Server
