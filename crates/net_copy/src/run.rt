@@ -6,12 +6,12 @@ ghost use Rattle.rent_buf.specs.Rent.{Rented};
 ghost use Rattle.net_copy.specs.Run.{FitsBoth};
 
 use crate::round::{Round, copy_round, send};
-use driver_core::{Driver, SubmitFault};
+use driver_core::{Driver as _, SubmitFault};
 use handle_core::SharedFd;
 use net_stream::{Connection, Progress};
 use ready_driver::{LegacyDriver, NonBlock};
 use rent_buf::{IoFault, OutOfMemory, Rent};
-use rent_io::{AsyncWriteRent, PollCount, Step};
+use rent_io::{AsyncWriteRent as _, PollCount, Step};
 use std::alloc::Global;
 use std::sync::Wait;
 use std::sync::ledger::Ledger;
@@ -324,7 +324,8 @@ impl<'a, R: Wait + Clock, I: NonBlock> Work for Running<'a, R, I> {
 
 /// Copies from a handle to another until the end of the first, with buffers of so many bytes, and sends all: how many bytes it copied, or
 /// why it stopped. It waits in the driver. Its user holds both handles, and holds them still: nothing else is asked of it. Bytes that came
-/// and weren't sent when it stopped are lost. (monoio: `copy`)
+/// and weren't sent when it stopped are lost. Other tasks that turns of the driver name meanwhile are passed over, and nobody is told of
+/// them: a program that has other operations in the driver makes rounds of `copy_round` between its own turns. (monoio: `copy`)
 pub fn copy<R: Wait + Clock, I: NonBlock>(
     rt: &R,
     alloc: Global,

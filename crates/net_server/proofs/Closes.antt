@@ -1,12 +1,12 @@
 -- Closing handles leaves operations, and so the jobs.
 use Rattle.std.proofs.Common.{ℕ, ◌≡◌, ◌∙◌, ◌<◌, ◌≤◌, ap, sym, refl, subst, Option, Some, None, true, false, inl, inr, arith}
 use Rattle.std.proofs.lemmas.Bool.{ltb-true}
-use Rattle.std.specs.Prelude.{nat_lt, List, length, slice_get, ◌+◌}
+use Rattle.std.specs.Prelude.{nat_lt, List, length, slice_get, unwrap_or, ◌+◌}
 use Rattle.std.proofs.lemmas.Option.{slice_get_within}
 use Rattle.std.specs.FinMap as map
 use Rattle.rent_buf.specs.Parts.{Parts}
 use Rattle.rent_buf.specs.Rent.{Rented}
-use Rattle.handle_core.specs.Table.{Table, holders_at, without_user}
+use Rattle.handle_core.specs.Table.{Table, by_user, holders_at, nobody, without_user}
 use Rattle.ring_core.specs.declared.request.Request.{Request}
 use Rattle.ring_core.proofs.Numbers.{same-or-not}
 use Rattle.driver_core.specs.declared.op.Op.{Op}
@@ -16,6 +16,7 @@ use Rattle.driver_core.specs.Ops.{Ops}
 use Rattle.driver_core.specs.Requests.{request_in}
 use Rattle.driver_core.specs.Slot.{number_at}
 use Rattle.driver_core.proofs.Holds.{settled-same, settled-other}
+use Rattle.driver_core.proofs.Maps.{put-other}
 use Rattle.ready_driver.specs.Registry.{is_users}
 use Rattle.net_stream.specs.Drives.{FitsOp, IfAsked, IsRecv, IsSend}
 use Rattle.net_stream.specs.Listener.{IsAccept}
@@ -26,7 +27,7 @@ use Rattle.net_server.specs.declared.net_job.State.{State}
 use Rattle.net_server.specs.declared.net_job.State.TheVariants.{Accepting, Serving}
 use Rattle.net_server.specs.declared.net_job.NetEnd.{NetEnd}
 use Rattle.net_server.specs.declared.net_job.NetEnd.TheVariants.{Accepted, NotAccepted, Ended}
-use Rattle.net_server.specs.Closing.{AreClosed, GainsNone, IsClosed, SameSlots}
+use Rattle.net_server.specs.Closing.{AreClosed, GainsNone, GainsOne, IsClosed, SameSlots}
 use Rattle.net_server.specs.NetJob.{ApartJobs, FitsJob, FitsWaits}
 
 -- An operation that waits is held still.
@@ -46,8 +47,8 @@ same_op old new (Some op) P same fits = (
 pub same_state : {S : Type 0} (old new : Ops Rented) (state : State S) → SameSlots old new → FitsWaits old state → FitsWaits new state
 same_state old new (Accepting listener) same fits = same_op old new listener.op (IsAccept listener.fd) same fits
 same_state old new (Serving serving) same fits = record {
-  receives = same_op old new serving.conn.incoming.op (IsRecv serving.conn.fd) same fits.receives;
-  sends = same_op old new serving.conn.outgoing.op (IsSend serving.conn.fd serving.conn.outgoing.room) same fits.sends;
+  receives = same_op old new serving.value.conn.incoming.op (IsRecv serving.value.conn.fd) same fits.receives;
+  sends = same_op old new serving.value.conn.outgoing.op (IsSend serving.value.conn.fd serving.value.conn.outgoing.room) same fits.sends;
   apart = fits.apart;
 }
 
@@ -87,6 +88,29 @@ gains_then old mid new first second = record { none = λ h isnt. second.none h (
 -- It gains none where nothing is closed.
 pub gains_same : (table : Table) → GainsNone table table
 gains_same table = record { none = λ h isnt. isnt }
+
+-- It gains none where the same are held.
+pub gains_held : (old new : Table) → new.holders ≡ old.holders → GainsNone old new
+gains_held old new same = record { none = λ h isnt. ap (λ m. nat_lt 0 (unwrap_or (map.get m h) nobody).user) same ∙ isnt }
+
+-- It gains one that is opened.
+pub gains_opened : (old mid new : Table) (h : ℕ) → mid.holders ≡ old.holders → new.holders ≡ map.insert mid.holders h by_user
+    → GainsOne old new h
+gains_opened old mid new h same opened = record {
+  others = λ k other isnt.
+      ap (λ m. nat_lt 0 (unwrap_or (map.get m k) nobody).user) opened
+      ∙ ap (λ x. nat_lt 0 (unwrap_or x nobody).user) (put-other mid.holders h by_user k other)
+      ∙ (gains_held old mid same).none k isnt;
+}
+
+-- It gains none by one that is opened and closed.
+pub gains_closed : (old mid new : Table) (h : ℕ) → GainsOne old mid h → GainsNone mid new → is_users new h ≡ false → GainsNone old new
+gains_closed old mid new h opened after closed = record {
+  none = λ k isnt. elim (same-or-not k h) [
+    | inl e ↦ ap (is_users new) e ∙ closed
+    | inr e ↦ after.none k (opened.others k e isnt)
+  ];
+}
 
 -- Operations are as before behind one call after another.
 pub slots_then : (old mid new : Ops Rented) → SameSlots old mid → SameSlots mid new → SameSlots old new

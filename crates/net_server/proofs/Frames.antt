@@ -1,15 +1,15 @@
 -- What calls leave of jobs that wait for others.
-use Rattle.std.proofs.Common.{ℕ, ◌≡◌, ◌∙◌, ap, sym, refl, subst, Option, Some, None, List, [], ◌∷◌, ◌++◌, inl, inr}
+use Rattle.std.specs.declared.alloc.Global.{Global}
+use Rattle.std.proofs.Common.{Box, ℕ, ◌≡◌, ◌∙◌, sym, refl, subst, Option, Some, None, List, [], ◌∷◌, ◌++◌, inl, inr}
 use Rattle.rent_buf.specs.Parts.{Parts}
 use Rattle.rent_buf.specs.Rent.{Rented}
 use Rattle.ring_core.specs.declared.request.Request.{Request}
 use Rattle.driver_core.specs.declared.op.Op.{Op}
 use Rattle.driver_core.specs.Ops.{Ops}
-use Rattle.driver_core.specs.Requests.{request_at}
 use Rattle.net_stream.specs.declared.connection.Connection.{Connection}
 use Rattle.net_stream.specs.declared.listener.Listener.{Listener}
-use Rattle.net_stream.specs.Connection.{AreDifferent, FitsConnection, KeepsBeside, KeepsOutside}
-use Rattle.net_stream.specs.Drives.{FitsOp, HoldsOp, IfAsked, IsOther, IsRecv, IsSend, KeepsOther}
+use Rattle.net_stream.specs.Connection.{AreDifferent, FitsConnection, KeepsOutside}
+use Rattle.net_stream.specs.Drives.{FitsOp, IfAsked, IsOther, IsRecv, IsSend, KeepsOther}
 use Rattle.net_stream.specs.Listener.{FitsListener, IsAccept}
 use Rattle.net_stream.proofs.Frames.{are_apart, is_other, no_apart}
 use Rattle.core_exec.specs.declared.job.JobStep.{JobStep}
@@ -75,15 +75,17 @@ none_fits ops (Some op) P none = absurd cc
 
 module _ {S : Type 0} where
   -- The calls of a connection leave its job.
-  pub serving_leaves : (old new : Ops Rented) (before now : Served S) → Leaves old before.conn new now.conn
+  pub serving_leaves : (old new : Ops Rented) (before now : Box (Served S) Global) → Leaves old before.value.conn new now.value.conn
       → StateLeaves old (Serving before) new (Serving now)
   serving_leaves old new before now leaves = record { fits = leaves.fits; others = leaves.others }
 
   -- The end of a connection is the end of its job.
-  pub serving_ended : (old new : Ops Rented) (before : Served S) → KeepsOutside old before.conn new → EndLeaves old (Serving before) new
+  pub serving_ended : (old new : Ops Rented) (before : Box (Served S) Global) → KeepsOutside old before.value.conn new
+      → EndLeaves old (Serving before) new
   serving_ended old new before keeps = record { others = keeps }
 
-  state_then : (old mid new : Ops Rented) (before between : Served S) (now : State S) → Leaves old before.conn mid between.conn
+  state_then : (old mid new : Ops Rented) (before between : Box (Served S) Global) (now : State S)
+      → Leaves old before.value.conn mid between.value.conn
       → StateLeaves mid (Serving between) new now → StateLeaves old (Serving before) new now
   state_then old mid new before between now leaves step = record {
     fits = step.fits;
@@ -94,13 +96,14 @@ module _ {S : Type 0} where
   }
 
   -- A job that is left as it is.
-  pub serving_stays : (ops : Ops Rented) (serving : Served S) → FitsConnection ops serving.conn
+  pub serving_stays : (ops : Ops Rented) (serving : Box (Served S) Global) → FitsConnection ops serving.value.conn
       → StateLeaves ops (Serving serving) ops (Serving serving)
   serving_stays ops serving fits = record { fits = fits; others = λ other held one two. (held, refl, one, two) }
 
   -- The calls of a connection, and then what its job leaves.
-  pub serving_then : (old mid new : Ops Rented) (before between : Served S) (result : JobStep (State S) (NetEnd S))
-      → Leaves old before.conn mid between.conn → StepLeaves mid (Serving between) new result → StepLeaves old (Serving before) new result
+  pub serving_then : (old mid new : Ops Rented) (before between : Box (Served S) Global) (result : JobStep (State S) (NetEnd S))
+      → Leaves old before.value.conn mid between.value.conn → StepLeaves mid (Serving between) new result
+      → StepLeaves old (Serving before) new result
   serving_then old mid new before between (Done end) leaves step = record {
     others = λ other held one two.
         let kept = leaves.others other held one two in
@@ -169,13 +172,15 @@ module _ {S : Type 0} where
       → WaitApart before other → FitsWaits new other
   left_others old new before now (Accepting listener) leaves fits apart =
       (beside_op old new before now listener.op (IsAccept listener.fd) leaves fits apart.both_first apart.second_first).fits
-  left_others old new before now (Serving serving) leaves fits apart = record {
-    receives = (beside_op old new before now serving.conn.incoming.op (IsRecv serving.conn.fd) leaves fits.receives apart.both_first
-        apart.second_first).fits;
-    sends = (beside_op old new before now serving.conn.outgoing.op (IsSend serving.conn.fd serving.conn.outgoing.room) leaves fits.sends
-        apart.first_second apart.both_second).fits;
-    apart = fits.apart;
-  }
+  left_others old new before now (Serving serving) leaves fits apart =
+      let conn = serving.value.conn in
+      record {
+        receives = (beside_op old new before now conn.incoming.op (IsRecv conn.fd) leaves fits.receives apart.both_first
+            apart.second_first).fits;
+        sends = (beside_op old new before now conn.outgoing.op (IsSend conn.fd conn.outgoing.room) leaves fits.sends apart.first_second
+            apart.both_second).fits;
+        apart = fits.apart;
+      }
 
   -- It has no operation with the job that came back.
   pub left_apart : (old new : Ops Rented) (before now other : State S) → StateLeaves old before new now → FitsWaits old other
@@ -186,14 +191,13 @@ module _ {S : Type 0} where
         both_first = one.first;
         first_second = no_apart (first_op now);
         second_first = one.second;
-        both_second = no_apart (second_op
-            now);
+        both_second = no_apart (second_op now);
       }
   left_apart old new before now (Serving serving) leaves fits apart =
-      let one = beside_op old new before now serving.conn.incoming.op (IsRecv serving.conn.fd) leaves fits.receives apart.both_first
-      apart.second_first in
-      let two = beside_op old new before now serving.conn.outgoing.op (IsSend serving.conn.fd serving.conn.outgoing.room) leaves fits.sends
-      apart.first_second apart.both_second in
+      let conn = serving.value.conn in
+      let one = beside_op old new before now conn.incoming.op (IsRecv conn.fd) leaves fits.receives apart.both_first apart.second_first in
+      let two = beside_op old new before now conn.outgoing.op (IsSend conn.fd conn.outgoing.room) leaves fits.sends apart.first_second
+      apart.both_second in
       record { both_first = one.first; first_second = two.first; second_first = one.second; both_second = two.second }
 
   -- Behind the end of one job another fits still.
@@ -201,21 +205,22 @@ module _ {S : Type 0} where
       → WaitApart before other → FitsWaits new other
   ended_others old new before (Accepting listener) leaves fits apart =
       ended_op old new before listener.op (IsAccept listener.fd) leaves fits apart.both_first apart.second_first
-  ended_others old new before (Serving serving) leaves fits apart = record {
-    receives = ended_op old new before serving.conn.incoming.op (IsRecv serving.conn.fd) leaves fits.receives apart.both_first
-        apart.second_first;
-    sends = ended_op old new before serving.conn.outgoing.op (IsSend serving.conn.fd serving.conn.outgoing.room) leaves fits.sends
-        apart.first_second apart.both_second;
-    apart = fits.apart;
-  }
+  ended_others old new before (Serving serving) leaves fits apart =
+      let conn = serving.value.conn in
+      record {
+        receives = ended_op old new before conn.incoming.op (IsRecv conn.fd) leaves fits.receives apart.both_first apart.second_first;
+        sends = ended_op old new before conn.outgoing.op (IsSend conn.fd conn.outgoing.room) leaves fits.sends apart.first_second
+            apart.both_second;
+        apart = fits.apart;
+      }
 
   -- A job that waits for nothing fits each driver.
   pub idle_fits : (ops : Ops Rented) (state : State S) → NothingWaits state → FitsWaits ops state
   idle_fits ops (Accepting listener) idle = none_fits ops listener.op (IsAccept listener.fd) idle.0
   idle_fits ops (Serving serving) idle = record {
-    receives = none_fits ops serving.conn.incoming.op (IsRecv serving.conn.fd) idle.0;
-    sends = none_fits ops serving.conn.outgoing.op (IsSend serving.conn.fd serving.conn.outgoing.room) idle.1;
-    apart = none_apart serving.conn.incoming.op serving.conn.outgoing.op idle.0;
+    receives = none_fits ops serving.value.conn.incoming.op (IsRecv serving.value.conn.fd) idle.0;
+    sends = none_fits ops serving.value.conn.outgoing.op (IsSend serving.value.conn.fd serving.value.conn.outgoing.room) idle.1;
+    apart = none_apart serving.value.conn.incoming.op serving.value.conn.outgoing.op idle.0;
   }
 
   -- Jobs are sound behind the drop of one that was apart from them.

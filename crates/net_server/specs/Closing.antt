@@ -1,5 +1,5 @@
 -- Handles that are closed, and what that leaves.
-use Rattle.std.specs.Prelude.{ℕ, ◌≡◌, false, List, Some, slice_get}
+use Rattle.std.specs.Prelude.{ℕ, ◌≡◌, ◌≢◌, false, List, Some, slice_get}
 use Rattle.rent_buf.specs.Rent.{Rented}
 use Rattle.handle_core.specs.Table.{Table}
 use Rattle.driver_core.specs.Ops.{Ops}
@@ -20,6 +20,10 @@ table_of driver = driver.handling.table
 -- The user holds no handle that it didn't hold.
 pub record GainsNone (old new : Table) : Type 0 where
   pub none : (h : ℕ) → is_users old h ≡ false → is_users new h ≡ false
+
+-- But for one handle the user holds none that it didn't hold.
+pub record GainsOne (old new : Table) (h : ℕ) : Type 0 where
+  pub others : (k : ℕ) → k ≢ h → is_users old k ≡ false → is_users new k ≡ false
 
 -- Of a connection that ended the user doesn't hold the handle.
 abbrev pub IsClosed : {S : Type 0} → Table → NetEnd S → Type 0

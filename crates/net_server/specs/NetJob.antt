@@ -30,16 +30,16 @@ use Rattle.net_server.specs.declared.serving.Pass.TheVariants as pass
 -- The operations that a job waits for: an accept or a receive, and a send.
 abbrev pub first_op : {S : Type 0} → State S → Option Op
 first_op (Accepting listener) = listener.op
-first_op (Serving serving) = serving.conn.incoming.op
+first_op (Serving serving) = serving.value.conn.incoming.op
 
 abbrev pub second_op : {S : Type 0} → State S → Option Op
 second_op (Accepting listener) = None
-second_op (Serving serving) = serving.conn.outgoing.op
+second_op (Serving serving) = serving.value.conn.outgoing.op
 
 -- The driver has the operations that a job waits for.
 abbrev pub FitsWaits : {S : Type 0} → Ops Rented → State S → Type 0
 FitsWaits ops (Accepting listener) = FitsListener ops listener
-FitsWaits ops (Serving serving) = FitsConnection ops serving.conn
+FitsWaits ops (Serving serving) = FitsConnection ops serving.value.conn
 
 -- Two jobs wait for no operation together.
 pub record WaitApart {S : Type 0} (one other : State S) : Type 0 where
@@ -52,10 +52,10 @@ pub record WaitApart {S : Type 0} (one other : State S) : Type 0 where
 abbrev pub NothingWaits : {S : Type 0} → State S → Type 0
 NothingWaits state = (first_op state ≡ None) × (second_op state ≡ None)
 
--- A job serves a connection.
-abbrev pub IsServing : {S : Type 0} → State S → Type 0
-IsServing (Accepting listener) = ⊥
-IsServing (Serving serving) = Unit {0}
+-- The state of the connection that a job serves, if it serves one.
+abbrev pub state_in : {S : Type 0} → State S → Option S
+state_in (Accepting listener) = None
+state_in (Serving serving) = Some serving.value.state
 
 -- Behind a call that a job comes back from: the driver has the operations that it waits for now, and each other operation that it had, with
 -- its request, and the job waits for none of these.

@@ -11,7 +11,7 @@ use std::time::Clock;
 use wake_core::{Sleeper, WakeCell, Work, with_sleeper};
 
 /// What is done behind each turn of a run. (not in monoio)
-pub trait Watch<S: Serve>: Drop {
+pub trait Watch<S: Serve> {
     /// Sees how many connections are open behind a turn, and what it did: whether the run goes on. To listen or dial, a run is ended and
     /// begun again: nothing is lost between two.
     fn watch(&mut self, open: usize, turn: Turn<S>) -> bool;
@@ -53,8 +53,8 @@ impl<'a, R: Wait + Clock, I: Sockets, S: Serve, W: Watch<S>> Work for Running<'a
     }
 }
 
-/// Makes turns of a server that wait so many milliseconds at most, until its watch says that the run is over. `OutOfMemory` comes before the
-/// first turn alone.
+/// Makes turns of a server that wait so many milliseconds at most, until its watch says that the run is over. `OutOfMemory` comes before
+/// the first turn alone.
 pub fn run<R: Wait + Clock, I: Sockets, S: Serve, W: Watch<S>>(
     rt: &R,
     alloc: Global,

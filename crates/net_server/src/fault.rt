@@ -1,6 +1,5 @@
 //! Why a connection ended, and why a server refused a call.
 use driver_core::SubmitFault;
-use ready_driver::NonBlockError;
 use rent_buf::IoFault;
 use thiserror::Error;
 
@@ -45,13 +44,4 @@ pub enum ServerFault {
     /// 2^62 turns were made or connections begun: none is left.
     #[error("no turn or connection is left")]
     Exhausted,
-}
-
-impl From<NonBlockError> for ServerFault {
-    fn from(why: NonBlockError) -> ServerFault {
-        match why {
-            NonBlockError::Fault(code) => ServerFault::Os(code),
-            NonBlockError::OutOfMemory => ServerFault::OutOfMemory,
-        }
-    }
 }

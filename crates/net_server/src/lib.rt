@@ -7,6 +7,7 @@ mod fault;
 mod lines;
 mod net_driver;
 mod net_job;
+mod places;
 mod serve;
 mod server;
 mod serving;

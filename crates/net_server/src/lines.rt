@@ -47,8 +47,8 @@ enum Doing {
     Over,
 }
 
-/// A state that reads lines of whatever length, and writes what answers them, a line at a time. It ends where the peer's end came, with a fault
-/// where memory ran out or a line is not UTF-8, or where an answer is the last. (not in monoio; tokio's `LinesCodec` is near)
+/// A state that reads lines of whatever length, and writes what answers them, a line at a time. It ends where the peer's end came, with a
+/// fault where memory ran out or a line is not UTF-8, or where an answer is the last. (not in monoio; tokio's `LinesCodec` is near)
 #[derive(Debug, Drop)]
 pub struct ByLines<L> {
     /// What it does with them.

@@ -1,11 +1,11 @@
 //! A job that accepts on a listener, or that serves a connection.
-ghost use Rattle.std.specs.Prelude.{◌≡◌, ◌<◌, ◌^◌, ◌∷◌, [], None, true, IsTrue};
+ghost use Rattle.std.specs.Prelude.{◌≡◌, ◌<◌, ◌^◌, ◌∷◌, [], None, Some, IsSome, IfOk, IfErr, true, IsTrue};
 ghost use Rattle.core_exec.specs.Job.{IfBack, Steps};
 ghost use Rattle.net_stream.specs.Connection.{FitsConnection};
 ghost use Rattle.net_stream.specs.Drives.{IsGone};
 ghost use Rattle.net_stream.specs.Listener.{FitsListener};
-ghost use Rattle.net_server.specs.NetJob.{AnyOutput, ApartJobs, WaitApart, ComesTo, FitsJob, FitsWaits, Follows, WaitsForNone, IsEnded, IsLate, IsServing, NamesOwn, StepLeaves};
-ghost use Rattle.net_server.specs.NetJob.{waits_swap, cancels_of, idle_waits, no_aim, polls_of};
+ghost use Rattle.net_server.specs.NetJob.{AnyOutput, ApartJobs, WaitApart, ComesTo, FitsJob, FitsWaits, Follows, WaitsForNone, IsEnded, IsLate, NamesOwn, StepLeaves};
+ghost use Rattle.net_server.specs.NetJob.{waits_swap, cancels_of, idle_waits, no_aim, polls_of, state_in};
 
 use crate::fault::NetFault;
 use crate::net_driver::NetDriver;
@@ -17,6 +17,7 @@ use handle_core::SharedFd;
 use net_stream::{Accepted, Connection, Listener};
 use op_driver::OpDriver;
 use rent_buf::{OutOfMemory, Rent};
+use std::alloc::Global;
 
 /// A connection that has ended: none of its operations is left, and its handle is whoever's who closes it.
 #[derive(Debug, Drop)]
@@ -44,8 +45,8 @@ pub enum NetEnd<S> {
 pub(crate) enum State<S> {
     // It accepts.
     Accepting(Listener),
-    // It serves.
-    Serving(Serving<S>),
+    // It serves. It is moved at each poll, so what is large lies elsewhere.
+    Serving(Box<Serving<S>>),
 }
 
 /// A job of an executor over a driver: an accept, which is done with the handle that it made, or a connection, which is served until it is
@@ -69,21 +70,33 @@ impl<S: Serve> NetJob<S> {
         }
     }
 
-    /// A job that serves a connection which waits for nothing.
-    pub fn serve(conn: Connection, state: S) -> NetJob<S>
+    /// A job that serves a connection which waits for nothing. If memory runs out, both come back.
+    pub fn serve(alloc: Global, conn: Connection, state: S) -> Result<NetJob<S>, (Connection, S)>
         requires none { (conn.incoming.op ≡ None) × (conn.outgoing.op ≡ None) }
-        ensures counts { (polls_of result ≡ 0) × (cancels_of result ≡ 0) }
-        ensures idle { WaitsForNone result }
-        ensures serves { IsServing result.state }
+        ensures counts { IfOk result (λ job. (polls_of job ≡ 0) × (cancels_of job ≡ 0)) }
+        ensures idle { IfOk result WaitsForNone }
+        ensures serves { IfOk result (λ job. state_in job.state ≡ Some state) }
+        ensures err { IfErr result (λ back. (back.0 ≡ conn) × (back.1 ≡ state)) }
     {
-        NetJob {
-            state: State::Serving(Serving {
-                conn,
-                state,
-                done: false,
+        let serving = Serving {
+            conn,
+            state,
+            done: false,
+        };
+        match Box::new(alloc, serving) {
+            Ok(serving) => Ok(NetJob {
+                state: State::Serving(serving),
+                polls: 0,
+                cancels: 0,
             }),
-            polls: 0,
-            cancels: 0,
+            Err(failed) => {
+                let Serving {
+                    conn,
+                    state,
+                    done: _,
+                } = failed.value;
+                Err((conn, state))
+            }
         }
     }
 
@@ -101,17 +114,15 @@ impl<S: Serve> NetJob<S> {
         } = self;
         match state {
             State::Accepting(listener) => listener.end(driver),
-            State::Serving(serving) => serving.end(driver, None).fd,
+            State::Serving(serving) => Box::into_inner(serving).end(driver, None).fd,
         }
     }
 
-    // Drops the job of a connection, with what waits: its state comes back.
-    #[tactic(auto, using(crate::proofs::Frames::serving_ended, crate::proofs::Frames::ended_others))]
-    pub(crate) fn into_state<D: OpDriver<Rent>>(self, driver: &mut D) -> S
-        requires serves { IsServing self.state }
-        requires fits { FitsWaits (D.ops driver.old) self.state }
-        ensures others { (other : NetJob S) → FitsWaits (D.ops driver.old) other.state → WaitApart self.state other.state
-            → FitsWaits (D.ops driver.new) other.state }
+    // The state of a connection whose job waits for nothing.
+    pub(crate) fn into_state(self) -> S
+        requires serves { IsSome (state_in self.state) }
+        requires idle { WaitsForNone self }
+        ensures { state_in self.state ≡ Some result }
     {
         let NetJob {
             state,
@@ -119,9 +130,11 @@ impl<S: Serve> NetJob<S> {
             cancels: _,
         } = self;
         match state {
-            State::Serving(serving) => serving.end(driver, None).state,
-            State::Accepting(listener) => {
-                listener.end(driver);
+            State::Serving(serving) => Box::into_inner(serving).into_state(),
+            State::Accepting(Listener { fd: _, op }) => {
+                if let Some(op) = op {
+                    op.forget();
+                }
                 unreachable!()
             }
         }
@@ -223,27 +236,29 @@ fn poll_accept<S: Serve, D: OpDriver<Rent>>(
 #[tactic(auto, using(crate::proofs::Frames::serving_ended))]
 fn end<S: Serve, D: OpDriver<Rent>>(
     driver: &mut NetDriver<D>,
-    serving: Serving<S>,
+    serving: Box<Serving<S>>,
     fault: Option<NetFault>,
 ) -> JobStep<State<S>, NetEnd<S>>
-    requires fits { FitsConnection (D.ops driver.old.driver) serving.conn }
+    requires fits { FitsConnection (D.ops driver.old.driver) serving.value.conn }
     ensures leaves { StepLeaves (D.ops driver.old.driver) (State.Serving serving) (D.ops driver.new.driver) result }
-    ensures gone { IsGone (D.ops driver.new.driver) serving.conn.incoming.op × IsGone (D.ops driver.new.driver) serving.conn.outgoing.op }
+    ensures incoming { IsGone (D.ops driver.new.driver) serving.value.conn.incoming.op }
+    ensures outgoing { IsGone (D.ops driver.new.driver) serving.value.conn.outgoing.op }
     ensures named { driver.new.again ≡ driver.old.again }
     ensures ended { IsEnded result }
 {
-    JobStep::Done(NetEnd::Ended(serving.end(&mut driver.driver, fault)))
+    let ended = Box::into_inner(serving).end(&mut driver.driver, fault);
+    JobStep::Done(NetEnd::Ended(ended))
 }
 
 // What follows passes: a job whose last pass moved something is named by the next turn.
 #[tactic(auto, using(crate::proofs::Frames::serving_stays, crate::proofs::Frames::same_names, crate::proofs::Frames::own_names))]
 fn follow<S: Serve, D: OpDriver<Rent>>(
     driver: &mut NetDriver<D>,
-    serving: Serving<S>,
+    serving: Box<Serving<S>>,
     task: u64,
     pass: Pass,
 ) -> JobStep<State<S>, NetEnd<S>>
-    requires fits { FitsConnection (D.ops driver.old.driver) serving.conn }
+    requires fits { FitsConnection (D.ops driver.old.driver) serving.value.conn }
     ensures leaves { StepLeaves (D.ops driver.old.driver) (State.Serving serving) (D.ops driver.new.driver) result }
     ensures named { Follows pass task driver.old.again.items driver.new.again.items result }
     ensures names { NamesOwn task driver.old.again.items driver.new.again.items }
@@ -263,11 +278,11 @@ fn follow<S: Serve, D: OpDriver<Rent>>(
 #[tactic(auto, using(crate::proofs::Frames::serving_then, crate::proofs::Frames::same_names))]
 fn poll_serving<S: Serve, D: OpDriver<Rent>>(
     driver: &mut NetDriver<D>,
-    serving: Serving<S>,
+    serving: Box<Serving<S>>,
     task: u64,
     canceled: bool,
 ) -> JobStep<State<S>, NetEnd<S>>
-    requires fits { FitsConnection (D.ops driver.old.driver) serving.conn }
+    requires fits { FitsConnection (D.ops driver.old.driver) serving.value.conn }
     ensures leaves { StepLeaves (D.ops driver.old.driver) (State.Serving serving) (D.ops driver.new.driver) result }
     ensures late { canceled ≡ true → IsEnded result }
     ensures names { NamesOwn task driver.old.again.items driver.new.again.items }

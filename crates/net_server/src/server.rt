@@ -1,20 +1,21 @@
 //! A server: connections by number, over a readiness driver.
-ghost use Rattle.std.specs.Prelude.{◌≡◌, IfOk};
-ghost use Rattle.net_server.specs.Closing.{AreClosed};
+ghost use Rattle.std.specs.Prelude.{◌≡◌, ◌<◌, ◌≤◌, ◌+◌, false, IfErr, IfSome, OnErr, OnOk};
+ghost use Rattle.ready_driver.specs.Registry.{is_users};
+ghost use Rattle.net_server.specs.Closing.{AreClosed, GainsNone};
+ghost use Rattle.net_server.specs.Server.{BeginsFor, CountsTurn, DialsFor, IsShortage, IsTurnFault, KeepsLimit, ListensFor, begun_in};
 
-use crate::closing::{
-    NetExec, Reads, close_ended, close_in, dial_in, listen_in, park_driver, turn_driver,
-};
+use crate::closing::{NetExec, close_ended, close_in, dial_in, listen_in, park_exec, turn_driver};
 use crate::fault::ServerFault;
 use crate::net_driver::NetDriver;
 use crate::net_job::NetEnd;
+use crate::places::{Places, first};
 use crate::serve::Serve;
 use crate::spawning::{accept, begin, end_exec, run_jobs};
 use core_exec::Exec;
 use driver_core::{Stop, Turned};
 use handle_core::SharedFd;
-use ready_driver::Sockets;
-use rent_buf::OutOfMemory;
+use ready_driver::{LegacyDriver, Sockets};
+use rent_buf::{OutOfMemory, Rent};
 use std::alloc::Global;
 use std::marker::Model;
 use std::sync::Wait;
@@ -59,21 +60,15 @@ pub struct Turn<S> {
     pub fault: Option<ServerFault>,
 }
 
-/// A server of connections over a readiness driver: it accepts, dials, and serves each connection by its state. It closes what is open where
-/// it is dropped. (not in monoio)
+/// A server of connections over a readiness driver: it accepts, dials, and serves each connection by its state. It closes what is open
+/// where it is dropped. (not in monoio)
 pub struct Server<I: Sockets, S: Serve> {
     exec: NetExec<I, S>,
     limits: Limits,
-    // How many connections are open.
-    count: usize,
+    // The places of its connections.
+    places: Places,
     // The handle that listens.
     listener: Option<SharedFd>,
-    // An accept waits.
-    accepting: bool,
-    // When the last accept failed, if none was made since.
-    failed: Option<u64>,
-    // A handle that was accepted, and has no connection yet.
-    waiting: Option<SharedFd>,
     // Memory for the tasks that a turn names.
     named: Vec<u64>,
     // A task is ready that no turn has named.
@@ -86,7 +81,8 @@ pub struct Server<I: Sockets, S: Serve> {
 }
 
 impl<I: Sockets, S: Serve> Model for Server<I, S> {
-    ghost use Rattle.core_exec.specs.Exec.{IsSound, Stands};
+    ghost use Rattle.std.specs.Prelude.{◌≤◌, is_some};
+    ghost use Rattle.core_exec.specs.Exec.{IsSound, Stands, spawned_of};
     ghost use Rattle.ready_driver.specs.LegacyState.{ops_in};
     ghost use Rattle.net_server.specs.Closing.{table_of};
     ghost use Rattle.net_server.specs.NetJob.{ApartJobs, FitsJob, cancels_of, polls_of};
@@ -96,24 +92,34 @@ impl<I: Sockets, S: Serve> Model for Server<I, S> {
 
     ghost coded = { serves_code };
 
-    ghost view = { λ s. record { table = table_of s.exec.driver.driver; count = s.count } };
+    ghost view = { λ s. record {
+      table = table_of s.exec.driver.driver;
+      count = s.places.count;
+      most = s.places.most;
+      listens = is_some s.listener;
+      given = spawned_of s.exec;
+    } };
 
-    ghost invariant = { λ s. Stands polls_of cancels_of s.exec × IsSound (FitsJob ops_in) ApartJobs s.exec };
+    ghost invariant = { λ s. Stands polls_of cancels_of s.exec × IsSound (FitsJob ops_in) ApartJobs s.exec
+        × (s.places.count ≤ s.places.most) };
 }
 
 impl<I: Sockets, S: Serve> Server<I, S> {
     /// A server of no connections over a driver. It takes no memory.
-    pub fn over(alloc: Global, driver: Reads<I>, limits: Limits) -> Server<I, S>
-        ensures { result ≡ record { table = driver.handling.table; count = 0 } }
+    pub fn over(alloc: Global, driver: LegacyDriver<I, Rent>, limits: Limits) -> Server<I, S>
+        ensures { result ≡ record {
+          table = driver.handling.table;
+          count = 0;
+          most = limits.most;
+          listens = false;
+          given = 0;
+        } }
     {
         Server {
             exec: Exec::new(alloc, NetDriver::new(alloc, driver)),
             limits,
-            count: 0,
+            places: Places::new(limits.most),
             listener: None,
-            accepting: false,
-            failed: None,
-            waiting: None,
             named: Vec::new(alloc),
             fresh: false,
             short: false,
@@ -122,11 +128,12 @@ impl<I: Sockets, S: Serve> Server<I, S> {
         }
     }
 
-    /// How many connections are open.
+    /// How many connections are open: never more than there may be.
     pub fn connections(&self) -> usize
-        ensures { result ≡ self.now.count }
+        ensures count { result ≡ self.now.count }
+        ensures within { result ≤ self.now.most }
     {
-        self.count
+        self.places.count
     }
 
     /// How many operations the driver has.
@@ -139,73 +146,85 @@ impl<I: Sockets, S: Serve> Server<I, S> {
         self.exec.driver.driver.io()
     }
 
-    // Whether there is a place for a further connection: those that are open have one each, and so has the one that is accepted.
-    fn has_place(&self) -> bool {
-        let more = if self.accepting || self.waiting.is_some() {
-            1
-        } else {
-            0
-        };
-        self.count < self.limits.most && more < self.limits.most - self.count
-    }
-
-    /// Listens on a port of this machine: turns accept from now on. `Os` has the system's error, as where the port is taken; `Listens` comes
-    /// where it listens already.
-    pub fn listen(&mut self, port: u16) -> Result<(), ServerFault> {
+    /// Listens on a port of this machine: turns accept from now on. `Os` has the system's error, as where the port is taken; `OutOfMemory`
+    /// comes if memory runs out, and `Listens` where it listens already. Nothing has changed then.
+    pub fn listen(&mut self, port: u16) -> Result<(), ServerFault>
+        ensures listens { ListensFor self.old self.new result }
+        ensures rest { (self.new.count ≡ self.old.count) × (self.new.most ≡ self.old.most) × (self.new.given ≡ self.old.given) }
+    {
         if self.listener.is_some() {
             return Err(ServerFault::Listens);
         }
-        match listen_in(&mut self.exec, port) {
-            Ok(fd) => {
-                self.listener = Some(fd);
-                self.fresh = true;
-                Ok(())
-            }
-            Err(why) => Err(why.into()),
-        }
+        let fd = listen_in(&mut self.exec, port)?;
+        self.listener = Some(fd);
+        self.fresh = true;
+        Ok(())
     }
 
     /// Begins a connection to a port of this machine, with this state: its task. It doesn't wait until it is connected: a peer that isn't
-    /// there ends it with its fault. The state comes back where it is refused.
-    pub fn dial(&mut self, port: u16, state: S) -> Result<u64, (ServerFault, S)> {
-        if !self.has_place() {
+    /// there ends it with its fault.
+    ///
+    /// Where it is refused the state comes back, and no handle is left open. `TooMany` comes where as many connections are open as there
+    /// may be, or one fewer while an accept has the last place; `Os` has the system's error; `OutOfMemory` comes if memory runs out, and
+    /// `Exhausted` where no number of a task is left.
+    pub fn dial(&mut self, port: u16, state: S) -> Result<u64, (ServerFault, S)>
+        ensures dials { DialsFor state self.old self.new result }
+        ensures kept { KeepsLimit self.old self.new }
+    {
+        if !self.places.has_place() {
             return Err((ServerFault::TooMany, state));
         }
         match dial_in(&mut self.exec, port) {
-            Ok(fd) => match self.begin(fd, state) {
-                Ok(task) => Ok(task),
-                Err((why, state)) => {
-                    close_in(&mut self.exec, fd);
-                    Err((why, state))
-                }
-            },
-            Err(why) => Err((why.into(), state)),
+            Ok(fd) => self.begin_dialled(fd, state),
+            Err(why) => Err((why, state)),
+        }
+    }
+
+    // Begins a connection of a handle that was dialled, or closes it.
+    fn begin_dialled(&mut self, fd: SharedFd, state: S) -> Result<u64, (ServerFault, S)>
+        requires place { self.old.count < self.old.most }
+        ensures begins { BeginsFor state self.old self.new result }
+        ensures kept { KeepsLimit self.old self.new }
+        ensures closed { OnErr result (is_users self.new.table fd ≡ false) }
+        ensures gains { OnErr result (GainsNone self.old.table self.new.table) }
+    {
+        match self.begin(fd, state) {
+            Ok(task) => Ok(task),
+            Err(refused) => {
+                close_in(&mut self.exec, fd);
+                Err(refused)
+            }
         }
     }
 
     // Begins a connection of a handle.
-    fn begin(&mut self, fd: SharedFd, state: S) -> Result<u64, (ServerFault, S)> {
-        match begin(&mut self.exec, self.alloc, fd, state, self.limits) {
-            Ok(task) => {
-                self.count = self.count.saturating_add(1);
-                self.fresh = true;
-                Ok(task)
-            }
-            Err((why, state)) => Err((why, state)),
-        }
+    fn begin(&mut self, fd: SharedFd, state: S) -> Result<u64, (ServerFault, S)>
+        requires place { self.old.count < self.old.most }
+        ensures begins { BeginsFor state self.old self.new result }
+        ensures kept { KeepsLimit self.old self.new }
+        ensures table { self.new.table ≡ self.old.table }
+    {
+        let task = begin(&mut self.exec, self.alloc, fd, state, self.limits)?;
+        self.places.take();
+        self.fresh = true;
+        Ok(task)
     }
 
-    /// A turn at a moment that doesn't wait: of the driver, and then of the jobs that are ready. A moment before that of the last turn counts
-    /// as that one.
+    /// A turn at a moment that doesn't wait: of the driver, and then of the jobs that are ready. A moment before that of the last turn
+    /// counts as that one.
     pub fn turn(&mut self, now: u64) -> Turn<S>
         ensures closed { AreClosed self.new.table result.ended.items }
+        ensures counts { CountsTurn self.old self.new result.ended.items result.accepted }
+        ensures kept { KeepsLimit self.old self.new }
+        ensures faults { IfSome result.fault IsTurnFault }
     {
         let turned = turn_driver(&mut self.exec);
         self.go_on(now, turned)
     }
 
-    /// A turn that waits for sockets first, no longer than so many milliseconds, and not at all where a job is ready. Its moment is that behind
-    /// the wait, in milliseconds from the first park on.
+    /// A turn that waits for sockets or a waker first, no longer than so many milliseconds, and not at all where a job is ready. The
+    /// connections whose wakers came are ready, as those that the driver names. Its moment is that after the wait, in milliseconds from the
+    /// first park on.
     pub fn park<P: Ledger, D: Ledger, R: Wait + Clock>(
         &mut self,
         rt: &R,
@@ -213,15 +232,20 @@ impl<I: Sockets, S: Serve> Server<I, S> {
         millis: u64,
     ) -> Turn<S>
         ensures closed { AreClosed self.new.table result.ended.items }
+        ensures counts { CountsTurn self.old self.new result.ended.items result.accepted }
+        ensures kept { KeepsLimit self.old self.new }
+        ensures faults { IfSome result.fault IsTurnFault }
     {
         let millis = self.limit(millis);
-        let turned = park_driver(&mut self.exec, rt, sleeper, millis);
+        let parked = park_exec(&mut self.exec, rt, sleeper, millis);
         let now = self.clock(rt);
-        self.go_on(now, turned)
+        self.go_on(now, parked.turned)
     }
 
     // The moment by a clock, in milliseconds from the first park on. A clock that fails shows the first.
-    fn clock<R: Clock>(&mut self, rt: &R) -> u64 {
+    fn clock<R: Clock>(&mut self, rt: &R) -> u64
+        ensures same { self.new ≡ self.old }
+    {
         let Ok(time) = rt.monotonic() else {
             return 0;
         };
@@ -248,17 +272,19 @@ impl<I: Sockets, S: Serve> Server<I, S> {
     // The jobs' part of a turn.
     fn go_on(&mut self, now: u64, turned: Turned) -> Turn<S>
         ensures closed { AreClosed self.new.table result.ended.items }
+        ensures counts { CountsTurn self.old self.new result.ended.items result.accepted }
+        ensures kept { KeepsLimit self.old self.new }
+        ensures faults { IfSome result.fault IsTurnFault }
     {
         let now = now.max(self.exec.moment());
         self.short = turned.stop.is_some();
-        let mut fault = self.run(now, turned.woken.as_slice());
-        let ended = self.take_done(&mut fault);
-        for (_, end) in ended.iter() {
-            self.note(end, now, &mut fault);
-        }
-        let accepted = self.begin_waiting(&mut fault);
-        self.accept_next(now, &mut fault);
+        let refused = self.run(now, turned.woken.as_slice());
+        let (ended, left) = self.take_done();
+        let told = self.places.note_all(ended.as_slice(), now);
+        let (accepted, wanting) = self.begin_waiting();
+        let unasked = self.accept_next(now);
         close_ended(&mut self.exec, ended.as_slice());
+        let fault = first(first(refused, left), first(told, first(wanting, unasked)));
         Turn {
             accepted,
             ended,
@@ -268,7 +294,11 @@ impl<I: Sockets, S: Serve> Server<I, S> {
     }
 
     // A turn of the jobs: why it wasn't made, if it wasn't.
-    fn run(&mut self, now: u64, woken: &[u64]) -> Option<ServerFault> {
+    fn run(&mut self, now: u64, woken: &[u64]) -> Option<ServerFault>
+        ensures count { self.new.count ≡ self.old.count }
+        ensures kept { KeepsLimit self.old self.new }
+        ensures faults { IfSome result IsTurnFault }
+    {
         let now = now.max(self.exec.moment());
         match run_jobs(&mut self.exec, &mut self.named, now, woken) {
             Ok(ran) => {
@@ -284,54 +314,52 @@ impl<I: Sockets, S: Serve> Server<I, S> {
     }
 
     // What the jobs that are done ended with. Without memory for it, it stays.
-    fn take_done(&mut self, fault: &mut Option<ServerFault>) -> Vec<(u64, NetEnd<S>)> {
+    fn take_done(&mut self) -> (Vec<(u64, NetEnd<S>)>, Option<ServerFault>)
+        ensures count { self.new.count ≡ self.old.count }
+        ensures kept { KeepsLimit self.old self.new }
+        ensures faults { IfSome result.1 IsTurnFault }
+    {
         match self.exec.take_done() {
-            Ok(ended) => ended,
+            Ok(ended) => (ended, None),
             Err(_) => {
                 self.short = true;
-                *fault = Some(ServerFault::OutOfMemory);
-                Vec::new(self.alloc)
+                (Vec::new(self.alloc), Some(ServerFault::OutOfMemory))
             }
         }
     }
 
-    // Notes what a job ended with.
-    fn note(&mut self, end: &NetEnd<S>, now: u64, fault: &mut Option<ServerFault>) {
-        match end {
-            NetEnd::Accepted(fd) => {
-                self.accepting = false;
-                self.waiting = Some(*fd);
-            }
-            NetEnd::NotAccepted(why) => {
-                self.accepting = false;
-                self.failed = Some(now);
-                *fault = Some(ServerFault::Accept(*why));
-            }
-            NetEnd::Ended(_) => {
-                self.count = self.count.saturating_sub(1);
-                self.failed = None;
-            }
+    // Begins the connection of a handle that was accepted, if there is one and a place for it. Without memory it waits.
+    fn begin_waiting(&mut self) -> (Option<u64>, Option<ServerFault>)
+        ensures count { self.new.count ≡ self.old.count + begun_in result.0 }
+        ensures kept { KeepsLimit self.old self.new }
+        ensures faults { IfSome result.1 IsTurnFault }
+    {
+        let Some(fd) = self.places.waiting else {
+            return (None, None);
+        };
+        if self.places.count >= self.places.most {
+            return (None, None);
         }
-    }
-
-    // Begins the connection of a handle that was accepted, if there is one.
-    fn begin_waiting(&mut self, fault: &mut Option<ServerFault>) -> Option<u64> {
-        let fd = self.waiting?;
         match self.begin_new(fd) {
             Ok(task) => {
-                self.waiting = None;
-                Some(task)
+                self.places.waiting = None;
+                (Some(task), None)
             }
             Err(why) => {
                 self.short = true;
-                *fault = Some(why);
-                None
+                (None, Some(why))
             }
         }
     }
 
     // Begins a connection of a handle, with a new state.
-    fn begin_new(&mut self, fd: SharedFd) -> Result<u64, ServerFault> {
+    fn begin_new(&mut self, fd: SharedFd) -> Result<u64, ServerFault>
+        requires place { self.old.count < self.old.most }
+        ensures ok { OnOk result (self.new.count ≡ self.old.count + 1) }
+        ensures err { IfErr result IsShortage }
+        ensures same { OnErr result (self.new.count ≡ self.old.count) }
+        ensures kept { KeepsLimit self.old self.new }
+    {
         match S::new(self.alloc) {
             Ok(state) => match self.begin(fd, state) {
                 Ok(task) => Ok(task),
@@ -341,53 +369,44 @@ impl<I: Sockets, S: Serve> Server<I, S> {
         }
     }
 
-    // Accepts, where it listens, no accept waits, and there is a place.
-    fn accept_next(&mut self, now: u64, fault: &mut Option<ServerFault>) {
-        let Some(fd) = self.listener else {
-            return;
-        };
-        if self.accepting || self.waiting.is_some() || !self.has_place() || self.failed_at(now) {
-            return;
+    // Accepts, where it listens and is to accept: why it couldn't, if so.
+    fn accept_next(&mut self, now: u64) -> Option<ServerFault>
+        ensures count { self.new.count ≡ self.old.count }
+        ensures kept { KeepsLimit self.old self.new }
+        ensures faults { IfSome result IsTurnFault }
+    {
+        let fd = self.listener?;
+        if !self.places.may_accept(now) {
+            return None;
         }
         match accept(&mut self.exec, fd) {
             Ok(_) => {
-                self.accepting = true;
-                self.failed = None;
+                self.places.begin_accept();
                 self.fresh = true;
+                None
             }
             Err(why) => {
                 self.short = true;
-                *fault = Some(why);
+                Some(why)
             }
         }
     }
 
-    // An accept failed at this moment, and no connection has ended since.
-    fn failed_at(&self, now: u64) -> bool {
-        match self.failed {
-            Some(at) => at >= now,
-            None => false,
-        }
-    }
-
-    /// Ends the server: what waits is dropped, each handle is closed, and the driver comes back. Bytes that weren't sent are lost. Where memory
-    /// runs out, the handles of what has ended since the last turn stay open.
-    pub fn finish(self) -> Reads<I> {
+    /// Ends the server: what waits is dropped, each handle is closed, and the driver comes back. Bytes that weren't sent are lost. Where
+    /// memory runs out, the handles of what has ended since the last turn stay open.
+    pub fn finish(self) -> LegacyDriver<I, Rent> {
         let Server {
             exec,
             limits: _,
-            count: _,
+            places,
             listener,
-            accepting: _,
-            failed: _,
-            waiting,
             named: _,
             fresh: _,
             short: _,
             start: _,
             alloc: _,
         } = self;
-        end_exec(exec, listener, waiting)
+        end_exec(exec, listener, places.waiting)
     }
 }
 

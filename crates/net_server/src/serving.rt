@@ -12,7 +12,7 @@ use handle_core::SharedFd;
 use net_stream::{Connection, Progress};
 use op_driver::OpDriver;
 use rent_buf::Rent;
-use rent_io::{AsyncBufRead, AsyncWriteRent, PollCount};
+use rent_io::{AsyncBufRead as _, AsyncWriteRent as _, PollCount};
 use ring_core::Names;
 
 /// How many passes a poll makes at most.
@@ -206,11 +206,26 @@ impl<S: Serve> Serving<S> {
         Pass::Moved
     }
 
+    // The state of a connection that waits for nothing.
+    pub(crate) fn into_state(self) -> S
+        requires none { (self.conn.incoming.op ≡ None) × (self.conn.outgoing.op ≡ None) }
+        ensures { result ≡ self.state }
+    {
+        let Serving {
+            conn,
+            state,
+            done: _,
+        } = self;
+        let _ = conn.into_fd();
+        state
+    }
+
     // Ends the connection: what waits is dropped, and its handle comes back with the state.
     pub(crate) fn end<D: OpDriver<Rent>>(self, driver: &mut D, fault: Option<NetFault>) -> Ended<S>
         requires fits { FitsConnection (D.ops driver.old) self.conn }
         ensures fd { result.fd ≡ self.conn.fd }
         ensures fault { result.fault ≡ fault }
+        ensures state { result.state ≡ self.state }
         ensures gone { IsGone (D.ops driver.new) self.conn.incoming.op × IsGone (D.ops driver.new) self.conn.outgoing.op }
         ensures others { KeepsOutside (D.ops driver.old) self.conn (D.ops driver.new) }
     {

@@ -1,11 +1,13 @@
 // The jobs of a server: they are spawned, polled in turns, and taken out.
-ghost use Rattle.std.specs.Prelude.{◌≡◌, ◌≤◌, ◌<◌, ◌+◌, ◌^◌, ◌++◌, false, true, IfErr};
+ghost use Rattle.std.specs.Prelude.{◌≡◌, ◌≤◌, ◌<◌, ◌+◌, ◌^◌, ◌++◌, false, true, IfOk, IfErr, OnErr};
 ghost use Rattle.core_exec.specs.Exec.{IsSound, Stands, jobs_of, left_of, moment_of, spawned_of};
 ghost use Rattle.core_exec.specs.Tasks.{IsApart};
 ghost use Rattle.ready_driver.specs.LegacyState.{ops_in};
-ghost use Rattle.net_server.specs.NetJob.{ApartJobs, FitsJob, WaitsForNone, IsServing, cancels_of, polls_of};
+ghost use Rattle.net_server.specs.NetJob.{ApartJobs, FitsJob, WaitsForNone, cancels_of, polls_of};
+ghost use Rattle.net_server.specs.Closing.{table_of};
+ghost use Rattle.net_server.specs.Server.{IsShortage, SpawnsOne};
 
-use crate::closing::{NetExec, Reads, close_ended, close_in};
+use crate::closing::{NetExec, ServerDriver, close_ended, close_in};
 use crate::fault::ServerFault;
 use crate::net_driver::NetDriver;
 use crate::net_job::NetJob;
@@ -30,6 +32,7 @@ pub(crate) fn run_jobs<I: Sockets, S: Serve>(
     requires moment { moment_of exec.old ≤ now }
     ensures stands { Stands polls_of cancels_of exec.new }
     ensures sound { IsSound (FitsJob ops_in) ApartJobs exec.new }
+    ensures err { IfErr result IsShortage }
 {
     if exec.turns() >= 1 << 62 {
         return Err(ServerFault::Exhausted);
@@ -80,7 +83,10 @@ fn spawn<I: Sockets, S: Serve>(
     requires counter { spawned_of exec.old < 2 ^ 62 }
     ensures stands { Stands polls_of cancels_of exec.new }
     ensures sound { IsSound (FitsJob ops_in) ApartJobs exec.new }
+    ensures ok { IfOk result (λ task. SpawnsOne (spawned_of exec.old) (spawned_of exec.new) task) }
     ensures err { IfErr result (λ back. back ≡ job) }
+    ensures counted { OnErr result (spawned_of exec.new ≡ spawned_of exec.old) }
+    ensures kept { exec.new.driver ≡ exec.old.driver }
 {
     let spawned = match deadline {
         Some(deadline) => exec.spawn_until(job, deadline),
@@ -105,6 +111,10 @@ pub(crate) fn begin<I: Sockets, S: Serve>(
     requires sound { IsSound (FitsJob ops_in) ApartJobs exec.old }
     ensures stands { Stands polls_of cancels_of exec.new }
     ensures sound { IsSound (FitsJob ops_in) ApartJobs exec.new }
+    ensures ok { IfOk result (λ task. SpawnsOne (spawned_of exec.old) (spawned_of exec.new) task) }
+    ensures err { IfErr result (λ refused. (refused.1 ≡ state) × IsShortage refused.0) }
+    ensures counted { OnErr result (spawned_of exec.new ≡ spawned_of exec.old) }
+    ensures table { table_of exec.new.driver.driver ≡ table_of exec.old.driver.driver }
 {
     if exec.spawned() >= 1 << 62 {
         return Err((ServerFault::Exhausted, state));
@@ -113,27 +123,21 @@ pub(crate) fn begin<I: Sockets, S: Serve>(
         Ok(conn) => conn,
         Err(_) => return Err((ServerFault::OutOfMemory, state)),
     };
+    let job = match NetJob::serve(alloc, conn, state) {
+        Ok(job) => job,
+        Err((conn, state)) => {
+            let _ = conn.into_fd();
+            return Err((ServerFault::OutOfMemory, state));
+        }
+    };
     let deadline = match limits.life {
         Some(life) => Some(exec.moment().saturating_add(life)),
         None => None,
     };
-    match spawn(exec, NetJob::serve(conn, state), deadline) {
+    match spawn(exec, job, deadline) {
         Ok(task) => Ok(task),
-        Err(job) => Err((ServerFault::OutOfMemory, take_back(exec, job))),
+        Err(job) => Err((ServerFault::OutOfMemory, job.into_state())),
     }
-}
-
-// The state of a job that wasn't spawned.
-#[tactic(auto, using(crate::proofs::Frames::idle_fits, crate::proofs::Frames::idle_sound))]
-fn take_back<I: Sockets, S: Serve>(exec: &mut NetExec<I, S>, job: NetJob<S>) -> S
-    requires stands { Stands polls_of cancels_of exec.old }
-    requires sound { IsSound (FitsJob ops_in) ApartJobs exec.old }
-    requires serves { IsServing job.state }
-    requires idle { WaitsForNone job }
-    ensures stands { Stands polls_of cancels_of exec.new }
-    ensures sound { IsSound (FitsJob ops_in) ApartJobs exec.new }
-{
-    job.into_state(&mut exec.driver.driver)
 }
 
 // Spawns the job of an accept.
@@ -146,6 +150,7 @@ pub(crate) fn accept<I: Sockets, S: Serve>(
     requires sound { IsSound (FitsJob ops_in) ApartJobs exec.old }
     ensures stands { Stands polls_of cancels_of exec.new }
     ensures sound { IsSound (FitsJob ops_in) ApartJobs exec.new }
+    ensures err { IfErr result IsShortage }
 {
     if exec.spawned() >= 1 << 62 {
         return Err(ServerFault::Exhausted);
@@ -234,7 +239,7 @@ pub(crate) fn end_exec<I: Sockets, S: Serve>(
     exec: NetExec<I, S>,
     listener: Option<SharedFd>,
     waiting: Option<SharedFd>,
-) -> Reads<I>
+) -> ServerDriver<I>
     requires stands { Stands polls_of cancels_of exec }
     requires sound { IsSound (FitsJob ops_in) ApartJobs exec }
 {

@@ -1,6 +1,7 @@
 //! A handle with what came at it and what is to go.
 ghost use Rattle.std.specs.Prelude.{◌≡◌, ◌≤◌, ◌<◌, ◌+◌, ◌∷◌, [], true, None, Some, Ok, IsTrue, IsSome, IfOk, max};
-ghost use Rattle.net_stream.specs.Connection.{FitsConnection, HasSendFor, KeepsBeside, KeepsOutside, OnlyComes, OnlyGoes, PollsSendFor, PreparesFor};
+ghost use Rattle.net_stream.specs.Connection.{FitsConnection, HasSendFor, KeepsBeside, KeepsOutside};
+ghost use Rattle.net_stream.specs.Connection.{OnlyComes, OnlyGoes, PollsSendFor, PreparesFor};
 ghost use Rattle.net_stream.specs.Connection.{Closes, EndDrops, HasSendUnder, ReceivesFor, ReceivesUnder, SendsFor, SendsUnder};
 ghost use Rattle.net_stream.specs.Connection.{Settles, fresh_connection};
 ghost use Rattle.net_stream.specs.Drives.{DropsFor, HoldsNoMore, IsGone, IsHeldOp, KeepsOther};
@@ -43,6 +44,19 @@ fn drop_waiting<D: OpDriver<Rent>>(driver: &mut D, op: Option<Op>)
 {
     match op {
         Some(op) => driver.drop_op(op),
+        None => {}
+    }
+}
+
+// No operation waits.
+fn is_none(op: Option<Op>)
+    requires none { op ≡ None }
+{
+    match op {
+        Some(op) => {
+            op.forget();
+            unreachable!()
+        }
         None => {}
     }
 }
@@ -334,8 +348,25 @@ impl Connection {
         fd
     }
 
-    /// Closes the connection: its handle is given up, and then what waits is dropped. The handle is closed once nobody holds it: here, unless
-    /// its user holds it more than once, or another operation does. Bytes that weren't read or sent are lost. (monoio: `Drop` of
+    /// The handle of a connection that waits for nothing. Its user holds it still. Bytes that weren't read or sent are lost.
+    pub fn into_fd(self) -> SharedFd
+        requires none { (self.incoming.op ≡ None) × (self.outgoing.op ≡ None) }
+        ensures { result ≡ self.fd }
+    {
+        let Connection {
+            fd,
+            inbox: _,
+            outbox: _,
+            incoming,
+            outgoing,
+        } = self;
+        is_none(incoming.into_op());
+        is_none(outgoing.into_op());
+        fd
+    }
+
+    /// Closes the connection: its handle is released, and then what waits is dropped. The handle is closed once nobody holds it: here,
+    /// unless its user holds it more than once, or another operation does. Bytes that weren't read or sent are lost. (monoio: `Drop` of
     /// `TcpStream`)
     pub fn close<D: OpDriver<Rent>>(self, driver: &mut D)
         requires fits { FitsConnection (D.ops driver.old) self }

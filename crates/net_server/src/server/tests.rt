@@ -10,6 +10,8 @@ use ring_core::Look;
 use std::alloc::Global;
 use std::test::Fail;
 
+mod wakes;
+
 // How many connections there are at most: their handles are 1, 2 and 3, behind the one that listens.
 const MOST: usize = 3;
 
@@ -82,8 +84,7 @@ fn turns(server: &mut OnHandles, from: u64) -> (usize, usize) {
 }
 
 // What was sent to a handle is this.
-fn sent_is(server: &OnHandles, h: u64, want: &str) -> bool {
-    let io = server.io();
+fn sent_is(io: &MemIo, h: u64, want: &str) -> bool {
     if h >= io.count() {
         return false;
     }
@@ -119,7 +120,7 @@ fn runs_so(alloc: Global, row: &Row) -> Option<bool> {
     }
     let (ended, late) = turns(&mut server, TURNS);
     for h in 0..3usize {
-        good = sent_is(&server, h as u64 + 1, row.sent[h]) && good;
+        good = sent_is(server.io(), h as u64 + 1, row.sent[h]) && good;
     }
     Some(good && ended == row.ended && late == row.late)
 }
