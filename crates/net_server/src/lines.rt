@@ -103,6 +103,14 @@ impl<L: Lines> ByLines<L> {
         Doing::Over
     }
 
+    // It reads, and nothing more came.
+    fn waits(&self, inbox: &Inbox) -> bool {
+        match &self.doing {
+            Doing::Reads(_) => inbox.arrived().is_empty() && !inbox.has_ended(),
+            _ => false,
+        }
+    }
+
     // One step: what follows, and whether that is to be begun at once.
     fn step(
         &mut self,
@@ -139,6 +147,9 @@ impl<L: Lines> Serve for ByLines<L> {
     }
 
     fn serve(&mut self, inbox: &mut Inbox, outbox: &mut Outbox, task: u64) -> Served {
+        if self.waits(inbox) {
+            return Served::Open;
+        }
         for _ in 0..STEPS {
             let doing = mem::replace(&mut self.doing, Doing::Over);
             let (next, more) = self.step(doing, inbox, outbox, task);

@@ -126,12 +126,14 @@ fn main() -> io::Result<()> {
     let words: Vec<usize> = env::args().skip(1).map(|word| word.parse().unwrap()).collect();
     let word = |at: usize, otherwise: usize| words.get(at).copied().unwrap_or(otherwise);
     if words.is_empty() {
-        eprintln!("usage: load PORT [CONNECTIONS [LINES [LENGTH [TOGETHER]]]]");
+        eprintln!("usage: load PORT [CONNECTIONS [LINES [LENGTH [TOGETHER [SPINS]]]]]");
         exit(2);
     }
     let port = word(0, 0) as u16;
     let (connections, lines, length, together) = (word(1, 64), word(2, 1000), word(3, 80), word(4, 1).max(1));
     let together = together.min(lines.max(1));
+    // It looks for answers again and again, and never sleeps, so that no server pays for waking it.
+    let patience = if word(5, 0) != 0 { Duration::ZERO } else { PATIENCE };
     let count = lines.div_ceil(together);
     let load = Load {
         requests: make_requests(length, together),
@@ -165,13 +167,16 @@ fn main() -> io::Result<()> {
         usize::from(ended.unwrap_or_else(|error| fail(number, &error.to_string())))
     };
     let start = Instant::now();
+    let mut came = start;
     let mut ended: usize = (0..connections).map(&mut turn).sum();
     while ended < connections {
-        match poll.poll(&mut events, Some(PATIENCE)) {
+        match poll.poll(&mut events, Some(patience)) {
             Err(error) if error.kind() == ErrorKind::Interrupted => continue,
             polled => polled?,
         }
-        if events.is_empty() {
+        if !events.is_empty() {
+            came = Instant::now();
+        } else if came.elapsed() >= PATIENCE {
             eprintln!("nothing came for {PATIENCE:?}: {ended} of {connections} connections have ended");
             exit(1);
         }
