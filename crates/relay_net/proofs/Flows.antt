@@ -1,0 +1,522 @@
+-- What the calls of a direction leave of its bytes.
+use Rattle.std.proofs.Common.{ℕ, zero, suc, ◌≡◌, ◌≢◌, ◌∙◌, ◌≤◌, ap, sym, refl, subst, arith, Bool, IsTrue, true, false, List, [], ◌∷◌}
+use Rattle.std.proofs.Common.{◌++◌, length, drop, Option, Some, None, Ok, Err, inl, inr}
+use Rattle.std.specs.Prelude.{Result}
+use Rattle.std.proofs.lemmas.List.{append_assoc}
+use Rattle.rent_buf.specs.Buf.{built, content_of}
+use Rattle.rent_buf.specs.Buffer.{Buffer, shown}
+use Rattle.rent_buf.specs.Counts.{Rose}
+use Rattle.rent_buf.specs.Parts.{Parts}
+use Rattle.rent_buf.specs.declared.plain.Buf.{Buf}
+use Rattle.rent_buf.specs.declared.fault.OutOfMemory.{OutOfMemory as NoMemory}
+use Rattle.ring_core.specs.declared.request.Outcome.{Outcome}
+use Rattle.ring_core.specs.declared.request.Outcome.TheVariants.{Count, From, Made, Fail}
+use Rattle.ring_core.specs.declared.request.Request.{Request}
+use Rattle.ring_core.specs.declared.request.Request.TheVariants.{Recv, Send}
+use Rattle.ring_core.specs.declared.world.HandleState.{HandleState}
+use Rattle.ring_core.specs.Request.{plain_request}
+use Rattle.ring_core.specs.World.{input_at}
+use Rattle.std.specs.FinMap as map
+use Rattle.driver_core.proofs.Maps.{gone-other}
+use Rattle.driver_core.specs.Holds.{named_in}
+use Rattle.driver_core.specs.Op.{KeepsTokens, PollsTokens}
+use Rattle.driver_core.specs.Ops.{Ops}
+use Rattle.driver_core.specs.Slot.{serial_of}
+use Rattle.driver_core.specs.declared.op.Done.{Done as Ended}
+use Rattle.driver_core.specs.declared.op.Op.{Op}
+use Rattle.driver_core.specs.declared.op.PollOp.{PollOp}
+use Rattle.driver_core.specs.declared.op.PollOp.TheVariants.{Pending, Ready}
+use Rattle.driver_core.specs.declared.op.SubmitFault.{SubmitFault}
+use Rattle.driver_core.specs.declared.op.SubmitFault.TheVariants as submit
+use Rattle.ready_driver.specs.Calling.{Called}
+use Rattle.ready_driver.specs.Io.{IoView, IsLater}
+use Rattle.ready_driver.specs.LegacyCalls.{WhyRefused}
+use Rattle.ready_driver.specs.LegacyState.{LegacyState, ops_in}
+use Rattle.ready_driver.specs.Registry.{Handling}
+use Rattle.op_driver.specs.Legacy.{LegacyDrops, LegacyPolls}
+use Rattle.net_stream.specs.Told.{IsSentTo, IsStream, IsTaken, output_at}
+use Rattle.net_stream.proofs.Handles.{sent_stream, sent_waiting, taken_sent, taken_stream}
+use Rattle.relay_net.specs.Flow.{FitsStage, IfAsked, IsElse, IsPending, IsReceive, IsSend, asked_at, bytes_sent, empty_buffer, held_in, line}
+use Rattle.relay_net.specs.Flow.{send_bytes}
+use Rattle.relay_net.specs.Keeping.{AnyRequest, CameFor, KeepsOps, KeepsUsers, LeavesFlow, MovesBetween, Stays, StopsAs, StopsFor, StopsIf, world_of}
+use Rattle.relay_net.specs.Outcomes.{CountsAs, HoldsJust, ReceivedAs, SentAs}
+use Rattle.relay_net.specs.Steps.{Abandons, Begins, Flows}
+use Rattle.relay_net.specs.declared.flow.Came.{Came}
+use Rattle.relay_net.specs.declared.flow.Came.TheVariants as came
+use Rattle.relay_net.specs.declared.flow.Stage.{Stage}
+use Rattle.relay_net.specs.declared.flow.Stage.TheVariants as stage
+use Rattle.relay_net.specs.declared.round.RelayError.{RelayError}
+use Rattle.relay_net.specs.declared.round.RelayError.TheVariants as why
+use Rattle.relay_net.proofs.Calls.{Lawful, later_same, later_then, left_users, plain_in, users_then}
+use Rattle.relay_net.proofs.Polls.{other_key, pending_pends, pending_waits, polled_others, starved_pends, starved_waits}
+use Rattle.relay_net.proofs.Moves.{Brings, Takes, received, sent}
+
+-- A request that is known, as any one.
+any_asked : (asked : Option (Request Buffer Parts)) (P : Request Buffer Parts → Type 0) → IfAsked asked P → IfAsked asked AnyRequest
+any_asked None P is = is
+any_asked (Some request) P is = tt
+
+-- A receive of a direction is one of those that its frame leaves out, and so is a send.
+pub receive_apart : (from to : ℕ) (request : Request Buffer Parts) → IsReceive from request → IsElse from to request → ⊥
+receive_apart from to request is else = (subst (IsElse from to) is else) refl
+
+pub send_apart : (from to count : ℕ) (request : Request Buffer Parts) → IsSend to count request → IsElse from to request → ⊥
+send_apart from to count request is else = (subst (IsElse from to) is.request_is else) refl
+
+-- A stage that holds just some bytes fits, and holds these.
+just_fits : (ops : Ops Buf) (from to : ℕ) (s : Stage) (bytes : List ℕ) → HoldsJust s bytes → FitsStage ops from to s
+just_fits ops from to (stage.Idle spare) bytes is = tt
+just_fits ops from to (stage.Receiving op) bytes is = absurd is
+just_fits ops from to (stage.Held buf) bytes is = tt
+just_fits ops from to (stage.Sending op count) bytes is = absurd is
+
+just_holds : (ops : Ops Buf) (s : Stage) (bytes : List ℕ) → HoldsJust s bytes → held_in ops s ≡ bytes
+just_holds ops (stage.Idle spare) bytes is = sym is
+just_holds ops (stage.Receiving op) bytes is = absurd is
+just_holds ops (stage.Held buf) bytes is = is
+just_holds ops (stage.Sending op count) bytes is = absurd is
+
+-- What a receive brought goes behind what is held: the line is what it was.
+brought_line : (old new : List HandleState) (from to : ℕ) (held : List ℕ) → held ++ input_at new from ≡ input_at old from
+    → IsTaken old from new → line new from to held ≡ line old from to []
+brought_line old new from to held came taken =
+    ap (λ o. o ++ (held ++ input_at new from)) (taken_sent old new from to taken)
+    ∙ ap (λ bs. output_at old to ++ bs) came
+
+-- What a send took left what is held: the line is what it was.
+took_line : (old new : List HandleState) (from to : ℕ) (held later : List ℕ) → IsStream old to
+    → output_at new to ++ later ≡ output_at old to ++ held → IsSentTo old to new → line new from to later ≡ line old from to held
+took_line old new from to held later stream went sent =
+    ap (λ w. output_at new to ++ (later ++ w)) (sent_waiting old new to from stream sent)
+    ∙ (sym (append_assoc (output_at new to) later (input_at old from))
+    ∙ (ap (λ bs. bs ++ input_at old from) went
+    ∙ append_assoc (output_at old to) held (input_at old from)))
+
+-- The line where nothing moved.
+same_line : (old new : List HandleState) (from to : ℕ) (held later : List ℕ) → new ≡ old → later ≡ held
+    → line new from to later ≡ line old from to held
+same_line old new from to held later world same = ap (λ w. line w from to later) world ∙ ap (line old from to) same
+
+module _ {I : Type 0} (view : I → IoView) (tells : Bool) where
+  -- A call that leaves all leaves a direction.
+  pub stays_leaves : (old new : LegacyState I Buf) (from to : ℕ) → Stays view tells old new → LeavesFlow view tells old from to new
+  stays_leaves old new from to stays = record {
+    later = stays.later;
+    users = stays.users;
+    ops = λ op held asked. stays.ops op held (any_asked (asked_at (ops_in old) op) (IsElse from to) asked);
+    moves = λ t. inl (inl (stays.world t));
+  }
+
+  -- A call that leaves all, and then one that is about a direction.
+  pub then_leaves : (old mid new : LegacyState I Buf) (from to : ℕ) → Stays view tells old mid → LeavesFlow view tells mid from to new
+      → LeavesFlow view tells old from to new
+  then_leaves old mid new from to stays leaves = record {
+    later = later_then (view old.handling.io) (view mid.handling.io) (view new.handling.io) stays.later leaves.later;
+    users = users_then old.handling.table mid.handling.table new.handling.table stays.users leaves.users;
+    ops = λ op held asked.
+        let same = stays.ops op held (any_asked (asked_at (ops_in old) op) (IsElse from to) asked) in
+        leaves.ops op (ap serial_of same ∙ held)
+        (subst (λ slot. IfAsked (plain_in slot) (IsElse from to)) (sym same) asked) ∙ same;
+    moves = λ t. subst (λ w. MovesBetween w from to (world_of view new)) (stays.world t) (leaves.moves t);
+  }
+
+  -- A direction that was stopped as it began.
+  pub stopped_flows : (old new : LegacyState I Buf) (from to : ℕ) (held : List ℕ) (s : Stage) (because : RelayError)
+      → Begins view tells old new from to held s (Some because) → Flows view tells old new from to held s (came.Stopped because)
+  stopped_flows old new from to held s because begins = record {
+    fits = begins.fits;
+    leaves = stays_leaves old new from to begins.stays;
+    line_is = λ t a b. same_line (world_of view old) (world_of view new) from to held (held_in (ops_in new) s) (begins.stays.world t)
+        begins.held_is;
+    cause = begins.stops;
+  }
+
+  -- One that began, and then was polled.
+  pub begun_flows : (old mid new : LegacyState I Buf) (from to : ℕ) (held : List ℕ) (s now : Stage) (c : Came)
+      → Begins view tells old mid from to held s None → Flows view tells mid new from to (held_in (ops_in mid) s) now c
+      → Flows view tells old new from to held now c
+  begun_flows old mid new from to held s now c begins flows = record {
+    fits = flows.fits;
+    leaves = then_leaves old mid new from to begins.stays flows.leaves;
+    line_is = λ t a b.
+        flows.line_is t (subst (λ w. IsStream w from) (sym (begins.stays.world t)) a)
+        (subst (λ w. IsStream w to) (sym (begins.stays.world t)) b)
+        ∙ same_line (world_of view old) (world_of view mid) from to held (held_in (ops_in mid) s) (begins.stays.world t) begins.held_is;
+    cause = came-later c flows.cause;
+  }
+    where
+      came-later : (c : Came) → CameFor (view mid.handling.io) (view new.handling.io) c
+          → CameFor (view old.handling.io) (view new.handling.io) c
+      came-later came.Goes is = tt
+      came-later came.Ended is = tt
+      came-later (came.Failed error) is =
+          let later = begins.stays.later.fails in omega (arith, is, later)
+      came-later (came.Stopped why.Fault) is =
+          let later = begins.stays.later.faults in omega (arith, is, later)
+      came-later (came.Stopped why.OutOfMemory) is = tt
+
+-- A submission was refused for a reason of the driver.
+pub refused_stops : {I : Type 0} (view : I → IoView) (memory : Bool) (old new : Handling I) (live : ℕ) (fault : SubmitFault) (because : RelayError)
+    → WhyRefused view memory old new live fault → StopsAs fault because → StopsFor (view old.io) (view new.io) because
+refused_stops view memory old new live submit.Full because refused is = subst (StopsFor (view old.io) (view new.io)) (sym is) tt
+refused_stops view memory old new live submit.RingFault because refused is = absurd refused
+refused_stops view memory old new live submit.Busy because refused is = absurd refused
+refused_stops view memory old new live (submit.Os code) because refused is =
+    subst (StopsFor (view old.io) (view new.io)) (sym is) refused.1
+refused_stops view memory old new live submit.OutOfMemory because refused is = subst (StopsFor (view old.io) (view new.io)) (sym is) tt
+
+-- What is asked of a pending operation's request, by what that is.
+pub pending_as : (ops : Ops Buf) (op : Op) (P Q : Request Buffer Parts → Type 0)
+    → ((request : Request Buffer Parts) → P request → Q request) → IsPending ops op P → IsPending ops op Q
+pending_as ops op P Q gives pending = record {
+  holds = pending.holds;
+  flies = pending.flies;
+  asks = by-asked (asked_at ops op) pending.asks;
+}
+  where
+    by-asked : (asked : Option (Request Buffer Parts)) → IfAsked asked P → IfAsked asked Q
+    by-asked None is = is
+    by-asked (Some request) is = gives request is
+
+pub pending_receive : (ops : Ops Buf) (op : Op) (from : ℕ) (buf : Buf) → built buf ≡ empty_buffer
+    → IsPending ops op (λ asked. asked ≡ Recv from (built buf)) → IsPending ops op (IsReceive from)
+pending_receive ops op from buf is pending =
+    pending_as ops op (λ asked. asked ≡ Recv from (built buf)) (IsReceive from) (λ request same. same ∙ ap (Recv from) is) pending
+
+pub pending_send : (ops : Ops Buf) (op : Op) (to count : ℕ) (buf : Buf) → length (content_of buf) ≡ count
+    → IsPending ops op (λ asked. asked ≡ Send to (built buf)) → IsPending ops op (IsSend to count)
+pending_send ops op to count buf is pending =
+    pending_as ops op (λ asked. asked ≡ Send to (built buf)) (IsSend to count)
+    (λ request same. record { buf = built buf; request_is = same; count_is = is }) pending
+
+-- The bytes that a pending send has.
+pub pending_bytes : (ops : Ops Buf) (op : Op) (to : ℕ) (buf : Buf) → IsPending ops op (λ asked. asked ≡ Send to (built buf))
+    → bytes_sent (asked_at ops op) ≡ content_of buf
+pending_bytes ops op to buf pending = by-asked (asked_at ops op) pending.asks
+  where
+    by-asked : (asked : Option (Request Buffer Parts)) → IfAsked asked (λ request. request ≡ Send to (built buf))
+        → bytes_sent asked ≡ content_of buf
+    by-asked None is = absurd is
+    by-asked (Some request) is = ap send_bytes is
+
+-- How many bytes a pending send has.
+pub pending_count : (ops : Ops Buf) (op : Op) (to count : ℕ) → IsPending ops op (IsSend to count)
+    → length (bytes_sent (asked_at ops op)) ≡ count
+pending_count ops op to count pending = by-asked (asked_at ops op) pending.asks
+  where
+    by-asked : (asked : Option (Request Buffer Parts)) → IfAsked asked (IsSend to count) → length (bytes_sent asked) ≡ count
+    by-asked None is = absurd is
+    by-asked (Some request) is = ap (λ r. length (send_bytes r)) is.request_is ∙ is.count_is
+
+-- Where nothing is called all stays.
+pub none_stays : {I : Type 0} (view : I → IoView) (tells : Bool) (driver : LegacyState I Buf) → Stays view tells driver driver
+none_stays view tells driver = record {
+  later = later_same (view driver.handling.io);
+  users = λ h held. held;
+  ops = λ op held asked. refl;
+  world = λ t. refl;
+}
+
+-- A direction that submits nothing, and one that polls nothing.
+pub still_begins : {I : Type 0} (view : I → IoView) (tells : Bool) (driver : LegacyState I Buf) (from to : ℕ) (s : Stage)
+    → FitsStage (ops_in driver) from to s → Begins view tells driver driver from to (held_in (ops_in driver) s) s None
+still_begins view tells driver from to s fits = record {
+  fits = fits;
+  stays = none_stays view tells driver;
+  held_is = refl;
+  stops = tt;
+}
+
+pub still_flows : {I : Type 0} (view : I → IoView) (tells : Bool) (driver : LegacyState I Buf) (from to : ℕ) (s : Stage)
+    → FitsStage (ops_in driver) from to s → Flows view tells driver driver from to (held_in (ops_in driver) s) s came.Goes
+still_flows view tells driver from to s fits = record {
+  fits = fits;
+  leaves = stays_leaves view tells driver driver from to (none_stays view tells driver);
+  line_is = λ t a b. refl;
+  cause = tt;
+}
+
+-- What a count of a receive leaves of the line.
+counts_flow : (old new : IoView) (tells : Bool) (from to k : ℕ) (bytes : List ℕ) (s : Stage) (c : Came) → length bytes ≡ k
+    → (IsTrue tells → (bytes ++ input_at new.world from ≡ input_at old.world from) × IsTaken old.world from new.world)
+    → CountsAs k bytes s c
+    → (held : List ℕ) × (HoldsJust s held × (IsTrue tells → line new.world from to held ≡ line old.world from to [])
+    × (IsTrue tells → MovesBetween old.world from to new.world) × CameFor old new c)
+counts_flow old new tells from to zero bytes s c size brings is =
+    let none : bytes ≡ [] = no_bytes bytes size in (
+      [],
+      (
+        is.0,
+        λ t. brought_line old.world new.world from to [] (ap (λ bs. bs ++ input_at new.world from) (sym none) ∙ (brings t).0)
+            (brings t).1,
+        λ t. inl (brings t).1,
+        subst (CameFor old new) (sym is.1) tt,
+      ),
+    )
+  where
+    no_bytes : (bytes : List ℕ) → length bytes ≡ 0 → bytes ≡ []
+    no_bytes [] none = refl
+    no_bytes (b ∷ bytes) none = absurd cc
+counts_flow old new tells from to (suc k) bytes s c size brings is = (
+  bytes,
+  (
+    is.0,
+    λ t. brought_line old.world new.world from to bytes (brings t).0 (brings t).1,
+    λ t. inl (brings t).1,
+    subst (CameFor old new) (sym is.1) tt,
+  ),
+)
+
+-- What a receive's bytes leave, by its outcome.
+brings_flow : (old new : IoView) (tells : Bool) (from to : ℕ) (outcome : Outcome) (bytes : List ℕ) (s : Stage) (c : Came)
+    → Brings old new tells from outcome bytes → ReceivedAs outcome bytes s c
+    → (held : List ℕ) × (HoldsJust s held × (IsTrue tells → line new.world from to held ≡ line old.world from to [])
+    × (IsTrue tells → MovesBetween old.world from to new.world) × CameFor old new c)
+brings_flow old new tells from to (Count k) bytes s c brings is = counts_flow old new tells from to k bytes s c brings.0 brings.1 is
+brings_flow old new tells from to (From k addr) bytes s c brings is = counts_flow old new tells from to k bytes s c brings.0 brings.1 is
+brings_flow old new tells from to (Made h) bytes s c brings is = absurd brings
+brings_flow old new tells from to (Fail error) bytes s c brings is = (
+  [],
+  (
+    is.0,
+    λ t. same_line old.world new.world from to [] [] (brings.1 t) refl,
+    λ t. inl (inl (brings.1 t)),
+    subst (CameFor old new) (sym is.1) brings.0,
+  ),
+)
+
+-- What a send's bytes leave, by its outcome.
+takes_flow : (old new : IoView) (tells : Bool) (from to : ℕ) (outcome : Outcome) (bytes : List ℕ) (s : Stage) (c : Came)
+    → Takes old new tells to outcome bytes → SentAs outcome bytes s c
+    → (held : List ℕ) × (HoldsJust s held
+    × (IsTrue tells → IsStream old.world to → line new.world from to held ≡ line old.world from to bytes)
+    × (IsTrue tells → MovesBetween old.world from to new.world) × CameFor old new c)
+takes_flow old new tells from to (Count k) bytes s c takes is = (
+  drop k bytes,
+  (
+    is.0,
+    λ t stream. took_line old.world new.world from to bytes (drop k bytes) stream ((takes t).0 stream) (takes t).1,
+    λ t. inr (takes t).1,
+    subst (CameFor old new) (sym is.1) tt,
+  ),
+)
+takes_flow old new tells from to (From k addr) bytes s c takes is = (
+  drop k bytes,
+  (
+    is.0,
+    λ t stream. took_line old.world new.world from to bytes (drop k bytes) stream ((takes t).0 stream) (takes t).1,
+    λ t. inr (takes t).1,
+    subst (CameFor old new) (sym is.1) tt,
+  ),
+)
+takes_flow old new tells from to (Made h) bytes s c takes is = absurd takes
+takes_flow old new tells from to (Fail error) bytes s c takes is = (
+  bytes,
+  (
+    is.0,
+    λ t stream. same_line old.world new.world from to bytes bytes (takes.1 t) refl,
+    λ t. inl (inl (takes.1 t)),
+    subst (CameFor old new) (sym is.1) takes.0,
+  ),
+)
+
+module _ {I : Type 0} (view : I → IoView) (tells memory : Bool) (files : I → ℕ → Bool) (called : Called I)
+    (law : Lawful view tells memory called) where
+  -- A receive that waits on.
+  pub receive_pending : (old new : LegacyState I Buf) (op : Op) (task from to : ℕ)
+      → LegacyPolls files built called view tells memory old new op task (Ok (Pending op)) → KeepsTokens (ops_in old) (ops_in new)
+      → IsPending (ops_in old) op (IsReceive from) → Flows view tells old new from to [] (stage.Receiving op) came.Goes
+  receive_pending old new op task from to polls keeps pending =
+      let waits = pending_waits view tells memory files called law old new op op task polls in
+      record {
+        fits = pending_pends view tells memory files called law old new op op task (IsReceive from) polls keeps pending;
+        leaves = record {
+          later = waits.later;
+          users = waits.users;
+          ops = polled_others view tells memory files called law old new op task (Ok (Pending op)) (IsReceive from) (IsElse from to) polls
+              pending (receive_apart from to);
+          moves = λ t. inl (inl (waits.world t));
+        };
+        line_is = λ t a b. same_line (world_of view old) (world_of view new) from to [] [] (waits.world t) refl;
+        cause = tt;
+      }
+
+  -- One whose poll ran out of memory.
+  pub receive_starved : (old new : LegacyState I Buf) (op : Op) (error : NoMemory) (task from to : ℕ)
+      → LegacyPolls files built called view tells memory old new op task (Err (error, op)) → KeepsTokens (ops_in old) (ops_in new)
+      → IsPending (ops_in old) op (IsReceive from)
+      → Flows view tells old new from to [] (stage.Receiving op) (came.Stopped why.OutOfMemory)
+  receive_starved old new op error task from to polls keeps pending =
+      let waits = starved_waits view tells memory files called law old new op (error, op) task polls in
+      record {
+        fits = starved_pends view tells memory files called law old new op (error, op) task (IsReceive from) polls keeps pending;
+        leaves = record {
+          later = waits.later;
+          users = waits.users;
+          ops = polled_others view tells memory files called law old new op task (Err (error, op)) (IsReceive from) (IsElse from to) polls
+              pending (receive_apart from to);
+          moves = λ t. inl (inl (waits.world t));
+        };
+        line_is = λ t a b. same_line (world_of view old) (world_of view new) from to [] [] (waits.world t) refl;
+        cause = tt;
+      }
+
+  -- One that ended.
+  pub receive_ended : (old new : LegacyState I Buf) (op : Op) (done : Ended Buf) (task from to : ℕ) (buf : Buf) (s : Stage) (c : Came)
+      → LegacyPolls files built called view tells memory old new op task (Ok (Ready done))
+      → IsPending (ops_in old) op (IsReceive from) → plain_request built done.request ≡ Recv from (built buf)
+      → ReceivedAs done.outcome (content_of buf) s c → Flows view tells old new from to [] s c
+  receive_ended old new op done task from to buf s c polls pending is ends =
+      let came = received view tells memory files called law old new op done task from polls pending in
+      let same : built buf ≡ came.0.buf = recv_same from (built buf) came.0.buf (sym is ∙ came.0.request_is) in
+      let flow = brings_flow (view old.handling.io) (view new.handling.io) tells from to done.outcome (content_of buf) s c
+      (subst (λ b. Brings (view old.handling.io) (view new.handling.io) tells from done.outcome (shown b)) (sym same) came.0.brings) ends in
+      record {
+        fits = just_fits (ops_in new) from to s flow.0 flow.1.0;
+        leaves = record {
+          later = came.1.0;
+          users = came.1.1;
+          ops = polled_others view tells memory files called law old new op task (Ok (Ready done)) (IsReceive from) (IsElse from to) polls
+              pending (receive_apart from to);
+          moves = flow.1.2;
+        };
+        line_is = λ t a b. ap (line (world_of view new) from to) (just_holds (ops_in new) s flow.0 flow.1.0) ∙ flow.1.1 t;
+        cause = flow.1.3;
+      }
+    where
+      recv_same : (h : ℕ) (one other : Buffer) → ◌≡◌ {A = Request Buffer Parts} (Recv h one) (Recv h other) → one ≡ other
+      recv_same h one other same = cc
+
+  -- A send that waits on.
+  pub send_pending : (old new : LegacyState I Buf) (op : Op) (task from to count : ℕ)
+      → LegacyPolls files built called view tells memory old new op task (Ok (Pending op)) → KeepsTokens (ops_in old) (ops_in new)
+      → IsPending (ops_in old) op (IsSend to count)
+      → Flows view tells old new from to (bytes_sent (asked_at (ops_in old) op)) (stage.Sending op count) came.Goes
+  send_pending old new op task from to count polls keeps pending =
+      let waits = pending_waits view tells memory files called law old new op op task polls in
+      record {
+        fits = pending_pends view tells memory files called law old new op op task (IsSend to count) polls keeps pending;
+        leaves = record {
+          later = waits.later;
+          users = waits.users;
+          ops = polled_others view tells memory files called law old new op task (Ok (Pending op)) (IsSend to count) (IsElse from to) polls
+              pending (send_apart from to count);
+          moves = λ t. inl (inl (waits.world t));
+        };
+        line_is = λ t a b. same_line (world_of view old) (world_of view new) from to (bytes_sent (asked_at (ops_in old) op))
+            (bytes_sent (asked_at (ops_in new) op)) (waits.world t) (ap bytes_sent waits.asked);
+        cause = tt;
+      }
+
+  pub send_starved : (old new : LegacyState I Buf) (op : Op) (error : NoMemory) (task from to count : ℕ)
+      → LegacyPolls files built called view tells memory old new op task (Err (error, op)) → KeepsTokens (ops_in old) (ops_in new)
+      → IsPending (ops_in old) op (IsSend to count)
+      → Flows view tells old new from to (bytes_sent (asked_at (ops_in old) op)) (stage.Sending op count)
+      (came.Stopped why.OutOfMemory)
+  send_starved old new op error task from to count polls keeps pending =
+      let waits = starved_waits view tells memory files called law old new op (error, op) task polls in
+      record {
+        fits = starved_pends view tells memory files called law old new op (error, op) task (IsSend to count) polls keeps pending;
+        leaves = record {
+          later = waits.later;
+          users = waits.users;
+          ops = polled_others view tells memory files called law old new op task (Err (error, op)) (IsSend to count) (IsElse from to)
+              polls pending (send_apart from to count);
+          moves = λ t. inl (inl (waits.world t));
+        };
+        line_is = λ t a b. same_line (world_of view old) (world_of view new) from to (bytes_sent (asked_at (ops_in old) op))
+            (bytes_sent (asked_at (ops_in new) op)) (waits.world t) (ap bytes_sent waits.asked);
+        cause = tt;
+      }
+
+  -- One that ended.
+  pub send_ended : (old new : LegacyState I Buf) (op : Op) (done : Ended Buf) (task from to count : ℕ) (buf : Buf) (s : Stage) (c : Came)
+      → LegacyPolls files built called view tells memory old new op task (Ok (Ready done))
+      → IsPending (ops_in old) op (IsSend to count) → plain_request built done.request ≡ Send to (built buf)
+      → SentAs done.outcome (content_of buf) s c → Flows view tells old new from to (bytes_sent (asked_at (ops_in old) op)) s c
+  send_ended old new op done task from to count buf s c polls pending is ends =
+      let went = sent view tells memory files called law old new op done task to count polls pending in
+      let took = went.1.1 in
+      let same : built buf ≡ went.0 = send_same to (built buf) went.0 (sym is ∙ took.request_is) in
+      let flow = takes_flow (view old.handling.io) (view new.handling.io) tells from to done.outcome (content_of buf) s c
+      (subst (λ b. Takes (view old.handling.io) (view new.handling.io) tells to done.outcome (shown b)) (sym same) took.takes) ends in
+      record {
+        fits = just_fits (ops_in new) from to s flow.0 flow.1.0;
+        leaves = record {
+          later = went.1.2.0;
+          users = went.1.2.1;
+          ops = polled_others view tells memory files called law old new op task (Ok (Ready done)) (IsSend to count) (IsElse from to) polls
+              pending (send_apart from to count);
+          moves = flow.1.2;
+        };
+        line_is = λ t a b. ap (line (world_of view new) from to) (just_holds (ops_in new) s flow.0 flow.1.0)
+            ∙ (flow.1.1 t b ∙ ap (line (world_of view old) from to) (ap shown same ∙ ap bytes_sent (sym went.1.0)));
+        cause = flow.1.3;
+      }
+    where
+      send_same : (h : ℕ) (one other : Buffer) → ◌≡◌ {A = Request Buffer Parts} (Send h one) (Send h other) → one ≡ other
+      send_same h one other same = cc
+
+  -- The same of the token that came back.
+  pub receive_waits : (old new : LegacyState I Buf) (op back : Op) (answer : PollOp Buf) (task from to : ℕ) → answer ≡ Pending back
+      → LegacyPolls files built called view tells memory old new op task (Ok answer)
+      → PollsTokens (ops_in old) (ops_in new) op answer → IsPending (ops_in old) op (IsReceive from)
+      → Flows view tells old new from to [] (stage.Receiving back) came.Goes
+  receive_waits old new op back answer task from to is polls took pending =
+      let tokens = subst (PollsTokens (ops_in old) (ops_in new) op) is took in
+      subst (λ b. Flows view tells old new from to [] (stage.Receiving b) came.Goes) (sym tokens.0)
+      (receive_pending old new op task from to
+      (subst (λ b. LegacyPolls files built called view tells memory old new op task (Ok (Pending b))) tokens.0
+      (subst (λ a. LegacyPolls files built called view tells memory old new op task (Ok a)) is polls)) tokens.1 pending)
+
+  pub receive_stops : (old new : LegacyState I Buf) (op back : Op) (error : NoMemory) (task from to : ℕ)
+      → LegacyPolls files built called view tells memory old new op task (Err (error, back))
+      → (back ≡ op) × KeepsTokens (ops_in old) (ops_in new) → IsPending (ops_in old) op (IsReceive from)
+      → Flows view tells old new from to [] (stage.Receiving back) (came.Stopped why.OutOfMemory)
+  receive_stops old new op back error task from to polls tokens pending =
+      subst (λ b. Flows view tells old new from to [] (stage.Receiving b) (came.Stopped why.OutOfMemory)) (sym tokens.0)
+      (receive_starved old new op error task from to
+      (subst (λ b. LegacyPolls files built called view tells memory old new op task (Err (error, b))) tokens.0 polls) tokens.1 pending)
+
+  pub send_waits : (old new : LegacyState I Buf) (op back : Op) (answer : PollOp Buf) (task from to count : ℕ) → answer ≡ Pending back
+      → LegacyPolls files built called view tells memory old new op task (Ok answer)
+      → PollsTokens (ops_in old) (ops_in new) op answer → IsPending (ops_in old) op (IsSend to count)
+      → Flows view tells old new from to (bytes_sent (asked_at (ops_in old) op)) (stage.Sending back count) came.Goes
+  send_waits old new op back answer task from to count is polls took pending =
+      let tokens = subst (PollsTokens (ops_in old) (ops_in new) op) is took in
+      subst (λ b. Flows view tells old new from to (bytes_sent (asked_at (ops_in old) op)) (stage.Sending b count) came.Goes)
+      (sym tokens.0) (send_pending old new op task from to count
+      (subst (λ b. LegacyPolls files built called view tells memory old new op task (Ok (Pending b))) tokens.0
+      (subst (λ a. LegacyPolls files built called view tells memory old new op task (Ok a)) is polls)) tokens.1 pending)
+
+  pub send_stops : (old new : LegacyState I Buf) (op back : Op) (error : NoMemory) (task from to count : ℕ)
+      → LegacyPolls files built called view tells memory old new op task (Err (error, back))
+      → (back ≡ op) × KeepsTokens (ops_in old) (ops_in new) → IsPending (ops_in old) op (IsSend to count)
+      → Flows view tells old new from to (bytes_sent (asked_at (ops_in old) op)) (stage.Sending back count)
+      (came.Stopped why.OutOfMemory)
+  send_stops old new op back error task from to count polls tokens pending =
+      subst (λ b. Flows view tells old new from to (bytes_sent (asked_at (ops_in old) op)) (stage.Sending b count)
+      (came.Stopped why.OutOfMemory)) (sym tokens.0) (send_starved old new op error task from to count
+      (subst (λ b. LegacyPolls files built called view tells memory old new op task (Err (error, b))) tokens.0 polls) tokens.1 pending)
+
+-- A drop leaves all but its operation.
+pub dropped_abandons : {I : Type 0} (view : I → IoView) (tells memory : Bool) (old new : LegacyState I Buf) (op : Op) (from to : ℕ)
+    (P : Request Buffer Parts → Type 0) → LegacyDrops view tells memory old new op → IsPending (ops_in old) op P
+    → ((request : Request Buffer Parts) → P request → IsElse from to request → ⊥) → Abandons view tells old from to new
+dropped_abandons view tells memory old new op from to P drops pending apart = record {
+  later = drops.handles.object.later;
+  users = subst (λ t. KeepsUsers old.handling.table t) (sym drops.handles.holders)
+      (left_users old.handling.table (named_in (map.get old.slots.values op.key)));
+  ops = λ other held else. ap (λ m. map.get m other.key) drops.slot
+      ∙ gone-other old.slots.values op.key other.key (other_key (ops_in old) op other P (IsElse from to) pending.asks else apart);
+  world = drops.handles.object.world;
+}
+
+pub still_abandons : {I : Type 0} (view : I → IoView) (tells : Bool) (driver : LegacyState I Buf) (from to : ℕ)
+    → Abandons view tells driver from to driver
+still_abandons view tells driver from to = record {
+  later = later_same (view driver.handling.io);
+  users = λ h held. held;
+  ops = λ op held else. refl;
+  world = λ t. refl;
+}

@@ -1,0 +1,378 @@
+-- What became of the bytes of a receive and of a send that ended.
+use Rattle.std.proofs.Common.{ℕ, zero, suc, ◌≡◌, ◌∙◌, ◌≤◌, ap, sym, refl, subst, arith, Bool, IsTrue, true, false, List, [], ◌++◌, length}
+use Rattle.std.proofs.Common.{take, drop, Option, Some, None, Ok, Err, inl, inr}
+use Rattle.std.specs.Prelude.{Result, option_map, unwrap_or, slice_get}
+use Rattle.std.proofs.lemmas.List.{append_assoc, length-take, take-append-drop, take-take, take_all}
+use Rattle.rent_buf.specs.Buf.{built}
+use Rattle.rent_buf.specs.Buffer.{Buffer, shown, stored}
+use Rattle.rent_buf.specs.Counts.{Rose}
+use Rattle.rent_buf.specs.Parts.{Parts}
+use Rattle.rent_buf.specs.declared.held.Held.TheVariants.{One}
+use Rattle.rent_buf.specs.declared.plain.Buf.{Buf}
+use Rattle.ring_core.specs.declared.request.Outcome.{Outcome}
+use Rattle.ring_core.specs.declared.request.Outcome.TheVariants.{Count, From, Made, Fail}
+use Rattle.ring_core.specs.declared.request.Told.{Told}
+use Rattle.ring_core.specs.declared.request.Told.TheVariants as told
+use Rattle.ring_core.specs.declared.request.Request.{Request}
+use Rattle.ring_core.specs.declared.request.Request.TheVariants.{Recv, ReadVec, Send, WriteVec, RecvMsg, SendMsg, Read, Write}
+use Rattle.ring_core.specs.declared.request.Request.TheVariants.{SpliceTo, SpliceFrom, Accept, Open, Connect, Fsync, PollAdd, MkDir, Rename}
+use Rattle.ring_core.specs.declared.request.Request.TheVariants.{Unlink}
+use Rattle.ring_core.specs.declared.request.TheConstants.{MOST_ASKED}
+use Rattle.ring_core.specs.declared.world.HandleKind.TheVariants.{Stream}
+use Rattle.ring_core.specs.declared.world.HandleState.{HandleState}
+use Rattle.ring_core.specs.Effect.{made_by, sent_to_kind, with_sent, without_front}
+use Rattle.ring_core.specs.Lists.{amended}
+use Rattle.ring_core.specs.Request.{held, held_of, plain_request, sent_of, shape_of}
+use Rattle.ring_core.specs.World.{input_at}
+use Rattle.ring_core.specs.WorldCall.{call_effect}
+use Rattle.ring_core.proofs.Amended.{get-amended}
+use Rattle.driver_core.specs.declared.op.Done.{Done as Ended}
+use Rattle.driver_core.specs.declared.op.Op.{Op}
+use Rattle.driver_core.specs.declared.op.PollOp.TheVariants.{Ready}
+use Rattle.handle_core.specs.Table.{Table}
+use Rattle.ready_driver.specs.Calling.{Called}
+use Rattle.ready_driver.specs.Io.{EndsFor, FailRose, IoView, IsFilled, IsLater, IsMade, IsMoved}
+use Rattle.ready_driver.specs.LegacyPolls.{HandsOver, outcome_by, outcome_for}
+use Rattle.ready_driver.specs.LegacyState.{LegacyState, ops_in}
+use Rattle.op_driver.specs.Legacy.{LegacyPolls}
+use Rattle.net_stream.specs.Told.{IsSentTo, IsStream, IsTaken, output_at}
+use Rattle.net_stream.proofs.Told.{same_outcome}
+use Rattle.relay_net.specs.Flow.{IfAsked, IsPending, IsReceive, IsSend, asked_at, empty_buffer}
+use Rattle.relay_net.specs.Keeping.{KeepsUsers, world_of}
+use Rattle.relay_net.proofs.Calls.{Lawful, later_same, later_then}
+use Rattle.relay_net.proofs.Polls.{Ends, ready_ends}
+
+-- A request of a receive's shape that holds a buffer is that receive.
+recv_holding : (h : ℕ) (b : Buffer) (now : Request Buffer Parts) → shape_of now ≡ Recv h tt → held_of now ≡ One b → now ≡ Recv h b
+recv_holding h b (Recv fd buf) same held = cc
+recv_holding h b (ReadVec fd parts) same held = absurd cc
+recv_holding h b (Send fd buf) same held = absurd cc
+recv_holding h b (WriteVec fd parts) same held = absurd cc
+recv_holding h b (RecvMsg fd buf) same held = absurd cc
+recv_holding h b (SendMsg fd addr buf) same held = absurd cc
+recv_holding h b (Read fd pos buf) same held = absurd cc
+recv_holding h b (Write fd pos buf) same held = absurd cc
+recv_holding h b (SpliceTo fd pipe len) same held = absurd cc
+recv_holding h b (SpliceFrom pipe fd len) same held = absurd cc
+recv_holding h b (Accept fd) same held = absurd cc
+recv_holding h b (Open path flags mode) same held = absurd cc
+recv_holding h b (Connect fd addr) same held = absurd cc
+recv_holding h b (Fsync fd data_only) same held = absurd cc
+recv_holding h b (PollAdd fd read) same held = absurd cc
+recv_holding h b (MkDir path mode) same held = absurd cc
+recv_holding h b (Rename from to) same held = absurd cc
+recv_holding h b (Unlink path remove_dir) same held = absurd cc
+
+-- The bytes that an empty buffer shows once some were stored that fit.
+stored_shows : (bytes : List ℕ) → length bytes ≤ 4096 → shown (stored empty_buffer bytes) ≡ bytes
+stored_shows bytes within = take_all 4096 bytes within
+
+-- What a receive brought, by how its call ended.
+abbrev pub Brings : IoView → IoView → Bool → ℕ → Outcome → List ℕ → Type 0
+Brings old new tells from (Count k) bytes = (length bytes ≡ k) × (IsTrue tells
+    → (bytes ++ input_at new.world from ≡ input_at old.world from) × IsTaken old.world from new.world)
+Brings old new tells from (From k addr) bytes = (length bytes ≡ k) × (IsTrue tells
+    → (bytes ++ input_at new.world from ≡ input_at old.world from) × IsTaken old.world from new.world)
+Brings old new tells from (Made h) bytes = ⊥
+Brings old new tells from (Fail error) bytes = Rose old.fails new.fails × (IsTrue tells → new.world ≡ old.world)
+
+-- What the call of a receive brought, with the request that came back.
+pub record Brought (old new : IoView) (tells : Bool) (from : ℕ) (call : Outcome) (now : Request Buffer Parts) : Type 0 where
+  pub buf : Buffer
+  pub request_is : now ≡ Recv from buf
+  pub unmade : made_by call ≡ None
+  pub brings : Brings old new tells from call (shown buf)
+
+-- Once the first bytes of its input left, a handle has the rest.
+input_rest : (k : ℕ) (found : Option HandleState)
+    → unwrap_or (option_map (λ handle. handle.input) (option_map (without_front k) found)) []
+    ≡ drop k (unwrap_or (option_map (λ handle. handle.input) found) [])
+input_rest zero None = refl
+input_rest (suc k) None = refl
+input_rest k (Some handle) = refl
+
+input_left : (k h : ℕ) (world : List HandleState) → input_at (amended world h (without_front k)) h ≡ drop k (input_at world h)
+input_left k h world =
+    ap (λ found. unwrap_or (option_map (λ handle. handle.input) found) []) (get-amended (without_front k) world h)
+    ∙ input_rest k (slice_get world h)
+
+-- Bytes that came are those that left the input.
+filled_moves : (k : ℕ) (old new : List HandleState) (from : ℕ) (bytes : List ℕ) (buf : Buffer) (now : Request Buffer Parts) (call : Outcome)
+    → length bytes ≡ k → k ≤ 4096 → shown buf ≡ bytes → now ≡ Recv from buf
+    → ((e : ℕ) → call ≡ Fail e → ⊥) → ((j : ℕ) → call ≡ Count j → j ≡ k)
+    → IsMoved old (Recv from empty_buffer) new now call
+    → (shown buf ++ input_at new from ≡ input_at old from) × IsTaken old from new
+filled_moves k old new from bytes buf now call size within shows is sound counts moved = by-told moved.told refl
+  where
+    by-told : (t : Told) → moved.told ≡ t → (shown buf ++ input_at new from ≡ input_at old from) × IsTaken old from new
+    by-told (told.Fail e) t = absurd (sound e (moved.outcome_is
+        ∙ ap (λ x. (call_effect old (Recv from empty_buffer) x).outcome) t))
+    by-told (told.Count j) t =
+        let e : j ≡ k = counts j (moved.outcome_is
+        ∙ ap (λ x. (call_effect old (Recv from empty_buffer) x).outcome) t) in
+        let fits = length-take j (input_at old from) in
+        let few : length (take j (input_at old from)) ≤ 4096 = omega (arith, fits, e, within) in
+        let holds : One buf ≡ One (stored empty_buffer (take j (input_at old from))) = sym (ap held_of is) ∙ (moved.holds.holds
+        ∙ ap (λ x. held (Recv from empty_buffer) x
+        (call_effect old (Recv from empty_buffer) x).got) t) in
+        let same : buf ≡ stored empty_buffer (take j (input_at old from)) = cc in
+        let world : new ≡ amended old from (without_front j) = moved.world
+        ∙ ap (λ x. (call_effect old (Recv from empty_buffer) x).world) t in (
+          ap (λ bs. bs ++ input_at new from) (ap shown same ∙ stored_shows (take j (input_at old from)) few)
+              ∙ (ap (λ w. take j (input_at old from) ++ input_at w from) world
+              ∙ (ap (λ rest. take j (input_at old from) ++ rest) (input_left j from old) ∙ take-append-drop j (input_at old from))),
+          inr (j, world),
+        )
+
+-- A call that failed moved nothing.
+pub failed_unmoved : (old new : List HandleState) (request now : Request Buffer Parts) (error : ℕ)
+    → ((k : ℕ) → Fail error ≡ (call_effect old request (told.Count k)).outcome → ⊥) → IsMoved old request new now (Fail error) → new ≡ old
+failed_unmoved old new request now error counts moved = by-told moved.told refl
+  where
+    by-told : (t : Told) → moved.told ≡ t → new ≡ old
+    by-told (told.Count k) t = absurd (counts k (moved.outcome_is
+        ∙ ap (λ x. (call_effect old request x).outcome) t))
+    by-told (told.Fail e) t = moved.world ∙ ap (λ x. (call_effect old request x).world) t
+
+-- A call of a receive that ended so.
+recv_brought : (old new : IoView) (tells memory : Bool) (from : ℕ) (call : Outcome) (now : Request Buffer Parts)
+    → IsMade tells memory old (Recv from empty_buffer) new now call → EndsFor (Recv from empty_buffer) now call
+    → FailRose call old.fails new.fails → Brought old new tells from call now
+recv_brought old new tells memory from (Count k) now made ends rose =
+    let size = ends.count in
+    let wanted = ends.wanted in
+    let few : length ends.bytes ≤ 4096 = omega (arith, size, wanted) in
+    let within : k ≤ 4096 = omega (arith, size, few) in
+    let is = recv_holding from (stored empty_buffer ends.bytes) now ends.holds.shape ends.holds.holds in
+    let shows = stored_shows ends.bytes few in
+    record {
+      buf = stored empty_buffer ends.bytes;
+      request_is = is;
+      unmade = refl;
+      brings = (
+        ap length shows ∙ size,
+        λ t. filled_moves k old.world new.world from ends.bytes (stored empty_buffer ends.bytes) now (Count k) size within shows is
+            (λ e same. absurd cc) (λ j same. cc) (made.moved t),
+      );
+    }
+recv_brought old new tells memory from (From k addr) now made ends rose =
+    let size = ends.count in
+    let wanted = ends.wanted in
+    let few : length ends.bytes ≤ 4096 = omega (arith, size, wanted) in
+    let within : k ≤ 4096 = omega (arith, size, few) in
+    let is = recv_holding from (stored empty_buffer ends.bytes) now ends.holds.shape ends.holds.holds in
+    let shows = stored_shows ends.bytes few in
+    record {
+      buf = stored empty_buffer ends.bytes;
+      request_is = is;
+      unmade = refl;
+      brings = (
+        ap length shows ∙ size,
+        λ t. filled_moves k old.world new.world from ends.bytes (stored empty_buffer ends.bytes) now (From k addr) size within shows is
+            (λ e same. absurd cc) (λ j same. absurd cc) (made.moved t),
+      );
+    }
+recv_brought old new tells memory from (Made h) now made ends rose =
+    let no : ◌≡◌ {A = Bool} false true = ends.0 in absurd cc
+recv_brought old new tells memory from (Fail error) now made ends rose = record {
+  buf = empty_buffer;
+  request_is = ends;
+  unmade = refl;
+  brings = (
+    rose,
+    λ t. failed_unmoved old.world new.world (Recv from empty_buffer) now error (λ k same. absurd cc)
+        (made.moved t),
+  );
+}
+
+-- What a send took, by how its call ended.
+abbrev pub Takes : IoView → IoView → Bool → ℕ → Outcome → List ℕ → Type 0
+Takes old new tells to (Count k) bytes = IsTrue tells
+    → (IsStream old.world to → output_at new.world to ++ drop k bytes ≡ output_at old.world to ++ bytes) × IsSentTo old.world to new.world
+Takes old new tells to (From k addr) bytes = IsTrue tells
+    → (IsStream old.world to → output_at new.world to ++ drop k bytes ≡ output_at old.world to ++ bytes) × IsSentTo old.world to new.world
+Takes old new tells to (Made h) bytes = ⊥
+Takes old new tells to (Fail error) bytes = Rose old.fails new.fails × (IsTrue tells → new.world ≡ old.world)
+
+-- Bytes that are sent to a stream join its output.
+output_joined : (bytes : List ℕ) (handle : HandleState) → handle.kind ≡ Stream
+    → (with_sent bytes handle).output ≡ handle.output ++ bytes
+output_joined bytes handle kind = ap (λ k. (sent_to_kind k bytes handle).output) kind
+
+output_after : (bytes : List ℕ) (h : ℕ) (world : List HandleState) → IsStream world h
+    → output_at (amended world h (with_sent bytes)) h ≡ output_at world h ++ bytes
+output_after bytes h world stream =
+    ap (λ found. unwrap_or (option_map (λ handle. handle.output) found) [])
+    (get-amended (with_sent bytes) world h ∙ ap (option_map (with_sent bytes)) stream.there)
+    ∙ (output_joined bytes stream.handle stream.kind
+    ∙ ap (λ found. unwrap_or (option_map (λ handle. handle.output) found) [] ++ bytes) (sym stream.there))
+
+-- Bytes that were taken of a send joined the output.
+taken_moves : (k : ℕ) (old new : List HandleState) (to : ℕ) (buf : Buffer) (now : Request Buffer Parts) (call : Outcome)
+    → k ≤ length (take MOST_ASKED (shown buf)) → ((e : ℕ) → call ≡ Fail e → ⊥) → ((j : ℕ) → call ≡ Count j → j ≡ k)
+    → IsMoved old (Send to buf) new now call
+    → (IsStream old to → output_at new to ++ drop k (shown buf) ≡ output_at old to ++ shown buf) × IsSentTo old to new
+taken_moves k old new to buf now call within sound counts moved = by-told moved.told refl
+  where
+    by-told : (t : Told) → moved.told ≡ t
+        → (IsStream old to → output_at new to ++ drop k (shown buf) ≡ output_at old to ++ shown buf) × IsSentTo old to new
+    by-told (told.Fail e) t = absurd (sound e (moved.outcome_is ∙ ap (λ x. (call_effect old (Send to buf) x).outcome) t))
+    by-told (told.Count j) t =
+        let e : j ≡ k = counts j (moved.outcome_is ∙ ap (λ x. (call_effect old (Send to buf) x).outcome) t) in
+        let size = length-take MOST_ASKED (shown buf) in
+        let most : k ≤ MOST_ASKED = omega (arith, within, size) in
+        let front : take k (take MOST_ASKED (shown buf)) ≡ take k (shown buf) = take-take k MOST_ASKED (shown buf) most in
+        let world : new ≡ amended old to (with_sent (take k (take MOST_ASKED (shown buf)))) = moved.world
+        ∙ (ap (λ x. (call_effect old (Send to buf) x).world) t
+        ∙ ap (λ n. amended old to (with_sent (take n (take MOST_ASKED (shown buf))))) e) in (
+          λ stream. ap (λ w. output_at w to ++ drop k (shown buf)) world
+              ∙ (ap (λ bs. bs ++ drop k (shown buf)) (output_after (take k (take MOST_ASKED (shown buf))) to old stream)
+              ∙ (ap (λ bs. (output_at old to ++ bs) ++ drop k (shown buf)) front
+              ∙ (append_assoc (output_at old to) (take k (shown buf)) (drop k (shown buf))
+              ∙ ap (λ bs. output_at old to ++ bs) (take-append-drop k (shown buf))))),
+          inr (take k (take MOST_ASKED (shown buf)), world),
+        )
+
+-- What the call of a send took, with the request that came back, which is what it was.
+pub record Took (old new : IoView) (tells : Bool) (to : ℕ) (buf : Buffer) (call : Outcome) (now : Request Buffer Parts) : Type 0 where
+  pub request_is : now ≡ Send to buf
+  pub unmade : made_by call ≡ None
+  pub takes : Takes old new tells to call (shown buf)
+
+send_took : (old new : IoView) (tells memory : Bool) (to : ℕ) (buf : Buffer) (call : Outcome) (now : Request Buffer Parts)
+    → IsMade tells memory old (Send to buf) new now call → EndsFor (Send to buf) now call → FailRose call old.fails new.fails
+    → Took old new tells to buf call now
+send_took old new tells memory to buf (Count k) now made ends rose = record {
+  request_is = ends.1;
+  unmade = refl;
+  takes = λ t. taken_moves k old.world new.world to buf now (Count k) ends.0 (λ e same. absurd cc) (λ j same. cc) (made.moved t);
+}
+send_took old new tells memory to buf (From k addr) now made ends rose = record {
+  request_is = ends.1;
+  unmade = refl;
+  takes = λ t. taken_moves k old.world new.world to buf now (From k addr) ends.0 (λ e same. absurd cc) (λ j same. absurd cc)
+      (made.moved t);
+}
+send_took old new tells memory to buf (Made h) now made ends rose =
+    let no : ◌≡◌ {A = Bool} false true = ends.0 in absurd cc
+send_took old new tells memory to buf (Fail error) now made ends rose = record {
+  request_is = ends;
+  unmade = refl;
+  takes = (rose, λ t. failed_unmoved old.world new.world (Send to buf) now error (λ k same. absurd cc) (made.moved t));
+}
+
+-- A count that rose has risen still where it is no less.
+rose_later : (a b c : ℕ) → Rose a b → b ≤ c → Rose a c
+rose_later a b c rose more = omega (arith, rose, more)
+
+-- What is so of the object behind a call is so where no bytes moved since.
+brings_later : (old mid new : IoView) (tells : Bool) (from : ℕ) (call : Outcome) (bytes : List ℕ) → IsLater mid new
+    → (IsTrue tells → new.world ≡ mid.world) → Brings old mid tells from call bytes → Brings old new tells from call bytes
+brings_later old mid new tells from (Count k) bytes later world brings = (
+  brings.0,
+  λ t. (
+    ap (λ w. bytes ++ input_at w from) (world t) ∙ (brings.1 t).0,
+    subst (λ w. IsTaken old.world from w) (sym (world t)) (brings.1 t).1,
+  ),
+)
+brings_later old mid new tells from (From k addr) bytes later world brings = (
+  brings.0,
+  λ t. (
+    ap (λ w. bytes ++ input_at w from) (world t) ∙ (brings.1 t).0,
+    subst (λ w. IsTaken old.world from w) (sym (world t)) (brings.1 t).1,
+  ),
+)
+brings_later old mid new tells from (Made h) bytes later world brings = brings
+brings_later old mid new tells from (Fail error) bytes later world brings =
+    (rose_later old.fails mid.fails new.fails brings.0 later.fails, λ t. world t ∙ brings.1 t)
+
+takes_later : (old mid new : IoView) (tells : Bool) (to : ℕ) (call : Outcome) (bytes : List ℕ) → IsLater mid new
+    → (IsTrue tells → new.world ≡ mid.world) → Takes old mid tells to call bytes → Takes old new tells to call bytes
+takes_later old mid new tells to (Count k) bytes later world takes = λ t. (
+  λ stream. ap (λ w. output_at w to ++ drop k bytes) (world t) ∙ (takes t).0 stream,
+  subst (λ w. IsSentTo old.world to w) (sym (world t)) (takes t).1,
+)
+takes_later old mid new tells to (From k addr) bytes later world takes = λ t. (
+  λ stream. ap (λ w. output_at w to ++ drop k bytes) (world t) ∙ (takes t).0 stream,
+  subst (λ w. IsSentTo old.world to w) (sym (world t)) (takes t).1,
+)
+takes_later old mid new tells to (Made h) bytes later world takes = takes
+takes_later old mid new tells to (Fail error) bytes later world takes =
+    (rose_later old.fails mid.fails new.fails takes.0 later.fails, λ t. world t ∙ takes.1 t)
+
+module _ {I : Type 0} (view : I → IoView) (tells memory : Bool) (files : I → ℕ → Bool) (called : Called I)
+    (law : Lawful view tells memory called) where
+  -- An operation whose call made no handle: its outcome is that of the call, behind which no bytes moved.
+  record Settles (old new : LegacyState I Buf) (op : Op) (done : Ended Buf) (ends : Ends view tells memory files called law old new op done)
+      : Type 0 where
+    outcome : done.outcome ≡ ends.call
+    later : IsLater (view ends.mid.io) (view new.handling.io)
+    world : IsTrue tells → world_of view new ≡ (view ends.mid.io).world
+
+  settles : (old new : LegacyState I Buf) (op : Op) (done : Ended Buf) (ends : Ends view tells memory files called law old new op done)
+      → made_by ends.call ≡ None → Settles old new op done ends
+  settles old new op done ends none =
+      let out : done.outcome ≡ ends.call = ends.outcome ∙ same_outcome ends.mid.table ends.call none in
+      let unmade : made_by done.outcome ≡ None = ap made_by out ∙ none in
+      let handed : ends.handed ≡ ends.mid = subst (λ m. HandsOver view tells memory ends.mid m ends.handed) unmade ends.hands in
+      record {
+        outcome = out;
+        later = subst (λ h. IsLater (view h.io) (view new.handling.io)) handed ends.left_later;
+        world = λ t. ends.left_world t ∙ ap (λ h. (view h.io).world) handed;
+      }
+
+  -- What a poll that returned a receive brought.
+  pub received : (old new : LegacyState I Buf) (op : Op) (done : Ended Buf) (task from : ℕ)
+      → LegacyPolls files built called view tells memory old new op task (Ok (Ready done))
+      → IsPending (ops_in old) op (IsReceive from)
+      → Brought (view old.handling.io) (view new.handling.io) tells from done.outcome (plain_request built done.request)
+      × (IsLater (view old.handling.io) (view new.handling.io) × KeepsUsers old.handling.table new.handling.table)
+  received old new op done task from polls pending =
+      let ends = ready_ends view tells memory files called law old new op done task (IsReceive from) polls pending in
+      let is : ends.request ≡ Recv from empty_buffer = subst (λ asked. IfAsked asked (IsReceive from)) ends.asked pending.asks in
+      let made : IsMade tells memory (view old.handling.io) (Recv from empty_buffer) (view ends.mid.io) (plain_request built done.request)
+      ends.call = subst (λ r. IsMade tells memory (view old.handling.io) r (view ends.mid.io) (plain_request built done.request) ends.call) is
+      ends.made in
+      let brought = recv_brought (view old.handling.io) (view ends.mid.io) tells memory from ends.call (plain_request built done.request) made
+      made.ends made.fails in
+      let s = settles old new op done ends brought.unmade in (
+        subst (λ o. Brought (view old.handling.io) (view new.handling.io) tells from o (plain_request built done.request)) (sym s.outcome)
+            (record {
+              buf = brought.buf;
+              request_is = brought.request_is;
+              unmade = brought.unmade;
+              brings = brings_later (view old.handling.io) (view ends.mid.io) (view new.handling.io) tells from ends.call
+                  (shown brought.buf) s.later s.world brought.brings;
+            }),
+        (later_then (view old.handling.io) (view ends.mid.io) (view new.handling.io) made.later s.later, ends.users),
+      )
+
+  -- What a poll that returned a send took.
+  pub sent : (old new : LegacyState I Buf) (op : Op) (done : Ended Buf) (task to count : ℕ)
+      → LegacyPolls files built called view tells memory old new op task (Ok (Ready done))
+      → (pending : IsPending (ops_in old) op (IsSend to count))
+      → (buf : Buffer) × ((asked_at (ops_in old) op ≡ Some (Send to buf))
+      × Took (view old.handling.io) (view new.handling.io) tells to buf done.outcome (plain_request built done.request)
+      × (IsLater (view old.handling.io) (view new.handling.io) × KeepsUsers old.handling.table new.handling.table))
+  sent old new op done task to count polls pending =
+      let ends = ready_ends view tells memory files called law old new op done task (IsSend to count) polls pending in
+      let is : IsSend to count ends.request = subst (λ asked. IfAsked asked (IsSend to count)) ends.asked pending.asks in
+      let made : IsMade tells memory (view old.handling.io) (Send to is.buf) (view ends.mid.io) (plain_request built done.request)
+      ends.call = subst (λ r. IsMade tells memory (view old.handling.io) r (view ends.mid.io) (plain_request built done.request) ends.call)
+      is.request_is ends.made in
+      let took = send_took (view old.handling.io) (view ends.mid.io) tells memory to is.buf ends.call (plain_request built done.request) made
+      made.ends made.fails in
+      let s = settles old new op done ends took.unmade in (
+        is.buf,
+        (
+          ends.asked ∙ ap Some is.request_is,
+          subst (λ o. Took (view old.handling.io) (view new.handling.io) tells to is.buf o (plain_request built done.request))
+              (sym s.outcome) (record {
+                request_is = took.request_is;
+                unmade = took.unmade;
+                takes = takes_later (view old.handling.io) (view ends.mid.io) (view new.handling.io) tells to ends.call (shown is.buf)
+                    s.later s.world took.takes;
+              }),
+          (later_then (view old.handling.io) (view ends.mid.io) (view new.handling.io) made.later s.later, ends.users),
+        ),
+      )

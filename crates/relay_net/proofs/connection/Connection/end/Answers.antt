@@ -1,0 +1,12 @@
+use Rattle.relay_net.specs.Connection.{far_of, near_of}
+use Rattle.relay_net.proofs.Connections.{abandons_ends, ends_then, releases_near}
+use Rattle.relay_net.proofs.connection.Connection.end.Goals as goal
+
+pub returns-clause-ends : goal.returns-clause-ends
+returns-clause-ends g c =
+    let near = near_of c.args.self in
+    let far = far_of c.args.self in
+    ends_then g.I.NonBlock.view g.I.NonBlock.tells c.args.driver.now c.abandon.new.driver c.release.new.driver near far
+    (abandons_ends g.I.NonBlock.view g.I.NonBlock.tells c.args.driver.now c.abandon.new.driver near far c.abandon.ensures.drops)
+    (ends_then g.I.NonBlock.view g.I.NonBlock.tells c.abandon.new.driver c.end_back.new.driver c.release.new.driver near far c.end_back.ensures.ends
+    (releases_near g.I.NonBlock.view g.I.NonBlock.tells c.end_back.new.driver c.release.new.driver near far c.release.ensures.releases))

@@ -1,0 +1,25 @@
+use Rattle.std.proofs.Common.{ap}
+use Rattle.std.specs.FinMap as map
+use Rattle.relay_net.proofs.Opens.{opened_widens, unopened_fails, unopened_widens}
+use Rattle.relay_net.proofs.far.dial.Goals as goal
+
+pub returns-in-Ok-clause-widens : goal.returns-in-Ok-clause-widens
+returns-in-Ok-clause-widens g c =
+    (opened_widens g.I.NonBlock.view g.I.NonBlock.tells g.I.NonBlock.memory c.args.driver.now c.dial.new.self c.in-Ok.fd
+    c.in-Ok.ensures.opens c.dial.ensures.rest).0
+
+pub returns-in-Ok-clause-far : goal.returns-in-Ok-clause-far
+returns-in-Ok-clause-far g c =
+    (opened_widens g.I.NonBlock.view g.I.NonBlock.tells g.I.NonBlock.memory c.args.driver.now c.dial.new.self c.in-Ok.fd
+    c.in-Ok.ensures.opens c.dial.ensures.rest).1
+
+pub returns-in-Ok-clause-ops : goal.returns-in-Ok-clause-ops
+returns-in-Ok-clause-ops g c = λ op held asked. ap (λ m. map.get m op.key) c.dial.ensures.rest.slots
+
+pub returns-in-Err-clause-ops : goal.returns-in-Err-clause-ops
+returns-in-Err-clause-ops g c = λ op held asked. ap (λ m. map.get m op.key) c.dial.ensures.rest.slots
+
+pub returns-in-Err-clause-widens : goal.returns-in-Err-clause-widens
+returns-in-Err-clause-widens g c =
+    unopened_widens g.I.NonBlock.view g.I.NonBlock.tells g.I.NonBlock.memory c.args.driver.now c.dial.new.self c.in-Err.why
+    c.in-Err.ensures.opens c.dial.ensures.rest

@@ -1,0 +1,8 @@
+use Rattle.relay_net.specs.Flow.{IsReceive}
+use Rattle.relay_net.proofs.Flows.{dropped_abandons, receive_apart}
+use Rattle.relay_net.proofs.flow.drop_receive.Goals as goal
+
+pub returns-clause-drops : goal.returns-clause-drops
+returns-clause-drops g c =
+    dropped_abandons g.I.NonBlock.view g.I.NonBlock.tells g.I.NonBlock.memory c.args.driver.now c.drop_op.new.self c.args.op c.args.from
+    c.args.to (IsReceive c.args.from) c.drop_op.ensures.drops c.requires.pending (receive_apart c.args.from c.args.to)

@@ -1,0 +1,8 @@
+use Rattle.relay_net.specs.Flow.{IsSend}
+use Rattle.relay_net.proofs.Flows.{dropped_abandons, send_apart}
+use Rattle.relay_net.proofs.flow.drop_send.Goals as goal
+
+pub returns-clause-drops : goal.returns-clause-drops
+returns-clause-drops g c =
+    dropped_abandons g.I.NonBlock.view g.I.NonBlock.tells g.I.NonBlock.memory c.args.driver.now c.drop_op.new.self c.args.op c.args.from
+    c.args.to (IsSend c.args.to c.args.count) c.drop_op.ensures.drops c.requires.pending (send_apart c.args.from c.args.to c.args.count)

@@ -1,0 +1,39 @@
+use Rattle.relay_net.proofs.Opens.{accept_ends, accept_starves, accept_waits, accepted_for}
+use Rattle.relay_net.proofs.opening.poll_accept.Goals as goal
+
+pub returns-in-Ok-Pending-clause-widens : goal.returns-in-Ok-Pending-clause-widens
+returns-in-Ok-Pending-clause-widens g c =
+    (accept_waits g.I.NonBlock.view g.I.NonBlock.tells g.I.NonBlock.memory g.I.NonBlock.files g.I.Calls.called g.met.I.NonBlock.calls
+    c.args.driver.now c.poll_op.new.self c.args.op c.in-Ok-Pending.op c.in-Ok-Pending.field-0 0 c.args.listener
+    c.in-Ok-Pending.field-0-is c.in-Ok-Pending.ensures.polls c.in-Ok-Pending.ensures.tokens c.requires.pending).0
+
+pub returns-in-Ok-Pending-clause-accepted : goal.returns-in-Ok-Pending-clause-accepted
+returns-in-Ok-Pending-clause-accepted g c =
+    (accept_waits g.I.NonBlock.view g.I.NonBlock.tells g.I.NonBlock.memory g.I.NonBlock.files g.I.Calls.called g.met.I.NonBlock.calls
+    c.args.driver.now c.poll_op.new.self c.args.op c.in-Ok-Pending.op c.in-Ok-Pending.field-0 0 c.args.listener
+    c.in-Ok-Pending.field-0-is c.in-Ok-Pending.ensures.polls c.in-Ok-Pending.ensures.tokens c.requires.pending).1
+
+pub returns-in-Ok-Ready-clause-widens : goal.returns-in-Ok-Ready-clause-widens
+returns-in-Ok-Ready-clause-widens g c =
+    (accept_ends g.I.NonBlock.view g.I.NonBlock.tells g.I.NonBlock.memory g.I.NonBlock.files g.I.Calls.called g.met.I.NonBlock.calls
+    c.args.driver.now c.poll_op.new.self c.args.op c.in-Ok-Ready.field-0 c.in-Ok-Ready.done 0 c.args.listener
+    c.in-Ok-Ready.field-0-is c.in-Ok-Ready.ensures.polls c.requires.pending).0
+
+pub returns-in-Ok-Ready-clause-accepted : goal.returns-in-Ok-Ready-clause-accepted
+returns-in-Ok-Ready-clause-accepted g c =
+    accepted_for g.I.NonBlock.view c.args.driver.now c.poll_op.new.self c.args.listener c.in-Ok-Ready.done.outcome c.accepted_of.result
+    (accept_ends g.I.NonBlock.view g.I.NonBlock.tells g.I.NonBlock.memory g.I.NonBlock.files g.I.Calls.called g.met.I.NonBlock.calls
+    c.args.driver.now c.poll_op.new.self c.args.op c.in-Ok-Ready.field-0 c.in-Ok-Ready.done 0 c.args.listener
+    c.in-Ok-Ready.field-0-is c.in-Ok-Ready.ensures.polls c.requires.pending).1 c.accepted_of.ensures
+
+pub returns-in-Err-clause-widens : goal.returns-in-Err-clause-widens
+returns-in-Err-clause-widens g c =
+    (accept_starves g.I.NonBlock.view g.I.NonBlock.tells g.I.NonBlock.memory g.I.NonBlock.files g.I.Calls.called g.met.I.NonBlock.calls
+    c.args.driver.now c.poll_op.new.self c.args.op c.in-Err.op c.in-Err.field-0-0 0 c.args.listener c.in-Err.ensures.polls
+    c.in-Err.ensures.tokens c.requires.pending).0
+
+pub returns-in-Err-clause-accepted : goal.returns-in-Err-clause-accepted
+returns-in-Err-clause-accepted g c =
+    (accept_starves g.I.NonBlock.view g.I.NonBlock.tells g.I.NonBlock.memory g.I.NonBlock.files g.I.Calls.called g.met.I.NonBlock.calls
+    c.args.driver.now c.poll_op.new.self c.args.op c.in-Err.op c.in-Err.field-0-0 0 c.args.listener c.in-Err.ensures.polls
+    c.in-Err.ensures.tokens c.requires.pending).1

@@ -1,0 +1,35 @@
+use Rattle.std.proofs.Common.{rules}
+use Rattle.relay_net.proofs.Opens.{opening_starts}
+use Rattle.relay_net.proofs.Relays.{stops_later}
+use Rattle.relay_net.proofs.relay.accept.Goals as goal
+
+pub returns-in_err-begin_accept-clause-opening : goal.returns-in_err-begin_accept-clause-opening
+returns-in_err-begin_accept-clause-opening g c = λ start was opening. c.begin_accept.ensures.opening start was opening
+
+pub returns-in_err-open_one-in-Made-clause-stops : goal.returns-in_err-open_one-in-Made-clause-stops
+returns-in_err-open_one-in-Made-clause-stops g c =
+    stops_later (g.I.NonBlock.view c.args.state.now.driver.handling.io) (g.I.NonBlock.view c.arrive.new.state.driver.handling.io)
+    (g.I.NonBlock.view c.open_one.new.state.driver.handling.io) c.from_residual-in_err-open_one-in-Made.result
+    (c.arrive.ensures.opening c.args.state.now.driver c.args.state.now.open.items
+    (c.begin_accept.ensures.opening c.args.state.now.driver c.args.state.now.open.items
+    (opening_starts g.I.NonBlock.view g.I.NonBlock.tells c.args.state.now.driver c.args.state.now.open.items))).later (search rules)
+
+pub returns-in-Nothing-clause-opening : goal.returns-in-Nothing-clause-opening
+returns-in-Nothing-clause-opening g c = λ start was opening.
+    c.arrive.ensures.opening start was (c.begin_accept.ensures.opening start was opening)
+
+pub returns-in-OutOfMemory-clause-opening : goal.returns-in-OutOfMemory-clause-opening
+returns-in-OutOfMemory-clause-opening g c = λ start was opening.
+    c.arrive.ensures.opening start was (c.begin_accept.ensures.opening start was opening)
+
+pub returns-in-Failed-clause-opening : goal.returns-in-Failed-clause-opening
+returns-in-Failed-clause-opening g c = λ start was opening.
+    c.arrive.ensures.opening start was (c.begin_accept.ensures.opening start was opening)
+
+pub returns-in_err-open_one-in-Made-clause-opening : goal.returns-in_err-open_one-in-Made-clause-opening
+returns-in_err-open_one-in-Made-clause-opening g c = λ start was opening.
+    c.open_one.ensures.opening start was (c.arrive.ensures.opening start was (c.begin_accept.ensures.opening start was opening))
+
+pub returns-in_ok-open_one-in-Made-clause-opening : goal.returns-in_ok-open_one-in-Made-clause-opening
+returns-in_ok-open_one-in-Made-clause-opening g c = λ start was opening.
+    c.open_one.ensures.opening start was (c.arrive.ensures.opening start was (c.begin_accept.ensures.opening start was opening))

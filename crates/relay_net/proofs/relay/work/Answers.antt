@@ -1,0 +1,35 @@
+use Rattle.std.proofs.Common.{◌∙◌, ap, subst, sym, []}
+use Rattle.relay_net.specs.Relay.{Serving}
+use Rattle.relay_net.proofs.Opens.{opening_serving, opening_starts}
+use Rattle.relay_net.proofs.Relays.{stops_later}
+use Rattle.relay_net.proofs.relay.work.Goals as goal
+
+pub returns-in_err-accept-clause-serving : goal.returns-in_err-accept-clause-serving
+returns-in_err-accept-clause-serving g c = λ start was opening.
+    subst (λ closed. Serving g.I.NonBlock.view g.I.NonBlock.tells start was c.accept.new.state.driver
+    c.accept.new.state.open.items closed c.accept.new.lists.ended.failed.items)
+    (sym (ap (λ e. e.closed.items) c.accept.ensures.ended ∙ c.requires.none.0))
+    (subst (Serving g.I.NonBlock.view g.I.NonBlock.tells start was c.accept.new.state.driver
+    c.accept.new.state.open.items [])
+    (sym (ap (λ e. e.failed.items) c.accept.ensures.ended ∙ c.requires.none.1))
+    (opening_serving g.I.NonBlock.view g.I.NonBlock.tells start c.accept.new.state.driver was
+    c.accept.new.state.open.items (c.accept.ensures.opening start was opening)))
+
+pub returns-clause-serving : goal.returns-clause-serving
+returns-clause-serving g c = λ start was opening.
+    c.serve_all.ensures.serving start was
+    (subst (λ closed. Serving g.I.NonBlock.view g.I.NonBlock.tells start was c.accept.new.state.driver
+    c.accept.new.state.open.items closed c.accept.new.lists.ended.failed.items)
+    (sym (ap (λ e. e.closed.items) c.accept.ensures.ended ∙ c.requires.none.0))
+    (subst (Serving g.I.NonBlock.view g.I.NonBlock.tells start was c.accept.new.state.driver
+    c.accept.new.state.open.items [])
+    (sym (ap (λ e. e.failed.items) c.accept.ensures.ended ∙ c.requires.none.1))
+    (opening_serving g.I.NonBlock.view g.I.NonBlock.tells start c.accept.new.state.driver was
+    c.accept.new.state.open.items (c.accept.ensures.opening start was opening))))
+
+pub returns-clause-stops : goal.returns-clause-stops
+returns-clause-stops g c =
+    stops_later (g.I.NonBlock.view c.args.state.now.driver.handling.io) (g.I.NonBlock.view c.accept.new.state.driver.handling.io)
+    (g.I.NonBlock.view c.serve_all.new.state.driver.handling.io) c.serve_all.result
+    (c.accept.ensures.opening c.args.state.now.driver c.args.state.now.open.items
+    (opening_starts g.I.NonBlock.view g.I.NonBlock.tells c.args.state.now.driver c.args.state.now.open.items)).later c.serve_all.ensures.stops

@@ -1,0 +1,73 @@
+use Rattle.std.proofs.Common.{◌≡◌, ◌∙◌, ◌+◌, subst, arith}
+use Rattle.std.specs.Vec.{vec_len}
+use Rattle.relay_net.specs.Relay.{GoesOn}
+use Rattle.relay_net.proofs.Calls.{later_then}
+use Rattle.relay_net.proofs.state.serve_all.Goals as goal
+
+pub returns-in_err-serve_at-clause-serving : goal.returns-in_err-serve_at-clause-serving
+returns-in_err-serve_at-clause-serving g c = λ start was serving.
+    c.serve_at.ensures.serving start was (c.loop-at.invariant.serving start was serving)
+
+pub loop-at-preserved-then-branch : goal.loop-at-preserved-then-branch
+loop-at-preserved-then-branch g c =
+    let goes : vec_len c.serve_at.new.state.open ≡ vec_len c.loop-at.state.open =
+    subst (λ b. GoesOn b (vec_len c.loop-at.state.open) (vec_len c.serve_at.new.state.open)) c.if-branch.true
+    c.in_ok-serve_at.ensures.len in
+    let test = c.loop-at-test.true in
+    let size = c.len.ensures in
+    let before = c.loop-at.invariant in
+    let within = before.within in
+    let fewer = before.fewer in
+    let given = before.given in
+    let closed = before.closed in
+    let failed = before.failed in
+    let now = c.serve_at.ensures in
+    let more = now.given in
+    let room_closed = now.room.0 in
+    let cap_closed = now.room.1 in
+    let room_failed = now.room.2 in
+    let cap_failed = now.room.3 in
+    record {
+      sound = now.sound;
+      serving = λ start was serving. now.serving start was (before.serving start was serving);
+      later = later_then (g.I.NonBlock.view c.args.state.now.driver.handling.io) (g.I.NonBlock.view c.loop-at.state.driver.handling.io)
+          (g.I.NonBlock.view c.serve_at.new.state.driver.handling.io) before.later now.later;
+      same = (now.same.0 ∙ before.same.0, now.same.1 ∙ before.same.1);
+      within = omega (arith, test, size, within, goes);
+      fewer = omega (arith, fewer, goes);
+      given = omega (arith, test, size, given, more, goes);
+      closed = omega (arith, closed, room_closed, cap_closed, goes);
+      failed = omega (arith, failed, room_failed, cap_failed, goes);
+    }
+
+pub loop-at-preserved : goal.loop-at-preserved
+loop-at-preserved g c =
+    let goes : vec_len c.serve_at.new.state.open + 1 ≡ vec_len c.loop-at.state.open =
+    subst (λ b. GoesOn b (vec_len c.loop-at.state.open) (vec_len c.serve_at.new.state.open)) c.if-branch.false
+    c.in_ok-serve_at.ensures.len in
+    let test = c.loop-at-test.true in
+    let size = c.len.ensures in
+    let before = c.loop-at.invariant in
+    let within = before.within in
+    let fewer = before.fewer in
+    let given = before.given in
+    let closed = before.closed in
+    let failed = before.failed in
+    let now = c.serve_at.ensures in
+    let more = now.given in
+    let room_closed = now.room.0 in
+    let cap_closed = now.room.1 in
+    let room_failed = now.room.2 in
+    let cap_failed = now.room.3 in
+    record {
+      sound = now.sound;
+      serving = λ start was serving. now.serving start was (before.serving start was serving);
+      later = later_then (g.I.NonBlock.view c.args.state.now.driver.handling.io) (g.I.NonBlock.view c.loop-at.state.driver.handling.io)
+          (g.I.NonBlock.view c.serve_at.new.state.driver.handling.io) before.later now.later;
+      same = (now.same.0 ∙ before.same.0, now.same.1 ∙ before.same.1);
+      within = omega (arith, test, size, within, goes);
+      fewer = omega (arith, fewer, goes);
+      given = omega (arith, test, size, given, more, goes);
+      closed = omega (arith, closed, room_closed, cap_closed, goes);
+      failed = omega (arith, failed, room_failed, cap_failed, goes);
+    }

@@ -1,0 +1,50 @@
+use Rattle.std.proofs.Common.{refl, subst, slice_set}
+use Rattle.std.proofs.lemmas.Option.{slice_get_read}
+use Rattle.ready_driver.specs.LegacyState.{ops_in}
+use Rattle.relay_net.specs.Connection.{IsOverIf}
+use Rattle.relay_net.proofs.Places.{get_set}
+use Rattle.relay_net.proofs.Relays.{found_same, serving_set, sound_set}
+use Rattle.relay_net.proofs.state.serve_one.Goals as goal
+
+pub serve-requires-clause-fits : goal.serve-requires-clause-fits
+serve-requires-clause-fits g c =
+    (c.requires.sound.served.each c.args.at c.index_mut.result.now
+    (slice_get_read c.args.state.now.open.items _ c.args.at c.index_mut.result.now refl c.requires.placed c.index_mut.ensures.value)).fits
+
+pub serve-requires-clause-near : goal.serve-requires-clause-near
+serve-requires-clause-near g c =
+    (c.requires.sound.served.each c.args.at c.index_mut.result.now
+    (slice_get_read c.args.state.now.open.items _ c.args.at c.index_mut.result.now refl c.requires.placed c.index_mut.ensures.value)).near
+
+pub serve-requires-clause-far : goal.serve-requires-clause-far
+serve-requires-clause-far g c =
+    (c.requires.sound.served.each c.args.at c.index_mut.result.now
+    (slice_get_read c.args.state.now.open.items _ c.args.at c.index_mut.result.now refl c.requires.placed c.index_mut.ensures.value)).far
+
+pub returns-clause-sound : goal.returns-clause-sound
+returns-clause-sound g c =
+    sound_set g.I.NonBlock.view g.I.NonBlock.tells c.args.state.now.driver c.serve.new.driver c.args.state.now.listener
+    c.args.state.now.accept c.args.state.now.open.items c.args.at c.index_mut.result.now c.serve.new.conn c.serve.result c.requires.sound
+    (slice_get_read c.args.state.now.open.items _ c.args.at c.index_mut.result.now refl c.requires.placed c.index_mut.ensures.value)
+    c.serve.ensures.serves
+
+pub returns-clause-serving : goal.returns-clause-serving
+returns-clause-serving g c = λ start was closed failed serving.
+    serving_set g.I.NonBlock.view g.I.NonBlock.tells start c.args.state.now.driver c.serve.new.driver was c.index_mut.result.now
+    c.serve.new.conn c.serve.result c.args.state.now.open.items c.args.at closed failed c.args.state.now.listener c.requires.sound.served
+    (slice_get_read c.args.state.now.open.items _ c.args.at c.index_mut.result.now refl c.requires.placed c.index_mut.ensures.value)
+    c.serve.ensures.serves serving
+
+pub returns-clause-over : goal.returns-clause-over
+returns-clause-over g c = λ conn at.
+    subst (λ one. IsOverIf (ops_in c.serve.new.driver) one c.serve.result)
+    (found_same _ c.serve.new.conn conn
+    (get_set c.args.state.now.open.items c.args.at c.index_mut.result.now c.serve.new.conn
+    (slice_get_read c.args.state.now.open.items _ c.args.at c.index_mut.result.now refl c.requires.placed c.index_mut.ensures.value)) at)
+    c.serve.ensures.over
+
+pub returns-clause-later : goal.returns-clause-later
+returns-clause-later g c = c.serve.ensures.serves.leaves.later
+
+pub returns-clause-cause : goal.returns-clause-cause
+returns-clause-cause g c = c.serve.ensures.serves.cause

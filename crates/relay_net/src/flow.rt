@@ -1,0 +1,465 @@
+// One direction of a connection: bytes come at a handle, and go to another one.
+ghost use Rattle.std.specs.Prelude.{◌≡◌, ◌≤◌, ◌<◌, ◌+◌, ◌∷◌, [], false, None, IsTrue, IfOk, IfErr, drop, length};
+ghost use Rattle.rent_buf.specs.Buf.{built, content_of};
+ghost use Rattle.rent_buf.specs.Buffer.{Buffer, shown};
+ghost use Rattle.ring_core.specs.Effect.{made_by};
+ghost use Rattle.ring_core.specs.Request.{named, plain_request};
+ghost use Rattle.ring_core.specs.declared.request.Request.TheVariants.{Recv, Send};
+ghost use Rattle.ready_driver.specs.LegacyState.{holds_all, ops_in};
+ghost use Rattle.relay_net.specs.Flow.{FitsFlow, FitsStage, IsPending, IsReceive, IsSend, asked_at, bytes_sent, empty_buffer, held_in};
+ghost use Rattle.relay_net.specs.Keeping.{Stays, StopsAs, StopsFor};
+ghost use Rattle.relay_net.specs.Outcomes.{IsIdle, ReceivedAs, SentAs};
+ghost use Rattle.relay_net.specs.Steps.{Abandons, Begins, Flows};
+ghost use Rattle.driver_core.specs.Ops.{Ops};
+
+use crate::round::RelayError;
+use driver_core::{Done, MOST_GIVEN, Op, PollOp, SubmitError, SubmitFault};
+use handle_core::SharedFd;
+use op_driver::OpDriver;
+use ready_driver::{LegacyDriver, NonBlock};
+use rent_buf::{Buf, IoBuf, IoBufMut, OutOfMemory, Rent, SliceMut, VecBuf};
+use ring_core::{Outcome, Request};
+use std::alloc::Global;
+use std::mem;
+
+/// The most bytes that a receive of a relay asks for.
+pub const ROOM: usize = 4096;
+
+// The task of each operation of a relay, which polls each in each round.
+pub(crate) const TASK: u64 = 0;
+
+/// The relay's driver.
+pub(crate) type Reads<I> = LegacyDriver<I, Buf>;
+
+/// What one direction waits for, or holds.
+pub enum Stage {
+    /// It has nothing, but for memory that an earlier receive used.
+    Idle(Option<Rent>),
+    /// A receive waits.
+    Receiving(Op),
+    /// Bytes came that aren't sent.
+    Held(Buf),
+    /// A send of all that came waits.
+    Sending {
+        /// Its token.
+        op: Op,
+        /// How many bytes it has.
+        count: usize,
+    },
+}
+
+/// A direction: what comes at one handle goes to the other.
+pub struct Flow {
+    /// Where bytes come.
+    pub from: SharedFd,
+    /// Where they go.
+    pub to: SharedFd,
+    /// What waits, or is held.
+    pub stage: Stage,
+}
+
+/// What a step of a direction came to.
+#[derive(Clone, Copy)]
+pub enum Came {
+    /// Nothing came or went, or some did.
+    Goes,
+    /// A receive brought the end.
+    Ended,
+    /// Its operation failed, with this error number.
+    Failed(u16),
+    /// It was stopped: the next one goes on.
+    Stopped(RelayError),
+}
+
+// Why a round stops where a submission was refused.
+fn stop_of(why: SubmitFault) -> RelayError
+    ensures { StopsAs why result }
+{
+    match why {
+        SubmitFault::Os(_) => RelayError::Fault,
+        _ => RelayError::OutOfMemory,
+    }
+}
+
+// Submits a request. A refused one comes back.
+pub(crate) fn submit<I: NonBlock>(
+    driver: &mut Reads<I>,
+    request: Request<Buf, VecBuf>,
+) -> Result<Op, (RelayError, Request<Buf, VecBuf>)>
+    requires held { IsTrue (holds_all driver.old.handling.table (named request)) }
+    requires counter { driver.old.given < MOST_GIVEN }
+    ensures stays { Stays I.view I.tells driver.old driver.new }
+    ensures pends { IfOk result (λ op. IsPending (ops_in driver.new) op (λ asked. asked ≡ plain_request built request)) }
+    ensures back { IfErr result (λ refused. refused.1 ≡ request) }
+    ensures stops { IfErr result (λ refused. StopsFor (I.view driver.old.handling.io) (I.view driver.new.handling.io) refused.0) }
+    ensures given { driver.new.given ≤ driver.old.given + 1 }
+{
+    let _ = driver.given();
+    match driver.submit_op(request) {
+        Ok(op) => Ok(op),
+        Err(refused) => {
+            let SubmitError { why, request } = refused;
+            Err((stop_of(why), request))
+        }
+    }
+}
+
+// The buffer of a receive.
+fn received_buffer(request: Request<Buf, VecBuf>, from: SharedFd) -> Buf
+    requires { (buf : Buffer) × (plain_request built request ≡ Recv from buf) }
+    ensures { plain_request built request ≡ Recv from (built result) }
+{
+    let _ = from;
+    match request {
+        Request::Recv { fd: _, buf } => buf,
+        _ => unreachable!(),
+    }
+}
+
+// The buffer of a send.
+fn sent_buffer(request: Request<Buf, VecBuf>, to: SharedFd) -> Buf
+    requires { (buf : Buffer) × (plain_request built request ≡ Send to buf) }
+    ensures { plain_request built request ≡ Send to (built result) }
+{
+    let _ = to;
+    match request {
+        Request::Send { fd: _, buf } => buf,
+        _ => unreachable!(),
+    }
+}
+
+// The memory of a buffer that is used no more.
+fn spare_of(buf: Buf) -> Option<Rent> {
+    match buf {
+        Buf::Vector(slice) => Some(slice.into_inner()),
+        _ => None,
+    }
+}
+
+// This memory, or else other, which has the whole room.
+fn roomy(alloc: Global, rent: Rent) -> Result<Rent, OutOfMemory>
+    ensures { IfOk result (λ roomy. roomy.total ≡ ROOM) }
+{
+    if rent.total() == ROOM {
+        return Ok(rent);
+    }
+    Rent::with_total(alloc, ROOM)
+}
+
+// An empty buffer for a receive, in memory that was used, where there is some.
+fn empty(alloc: Global, spare: Option<Rent>) -> Result<Buf, OutOfMemory>
+    ensures { IfOk result (λ buf. built buf ≡ empty_buffer) }
+{
+    let mut rent = match spare {
+        Some(rent) => roomy(alloc, rent)?,
+        None => Rent::with_total(alloc, ROOM)?,
+    };
+    rent.clear();
+    Ok(Buf::Vector(SliceMut::new(rent, 0, ROOM)))
+}
+
+// A range without its first bytes.
+fn cut_range<T: IoBufMut>(slice: SliceMut<T>, count: usize) -> SliceMut<T>
+    requires { count ≤ length (shown slice.buffer) }
+    ensures { shown result.buffer ≡ drop count (shown slice.buffer) }
+{
+    slice.keeps_bounds();
+    let (begin, end) = (slice.begin() + count, slice.end());
+    SliceMut::new(slice.into_inner(), begin, end)
+}
+
+// A buffer without its first bytes.
+fn cut(buf: Buf, count: usize) -> Buf
+    requires { count ≤ length (content_of buf) }
+    ensures { content_of result ≡ drop count (content_of buf) }
+{
+    match buf {
+        Buf::Vector(slice) => Buf::Vector(cut_range(slice, count)),
+        Buf::Grown(slice) => Buf::Grown(cut_range(slice, count)),
+        Buf::Fixed(slice) => Buf::Fixed(cut_range(slice, count)),
+    }
+}
+
+// Submits a receive.
+fn receive<I: NonBlock>(
+    driver: &mut Reads<I>,
+    alloc: Global,
+    from: SharedFd,
+    to: SharedFd,
+    spare: Option<Rent>,
+) -> (Stage, Option<RelayError>)
+    requires held { IsTrue (holds_all driver.old.handling.table (from ∷ [])) }
+    requires counter { driver.old.given < MOST_GIVEN }
+    ensures begins { Begins I.view I.tells driver.old driver.new from to [] result.0 result.1 }
+    ensures given { driver.new.given ≤ driver.old.given + 1 }
+{
+    let _ = to;
+    let Ok(buf) = empty(alloc, spare) else {
+        return (Stage::Idle(None), Some(RelayError::OutOfMemory));
+    };
+    match submit(driver, Request::Recv { fd: from, buf }) {
+        Ok(op) => (Stage::Receiving(op), None),
+        Err((why, request)) => {
+            let buf = received_buffer(request, from);
+            (Stage::Idle(spare_of(buf)), Some(why))
+        }
+    }
+}
+
+// Submits a send of all bytes of a buffer.
+fn send<I: NonBlock>(
+    driver: &mut Reads<I>,
+    from: SharedFd,
+    to: SharedFd,
+    buf: Buf,
+) -> (Stage, Option<RelayError>)
+    requires held { IsTrue (holds_all driver.old.handling.table (to ∷ [])) }
+    requires counter { driver.old.given < MOST_GIVEN }
+    ensures begins { Begins I.view I.tells driver.old driver.new from to (content_of buf) result.0 result.1 }
+    ensures given { driver.new.given ≤ driver.old.given + 1 }
+{
+    let _ = from;
+    let count = buf.bytes_init();
+    match submit(driver, Request::Send { fd: to, buf }) {
+        Ok(op) => (Stage::Sending { op, count }, None),
+        Err((why, request)) => (Stage::Held(sent_buffer(request, to)), Some(why)),
+    }
+}
+
+// What follows the outcome of a receive.
+fn received(outcome: Outcome, buf: Buf) -> (Stage, Came)
+    requires unmade { made_by outcome ≡ None }
+    ensures ended { ReceivedAs outcome (content_of buf) result.0 result.1 }
+{
+    match outcome {
+        Outcome::Count(count) | Outcome::From(count, _) => {
+            if count > 0 {
+                return (Stage::Held(buf), Came::Goes);
+            }
+            (Stage::Idle(spare_of(buf)), Came::Ended)
+        }
+        Outcome::Fail(error) => (Stage::Idle(spare_of(buf)), Came::Failed(error)),
+        Outcome::Made(_) => unreachable!(),
+    }
+}
+
+// What follows the outcome of a send: what wasn't sent is held on.
+fn sent(outcome: Outcome, buf: Buf) -> (Stage, Came)
+    requires unmade { made_by outcome ≡ None }
+    ensures ended { SentAs outcome (content_of buf) result.0 result.1 }
+{
+    match outcome {
+        Outcome::Count(count) | Outcome::From(count, _) => {
+            if (count as usize) < buf.bytes_init() {
+                return (Stage::Held(cut(buf, count as usize)), Came::Goes);
+            }
+            (Stage::Idle(spare_of(buf)), Came::Goes)
+        }
+        Outcome::Fail(error) => (Stage::Held(buf), Came::Failed(error)),
+        Outcome::Made(_) => unreachable!(),
+    }
+}
+
+// Polls the receive that waits.
+fn poll_receive<I: NonBlock>(
+    driver: &mut Reads<I>,
+    op: Op,
+    from: SharedFd,
+    to: SharedFd,
+) -> (Stage, Came)
+    requires pending { IsPending (ops_in driver.old) op (IsReceive from) }
+    ensures flows { Flows I.view I.tells driver.old driver.new from to [] result.0 result.1 }
+    ensures given { driver.new.given ≡ driver.old.given }
+{
+    let _ = to;
+    match OpDriver::poll_op(driver, op, TASK) {
+        Ok(PollOp::Pending(op)) => (Stage::Receiving(op), Came::Goes),
+        Ok(PollOp::Ready(done)) => {
+            let Done { outcome, request } = done;
+            received(outcome, received_buffer(request, from))
+        }
+        Err((_, op)) => (Stage::Receiving(op), Came::Stopped(RelayError::OutOfMemory)),
+    }
+}
+
+// Polls the send that waits.
+fn poll_send<I: NonBlock>(
+    driver: &mut Reads<I>,
+    op: Op,
+    count: usize,
+    from: SharedFd,
+    to: SharedFd,
+) -> (Stage, Came)
+    requires pending { IsPending (ops_in driver.old) op (IsSend to count) }
+    ensures flows { Flows I.view I.tells driver.old driver.new from to (bytes_sent (asked_at (ops_in driver.old) op)) result.0 result.1 }
+    ensures given { driver.new.given ≡ driver.old.given }
+{
+    let _ = from;
+    match OpDriver::poll_op(driver, op, TASK) {
+        Ok(PollOp::Pending(op)) => (Stage::Sending { op, count }, Came::Goes),
+        Ok(PollOp::Ready(done)) => {
+            let Done { outcome, request } = done;
+            sent(outcome, sent_buffer(request, to))
+        }
+        Err((_, op)) => (
+            Stage::Sending { op, count },
+            Came::Stopped(RelayError::OutOfMemory),
+        ),
+    }
+}
+
+// Submits what a direction wants: a receive, where it has nothing and may receive, or a send of what it holds.
+#[tactic(auto, using(crate::proofs::Flows::still_begins))]
+fn begin<I: NonBlock>(
+    driver: &mut Reads<I>,
+    alloc: Global,
+    from: SharedFd,
+    to: SharedFd,
+    stage: Stage,
+    reads: bool,
+) -> (Stage, Option<RelayError>)
+    requires fits { FitsStage (ops_in driver.old) from to stage }
+    requires from { IsTrue (holds_all driver.old.handling.table (from ∷ [])) }
+    requires to { IsTrue (holds_all driver.old.handling.table (to ∷ [])) }
+    requires counter { driver.old.given < MOST_GIVEN }
+    ensures begins { Begins I.view I.tells driver.old driver.new from to (held_in (ops_in driver.old) stage) result.0 result.1 }
+    ensures quiet { reads ≡ false → IsIdle stage → IsIdle result.0 }
+    ensures given { driver.new.given ≤ driver.old.given + 1 }
+{
+    match stage {
+        Stage::Idle(spare) => {
+            if reads {
+                return receive(driver, alloc, from, to, spare);
+            }
+            (Stage::Idle(spare), None)
+        }
+        Stage::Held(buf) => send(driver, from, to, buf),
+        pending => (pending, None),
+    }
+}
+
+// Polls what waits.
+#[tactic(auto, using(crate::proofs::Flows::still_flows))]
+fn poll<I: NonBlock>(
+    driver: &mut Reads<I>,
+    from: SharedFd,
+    to: SharedFd,
+    stage: Stage,
+) -> (Stage, Came)
+    requires fits { FitsStage (ops_in driver.old) from to stage }
+    ensures flows { Flows I.view I.tells driver.old driver.new from to (held_in (ops_in driver.old) stage) result.0 result.1 }
+    ensures quiet { IsIdle stage → IsIdle result.0 }
+    ensures given { driver.new.given ≡ driver.old.given }
+{
+    match stage {
+        Stage::Receiving(op) => poll_receive(driver, op, from, to),
+        Stage::Sending { op, count } => poll_send(driver, op, count, from, to),
+        still => (still, Came::Goes),
+    }
+}
+
+// Puts what a direction has back, where that was taken out.
+fn put(slot: &mut Stage, stage: Stage)
+    requires { IsIdle slot.old }
+    ensures { slot.new ≡ stage }
+{
+    match mem::replace(slot, stage) {
+        Stage::Idle(_) => {}
+        _ => unreachable!(),
+    }
+}
+
+// A step of a direction: it submits what it wants, and polls once what waits.
+#[tactic(auto, using(crate::proofs::Flows::stopped_flows, crate::proofs::Flows::begun_flows))]
+pub(crate) fn step<I: NonBlock>(
+    driver: &mut Reads<I>,
+    alloc: Global,
+    flow: &mut Flow,
+    reads: bool,
+) -> Came
+    requires fits { FitsFlow (ops_in driver.old) flow.old }
+    requires from { IsTrue (holds_all driver.old.handling.table (flow.old.from ∷ [])) }
+    requires to { IsTrue (holds_all driver.old.handling.table (flow.old.to ∷ [])) }
+    requires counter { driver.old.given < MOST_GIVEN }
+    ensures same { (flow.new.from ≡ flow.old.from) × (flow.new.to ≡ flow.old.to) }
+    ensures flows { Flows I.view I.tells driver.old driver.new flow.old.from flow.old.to (held_in (ops_in driver.old) flow.old.stage)
+        flow.new.stage result }
+    // Where it may not receive, one that has nothing starts nothing.
+    ensures quiet { reads ≡ false → IsIdle flow.old.stage → IsIdle flow.new.stage }
+    ensures given { driver.new.given ≤ driver.old.given + 1 }
+{
+    let stage = mem::replace(&mut flow.stage, Stage::Idle(None));
+    let (stage, stop) = begin(driver, alloc, flow.from, flow.to, stage, reads);
+    if let Some(why) = stop {
+        put(&mut flow.stage, stage);
+        return Came::Stopped(why);
+    }
+    let (stage, came) = poll(driver, flow.from, flow.to, stage);
+    put(&mut flow.stage, stage);
+    came
+}
+
+// Drops a receive that waits.
+fn drop_receive<I: NonBlock>(driver: &mut Reads<I>, op: Op, from: SharedFd, to: SharedFd)
+    requires pending { IsPending (ops_in driver.old) op (IsReceive from) }
+    ensures drops { Abandons I.view I.tells driver.old from to driver.new }
+    ensures given { driver.new.given ≡ driver.old.given }
+{
+    let _ = (from, to);
+    OpDriver::drop_op(driver, op);
+}
+
+// Drops a send that waits.
+fn drop_send<I: NonBlock>(driver: &mut Reads<I>, op: Op, count: usize, from: SharedFd, to: SharedFd)
+    requires pending { IsPending (ops_in driver.old) op (IsSend to count) }
+    ensures drops { Abandons I.view I.tells driver.old from to driver.new }
+    ensures given { driver.new.given ≡ driver.old.given }
+{
+    let _ = (count, from, to);
+    OpDriver::drop_op(driver, op);
+}
+
+// Drops what waits.
+#[tactic(auto, using(crate::proofs::Flows::still_abandons))]
+pub(crate) fn abandon<I: NonBlock>(
+    driver: &mut Reads<I>,
+    from: SharedFd,
+    to: SharedFd,
+    stage: Stage,
+)
+    requires fits { FitsStage (ops_in driver.old) from to stage }
+    ensures drops { Abandons I.view I.tells driver.old from to driver.new }
+    ensures given { driver.new.given ≡ driver.old.given }
+{
+    match stage {
+        Stage::Receiving(op) => drop_receive(driver, op, from, to),
+        Stage::Sending { op, count } => drop_send(driver, op, count, from, to),
+        Stage::Idle(_) | Stage::Held(_) => {}
+    }
+}
+
+impl Flow {
+    // A direction that has nothing.
+    pub(crate) fn new(from: SharedFd, to: SharedFd) -> Flow
+        ensures handles { (result.from ≡ from) × (result.to ≡ to) }
+        ensures idle { IsIdle result.stage }
+    {
+        Flow {
+            from,
+            to,
+            stage: Stage::Idle(None),
+        }
+    }
+
+    // How many bytes it holds.
+    #[tactic(auto, using(crate::proofs::Flows::pending_count))]
+    pub(crate) fn held(&self) -> usize
+        ensures { (ops : Ops Buf) → FitsFlow ops self.now → result ≡ length (held_in ops self.now.stage) }
+    {
+        match &self.stage {
+            Stage::Idle(_) | Stage::Receiving(_) => 0,
+            Stage::Held(buf) => buf.bytes_init(),
+            Stage::Sending { op: _, count } => *count,
+        }
+    }
+}

@@ -1,0 +1,457 @@
+//! The relay: it accepts connections, and passes bytes between each and its other end.
+ghost use Rattle.std.specs.Prelude.{◌≡◌, ◌≤◌, ◌<◌, ◌+◌, [], true, None, List, Ok, Err, IfOk, IfErr};
+ghost use Rattle.std.specs.Vec.{vec_len, vec_capacity};
+ghost use Rattle.ready_driver.specs.Io.{IoView, IsLater};
+ghost use Rattle.ready_driver.specs.LegacyState.{LegacyState, ops_in};
+ghost use Rattle.ready_driver.specs.Registry.{is_users};
+ghost use Rattle.rent_buf.specs.declared.plain.Buf.{Buf};
+ghost use Rattle.relay_net.specs.declared.connection.Connection.{Connection as Conn};
+ghost use Rattle.relay_net.specs.Opening.{Opening, Widens};
+ghost use Rattle.relay_net.specs.Flow.{IsPending};
+ghost use Rattle.relay_net.specs.Relay.{AreServed, IsAccept, IsSound, Serving, StopsUnless};
+ghost use Rattle.relay_net.specs.Relaying.{RoundStops, TurnStops, round_of};
+
+use crate::connection::Connection;
+use crate::far::Far;
+use crate::flow::Reads;
+use crate::opening::{Arrival, arrive, begin_accept, open_one};
+use crate::round::{Lost, LostList, RelayError, Round};
+use crate::state::{Ended, State, serve_all};
+use driver_core::{Driver, MOST_GIVEN, Op, Stop};
+use handle_core::SharedFd;
+use op_driver::OpDriver;
+use ready_driver::{LegacyDriver, MemIo, Sockets};
+use rent_buf::{Buf, NumList, OutOfMemory};
+use ring_core::{Look, WorldError};
+use std::alloc::Global;
+use std::marker::Model;
+use std::sync::Wait;
+use std::sync::ledger::Ledger;
+use std::time::Clock;
+use wake_core::{Sleeper, WakerList, Woken};
+
+/// A relay over a readiness driver: it accepts connections at a handle, and passes bytes between each and its other end. (not in monoio)
+pub struct Relay<I: Sockets, F: Far<I>> {
+    state: State<I>,
+    limit: usize,
+    far: F,
+    alloc: Global,
+}
+
+impl<I: Sockets, F: Far<I>> Model for Relay<I, F> {
+    ghost use Rattle.std.specs.Coded.{codes};
+    ghost use Rattle.std.specs.Prelude.{◌≤◌};
+    ghost use Rattle.std.specs.Vec.{vec_len};
+    ghost use Rattle.ready_driver.specs.LegacyState.{legacy_code, ops_in};
+    ghost use Rattle.relay_net.specs.Relay.{IsSound};
+    ghost use Rattle.relay_net.specs.Relaying.{Relaying, relaying_code};
+
+    ghost Value = { Relaying I };
+
+    ghost coded = { relaying_code (legacy_code I.code (Prim.hlevel codes) (Prim.hlevel codes) (Prim.hlevel codes)) (Prim.hlevel codes)
+        (Prim.hlevel codes) };
+
+    ghost view = { λ r. record {
+      driver = r.state.driver;
+      listener = r.state.listener;
+      accept = r.state.accept;
+      open_ones = r.state.open.items;
+      limit = r.limit;
+    } };
+
+    ghost invariant = { λ r. IsSound (ops_in r.state.driver) r.state.driver.handling.table r.state.listener r.state.accept r.state.open.items
+        × (vec_len r.state.open ≤ r.limit) × (r.limit ≤ 64) };
+}
+
+// What a round did to connections.
+struct Lists {
+    opened: Vec<u64>,
+    accept: Option<u16>,
+    ended: Ended,
+}
+
+// Lists with room for so many connections that end, and for one that is opened.
+fn room_for(alloc: Global, count: usize) -> Result<Lists, OutOfMemory>
+    ensures none { IfOk result (λ lists. (lists.ended.closed.items ≡ []) × (lists.ended.failed.items ≡ [])) }
+    ensures len { IfOk result (λ lists. (vec_len lists.ended.closed ≡ 0) × (vec_len lists.ended.failed ≡ 0) × (vec_len lists.opened ≡ 0)) }
+    ensures room { IfOk result (λ lists. (vec_capacity lists.ended.closed ≡ count) × (vec_capacity lists.ended.failed ≡ count)
+        × (vec_capacity lists.opened ≡ 1)) }
+{
+    let opened = Vec::with_capacity(alloc, 1)?;
+    let closed = Vec::with_capacity(alloc, count)?;
+    let failed = Vec::with_capacity(alloc, count)?;
+    Ok(Lists {
+        opened,
+        accept: None,
+        ended: Ended { closed, failed },
+    })
+}
+
+// What a park drained that wasn't made.
+fn no_wakers(alloc: Global) -> Woken {
+    Woken {
+        first: WakerList::from_vec(Vec::new(alloc)),
+        again: WakerList::from_vec(Vec::new(alloc)),
+    }
+}
+
+// A round that did nothing.
+fn no_round(alloc: Global) -> Round
+    ensures { (result.closed ≡ []) × (result.failed ≡ []) }
+{
+    Round {
+        remote: no_wakers(alloc),
+        opened: NumList::new(alloc),
+        closed: NumList::new(alloc),
+        accept: None,
+        failed: LostList::new(alloc),
+    }
+}
+
+// What a round did.
+fn round_with(remote: Woken, lists: Lists) -> Round
+    ensures { (result.closed ≡ lists.ended.closed.items) × (result.failed ≡ lists.ended.failed.items) }
+{
+    let Lists {
+        opened,
+        accept,
+        ended,
+    } = lists;
+    let Ended { closed, failed } = ended;
+    Round {
+        remote,
+        opened: NumList::from_vec(opened),
+        closed: NumList::from_vec(closed),
+        accept,
+        failed: LostList::from_vec(failed),
+    }
+}
+
+// How a round goes on behind a turn.
+fn turn_stop(stop: Option<Stop>) -> Result<(), RelayError>
+    ensures { TurnStops stop result }
+{
+    match stop {
+        None => Ok(()),
+        Some(Stop::OutOfMemory) => Err(RelayError::OutOfMemory),
+        Some(_) => Err(RelayError::Fault),
+    }
+}
+
+// The turn of a round: a park that waits so many milliseconds at most, or a turn that doesn't wait.
+fn turn<R: Wait + Clock, I: Sockets, P: Ledger, D: Ledger>(
+    rt: &R,
+    alloc: Global,
+    state: &mut State<I>,
+    sleeper: &mut Sleeper<P, D>,
+    wait: Option<u64>,
+) -> (Woken, Result<(), RelayError>)
+    requires sound { IsSound (ops_in state.old.driver) state.old.driver.handling.table state.old.listener state.old.accept
+        state.old.open.items }
+    ensures sound { IsSound (ops_in state.new.driver) state.new.driver.handling.table state.new.listener state.new.accept
+        state.new.open.items }
+    ensures opening { Opening I.view I.tells state.old.driver state.old.open.items state.new.driver state.new.open.items }
+    ensures stops { StopsUnless (I.view state.old.driver.handling.io) (I.view state.new.driver.handling.io) result.1 }
+    ensures same { (state.new.listener ≡ state.old.listener) × (state.new.open ≡ state.old.open) }
+    ensures given { state.new.driver.given ≡ state.old.driver.given }
+{
+    match wait {
+        None => {
+            let turned = Driver::submit(&mut state.driver);
+            (no_wakers(alloc), turn_stop(turned.stop))
+        }
+        Some(millis) => {
+            let parked = state.driver.park_timeout(rt, sleeper, millis);
+            let turned = parked.turned;
+            (parked.remote, turn_stop(turned.stop))
+        }
+    }
+}
+
+// The accept of a round: it is submitted where none waits and there is a place, and polled once.
+fn accept<I: Sockets, F: Far<I>>(
+    state: &mut State<I>,
+    far: &mut F,
+    limit: usize,
+    lists: &mut Lists,
+) -> Result<(), RelayError>
+    requires sound { IsSound (ops_in state.old.driver) state.old.driver.handling.table state.old.listener state.old.accept
+        state.old.open.items }
+    requires counter { state.old.driver.given < MOST_GIVEN }
+    requires room { vec_len lists.old.opened < vec_capacity lists.old.opened }
+    requires places { vec_len state.old.open ≤ limit }
+    ensures sound { IsSound (ops_in state.new.driver) state.new.driver.handling.table state.new.listener state.new.accept
+        state.new.open.items }
+    ensures opening { (start : LegacyState I Buf) (was : List Conn)
+        → Opening I.view I.tells start was state.old.driver state.old.open.items
+        → Opening I.view I.tells start was state.new.driver state.new.open.items }
+    ensures stops { StopsUnless (I.view state.old.driver.handling.io) (I.view state.new.driver.handling.io) result }
+    ensures ended { lists.new.ended ≡ lists.old.ended }
+    ensures places { vec_len state.new.open ≤ limit }
+    ensures more { vec_len state.new.open ≤ vec_len state.old.open + 1 }
+    ensures given { state.new.driver.given ≤ state.old.driver.given + 1 }
+{
+    if state.open.len() >= limit {
+        return Ok(());
+    }
+    begin_accept(state)?;
+    match arrive(state) {
+        Arrival::Nothing => Ok(()),
+        Arrival::OutOfMemory => Err(RelayError::OutOfMemory),
+        Arrival::Failed(error) => {
+            lists.accept = Some(error);
+            Ok(())
+        }
+        Arrival::Made(near) => {
+            open_one(state, far, near)?;
+            lists.opened.push_reserved(near.number());
+            Ok(())
+        }
+    }
+}
+
+// What a round does behind a turn that didn't stop.
+fn work<I: Sockets, F: Far<I>>(
+    state: &mut State<I>,
+    far: &mut F,
+    limit: usize,
+    alloc: Global,
+    lists: &mut Lists,
+) -> Result<(), RelayError>
+    requires sound { IsSound (ops_in state.old.driver) state.old.driver.handling.table state.old.listener state.old.accept
+        state.old.open.items }
+    requires limit { limit ≤ 64 }
+    requires places { vec_len state.old.open ≤ limit }
+    requires counter { state.old.driver.given + 129 ≤ MOST_GIVEN }
+    requires opened { vec_len lists.old.opened < vec_capacity lists.old.opened }
+    requires none { (lists.old.ended.closed.items ≡ []) × (lists.old.ended.failed.items ≡ []) }
+    requires len { (vec_len lists.old.ended.closed ≡ 0) × (vec_len lists.old.ended.failed ≡ 0) }
+    requires closed { vec_len state.old.open + 1 ≤ vec_capacity lists.old.ended.closed }
+    requires failed { vec_len state.old.open + 1 ≤ vec_capacity lists.old.ended.failed }
+    ensures sound { IsSound (ops_in state.new.driver) state.new.driver.handling.table state.new.listener state.new.accept
+        state.new.open.items }
+    ensures serving { (start : LegacyState I Buf) (was : List Conn)
+        → Opening I.view I.tells start was state.old.driver state.old.open.items
+        → Serving I.view I.tells start was state.new.driver state.new.open.items lists.new.ended.closed.items
+        lists.new.ended.failed.items }
+    ensures stops { StopsUnless (I.view state.old.driver.handling.io) (I.view state.new.driver.handling.io) result }
+    ensures places { vec_len state.new.open ≤ limit }
+    ensures given { state.new.driver.given ≤ state.old.driver.given + 129 }
+{
+    accept(state, far, limit, lists)?;
+    serve_all(state, alloc, &mut lists.ended)
+}
+
+// What a round does behind its turn.
+fn behind<I: Sockets, F: Far<I>>(
+    state: &mut State<I>,
+    far: &mut F,
+    limit: usize,
+    alloc: Global,
+    lists: &mut Lists,
+    turned: Result<(), RelayError>,
+) -> Result<(), RelayError>
+    requires sound { IsSound (ops_in state.old.driver) state.old.driver.handling.table state.old.listener state.old.accept
+        state.old.open.items }
+    requires limit { limit ≤ 64 }
+    requires places { vec_len state.old.open ≤ limit }
+    requires counter { state.old.driver.given + 129 ≤ MOST_GIVEN }
+    requires opened { vec_len lists.old.opened < vec_capacity lists.old.opened }
+    requires none { (lists.old.ended.closed.items ≡ []) × (lists.old.ended.failed.items ≡ []) }
+    requires len { (vec_len lists.old.ended.closed ≡ 0) × (vec_len lists.old.ended.failed ≡ 0) }
+    requires closed { vec_len state.old.open + 1 ≤ vec_capacity lists.old.ended.closed }
+    requires failed { vec_len state.old.open + 1 ≤ vec_capacity lists.old.ended.failed }
+    ensures sound { IsSound (ops_in state.new.driver) state.new.driver.handling.table state.new.listener state.new.accept
+        state.new.open.items }
+    ensures serving { (start : LegacyState I Buf) (was : List Conn)
+        → Opening I.view I.tells start was state.old.driver state.old.open.items
+        → Serving I.view I.tells start was state.new.driver state.new.open.items lists.new.ended.closed.items
+        lists.new.ended.failed.items }
+    ensures stops { (old : IoView) → StopsUnless old (I.view state.old.driver.handling.io) turned
+        → IsLater old (I.view state.old.driver.handling.io) → StopsUnless old (I.view state.new.driver.handling.io) result }
+    ensures places { vec_len state.new.open ≤ limit }
+    ensures given { state.new.driver.given ≤ state.old.driver.given + 129 }
+{
+    match turned {
+        Ok(()) => work(state, far, limit, alloc, lists),
+        Err(why) => Err(why),
+    }
+}
+
+// A round that came to this.
+fn finish(worked: Result<(), RelayError>, round: Round) -> Result<Round, (RelayError, Round)>
+    ensures round { round_of result ≡ round }
+    ensures stops { (old new : IoView) → StopsUnless old new worked → RoundStops old new result }
+{
+    match worked {
+        Ok(()) => Ok(round),
+        Err(why) => Err((why, round)),
+    }
+}
+
+impl<I: Sockets, F: Far<I>> Relay<I, F> {
+    /// A relay that accepts at a handle that listens, and has so many connections open at most, 1 to 64. Their other ends are given by
+    /// `far`. Where memory runs out the driver comes back. (not in monoio)
+    pub fn new(
+        alloc: Global,
+        driver: LegacyDriver<I, Buf>,
+        listener: SharedFd,
+        limit: u32,
+        far: F,
+    ) -> Result<Relay<I, F>, (OutOfMemory, LegacyDriver<I, Buf>)>
+        requires held { is_users driver.handling.table listener ≡ true }
+        requires limit { limit ≤ 64 }
+        ensures ok { IfOk result (λ relay. relay ≡ record { driver = driver; listener = listener; accept = None; open_ones = []; limit = limit }) }
+        ensures err { IfErr result (λ refused. refused.1 ≡ driver) }
+    {
+        let limit = limit as usize;
+        match Vec::with_capacity(alloc, limit) {
+            Ok(open) => Ok(Relay {
+                state: State {
+                    driver,
+                    listener,
+                    accept: None,
+                    open,
+                },
+                limit,
+                far,
+                alloc,
+            }),
+            Err(_) => Err((OutOfMemory, driver)),
+        }
+    }
+
+    /// Its driver. (not in monoio)
+    pub fn driver(&self) -> &LegacyDriver<I, Buf>
+        ensures { result.now ≡ self.now.driver }
+    {
+        &self.state.driver
+    }
+
+    /// How many connections are open. (not in monoio)
+    pub fn connections(&self) -> usize {
+        self.state.open.len()
+    }
+
+    /// A round: a turn of the driver, which waits so many milliseconds at most, and not at all where that is `None`; then an accept, where
+    /// there is a place; then a step of each direction of each connection, the lowest near handle first. Each connection that was open is
+    /// open still, was closed or failed; at an error too, which says why the round stopped: then the next one goes on. At most 129
+    /// operations are submitted. An accepted connection that gets no other end is given up. (not in monoio)
+    pub fn round<R: Wait + Clock, P: Ledger, D: Ledger>(
+        &mut self,
+        rt: &R,
+        sleeper: &mut Sleeper<P, D>,
+        wait: Option<u64>,
+    ) -> Result<Round, (RelayError, Round)>
+        requires counter { self.old.driver.given + 129 ≤ MOST_GIVEN }
+        ensures serving { Serving I.view I.tells self.old.driver self.old.open_ones self.new.driver self.new.open_ones
+            (round_of result).closed (round_of result).failed }
+        ensures stops { RoundStops (I.view self.old.driver.handling.io) (I.view self.new.driver.handling.io) result }
+        ensures given { self.new.driver.given ≤ self.old.driver.given + 129 }
+    {
+        let Ok(mut lists) = room_for(self.alloc, self.state.open.len() + 1) else {
+            return Err((RelayError::OutOfMemory, no_round(self.alloc)));
+        };
+        let (remote, turned) = turn(rt, self.alloc, &mut self.state, sleeper, wait);
+        let worked = behind(
+            &mut self.state,
+            &mut self.far,
+            self.limit,
+            self.alloc,
+            &mut lists,
+            turned,
+        );
+        finish(worked, round_with(remote, lists))
+    }
+}
+
+impl<F: Far<MemIo>> Relay<MemIo, F> {
+    /// Bytes arrive at a handle in memory, as `feed` of the driver. (not in monoio)
+    pub fn feed(&mut self, h: u64, bytes: &[u8]) -> Result<(), WorldError> {
+        if !self.state.driver.has_handle(h) {
+            return Err(WorldError::BadHandleEvent);
+        }
+        self.state.driver.feed(h, bytes)
+    }
+
+    /// The end of what arrives at a handle in memory, as `end` of the driver. (not in monoio)
+    pub fn end(&mut self, h: u64) -> Result<(), WorldError> {
+        if !self.state.driver.has_handle(h) {
+            return Err(WorldError::BadHandleEvent);
+        }
+        self.state.driver.end(h)
+    }
+
+    /// What looking at a handle in memory shows, as `look` of the driver. (not in monoio)
+    pub fn look(&self, h: u64) -> Result<Option<Look>, OutOfMemory> {
+        if !self.state.driver.has_handle(h) {
+            return Ok(None);
+        }
+        Ok(Some(self.state.driver.look(h)?))
+    }
+}
+
+// Drops the accept that waits.
+fn drop_accept<I: Sockets>(driver: &mut Reads<I>, op: Op, listener: SharedFd)
+    requires pending { IsPending (ops_in driver.old) op (IsAccept listener) }
+    ensures widens { Widens I.view I.tells driver.old driver.new }
+{
+    let _ = listener;
+    OpDriver::drop_op(driver, op);
+}
+
+// Drops the accept that waits, if one does.
+fn end_accept<I: Sockets>(
+    driver: &mut Reads<I>,
+    accept: Option<Op>,
+    listener: SharedFd,
+    open: &Vec<Connection>,
+)
+    requires sound { IsSound (ops_in driver.old) driver.old.handling.table listener accept open.now.items }
+    ensures served { AreServed (ops_in driver.new) driver.new.handling.table listener open.now.items }
+{
+    let _ = open.len();
+    match accept {
+        Some(op) => drop_accept(driver, op, listener),
+        None => {}
+    }
+}
+
+// Ends each connection.
+fn end_each<I: Sockets>(driver: &mut Reads<I>, listener: SharedFd, open: Vec<Connection>)
+    requires served { AreServed (ops_in driver.old) driver.old.handling.table listener open.items }
+{
+    let _ = listener;
+    let mut open = open;
+    while let Some(conn) = open.pop() {
+        conn.end(driver);
+    }
+    open.destroy_empty();
+}
+
+// Drops the accept that waits, and ends each connection.
+fn end_all<I: Sockets>(state: State<I>)
+    requires sound { IsSound (ops_in state.driver) state.driver.handling.table state.listener state.accept state.open.items }
+{
+    let State {
+        driver,
+        listener,
+        accept,
+        open,
+    } = state;
+    let mut driver = driver;
+    end_accept(&mut driver, accept, listener, &open);
+    end_each(&mut driver, listener, open);
+}
+
+impl<I: Sockets, F: Far<I>> Drop for Relay<I, F> {
+    fn drop(self) {
+        let Relay {
+            state,
+            limit: _,
+            far: _,
+            alloc: _,
+        } = self;
+        end_all(state);
+    }
+}

@@ -1,0 +1,182 @@
+// The connections of a relay with their driver, and a round of each.
+ghost use Rattle.std.specs.Prelude.{◌≡◌, ◌≤◌, ◌<◌, ◌+◌, ◌*◌, ◌-◌, ◌++◌, ◌∷◌, [], List, ℕ, IfOk, IfErr, slice_get, slice_set, length};
+ghost use Rattle.std.specs.Vec.{vec_len, vec_capacity};
+ghost use Rattle.ready_driver.specs.Io.{IsLater};
+ghost use Rattle.ready_driver.specs.LegacyState.{LegacyState, ops_in};
+ghost use Rattle.rent_buf.specs.declared.plain.Buf.{Buf};
+ghost use Rattle.relay_net.specs.Connection.{IsOver, IsOverIf, ServedFor};
+ghost use Rattle.relay_net.specs.Relay.{GoesOn, IsSound, Serving, StopsUnless};
+ghost use Rattle.relay_net.specs.declared.connection.Connection.{Connection as Conn};
+ghost use Rattle.relay_net.specs.declared.round.Lost.{Lost as LostOne};
+ghost use Rattle.rent_buf.specs.Counts.{Rose};
+
+use crate::connection::{Connection, Served, serve};
+use crate::flow::Reads;
+use crate::round::{Lost, RelayError};
+use driver_core::{MOST_GIVEN, Op};
+use handle_core::SharedFd;
+use ready_driver::NonBlock;
+use std::alloc::Global;
+
+// The driver of a relay, the handle that listens, the accept that waits, and the connections that are open, the lowest near handle first.
+pub(crate) struct State<I: NonBlock> {
+    pub(crate) driver: Reads<I>,
+    pub(crate) listener: SharedFd,
+    pub(crate) accept: Option<Op>,
+    pub(crate) open: Vec<Connection>,
+}
+
+// What a round closed, and what it lost, in memory that was reserved.
+pub(crate) struct Ended {
+    pub(crate) closed: Vec<u64>,
+    pub(crate) failed: Vec<Lost>,
+}
+
+// A round of the connection at a place.
+fn serve_one<I: NonBlock>(state: &mut State<I>, alloc: Global, at: usize) -> Served
+    requires sound { IsSound (ops_in state.old.driver) state.old.driver.handling.table state.old.listener state.old.accept
+        state.old.open.items }
+    requires there { at < vec_len state.old.open }
+    requires placed { at < length state.old.open.items }
+    requires counter { state.old.driver.given + 1 < MOST_GIVEN }
+    ensures sound { IsSound (ops_in state.new.driver) state.new.driver.handling.table state.new.listener state.new.accept
+        state.new.open.items }
+    ensures serving { (start : LegacyState I Buf) (was : List Conn) (closed : List ℕ) (failed : List LostOne)
+        → Serving I.view I.tells start was state.old.driver state.old.open.items closed failed
+        → Serving I.view I.tells start was state.new.driver state.new.open.items closed failed }
+    ensures over { (conn : Conn) → slice_get state.new.open.items at ≡ Some conn → IsOverIf (ops_in state.new.driver) conn result }
+    ensures later { IsLater (I.view state.old.driver.handling.io) (I.view state.new.driver.handling.io) }
+    ensures cause { ServedFor (I.view state.old.driver.handling.io) (I.view state.new.driver.handling.io) result }
+    ensures same { (state.new.listener ≡ state.old.listener) × (state.new.accept ≡ state.old.accept) }
+    ensures len { vec_len state.new.open ≡ vec_len state.old.open }
+    ensures given { state.new.driver.given ≤ state.old.driver.given + 2 }
+{
+    serve(&mut state.driver, alloc, &mut state.open[at])
+}
+
+// Closes the connection at a place, which is over.
+fn close_at<I: NonBlock>(state: &mut State<I>, at: usize, ended: &mut Ended)
+    requires sound { IsSound (ops_in state.old.driver) state.old.driver.handling.table state.old.listener state.old.accept
+        state.old.open.items }
+    requires there { at < vec_len state.old.open }
+    requires placed { at < length state.old.open.items }
+    requires over { (conn : Conn) → slice_get state.old.open.items at ≡ Some conn → IsOver (ops_in state.old.driver) conn }
+    requires room { vec_len ended.old.closed < vec_capacity ended.old.closed }
+    ensures sound { IsSound (ops_in state.new.driver) state.new.driver.handling.table state.new.listener state.new.accept
+        state.new.open.items }
+    ensures serving { (start : LegacyState I Buf) (was : List Conn)
+        → Serving I.view I.tells start was state.old.driver state.old.open.items ended.old.closed.items ended.old.failed.items
+        → Serving I.view I.tells start was state.new.driver state.new.open.items ended.new.closed.items ended.new.failed.items }
+    ensures later { IsLater (I.view state.old.driver.handling.io) (I.view state.new.driver.handling.io) }
+    ensures same { (state.new.listener ≡ state.old.listener) × (state.new.accept ≡ state.old.accept) }
+    ensures len { vec_len state.new.open + 1 ≡ vec_len state.old.open }
+    ensures given { state.new.driver.given ≡ state.old.driver.given }
+    ensures closed { (vec_len ended.new.closed ≡ vec_len ended.old.closed + 1) × (vec_capacity ended.new.closed ≡ vec_capacity ended.old.closed) }
+    ensures failed { ended.new.failed ≡ ended.old.failed }
+{
+    let conn = state.open.remove(at);
+    ended.closed.push_reserved(conn.near());
+    conn.end(&mut state.driver);
+}
+
+// Ends the connection at a place, an operation of which failed with this number.
+fn lose_at<I: NonBlock>(state: &mut State<I>, at: usize, fault: u16, ended: &mut Ended)
+    requires sound { IsSound (ops_in state.old.driver) state.old.driver.handling.table state.old.listener state.old.accept
+        state.old.open.items }
+    requires there { at < vec_len state.old.open }
+    requires placed { at < length state.old.open.items }
+    requires room { vec_len ended.old.failed < vec_capacity ended.old.failed }
+    ensures sound { IsSound (ops_in state.new.driver) state.new.driver.handling.table state.new.listener state.new.accept
+        state.new.open.items }
+    ensures serving { (start : LegacyState I Buf) (was : List Conn)
+        → Rose (I.view start.handling.io).fails (I.view state.old.driver.handling.io).fails
+        → Serving I.view I.tells start was state.old.driver state.old.open.items ended.old.closed.items ended.old.failed.items
+        → Serving I.view I.tells start was state.new.driver state.new.open.items ended.new.closed.items ended.new.failed.items }
+    ensures later { IsLater (I.view state.old.driver.handling.io) (I.view state.new.driver.handling.io) }
+    ensures same { (state.new.listener ≡ state.old.listener) × (state.new.accept ≡ state.old.accept) }
+    ensures len { vec_len state.new.open + 1 ≡ vec_len state.old.open }
+    ensures given { state.new.driver.given ≡ state.old.driver.given }
+    ensures failed { (vec_len ended.new.failed ≡ vec_len ended.old.failed + 1) × (vec_capacity ended.new.failed ≡ vec_capacity ended.old.failed) }
+    ensures closed { ended.new.closed ≡ ended.old.closed }
+{
+    let conn = state.open.remove(at);
+    ended.failed.push_reserved(conn.lost(fault));
+    conn.end(&mut state.driver);
+}
+
+// A round of the connection at a place: whether it is open still.
+#[tactic(auto, using(crate::proofs::Calls::later_then))]
+fn serve_at<I: NonBlock>(
+    state: &mut State<I>,
+    alloc: Global,
+    at: usize,
+    ended: &mut Ended,
+) -> Result<bool, RelayError>
+    requires sound { IsSound (ops_in state.old.driver) state.old.driver.handling.table state.old.listener state.old.accept
+        state.old.open.items }
+    requires there { at < vec_len state.old.open }
+    requires placed { at < length state.old.open.items }
+    requires counter { state.old.driver.given + 1 < MOST_GIVEN }
+    requires closed { vec_len ended.old.closed < vec_capacity ended.old.closed }
+    requires failed { vec_len ended.old.failed < vec_capacity ended.old.failed }
+    ensures sound { IsSound (ops_in state.new.driver) state.new.driver.handling.table state.new.listener state.new.accept
+        state.new.open.items }
+    ensures serving { (start : LegacyState I Buf) (was : List Conn)
+        → Serving I.view I.tells start was state.old.driver state.old.open.items ended.old.closed.items ended.old.failed.items
+        → Serving I.view I.tells start was state.new.driver state.new.open.items ended.new.closed.items ended.new.failed.items }
+    ensures later { IsLater (I.view state.old.driver.handling.io) (I.view state.new.driver.handling.io) }
+    ensures stops { StopsUnless (I.view state.old.driver.handling.io) (I.view state.new.driver.handling.io) result }
+    ensures same { (state.new.listener ≡ state.old.listener) × (state.new.accept ≡ state.old.accept) }
+    ensures len { IfOk result (λ goes. GoesOn goes (vec_len state.old.open) (vec_len state.new.open)) }
+    ensures fewer { vec_len state.new.open ≤ vec_len state.old.open }
+    ensures given { state.new.driver.given ≤ state.old.driver.given + 2 }
+    ensures room { (vec_len ended.new.closed + vec_len state.new.open ≤ vec_len ended.old.closed + vec_len state.old.open)
+        × (vec_capacity ended.new.closed ≡ vec_capacity ended.old.closed)
+        × (vec_len ended.new.failed + vec_len state.new.open ≤ vec_len ended.old.failed + vec_len state.old.open)
+        × (vec_capacity ended.new.failed ≡ vec_capacity ended.old.failed) }
+{
+    match serve_one(state, alloc, at) {
+        Served::Open => Ok(true),
+        Served::Stopped(why) => Err(why),
+        Served::Closed => {
+            close_at(state, at, ended);
+            Ok(false)
+        }
+        Served::Failed(fault) => {
+            lose_at(state, at, fault, ended);
+            Ok(false)
+        }
+    }
+}
+
+// A round of each connection, the lowest near handle first.
+#[tactic(auto, using(crate::proofs::Relays::stops_later))]
+pub(crate) fn serve_all<I: NonBlock>(
+    state: &mut State<I>,
+    alloc: Global,
+    ended: &mut Ended,
+) -> Result<(), RelayError>
+    requires sound { IsSound (ops_in state.old.driver) state.old.driver.handling.table state.old.listener state.old.accept
+        state.old.open.items }
+    requires counter { state.old.driver.given + 2 * vec_len state.old.open ≤ MOST_GIVEN }
+    requires closed { vec_len ended.old.closed + vec_len state.old.open ≤ vec_capacity ended.old.closed }
+    requires failed { vec_len ended.old.failed + vec_len state.old.open ≤ vec_capacity ended.old.failed }
+    ensures sound { IsSound (ops_in state.new.driver) state.new.driver.handling.table state.new.listener state.new.accept
+        state.new.open.items }
+    ensures serving { (start : LegacyState I Buf) (was : List Conn)
+        → Serving I.view I.tells start was state.old.driver state.old.open.items ended.old.closed.items ended.old.failed.items
+        → Serving I.view I.tells start was state.new.driver state.new.open.items ended.new.closed.items ended.new.failed.items }
+    ensures stops { StopsUnless (I.view state.old.driver.handling.io) (I.view state.new.driver.handling.io) result }
+    ensures same { (state.new.listener ≡ state.old.listener) × (state.new.accept ≡ state.old.accept) }
+    ensures fewer { vec_len state.new.open ≤ vec_len state.old.open }
+    ensures given { state.new.driver.given ≤ state.old.driver.given + 2 * vec_len state.old.open }
+{
+    let mut at = 0;
+    while at < state.open.len() {
+        let _ = state.open.as_slice();
+        if serve_at(state, alloc, at, ended)? {
+            at += 1;
+        }
+    }
+    Ok(())
+}
