@@ -1,7 +1,7 @@
 -- What the driver's calls leave of handles, operations and counts, over every object.
-use Rattle.std.proofs.Common.{ℕ, ◌≡◌, ◌≢◌, ◌∙◌, ◌≤◌, ◌<◌, ap, sym, refl, subst, arith, Bool, IsTrue, true, false, List, []}
+use Rattle.std.proofs.Common.{ℕ, ◌≡◌, ◌≢◌, ◌∙◌, ◌<◌, ap, sym, subst, arith, Bool, true, List}
 use Rattle.std.proofs.Common.{Option, Some, None, Ok, Err, inl, inr}
-use Rattle.std.specs.Prelude.{Result, nat_lt, option_map, unwrap_or}
+use Rattle.std.specs.Prelude.{nat_lt, option_map, unwrap_or}
 use Rattle.std.specs.FinMap as map
 use Rattle.rent_buf.specs.Buf.{built}
 use Rattle.rent_buf.specs.Buffer.{Buffer}
@@ -22,7 +22,7 @@ use Rattle.driver_core.specs.declared.op.SubmitError.{SubmitError}
 use Rattle.driver_core.specs.declared.operations.calls.CallAnswer.{CallAnswer}
 use Rattle.driver_core.specs.declared.slot.Slot.{Slot}
 use Rattle.driver_core.proofs.Holds.{settled-other, user-joined, user-left}
-use Rattle.driver_core.proofs.Maps.{gone-other, put-other, put-same}
+use Rattle.driver_core.proofs.Maps.{put-other, put-same}
 use Rattle.ready_driver.specs.Calling.{Called}
 use Rattle.ready_driver.specs.Io.{CallsFor, IoView, IsLater}
 use Rattle.ready_driver.specs.LegacyPolls.{HandsOver}
@@ -30,7 +30,7 @@ use Rattle.ready_driver.specs.LegacyState.{LegacyState, ops_in}
 use Rattle.ready_driver.specs.Registry.{Handling, LetsGo, is_users}
 use Rattle.op_driver.specs.Legacy.{LegacySubmits}
 use Rattle.relay_net.specs.Flow.{IfAsked, IsPending}
-use Rattle.relay_net.specs.Keeping.{AnyRequest, KeepsOps, KeepsUsers, Stays, world_of}
+use Rattle.relay_net.specs.Keeping.{KeepsUsers, Stays}
 
 -- What a driver's object says of its calls.
 abbrev pub Lawful : {I : Type 0} → (I → IoView) → Bool → Bool → Called I → Type 0

@@ -1,5 +1,5 @@
 -- What the steps of a connection leave of its bytes, and of all else.
-use Rattle.std.proofs.Common.{ℕ, ◌≡◌, ◌≢◌, ◌∙◌, ◌≤◌, ap, sym, refl, subst, arith, Bool, IsTrue, true, false, List, [], ◌∷◌, ◌++◌, length}
+use Rattle.std.proofs.Common.{ℕ, ◌≡◌, ◌≢◌, ◌∙◌, ap, sym, refl, subst, arith, Bool, IsTrue, true, List, [], ◌∷◌, ◌++◌}
 use Rattle.std.proofs.Common.{Option, Some, None, inl, inr}
 use Rattle.std.specs.Prelude.{◌&&◌, option_map, unwrap_or}
 use Rattle.std.specs.FinMap as map
@@ -8,28 +8,24 @@ use Rattle.rent_buf.specs.Parts.{Parts}
 use Rattle.rent_buf.specs.declared.plain.Buf.{Buf}
 use Rattle.handle_core.specs.Table.{Table, holders_at, without_user}
 use Rattle.ring_core.specs.Effect.{with_sent}
-use Rattle.ring_core.specs.Lists.{amended}
 use Rattle.ring_core.specs.World.{input_at}
 use Rattle.ring_core.specs.declared.request.Request.{Request}
-use Rattle.ring_core.specs.declared.request.Request.TheVariants.{Recv, Send}
 use Rattle.ring_core.specs.declared.world.HandleState.{HandleState}
 use Rattle.ring_core.proofs.Amended.{get-amended-other}
 use Rattle.ring_core.proofs.Numbers.{same-or-not}
 use Rattle.driver_core.specs.Holds.{is_nobody, settled}
-use Rattle.driver_core.specs.Op.{Holds}
 use Rattle.driver_core.specs.Ops.{Ops}
 use Rattle.driver_core.specs.Slot.{serial_of}
-use Rattle.driver_core.specs.declared.op.Op.{Op}
 use Rattle.ready_driver.specs.Io.{IoView, IsLater}
 use Rattle.ready_driver.specs.LegacyState.{LegacyState, SameOps, holds_all, ops_in}
 use Rattle.ready_driver.specs.Registry.{LetsGo, is_users, unheld_if}
-use Rattle.net_stream.specs.Told.{IsSentTo, IsStream, IsTaken, output_at}
+use Rattle.net_stream.specs.Told.{IsSentTo, IsStream, output_at}
 use Rattle.net_stream.proofs.Handles.{sent_others, sent_stream, sent_waiting, taken_others, taken_sent, taken_stream}
-use Rattle.relay_net.specs.Connection.{FitsBack, FitsConnection, FollowsAs, IsOutside, IsOver, KeepsElsewhere, KeepsEnd, KeepsLines}
+use Rattle.relay_net.specs.Connection.{FitsBack, FitsConnection, FollowsAs, IsOutside, KeepsElsewhere, KeepsLines}
 use Rattle.relay_net.specs.Connection.{KeepsStreams, LeavesConnection, ServedFor, Serves, StaysIdle, far_of, held_back, held_by, held_forth}
 use Rattle.relay_net.specs.Connection.{EndsConnection, IsGoing, IsOverIf, Releases, near_of}
-use Rattle.relay_net.specs.Flow.{FitsStage, IfAsked, IsElse, IsPending, IsReceive, IsSend, asked_at, bytes_sent, empty_buffer, held_in, line}
-use Rattle.relay_net.specs.Keeping.{AnyRequest, CameFor, KeepsOps, KeepsUsers, LeavesFlow, MovesBetween, StopsFor, world_of}
+use Rattle.relay_net.specs.Flow.{FitsStage, IfAsked, IsElse, IsReceive, IsSend, asked_at, bytes_sent, held_in, line}
+use Rattle.relay_net.specs.Keeping.{AnyRequest, CameFor, KeepsOps, LeavesFlow, MovesBetween, world_of}
 use Rattle.relay_net.specs.Outcomes.{IsIdle}
 use Rattle.relay_net.specs.Steps.{Abandons, Flows}
 use Rattle.relay_net.specs.declared.connection.Connection.{Connection}
@@ -40,7 +36,6 @@ use Rattle.relay_net.specs.declared.flow.Came.TheVariants as came
 use Rattle.relay_net.specs.declared.flow.Flow.{Flow}
 use Rattle.relay_net.specs.declared.flow.Stage.{Stage}
 use Rattle.relay_net.specs.declared.flow.Stage.TheVariants as stage
-use Rattle.relay_net.specs.declared.round.RelayError.{RelayError}
 use Rattle.relay_net.specs.declared.round.RelayError.TheVariants as why
 use Rattle.relay_net.proofs.Calls.{later_same, later_then, pending_kept, plain_in, released_users, users_then}
 

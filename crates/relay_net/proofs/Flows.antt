@@ -1,11 +1,9 @@
 -- What the calls of a direction leave of its bytes.
-use Rattle.std.proofs.Common.{ℕ, zero, suc, ◌≡◌, ◌≢◌, ◌∙◌, ◌≤◌, ap, sym, refl, subst, arith, Bool, IsTrue, true, false, List, [], ◌∷◌}
+use Rattle.std.proofs.Common.{ℕ, zero, suc, ◌≡◌, ◌∙◌, ap, sym, refl, subst, arith, Bool, IsTrue, List, [], ◌∷◌}
 use Rattle.std.proofs.Common.{◌++◌, length, drop, Option, Some, None, Ok, Err, inl, inr}
-use Rattle.std.specs.Prelude.{Result}
 use Rattle.std.proofs.lemmas.List.{append_assoc}
 use Rattle.rent_buf.specs.Buf.{built, content_of}
 use Rattle.rent_buf.specs.Buffer.{Buffer, shown}
-use Rattle.rent_buf.specs.Counts.{Rose}
 use Rattle.rent_buf.specs.Parts.{Parts}
 use Rattle.rent_buf.specs.declared.plain.Buf.{Buf}
 use Rattle.rent_buf.specs.declared.fault.OutOfMemory.{OutOfMemory as NoMemory}
@@ -29,16 +27,17 @@ use Rattle.driver_core.specs.declared.op.PollOp.TheVariants.{Pending, Ready}
 use Rattle.driver_core.specs.declared.op.SubmitFault.{SubmitFault}
 use Rattle.driver_core.specs.declared.op.SubmitFault.TheVariants as submit
 use Rattle.ready_driver.specs.Calling.{Called}
-use Rattle.ready_driver.specs.Io.{IoView, IsLater}
+use Rattle.ready_driver.specs.Io.{IoView}
 use Rattle.ready_driver.specs.LegacyCalls.{WhyRefused}
 use Rattle.ready_driver.specs.LegacyState.{LegacyState, ops_in}
 use Rattle.ready_driver.specs.Registry.{Handling}
 use Rattle.op_driver.specs.Legacy.{LegacyDrops, LegacyPolls}
 use Rattle.net_stream.specs.Told.{IsSentTo, IsStream, IsTaken, output_at}
-use Rattle.net_stream.proofs.Handles.{sent_stream, sent_waiting, taken_sent, taken_stream}
-use Rattle.relay_net.specs.Flow.{FitsStage, IfAsked, IsElse, IsPending, IsReceive, IsSend, asked_at, bytes_sent, empty_buffer, held_in, line}
+use Rattle.net_stream.proofs.Handles.{sent_waiting, taken_sent}
+use Rattle.relay_net.specs.Flow.{FitsStage, IfAsked, IsElse, IsPending, IsReceive, IsSend, asked_at, bytes_sent, empty_buffer, held_in}
+use Rattle.relay_net.specs.Flow.{line}
 use Rattle.relay_net.specs.Flow.{send_bytes}
-use Rattle.relay_net.specs.Keeping.{AnyRequest, CameFor, KeepsOps, KeepsUsers, LeavesFlow, MovesBetween, Stays, StopsAs, StopsFor, StopsIf, world_of}
+use Rattle.relay_net.specs.Keeping.{AnyRequest, CameFor, KeepsUsers, LeavesFlow, MovesBetween, Stays, StopsAs, StopsFor, world_of}
 use Rattle.relay_net.specs.Outcomes.{CountsAs, HoldsJust, ReceivedAs, SentAs}
 use Rattle.relay_net.specs.Steps.{Abandons, Begins, Flows}
 use Rattle.relay_net.specs.declared.flow.Came.{Came}
@@ -156,7 +155,8 @@ module _ {I : Type 0} (view : I → IoView) (tells : Bool) where
       came-later (came.Stopped why.OutOfMemory) is = tt
 
 -- A submission was refused for a reason of the driver.
-pub refused_stops : {I : Type 0} (view : I → IoView) (memory : Bool) (old new : Handling I) (live : ℕ) (fault : SubmitFault) (because : RelayError)
+pub refused_stops : {I : Type 0} (view : I
+    → IoView) (memory : Bool) (old new : Handling I) (live : ℕ) (fault : SubmitFault) (because : RelayError)
     → WhyRefused view memory old new live fault → StopsAs fault because → StopsFor (view old.io) (view new.io) because
 refused_stops view memory old new live submit.Full because refused is = subst (StopsFor (view old.io) (view new.io)) (sym is) tt
 refused_stops view memory old new live submit.RingFault because refused is = absurd refused

@@ -1,7 +1,7 @@
 -- What became of the bytes of a receive and of a send that ended.
 use Rattle.std.proofs.Common.{ℕ, zero, suc, ◌≡◌, ◌∙◌, ◌≤◌, ap, sym, refl, subst, arith, Bool, IsTrue, true, false, List, [], ◌++◌, length}
-use Rattle.std.proofs.Common.{take, drop, Option, Some, None, Ok, Err, inl, inr}
-use Rattle.std.specs.Prelude.{Result, option_map, unwrap_or, slice_get}
+use Rattle.std.proofs.Common.{take, drop, Option, Some, None, Ok, inr}
+use Rattle.std.specs.Prelude.{option_map, unwrap_or, slice_get}
 use Rattle.std.proofs.lemmas.List.{append_assoc, length-take, take-append-drop, take-take, take_all}
 use Rattle.rent_buf.specs.Buf.{built}
 use Rattle.rent_buf.specs.Buffer.{Buffer, shown, stored}
@@ -22,24 +22,24 @@ use Rattle.ring_core.specs.declared.world.HandleKind.TheVariants.{Stream}
 use Rattle.ring_core.specs.declared.world.HandleState.{HandleState}
 use Rattle.ring_core.specs.Effect.{made_by, sent_to_kind, with_sent, without_front}
 use Rattle.ring_core.specs.Lists.{amended}
-use Rattle.ring_core.specs.Request.{held, held_of, plain_request, sent_of, shape_of}
+use Rattle.ring_core.specs.Request.{held, held_of, plain_request, shape_of}
 use Rattle.ring_core.specs.World.{input_at}
 use Rattle.ring_core.specs.WorldCall.{call_effect}
 use Rattle.ring_core.proofs.Amended.{get-amended}
 use Rattle.driver_core.specs.declared.op.Done.{Done as Ended}
 use Rattle.driver_core.specs.declared.op.Op.{Op}
 use Rattle.driver_core.specs.declared.op.PollOp.TheVariants.{Ready}
-use Rattle.handle_core.specs.Table.{Table}
 use Rattle.ready_driver.specs.Calling.{Called}
-use Rattle.ready_driver.specs.Io.{EndsFor, FailRose, IoView, IsFilled, IsLater, IsMade, IsMoved}
-use Rattle.ready_driver.specs.LegacyPolls.{HandsOver, outcome_by, outcome_for}
+use Rattle.ready_driver.specs.Io.{EndsFor, FailRose, IoView, IsLater, IsMade, IsMoved}
+use Rattle.ready_driver.specs.LegacyPolls.{HandsOver}
 use Rattle.ready_driver.specs.LegacyState.{LegacyState, ops_in}
 use Rattle.op_driver.specs.Legacy.{LegacyPolls}
 use Rattle.net_stream.specs.Told.{IsSentTo, IsStream, IsTaken, output_at}
 use Rattle.net_stream.proofs.Told.{same_outcome}
+use Rattle.driver_core.proofs.Rising.{rose-later}
 use Rattle.relay_net.specs.Flow.{IfAsked, IsPending, IsReceive, IsSend, asked_at, empty_buffer}
 use Rattle.relay_net.specs.Keeping.{KeepsUsers, world_of}
-use Rattle.relay_net.proofs.Calls.{Lawful, later_same, later_then}
+use Rattle.relay_net.proofs.Calls.{Lawful, later_then}
 use Rattle.relay_net.proofs.Polls.{Ends, ready_ends}
 
 -- A request of a receive's shape that holds a buffer is that receive.
@@ -261,10 +261,6 @@ send_took old new tells memory to buf (Fail error) now made ends rose = record {
   takes = (rose, λ t. failed_unmoved old.world new.world (Send to buf) now error (λ k same. absurd cc) (made.moved t));
 }
 
--- A count that rose has risen still where it is no less.
-rose_later : (a b c : ℕ) → Rose a b → b ≤ c → Rose a c
-rose_later a b c rose more = omega (arith, rose, more)
-
 -- What is so of the object behind a call is so where no bytes moved since.
 brings_later : (old mid new : IoView) (tells : Bool) (from : ℕ) (call : Outcome) (bytes : List ℕ) → IsLater mid new
     → (IsTrue tells → new.world ≡ mid.world) → Brings old mid tells from call bytes → Brings old new tells from call bytes
@@ -284,7 +280,7 @@ brings_later old mid new tells from (From k addr) bytes later world brings = (
 )
 brings_later old mid new tells from (Made h) bytes later world brings = brings
 brings_later old mid new tells from (Fail error) bytes later world brings =
-    (rose_later old.fails mid.fails new.fails brings.0 later.fails, λ t. world t ∙ brings.1 t)
+    (rose-later old.fails mid.fails new.fails brings.0 later.fails, λ t. world t ∙ brings.1 t)
 
 takes_later : (old mid new : IoView) (tells : Bool) (to : ℕ) (call : Outcome) (bytes : List ℕ) → IsLater mid new
     → (IsTrue tells → new.world ≡ mid.world) → Takes old mid tells to call bytes → Takes old new tells to call bytes
@@ -298,7 +294,7 @@ takes_later old mid new tells to (From k addr) bytes later world takes = λ t. (
 )
 takes_later old mid new tells to (Made h) bytes later world takes = takes
 takes_later old mid new tells to (Fail error) bytes later world takes =
-    (rose_later old.fails mid.fails new.fails takes.0 later.fails, λ t. world t ∙ takes.1 t)
+    (rose-later old.fails mid.fails new.fails takes.0 later.fails, λ t. world t ∙ takes.1 t)
 
 module _ {I : Type 0} (view : I → IoView) (tells memory : Bool) (files : I → ℕ → Bool) (called : Called I)
     (law : Lawful view tells memory called) where
@@ -331,9 +327,11 @@ module _ {I : Type 0} (view : I → IoView) (tells memory : Bool) (files : I →
       let ends = ready_ends view tells memory files called law old new op done task (IsReceive from) polls pending in
       let is : ends.request ≡ Recv from empty_buffer = subst (λ asked. IfAsked asked (IsReceive from)) ends.asked pending.asks in
       let made : IsMade tells memory (view old.handling.io) (Recv from empty_buffer) (view ends.mid.io) (plain_request built done.request)
-      ends.call = subst (λ r. IsMade tells memory (view old.handling.io) r (view ends.mid.io) (plain_request built done.request) ends.call) is
+      ends.call = subst (λ r. IsMade tells memory (view old.handling.io) r (view ends.mid.io) (plain_request built done.request)
+      ends.call) is
       ends.made in
-      let brought = recv_brought (view old.handling.io) (view ends.mid.io) tells memory from ends.call (plain_request built done.request) made
+      let brought = recv_brought (view old.handling.io) (view ends.mid.io) tells memory from ends.call (plain_request built done.request)
+      made
       made.ends made.fails in
       let s = settles old new op done ends brought.unmade in (
         subst (λ o. Brought (view old.handling.io) (view new.handling.io) tells from o (plain_request built done.request)) (sym s.outcome)
@@ -360,7 +358,8 @@ module _ {I : Type 0} (view : I → IoView) (tells memory : Bool) (files : I →
       let made : IsMade tells memory (view old.handling.io) (Send to is.buf) (view ends.mid.io) (plain_request built done.request)
       ends.call = subst (λ r. IsMade tells memory (view old.handling.io) r (view ends.mid.io) (plain_request built done.request) ends.call)
       is.request_is ends.made in
-      let took = send_took (view old.handling.io) (view ends.mid.io) tells memory to is.buf ends.call (plain_request built done.request) made
+      let took = send_took (view old.handling.io) (view ends.mid.io) tells memory to is.buf ends.call (plain_request built done.request)
+      made
       made.ends made.fails in
       let s = settles old new op done ends took.unmade in (
         is.buf,

@@ -1,5 +1,5 @@
 -- What the turn, the accept and the other end leave of the connections.
-use Rattle.std.proofs.Common.{ℕ, zero, suc, ◌≡◌, ◌≢◌, ◌∙◌, ◌≤◌, ap, sym, refl, subst, arith, Bool, IsTrue, true, false, List, [], ◌∷◌, ◌++◌, length}
+use Rattle.std.proofs.Common.{ℕ, zero, suc, ◌≡◌, ◌≢◌, ◌∙◌, ap, sym, refl, subst, arith, Bool, IsTrue, true, false, List, [], ◌∷◌, ◌++◌}
 use Rattle.std.proofs.Common.{Option, Some, None, Ok, Err, inl, inr}
 use Rattle.std.specs.Prelude.{◌⊎◌, ◌||◌, IfErr, IfOk, Result, is_some, nat_le, nat_lt, option_map, slice_get, unwrap_or}
 use Rattle.std.specs.FinMap as map
@@ -8,7 +8,7 @@ use Rattle.rent_buf.specs.Buffer.{Buffer}
 use Rattle.rent_buf.specs.Parts.{Parts}
 use Rattle.rent_buf.specs.declared.plain.Buf.{Buf}
 use Rattle.rent_buf.specs.declared.fault.OutOfMemory.{OutOfMemory as NoMemory}
-use Rattle.handle_core.specs.Table.{Table, by_user, holders_at, nobody}
+use Rattle.handle_core.specs.Table.{Table, by_user, nobody}
 use Rattle.handle_core.specs.declared.table.Holders.{Holders}
 use Rattle.ring_core.specs.declared.entry.TheConstants.{MOST_HANDLES}
 use Rattle.ring_core.specs.World.{fresh, input_at}
@@ -22,8 +22,8 @@ use Rattle.ring_core.specs.declared.request.Request.TheVariants.{Accept}
 use Rattle.ring_core.specs.declared.world.HandleKind.TheVariants.{Stream}
 use Rattle.ring_core.specs.declared.world.HandleState.{HandleState}
 use Rattle.ring_core.specs.Effect.{made_by}
-use Rattle.ring_core.specs.Request.{named, plain_request}
-use Rattle.driver_core.specs.Holds.{named_in, without_ops}
+use Rattle.ring_core.specs.Request.{plain_request}
+use Rattle.driver_core.specs.Holds.{named_in}
 use Rattle.driver_core.specs.Op.{KeepsTokens, PollsTokens}
 use Rattle.driver_core.specs.Ops.{Ops}
 use Rattle.driver_core.specs.declared.op.Done.{Done as Ended}
@@ -46,11 +46,12 @@ use Rattle.ready_driver.specs.LegacyTurns.{LegacyTurns, TurnsBy, turning_in}
 use Rattle.ready_driver.specs.Registry.{Handling, TriesFor, is_old, is_users}
 use Rattle.op_driver.specs.Legacy.{LegacyDrops, LegacyPolls}
 use Rattle.net_stream.specs.Told.{IsStream, output_at}
-use Rattle.relay_net.specs.Connection.{FitsConnection, KeepsLines, Releases, KeepsStreams, far_of, held_back, held_forth, near_of}
+use Rattle.driver_core.proofs.Lists.{get-front}
+use Rattle.relay_net.specs.Connection.{FitsConnection, Releases, KeepsStreams, far_of, held_back, held_forth, near_of}
 use Rattle.relay_net.specs.Flow.{IfAsked, IsPending, IsReceive, IsSend, asked_at}
 use Rattle.relay_net.specs.Keeping.{AnyRequest, KeepsOps, KeepsUsers, Stays, world_of}
 use Rattle.relay_net.specs.Opening.{AcceptedAs, AcceptedFor, FarFails, IsFar, IsFresh, IsNew, IsTransfer, KeepsBytes, Opening, Widens}
-use Rattle.relay_net.specs.Relay.{AreBeside, AreServed, Becomes, FitsAccept, IsAccept, IsAmong, IsApartFrom, IsOpenStill, IsServed, IsSound}
+use Rattle.relay_net.specs.Relay.{AreBeside, AreServed, FitsAccept, IsAccept, IsAmong, IsServed, IsSound}
 use Rattle.relay_net.specs.Relay.{Serving, StopsUnless}
 use Rattle.relay_net.specs.Relaying.{TurnStops}
 use Rattle.relay_net.specs.declared.connection.Connection.{Connection}
@@ -59,10 +60,10 @@ use Rattle.relay_net.specs.declared.round.Lost.{Lost}
 use Rattle.relay_net.specs.declared.round.RelayError.{RelayError}
 use Rattle.relay_net.specs.declared.round.RelayError.TheVariants as why
 use Rattle.relay_net.proofs.Calls.{Lawful, given_users, later_same, later_then, left_users, pending_kept, same_users, users_then}
-use Rattle.relay_net.proofs.Polls.{Ends, other_key, pending_pends, pending_waits, polled_others, ready_ends, starved_pends, starved_waits}
+use Rattle.relay_net.proofs.Polls.{other_key, pending_pends, pending_waits, polled_others, ready_ends, starved_pends, starved_waits}
 use Rattle.relay_net.proofs.Connections.{asked_as, ops_fewer}
 use Rattle.relay_net.proofs.Relays.{IsKept, beside_swap, bytes_lines, connection_kept, lines_then, stops_later}
-use Rattle.relay_net.proofs.Places.{get_front, get_pushed}
+use Rattle.relay_net.proofs.Places.{get_pushed}
 
 -- A receive, and a send, are transfers; an accept is none.
 receive_transfer : (h : ℕ) (request : Request Buffer Parts) → IsReceive h request → IsTransfer request
@@ -99,7 +100,7 @@ appended_bytes world h = elim (appended_at world h) [
 
 appended_streams : (world : List HandleState) → KeepsStreams world (world ++ fresh Stream ∷ [])
 appended_streams world h stream =
-    record { handle = stream.handle; there = get_front world (fresh Stream ∷ []) h stream.handle stream.there; kind = stream.kind }
+    record { handle = stream.handle; there = get-front world (fresh Stream ∷ []) h stream.handle stream.there; kind = stream.kind }
 
 -- Bytes stay where the handles do.
 same_bytes : (old new : List HandleState) → new ≡ old → KeepsBytes old new
@@ -211,7 +212,8 @@ module _ {I : Type 0} (view : I → IoView) (tells : Bool) where
   }
 
   -- A further connection leaves each open.
-  pub opening_pushed : (start now : LegacyState I Buf) (was all : List Connection) (conn : Connection) → Opening view tells start was now all
+  pub opening_pushed : (start now : LegacyState I Buf) (was all : List Connection) (conn : Connection)
+      → Opening view tells start was now all
       → Opening view tells start was now (all ++ conn ∷ [])
   opening_pushed start now was all conn opening = record {
     each = λ one among.
@@ -219,7 +221,7 @@ module _ {I : Type 0} (view : I → IoView) (tells : Bool) where
         record {
           place = still.place;
           now = still.now;
-          there = get_front all (conn ∷ []) still.place still.now still.there;
+          there = get-front all (conn ∷ []) still.place still.now still.there;
           near = still.near;
           far = still.far;
           lines = still.lines;
@@ -580,7 +582,8 @@ pub unopened_fails : {I : Type 0} (view : I → IoView) (tells memory : Bool) (o
 unopened_fails view tells memory old new (non_block.Fault code) unopened new_number = by-cause unopened.cause
   where
     by-cause : FaultsFor memory (view old.io) (view new.io) (non_block.Fault code)
-        ⊎ ((non_block.Fault code ≡ non_block.Fault 22) × (is_old old.table (view old.io).made ≡ true)) → Rose (view old.io).faults (view new.io).faults
+        ⊎ ((non_block.Fault code ≡ non_block.Fault 22) × (is_old old.table (view old.io).made ≡ true))
+        → Rose (view old.io).faults (view new.io).faults
     by-cause (inl fault) = fault.0
     by-cause (inr refused) = let e : ◌≡◌ {A = Bool} true false = sym refused.1 ∙ new_number in absurd cc
 unopened_fails view tells memory old new non_block.OutOfMemory unopened new_number = tt

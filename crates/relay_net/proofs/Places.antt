@@ -1,9 +1,8 @@
 -- Lists after a write, a removal and a push, place by place.
-use Rattle.std.proofs.Common.{ℕ, zero, suc, ◌≡◌, ◌≢◌, ◌∙◌, ◌<◌, ◌≤◌, ◌+◌, ap, sym, refl, subst, arith, List, [], ◌∷◌, ◌++◌, length, take, drop}
-use Rattle.std.proofs.Common.{Option, Some, None, inl, inr}
+use Rattle.std.proofs.Common.{ℕ, zero, suc, ◌≡◌, ◌≢◌, ap, refl, List, [], ◌∷◌, ◌++◌, length}
+use Rattle.std.proofs.Common.{Some, inl, inr}
 use Rattle.std.specs.Prelude.{◌⊎◌, slice_get, slice_set}
 use Rattle.std.specs.List.{remove}
-use Rattle.ring_core.proofs.Numbers.{same-or-not}
 
 -- A write is at its place, where that is one of the list.
 pub get_set : {X : Type 0} (xs : List X) (k : ℕ) (x y : X) → slice_get xs k ≡ Some x → slice_get (slice_set xs k y) k ≡ Some y
@@ -53,12 +52,6 @@ placed_from zero (suc j) differ = (j, refl)
 placed_from (suc k) zero differ = (zero, refl)
 placed_from (suc k) (suc j) differ =
     let from = placed_from k j (λ e. differ (ap suc e)) in (suc from.0, ap suc from.1)
-
--- What is in a list is in it with more behind.
-pub get_front : {X : Type 0} (xs ys : List X) (k : ℕ) (x : X) → slice_get xs k ≡ Some x → slice_get (xs ++ ys) k ≡ Some x
-get_front [] ys k x there = absurd cc
-get_front (a ∷ xs) ys zero x there = there
-get_front (a ∷ xs) ys (suc k) x there = get_front xs ys k x there
 
 -- What was pushed is in it.
 pub get_last : {X : Type 0} (xs : List X) (x : X) → slice_get (xs ++ x ∷ []) (length xs) ≡ Some x

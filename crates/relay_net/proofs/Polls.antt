@@ -1,5 +1,5 @@
 -- What a poll of an operation that is in flight leaves, over every object.
-use Rattle.std.proofs.Common.{ℕ, ◌≡◌, ◌≢◌, ◌∙◌, ap, sym, refl, subst, Bool, IsTrue, true, false, List, Option, Some, None, Ok, Err, inl, inr}
+use Rattle.std.proofs.Common.{ℕ, ◌≡◌, ◌≢◌, ◌∙◌, ap, sym, refl, subst, Bool, IsTrue, true, false, Option, Some, None, Ok, Err, inl, inr}
 use Rattle.std.specs.Prelude.{Result, option_map}
 use Rattle.std.specs.FinMap as map
 use Rattle.rent_buf.specs.Buf.{built}
@@ -14,7 +14,7 @@ use Rattle.ring_core.specs.declared.request.Request.{Request}
 use Rattle.ring_core.specs.Effect.{made_by}
 use Rattle.ring_core.specs.Request.{named, plain_request}
 use Rattle.driver_core.specs.Holds.{unheld_by}
-use Rattle.driver_core.specs.Op.{Holds, KeepsTokens}
+use Rattle.driver_core.specs.Op.{KeepsTokens}
 use Rattle.driver_core.specs.Ops.{Ops}
 use Rattle.driver_core.specs.Requests.{request_in as asked_in}
 use Rattle.driver_core.specs.Slot.{flies_in, is_flying, serial_of}
@@ -26,15 +26,15 @@ use Rattle.driver_core.specs.declared.operations.calls.CallAnswer.TheVariants.{D
 use Rattle.driver_core.specs.declared.slot.Slot.{Slot}
 use Rattle.ready_driver.specs.Awaits.{is_met_at, slot_awaits, unless}
 use Rattle.ready_driver.specs.Calling.{Called, CallsOnce, MakesCall, request_in}
-use Rattle.ready_driver.specs.Io.{CallsFor, IoView, IsLater, IsMade}
-use Rattle.ready_driver.specs.LegacyPolls.{EndsFor, EndsOp, HandsOver, outcome_by, outcome_for}
+use Rattle.ready_driver.specs.Io.{IoView, IsLater, IsMade}
+use Rattle.ready_driver.specs.LegacyPolls.{HandsOver, outcome_for}
 use Rattle.ready_driver.specs.LegacyState.{LegacyState, ops_in}
-use Rattle.ready_driver.specs.Named.{IsCompleted, PollsSlotFor}
+use Rattle.ready_driver.specs.Named.{IsCompleted}
 use Rattle.ready_driver.specs.Registry.{Handling}
 use Rattle.op_driver.specs.Legacy.{LegacyPolls}
 use Rattle.relay_net.specs.Flow.{IfAsked, IsPending, asked_at}
 use Rattle.relay_net.specs.Keeping.{KeepsOps, KeepsUsers, world_of}
-use Rattle.relay_net.proofs.Calls.{Lawful, handed_users, later_same, later_then, lets_users, plain_in, same_users, users_then}
+use Rattle.relay_net.proofs.Calls.{Lawful, handed_users, later_same, lets_users, plain_in, same_users, users_then}
 
 -- The two ways to look up a request agree.
 same_asked : (slot : Option (Slot Buf)) → request_in slot ≡ asked_in slot
@@ -95,7 +95,8 @@ module _ {I : Type 0} (view : I → IoView) (tells memory : Bool) (files : I →
       → CallsOnce b built called slot before new after (Ok (Pending back)) → Unmoved slot new before after
   unmoved_pending false slot new before after back calls = unmoved_none slot new before after calls.object calls.slot_is
   unmoved_pending true slot new before after back calls =
-      let does = (law before (plain_request built calls.made.request) after (plain_request built calls.now) WouldBlock calls.made.calls).0 in
+      let does = (law before (plain_request built calls.made.request) after (plain_request built calls.now) WouldBlock
+      calls.made.calls).0 in
       record {
         later = does.later;
         world = does.world;
@@ -108,7 +109,8 @@ module _ {I : Type 0} (view : I → IoView) (tells memory : Bool) (files : I →
   unmoved_starved false slot new before after error calls = unmoved_none slot new before after calls.object calls.slot_is
   unmoved_starved true slot new before after error (inl none) = unmoved_none slot new before after none.object none.slot_is
   unmoved_starved true slot new before after error (inr calls) =
-      let does = (law before (plain_request built calls.made.request) after (plain_request built calls.now) OutOfMemory calls.made.calls).0 in
+      let does = (law before (plain_request built calls.made.request) after (plain_request built calls.now) OutOfMemory
+      calls.made.calls).0 in
       record {
         later = does.later;
         world = does.world;
@@ -215,7 +217,8 @@ module _ {I : Type 0} (view : I → IoView) (tells memory : Bool) (files : I →
         call = ends.call;
         request = plain_request built made.request;
         asked = ap (option_map (plain_request built)) (sym (same_asked (map.get old.slots.values op.key)) ∙ made.asked);
-        made = law old.handling.io (plain_request built made.request) ends.mid.io (plain_request built done.request) (Done ends.call) made.calls;
+        made = law old.handling.io (plain_request built made.request) ends.mid.io (plain_request built done.request) (Done ends.call)
+            made.calls;
         table = ends.polls.table;
         outcome = ends.outcome;
         handed = ends.handed;

@@ -1,5 +1,5 @@
 -- What a round of one connection leaves of all connections.
-use Rattle.std.proofs.Common.{ℕ, ◌≡◌, ◌≢◌, ◌∙◌, ◌≤◌, ap, sym, refl, subst, arith, Bool, IsTrue, true, false, List, [], ◌∷◌, ◌++◌, length}
+use Rattle.std.proofs.Common.{ℕ, ◌≡◌, ◌≢◌, ◌∙◌, ap, sym, refl, subst, arith, Bool, IsTrue, List, [], ◌∷◌, ◌++◌, length}
 use Rattle.std.proofs.Common.{Option, Some, None, Ok, Err, inl, inr}
 use Rattle.std.specs.Prelude.{◌⊎◌, Result, slice_get, slice_set}
 use Rattle.std.proofs.lemmas.Option.{slice_get_within}
@@ -19,11 +19,12 @@ use Rattle.ready_driver.specs.Io.{IoView, IsLater}
 use Rattle.ready_driver.specs.LegacyState.{LegacyState, ops_in}
 use Rattle.ready_driver.specs.Registry.{is_users}
 use Rattle.net_stream.specs.Told.{IsStream, output_at}
-use Rattle.relay_net.specs.Connection.{EndsConnection, FitsBack, FitsConnection, IsLostAs, IsOutside, IsOver, KeepsElsewhere, KeepsLines}
+use Rattle.driver_core.proofs.Lists.{get-front}
+use Rattle.relay_net.specs.Connection.{EndsConnection, FitsBack, FitsConnection, IsLostAs, IsOutside, IsOver, KeepsLines}
 use Rattle.relay_net.specs.Connection.{KeepsStreams, LeavesConnection, Serves, far_of, held_back, held_by, held_forth, near_of}
-use Rattle.relay_net.specs.Flow.{FitsStage, IfAsked, IsElse, IsPending, IsReceive, IsSend, asked_at, line}
-use Rattle.relay_net.specs.Keeping.{KeepsOps, KeepsUsers, world_of}
-use Rattle.relay_net.specs.Relay.{AreBeside, AreServed, Becomes, FitsAccept, IsAccept, IsAmong, IsApartFrom, IsApartFromAll, IsOpenStill}
+use Rattle.relay_net.specs.Flow.{IsReceive, IsSend, asked_at, line}
+use Rattle.relay_net.specs.Keeping.{KeepsOps, world_of}
+use Rattle.relay_net.specs.Relay.{AreBeside, AreServed, Becomes, FitsAccept, IsAccept, IsAmong, IsApartFrom}
 use Rattle.relay_net.specs.Relay.{IsServed, IsSound, Serving, StopsUnless, WasClosed, WasLost}
 use Rattle.relay_net.specs.declared.connection.Connection.{Connection}
 use Rattle.relay_net.specs.declared.connection.Served.{Served}
@@ -33,7 +34,7 @@ use Rattle.relay_net.specs.declared.round.RelayError.{RelayError}
 use Rattle.relay_net.specs.declared.round.RelayError.TheVariants as why
 use Rattle.relay_net.proofs.Calls.{later_then, pending_kept}
 use Rattle.relay_net.proofs.Connections.{asked_as, receive_else, send_else, stage_kept}
-use Rattle.relay_net.proofs.Places.{get_front, get_last, get_pushed, get_removed, get_set, get_set_other, placed, placed_differ}
+use Rattle.relay_net.proofs.Places.{get_last, get_removed, get_set, get_set_other, placed, placed_differ}
 use Rattle.relay_net.proofs.Places.{placed_from, placed_other}
 
 -- A receive or a send at a handle that is neither of two is none of either direction between them.
@@ -147,7 +148,8 @@ module _ {I : Type 0} (view : I → IoView) (tells : Bool) where
   accept_beside old new near far listener None keeps fits = tt
   accept_beside old new near far listener (Some op) keeps fits =
       pending_kept old new op (IsAccept listener)
-      (keeps op fits.holds (asked_as (asked_at old op) (IsAccept listener) (IsOutside near far) (accept_outside listener near far) fits.asks))
+      (keeps op fits.holds (asked_as (asked_at old op) (IsAccept listener) (IsOutside near far) (accept_outside listener near far)
+      fits.asks))
       fits
 
   -- All connections are served once one of them had its round.
@@ -205,8 +207,10 @@ module _ {I : Type 0} (view : I → IoView) (tells : Bool) where
       → Becomes view tells start was old all closed failed → Becomes view tells start was new (slice_set all k now) closed failed
   becomes_set start old new was conn now answer all k closed failed listener streams served there serves (inl still) =
       elim (same-or-not still.place k) [
-        | inl e ↦ let is : still.now ≡ conn = found_same (slice_get all k) still.now conn (ap (slice_get all) (sym e) ∙ still.there) there in
-            let mine : Serves view tells old new still.now now answer = subst (λ c. Serves view tells old new c now answer) (sym is) serves in
+        | inl e ↦ let is : still.now ≡ conn = found_same (slice_get all k) still.now conn (ap (slice_get all) (sym e) ∙ still.there)
+            there in
+            let mine : Serves view tells old new still.now now answer = subst (λ c. Serves view tells old new c now answer) (sym is)
+            serves in
             inl (record {
               place = k;
               now = now;
@@ -339,7 +343,8 @@ module _ {I : Type 0} (view : I → IoView) (tells : Bool) where
   becomes_removed start old new was conn all k closed later failed lost listener streams served there ends more_closed more_lost this
       (inl still) =
       elim (same-or-not still.place k) [
-        | inl e ↦ let is : still.now ≡ conn = found_same (slice_get all k) still.now conn (ap (slice_get all) (sym e) ∙ still.there) there in
+        | inl e ↦ let is : still.now ≡ conn = found_same (slice_get all k) still.now conn (ap (slice_get all) (sym e) ∙ still.there)
+            there in
             let near : near_of was ≡ near_of conn = sym still.near ∙ ap near_of is in
             let far : far_of was ≡ far_of conn = sym still.far ∙ ap far_of is in
             inr (
@@ -353,7 +358,8 @@ module _ {I : Type 0} (view : I → IoView) (tells : Bool) where
                     far_far = λ same. apart.far_far (sym far ∙ same);
                   },
               this (lines_then tells (world_of view start) (world_of view old) (world_of view new) (near_of was) (far_of was)
-                  (held_forth (ops_in start) was) (held_back (ops_in start) was) (held_forth (ops_in old) conn) (held_back (ops_in old) conn)
+                  (held_forth (ops_in start) was) (held_back (ops_in start) was) (held_forth (ops_in old) conn) (held_back (ops_in old)
+                  conn)
                   (held_forth (ops_in old) conn) (held_back (ops_in old) conn) streams
                   (subst (λ c. KeepsLines tells (world_of view start) (world_of view old) (near_of was) (far_of was)
                   (held_forth (ops_in start) was) (held_back (ops_in start) was) (held_forth (ops_in old) c) (held_back (ops_in old) c)) is
@@ -423,7 +429,7 @@ module _ {I : Type 0} (view : I → IoView) (tells : Bool) where
       → Serving view tells start was new (remove all k) (closed ++ near_of conn ∷ []) failed
   serving_closed start old new was conn all k closed failed listener served there ends over serving = record {
     each = λ one among. becomes_removed start old new one conn all k closed (closed ++ near_of conn ∷ []) failed failed listener
-        serving.streams served there ends (λ n is. (is.0, get_front closed (near_of conn ∷ []) is.0 n is.1)) (λ lost is. is)
+        serving.streams served there ends (λ n is. (is.0, get-front closed (near_of conn ∷ []) is.0 n is.1)) (λ lost is. is)
         (λ lines near. inl (record {
           named = (length closed, get_last closed (near_of conn) ∙ ap Some near);
           lines = subst (λ f. KeepsLines tells (world_of view start) (world_of view new) (near_of one) (far_of one)
@@ -448,7 +454,7 @@ module _ {I : Type 0} (view : I → IoView) (tells : Bool) where
       → Serving view tells start was new (remove all k) closed (failed ++ lost ∷ [])
   serving_lost start old new was conn all k fault closed failed lost listener served there ends is rose serving = record {
     each = λ one among. becomes_removed start old new one conn all k closed closed failed (failed ++ lost ∷ []) listener
-        serving.streams served there ends (λ n at. at) (λ other at. (at.0, get_front failed (lost ∷ []) at.0 other at.1))
+        serving.streams served there ends (λ n at. at) (λ other at. (at.0, get-front failed (lost ∷ []) at.0 other at.1))
         (λ lines near. inr (record {
           lost = lost;
           named = (length failed, get_last failed lost);
@@ -483,7 +489,7 @@ pub served_rest : {I : Type 0} (view : I → IoView) (tells : Bool) (old new : L
     → EndsConnection view tells old (near_of conn) (far_of conn) new → AreServed (ops_in new) new.handling.table listener rest
 served_rest view tells old new listener all rest conn is served ends = record {
   each = λ k other at.
-      let was = ap (λ xs. slice_get xs k) is ∙ get_front rest (conn ∷ []) k other at in
+      let was = ap (λ xs. slice_get xs k) is ∙ get-front rest (conn ∷ []) k other at in
       let apart = served.apart k (length rest) other conn (λ same. not_last k other at same) was
       (ap (λ xs. slice_get xs (length rest)) is ∙ get_last rest conn) in
       let own = served.each k other was in
@@ -495,8 +501,8 @@ served_rest view tells old new listener all rest conn is served ends = record {
         far_other = own.far_other;
       };
   apart = λ j k one other differ at_one at_other.
-      served.apart j k one other differ (ap (λ xs. slice_get xs j) is ∙ get_front rest (conn ∷ []) j one at_one)
-      (ap (λ xs. slice_get xs k) is ∙ get_front rest (conn ∷ []) k other at_other);
+      served.apart j k one other differ (ap (λ xs. slice_get xs j) is ∙ get-front rest (conn ∷ []) j one at_one)
+      (ap (λ xs. slice_get xs k) is ∙ get-front rest (conn ∷ []) k other at_other);
 }
   where
     not_last : (k : ℕ) (other : Connection) → slice_get rest k ≡ Some other → k ≡ length rest → ⊥

@@ -83,7 +83,8 @@ held_in ops (Receiving op) = []
 held_in ops (Held buf) = content_of buf
 held_in ops (Sending op count) = bytes_sent (asked_at ops op)
 
--- All bytes of a direction, the first ones first: those that were sent to its second handle, those that are held, and those that wait at its
+-- All bytes of a direction, the first ones first: those that were sent to its second handle, those that are held, and those that wait at
+-- its
 -- first handle.
 abbrev pub line : List HandleState → ℕ → ℕ → List ℕ → List ℕ
 line world from to held = output_at world to ++ (held ++ input_at world from)

@@ -1,5 +1,5 @@
 -- What a call on the driver leaves of all that it isn't about. Cited by each layer of the relay.
-use Rattle.std.specs.Prelude.{ℕ, ◌≡◌, ◌≤◌, ◌+◌, ◌⊎◌, Bool, true, IsTrue, List, Option, Some, None}
+use Rattle.std.specs.Prelude.{ℕ, ◌≡◌, ◌⊎◌, Bool, true, IsTrue, List, Option, Some, None}
 use Rattle.std.specs.FinMap as map
 use Rattle.rent_buf.specs.Counts.{Rose}
 use Rattle.rent_buf.specs.Buffer.{Buffer}
@@ -16,7 +16,7 @@ use Rattle.driver_core.specs.declared.op.SubmitFault.TheVariants.{Os}
 use Rattle.ready_driver.specs.Io.{IoView, IsLater}
 use Rattle.ready_driver.specs.LegacyState.{LegacyState, ops_in}
 use Rattle.ready_driver.specs.Registry.{is_users}
-use Rattle.net_stream.specs.Told.{IsSentTo, IsStream, IsTaken}
+use Rattle.net_stream.specs.Told.{IsSentTo, IsTaken}
 use Rattle.relay_net.specs.Flow.{IfAsked, IsElse, asked_at}
 use Rattle.relay_net.specs.declared.flow.Came.{Came}
 use Rattle.relay_net.specs.declared.flow.Came.TheVariants.{Goes, Ended, Failed, Stopped}

@@ -1,5 +1,5 @@
 -- What a round does before it serves the connections: the turn, the accept, and the other end. Cited by `opening`, `far` and `relay`.
-use Rattle.std.specs.Prelude.{ℕ, ◌≡◌, ◌≢◌, ◌⊎◌, Bool, true, false, IsTrue, List, [], ◌∷◌, ◌++◌, length, Option, Some, None, Result, Ok, Err, slice_get}
+use Rattle.std.specs.Prelude.{ℕ, ◌≡◌, ◌≢◌, ◌⊎◌, Bool, true, false, IsTrue, List}
 use Rattle.rent_buf.specs.Buffer.{Buffer}
 use Rattle.rent_buf.specs.Counts.{Rose}
 use Rattle.rent_buf.specs.Parts.{Parts}
@@ -66,7 +66,8 @@ abbrev pub IsFar : Table → Table → ℕ → ℕ → Type 0
 IsFar old new near far = (far ≡ near) ⊎ IsNew old new far
 
 -- Each connection that was open is open still.
-pub record Opening {I : Type 0} (view : I → IoView) (tells : Bool) (old : LegacyState I Buf) (was : List Connection) (new : LegacyState I Buf)
+pub record Opening {I : Type 0} (view : I
+    → IoView) (tells : Bool) (old : LegacyState I Buf) (was : List Connection) (new : LegacyState I Buf)
     (open_ones : List Connection) : Type 0 where
   pub each : (conn : Connection) → IsAmong was conn → IsOpenStill view tells old conn new open_ones
   pub later : IsLater (view old.handling.io) (view new.handling.io)

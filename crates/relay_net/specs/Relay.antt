@@ -1,23 +1,21 @@
 -- The connections of a relay, and what a round leaves of each. Cited by `state` and `relay`.
-use Rattle.std.specs.Prelude.{ℕ, ◌≡◌, ◌≢◌, ◌≤◌, ◌+◌, ◌⊎◌, Bool, true, false, IsTrue, List, [], length, Option, Some, None, Result, Ok, Err, slice_get}
+use Rattle.std.specs.Prelude.{ℕ, ◌≡◌, ◌≢◌, ◌+◌, ◌⊎◌, Bool, true, false, IsTrue, List, [], length, Option, Some, None, Result, Ok, Err}
+use Rattle.std.specs.Prelude.{slice_get}
 use Rattle.rent_buf.specs.Buffer.{Buffer}
 use Rattle.rent_buf.specs.Counts.{Rose}
 use Rattle.rent_buf.specs.Parts.{Parts}
 use Rattle.rent_buf.specs.declared.plain.Buf.{Buf}
 use Rattle.handle_core.specs.Table.{Table}
-use Rattle.ring_core.specs.World.{input_at}
 use Rattle.ring_core.specs.declared.request.Request.{Request}
-use Rattle.ring_core.specs.declared.request.Request.TheVariants.{Recv, Send, Accept}
-use Rattle.ring_core.specs.declared.world.HandleState.{HandleState}
+use Rattle.ring_core.specs.declared.request.Request.TheVariants.{Accept}
 use Rattle.driver_core.specs.Ops.{Ops}
 use Rattle.driver_core.specs.declared.op.Op.{Op}
 use Rattle.ready_driver.specs.Io.{IoView, IsLater}
 use Rattle.ready_driver.specs.LegacyState.{LegacyState, ops_in}
 use Rattle.ready_driver.specs.Registry.{is_users}
-use Rattle.net_stream.specs.Told.{IsStream, output_at}
 use Rattle.relay_net.specs.Connection.{FitsConnection, KeepsLines, KeepsStreams, far_of, held_back, held_forth, near_of}
 use Rattle.relay_net.specs.Flow.{IsPending}
-use Rattle.relay_net.specs.Keeping.{KeepsOps, KeepsUsers, StopsFor, world_of}
+use Rattle.relay_net.specs.Keeping.{StopsFor, world_of}
 use Rattle.relay_net.specs.declared.connection.Connection.{Connection}
 use Rattle.relay_net.specs.declared.round.Lost.{Lost}
 use Rattle.relay_net.specs.declared.round.RelayError.{RelayError}
@@ -107,9 +105,11 @@ Becomes view tells old conn new open_ones closed failed =
     IsOpenStill view tells old conn new open_ones
     ⊎ (IsApartFromAll conn open_ones × (WasClosed view tells old conn new closed ⊎ WasLost view tells old conn new failed))
 
--- What became of each connection that was open. A connection is among those that failed only where the object counted a call that ended with
+-- What became of each connection that was open. A connection is among those that failed only where the object counted a call that ended
+-- with
 -- an error.
-pub record Serving {I : Type 0} (view : I → IoView) (tells : Bool) (old : LegacyState I Buf) (was : List Connection) (new : LegacyState I Buf)
+pub record Serving {I : Type 0} (view : I
+    → IoView) (tells : Bool) (old : LegacyState I Buf) (was : List Connection) (new : LegacyState I Buf)
     (open_ones : List Connection) (closed : List ℕ) (failed : List Lost) : Type 0 where
   pub each : (conn : Connection) → IsAmong was conn → Becomes view tells old conn new open_ones closed failed
   pub fails : (lost : Lost) → IsAmong failed lost → Rose (view old.handling.io).fails (view new.handling.io).fails

@@ -1,16 +1,14 @@
 -- A relay as contracts see it, and what its rounds show. Cited by `Relay`.
-use Rattle.std.specs.Prelude.{ℕ, ◌≡◌, List, [], Option, Result, Ok, Err, refl}
+use Rattle.std.specs.Prelude.{ℕ, ◌≡◌, List, Option, Result, Ok, Err, refl}
 use Rattle.std.specs.Coded.{Coded, code_by, coded×, coded_ℕ, coded_list, coded_option}
-use Rattle.rent_buf.specs.Counts.{Rose}
 use Rattle.rent_buf.specs.declared.plain.Buf.{Buf}
 use Rattle.driver_core.specs.declared.op.Op.{Op}
 use Rattle.driver_core.specs.declared.op.Stop.{Stop}
-use Rattle.driver_core.specs.declared.op.Stop.TheVariants.{RingFault, Busy, BadCompletion, Os, OutOfMemory}
+use Rattle.driver_core.specs.declared.op.Stop.TheVariants.{OutOfMemory}
 use Rattle.ready_driver.specs.Io.{IoView}
 use Rattle.ready_driver.specs.LegacyState.{LegacyState}
 use Rattle.relay_net.specs.Keeping.{StopsFor}
 use Rattle.relay_net.specs.declared.connection.Connection.{Connection}
-use Rattle.relay_net.specs.declared.round.Lost.{Lost}
 use Rattle.relay_net.specs.declared.round.RelayError.{RelayError}
 use Rattle.relay_net.specs.declared.round.Round.{Round}
 

@@ -1,5 +1,5 @@
 -- What the steps of a direction do. Cited by `flow`.
-use Rattle.std.specs.Prelude.{ℕ, ◌≡◌, IsTrue, Bool, List, [], Option}
+use Rattle.std.specs.Prelude.{ℕ, ◌≡◌, IsTrue, Bool, List, Option}
 use Rattle.rent_buf.specs.declared.plain.Buf.{Buf}
 use Rattle.ready_driver.specs.Io.{IoView, IsLater}
 use Rattle.ready_driver.specs.LegacyState.{LegacyState, ops_in}

@@ -119,7 +119,7 @@ pub(crate) fn serve<I: NonBlock>(
     Served::Open
 }
 
-// Gives a handle up.
+// Releases a handle.
 pub(crate) fn release<I: NonBlock>(driver: &mut Reads<I>, fd: SharedFd)
     requires held { is_users driver.old.handling.table fd ≡ true }
     ensures releases { Releases I.view I.tells driver.old fd driver.new }

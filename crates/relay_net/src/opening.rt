@@ -156,7 +156,7 @@ fn far_stop(why: NonBlockError) -> RelayError
     }
 }
 
-// Opens a connection of a fresh handle. Where there is no other end the handle is given up.
+// Opens a connection of a fresh handle. Where there is no other end the handle is released.
 pub(crate) fn open_one<I: Sockets, F: Far<I>>(
     state: &mut State<I>,
     far: &mut F,

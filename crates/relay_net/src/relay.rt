@@ -127,7 +127,7 @@ fn round_with(remote: Woken, lists: Lists) -> Round
     }
 }
 
-// How a round goes on behind a turn.
+// How a round goes on after a turn.
 fn turn_stop(stop: Option<Stop>) -> Result<(), RelayError>
     ensures { TurnStops stop result }
 {
@@ -210,7 +210,7 @@ fn accept<I: Sockets, F: Far<I>>(
     }
 }
 
-// What a round does behind a turn that didn't stop.
+// What a round does after a turn that didn't stop.
 fn work<I: Sockets, F: Far<I>>(
     state: &mut State<I>,
     far: &mut F,
@@ -242,7 +242,7 @@ fn work<I: Sockets, F: Far<I>>(
     serve_all(state, alloc, &mut lists.ended)
 }
 
-// What a round does behind its turn.
+// What a round does after its turn.
 fn behind<I: Sockets, F: Far<I>>(
     state: &mut State<I>,
     far: &mut F,
@@ -336,7 +336,7 @@ impl<I: Sockets, F: Far<I>> Relay<I, F> {
     /// A round: a turn of the driver, which waits so many milliseconds at most, and not at all where that is `None`; then an accept, where
     /// there is a place; then a step of each direction of each connection, the lowest near handle first. Each connection that was open is
     /// open still, was closed or failed; at an error too, which says why the round stopped: then the next one goes on. At most 129
-    /// operations are submitted. An accepted connection that gets no other end is given up. (not in monoio)
+    /// operations are submitted. The handle of an accepted connection that gets no other end is released. (not in monoio)
     pub fn round<R: Wait + Clock, P: Ledger, D: Ledger>(
         &mut self,
         rt: &R,
@@ -455,3 +455,6 @@ impl<I: Sockets, F: Far<I>> Drop for Relay<I, F> {
         end_all(state);
     }
 }
+
+#[cfg(test)]
+mod tests;

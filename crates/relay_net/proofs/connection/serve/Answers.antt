@@ -18,7 +18,8 @@ returns-in_default-step_back g c =
     let first = c.step_forth.ensures.given in
     let second = c.step_back.ensures.given in
     record {
-      serves = serves_then g.I.NonBlock.view g.I.NonBlock.tells c.args.driver.now c.step_forth.new.driver c.step_back.new.driver c.args.conn.now c.step_forth.new.conn
+      serves = serves_then g.I.NonBlock.view g.I.NonBlock.tells c.args.driver.now c.step_forth.new.driver c.step_back.new.driver
+          c.args.conn.now c.step_forth.new.conn
           c.step_back.new.conn c.step_back.result c.in-Open.ensures.serves c.step_back.ensures.serves;
       over = going_over (ops_in c.step_back.new.driver) c.step_back.new.conn c.step_back.result c.step_back.ensures.going;
       given = omega (arith, first, second);
@@ -27,10 +28,12 @@ returns-in_default-step_back g c =
 pub returns-then-is_over-clause-serves : goal.returns-then-is_over-clause-serves
 returns-then-is_over-clause-serves g c =
     serves_closed g.I.NonBlock.view g.I.NonBlock.tells c.args.driver.now c.step_back.new.driver c.args.conn.now c.step_back.new.conn
-    (serves_then g.I.NonBlock.view g.I.NonBlock.tells c.args.driver.now c.step_forth.new.driver c.step_back.new.driver c.args.conn.now c.step_forth.new.conn
+    (serves_then g.I.NonBlock.view g.I.NonBlock.tells c.args.driver.now c.step_forth.new.driver c.step_back.new.driver c.args.conn.now
+    c.step_forth.new.conn
     c.step_back.new.conn Open c.in-Open.ensures.serves c.in-Open-step_back.ensures.serves)
 
 pub returns-clause-serves : goal.returns-clause-serves
 returns-clause-serves g c =
-    serves_then g.I.NonBlock.view g.I.NonBlock.tells c.args.driver.now c.step_forth.new.driver c.step_back.new.driver c.args.conn.now c.step_forth.new.conn
+    serves_then g.I.NonBlock.view g.I.NonBlock.tells c.args.driver.now c.step_forth.new.driver c.step_back.new.driver c.args.conn.now
+    c.step_forth.new.conn
     c.step_back.new.conn Open c.in-Open.ensures.serves c.in-Open-step_back.ensures.serves

@@ -17,7 +17,8 @@ returns-in-Ok-Ready-clause-flows g c =
     c.args.driver.now c.poll_op.new.self c.args.op c.in-Ok-Ready.done 0 c.args.from c.args.to c.received_buffer.result
     c.received.result.0 c.received.result.1
     (subst (λ a. LegacyPolls g.I.NonBlock.files built g.I.Calls.called g.I.NonBlock.view g.I.NonBlock.tells g.I.NonBlock.memory
-    c.args.driver.now c.poll_op.new.self c.args.op 0 (Ok a)) c.in-Ok-Ready.field-0-is c.in-Ok-Ready.ensures.polls) c.requires.pending c.received_buffer.ensures c.received.ensures.ended
+    c.args.driver.now c.poll_op.new.self c.args.op 0 (Ok a)) c.in-Ok-Ready.field-0-is c.in-Ok-Ready.ensures.polls) c.requires.pending
+    c.received_buffer.ensures c.received.ensures.ended
 
 pub returns-in-Err-clause-flows : goal.returns-in-Err-clause-flows
 returns-in-Err-clause-flows g c =

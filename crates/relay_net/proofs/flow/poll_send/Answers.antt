@@ -16,10 +16,12 @@ returns-in-Ok-Ready-clause-flows g c =
     c.args.driver.now c.poll_op.new.self c.args.op c.in-Ok-Ready.done 0 c.args.from c.args.to c.args.count c.sent_buffer.result
     c.sent.result.0 c.sent.result.1
     (subst (λ a. LegacyPolls g.I.NonBlock.files built g.I.Calls.called g.I.NonBlock.view g.I.NonBlock.tells g.I.NonBlock.memory
-    c.args.driver.now c.poll_op.new.self c.args.op 0 (Ok a)) c.in-Ok-Ready.field-0-is c.in-Ok-Ready.ensures.polls) c.requires.pending c.sent_buffer.ensures c.sent.ensures.ended
+    c.args.driver.now c.poll_op.new.self c.args.op 0 (Ok a)) c.in-Ok-Ready.field-0-is c.in-Ok-Ready.ensures.polls) c.requires.pending
+    c.sent_buffer.ensures c.sent.ensures.ended
 
 pub returns-in-Err-clause-flows : goal.returns-in-Err-clause-flows
 returns-in-Err-clause-flows g c =
     send_stops g.I.NonBlock.view g.I.NonBlock.tells g.I.NonBlock.memory g.I.NonBlock.files g.I.Calls.called g.met.I.NonBlock.calls
-    c.args.driver.now c.poll_op.new.self c.args.op c.in-Err.op c.in-Err.field-0-0 0 c.args.from c.args.to c.args.count c.in-Err.ensures.polls
+    c.args.driver.now c.poll_op.new.self c.args.op c.in-Err.op c.in-Err.field-0-0 0 c.args.from c.args.to c.args.count
+    c.in-Err.ensures.polls
     c.in-Err.ensures.tokens c.requires.pending

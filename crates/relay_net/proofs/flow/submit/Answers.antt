@@ -6,10 +6,12 @@ use Rattle.relay_net.proofs.flow.submit.Goals as goal
 
 pub returns-in-Ok-clause-stays : goal.returns-in-Ok-clause-stays
 returns-in-Ok-clause-stays g c =
-    submitted_stays g.I.NonBlock.view g.I.NonBlock.tells g.I.NonBlock.memory c.args.driver.now c.submit_op.new.self c.args.request c.in-Ok.op
+    submitted_stays g.I.NonBlock.view g.I.NonBlock.tells g.I.NonBlock.memory c.args.driver.now c.submit_op.new.self c.args.request
+    c.in-Ok.op
     c.in-Ok.ensures.submits c.in-Ok.ensures.token c.given.ensures.numbers
 
 pub returns-in-Ok-clause-pends : goal.returns-in-Ok-clause-pends
 returns-in-Ok-clause-pends g c =
-    submitted_pends g.I.NonBlock.view g.I.NonBlock.tells g.I.NonBlock.memory c.args.driver.now c.submit_op.new.self c.args.request c.in-Ok.op
+    submitted_pends g.I.NonBlock.view g.I.NonBlock.tells g.I.NonBlock.memory c.args.driver.now c.submit_op.new.self c.args.request
+    c.in-Ok.op
     (λ asked. asked ≡ plain_request built c.args.request) c.in-Ok.ensures.submits c.in-Ok.ensures.token refl

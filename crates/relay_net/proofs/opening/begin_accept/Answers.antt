@@ -6,20 +6,26 @@ use Rattle.relay_net.proofs.opening.begin_accept.Goals as goal
 
 pub returns-in-Ok-clause-sound : goal.returns-in-Ok-clause-sound
 returns-in-Ok-clause-sound g c =
-    widens_sound g.I.NonBlock.view g.I.NonBlock.tells c.args.state.now.driver c.submit.new.driver c.args.state.now.listener c.args.state.now.accept c.hold.new.slot c.args.state.now.open.items
+    widens_sound g.I.NonBlock.view g.I.NonBlock.tells c.args.state.now.driver c.submit.new.driver c.args.state.now.listener
+    c.args.state.now.accept c.hold.new.slot c.args.state.now.open.items
     c.requires.sound (stays_widens g.I.NonBlock.view g.I.NonBlock.tells c.args.state.now.driver c.submit.new.driver c.in-Ok.ensures.stays)
     (subst (FitsAccept (ops_in c.submit.new.driver) c.args.state.now.listener) (sym c.hold.ensures) c.in-Ok.ensures.pends)
 
 pub returns-in-Ok-clause-opening : goal.returns-in-Ok-clause-opening
 returns-in-Ok-clause-opening g c = λ start was opening.
-    opening_widens g.I.NonBlock.view g.I.NonBlock.tells start c.args.state.now.driver c.submit.new.driver was c.args.state.now.open.items c.args.state.now.listener
-    (stays_widens g.I.NonBlock.view g.I.NonBlock.tells c.args.state.now.driver c.submit.new.driver c.submit.ensures.stays) c.requires.sound.served opening
+    opening_widens g.I.NonBlock.view g.I.NonBlock.tells start c.args.state.now.driver c.submit.new.driver was c.args.state.now.open.items
+    c.args.state.now.listener
+    (stays_widens g.I.NonBlock.view g.I.NonBlock.tells c.args.state.now.driver c.submit.new.driver c.submit.ensures.stays)
+    c.requires.sound.served opening
 
 pub returns-clause-sound : goal.returns-clause-sound
 returns-clause-sound g c =
-    stays_sound g.I.NonBlock.view g.I.NonBlock.tells c.args.state.now.driver c.submit.new.driver c.args.state.now.listener c.args.state.now.accept c.args.state.now.open.items c.requires.sound c.submit.ensures.stays
+    stays_sound g.I.NonBlock.view g.I.NonBlock.tells c.args.state.now.driver c.submit.new.driver c.args.state.now.listener
+    c.args.state.now.accept c.args.state.now.open.items c.requires.sound c.submit.ensures.stays
 
 pub returns-clause-opening : goal.returns-clause-opening
 returns-clause-opening g c = λ start was opening.
-    opening_widens g.I.NonBlock.view g.I.NonBlock.tells start c.args.state.now.driver c.submit.new.driver was c.args.state.now.open.items c.args.state.now.listener
-    (stays_widens g.I.NonBlock.view g.I.NonBlock.tells c.args.state.now.driver c.submit.new.driver c.submit.ensures.stays) c.requires.sound.served opening
+    opening_widens g.I.NonBlock.view g.I.NonBlock.tells start c.args.state.now.driver c.submit.new.driver was c.args.state.now.open.items
+    c.args.state.now.listener
+    (stays_widens g.I.NonBlock.view g.I.NonBlock.tells c.args.state.now.driver c.submit.new.driver c.submit.ensures.stays)
+    c.requires.sound.served opening

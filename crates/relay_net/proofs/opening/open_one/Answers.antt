@@ -7,21 +7,25 @@ use Rattle.relay_net.proofs.opening.open_one.Goals as goal
 
 pub returns-then-is_err-clause-sound : goal.returns-then-is_err-clause-sound
 returns-then-is_err-clause-sound g c =
-    subst (IsSound (ops_in c.release.new.driver) c.release.new.driver.handling.table c.args.state.now.listener c.args.state.now.accept) (sym c.reserve.ensures.items)
-    (released_sound g.I.NonBlock.view g.I.NonBlock.tells c.args.state.now.driver c.release.new.driver c.args.state.now.listener c.args.state.now.accept c.args.state.now.open.items
+    subst (IsSound (ops_in c.release.new.driver) c.release.new.driver.handling.table c.args.state.now.listener c.args.state.now.accept)
+    (sym c.reserve.ensures.items)
+    (released_sound g.I.NonBlock.view g.I.NonBlock.tells c.args.state.now.driver c.release.new.driver c.args.state.now.listener
+    c.args.state.now.accept c.args.state.now.open.items
     c.args.near c.release.ensures.releases c.requires.fresh c.requires.sound)
 
 pub returns-then-is_err-clause-opening : goal.returns-then-is_err-clause-opening
 returns-then-is_err-clause-opening g c = λ start was opening.
     subst (Opening g.I.NonBlock.view g.I.NonBlock.tells start was c.release.new.driver) (sym c.reserve.ensures.items)
-    (released_opening g.I.NonBlock.view g.I.NonBlock.tells start c.args.state.now.driver c.release.new.driver was c.args.state.now.open.items c.args.state.now.listener
+    (released_opening g.I.NonBlock.view g.I.NonBlock.tells start c.args.state.now.driver c.release.new.driver was
+    c.args.state.now.open.items c.args.state.now.listener
     c.args.near c.release.ensures.releases c.requires.sound.served opening)
 
 pub returns-in-Ok-clause-sound : goal.returns-in-Ok-clause-sound
 returns-in-Ok-clause-sound g c =
     subst (IsSound (ops_in c.far.new.driver) c.far.new.driver.handling.table c.args.state.now.listener c.args.state.now.accept)
     (sym (c.push_reserved.ensures.items ∙ ap (λ xs. xs ++ c.new.result ∷ []) c.reserve.ensures.items))
-    (opened_sound g.I.NonBlock.view g.I.NonBlock.tells c.args.state.now.driver c.far.new.driver c.args.state.now.listener c.args.state.now.accept
+    (opened_sound g.I.NonBlock.view g.I.NonBlock.tells c.args.state.now.driver c.far.new.driver c.args.state.now.listener
+    c.args.state.now.accept
     c.args.state.now.open.items c.args.near c.in-Ok.far c.new.result c.requires.sound c.far.ensures.widens c.far.ensures.ops
     c.requires.fresh c.in-Ok.ensures.far c.new.ensures.handles (c.new.ensures.fits (ops_in c.far.new.driver)))
 
@@ -30,26 +34,33 @@ returns-in-Ok-clause-opening g c = λ start was opening.
     subst (Opening g.I.NonBlock.view g.I.NonBlock.tells start was c.far.new.driver)
     (sym (c.push_reserved.ensures.items ∙ ap (λ xs. xs ++ c.new.result ∷ []) c.reserve.ensures.items))
     (opening_pushed g.I.NonBlock.view g.I.NonBlock.tells start c.far.new.driver was c.args.state.now.open.items c.new.result
-    (opening_widens g.I.NonBlock.view g.I.NonBlock.tells start c.args.state.now.driver c.far.new.driver was c.args.state.now.open.items c.args.state.now.listener
+    (opening_widens g.I.NonBlock.view g.I.NonBlock.tells start c.args.state.now.driver c.far.new.driver was c.args.state.now.open.items
+    c.args.state.now.listener
     c.far.ensures.widens c.requires.sound.served opening))
 
 pub returns-in-Err-clause-sound : goal.returns-in-Err-clause-sound
 returns-in-Err-clause-sound g c =
-    subst (IsSound (ops_in c.release-in-Err.new.driver) c.release-in-Err.new.driver.handling.table c.args.state.now.listener c.args.state.now.accept)
+    subst (IsSound (ops_in c.release-in-Err.new.driver) c.release-in-Err.new.driver.handling.table c.args.state.now.listener
+    c.args.state.now.accept)
     (sym c.reserve.ensures.items)
-    (released_sound g.I.NonBlock.view g.I.NonBlock.tells c.far.new.driver c.release-in-Err.new.driver c.args.state.now.listener c.args.state.now.accept
+    (released_sound g.I.NonBlock.view g.I.NonBlock.tells c.far.new.driver c.release-in-Err.new.driver c.args.state.now.listener
+    c.args.state.now.accept
     c.args.state.now.open.items c.args.near c.release-in-Err.ensures.releases
     (fresh_kept c.args.state.now.driver.handling.table c.far.new.driver.handling.table c.args.state.now.listener c.args.state.now.open.items
     c.args.near c.far.ensures.widens.users c.requires.fresh)
-    (kept_sound g.I.NonBlock.view g.I.NonBlock.tells c.args.state.now.driver c.far.new.driver c.args.state.now.listener c.args.state.now.accept
+    (kept_sound g.I.NonBlock.view g.I.NonBlock.tells c.args.state.now.driver c.far.new.driver c.args.state.now.listener
+    c.args.state.now.accept
     c.args.state.now.open.items c.requires.sound c.far.ensures.widens c.far.ensures.ops))
 
 pub returns-in-Err-clause-opening : goal.returns-in-Err-clause-opening
 returns-in-Err-clause-opening g c = λ start was opening.
     subst (Opening g.I.NonBlock.view g.I.NonBlock.tells start was c.release-in-Err.new.driver) (sym c.reserve.ensures.items)
-    (released_opening g.I.NonBlock.view g.I.NonBlock.tells start c.far.new.driver c.release-in-Err.new.driver was c.args.state.now.open.items c.args.state.now.listener
+    (released_opening g.I.NonBlock.view g.I.NonBlock.tells start c.far.new.driver c.release-in-Err.new.driver was
+    c.args.state.now.open.items c.args.state.now.listener
     c.args.near c.release-in-Err.ensures.releases
-    (kept_sound g.I.NonBlock.view g.I.NonBlock.tells c.args.state.now.driver c.far.new.driver c.args.state.now.listener c.args.state.now.accept
+    (kept_sound g.I.NonBlock.view g.I.NonBlock.tells c.args.state.now.driver c.far.new.driver c.args.state.now.listener
+    c.args.state.now.accept
     c.args.state.now.open.items c.requires.sound c.far.ensures.widens c.far.ensures.ops).served
-    (opening_widens g.I.NonBlock.view g.I.NonBlock.tells start c.args.state.now.driver c.far.new.driver was c.args.state.now.open.items c.args.state.now.listener
+    (opening_widens g.I.NonBlock.view g.I.NonBlock.tells start c.args.state.now.driver c.far.new.driver was c.args.state.now.open.items
+    c.args.state.now.listener
     c.far.ensures.widens c.requires.sound.served opening))

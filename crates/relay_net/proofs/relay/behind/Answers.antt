@@ -20,5 +20,6 @@ pub returns-in-Err-clause-serving : goal.returns-in-Err-clause-serving
 returns-in-Err-clause-serving g c = λ start was opening.
     subst (λ closed. Serving g.I.NonBlock.view g.I.NonBlock.tells start was c.args.state.now.driver c.args.state.now.open.items closed
     c.args.lists.now.ended.failed.items) (sym c.requires.none.0)
-    (subst (Serving g.I.NonBlock.view g.I.NonBlock.tells start was c.args.state.now.driver c.args.state.now.open.items []) (sym c.requires.none.1)
+    (subst (Serving g.I.NonBlock.view g.I.NonBlock.tells start was c.args.state.now.driver c.args.state.now.open.items []) (sym
+    c.requires.none.1)
     (opening_serving g.I.NonBlock.view g.I.NonBlock.tells start c.args.state.now.driver was c.args.state.now.open.items opening))

@@ -19,5 +19,6 @@ end-requires-clause-far g c =
 
 pub loop-conn-preserved : goal.loop-conn-preserved
 loop-conn-preserved g c =
-    served_rest g.I.NonBlock.view g.I.NonBlock.tells c.loop-conn.driver c.end.new.driver c.args.listener c.loop-conn.open.items c.pop.new.self.items
+    served_rest g.I.NonBlock.view g.I.NonBlock.tells c.loop-conn.driver c.end.new.driver c.args.listener c.loop-conn.open.items
+    c.pop.new.self.items
     c.in-Some.conn c.in-Some.ensures.items c.loop-conn.invariant c.end.ensures.ends

@@ -32,4 +32,5 @@ returns-clause-stops g c =
     stops_later (g.I.NonBlock.view c.args.state.now.driver.handling.io) (g.I.NonBlock.view c.accept.new.state.driver.handling.io)
     (g.I.NonBlock.view c.serve_all.new.state.driver.handling.io) c.serve_all.result
     (c.accept.ensures.opening c.args.state.now.driver c.args.state.now.open.items
-    (opening_starts g.I.NonBlock.view g.I.NonBlock.tells c.args.state.now.driver c.args.state.now.open.items)).later c.serve_all.ensures.stops
+    (opening_starts g.I.NonBlock.view g.I.NonBlock.tells c.args.state.now.driver c.args.state.now.open.items)).later
+    c.serve_all.ensures.stops

@@ -1,8 +1,7 @@
-use Rattle.std.proofs.Common.{◌≡◌, ◌∙◌, ap, refl, subst, sym, ◌++◌, ◌∷◌, []}
+use Rattle.std.proofs.Common.{refl, subst, sym}
 use Rattle.std.specs.List.{remove}
 use Rattle.std.proofs.lemmas.Option.{slice_get_read}
 use Rattle.ready_driver.specs.LegacyState.{ops_in}
-use Rattle.relay_net.specs.Connection.{near_of}
 use Rattle.relay_net.specs.Relay.{IsSound, Serving}
 use Rattle.relay_net.proofs.Relays.{serving_lost, sound_removed}
 use Rattle.relay_net.proofs.state.lose_at.Goals as goal

@@ -1,4 +1,4 @@
-use Rattle.std.proofs.Common.{◌≡◌, ◌≤◌, ◌+◌, ◌*◌, ◌-◌, List, ℕ}
+use Rattle.std.proofs.Common.{◌≡◌, ◌≤◌, ◌+◌, ◌*◌, ◌-◌, List}
 use Rattle.std.specs.Vec.{vec_len, vec_capacity}
 use Rattle.rent_buf.specs.declared.plain.Buf.{Buf}
 use Rattle.ready_driver.specs.Io.{IsLater}

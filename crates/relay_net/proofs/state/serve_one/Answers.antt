@@ -1,4 +1,4 @@
-use Rattle.std.proofs.Common.{refl, subst, slice_set}
+use Rattle.std.proofs.Common.{refl, subst}
 use Rattle.std.proofs.lemmas.Option.{slice_get_read}
 use Rattle.ready_driver.specs.LegacyState.{ops_in}
 use Rattle.relay_net.specs.Connection.{IsOverIf}

@@ -8,5 +8,6 @@ returns-clause-ends g c =
     let far = far_of c.args.self in
     ends_then g.I.NonBlock.view g.I.NonBlock.tells c.args.driver.now c.abandon.new.driver c.release.new.driver near far
     (abandons_ends g.I.NonBlock.view g.I.NonBlock.tells c.args.driver.now c.abandon.new.driver near far c.abandon.ensures.drops)
-    (ends_then g.I.NonBlock.view g.I.NonBlock.tells c.abandon.new.driver c.end_back.new.driver c.release.new.driver near far c.end_back.ensures.ends
+    (ends_then g.I.NonBlock.view g.I.NonBlock.tells c.abandon.new.driver c.end_back.new.driver c.release.new.driver near far
+    c.end_back.ensures.ends
     (releases_near g.I.NonBlock.view g.I.NonBlock.tells c.end_back.new.driver c.release.new.driver near far c.release.ensures.releases))
