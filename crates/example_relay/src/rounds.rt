@@ -2,7 +2,7 @@
 use anyhow::{Result, bail};
 use driver_core::MOST_GIVEN;
 use ready_driver::{LegacyDriver, Sockets};
-use relay_net::{Far, Relay};
+use relay_net::{Far, Relay, Round};
 use rent_buf::Buf;
 use std::alloc::Global;
 use std::sync::Wait;
@@ -37,6 +37,29 @@ pub fn listen<I: Sockets, F: Far<I>>(
     }
 }
 
+// How many connections a round closed, and how many it lost.
+fn count_of(round: &Round) -> Ended {
+    Ended {
+        closed: round.closed.len(),
+        failed: round.failed.len(),
+    }
+}
+
+// A round that waits a second at most: what it ended, also where it stopped. None where the driver has no operations left for it.
+fn make_round<R: Wait + Clock, I: Sockets, F: Far<I>, P: Ledger, D: Ledger>(
+    rt: &R,
+    relay: &mut Relay<I, F>,
+    sleeper: &mut Sleeper<P, D>,
+) -> Option<Ended> {
+    if relay.driver().given() > MOST_GIVEN - 129 {
+        return None;
+    }
+    match relay.round(rt, sleeper, Some(1000)) {
+        Ok(round) => Some(count_of(&round)),
+        Err((_, round)) => Some(count_of(&round)),
+    }
+}
+
 // A relay, and how many connections are to end.
 #[derive(Drop)]
 struct Rounds<'a, R, I: Sockets, F: Far<I>> {
@@ -60,15 +83,14 @@ impl<'a, R: Wait + Clock, I: Sockets, F: Far<I>> Work for Rounds<'a, R, I, F> {
         let mut sleeper = sleeper;
         let (mut closed, mut failed) = (0usize, 0usize);
         for _ in 0..u64::MAX {
-            if closed.saturating_add(failed) >= count || relay.driver().given() > MOST_GIVEN - 129 {
+            if closed.saturating_add(failed) >= count {
                 break;
             }
-            let round = match relay.round(rt, &mut sleeper, Some(1000)) {
-                Ok(round) => round,
-                Err((_, round)) => round,
+            let Some(ended) = make_round(rt, relay, &mut sleeper) else {
+                break;
             };
-            closed = closed.saturating_add(round.closed.len());
-            failed = failed.saturating_add(round.failed.len());
+            closed = closed.saturating_add(ended.closed);
+            failed = failed.saturating_add(ended.failed);
         }
         Ended { closed, failed }
     }
