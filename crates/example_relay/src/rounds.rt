@@ -1,6 +1,7 @@
 // Rounds of a relay, until so many connections have ended.
 use anyhow::{Result, bail};
 use driver_core::MOST_GIVEN;
+use handle_core::SharedFd;
 use ready_driver::{LegacyDriver, Sockets};
 use relay_net::{Far, Relay, Round};
 use rent_buf::Buf;
@@ -20,6 +21,22 @@ pub struct Ended {
     pub failed: usize,
 }
 
+/// A relay that accepts at a handle, and whose other ends are these.
+pub fn over<I: Sockets, F: Far<I>>(
+    alloc: Global,
+    driver: LegacyDriver<I, Buf>,
+    listener: SharedFd,
+    far: F,
+) -> Result<Relay<I, F>> {
+    if !driver.user_holds(listener.number()) {
+        bail!("the listener isn't held");
+    }
+    match Relay::new(alloc, driver, listener, MOST, far) {
+        Ok(relay) => Ok(relay),
+        Err((why, _driver)) => Err(why.into()),
+    }
+}
+
 /// A relay that listens on a port, and whose other ends are these.
 pub fn listen<I: Sockets, F: Far<I>>(
     alloc: Global,
@@ -28,13 +45,7 @@ pub fn listen<I: Sockets, F: Far<I>>(
     far: F,
 ) -> Result<Relay<I, F>> {
     let listener = driver.listen(port)?;
-    if !driver.user_holds(listener.number()) {
-        bail!("the listener isn't held");
-    }
-    match Relay::new(alloc, driver, listener, MOST, far) {
-        Ok(relay) => Ok(relay),
-        Err((why, _)) => Err(why.into()),
-    }
+    over(alloc, driver, listener, far)
 }
 
 // How many connections a round closed, and how many it lost.

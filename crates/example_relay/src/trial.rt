@@ -1,8 +1,9 @@
 // Peers of an echo, by std's sockets.
-use crate::rounds::{Ended, serve};
+use crate::rounds::{Ended, over, serve};
 use anyhow::{Result, bail};
+use handle_core::SharedFd;
 use ready_driver::{LegacyDriver, Sockets};
-use relay_net::{Mirror, Relay};
+use relay_net::Mirror;
 use rent_buf::Buf;
 use std::alloc::Global;
 use std::io::{Print, Read, Write};
@@ -13,22 +14,12 @@ use std::time::Clock;
 // What they say.
 const TEXTS: [&str; 3] = ["there and back", "", "x"];
 
-// A relay that listens on the first port that is free, and that port.
-fn listen<I: Sockets>(
-    alloc: Global,
-    mut driver: LegacyDriver<I, Buf>,
-) -> Result<(Relay<I, Mirror>, u16)> {
+// A handle that listens on the first port that is free, and that port.
+fn bind<I: Sockets>(driver: &mut LegacyDriver<I, Buf>) -> Result<(SharedFd, u16)> {
     for port in 41217..41317 {
-        let Ok(listener) = driver.listen(port) else {
-            continue;
-        };
-        if !driver.user_holds(listener.number()) {
-            break;
+        if let Ok(listener) = driver.listen(port) {
+            return Ok((listener, port));
         }
-        return match Relay::new(alloc, driver, listener, 2, Mirror) {
-            Ok(relay) => Ok((relay, port)),
-            Err((why, _)) => Err(why.into()),
-        };
     }
     bail!("no port is free")
 }
@@ -37,9 +28,10 @@ fn listen<I: Sockets>(
 pub fn trial<R: Wait + Clock + Print + Net<Stream = TcpStream>, I: Sockets>(
     rt: &R,
     alloc: Global,
-    driver: LegacyDriver<I, Buf>,
+    mut driver: LegacyDriver<I, Buf>,
 ) -> Result<()> {
-    let (mut relay, port) = listen(alloc, driver)?;
+    let (listener, port) = bind(&mut driver)?;
+    let mut relay = over(alloc, driver, listener, Mirror)?;
     let mut peers = Vec::new(alloc);
     for text in TEXTS {
         let mut peer = TcpStream::connect(rt, SocketAddr::from((Ipv4Addr::LOCALHOST, port)))?;
