@@ -18,7 +18,7 @@ use Rattle.driver_core.specs.declared.op.Done.{Done}
 use Rattle.driver_core.specs.declared.operations.calls.CallAnswer.{CallAnswer}
 use Rattle.driver_core.specs.declared.slot.Slot.{Slot}
 use Rattle.driver_core.specs.Calls.{CallsSlot}
-use Rattle.driver_core.specs.Slot.{with_life, is_flying, PollsSlot, PollsThis, PollsAt, DropsSlot, DropsThis, DropsAt}
+use Rattle.driver_core.specs.Slot.{with_life, is_flying, PollsSlot, PollsThis, PollsAt, EndsSlot, DropsSlot, DropsThis, DropsAt}
 use Rattle.driver_core.proofs.Lists.{some}
 use Rattle.driver_core.proofs.Maps.{put-same, remove-put}
 
@@ -80,6 +80,12 @@ module _ {B : Type 0} (old : FinMap nat_cmp (Slot B)) (key task : ℕ) (mid : Fi
         sym is.0,
         gone ∙ ap (λ m. remove m key) p.slots ∙ remove-put old key (with_life p.slot (polled p.slot.life task)),
       ))
+
+-- What comes out of a slot that is taken out is its own.
+pub taken-ends : {B : Type 0} (old new : FinMap nat_cmp (Slot B)) (key : ℕ) (outcome : Outcome) (slot : Slot B) →
+    Some slot ≡ get old key → new ≡ remove old key → EndsSlot old key outcome new (record { outcome = outcome; request = slot.request })
+taken-ends old new key outcome slot is gone =
+    λ s there. (refl, ap (λ (x : Slot _). x.request) (some slot s (get old key) (sym is) there), gone)
 
 -- A slot that is left is ignored.
 pub ignored-left : (l : Lifecycle Outcome) → after_drop l ≡ Left → dropped l ≡ Ignored

@@ -13,7 +13,7 @@ use Rattle.ring_core.specs.declared.request.Outcome.{Outcome}
 use Rattle.driver_core.specs.declared.op.Done.{Done}
 use Rattle.driver_core.specs.declared.op.Op.{Op}
 use Rattle.driver_core.specs.declared.slot.Slot.{Slot}
-use Rattle.driver_core.specs.Slot.{with_life, number_at, number_if, serial_of, is_owned_life, PollsAt, DropsAt, KeepsNumbers}
+use Rattle.driver_core.specs.Slot.{with_life, number_at, number_if, serial_of, is_owned_life, PollsAt, EndsSlot, DropsAt, KeepsNumbers}
 use Rattle.driver_core.specs.Op.{number_of}
 use Rattle.driver_core.specs.Ops.{AreNumbered}
 use Rattle.ring_core.proofs.Numbers.{same-or-not}
@@ -87,6 +87,10 @@ module _ {B : Type 0} (old : FinMap nat_cmp (Slot B)) (op : Op) (holds : number_
   pub poll-spends : (task : ℕ) (new : FinMap nat_cmp (Slot B)) (done : Done B) → PollsAt old op.key task new (Some done) → (o : Op) →
       (number_at new o.key ≡ Some (number_of o)) ↔ ((number_at old o.key ≡ Some (number_of o)) × (o ≢ op))
   poll-spends task new done polls = gone-tokens new (polls held-slot.slot held-slot.there).2
+
+  pub end-spends : (outcome : Outcome) (new : FinMap nat_cmp (Slot B)) (done : Done B) → EndsSlot old op.key outcome new done → (o : Op) →
+      (number_at new o.key ≡ Some (number_of o)) ↔ ((number_at old o.key ≡ Some (number_of o)) × (o ≢ op))
+  end-spends outcome new done ends = gone-tokens new (ends held-slot.slot held-slot.there).2
 
   pub drop-spends : (new : FinMap nat_cmp (Slot B)) (answer : AfterDrop) → DropsAt old op.key new answer → (o : Op) →
       (number_at new o.key ≡ Some (number_of o)) ↔ ((number_at old o.key ≡ Some (number_of o)) × (o ≢ op))

@@ -90,6 +90,11 @@ PollsThis old key task new slot (Some done) =
 abbrev pub PollsAt : {B : Type 0} → map.FinMap nat_cmp (Slot B) → ℕ → ℕ → map.FinMap nat_cmp (Slot B) → Option (Done B) → Type 0
 PollsAt {B} old key task new result = (slot : Slot B) → map.get old key ≡ Some slot → PollsThis old key task new slot result
 
+-- What ending an operation with an outcome does: its request comes out with the outcome, and its slot goes.
+abbrev pub EndsSlot : {B : Type 0} → map.FinMap nat_cmp (Slot B) → ℕ → Outcome → map.FinMap nat_cmp (Slot B) → Done B → Type 0
+EndsSlot {B} old key outcome new done =
+    (slot : Slot B) → map.get old key ≡ Some slot → (done.outcome ≡ outcome) × (done.request ≡ slot.request) × (new ≡ map.remove old key)
+
 -- What a drop does to a slot of its user's: one in flight is left, ignored from then on; one that is completed goes.
 abbrev pub DropsThis : {B : Type 0} → map.FinMap nat_cmp (Slot B) → ℕ → map.FinMap nat_cmp (Slot B) → Slot B → AfterDrop → Type 0
 DropsThis old key new slot Left = (is_flying slot.life ≡ true) × (new ≡ map.insert old key (with_life slot Ignored))

@@ -1,8 +1,8 @@
 //! The operations of a driver: each in a slot, with its number and its token.
 ghost use Rattle.std.specs.Prelude.{◌≡◌, ◌≤◌, ◌<◌, ◌↔◌, Some, IsTrue, OnOk, OnErr, IfNone, false, option_copied};
 ghost use Rattle.std.specs.FinMap as map;
-ghost use Rattle.driver_core.specs.Slot.{flies_in, CompletesSlot, KeepsNumbers};
-ghost use Rattle.driver_core.specs.Op.{Holds, HoldsNone, DropsToken, AddsToken, PollsTokens};
+ghost use Rattle.driver_core.specs.Slot.{flies_in, CompletesSlot, EndsSlot, KeepsNumbers};
+ghost use Rattle.driver_core.specs.Op.{Holds, HoldsNone, key_of, DropsToken, AddsToken, PollsTokens};
 ghost use Rattle.driver_core.specs.Operations.{Submits, PollsOp, DropsOp, offered, Stores};
 ghost use Rattle.driver_core.specs.Ops.{AreNumbered};
 ghost use Rattle.driver_core.specs.Requests.{request_at, ReturnsRequest, KeepsRequests};
@@ -12,17 +12,17 @@ ghost use Rattle.ring_core.specs.Surroundings.{around};
 
 mod calls;
 
-use crate::op::{Op, PollOp};
+use crate::op::{Done, Op, PollOp};
 use crate::slot::{
-    Slot, complete_slot, drop_at, dropped_names, is_dropped, is_maker, is_numbered, made_in,
-    names_in, poll_at, store_in,
+    Slot, complete_slot, drop_at, dropped_names, end_at, is_dropped, is_maker, is_numbered,
+    made_in, names_in, poll_at, store_in,
 };
 pub use calls::{CallAnswer, Calls};
 use op_slots::slab::MAX_LIVE;
 use op_slots::{AfterDrop, Lifecycle, Slab};
 use rent_buf::{ByteList, IoBufMut, OutOfMemory, VecBuf};
 use ring_core::ledger::MOST_LIVE;
-use ring_core::{Completion, Names, Payloads, Request};
+use ring_core::{Completion, Names, Outcome, Payloads, Request};
 use std::alloc::Global;
 use std::marker::Model;
 
@@ -184,6 +184,16 @@ impl<B: Drop> Operations<B> {
                 PollOp::Ready(done)
             }
         }
+    }
+
+    /// Ends an operation with an outcome: its request comes out, and its slot goes. It takes no memory.
+    pub fn end_op(&mut self, op: Op, outcome: Outcome) -> Done<B>
+        requires { Holds self.old op }
+        ensures ends { EndsSlot self.old.slots.values (key_of op) outcome self.new.slots.values result }
+        ensures token { DropsToken self.old self.new op }
+        ensures given { self.new.given ≡ self.old.given }
+    {
+        end_at(&mut self.slots, op.spend(), outcome)
     }
 
     /// Drops an operation. It answers whether the slot is left, which it is until the operation is reaped.

@@ -6,7 +6,7 @@ ghost use Rattle.ring_core.specs.Request.{listed};
 ghost use Rattle.ring_core.specs.Surroundings.{around};
 ghost use Rattle.driver_core.specs.Holds.{named_in, dropped_in, made_in, is_maker, is_dropped};
 ghost use Rattle.driver_core.specs.Slot.{has_number, flies_in, fits_in, KeepsNumbers};
-ghost use Rattle.driver_core.specs.Slot.{PollsSlot, PollsAt, DropsSlot, DropsAt, CompletesSlot, FillsSlot};
+ghost use Rattle.driver_core.specs.Slot.{PollsSlot, PollsAt, EndsSlot, DropsSlot, DropsAt, CompletesSlot, FillsSlot};
 ghost use Rattle.driver_core.specs.Requests.{surroundings_in, StaysHeld};
 
 use crate::op::Done;
@@ -152,6 +152,24 @@ fn take_done<B: Drop>(slots: &mut Slab<Slot<B>>, key: usize) -> Done<B>
                 Lifecycle::Completed(outcome) => Done { outcome, request },
                 _ => unreachable!(),
             }
+        }
+        None => unreachable!(),
+    }
+}
+
+/// Takes a live slot out: what its request holds comes out with an outcome.
+pub fn end_at<B: Drop>(slots: &mut Slab<Slot<B>>, key: usize, outcome: Outcome) -> Done<B>
+    requires { IsSome (map.get slots.old.values key) }
+    ensures { EndsSlot slots.old.values key outcome slots.new.values result }
+{
+    match slots.remove(key) {
+        Some(slot) => {
+            let Slot {
+                serial: _,
+                request,
+                life: _,
+            } = slot;
+            Done { outcome, request }
         }
         None => unreachable!(),
     }

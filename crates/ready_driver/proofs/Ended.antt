@@ -25,7 +25,7 @@ use Rattle.driver_core.specs.declared.op.Done.{Done}
 use Rattle.driver_core.specs.declared.operations.calls.CallAnswer.{CallAnswer}
 use Rattle.driver_core.specs.Calls.{CallsSlot}
 use Rattle.driver_core.specs.Slot.{is_owned_life, number_at, is_flying, flies_in, with_life, PollsAt, slots_completed, slots_if}
-use Rattle.driver_core.specs.Slot.{slots_after}
+use Rattle.driver_core.specs.Slot.{slots_after, EndsSlot}
 use Rattle.driver_core.specs.Slot.{CompletesSlot}
 use Rattle.driver_core.proofs.Lists.{some, amended-twice}
 use Rattle.driver_core.proofs.Maps.{put-same, put-self, remove-put}
@@ -33,7 +33,7 @@ use Rattle.driver_core.proofs.Numbers.{Owner, owner}
 use Rattle.driver_core.proofs.Polling.{polled-flies, called-now}
 use Rattle.ready_driver.specs.Legacy.{Legacy, slot_at}
 use Rattle.ready_driver.specs.LegacyStep.{freed, op_effect, ends_with, poll_op, poll_slot, with_ask}
-use Rattle.ready_driver.specs.Polling.{LifeFor, SlotFor, SlotsStand, EndsSlot, asked_at}
+use Rattle.ready_driver.specs.Polling.{LifeFor, SlotFor, SlotsStand, asked_at}
 use Rattle.ready_driver.proofs.Slots.{slots-put, slots-gone, asked-same, asked-other}
 
 -- A slot that is its user's and in flight is completed in its place.
@@ -145,33 +145,6 @@ module _ {B : Type 0} (old new : FinMap nat_cmp (Slot B)) (key number : ℕ) (c 
           subst (λ m. SlotsStand buffer m (asked_at D own.slot.serial))
           (put-self old key own.slot own.there ∙ sym (completes-landed old new c result own.slot named is completes))
           (put own.slot refl refl (landed-life fits.op.asked own.slot.life fits.life is))
-
-  -- In flight, it is ended by this completion and the poll behind it.
-  module _ (flies : flies_in (get old key) ≡ true) where
-    -- It is in flight.
-    own-flies : is_flying own.slot.life ≡ true
-    own-flies = ap flies_in (sym own.there) ∙ flies
-
-    -- It is completed.
-    now-there : get new key ≡ Some (with_life own.slot (Completed c.outcome))
-    now-there = ap (λ m. get m key) (flying-new own-flies) ∙ put-same old key (with_life own.slot (Completed c.outcome))
-
-    -- That poll isn't pending.
-    pub ends-polled : (task : ℕ) (behind : FinMap nat_cmp (Slot B)) → PollsAt new key task behind None → ⊥
-    ends-polled task behind polls =
-        (let e : false ≡ true = (polls (with_life own.slot (Completed c.outcome)) now-there).0 in let f : ⊥ = cc in f)
-
-    -- It returns the request with the outcome.
-    pub ended-slot : (outcome : Outcome) (task : ℕ) (behind : FinMap nat_cmp (Slot B)) (done : Done B) → c.outcome ≡ outcome →
-        PollsAt new key task behind (Some done) → EndsSlot old key outcome behind done
-    ended-slot outcome task behind done is polls = λ slot there. (
-        let p = polls (with_life own.slot (Completed c.outcome)) now-there in
-        let e : done.outcome ≡ c.outcome = (let q = p.0 in cc) in
-        let same : own.slot ≡ slot = some own.slot slot (get old key) own.there there in (
-          e ∙ is,
-          p.1 ∙ ap (λ s. s.request) same,
-          p.2 ∙ ap (λ m. remove m key) (flying-new own-flies) ∙ remove-put old key (with_life own.slot (Completed c.outcome)),
-        ))
 
 -- Slots that are those of a driver are so with other handles and users.
 slots-beside : {B : Type 0} (buffer : B → Buffer) (slots : FinMap nat_cmp (Slot B)) (D : Legacy) (world : List HandleState)
@@ -353,19 +326,6 @@ module _ {B : Type 0} (buffer : B → Buffer) (D : Legacy) (old : FinMap nat_cmp
         made.world ∙ ap (λ left. left.world) effect-is ∙ sym (ap (λ p. p.0.world) made-driven),
         ap (λ p. length p.0.slots) made-driven ∙ length-amended (λ slot. None) D.slots number,
       )
-
--- The slot of an operation that is its user's is in flight after a poll that waits, and a call.
-pub called-flies : {B C : Type 0} (buffer : B → Buffer) (old : FinMap nat_cmp (Slot B)) (key number : ℕ) →
-    number_at old key ≡ Some number → (called : C → Request Buffer Parts → C → Request Buffer Parts → CallAnswer → Type 0) (task : ℕ)
-    (mid new : FinMap nat_cmp (Slot B)) (before after : C) (answer : CallAnswer) → PollsAt old key task mid None →
-    CallsSlot buffer called mid key before new after answer → flies_in (get new key) ≡ true
-called-flies buffer old key number holds called task mid new before after answer polls calls =
-    let own : Owner old key number = owner old key number holds in
-    let t : Slot _ = with_life own.slot (polled own.slot.life task) in
-    let p = polls own.slot own.there in
-    let is : calls.slot ≡ t = some calls.slot t (get mid key) calls.there (ap (λ m. get m key) p.1 ∙ put-same old key t) in
-    ap (λ m. flies_in (get m key)) calls.slots ∙ ap flies_in (put-same mid key calls.now)
-    ∙ ap is_flying (calls.life ∙ ap (λ s. s.life) is) ∙ polled-flies own.slot.life task p.0
 
 -- The drop of an operation whose cancel is asked for: it is gone, as it is where it wasn't.
 pub freed-asked : (D : Legacy) (n : ℕ) → freed (asked_at D n) n ≡ freed D n

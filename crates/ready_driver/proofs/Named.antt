@@ -21,7 +21,7 @@ use Rattle.driver_core.specs.declared.operations.calls.CallAnswer.{CallAnswer}
 use Rattle.driver_core.specs.declared.slot.Slot.{Slot}
 use Rattle.driver_core.specs.Calls.{CallsSlot}
 use Rattle.driver_core.specs.Holds.{named_in, made_in, made_life, is_maker}
-use Rattle.driver_core.specs.Slot.{number_at, is_flying, flies_in, with_life, PollsAt}
+use Rattle.driver_core.specs.Slot.{number_at, is_flying, flies_in, with_life, PollsAt, EndsSlot}
 use Rattle.driver_core.proofs.Counted.{flying-made}
 use Rattle.driver_core.proofs.Lists.{some}
 use Rattle.driver_core.proofs.Maps.{put-same, put-other, gone-same, gone-other, remove-put}
@@ -31,7 +31,6 @@ use Rattle.ready_driver.specs.Calling.{request_in, MakesCall, CallsInSlot}
 use Rattle.driver_core.proofs.Polling.{polled-flies, called-now}
 use Rattle.ready_driver.specs.Io.{CountsFor, EndsFor}
 use Rattle.ready_driver.specs.Named.{IsCompleted, KeepsSlot, ReturnsSlot, canceled_if, canceled_in, canceled_slots}
-use Rattle.ready_driver.specs.Polling.{EndsSlot}
 
 -- A request after a count names what it named, by the way that its bytes go.
 counts-names : (way : Way) (r now : Request Buffer Parts) (k : ℕ) → CountsFor way r now k → named now ≡ named r

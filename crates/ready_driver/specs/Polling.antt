@@ -81,11 +81,6 @@ IsPending (Ok (Pending back)) = Unit {0}
 IsPending (Ok (Ready done)) = ⊥
 IsPending (Err error) = ⊥
 
--- What ending an operation in flight does: its request comes out with the outcome, and its slot goes.
-abbrev pub EndsSlot : {B : Type 0} → map.FinMap nat_cmp (Slot B) → ℕ → Outcome → map.FinMap nat_cmp (Slot B) → Done B → Type 0
-EndsSlot {B} old key outcome new done =
-    (slot : Slot B) → map.get old key ≡ Some slot → (done.outcome ≡ outcome) × (done.request ≡ slot.request) × (new ≡ map.remove old key)
-
 -- The driver once the cancel of an operation is asked for.
 abbrev pub asked_at : Legacy → ℕ → Legacy
 asked_at D n = record D { slots = amended D.slots n (option_map with_ask) }

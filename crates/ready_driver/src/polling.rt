@@ -14,10 +14,10 @@ ghost use Rattle.ready_driver.specs.LegacyStep.{freed};
 ghost use Rattle.ready_driver.specs.Awaits.{KeysFor, TokensFor};
 ghost use Rattle.ready_driver.specs.Io.{IsLater, KeepsShown, AreDue};
 ghost use Rattle.ready_driver.specs.Named.{PollsSlotFor, task_of, canceled_slots};
-ghost use Rattle.ready_driver.specs.Polling.{OpsStand, PartsStand, PollsFor, BlocksFor, IsPending, EndsSlot, asked_at, joined_at};
+ghost use Rattle.ready_driver.specs.Polling.{OpsStand, PartsStand, PollsFor, BlocksFor, IsPending, asked_at, joined_at};
 
 use crate::non_block::NonBlock;
-use driver_core::{CallAnswer, Done, MOST_GIVEN, Op, Operations, PollOp};
+use driver_core::{CallAnswer, MOST_GIVEN, Op, Operations, PollOp};
 use op_slots::AfterDrop;
 use op_slots::slab::MAX_LIVE;
 use rent_buf::{IoBufMut, OutOfMemory, VecBuf};
@@ -74,7 +74,7 @@ pub fn poll<I: NonBlock, B: IoBufMut + Drop>(
         PollOp::Pending(op) => op,
     };
     match ops.call(&op, io) {
-        CallAnswer::Done(outcome) => Ok(PollOp::Ready(end(ops, op, outcome, task))),
+        CallAnswer::Done(outcome) => Ok(PollOp::Ready(ops.end_op(op, outcome))),
         CallAnswer::WouldBlock => Ok(PollOp::Pending(op)),
         CallAnswer::OutOfMemory => Err((OutOfMemory, op)),
     }
@@ -135,27 +135,5 @@ pub fn drop_op<B: IoBufMut + Drop>(ops: &mut Operations<B>, op: Op)
     match ops.drop_op(op) {
         AfterDrop::Free => {}
         AfterDrop::Left => unreachable!(),
-    }
-}
-
-// Ends an operation in flight with an outcome: it comes out of its slot.
-fn end<B: IoBufMut + Drop>(ops: &mut Operations<B>, op: Op, outcome: Outcome, task: u64) -> Done<B>
-    requires holds { Holds ops.old op }
-    requires flies { flies_in (map.get ops.old.slots.values (key_of op)) ≡ true }
-    ensures ends { EndsSlot ops.old.slots.values (key_of op) outcome ops.new.slots.values result }
-    ensures token { DropsToken ops.old ops.new op }
-    ensures given { ops.new.given ≡ ops.old.given }
-{
-    let _ = ops.complete(&Completion {
-        word: op.key() as u64,
-        serial: op.number(),
-        outcome,
-    });
-    match ops.poll(op, task) {
-        PollOp::Ready(done) => done,
-        PollOp::Pending(op) => {
-            op.forget();
-            unreachable!()
-        }
     }
 }

@@ -31,6 +31,7 @@ mod counts;
 mod poller;
 mod probe;
 mod socket;
+mod stream;
 mod table;
 
 pub use poller::{BELL_KEY, MOST_EVENTS};
@@ -138,7 +139,7 @@ impl<R: Net> MioIo<R> {
         if prepare(&mut self.room).is_err() {
             return CallAnswer::OutOfMemory;
         }
-        match read_into(&self.table, h, &mut self.room, ask) {
+        match read_into(&mut self.table, h, &mut self.room, ask) {
             Ok(count) => {
                 request.store(&self.room[..count as usize]);
                 CallAnswer::Done(Outcome::Count(count))
@@ -187,10 +188,12 @@ fn prepare(room: &mut Vec<u8>) -> Result<(), OutOfMemory>
 }
 
 // Puts at most so many bytes of a stream at the start of the room, and answers how many.
-fn read_into(table: &Table, h: u64, room: &mut [u8], most: u32) -> Result<u32, Refusal>
+fn read_into(table: &mut Table, h: u64, room: &mut [u8], most: u32) -> Result<u32, Refusal>
     requires { length room.old ≡ MOST_MOVED }
     ensures within { IfOk result (λ n. (n ≤ most) × (n ≤ length room.new)) }
-    ensures unfit { RefusesUnfit (is_stream (finite.get table.now.kinds h)) result }
+    ensures unfit { RefusesUnfit (is_stream (finite.get table.old.kinds h)) result }
+    ensures made { table.new.made ≡ table.old.made }
+    ensures open { table.new.kinds ≡ table.old.kinds }
 {
     let most = room.len().min(most as usize);
     match table.read(h, &mut room[..most]) {
@@ -307,6 +310,7 @@ impl<R: Net + Drop> NonBlock for MioIo<R> {
     {
         match self.poller.wait(&self.rt, limit, reports) {
             Ok(()) => {
+                self.table.note(reports.as_slice());
                 self.waits = self.waits.saturating_add(1);
                 self.limit = limit;
                 Ok(())

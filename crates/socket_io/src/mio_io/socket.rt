@@ -6,13 +6,14 @@ ghost use Rattle.socket_io.specs.System.{IsLocal, error_number, refusal_of};
 ghost use Rattle.socket_io.specs.SocketTable.{kind_of, is_listener, is_stream, RefusesUnfit};
 
 use crate::mio_io::probe::Probe;
+use crate::mio_io::stream::Stream;
 use mio::event::Source;
 use mio::net::{TcpListener, TcpStream};
 use mio::{Interest, Registry, Token};
-use ready_driver::NonBlockError;
+use ready_driver::{NonBlockError, Ready};
 use ring_core::{INVALID, LAST_ERROR};
 use std::io;
-use std::io::{ErrorKind, Read as _, Write as _};
+use std::io::ErrorKind;
 use std::net::{IpAddr, Ipv4Addr, Net, SocketAddr};
 
 /// The error of a call for which the system tells no number. (Linux: `EIO`)
@@ -33,7 +34,7 @@ pub enum Socket {
     /// It accepts connections.
     Listener(TcpListener),
     /// It is a connection, or becomes one.
-    Stream(TcpStream),
+    Stream(Stream),
 }
 
 impl Socket {
@@ -48,7 +49,7 @@ impl Socket {
     pub fn dial<R: Net>(rt: &R, addr: SocketAddr) -> io::Result<Socket>
         ensures { IfOk result (λ socket. kind_of socket ≡ HandleKind.Stream) }
     {
-        Ok(Socket::Stream(TcpStream::connect(rt, addr)?))
+        Ok(Socket::Stream(Stream::over(TcpStream::connect(rt, addr)?)))
     }
 
     /// The next connection of a listener. (libc: `accept`)
@@ -58,7 +59,7 @@ impl Socket {
     {
         match self {
             Socket::Listener(listener) => match listener.accept() {
-                Ok((stream, _)) => Ok(Socket::Stream(stream)),
+                Ok((stream, _)) => Ok(Socket::Stream(Stream::over(stream))),
                 Err(error) => Err(refused_by(&error)),
             },
             Socket::Stream(_) => Err(Refusal::Error(INVALID)),
@@ -66,12 +67,13 @@ impl Socket {
     }
 
     /// Puts the next bytes of a stream at the start of the room, and answers how many. (libc: `recv`)
-    pub fn read(&self, room: &mut [u8]) -> Result<usize, Refusal>
+    pub fn read(&mut self, room: &mut [u8]) -> Result<usize, Refusal>
         ensures within { IfOk result (λ n. n ≤ length room.new) }
-        ensures unfit { RefusesUnfit (is_stream (Some (kind_of self.now))) result }
+        ensures unfit { RefusesUnfit (is_stream (Some (kind_of self.old))) result }
+        ensures kind { kind_of self.new ≡ kind_of self.old }
     {
         match self {
-            Socket::Stream(stream) => read_from(stream, room),
+            Socket::Stream(stream) => stream.read(room),
             Socket::Listener(_) => Err(Refusal::Error(INVALID)),
         }
     }
@@ -87,12 +89,32 @@ impl Socket {
         ensures { kind_of self.new ≡ kind_of self.old }
     {
         let peeked = match &*self {
-            Socket::Stream(stream) if read => Some(!peek_blocks(stream)),
+            Socket::Stream(stream) if read => Some(!stream.peek_blocks()),
             _ => None,
         };
         match peeked {
             Some(ready) => Ok(ready),
             None => probe.is_ready(rt, self, !read),
+        }
+    }
+
+    /// From now on reports tell when something comes at a stream, or none does. (not in monoio)
+    pub fn set_told(&mut self, told: bool)
+        ensures { kind_of self.new ≡ kind_of self.old }
+    {
+        match self {
+            Socket::Stream(stream) => stream.set_told(told),
+            Socket::Listener(_) => {}
+        }
+    }
+
+    /// Notes a report of it. (not in monoio)
+    pub fn note(&mut self, ready: Ready)
+        ensures { kind_of self.new ≡ kind_of self.old }
+    {
+        match self {
+            Socket::Stream(stream) => stream.note(ready),
+            Socket::Listener(_) => {}
         }
     }
 
@@ -102,7 +124,7 @@ impl Socket {
         ensures unfit { RefusesUnfit (is_stream (Some (kind_of self.now))) result }
     {
         match self {
-            Socket::Stream(stream) => write_to(stream, bytes),
+            Socket::Stream(stream) => stream.write(bytes),
             Socket::Listener(_) => Err(Refusal::Error(INVALID)),
         }
     }
@@ -125,7 +147,7 @@ impl Socket {
     {
         match self {
             Socket::Listener(listener) => register_source(registry, listener, key, interest),
-            Socket::Stream(stream) => register_source(registry, stream, key, interest),
+            Socket::Stream(stream) => register_source(registry, &mut stream.inner, key, interest),
         }
     }
 
@@ -135,37 +157,9 @@ impl Socket {
     {
         let done = match self {
             Socket::Listener(listener) => registry.deregister(listener),
-            Socket::Stream(stream) => registry.deregister(stream),
+            Socket::Stream(stream) => registry.deregister(&mut stream.inner),
         };
         done.map_err(|error| fault_by(&error))
-    }
-}
-
-// Puts the next bytes of a stream at the start of the room, and answers how many.
-fn read_from(mut stream: &TcpStream, room: &mut [u8]) -> Result<usize, Refusal>
-    ensures { IfOk result (λ n. n ≤ length room.new) }
-{
-    match stream.read(room) {
-        Ok(count) => Ok(count),
-        Err(error) => Err(refused_by(&error)),
-    }
-}
-
-// A look at the next byte of a stream would block.
-fn peek_blocks(stream: &TcpStream) -> bool {
-    match stream.peek(&mut [0; 1]) {
-        Ok(_) => false,
-        Err(error) => error.kind() == ErrorKind::WouldBlock,
-    }
-}
-
-// Sends a prefix of the bytes on a stream, and answers how many.
-fn write_to(mut stream: &TcpStream, bytes: &[u8]) -> Result<usize, Refusal>
-    ensures { IfOk result (λ n. n ≤ length bytes.now) }
-{
-    match stream.write(bytes) {
-        Ok(count) => Ok(count),
-        Err(error) => Err(refused_by(&error)),
     }
 }
 
@@ -194,7 +188,7 @@ pub fn local(port: u16) -> SocketAddr
 }
 
 // What an error of the system says of the call: that it would block, or its number.
-fn refused_by(error: &io::Error) -> Refusal
+pub(super) fn refused_by(error: &io::Error) -> Refusal
     ensures { result ≡ refusal_of (error_kind error.now) (raw_os_error error.now) }
 {
     match error.kind() {

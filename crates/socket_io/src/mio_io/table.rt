@@ -9,7 +9,7 @@ ghost use Rattle.socket_io.specs.SocketTable.{IsRoomy, kind_of, is_listener, is_
 use crate::mio_io::probe::Probe;
 use crate::mio_io::socket::{Refusal, Socket};
 use mio::Registry;
-use ready_driver::NonBlockError;
+use ready_driver::{NonBlockError, Report};
 use rent_buf::OutOfMemory;
 use ring_core::{INVALID, MOST_HANDLES};
 use std::alloc::Global;
@@ -109,13 +109,37 @@ impl Table {
     }
 
     /// Puts the next bytes of the stream of a handle at the start of the room, and answers how many. (libc: `recv`)
-    pub fn read(&self, h: u64, room: &mut [u8]) -> Result<usize, Refusal>
+    pub fn read(&mut self, h: u64, room: &mut [u8]) -> Result<usize, Refusal>
         ensures within { IfOk result (λ n. n ≤ length room.new) }
-        ensures unfit { RefusesUnfit (is_stream (finite.get self.now.kinds h)) result }
+        ensures unfit { RefusesUnfit (is_stream (finite.get self.old.kinds h)) result }
+        ensures made { self.new.made ≡ self.old.made }
+        ensures open { self.new.kinds ≡ self.old.kinds }
     {
-        match self.open.get(&h) {
-            Some(socket) => socket.read(room),
-            None => Err(Refusal::Error(INVALID)),
+        let Some(socket) = self.open.get_mut(&h) else {
+            return Err(Refusal::Error(INVALID));
+        };
+        socket.read(room)
+    }
+
+    // Notes a report with a key: that of the handle of this number, where it has one.
+    fn note_one(&mut self, report: &Report)
+        ensures made { self.new.made ≡ self.old.made }
+        ensures open { self.new.kinds ≡ self.old.kinds }
+    {
+        let h = report.key as u64;
+        let Some(socket) = self.open.get_mut(&h) else {
+            return;
+        };
+        socket.note(report.ready);
+    }
+
+    /// Notes reports that came. (not in monoio)
+    pub fn note(&mut self, reports: &[Report])
+        ensures made { self.new.made ≡ self.old.made }
+        ensures open { self.new.kinds ≡ self.old.kinds }
+    {
+        for report in reports {
+            self.note_one(report);
         }
     }
 
@@ -149,7 +173,8 @@ impl Table {
         }
     }
 
-    /// Registers the socket of a handle with a key, in place of the one that it had, if it had one. One that isn't open is a fault.
+    /// Registers the socket of a handle with a key, in place of the one that it had, if it had one. One that isn't open is a fault. Where the
+    /// key is its handle's number, reports tell when something comes at it.
     /// (monoio: `Registry::register`)
     pub fn register(&mut self, h: u64, registry: &Registry, key: usize) -> Result<(), NonBlockError>
         ensures made { self.new.made ≡ self.old.made }
@@ -159,7 +184,9 @@ impl Table {
         let Some(socket) = self.open.get_mut(&h) else {
             return Err(NonBlockError::Fault(INVALID));
         };
-        socket.register(registry, key)
+        socket.register(registry, key)?;
+        socket.set_told(key as u64 == h);
+        Ok(())
     }
 
     /// The socket of a handle isn't registered any more. One that wasn't, or isn't open, is a fault. (monoio: `Registry::deregister`)
@@ -171,6 +198,7 @@ impl Table {
         let Some(socket) = self.open.get_mut(&h) else {
             return Err(NonBlockError::Fault(INVALID));
         };
+        socket.set_told(false);
         socket.deregister(registry)
     }
 }

@@ -1,15 +1,13 @@
 use Rattle.std.proofs.Common.{◌≡◌, inl, inr, true, refl, sym, ◌∙◌, ap, subst}
 use Rattle.std.specs.FinMap.{get}
 use Rattle.driver_core.specs.Op.{key_of}
-use Rattle.driver_core.specs.Slot.{flies_in}
+use Rattle.driver_core.specs.Slot.{EndsSlot}
 use Rattle.driver_core.specs.Calls.{CallsSlot}
 use Rattle.driver_core.specs.declared.operations.calls.CallAnswer.TheVariants.{Done, WouldBlock, OutOfMemory}
 use Rattle.ring_core.specs.Request.{plain_request}
 use Rattle.ready_driver.specs.Errors.{IsCounted}
 use Rattle.ready_driver.specs.Io.{IsMade, CallsFor, AreDue}
-use Rattle.ready_driver.specs.Polling.{EndsSlot}
 use Rattle.ready_driver.proofs.Ended.{ready-reply, ready-stand, ready-rest, unmade-stand, blocks-driven, made-reply, made-stand, made-rest}
-use Rattle.ready_driver.proofs.Ended.{called-flies}
 use Rattle.ready_driver.proofs.Named.{ready-slots, ready-outcome, ready-request, called-named, calls-in-slot, calls-ended}
 use Rattle.ready_driver.proofs.Named.{unmade-slots, made-slots, made-outcome}
 use Rattle.ready_driver.proofs.polling.poll.Goals as goal
@@ -31,16 +29,6 @@ returns-in-Ready-clause-polls g c = λ memory D stand. (
       },
     ))
 
-pub end-requires-clause-flies : goal.end-requires-clause-flies
-end-requires-clause-flies g c =
-    let same = ap key_of c.in-Pending.ensures.tokens.0 in
-    subst (λ key. flies_in (get c.call.new.self.slots.values key) ≡ true) (sym same)
-    (called-flies g.B.IoBufMut.buffer c.args.ops.now.slots.values c.args.op.key c.args.op.number c.requires g.I.Calls.called c.args.task
-    c.poll.new.self.slots.values c.call.new.self.slots.values c.args.io.now c.call.new.caller c.call.result c.in-Pending.ensures.polls
-    (subst (λ key. CallsSlot g.B.IoBufMut.buffer g.I.Calls.called c.poll.new.self.slots.values key c.args.io.now
-    c.call.new.self.slots.values
-    c.call.new.caller c.call.result) same c.call.ensures.calls))
-
 pub returns-in-Done-clause-polls : goal.returns-in-Done-clause-polls
 returns-in-Done-clause-polls g c = λ memory D stand. (
     let same = ap key_of c.in-Pending.ensures.tokens.0 in
@@ -55,22 +43,22 @@ returns-in-Done-clause-polls g c = λ memory D stand. (
     g.met.I.NonBlock.calls c.args.io.now (plain_request g.B.IoBufMut.buffer calls.slot.request) c.call.new.caller
     (plain_request g.B.IoBufMut.buffer calls.now.request) (Done c.in-Done.outcome) calls.calls in
     let made = moved.called memory in
-    let ends = subst (λ key. EndsSlot c.call.new.self.slots.values key c.in-Done.outcome c.end.new.ops.slots.values c.end.result) same
-    c.end.ensures.ends in
+    let ends = subst (λ key. EndsSlot c.call.new.self.slots.values key c.in-Done.outcome c.end_op.new.self.slots.values c.end_op.result) same
+    c.end_op.ensures.ends in
     let rest = made-rest g.B.IoBufMut.buffer D c.args.ops.now.slots.values c.args.op.key c.args.op.number st c.requires g.I.Calls.called
     c.args.task c.poll.new.self.slots.values c.call.new.self.slots.values c.args.io.now c.call.new.caller (Done c.in-Done.outcome)
     c.in-Pending.ensures.polls calls
-    _ _ c.in-Done.outcome c.end.result c.end.new.ops.slots.values stand.handles made.0 ends in (
+    _ _ c.in-Done.outcome c.end_op.result c.end_op.new.self.slots.values stand.handles made.0 ends in (
       made-reply g.B.IoBufMut.buffer D c.args.ops.now.slots.values c.args.op.key c.args.op.number st c.requires g.I.Calls.called c.args.task
           c.poll.new.self.slots.values c.call.new.self.slots.values c.args.io.now c.call.new.caller (Done c.in-Done.outcome)
           c.in-Pending.ensures.polls calls _ _
-          c.in-Done.outcome c.end.result c.end.new.ops.slots.values stand.handles made.0 ends,
+          c.in-Done.outcome c.end_op.result c.end_op.new.self.slots.values stand.handles made.0 ends,
       record {
         operations = record {
-          given = c.end.ensures.given ∙ c.call.ensures.given ∙ c.poll.ensures.given ∙ stand.operations.given ∙ sym rest.1;
+          given = c.end_op.ensures.given ∙ c.call.ensures.given ∙ c.poll.ensures.given ∙ stand.operations.given ∙ sym rest.1;
           slots = made-stand g.B.IoBufMut.buffer D c.args.ops.now.slots.values c.args.op.key c.args.op.number st c.requires g.I.Calls.called
               c.args.task c.poll.new.self.slots.values c.call.new.self.slots.values c.args.io.now c.call.new.caller (Done c.in-Done.outcome)
-              c.in-Pending.ensures.polls calls _ _ c.in-Done.outcome c.end.result c.end.new.ops.slots.values stand.handles made.0 ends;
+              c.in-Pending.ensures.polls calls _ _ c.in-Done.outcome c.end_op.result c.end_op.new.self.slots.values stand.handles made.0 ends;
         };
         handles = rest.0;
       },
@@ -151,11 +139,11 @@ returns-in-Done-clause-slots g c = (
     (plain_request g.B.IoBufMut.buffer calls.now.request) c.in-Done.outcome =
     g.met.I.NonBlock.calls c.args.io.now (plain_request g.B.IoBufMut.buffer calls.slot.request) c.call.new.caller
     (plain_request g.B.IoBufMut.buffer calls.now.request) (Done c.in-Done.outcome) calls.calls in
-    let ends = subst (λ key. EndsSlot c.call.new.self.slots.values key c.in-Done.outcome c.end.new.ops.slots.values c.end.result) same
-    c.end.ensures.ends in
+    let ends = subst (λ key. EndsSlot c.call.new.self.slots.values key c.in-Done.outcome c.end_op.new.self.slots.values c.end_op.result) same
+    c.end_op.ensures.ends in
     made-slots c.args.ops.now.slots.values c.args.op.key c.args.op.number c.requires g.B.IoBufMut.buffer g.I.Calls.called c.args.task
     c.poll.new.self.slots.values c.call.new.self.slots.values c.args.io.now c.call.new.caller (Done c.in-Done.outcome)
-    c.in-Pending.ensures.polls calls c.in-Done.outcome c.end.result c.end.new.ops.slots.values moved.ends ends)
+    c.in-Pending.ensures.polls calls c.in-Done.outcome c.end_op.result c.end_op.new.self.slots.values moved.ends ends)
 
 pub returns-in-WouldBlock-clause-slots : goal.returns-in-WouldBlock-clause-slots
 returns-in-WouldBlock-clause-slots g c = (
@@ -206,12 +194,12 @@ returns-in-Done-clause-returns g c =
     (view c.call.new.caller) (plain_request g.B.IoBufMut.buffer calls.now.request) c.in-Done.outcome =
     g.met.I.NonBlock.calls c.args.io.now (plain_request g.B.IoBufMut.buffer calls.slot.request) c.call.new.caller
     (plain_request g.B.IoBufMut.buffer calls.now.request) (Done c.in-Done.outcome) calls.calls in
-    let ends = subst (λ key. EndsSlot c.call.new.self.slots.values key c.in-Done.outcome c.end.new.ops.slots.values c.end.result) same
-    c.end.ensures.ends in
+    let ends = subst (λ key. EndsSlot c.call.new.self.slots.values key c.in-Done.outcome c.end_op.new.self.slots.values c.end_op.result) same
+    c.end_op.ensures.ends in
     inr (subst (λ o. IsCounted o (view c.args.io.now) (view c.call.new.caller))
     (sym (made-outcome c.args.ops.now.slots.values c.args.op.key c.args.op.number c.requires g.B.IoBufMut.buffer g.I.Calls.called
     c.args.task c.poll.new.self.slots.values c.call.new.self.slots.values c.args.io.now c.call.new.caller (Done c.in-Done.outcome)
-    c.in-Pending.ensures.polls calls c.in-Done.outcome c.end.result c.end.new.ops.slots.values ends))
+    c.in-Pending.ensures.polls calls c.in-Done.outcome c.end_op.result c.end_op.new.self.slots.values ends))
     (record { fails = moved.fails; made = moved.made }))
 
 pub returns-in-Done-clause-shown : goal.returns-in-Done-clause-shown
@@ -289,11 +277,11 @@ returns-in-Done-clause-calls g c =
     c.call.new.self.slots.values c.call.new.caller (Done c.in-Done.outcome) =
     subst (λ key. CallsSlot g.B.IoBufMut.buffer g.I.Calls.called c.poll.new.self.slots.values key c.args.io.now
     c.call.new.self.slots.values c.call.new.caller (Done c.in-Done.outcome)) same c.in-Done.ensures.calls in
-    let ends = subst (λ key. EndsSlot c.call.new.self.slots.values key c.in-Done.outcome c.end.new.ops.slots.values c.end.result) same
-    c.end.ensures.ends in
+    let ends = subst (λ key. EndsSlot c.call.new.self.slots.values key c.in-Done.outcome c.end_op.new.self.slots.values c.end_op.result) same
+    c.end_op.ensures.ends in
     inr (calls-ended c.args.ops.now.slots.values c.args.op.key c.args.op.number c.requires g.B.IoBufMut.buffer g.I.Calls.called c.args.task
     c.poll.new.self.slots.values c.call.new.self.slots.values c.args.io.now c.call.new.caller (Done c.in-Done.outcome)
-    c.in-Pending.ensures.polls calls c.in-Done.outcome c.end.result c.end.new.ops.slots.values refl ends)
+    c.in-Pending.ensures.polls calls c.in-Done.outcome c.end_op.result c.end_op.new.self.slots.values refl ends)
 
 pub returns-in-WouldBlock-clause-calls : goal.returns-in-WouldBlock-clause-calls
 returns-in-WouldBlock-clause-calls g c =
