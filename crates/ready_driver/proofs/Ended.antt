@@ -30,7 +30,7 @@ use Rattle.driver_core.specs.Slot.{CompletesSlot}
 use Rattle.driver_core.proofs.Lists.{some, amended-twice}
 use Rattle.driver_core.proofs.Maps.{put-same, put-self, remove-put}
 use Rattle.driver_core.proofs.Numbers.{Owner, owner}
-use Rattle.driver_core.proofs.Polling.{polled-flies, called-now}
+use Rattle.driver_core.proofs.Polling.{called-now}
 use Rattle.ready_driver.specs.Legacy.{Legacy, slot_at}
 use Rattle.ready_driver.specs.LegacyStep.{freed, op_effect, ends_with, poll_op, poll_slot, with_ask}
 use Rattle.ready_driver.specs.Polling.{LifeFor, SlotFor, SlotsStand, asked_at}

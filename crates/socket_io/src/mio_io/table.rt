@@ -173,9 +173,8 @@ impl Table {
         }
     }
 
-    /// Registers the socket of a handle with a key, in place of the one that it had, if it had one. One that isn't open is a fault. Where the
-    /// key is its handle's number, reports tell when something comes at it.
-    /// (monoio: `Registry::register`)
+    /// Registers the socket of a handle with a key, in place of the one that it had, if it had one. One that isn't open is a fault. Where
+    /// the key is its handle's number, reports tell when something comes at it. (monoio: `Registry::register`)
     pub fn register(&mut self, h: u64, registry: &Registry, key: usize) -> Result<(), NonBlockError>
         ensures made { self.new.made ≡ self.old.made }
         ensures open { self.new.kinds ≡ self.old.kinds }

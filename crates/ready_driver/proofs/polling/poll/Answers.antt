@@ -1,5 +1,4 @@
-use Rattle.std.proofs.Common.{◌≡◌, inl, inr, true, refl, sym, ◌∙◌, ap, subst}
-use Rattle.std.specs.FinMap.{get}
+use Rattle.std.proofs.Common.{inl, inr, refl, sym, ◌∙◌, ap, subst}
 use Rattle.driver_core.specs.Op.{key_of}
 use Rattle.driver_core.specs.Slot.{EndsSlot}
 use Rattle.driver_core.specs.Calls.{CallsSlot}
@@ -43,7 +42,8 @@ returns-in-Done-clause-polls g c = λ memory D stand. (
     g.met.I.NonBlock.calls c.args.io.now (plain_request g.B.IoBufMut.buffer calls.slot.request) c.call.new.caller
     (plain_request g.B.IoBufMut.buffer calls.now.request) (Done c.in-Done.outcome) calls.calls in
     let made = moved.called memory in
-    let ends = subst (λ key. EndsSlot c.call.new.self.slots.values key c.in-Done.outcome c.end_op.new.self.slots.values c.end_op.result) same
+    let ends =
+    subst (λ key. EndsSlot c.call.new.self.slots.values key c.in-Done.outcome c.end_op.new.self.slots.values c.end_op.result) same
     c.end_op.ensures.ends in
     let rest = made-rest g.B.IoBufMut.buffer D c.args.ops.now.slots.values c.args.op.key c.args.op.number st c.requires g.I.Calls.called
     c.args.task c.poll.new.self.slots.values c.call.new.self.slots.values c.args.io.now c.call.new.caller (Done c.in-Done.outcome)
@@ -58,7 +58,8 @@ returns-in-Done-clause-polls g c = λ memory D stand. (
           given = c.end_op.ensures.given ∙ c.call.ensures.given ∙ c.poll.ensures.given ∙ stand.operations.given ∙ sym rest.1;
           slots = made-stand g.B.IoBufMut.buffer D c.args.ops.now.slots.values c.args.op.key c.args.op.number st c.requires g.I.Calls.called
               c.args.task c.poll.new.self.slots.values c.call.new.self.slots.values c.args.io.now c.call.new.caller (Done c.in-Done.outcome)
-              c.in-Pending.ensures.polls calls _ _ c.in-Done.outcome c.end_op.result c.end_op.new.self.slots.values stand.handles made.0 ends;
+              c.in-Pending.ensures.polls calls _ _ c.in-Done.outcome c.end_op.result c.end_op.new.self.slots.values stand.handles made.0
+              ends;
         };
         handles = rest.0;
       },
@@ -139,7 +140,8 @@ returns-in-Done-clause-slots g c = (
     (plain_request g.B.IoBufMut.buffer calls.now.request) c.in-Done.outcome =
     g.met.I.NonBlock.calls c.args.io.now (plain_request g.B.IoBufMut.buffer calls.slot.request) c.call.new.caller
     (plain_request g.B.IoBufMut.buffer calls.now.request) (Done c.in-Done.outcome) calls.calls in
-    let ends = subst (λ key. EndsSlot c.call.new.self.slots.values key c.in-Done.outcome c.end_op.new.self.slots.values c.end_op.result) same
+    let ends =
+    subst (λ key. EndsSlot c.call.new.self.slots.values key c.in-Done.outcome c.end_op.new.self.slots.values c.end_op.result) same
     c.end_op.ensures.ends in
     made-slots c.args.ops.now.slots.values c.args.op.key c.args.op.number c.requires g.B.IoBufMut.buffer g.I.Calls.called c.args.task
     c.poll.new.self.slots.values c.call.new.self.slots.values c.args.io.now c.call.new.caller (Done c.in-Done.outcome)
@@ -194,7 +196,8 @@ returns-in-Done-clause-returns g c =
     (view c.call.new.caller) (plain_request g.B.IoBufMut.buffer calls.now.request) c.in-Done.outcome =
     g.met.I.NonBlock.calls c.args.io.now (plain_request g.B.IoBufMut.buffer calls.slot.request) c.call.new.caller
     (plain_request g.B.IoBufMut.buffer calls.now.request) (Done c.in-Done.outcome) calls.calls in
-    let ends = subst (λ key. EndsSlot c.call.new.self.slots.values key c.in-Done.outcome c.end_op.new.self.slots.values c.end_op.result) same
+    let ends =
+    subst (λ key. EndsSlot c.call.new.self.slots.values key c.in-Done.outcome c.end_op.new.self.slots.values c.end_op.result) same
     c.end_op.ensures.ends in
     inr (subst (λ o. IsCounted o (view c.args.io.now) (view c.call.new.caller))
     (sym (made-outcome c.args.ops.now.slots.values c.args.op.key c.args.op.number c.requires g.B.IoBufMut.buffer g.I.Calls.called
@@ -277,7 +280,8 @@ returns-in-Done-clause-calls g c =
     c.call.new.self.slots.values c.call.new.caller (Done c.in-Done.outcome) =
     subst (λ key. CallsSlot g.B.IoBufMut.buffer g.I.Calls.called c.poll.new.self.slots.values key c.args.io.now
     c.call.new.self.slots.values c.call.new.caller (Done c.in-Done.outcome)) same c.in-Done.ensures.calls in
-    let ends = subst (λ key. EndsSlot c.call.new.self.slots.values key c.in-Done.outcome c.end_op.new.self.slots.values c.end_op.result) same
+    let ends =
+    subst (λ key. EndsSlot c.call.new.self.slots.values key c.in-Done.outcome c.end_op.new.self.slots.values c.end_op.result) same
     c.end_op.ensures.ends in
     inr (calls-ended c.args.ops.now.slots.values c.args.op.key c.args.op.number c.requires g.B.IoBufMut.buffer g.I.Calls.called c.args.task
     c.poll.new.self.slots.values c.call.new.self.slots.values c.args.io.now c.call.new.caller (Done c.in-Done.outcome)
