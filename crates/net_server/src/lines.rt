@@ -147,10 +147,10 @@ impl<L: Lines> Serve for ByLines<L> {
     }
 
     fn serve(&mut self, inbox: &mut Inbox, outbox: &mut Outbox, task: u64) -> Served {
-        if self.waits(inbox) {
-            return Served::Open;
-        }
         for _ in 0..STEPS {
+            if self.waits(inbox) {
+                return Served::Open;
+            }
             let doing = mem::replace(&mut self.doing, Doing::Over);
             let (next, more) = self.step(doing, inbox, outbox, task);
             self.doing = next;

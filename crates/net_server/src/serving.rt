@@ -82,8 +82,10 @@ impl<S: Serve> Serving<S> {
         requires fits { FitsConnection (D.ops driver.old) self.old.conn }
         ensures leaves { Leaves (D.ops driver.old) self.old.conn (D.ops driver.new) self.new.conn }
     {
-        if let Some(fault) = refusal(driver, self.conn.fd) {
-            return Err(Pass::Over(Some(fault)));
+        if !self.conn.incoming.waits() {
+            if let Some(fault) = refusal(driver, self.conn.fd) {
+                return Err(Pass::Over(Some(fault)));
+            }
         }
         match self.conn.receive(driver, task) {
             Ok(Progress::Moved) => Ok(true),
@@ -126,14 +128,26 @@ impl<S: Serve> Serving<S> {
             || self.conn.outbox.unsent().len() != unsent
     }
 
+    // Something is to be sent, or a send waits.
+    fn has_to_send(&self) -> bool {
+        self.conn.outgoing.waits()
+            || self.conn.outgoing.has_rest()
+            || !self.conn.outbox.unsent().is_empty()
+    }
+
     // Sends: whether something went.
     #[tactic(auto, using(crate::proofs::Frames::leaves_none))]
     fn send<D: OpDriver<Rent>>(&mut self, driver: &mut D, task: u64) -> Result<bool, Pass>
         requires fits { FitsConnection (D.ops driver.old) self.old.conn }
         ensures leaves { Leaves (D.ops driver.old) self.old.conn (D.ops driver.new) self.new.conn }
     {
-        if let Some(fault) = refusal(driver, self.conn.fd) {
-            return Err(Pass::Over(Some(fault)));
+        if !self.has_to_send() {
+            return Ok(false);
+        }
+        if !self.conn.outgoing.waits() {
+            if let Some(fault) = refusal(driver, self.conn.fd) {
+                return Err(Pass::Over(Some(fault)));
+            }
         }
         match self.conn.send(driver, task) {
             Ok(Progress::Moved) => Ok(true),

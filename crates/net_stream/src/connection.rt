@@ -94,8 +94,8 @@ impl Connection {
     }
 
     /// Receives: once all that came was read it submits a receive, if none waits, and polls it once, for a task that a turn of the driver
-    /// names when another call may do more. `Moved`: the inbox has more to give: bytes, the end, or a fault. Fewer than `MOST_GIVEN`
-    /// operations were submitted before.
+    /// names when another call may do more. `Moved`: the inbox has more to give: bytes, the end, or a fault. Where none waits, its user
+    /// holds the handle, and fewer than `MOST_GIVEN` operations were submitted before.
     ///
     /// A receive that the driver refuses changes nothing, and the fault says why; `OutOfMemory` comes also where its poll found no memory,
     /// and then it waits on. Each of these may be called again. (monoio: `TcpStream::read`, without its stream)
@@ -105,8 +105,8 @@ impl Connection {
         task: u64,
     ) -> Result<Progress, SubmitFault>
         requires fits { FitsConnection (D.ops driver.old) self.old }
-        requires held { IsTrue (D.held driver.old (self.old.fd ∷ [])) }
-        requires counter { (D.ops driver.old).given < MOST_GIVEN }
+        requires held { self.old.incoming.op ≡ None → IsTrue (D.held driver.old (self.old.fd ∷ [])) }
+        requires counter { self.old.incoming.op ≡ None → (D.ops driver.old).given < MOST_GIVEN }
         ensures receives { ReceivesFor D.submits D.polls driver.old driver.new self.old self.new task result }
         ensures same { OnlyComes self.old self.new }
         ensures fits { FitsConnection (D.ops driver.new) self.new }
@@ -140,9 +140,9 @@ impl Connection {
         task: u64,
     ) -> Result<Progress, SubmitFault>
         requires fits { FitsConnection (D.ops driver.old) self.old }
-        requires held { IsTrue (D.held driver.old (self.old.fd ∷ [])) }
+        requires held { self.old.incoming.op ≡ None → IsTrue (D.held driver.old (self.old.fd ∷ [])) }
         requires known { group < D.groups driver.old }
-        requires counter { (D.ops driver.old).given < MOST_GIVEN }
+        requires counter { self.old.incoming.op ≡ None → (D.ops driver.old).given < MOST_GIVEN }
         ensures receives { ReceivesUnder D.joins D.polls driver.old driver.new self.old self.new group task result }
         ensures same { OnlyComes self.old self.new }
         ensures fits { FitsConnection (D.ops driver.new) self.new }
@@ -192,8 +192,8 @@ impl Connection {
     // Sees to it that a send waits: whether one does.
     fn has_send<D: OpDriver<Rent>>(&mut self, driver: &mut D) -> Result<bool, SubmitFault>
         requires fits { FitsConnection (D.ops driver.old) self.old }
-        requires held { IsTrue (D.held driver.old (self.old.fd ∷ [])) }
-        requires counter { (D.ops driver.old).given < MOST_GIVEN }
+        requires held { self.old.outgoing.op ≡ None → IsTrue (D.held driver.old (self.old.fd ∷ [])) }
+        requires counter { self.old.outgoing.op ≡ None → (D.ops driver.old).given < MOST_GIVEN }
         ensures has { HasSendFor D.submits driver.old driver.new self.old self.new result }
         ensures same { OnlyGoes self.old self.new }
         ensures waits { IfOk result (λ waits. IsTrue waits → IsSome self.new.outgoing.op) }
@@ -219,9 +219,9 @@ impl Connection {
         group: CancelHandle,
     ) -> Result<Option<bool>, SubmitFault>
         requires fits { FitsConnection (D.ops driver.old) self.old }
-        requires held { IsTrue (D.held driver.old (self.old.fd ∷ [])) }
+        requires held { self.old.outgoing.op ≡ None → IsTrue (D.held driver.old (self.old.fd ∷ [])) }
         requires known { group < D.groups driver.old }
-        requires counter { (D.ops driver.old).given < MOST_GIVEN }
+        requires counter { self.old.outgoing.op ≡ None → (D.ops driver.old).given < MOST_GIVEN }
         ensures has { HasSendUnder D.joins driver.old driver.new self.old self.new group result }
         ensures same { OnlyGoes self.old self.new }
         ensures waits { IfOk result (λ has. has ≡ Some true → IsSome self.new.outgoing.op) }
@@ -272,7 +272,7 @@ impl Connection {
 
     /// Sends: it submits a send of what was written, if none waits, and polls it once, for a task that a turn of the driver names when
     /// another call may do more. What a short send leaves goes with the next one; a fault is answered by the outbox, and nothing is sent
-    /// until it was. Fewer than `MOST_GIVEN` operations were submitted before.
+    /// until it was. Where none waits, its user holds the handle, and fewer than `MOST_GIVEN` operations were submitted before.
     ///
     /// A send that the driver refuses loses nothing, and the fault says why; `OutOfMemory` comes also where its poll found no memory, and
     /// then it waits on. Each of these may be called again. (monoio: `TcpStream::write`, without its stream)
@@ -282,8 +282,8 @@ impl Connection {
         task: u64,
     ) -> Result<Progress, SubmitFault>
         requires fits { FitsConnection (D.ops driver.old) self.old }
-        requires held { IsTrue (D.held driver.old (self.old.fd ∷ [])) }
-        requires counter { (D.ops driver.old).given < MOST_GIVEN }
+        requires held { self.old.outgoing.op ≡ None → IsTrue (D.held driver.old (self.old.fd ∷ [])) }
+        requires counter { self.old.outgoing.op ≡ None → (D.ops driver.old).given < MOST_GIVEN }
         ensures sends { SendsFor D.ops D.submits D.polls driver.old driver.new self.old self.new task result }
         ensures same { OnlyGoes self.old self.new }
         ensures fits { FitsConnection (D.ops driver.new) self.new }
@@ -308,9 +308,9 @@ impl Connection {
         task: u64,
     ) -> Result<Progress, SubmitFault>
         requires fits { FitsConnection (D.ops driver.old) self.old }
-        requires held { IsTrue (D.held driver.old (self.old.fd ∷ [])) }
+        requires held { self.old.outgoing.op ≡ None → IsTrue (D.held driver.old (self.old.fd ∷ [])) }
         requires known { group < D.groups driver.old }
-        requires counter { (D.ops driver.old).given < MOST_GIVEN }
+        requires counter { self.old.outgoing.op ≡ None → (D.ops driver.old).given < MOST_GIVEN }
         ensures sends { SendsUnder D.ops D.joins D.polls driver.old driver.new self.old self.new group task result }
         ensures same { OnlyGoes self.old self.new }
         ensures fits { FitsConnection (D.ops driver.new) self.new }

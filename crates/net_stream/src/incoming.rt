@@ -80,8 +80,8 @@ impl Incoming {
         }
     }
 
-    // Whether a receive waits: then none has ended.
-    pub(crate) fn waits(&self) -> bool
+    /// Whether a receive waits: then none has ended.
+    pub fn waits(&self) -> bool
         ensures yes { IsTrue result → IsSome self.now.op }
         ensures no { IsSome self.now.op → IsTrue result }
         ensures none { IsSome self.now.op → self.now.ended ≡ None }

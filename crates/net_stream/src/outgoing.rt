@@ -113,8 +113,8 @@ impl Outgoing {
         }
     }
 
-    // Whether a send waits: then it has all bytes.
-    pub(crate) fn waits(&self) -> bool
+    /// Whether a send waits: then it has all bytes.
+    pub fn waits(&self) -> bool
         ensures yes { IsTrue result → IsSome self.now.op }
         ensures no { IsSome self.now.op → IsTrue result }
         ensures none { SentOutIf self.now.op self.now.unsent }
@@ -123,8 +123,8 @@ impl Outgoing {
         self.op.is_some()
     }
 
-    // Whether there are bytes for the next send.
-    pub(crate) fn has_rest(&self) -> bool
+    /// Whether there are bytes for the next send.
+    pub fn has_rest(&self) -> bool
         ensures { result ≡ has_bytes self.now.unsent }
     {
         match &self.buf {

@@ -1,5 +1,5 @@
 // Receiving and sending over the readiness driver, whose object may tell its handles.
-ghost use Rattle.std.specs.Prelude.{◌≡◌, ◌≤◌, ◌<◌, ◌+◌, ◌++◌, ◌∷◌, [], IsTrue};
+ghost use Rattle.std.specs.Prelude.{◌≡◌, ◌≤◌, ◌<◌, ◌+◌, ◌++◌, ◌∷◌, [], None, IsTrue};
 ghost use Rattle.op_driver.specs.Legacy.{LegacyPolls, LegacySubmits};
 ghost use Rattle.ready_driver.specs.LegacyState.{holds_all, ops_in};
 ghost use Rattle.rent_buf.specs.Rent.{buffer_of_rent};
@@ -23,8 +23,8 @@ impl Connection {
         task: u64,
     ) -> Result<Progress, SubmitFault>
         requires fits { FitsConnection (ops_in driver.old) self.old }
-        requires held { IsTrue (holds_all driver.old.handling.table (self.old.fd ∷ [])) }
-        requires counter { driver.old.given < MOST_GIVEN }
+        requires held { self.old.incoming.op ≡ None → IsTrue (holds_all driver.old.handling.table (self.old.fd ∷ [])) }
+        requires counter { self.old.incoming.op ≡ None → driver.old.given < MOST_GIVEN }
         ensures receives { ReceivesFor (LegacySubmits I.view I.tells I.memory)
             (LegacyPolls I.files buffer_of_rent I.called I.view I.tells I.memory) driver.old driver.new self.old self.new task result }
         ensures came { IsTrue I.tells → unread_in self.new ++ waiting_at I.view driver.new self.old.fd
@@ -49,8 +49,8 @@ impl Connection {
         task: u64,
     ) -> Result<Progress, SubmitFault>
         requires fits { FitsConnection (ops_in driver.old) self.old }
-        requires held { IsTrue (holds_all driver.old.handling.table (self.old.fd ∷ [])) }
-        requires counter { driver.old.given < MOST_GIVEN }
+        requires held { self.old.outgoing.op ≡ None → IsTrue (holds_all driver.old.handling.table (self.old.fd ∷ [])) }
+        requires counter { self.old.outgoing.op ≡ None → driver.old.given < MOST_GIVEN }
         ensures sends { SendsFor ops_in (LegacySubmits I.view I.tells I.memory)
             (LegacyPolls I.files buffer_of_rent I.called I.view I.tells I.memory) driver.old driver.new self.old self.new task result }
         ensures went { IsTrue I.tells → IsStream (world_of I.view driver.old) self.old.fd →
