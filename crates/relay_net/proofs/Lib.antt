@@ -6,3 +6,4 @@ pub mod Connections
 pub mod Places
 pub mod Relays
 pub mod Opens
+pub mod Numbers

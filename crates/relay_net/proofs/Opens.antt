@@ -1,5 +1,5 @@
 -- What the turn, the accept and the other end leave of the connections.
-use Rattle.std.proofs.Common.{ℕ, zero, suc, ◌≡◌, ◌≢◌, ◌∙◌, ap, sym, refl, subst, arith, Bool, IsTrue, true, false, List, [], ◌∷◌, ◌++◌}
+use Rattle.std.proofs.Common.{ℕ, zero, suc, ◌≡◌, ◌≢◌, ◌≤◌, ◌∙◌, ap, sym, refl, subst, arith, Bool, IsTrue, true, false, List, [], ◌∷◌, ◌++◌}
 use Rattle.std.proofs.Common.{Option, Some, None, Ok, Err, inl, inr}
 use Rattle.std.specs.Prelude.{◌⊎◌, ◌||◌, IfErr, IfOk, Result, is_some, nat_le, nat_lt, option_map, slice_get, unwrap_or}
 use Rattle.std.specs.FinMap as map
@@ -33,14 +33,16 @@ use Rattle.driver_core.specs.declared.op.PollOp.TheVariants.{Pending, Ready}
 use Rattle.driver_core.specs.declared.op.Turned.{Turned}
 use Rattle.driver_core.specs.declared.op.Stop.{Stop}
 use Rattle.driver_core.specs.declared.op.Stop.TheVariants as stop
+use Rattle.driver_core.specs.declared.operations.calls.CallAnswer.TheVariants.{Done}
 use Rattle.driver_core.proofs.Maps.{gone-other, put-same}
+use Rattle.driver_core.proofs.Rising.{rose-later}
 use Rattle.ready_driver.specs.declared.non_block.NonBlockError.{NonBlockError}
 use Rattle.ready_driver.specs.declared.non_block.NonBlockError.TheVariants as non_block
 use Rattle.ready_driver.specs.Dialing.{IsOpened, IsUnopened}
 use Rattle.ready_driver.specs.Calling.{Called}
 use Rattle.rent_buf.specs.Counts.{Rose}
-use Rattle.ready_driver.specs.Io.{FaultsFor, IoView, IsLater, IsMoved}
-use Rattle.ready_driver.specs.LegacyPolls.{HandsOver}
+use Rattle.ready_driver.specs.Io.{FailRose, FaultsFor, IoView, IsLater, IsMoved}
+use Rattle.ready_driver.specs.LegacyPolls.{HandsOver, outcome_for, outcome_if}
 use Rattle.ready_driver.specs.LegacyState.{LegacyState, SameOps, ops_in}
 use Rattle.ready_driver.specs.LegacyTurns.{LegacyTurns, TurnsBy, turning_in}
 use Rattle.ready_driver.specs.Registry.{Handling, TriesFor, is_old, is_users}
@@ -50,7 +52,8 @@ use Rattle.driver_core.proofs.Lists.{get-front}
 use Rattle.relay_net.specs.Connection.{FitsConnection, Releases, KeepsStreams, far_of, held_back, held_forth, near_of}
 use Rattle.relay_net.specs.Flow.{IfAsked, IsPending, IsReceive, IsSend, asked_at}
 use Rattle.relay_net.specs.Keeping.{AnyRequest, KeepsOps, KeepsUsers, Stays, world_of}
-use Rattle.relay_net.specs.Opening.{AcceptedAs, AcceptedFor, FarFails, IsFar, IsFresh, IsNew, IsTransfer, KeepsBytes, Opening, Widens}
+use Rattle.relay_net.specs.Opening.{AcceptFails, AcceptedAs, AcceptedFor, FarFails, IsFar, IsFresh, IsNew, IsTransfer, KeepsBytes}
+use Rattle.relay_net.specs.Opening.{Opening, Widens}
 use Rattle.relay_net.specs.Relay.{AreBeside, AreServed, FitsAccept, IsAccept, IsAmong, IsServed, IsSound}
 use Rattle.relay_net.specs.Relay.{Serving, StopsUnless}
 use Rattle.relay_net.specs.Relaying.{TurnStops}
@@ -457,14 +460,47 @@ module _ {I : Type 0} (view : I → IoView) (tells memory : Bool) (files : I →
             },
       )
 
+  -- An accept failed only where the object counted an error, if the number of its next handle can be new.
+  pub accept_fails : ((before : I) (request : Request Buffer Parts) (after : I) (now : Request Buffer Parts) (h : ℕ)
+      → called before request after now (Done (ended.Made h)) → h ≡ (view before).made)
+      → (old new : LegacyState I Buf) (op : Op) (answer : PollOp Buf) (done : Ended Buf) (task listener : ℕ) → answer ≡ Ready done
+      → LegacyPolls files built called view tells memory old new op task (Ok answer) → IsPending (ops_in old) op (IsAccept listener)
+      → is_old old.handling.table (view old.handling.io).made ≡ false → (error : ℕ) → done.outcome ≡ ended.Fail error
+      → Rose (view old.handling.io).fails (view new.handling.io).fails
+  accept_fails numbered old new op answer done task listener is polls pending number error failed =
+      let asked = subst (λ a. LegacyPolls files built called view tells memory old new op task (Ok a)) is polls in
+      let ends = ready_ends view tells memory files called law old new op done task (IsAccept listener) asked pending in
+      let handed = handed_still view tells memory ends.mid ends.handed (made_by done.outcome) ends.hands in
+      let later = later_then (view ends.mid.io) (view ends.handed.io) (view new.handling.io) handed.0 ends.left_later in
+      by-call ends.mid (plain_request built done.request) ends.request ends.call ends.made.fails ends.calls (sym failed ∙ ends.outcome)
+      ends.table later.fails
+    where
+      by-call : (mid : Handling I) (now request : Request Buffer Parts) (call : Outcome)
+          → FailRose call (view old.handling.io).fails (view mid.io).fails
+          → called old.handling.io request mid.io now (Done call) → ended.Fail error ≡ outcome_for mid.table call
+          → mid.table.holders ≡ old.handling.table.holders → (view mid.io).fails ≤ (view new.handling.io).fails
+          → Rose (view old.handling.io).fails (view new.handling.io).fails
+      by-call mid now request (ended.Count k) rose calls is holders later = absurd cc
+      by-call mid now request (ended.From k addr) rose calls is holders later = absurd cc
+      by-call mid now request (ended.Fail e) rose calls is holders later =
+          rose-later (view old.handling.io).fails (view mid.io).fails (view new.handling.io).fails rose later
+      by-call mid now request (ended.Made h) rose calls is holders later =
+          let at : h ≡ (view old.handling.io).made = numbered old.handling.io request mid.io now h calls in
+          let new_one : is_old mid.table h ≡ false =
+          ap (λ held. is_some (map.get held h) || nat_le MOST_HANDLES h) holders ∙ ap (is_old old.handling.table) at ∙ number in
+          let e : ended.Fail error ≡ ended.Made h = is ∙ ap (λ b. outcome_if b (ended.Made h)) new_one in
+          absurd cc
+
 -- What an accept that ended came to.
 pub accepted_for : {I : Type 0} (view : I → IoView) (old new : LegacyState I Buf) (listener : ℕ) (outcome : Outcome) (answer : Accepted)
-    → ((h : ℕ) → outcome ≡ ended.Made h → IsNew old.handling.table new.handling.table h) → AcceptedAs outcome answer
-    → AcceptedFor view old new listener answer
-accepted_for view old new listener (ended.Count k) answer gives is = subst (AcceptedFor view old new listener) (sym is) tt
-accepted_for view old new listener (ended.From k addr) answer gives is = subst (AcceptedFor view old new listener) (sym is) tt
-accepted_for view old new listener (ended.Made h) answer gives is = subst (AcceptedFor view old new listener) (sym is) (gives h refl)
-accepted_for view old new listener (ended.Fail error) answer gives is = subst (AcceptedFor view old new listener) (sym is) tt
+    → ((h : ℕ) → outcome ≡ ended.Made h → IsNew old.handling.table new.handling.table h)
+    → ((error : ℕ) → outcome ≡ ended.Fail error → Rose (view old.handling.io).fails (view new.handling.io).fails)
+    → AcceptedAs outcome answer → AcceptedFor view old new listener answer
+accepted_for view old new listener (ended.Count k) answer gives rises is = subst (AcceptedFor view old new listener) (sym is) tt
+accepted_for view old new listener (ended.From k addr) answer gives rises is = subst (AcceptedFor view old new listener) (sym is) tt
+accepted_for view old new listener (ended.Made h) answer gives rises is = subst (AcceptedFor view old new listener) (sym is) (gives h refl)
+accepted_for view old new listener (ended.Fail error) answer gives rises is =
+    subst (AcceptedFor view old new listener) (sym is) (rises error refl)
 
 -- A fresh handle that was given up leaves all connections, and the accept.
 pub released_sound : {I : Type 0} (view : I → IoView) (tells : Bool) (old new : LegacyState I Buf) (listener : ℕ) (accept : Option Op)
@@ -675,3 +711,9 @@ dropped_widens view tells memory old new op listener drops pending = record {
   bytes = λ t. same_bytes (world_of view old) (world_of view new) (drops.handles.object.world t);
   streams = λ t. same_streams (world_of view old) (world_of view new) (drops.handles.object.world t);
 }
+
+-- Why an accept failed, over a longer time.
+pub accept_within : (a b c d : IoView) (accept : Option ℕ) → a.fails ≤ b.fails → c.fails ≤ d.fails → AcceptFails b c accept
+    → AcceptFails a d accept
+accept_within a b c d None first last fails = tt
+accept_within a b c d (Some error) first last fails = omega (arith, first, last, fails)

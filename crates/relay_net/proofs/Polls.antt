@@ -187,6 +187,7 @@ module _ {I : Type 0} (view : I → IoView) (tells memory : Bool) (files : I →
     pub request : Request Buffer Parts
     pub asked : asked_at (ops_in old) op ≡ Some request
     pub made : IsMade tells memory (view old.handling.io) request (view mid.io) (plain_request built done.request) call
+    pub calls : called old.handling.io request mid.io (plain_request built done.request) (Done call)
     pub table : mid.table.holders ≡ old.handling.table.holders
     pub outcome : done.outcome ≡ outcome_for mid.table call
     pub handed : Handling I
@@ -219,6 +220,7 @@ module _ {I : Type 0} (view : I → IoView) (tells memory : Bool) (files : I →
         asked = ap (option_map (plain_request built)) (sym (same_asked (map.get old.slots.values op.key)) ∙ made.asked);
         made = law old.handling.io (plain_request built made.request) ends.mid.io (plain_request built done.request) (Done ends.call)
             made.calls;
+        calls = made.calls;
         table = ends.polls.table;
         outcome = ends.outcome;
         handed = ends.handed;

@@ -1,6 +1,6 @@
 -- The connections of a relay, and what a round leaves of each. Cited by `state` and `relay`.
 use Rattle.std.specs.Prelude.{ℕ, ◌≡◌, ◌≢◌, ◌+◌, ◌⊎◌, Bool, true, false, IsTrue, List, [], length, Option, Some, None, Result, Ok, Err}
-use Rattle.std.specs.Prelude.{slice_get}
+use Rattle.std.specs.Prelude.{◌++◌, map, slice_get}
 use Rattle.rent_buf.specs.Buffer.{Buffer}
 use Rattle.rent_buf.specs.Counts.{Rose}
 use Rattle.rent_buf.specs.Parts.{Parts}
@@ -115,6 +115,11 @@ pub record Serving {I : Type 0} (view : I
   pub fails : (lost : Lost) → IsAmong failed lost → Rose (view old.handling.io).fails (view new.handling.io).fails
   pub later : IsLater (view old.handling.io) (view new.handling.io)
   pub streams : IsTrue tells → KeepsStreams (world_of view old) (world_of view new)
+
+-- The numbers of connections, which are their near handles: of those that are open, then of those that were closed, then of those that were
+-- lost.
+abbrev pub connections_in : List Connection → List ℕ → List Lost → List ℕ
+connections_in open_ones closed failed = map near_of open_ones ++ (closed ++ map (λ lost. lost.connection) failed)
 
 -- Why a round stopped, if it did.
 abbrev pub StopsUnless : {T : Type 0} → IoView → IoView → Result T RelayError → Type 0

@@ -1,7 +1,10 @@
 -- A relay as contracts see it, and what its rounds show. Cited by `Relay`.
-use Rattle.std.specs.Prelude.{ℕ, ◌≡◌, List, Option, Result, Ok, Err, refl}
+use Rattle.std.specs.Prelude.{ℕ, ◌≡◌, ◌+◌, List, length, Option, Result, Ok, Err, refl}
 use Rattle.std.specs.Coded.{Coded, code_by, coded×, coded_ℕ, coded_list, coded_option}
 use Rattle.rent_buf.specs.declared.plain.Buf.{Buf}
+use Rattle.wake_core.specs.declared.park.Woken.{Woken}
+use Rattle.wake_core.specs.Sleeping.{Sleeping}
+use Rattle.wake_core.specs.WakerList.{IsInOrder}
 use Rattle.driver_core.specs.declared.op.Op.{Op}
 use Rattle.driver_core.specs.declared.op.Stop.{Stop}
 use Rattle.driver_core.specs.declared.op.Stop.TheVariants.{OutOfMemory}
@@ -32,6 +35,12 @@ relaying_code driver op connection = code_by (LegacyState _ Buf × (ℕ × (Opti
 abbrev pub round_of : Result Round (RelayError × Round) → Round
 round_of (Ok round) = round
 round_of (Err stopped) = stopped.1
+
+-- Every waker that the sleeper took is handed on, in order, and none was made.
+pub record HandsOn (old new : Sleeping) (remote : Woken) : Type 0 where
+  pub made : new.made ≡ old.made
+  pub taken : new.taken ≡ (old.taken + length remote.first) + length remote.again
+  pub order : IsInOrder remote.first × IsInOrder remote.again
 
 -- Why a round stopped, if it did: a fault comes only where the object counted one.
 abbrev pub RoundStops : IoView → IoView → Result Round (RelayError × Round) → Type 0

@@ -4,7 +4,8 @@ ghost use Rattle.rent_buf.specs.declared.plain.Buf.{Buf};
 ghost use Rattle.driver_core.specs.Ops.{Ops};
 ghost use Rattle.ready_driver.specs.LegacyState.{ops_in};
 ghost use Rattle.ready_driver.specs.Registry.{is_users};
-ghost use Rattle.relay_net.specs.Connection.{EndsConnection, FitsConnection, FitsBack, FollowsAs, IsGoing, IsLostAs, IsOver, IsOverIf, Releases, Serves};
+ghost use Rattle.relay_net.specs.Connection.{EndsConnection, FitsConnection, FitsBack, FollowsAs, IsGoing, IsLostAs, IsOver, IsOverIf};
+ghost use Rattle.relay_net.specs.Connection.{Releases, Serves};
 ghost use Rattle.relay_net.specs.Connection.{far_of, held_back, held_forth, near_of};
 ghost use Rattle.relay_net.specs.Flow.{FitsStage};
 

@@ -28,7 +28,7 @@ pub trait Far<I: Sockets>: Drop {
 }
 
 // The number of the object's next handle can be new.
-fn has_number<I: Sockets>(driver: &LegacyDriver<I, Buf>) -> bool
+pub(crate) fn has_number<I: Sockets>(driver: &LegacyDriver<I, Buf>) -> bool
     ensures { IsTrue result → is_old driver.now.handling.table (I.view driver.now.handling.io).made ≡ false }
 {
     let next = driver.io().count();

@@ -1,6 +1,8 @@
 // The accept of a relay, and its new connections.
-ghost use Rattle.std.specs.Prelude.{◌≡◌, ◌≤◌, ◌<◌, ◌+◌, None, List};
+ghost use Rattle.std.specs.Prelude.{◌≡◌, ◌≤◌, ◌<◌, ◌+◌, ◌++◌, ◌∷◌, [], false, None, List, OnErr, OnOk, map};
+ghost use Rattle.relay_net.specs.Connection.{near_of};
 ghost use Rattle.std.specs.Vec.{vec_len};
+ghost use Rattle.ready_driver.specs.Registry.{is_old};
 ghost use Rattle.ready_driver.specs.LegacyState.{LegacyState, ops_in};
 ghost use Rattle.rent_buf.specs.declared.plain.Buf.{Buf};
 ghost use Rattle.relay_net.specs.Flow.{IsPending};
@@ -9,7 +11,7 @@ ghost use Rattle.relay_net.specs.Relay.{IsAccept, IsSound, StopsUnless};
 ghost use Rattle.relay_net.specs.declared.connection.Connection.{Connection as Conn};
 
 use crate::connection::{Connection, release};
-use crate::far::Far;
+use crate::far::{Far, has_number};
 use crate::flow::{Reads, TASK, submit};
 use crate::round::RelayError;
 use crate::state::State;
@@ -58,8 +60,9 @@ fn accepted_of(outcome: Outcome) -> Accepted
 }
 
 // Polls the accept that waits.
-fn poll_accept<I: NonBlock>(driver: &mut Reads<I>, op: Op, listener: SharedFd) -> Accepted
+fn poll_accept<I: Sockets>(driver: &mut Reads<I>, op: Op, listener: SharedFd) -> Accepted
     requires pending { IsPending (ops_in driver.old) op (IsAccept listener) }
+    requires number { is_old driver.old.handling.table (I.view driver.old.handling.io).made ≡ false }
     ensures widens { Widens I.view I.tells driver.old driver.new }
     ensures accepted { AcceptedFor I.view driver.old driver.new listener result }
     ensures given { driver.new.given ≡ driver.old.given }
@@ -115,8 +118,8 @@ pub(crate) fn begin_accept<I: NonBlock>(state: &mut State<I>) -> Result<(), Rela
     }
 }
 
-// Polls the accept that waits, if one does.
-pub(crate) fn arrive<I: NonBlock>(state: &mut State<I>) -> Arrival
+// Polls the accept that waits, if one does. Where the next handle's number can't be new, it isn't polled.
+pub(crate) fn arrive<I: Sockets>(state: &mut State<I>) -> Arrival
     requires sound { IsSound (ops_in state.old.driver) state.old.driver.handling.table state.old.listener state.old.accept
         state.old.open.items }
     ensures sound { IsSound (ops_in state.new.driver) state.new.driver.handling.table state.new.listener state.new.accept
@@ -124,10 +127,14 @@ pub(crate) fn arrive<I: NonBlock>(state: &mut State<I>) -> Arrival
     ensures opening { (start : LegacyState I Buf) (was : List Conn)
         → Opening I.view I.tells start was state.old.driver state.old.open.items
         → Opening I.view I.tells start was state.new.driver state.new.open.items }
-    ensures arrives { ArrivesFor state.new.driver.handling.table state.new.listener state.new.open.items result }
+    ensures arrives { ArrivesFor (I.view state.old.driver.handling.io) (I.view state.new.driver.handling.io)
+        state.new.driver.handling.table state.new.listener state.new.open.items result }
     ensures same { (state.new.listener ≡ state.old.listener) × (state.new.open ≡ state.old.open) }
     ensures given { state.new.driver.given ≡ state.old.driver.given }
 {
+    if !has_number(&state.driver) {
+        return Arrival::OutOfMemory;
+    }
     match state.accept.take() {
         None => Arrival::Nothing,
         Some(op) => match poll_accept(&mut state.driver, op, state.listener) {
@@ -172,6 +179,8 @@ pub(crate) fn open_one<I: Sockets, F: Far<I>>(
         → Opening I.view I.tells start was state.new.driver state.new.open.items }
     ensures stops { StopsUnless (I.view state.old.driver.handling.io) (I.view state.new.driver.handling.io) result }
     ensures given { state.new.driver.given ≡ state.old.driver.given }
+    ensures names { OnOk result (map near_of state.new.open.items ≡ map near_of state.old.open.items ++ near ∷ []) }
+    ensures err { OnErr result (map near_of state.new.open.items ≡ map near_of state.old.open.items) }
     ensures more { vec_len state.new.open ≤ vec_len state.old.open + 1 }
 {
     if state.open.reserve(1).is_err() {

@@ -1,15 +1,16 @@
 //! The relay: it accepts connections, and passes bytes between each and its other end.
-ghost use Rattle.std.specs.Prelude.{◌≡◌, ◌≤◌, ◌<◌, ◌+◌, [], true, None, List, Ok, Err, IfOk, IfErr};
+ghost use Rattle.std.specs.Prelude.{◌≡◌, ◌≤◌, ◌<◌, ◌+◌, ◌++◌, [], true, None, List, Ok, Err, IfOk, IfErr, IsPermutation, map};
 ghost use Rattle.std.specs.Vec.{vec_len, vec_capacity};
 ghost use Rattle.ready_driver.specs.Io.{IoView, IsLater};
 ghost use Rattle.ready_driver.specs.LegacyState.{LegacyState, ops_in};
 ghost use Rattle.ready_driver.specs.Registry.{is_users};
 ghost use Rattle.rent_buf.specs.declared.plain.Buf.{Buf};
 ghost use Rattle.relay_net.specs.declared.connection.Connection.{Connection as Conn};
-ghost use Rattle.relay_net.specs.Opening.{Opening, Widens};
+ghost use Rattle.relay_net.specs.Opening.{AcceptFails, Opening, Widens};
 ghost use Rattle.relay_net.specs.Flow.{IsPending};
-ghost use Rattle.relay_net.specs.Relay.{AreServed, IsAccept, IsSound, Serving, StopsUnless};
-ghost use Rattle.relay_net.specs.Relaying.{RoundStops, TurnStops, round_of};
+ghost use Rattle.relay_net.specs.Connection.{near_of};
+ghost use Rattle.relay_net.specs.Relay.{AreServed, IsAccept, IsSound, Serving, StopsUnless, connections_in};
+ghost use Rattle.relay_net.specs.Relaying.{HandsOn, RoundStops, TurnStops, round_of};
 
 use crate::connection::Connection;
 use crate::far::Far;
@@ -59,7 +60,8 @@ impl<I: Sockets, F: Far<I>> Model for Relay<I, F> {
       limit = r.limit;
     } };
 
-    ghost invariant = { λ r. IsSound (ops_in r.state.driver) r.state.driver.handling.table r.state.listener r.state.accept r.state.open.items
+    ghost invariant = { λ r.
+        IsSound (ops_in r.state.driver) r.state.driver.handling.table r.state.listener r.state.accept r.state.open.items
         × (vec_len r.state.open ≤ r.limit) × (r.limit ≤ 64) };
 }
 
@@ -73,6 +75,7 @@ struct Lists {
 // Lists with room for so many connections that end, and for one that is opened.
 fn room_for(alloc: Global, count: usize) -> Result<Lists, OutOfMemory>
     ensures none { IfOk result (λ lists. (lists.ended.closed.items ≡ []) × (lists.ended.failed.items ≡ [])) }
+    ensures opened { IfOk result (λ lists. (lists.opened.items ≡ []) × (lists.accept ≡ None)) }
     ensures len { IfOk result (λ lists. (vec_len lists.ended.closed ≡ 0) × (vec_len lists.ended.failed ≡ 0) × (vec_len lists.opened ≡ 0)) }
     ensures room { IfOk result (λ lists. (vec_capacity lists.ended.closed ≡ count) × (vec_capacity lists.ended.failed ≡ count)
         × (vec_capacity lists.opened ≡ 1)) }
@@ -88,7 +91,9 @@ fn room_for(alloc: Global, count: usize) -> Result<Lists, OutOfMemory>
 }
 
 // What a park drained that wasn't made.
-fn no_wakers(alloc: Global) -> Woken {
+fn no_wakers(alloc: Global) -> Woken
+    ensures { (result.first ≡ []) × (result.again ≡ []) }
+{
     Woken {
         first: WakerList::from_vec(Vec::new(alloc)),
         again: WakerList::from_vec(Vec::new(alloc)),
@@ -97,7 +102,9 @@ fn no_wakers(alloc: Global) -> Woken {
 
 // A round that did nothing.
 fn no_round(alloc: Global) -> Round
-    ensures { (result.closed ≡ []) × (result.failed ≡ []) }
+    ensures lists { (result.closed ≡ []) × (result.failed ≡ []) }
+    ensures opened { (result.opened ≡ []) × (result.accept ≡ None) }
+    ensures remote { (result.remote.first ≡ []) × (result.remote.again ≡ []) }
 {
     Round {
         remote: no_wakers(alloc),
@@ -110,7 +117,9 @@ fn no_round(alloc: Global) -> Round
 
 // What a round did.
 fn round_with(remote: Woken, lists: Lists) -> Round
-    ensures { (result.closed ≡ lists.ended.closed.items) × (result.failed ≡ lists.ended.failed.items) }
+    ensures lists { (result.closed ≡ lists.ended.closed.items) × (result.failed ≡ lists.ended.failed.items) }
+    ensures opened { (result.opened ≡ lists.opened.items) × (result.accept ≡ lists.accept) }
+    ensures remote { result.remote ≡ remote }
 {
     let Lists {
         opened,
@@ -152,6 +161,7 @@ fn turn<R: Wait + Clock, I: Sockets, P: Ledger, D: Ledger>(
         state.new.open.items }
     ensures opening { Opening I.view I.tells state.old.driver state.old.open.items state.new.driver state.new.open.items }
     ensures stops { StopsUnless (I.view state.old.driver.handling.io) (I.view state.new.driver.handling.io) result.1 }
+    ensures drains { HandsOn sleeper.old sleeper.new result.0 }
     ensures same { (state.new.listener ≡ state.old.listener) × (state.new.open ≡ state.old.open) }
     ensures given { state.new.driver.given ≡ state.old.driver.given }
 {
@@ -179,6 +189,7 @@ fn accept<I: Sockets, F: Far<I>>(
         state.old.open.items }
     requires counter { state.old.driver.given < MOST_GIVEN }
     requires room { vec_len lists.old.opened < vec_capacity lists.old.opened }
+    requires none { (lists.old.opened.items ≡ []) × (lists.old.accept ≡ None) }
     requires places { vec_len state.old.open ≤ limit }
     ensures sound { IsSound (ops_in state.new.driver) state.new.driver.handling.table state.new.listener state.new.accept
         state.new.open.items }
@@ -187,6 +198,8 @@ fn accept<I: Sockets, F: Far<I>>(
         → Opening I.view I.tells start was state.new.driver state.new.open.items }
     ensures stops { StopsUnless (I.view state.old.driver.handling.io) (I.view state.new.driver.handling.io) result }
     ensures ended { lists.new.ended ≡ lists.old.ended }
+    ensures fails { AcceptFails (I.view state.old.driver.handling.io) (I.view state.new.driver.handling.io) lists.new.accept }
+    ensures names { map near_of state.new.open.items ≡ map near_of state.old.open.items ++ lists.new.opened.items }
     ensures places { vec_len state.new.open ≤ limit }
     ensures more { vec_len state.new.open ≤ vec_len state.old.open + 1 }
     ensures given { state.new.driver.given ≤ state.old.driver.given + 1 }
@@ -224,6 +237,7 @@ fn work<I: Sockets, F: Far<I>>(
     requires places { vec_len state.old.open ≤ limit }
     requires counter { state.old.driver.given + 129 ≤ MOST_GIVEN }
     requires opened { vec_len lists.old.opened < vec_capacity lists.old.opened }
+    requires unopened { (lists.old.opened.items ≡ []) × (lists.old.accept ≡ None) }
     requires none { (lists.old.ended.closed.items ≡ []) × (lists.old.ended.failed.items ≡ []) }
     requires len { (vec_len lists.old.ended.closed ≡ 0) × (vec_len lists.old.ended.failed ≡ 0) }
     requires closed { vec_len state.old.open + 1 ≤ vec_capacity lists.old.ended.closed }
@@ -235,6 +249,9 @@ fn work<I: Sockets, F: Far<I>>(
         → Serving I.view I.tells start was state.new.driver state.new.open.items lists.new.ended.closed.items
         lists.new.ended.failed.items }
     ensures stops { StopsUnless (I.view state.old.driver.handling.io) (I.view state.new.driver.handling.io) result }
+    ensures fails { AcceptFails (I.view state.old.driver.handling.io) (I.view state.new.driver.handling.io) lists.new.accept }
+    ensures names { IsPermutation (connections_in state.new.open.items lists.new.ended.closed.items lists.new.ended.failed.items)
+        (map near_of state.old.open.items ++ lists.new.opened.items) }
     ensures places { vec_len state.new.open ≤ limit }
     ensures given { state.new.driver.given ≤ state.old.driver.given + 129 }
 {
@@ -257,6 +274,7 @@ fn behind<I: Sockets, F: Far<I>>(
     requires places { vec_len state.old.open ≤ limit }
     requires counter { state.old.driver.given + 129 ≤ MOST_GIVEN }
     requires opened { vec_len lists.old.opened < vec_capacity lists.old.opened }
+    requires unopened { (lists.old.opened.items ≡ []) × (lists.old.accept ≡ None) }
     requires none { (lists.old.ended.closed.items ≡ []) × (lists.old.ended.failed.items ≡ []) }
     requires len { (vec_len lists.old.ended.closed ≡ 0) × (vec_len lists.old.ended.failed ≡ 0) }
     requires closed { vec_len state.old.open + 1 ≤ vec_capacity lists.old.ended.closed }
@@ -269,6 +287,9 @@ fn behind<I: Sockets, F: Far<I>>(
         lists.new.ended.failed.items }
     ensures stops { (old : IoView) → StopsUnless old (I.view state.old.driver.handling.io) turned
         → IsLater old (I.view state.old.driver.handling.io) → StopsUnless old (I.view state.new.driver.handling.io) result }
+    ensures fails { AcceptFails (I.view state.old.driver.handling.io) (I.view state.new.driver.handling.io) lists.new.accept }
+    ensures names { IsPermutation (connections_in state.new.open.items lists.new.ended.closed.items lists.new.ended.failed.items)
+        (map near_of state.old.open.items ++ lists.new.opened.items) }
     ensures places { vec_len state.new.open ≤ limit }
     ensures given { state.new.driver.given ≤ state.old.driver.given + 129 }
 {
@@ -301,7 +322,8 @@ impl<I: Sockets, F: Far<I>> Relay<I, F> {
     ) -> Result<Relay<I, F>, (OutOfMemory, LegacyDriver<I, Buf>)>
         requires held { is_users driver.handling.table listener ≡ true }
         requires limit { limit ≤ 64 }
-        ensures ok { IfOk result (λ relay. relay ≡ record { driver = driver; listener = listener; accept = None; open_ones = []; limit = limit }) }
+        ensures ok { IfOk result (λ relay. relay ≡
+            record { driver = driver; listener = listener; accept = None; open_ones = []; limit = limit }) }
         ensures err { IfErr result (λ refused. refused.1 ≡ driver) }
     {
         let limit = limit as usize;
@@ -346,6 +368,10 @@ impl<I: Sockets, F: Far<I>> Relay<I, F> {
         requires counter { self.old.driver.given + 129 ≤ MOST_GIVEN }
         ensures serving { Serving I.view I.tells self.old.driver self.old.open_ones self.new.driver self.new.open_ones
             (round_of result).closed (round_of result).failed }
+        ensures names { IsPermutation (connections_in self.new.open_ones (round_of result).closed (round_of result).failed)
+            (map near_of self.old.open_ones ++ (round_of result).opened) }
+        ensures drains { HandsOn sleeper.old sleeper.new (round_of result).remote }
+        ensures accept { AcceptFails (I.view self.old.driver.handling.io) (I.view self.new.driver.handling.io) (round_of result).accept }
         ensures stops { RoundStops (I.view self.old.driver.handling.io) (I.view self.new.driver.handling.io) result }
         ensures given { self.new.driver.given ≤ self.old.driver.given + 129 }
     {

@@ -1,11 +1,12 @@
 // The connections of a relay with their driver, and a round of each.
-ghost use Rattle.std.specs.Prelude.{◌≡◌, ◌≤◌, ◌<◌, ◌+◌, ◌*◌, ◌-◌, ◌++◌, ◌∷◌, [], List, ℕ, IfOk, IfErr, slice_get, slice_set, length};
+ghost use Rattle.std.specs.Prelude.{◌≡◌, ◌≤◌, ◌<◌, ◌+◌, ◌*◌, ◌-◌, ◌++◌, ◌∷◌, [], List, ℕ, IfOk, IfErr, IsPermutation, map};
+ghost use Rattle.std.specs.Prelude.{slice_get, slice_set, length};
 ghost use Rattle.std.specs.Vec.{vec_len, vec_capacity};
 ghost use Rattle.ready_driver.specs.Io.{IsLater};
 ghost use Rattle.ready_driver.specs.LegacyState.{LegacyState, ops_in};
 ghost use Rattle.rent_buf.specs.declared.plain.Buf.{Buf};
-ghost use Rattle.relay_net.specs.Connection.{IsOver, IsOverIf, ServedFor};
-ghost use Rattle.relay_net.specs.Relay.{GoesOn, IsSound, Serving, StopsUnless};
+ghost use Rattle.relay_net.specs.Connection.{IsOver, IsOverIf, ServedFor, near_of};
+ghost use Rattle.relay_net.specs.Relay.{GoesOn, IsSound, Serving, StopsUnless, connections_in};
 ghost use Rattle.relay_net.specs.declared.connection.Connection.{Connection as Conn};
 ghost use Rattle.relay_net.specs.declared.round.Lost.{Lost as LostOne};
 ghost use Rattle.rent_buf.specs.Counts.{Rose};
@@ -45,6 +46,7 @@ fn serve_one<I: NonBlock>(state: &mut State<I>, alloc: Global, at: usize) -> Ser
         → Serving I.view I.tells start was state.old.driver state.old.open.items closed failed
         → Serving I.view I.tells start was state.new.driver state.new.open.items closed failed }
     ensures over { (conn : Conn) → slice_get state.new.open.items at ≡ Some conn → IsOverIf (ops_in state.new.driver) conn result }
+    ensures names { map near_of state.new.open.items ≡ map near_of state.old.open.items }
     ensures later { IsLater (I.view state.old.driver.handling.io) (I.view state.new.driver.handling.io) }
     ensures cause { ServedFor (I.view state.old.driver.handling.io) (I.view state.new.driver.handling.io) result }
     ensures same { (state.new.listener ≡ state.old.listener) × (state.new.accept ≡ state.old.accept) }
@@ -71,7 +73,10 @@ fn close_at<I: NonBlock>(state: &mut State<I>, at: usize, ended: &mut Ended)
     ensures same { (state.new.listener ≡ state.old.listener) × (state.new.accept ≡ state.old.accept) }
     ensures len { vec_len state.new.open + 1 ≡ vec_len state.old.open }
     ensures given { state.new.driver.given ≡ state.old.driver.given }
-    ensures closed { (vec_len ended.new.closed ≡ vec_len ended.old.closed + 1) × (vec_capacity ended.new.closed ≡ vec_capacity ended.old.closed) }
+    ensures names { IsPermutation (connections_in state.new.open.items ended.new.closed.items ended.new.failed.items)
+        (connections_in state.old.open.items ended.old.closed.items ended.old.failed.items) }
+    ensures closed { (vec_len ended.new.closed ≡ vec_len ended.old.closed + 1)
+        × (vec_capacity ended.new.closed ≡ vec_capacity ended.old.closed) }
     ensures failed { ended.new.failed ≡ ended.old.failed }
 {
     let conn = state.open.remove(at);
@@ -96,7 +101,10 @@ fn lose_at<I: NonBlock>(state: &mut State<I>, at: usize, fault: u16, ended: &mut
     ensures same { (state.new.listener ≡ state.old.listener) × (state.new.accept ≡ state.old.accept) }
     ensures len { vec_len state.new.open + 1 ≡ vec_len state.old.open }
     ensures given { state.new.driver.given ≡ state.old.driver.given }
-    ensures failed { (vec_len ended.new.failed ≡ vec_len ended.old.failed + 1) × (vec_capacity ended.new.failed ≡ vec_capacity ended.old.failed) }
+    ensures names { IsPermutation (connections_in state.new.open.items ended.new.closed.items ended.new.failed.items)
+        (connections_in state.old.open.items ended.old.closed.items ended.old.failed.items) }
+    ensures failed { (vec_len ended.new.failed ≡ vec_len ended.old.failed + 1)
+        × (vec_capacity ended.new.failed ≡ vec_capacity ended.old.failed) }
     ensures closed { ended.new.closed ≡ ended.old.closed }
 {
     let conn = state.open.remove(at);
@@ -127,6 +135,8 @@ fn serve_at<I: NonBlock>(
     ensures later { IsLater (I.view state.old.driver.handling.io) (I.view state.new.driver.handling.io) }
     ensures stops { StopsUnless (I.view state.old.driver.handling.io) (I.view state.new.driver.handling.io) result }
     ensures same { (state.new.listener ≡ state.old.listener) × (state.new.accept ≡ state.old.accept) }
+    ensures names { IsPermutation (connections_in state.new.open.items ended.new.closed.items ended.new.failed.items)
+        (connections_in state.old.open.items ended.old.closed.items ended.old.failed.items) }
     ensures len { IfOk result (λ goes. GoesOn goes (vec_len state.old.open) (vec_len state.new.open)) }
     ensures fewer { vec_len state.new.open ≤ vec_len state.old.open }
     ensures given { state.new.driver.given ≤ state.old.driver.given + 2 }
@@ -168,6 +178,9 @@ pub(crate) fn serve_all<I: NonBlock>(
         → Serving I.view I.tells start was state.new.driver state.new.open.items ended.new.closed.items ended.new.failed.items }
     ensures stops { StopsUnless (I.view state.old.driver.handling.io) (I.view state.new.driver.handling.io) result }
     ensures same { (state.new.listener ≡ state.old.listener) × (state.new.accept ≡ state.old.accept) }
+    ensures names { IsPermutation (connections_in state.new.open.items ended.new.closed.items ended.new.failed.items)
+        (connections_in state.old.open.items ended.old.closed.items ended.old.failed.items) }
+    ensures later { IsLater (I.view state.old.driver.handling.io) (I.view state.new.driver.handling.io) }
     ensures fewer { vec_len state.new.open ≤ vec_len state.old.open }
     ensures given { state.new.driver.given ≤ state.old.driver.given + 2 * vec_len state.old.open }
 {

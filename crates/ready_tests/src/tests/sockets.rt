@@ -234,6 +234,25 @@ fn bytes_arrive(rt: HostRuntime) -> Result<(), Fail> {
     Ok(())
 }
 
+// A read behind one that came short would block until the handle is reported again, also where more is there; then it gets that, or the end.
+// A handle whose reports have another key is read at once.
+#[test]
+fn a_short_read_waits_for_a_report(rt: HostRuntime) -> Result<(), Fail> {
+    let mut io = MioIo::new(&rt, rt.alloc());
+    assert!(rt; connects(&rt, &mut io, 40817)?);
+    assert!(rt; sends(&rt, &mut io, 1, b"hello")? && becomes_readable(&rt, &mut io, 2)?);
+    assert!(rt; gets(&rt, &mut io, 2, b"hello")?);
+    assert!(rt; sends(&rt, &mut io, 1, b"again")? && is_ready(&rt, &mut io, 2, true)?);
+    assert!(rt; has_none(&rt, &mut io, 2)? && becomes_readable(&rt, &mut io, 2)?);
+    assert!(rt; gets(&rt, &mut io, 2, b"again")?);
+    io.register(2, 9)?;
+    assert!(rt; sends(&rt, &mut io, 1, b"other")? && !has_none(&rt, &mut io, 2)?);
+    io.register(2, 2)?;
+    assert!(rt; closes(&mut io, 1) && becomes_readable(&rt, &mut io, 2)?);
+    assert!(rt; ends(&rt, &mut io, 2)? && ends(&rt, &mut io, 2)?);
+    Ok(())
+}
+
 #[test]
 fn a_peer_closes(rt: HostRuntime) -> Result<(), Fail> {
     let mut io = MioIo::new(&rt, rt.alloc());

@@ -1,8 +1,11 @@
 use Rattle.std.proofs.Common.{◌∙◌, ap, subst, sym, ◌++◌, ◌∷◌, []}
+use Rattle.std.specs.Prelude.{map}
 use Rattle.ready_driver.specs.LegacyState.{ops_in}
+use Rattle.relay_net.specs.Connection.{near_of}
 use Rattle.relay_net.specs.Opening.{Opening}
 use Rattle.relay_net.specs.Relay.{IsSound}
 use Rattle.relay_net.proofs.Opens.{fresh_kept, kept_sound, opened_sound, opening_pushed, opening_widens, released_opening, released_sound}
+use Rattle.relay_net.proofs.Numbers.{numbers_opened}
 use Rattle.relay_net.proofs.opening.open_one.Goals as goal
 
 pub returns-then-is_err-clause-sound : goal.returns-then-is_err-clause-sound
@@ -64,3 +67,14 @@ returns-in-Err-clause-opening g c = λ start was opening.
     (opening_widens g.I.NonBlock.view g.I.NonBlock.tells start c.args.state.now.driver c.far.new.driver was c.args.state.now.open.items
     c.args.state.now.listener
     c.far.ensures.widens c.requires.sound.served opening))
+
+pub returns-then-is_err-clause-err : goal.returns-then-is_err-clause-err
+returns-then-is_err-clause-err g c = ap (λ xs. map near_of xs) c.reserve.ensures.items
+
+pub returns-in-Ok-clause-names : goal.returns-in-Ok-clause-names
+returns-in-Ok-clause-names g c =
+    ap (λ xs. map near_of xs) (c.push_reserved.ensures.items ∙ ap (λ xs. xs ++ c.new.result ∷ []) c.reserve.ensures.items)
+    ∙ numbers_opened c.args.state.now.open.items c.new.result c.args.near c.new.ensures.handles.0
+
+pub returns-in-Err-clause-err : goal.returns-in-Err-clause-err
+returns-in-Err-clause-err g c = ap (λ xs. map near_of xs) c.reserve.ensures.items

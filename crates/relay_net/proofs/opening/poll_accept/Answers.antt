@@ -1,4 +1,4 @@
-use Rattle.relay_net.proofs.Opens.{accept_ends, accept_starves, accept_waits, accepted_for}
+use Rattle.relay_net.proofs.Opens.{accept_ends, accept_fails, accept_starves, accept_waits, accepted_for}
 use Rattle.relay_net.proofs.opening.poll_accept.Goals as goal
 
 pub returns-in-Ok-Pending-clause-widens : goal.returns-in-Ok-Pending-clause-widens
@@ -24,7 +24,10 @@ returns-in-Ok-Ready-clause-accepted g c =
     accepted_for g.I.NonBlock.view c.args.driver.now c.poll_op.new.self c.args.listener c.in-Ok-Ready.done.outcome c.accepted_of.result
     (accept_ends g.I.NonBlock.view g.I.NonBlock.tells g.I.NonBlock.memory g.I.NonBlock.files g.I.Calls.called g.met.I.NonBlock.calls
     c.args.driver.now c.poll_op.new.self c.args.op c.in-Ok-Ready.field-0 c.in-Ok-Ready.done 0 c.args.listener
-    c.in-Ok-Ready.field-0-is c.in-Ok-Ready.ensures.polls c.requires.pending).1 c.accepted_of.ensures
+    c.in-Ok-Ready.field-0-is c.in-Ok-Ready.ensures.polls c.requires.pending).1
+    (accept_fails g.I.NonBlock.view g.I.NonBlock.tells g.I.NonBlock.memory g.I.NonBlock.files g.I.Calls.called g.met.I.NonBlock.calls
+    g.met.I.Sockets.numbered c.args.driver.now c.poll_op.new.self c.args.op c.in-Ok-Ready.field-0 c.in-Ok-Ready.done 0 c.args.listener
+    c.in-Ok-Ready.field-0-is c.in-Ok-Ready.ensures.polls c.requires.pending c.requires.number) c.accepted_of.ensures
 
 pub returns-in-Err-clause-widens : goal.returns-in-Err-clause-widens
 returns-in-Err-clause-widens g c =

@@ -1,4 +1,4 @@
-use Rattle.std.proofs.Common.{rules}
+use Rattle.std.proofs.Common.{arith, rules}
 use Rattle.relay_net.proofs.Opens.{opening_starts}
 use Rattle.relay_net.proofs.Relays.{stops_later}
 use Rattle.relay_net.proofs.relay.accept.Goals as goal
@@ -33,3 +33,10 @@ returns-in_err-open_one-in-Made-clause-opening g c = λ start was opening.
 pub returns-in_ok-open_one-in-Made-clause-opening : goal.returns-in_ok-open_one-in-Made-clause-opening
 returns-in_ok-open_one-in-Made-clause-opening g c = λ start was opening.
     c.open_one.ensures.opening start was (c.arrive.ensures.opening start was (c.begin_accept.ensures.opening start was opening))
+
+pub returns-in-Failed-clause-fails : goal.returns-in-Failed-clause-fails
+returns-in-Failed-clause-fails g c =
+    let first = (c.begin_accept.ensures.opening c.args.state.now.driver c.args.state.now.open.items
+    (opening_starts g.I.NonBlock.view g.I.NonBlock.tells c.args.state.now.driver c.args.state.now.open.items)).later.fails in
+    let rose = c.in-Failed.ensures.arrives in
+    omega (arith, first, rose)

@@ -1,6 +1,6 @@
-use Rattle.std.proofs.Common.{◌∙◌, ap, subst, sym, []}
+use Rattle.std.proofs.Common.{◌∙◌, ap, arith, subst, sym, []}
 use Rattle.relay_net.specs.Relay.{Serving}
-use Rattle.relay_net.proofs.Opens.{opening_serving, opening_starts}
+use Rattle.relay_net.proofs.Opens.{accept_within, opening_serving, opening_starts}
 use Rattle.relay_net.proofs.Relays.{stops_later}
 use Rattle.relay_net.proofs.relay.work.Goals as goal
 
@@ -34,3 +34,9 @@ returns-clause-stops g c =
     (c.accept.ensures.opening c.args.state.now.driver c.args.state.now.open.items
     (opening_starts g.I.NonBlock.view g.I.NonBlock.tells c.args.state.now.driver c.args.state.now.open.items)).later
     c.serve_all.ensures.stops
+
+pub returns-clause-fails : goal.returns-clause-fails
+returns-clause-fails g c =
+    accept_within (g.I.NonBlock.view c.args.state.now.driver.handling.io) (g.I.NonBlock.view c.args.state.now.driver.handling.io)
+    (g.I.NonBlock.view c.accept.new.state.driver.handling.io) (g.I.NonBlock.view c.serve_all.new.state.driver.handling.io)
+    c.accept.new.lists.accept (omega arith) c.serve_all.ensures.later.fails c.accept.ensures.fails

@@ -2,8 +2,10 @@ use Rattle.std.proofs.Common.{◌∙◌, ap, refl, subst, sym, ◌++◌, ◌∷�
 use Rattle.std.specs.List.{remove}
 use Rattle.std.proofs.lemmas.Option.{slice_get_read}
 use Rattle.ready_driver.specs.LegacyState.{ops_in}
-use Rattle.relay_net.specs.Relay.{IsSound, Serving}
+use Rattle.std.specs.Prelude.{IsPermutation}
+use Rattle.relay_net.specs.Relay.{IsSound, Serving, connections_in}
 use Rattle.relay_net.proofs.Relays.{serving_closed, sound_removed}
+use Rattle.relay_net.proofs.Numbers.{numbers_closed}
 use Rattle.relay_net.proofs.state.close_at.Goals as goal
 
 pub end-requires-clause-fits : goal.end-requires-clause-fits
@@ -44,3 +46,15 @@ returns-clause-serving g c = λ start was serving.
 
 pub returns-clause-later : goal.returns-clause-later
 returns-clause-later g c = c.end.ensures.ends.later
+
+pub returns-clause-names : goal.returns-clause-names
+returns-clause-names g c =
+    subst (λ all. IsPermutation (connections_in all c.push_reserved.new.self.items c.args.ended.now.failed.items)
+    (connections_in c.args.state.now.open.items c.args.ended.now.closed.items c.args.ended.now.failed.items))
+    (sym c.remove-conn.ensures.items)
+    (subst (λ closed. IsPermutation (connections_in (remove c.args.state.now.open.items c.args.at) closed c.args.ended.now.failed.items)
+    (connections_in c.args.state.now.open.items c.args.ended.now.closed.items c.args.ended.now.failed.items))
+    (sym (c.push_reserved.ensures.items ∙ ap (λ n. c.args.ended.now.closed.items ++ n ∷ []) c.near.ensures))
+    (numbers_closed c.args.state.now.open.items c.args.at c.remove-conn.result c.args.ended.now.closed.items
+    c.args.ended.now.failed.items
+    (slice_get_read c.args.state.now.open.items _ c.args.at c.remove-conn.result refl c.requires.placed c.remove-conn.ensures.value)))

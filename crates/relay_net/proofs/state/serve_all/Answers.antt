@@ -1,5 +1,6 @@
 use Rattle.std.proofs.Common.{◌≡◌, ◌∙◌, ◌+◌, subst, arith}
 use Rattle.std.specs.Vec.{vec_len}
+use Rattle.std.proofs.lemmas.List.Sorted.{IsPermutation-trans}
 use Rattle.relay_net.specs.Relay.{GoesOn}
 use Rattle.relay_net.proofs.Calls.{later_then}
 use Rattle.relay_net.proofs.state.serve_all.Goals as goal
@@ -7,6 +8,9 @@ use Rattle.relay_net.proofs.state.serve_all.Goals as goal
 pub returns-in_err-serve_at-clause-serving : goal.returns-in_err-serve_at-clause-serving
 returns-in_err-serve_at-clause-serving g c = λ start was serving.
     c.serve_at.ensures.serving start was (c.loop-at.invariant.serving start was serving)
+
+pub returns-in_err-serve_at-clause-names : goal.returns-in_err-serve_at-clause-names
+returns-in_err-serve_at-clause-names g c = IsPermutation-trans _ _ _ c.serve_at.ensures.names c.loop-at.invariant.names
 
 pub loop-at-preserved-then-branch : goal.loop-at-preserved-then-branch
 loop-at-preserved-then-branch g c =
@@ -30,6 +34,7 @@ loop-at-preserved-then-branch g c =
     record {
       sound = now.sound;
       serving = λ start was serving. now.serving start was (before.serving start was serving);
+      names = IsPermutation-trans _ _ _ now.names before.names;
       later = later_then (g.I.NonBlock.view c.args.state.now.driver.handling.io) (g.I.NonBlock.view c.loop-at.state.driver.handling.io)
           (g.I.NonBlock.view c.serve_at.new.state.driver.handling.io) before.later now.later;
       same = (now.same.0 ∙ before.same.0, now.same.1 ∙ before.same.1);
@@ -62,6 +67,7 @@ loop-at-preserved g c =
     record {
       sound = now.sound;
       serving = λ start was serving. now.serving start was (before.serving start was serving);
+      names = IsPermutation-trans _ _ _ now.names before.names;
       later = later_then (g.I.NonBlock.view c.args.state.now.driver.handling.io) (g.I.NonBlock.view c.loop-at.state.driver.handling.io)
           (g.I.NonBlock.view c.serve_at.new.state.driver.handling.io) before.later now.later;
       same = (now.same.0 ∙ before.same.0, now.same.1 ∙ before.same.1);

@@ -3,7 +3,8 @@ use Rattle.std.specs.Vec.{vec_len, vec_capacity}
 use Rattle.rent_buf.specs.declared.plain.Buf.{Buf}
 use Rattle.ready_driver.specs.Io.{IsLater}
 use Rattle.ready_driver.specs.LegacyState.{LegacyState, ops_in}
-use Rattle.relay_net.specs.Relay.{IsSound, Serving}
+use Rattle.std.specs.Prelude.{IsPermutation}
+use Rattle.relay_net.specs.Relay.{IsSound, Serving, connections_in}
 use Rattle.relay_net.specs.declared.connection.Connection.{Connection}
 use Rattle.relay_net.proofs.state.serve_all.Given as goal
 
@@ -16,6 +17,8 @@ invariant-loop-at g l = record {
       l.initial.ended.closed.items l.initial.ended.failed.items
       → Serving g.I.NonBlock.view g.I.NonBlock.tells start was l.state.driver l.state.open.items l.ended.closed.items
       l.ended.failed.items;
+  names : IsPermutation (connections_in l.state.open.items l.ended.closed.items l.ended.failed.items)
+      (connections_in l.initial.state.open.items l.initial.ended.closed.items l.initial.ended.failed.items);
   later : IsLater (g.I.NonBlock.view l.initial.state.driver.handling.io) (g.I.NonBlock.view l.state.driver.handling.io);
   same : (l.state.listener ≡ l.initial.state.listener) × (l.state.accept ≡ l.initial.state.accept);
   within : l.at ≤ vec_len l.state.open;

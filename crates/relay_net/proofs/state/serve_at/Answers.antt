@@ -1,4 +1,6 @@
 use Rattle.std.proofs.Common.{arith}
+use Rattle.std.proofs.lemmas.List.Sorted.{IsPermutation-trans}
+use Rattle.relay_net.proofs.Numbers.{numbers_kept}
 use Rattle.relay_net.proofs.state.serve_at.Goals as goal
 
 pub returns-in-Open-clause-serving : goal.returns-in-Open-clause-serving
@@ -20,3 +22,25 @@ returns-in-Failed-clause-serving g c = λ start was serving.
     let cause = c.in-Failed.ensures.cause in
     c.lose_at.ensures.serving start was (omega (arith, later, cause))
     (c.in-Failed.ensures.serving start was c.args.ended.now.closed.items c.args.ended.now.failed.items serving)
+
+pub returns-in-Open-clause-names : goal.returns-in-Open-clause-names
+returns-in-Open-clause-names g c =
+    numbers_kept c.args.state.now.open.items c.serve_one.new.state.open.items c.args.ended.now.closed.items
+    c.args.ended.now.failed.items c.in-Open.ensures.names
+
+pub returns-in-Stopped-clause-names : goal.returns-in-Stopped-clause-names
+returns-in-Stopped-clause-names g c =
+    numbers_kept c.args.state.now.open.items c.serve_one.new.state.open.items c.args.ended.now.closed.items
+    c.args.ended.now.failed.items c.in-Stopped.ensures.names
+
+pub returns-in-Closed-clause-names : goal.returns-in-Closed-clause-names
+returns-in-Closed-clause-names g c =
+    IsPermutation-trans _ _ _ c.close_at.ensures.names
+    (numbers_kept c.args.state.now.open.items c.serve_one.new.state.open.items c.args.ended.now.closed.items
+    c.args.ended.now.failed.items c.in-Closed.ensures.names)
+
+pub returns-in-Failed-clause-names : goal.returns-in-Failed-clause-names
+returns-in-Failed-clause-names g c =
+    IsPermutation-trans _ _ _ c.lose_at.ensures.names
+    (numbers_kept c.args.state.now.open.items c.serve_one.new.state.open.items c.args.ended.now.closed.items
+    c.args.ended.now.failed.items c.in-Failed.ensures.names)

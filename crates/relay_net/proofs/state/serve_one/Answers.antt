@@ -4,6 +4,7 @@ use Rattle.ready_driver.specs.LegacyState.{ops_in}
 use Rattle.relay_net.specs.Connection.{IsOverIf}
 use Rattle.relay_net.proofs.Places.{get_set}
 use Rattle.relay_net.proofs.Relays.{found_same, serving_set, sound_set}
+use Rattle.relay_net.proofs.Numbers.{numbers_set}
 use Rattle.relay_net.proofs.state.serve_one.Goals as goal
 
 pub serve-requires-clause-fits : goal.serve-requires-clause-fits
@@ -48,3 +49,9 @@ returns-clause-later g c = c.serve.ensures.serves.leaves.later
 
 pub returns-clause-cause : goal.returns-clause-cause
 returns-clause-cause g c = c.serve.ensures.serves.cause
+
+pub returns-clause-names : goal.returns-clause-names
+returns-clause-names g c =
+    numbers_set c.args.state.now.open.items c.args.at c.index_mut.result.now c.serve.new.conn
+    (slice_get_read c.args.state.now.open.items _ c.args.at c.index_mut.result.now refl c.requires.placed c.index_mut.ensures.value)
+    c.serve.ensures.serves.near
