@@ -178,6 +178,16 @@ impl Connection {
         self.ending && self.forth.held() == 0 && self.held_back() == 0
     }
 
+    // The next step of a direction submits an operation.
+    pub(crate) fn is_at_hand(&self) -> bool {
+        let reads = !self.ending;
+        let back = match &self.back {
+            Some(flow) => flow.is_at_hand(reads),
+            None => false,
+        };
+        back || self.forth.is_at_hand(reads)
+    }
+
     // Its near handle, as a number.
     pub(crate) fn near(&self) -> u64
         ensures { result ≡ near_of self.now }

@@ -451,6 +451,15 @@ impl Flow {
         }
     }
 
+    // Its next step submits an operation: a send, or a receive where those are still submitted.
+    pub(crate) fn is_at_hand(&self, reads: bool) -> bool {
+        match &self.stage {
+            Stage::Idle(_) => reads,
+            Stage::Held(_) => true,
+            Stage::Receiving(_) | Stage::Sending { .. } => false,
+        }
+    }
+
     // How many bytes it holds.
     #[tactic(auto, using(crate::proofs::Flows::pending_count))]
     pub(crate) fn held(&self) -> usize

@@ -12,6 +12,8 @@ ghost use Rattle.relay_net.specs.Connection.{near_of};
 ghost use Rattle.relay_net.specs.Relay.{AreServed, IsAccept, IsSound, Serving, StopsUnless, connections_in};
 ghost use Rattle.relay_net.specs.Relaying.{HandsOn, RoundStops, TurnStops, round_of};
 
+mod memory;
+
 use crate::connection::Connection;
 use crate::far::Far;
 use crate::flow::Reads;
@@ -21,9 +23,8 @@ use crate::state::{Ended, State, serve_all};
 use driver_core::{Driver, MOST_GIVEN, Op, Stop};
 use handle_core::SharedFd;
 use op_driver::OpDriver;
-use ready_driver::{LegacyDriver, MemIo, Sockets};
+use ready_driver::{LegacyDriver, Sockets};
 use rent_buf::{Buf, NumList, OutOfMemory};
-use ring_core::{Look, WorldError};
 use std::alloc::Global;
 use std::marker::Model;
 use std::sync::Wait;
@@ -36,6 +37,8 @@ pub struct Relay<I: Sockets, F: Far<I>> {
     state: State<I>,
     limit: usize,
     far: F,
+    // The last round ended a connection, so that there is a place for another one. No contract sees it.
+    again: bool,
     alloc: Global,
 }
 
@@ -147,13 +150,23 @@ fn turn_stop(stop: Option<Stop>) -> Result<(), RelayError>
     }
 }
 
-// The turn of a round: a park that waits so many milliseconds at most, or a turn that doesn't wait.
+// How long a round waits at most that is to wait so many milliseconds at most: not at all where there is something to do at once.
+fn longest<I: Sockets>(state: &State<I>, again: bool, millis: u64) -> u64 {
+    if again || state.is_at_hand() {
+        return 0;
+    }
+    millis
+}
+
+// The turn of a round: a park that waits so many milliseconds at most, and not at all where there is something to do at once; or a turn that
+// doesn't wait.
 fn turn<R: Wait + Clock, I: Sockets, P: Ledger, D: Ledger>(
     rt: &R,
     alloc: Global,
     state: &mut State<I>,
     sleeper: &mut Sleeper<P, D>,
     wait: Option<u64>,
+    again: bool,
 ) -> (Woken, Result<(), RelayError>)
     requires sound { IsSound (ops_in state.old.driver) state.old.driver.handling.table state.old.listener state.old.accept
         state.old.open.items }
@@ -171,7 +184,8 @@ fn turn<R: Wait + Clock, I: Sockets, P: Ledger, D: Ledger>(
             (no_wakers(alloc), turn_stop(turned.stop))
         }
         Some(millis) => {
-            let parked = state.driver.park_timeout(rt, sleeper, millis);
+            let limit = longest(state, again, millis);
+            let parked = state.driver.park_timeout(rt, sleeper, limit);
             let turned = parked.turned;
             (parked.remote, turn_stop(turned.stop))
         }
@@ -337,6 +351,7 @@ impl<I: Sockets, F: Far<I>> Relay<I, F> {
                 },
                 limit,
                 far,
+                again: false,
                 alloc,
             }),
             Err(_) => Err((OutOfMemory, driver)),
@@ -359,6 +374,9 @@ impl<I: Sockets, F: Far<I>> Relay<I, F> {
     /// there is a place; then a step of each direction of each connection, the lowest near handle first. Each connection that was open is
     /// open still, was closed or failed; at an error too, which says why the round stopped: then the next one goes on. At most 129
     /// operations are submitted. The handle of an accepted connection that gets no other end is released. (not in monoio)
+    ///
+    /// It doesn't wait either where a direction is to receive or has bytes to send, or where the round before ended a connection: so one
+    /// round may follow another, each with a wait, and no byte waits for that.
     pub fn round<R: Wait + Clock, P: Ledger, D: Ledger>(
         &mut self,
         rt: &R,
@@ -378,7 +396,7 @@ impl<I: Sockets, F: Far<I>> Relay<I, F> {
         let Ok(mut lists) = room_for(self.alloc, self.state.open.len() + 1) else {
             return Err((RelayError::OutOfMemory, no_round(self.alloc)));
         };
-        let (remote, turned) = turn(rt, self.alloc, &mut self.state, sleeper, wait);
+        let (remote, turned) = turn(rt, self.alloc, &mut self.state, sleeper, wait, self.again);
         let worked = behind(
             &mut self.state,
             &mut self.far,
@@ -387,33 +405,8 @@ impl<I: Sockets, F: Far<I>> Relay<I, F> {
             &mut lists,
             turned,
         );
+        self.again = !lists.ended.closed.is_empty() || !lists.ended.failed.is_empty();
         finish(worked, round_with(remote, lists))
-    }
-}
-
-impl<F: Far<MemIo>> Relay<MemIo, F> {
-    /// Bytes arrive at a handle in memory, as `feed` of the driver. (not in monoio)
-    pub fn feed(&mut self, h: u64, bytes: &[u8]) -> Result<(), WorldError> {
-        if !self.state.driver.has_handle(h) {
-            return Err(WorldError::BadHandleEvent);
-        }
-        self.state.driver.feed(h, bytes)
-    }
-
-    /// The end of what arrives at a handle in memory, as `end` of the driver. (not in monoio)
-    pub fn end(&mut self, h: u64) -> Result<(), WorldError> {
-        if !self.state.driver.has_handle(h) {
-            return Err(WorldError::BadHandleEvent);
-        }
-        self.state.driver.end(h)
-    }
-
-    /// What looking at a handle in memory shows, as `look` of the driver. (not in monoio)
-    pub fn look(&self, h: u64) -> Result<Option<Look>, OutOfMemory> {
-        if !self.state.driver.has_handle(h) {
-            return Ok(None);
-        }
-        Ok(Some(self.state.driver.look(h)?))
     }
 }
 
@@ -476,6 +469,7 @@ impl<I: Sockets, F: Far<I>> Drop for Relay<I, F> {
             state,
             limit: _,
             far: _,
+            again: _,
             alloc: _,
         } = self;
         end_all(state);

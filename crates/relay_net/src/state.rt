@@ -27,6 +27,18 @@ pub(crate) struct State<I: NonBlock> {
     pub(crate) open: Vec<Connection>,
 }
 
+impl<I: NonBlock> State<I> {
+    // The next step of a connection submits an operation: then there is no need to wait for the object.
+    pub(crate) fn is_at_hand(&self) -> bool {
+        for conn in &self.open {
+            if conn.is_at_hand() {
+                return true;
+            }
+        }
+        false
+    }
+}
+
 // What a round closed, and what it lost, in memory that was reserved.
 pub(crate) struct Ended {
     pub(crate) closed: Vec<u64>,
