@@ -2,7 +2,7 @@
 use anyhow::{Result, bail};
 use driver_core::MOST_GIVEN;
 use handle_core::SharedFd;
-use ready_driver::{LegacyDriver, Sockets};
+use ready_driver::{LegacyDriver, NonBlockError, Sockets};
 use relay_net::{Far, Relay, Round};
 use rent_buf::Buf;
 use std::alloc::Global;
@@ -13,6 +13,9 @@ use wake_core::{Sleeper, WakeCell, Work, with_sleeper};
 
 // How many connections may be open.
 const MOST: u32 = 64;
+
+// The error of a port that is taken. (Linux: `EADDRINUSE`)
+const TAKEN: u16 = 98;
 
 /// How many connections were closed, and how many failed.
 #[derive(Clone, Copy)]
@@ -44,8 +47,11 @@ pub fn listen<I: Sockets, F: Far<I>>(
     port: u16,
     far: F,
 ) -> Result<Relay<I, F>> {
-    let listener = driver.listen(port)?;
-    over(alloc, driver, listener, far)
+    match driver.listen(port) {
+        Ok(listener) => over(alloc, driver, listener, far),
+        Err(NonBlockError::Fault(TAKEN)) => bail!("port {} is taken", port),
+        Err(why) => bail!("port {}: {}", port, why),
+    }
 }
 
 // How many connections a round closed, and how many it lost.

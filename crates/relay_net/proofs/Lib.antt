@@ -7,3 +7,4 @@ pub mod Places
 pub mod Relays
 pub mod Opens
 pub mod Numbers
+pub mod Feeds

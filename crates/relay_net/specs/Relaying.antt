@@ -1,5 +1,5 @@
 -- A relay as contracts see it, and what its rounds show. Cited by `Relay`.
-use Rattle.std.specs.Prelude.{ℕ, ◌≡◌, ◌+◌, List, length, Option, Result, Ok, Err, refl}
+use Rattle.std.specs.Prelude.{ℕ, ◌≡◌, ◌+◌, ◌&&◌, Bool, List, length, nat_lt, Option, Result, Ok, Err, refl}
 use Rattle.std.specs.Coded.{Coded, code_by, coded×, coded_ℕ, coded_list, coded_option}
 use Rattle.rent_buf.specs.declared.plain.Buf.{Buf}
 use Rattle.wake_core.specs.declared.park.Woken.{Woken}
@@ -10,6 +10,8 @@ use Rattle.driver_core.specs.declared.op.Stop.{Stop}
 use Rattle.driver_core.specs.declared.op.Stop.TheVariants.{OutOfMemory}
 use Rattle.ready_driver.specs.Io.{IoView}
 use Rattle.ready_driver.specs.LegacyState.{LegacyState}
+use Rattle.ready_driver.specs.MemIo.{Memory}
+use Rattle.ready_driver.specs.Registry.{is_users}
 use Rattle.relay_net.specs.Keeping.{StopsFor}
 use Rattle.relay_net.specs.declared.connection.Connection.{Connection}
 use Rattle.relay_net.specs.declared.round.RelayError.{RelayError}
@@ -30,6 +32,10 @@ relaying_code driver op connection = code_by (LegacyState _ Buf × (ℕ × (Opti
     (λ r. (r.driver, (r.listener, (r.accept, (r.open_ones, r.limit)))))
     (λ t. record { driver = t.0; listener = t.1.0; accept = t.1.1.0; open_ones = t.1.1.1.0; limit = t.1.1.1.1 })
     (λ _. refl)
+
+-- The user holds a handle in memory.
+abbrev pub has_handle : LegacyState Memory Buf → ℕ → Bool
+has_handle driver h = is_users driver.handling.table h && nat_lt h (length driver.handling.io.world)
 
 -- What a round did, also where it stopped.
 abbrev pub round_of : Result Round (RelayError × Round) → Round
