@@ -158,8 +158,8 @@ fn longest<I: Sockets>(state: &State<I>, again: bool, millis: u64) -> u64 {
     millis
 }
 
-// The turn of a round: a park that waits so many milliseconds at most, and not at all where there is something to do at once; or a turn that
-// doesn't wait.
+// The turn of a round: a park that waits so many milliseconds at most, and not at all where there is something to do at once; or a turn
+// that doesn't wait.
 fn turn<R: Wait + Clock, I: Sockets, P: Ledger, D: Ledger>(
     rt: &R,
     alloc: Global,
