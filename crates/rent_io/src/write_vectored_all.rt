@@ -107,6 +107,7 @@ impl<T: IoVecBuf, A: AsyncWriteRent, C: WriteCall<A>> Polled<A, C> for VectoredA
 
     ghost ended = { λ before now s end. EndsAll A.tells (A.writer before) (A.writer now) s end };
 
+    #[tactic(auto, using(crate::proofs::SendRuns::send_none, crate::proofs::SendRuns::all_advances))]
     fn laws(&self) {}
 
     fn poll_by(
