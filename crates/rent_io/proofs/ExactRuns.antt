@@ -86,3 +86,6 @@ module _ {T : Type 0} (tells : Bool) (task : ℕ) (before mid now : Reader) (buf
 pub filled_within : (b : Buffer) (n : ℕ) → BufferBounds b → n ≤ length (shown b) → b.begin + n ≤ length b.bytes
 filled_within b n bounds among =
     omega (arith, bounds.within, among, length-drop b.begin (take b.end b.bytes), length-take b.end b.bytes)
+
+-- What holds of every exact read.
+pub ruleset laws = (filled_within, fill_none, exact_advances)

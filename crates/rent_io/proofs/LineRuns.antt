@@ -94,7 +94,8 @@ module _ (tells : Bool) (task : ℕ) (before mid now : Reader) (u g : Until) (st
       (UntilRunEnd tells before now u) step has (λ next got more it goes. until_adds u g got it.0 it.1 next more goes)
       (λ end is. read_ends tells before mid now (λ got. Lacks u.delim got × (g ≡ added_to u got))
       (AddsLine (λ l. IsLine g.delim l ⊎ ((l ≡ []) × AtEnd tells mid now)) g end.1)
-      (AddsLine (λ l. IsWholeLine tells u.delim l now.left) u end.1) (StopsAdding mid now g end.1) (StopsAdding before now u end.1) end.0 has
+      (AddsLine (λ l. IsWholeLine tells u.delim l now.left) u end.1) (StopsAdding mid now g end.1) (StopsAdding before now u end.1)
+      end.0 has
       (λ n got more it done front. until_is_done u g got it.0 it.1 tells mid now end.1 n more front done)
       (λ fault got it stops. until_stops u g got it.0 it.1 before mid now end.1 fault stay stops) is) is
 

@@ -68,3 +68,6 @@ module _ {N : Type 0} (tells : Bool) (task : ℕ) (before mid now : Reader) (val
         | inr early ↦ early_short tells mid now (g.size - length g.bytes) fault same (omega (arith, early.1)) early.0
       ]))
       (λ next got more. omega (arith, more.0, ap (λ x. length x.bytes) more.2, length-append g.bytes got)) is
+
+-- What holds of every read of a number.
+pub ruleset laws = (number_none, number_more, number_advances)

@@ -58,6 +58,9 @@ all_full (part ∷ parts) zero behind full = absurd (omega arith)
 all_full (part ∷ parts) (suc k) behind full = All-cons (λ part. length part.bytes ≡ part.total) part parts full.0
     (all_full parts k (omega arith) full.1)
 
+-- What parts that are full leave to be read.
+pub ruleset passing = (passed_read, passed_full, all_read, all_full)
+
 -- Bytes stored behind the filled ones of a part were read behind those that were.
 pub put_read : (parts : Parts) (k at n : ℕ) (got : List ℕ) → k < length parts → at ≤ length (part_at parts k).bytes → n ≡ length got
     → read_of (part_put parts k at got) k (at + n) ≡ read_of parts k at ++ got

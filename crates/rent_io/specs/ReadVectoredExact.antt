@@ -1,5 +1,6 @@
 -- A read that fills all parts of a vector: what each poll of it does, and what many have done. The clauses `answer` and `run` cite it.
-use Rattle.std.specs.Prelude.{ℕ, zero, suc, ◌≡◌, ◌-◌, ◌<◌, ◌≤◌, ◌⊎◌, Bool, List, [], ◌∷◌, ◌++◌, All, map, length, take, Option, None, Some, Result}
+use Rattle.std.specs.Prelude.{ℕ, zero, suc, ◌≡◌, ◌-◌, ◌<◌, ◌≤◌, ◌⊎◌, Bool, List, [], ◌∷◌, ◌++◌, All, map, length, take}
+use Rattle.std.specs.Prelude.{Option, None, Some, Result}
 use Rattle.std.specs.List.{concat}
 use Rattle.rent_buf.specs.Parts.{Parts, bytes_of, rooms_of, part_at, part_put}
 use Rattle.rent_buf.specs.declared.fault.IoFault.{IoFault}

@@ -86,7 +86,7 @@ impl<T: IoBufMut, A: AsyncReadRent, C: ReadCall<A>> Polled<A, C> for ExactState<
 
     ghost ended = { λ before now f end. EndsExact A.tells (A.reader before) (A.reader now) T.buffer T.under T.beside f end };
 
-    #[tactic(auto, using(crate::proofs::ExactRuns::filled_within, crate::proofs::ExactRuns::fill_none, crate::proofs::ExactRuns::exact_advances))]
+    #[tactic(auto, using(crate::proofs::ExactRuns::laws))]
     fn laws(&self) {
         self.buf.keeps_bounds();
     }

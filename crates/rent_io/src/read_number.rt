@@ -99,7 +99,7 @@ impl<N: Number, A: AsyncReadRent, C: ReadCall<A>> Polled<A, C> for NumberState<N
 
     ghost ended = { λ before now r end. NumberRunEnd A.tells (A.reader before) (A.reader now) N.value r end };
 
-    #[tactic(auto, using(crate::proofs::NumberRuns::number_none, crate::proofs::NumberRuns::number_more, crate::proofs::NumberRuns::number_advances))]
+    #[tactic(auto, using(crate::proofs::NumberRuns::laws))]
     fn laws(&self) {}
 
     fn poll_by(self, io: &mut A, call: &C, task: u64) -> Step<NumberState<N>, Result<N, IoFault>> {

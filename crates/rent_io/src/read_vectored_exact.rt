@@ -157,7 +157,7 @@ impl<T: IoVecBufMut, A: AsyncReadRent, C: ReadCall<A>> Polled<A, C> for Vectored
 }
 
 // From a place of a part on, the first place with room, if any.
-#[tactic(auto, using(crate::proofs::SingleParts::length_bytes, crate::proofs::Scatters::passed_read, crate::proofs::Scatters::passed_full, crate::proofs::Scatters::all_read, crate::proofs::Scatters::all_full))]
+#[tactic(auto, using(crate::proofs::SingleParts::length_bytes, crate::proofs::Scatters::passing))]
 fn next_room<T: IoVecBufMut>(buf: &T, part: usize, filled: usize) -> Option<(usize, usize)>
     requires bound { part ≤ length (T.held buf.now) }
     requires full { AreFullBefore (T.held buf.now) part }

@@ -13,7 +13,8 @@ returns-in-Ready-clause-answer g c =
     let i = c.self.inside in
     let text = c.into_text in
     subst (λ (l : Lining). LineEnd tells before now l (string_bytes text.result.1) text.result.0) c.self.view_is
-    (line_ends tells before now i.until i.start c.in-Ready.bytes _ c.in-Ready.outcome _ c.self.invariant c.in-Ready.ensures.answer text.ensures)
+    (line_ends tells before now i.until i.start c.in-Ready.bytes _ c.in-Ready.outcome _ c.self.invariant c.in-Ready.ensures.answer
+    text.ensures)
 
 pub returns-in-Again-clause-answer : goal.returns-in-Again-clause-answer
 returns-in-Again-clause-answer g c =
