@@ -1,5 +1,5 @@
 //! The copy, and how it ends.
-ghost use Rattle.std.specs.Prelude.{◌≡◌, ◌≤◌, ◌+◌, ◌++◌, [], IfOk, IfErr, OnOk, OnErr, IsTrue, false, length, drop, take, max, min};
+ghost use Rattle.std.specs.Prelude.{◌≡◌, ◌≤◌, ◌+◌, ◌++◌, [], IfOk, IfErr, OnOk, OnErr, IsTrue, false, length, drop, max, min};
 ghost use Rattle.rent_buf.specs.Counts.{Rose};
 ghost use Rattle.rent_io.specs.Call.{reading, writing};
 ghost use Rattle.stream_util.specs.BufReader.{fresh_reader};

@@ -12,11 +12,10 @@ use Rattle.rent_io.specs.declared.poll.Step.TheVariants.{Ready, Pending}
 use Rattle.rent_io.specs.Reader.{Reader, Taken}
 use Rattle.rent_io.specs.Writer.{Writer}
 use Rattle.rent_io.specs.Counts.{Counts, Rose}
-use Rattle.rent_io.specs.Polls.{WriteFails}
 use Rattle.rent_io.specs.Runs.{AfterCalls}
 use Rattle.rent_io.proofs.Runs.{fails_later, one_more, rose_later}
 use Rattle.rent_io.proofs.Sends.{SliceSent, range-to_end}
-use Rattle.stream_util.specs.Copy.{Breaks, CopyFails, Copying, Ends, OneCall, RunCalls, Copies, UsesAll, Waits, Moves, MovesSome, IsCopyEnd}
+use Rattle.stream_util.specs.Copy.{Breaks, Copying, Ends, OneCall, RunCalls, Copies, UsesAll, Waits, Moves, MovesSome, IsCopyEnd}
 use Rattle.stream_util.specs.Copy.{IsSameJoined, count_more}
 use Rattle.stream_util.specs.Copy.{HasCopied, IsRunEnd, Runs, CopiesAll, HasAll}
 use Rattle.stream_util.specs.declared.copy.Copied.{Copied}
@@ -253,12 +252,6 @@ slice_counted content buf slice sent total n before now cut some end none counte
       ))
       | inr rose ↦ rose
     ]
-
--- What a write that failed of some bytes that are held says of the copy.
-pub write_failed : (before now : Ends) (held : List ℕ) (fault : IoFault) → 0 < length held
-    → WriteFails before.writer.counts now.writer.counts fault → CopyFails before now held fault
-write_failed before now held fault some (inl failed) = inr (inl failed)
-write_failed before now held fault some (inr none) = inr (inr (some, none))
 
 -- One more poll that is done.
 pub ran_ends : (turns : ℕ) (reads writes : Bool) (task : ℕ) (before mid now : Ends) (copy next : Copying) (copied : Copied)

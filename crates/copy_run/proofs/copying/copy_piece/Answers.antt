@@ -28,5 +28,6 @@ returns-clause-runs g c =
     let size : c.lesser-size.result ≡ all = omega (arith, c.lesser-size.ensures, ap length c.buffered-bytes.ensures.value) in
     let long : length c.new-piece.result.bytes.now ≡ all =
     omega (arith, ap length c.new-piece.ensures, c.split_at.ensures.front_len, size) in
-    let count : c.lesser-size.result - length c.left.result.now ≡ all - length left.bytes.now = omega (arith, size, ap length c.left.ensures) in
+    let count : c.lesser-size.result - length c.left.result.now ≡ all - length left.bytes.now =
+    omega (arith, size, ap length c.left.ensures) in
     piece_runs g.K.ByteSink.tells _ now c.args.copy c.run-step.result all _ calm refl left.paused long count c.run-step.ensures.answer
