@@ -2,14 +2,20 @@
 use Rattle.std.proofs.Common.{◌≡◌, ◌∙◌, ◌≤◌, ◌<◌, inl, inr, ℕ, List, Bool, length, refl, arith}
 use Rattle.std.specs.Prelude.{IsTrue}
 use Rattle.rent_io.specs.Counts.{Counts}
-use Rattle.rent_io.specs.Writer.{EndsStay, Writer}
-use Rattle.stream_util.specs.BufWriter.{GetsFurther}
+use Rattle.rent_io.specs.Writer.{EndsStay, SinkWriting, Writer}
+use Rattle.stream_util.specs.BufWriter.{GetsFurther, Writing}
+use Rattle.copy_run.specs.Pieces.{outlet_writer}
 
 -- Writes of the buffer changed nothing that was delivered, no count of flushes and shutdowns, and no count of faults fell.
 pub record Kept (tells : Bool) (before now : Writer) : Type 0 where
   pub delivered : IsTrue tells → now.delivered ≡ before.delivered
   pub order : before.counts.faults ≤ now.counts.faults
   pub ends : EndsStay before now
+
+-- The same of a sink behind a buffer.
+abbrev pub KeptBy : {K : Type 0} → Bool → (K → List ℕ) → (K → ℕ) → Writing (SinkWriting K) → Writing (SinkWriting K) → Type 0
+KeptBy tells taken faults old new = Kept tells (outlet_writer (taken old.inner.sink) (faults old.inner.sink) old)
+    (outlet_writer (taken new.inner.sink) (faults new.inner.sink) new)
 
 -- Nothing was written yet.
 pub kept_none : (tells : Bool) (w : Writer) → Kept tells w w

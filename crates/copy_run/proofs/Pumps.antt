@@ -11,7 +11,7 @@ use Rattle.rent_io.specs.declared.poll.Step.{Step}
 use Rattle.rent_io.specs.declared.poll.Step.TheVariants.{Ready, Pending}
 use Rattle.stream_util.specs.Copy.{Copying, held_in}
 use Rattle.stream_util.specs.declared.copy.Copied.{Copied}
-use Rattle.copy_run.specs.Pieces.{IsSinkFault, PieceRuns}
+use Rattle.copy_run.specs.Pieces.{IsSinkFault, PieceMoved, PieceRuns}
 use Rattle.copy_run.specs.Places.{Joins}
 
 -- 1 where a list is empty, and else 0.
@@ -19,25 +19,35 @@ abbrev pub none_there : List ℕ → ℕ
 none_there [] = 1
 none_there (x ∷ xs) = 0
 
--- A run over the first bytes that are left keeps the joined list.
-pub joins_piece : (ts both tk : Bool) (delivered later held kept left rest took all : List ℕ) → (IsTrue ts → IsTrue both)
-    → Joins ts tk delivered held left all → (IsTrue both → left ≡ took ++ rest)
-    → (IsTrue tk → later ++ kept ≡ delivered ++ (held ++ took)) → Joins ts tk later kept rest all
-joins_piece ts both tk delivered later held kept left rest took all tell joins cut moved = λ s k.
-    ap (λ l. l ++ rest) (moved k ∙ sym (append_assoc delivered held took)) ∙ append_assoc (delivered ++ held) took rest
-    ∙ ap (λ l. (delivered ++ held) ++ l) (sym (cut (tell s))) ∙ joins s k
+module _ {ts both tk : Bool} {buffered left rest delivered later held kept : List ℕ} {used : ℕ} (tell : IsTrue ts → IsTrue both)
+    (moved : PieceMoved both tk buffered left rest delivered later held kept used) where
+  -- A run over the first bytes that are left keeps the joined list.
+  pub joins_piece : {all : List ℕ} → Joins ts tk delivered held left all → Joins ts tk later kept rest all
+  joins_piece joins = record {
+    joined = λ s k.
+        let took = take used buffered in
+        ap (λ l. l ++ rest) (moved.joined k ∙ sym (append_assoc delivered held took)) ∙ append_assoc (delivered ++ held) took rest
+        ∙ ap (λ l. (delivered ++ held) ++ l) (sym (moved.behind (tell s))) ∙ joins.joined s k;
+  }
 
--- A fill keeps it.
-pub joins_fill : (ts tk : Bool) (delivered held left rest all : List ℕ) → Joins ts tk delivered held left all
+  -- What it read is gone from what is left, and from the number of bytes that may still come.
+  pub budget_piece : (budget most total : ℕ) → used ≤ min budget (length buffered) → (IsTrue ts → length left + most ≡ total + budget)
+      → IsTrue ts → length rest + most ≡ total + (budget - used)
+  budget_piece budget most total within sum s = omega
+      (arith, within, sum s, ap length (moved.behind (tell s)), length-append (take used buffered) rest, length-take used buffered)
+
+-- What it holds, where it is known what the run answers.
+pub kept_in : {both tk : Bool} {buffered left rest delivered later held : List ℕ} {used : ℕ} {step is : Step Copying Copied} → step ≡ is
+    → PieceMoved both tk buffered left rest delivered later held (held_in step) used
+    → PieceMoved both tk buffered left rest delivered later held (held_in is) used
+kept_in {both} {tk} {buffered} {left} {rest} {delivered} {later} {held} {used} same moved =
+    subst (λ s. PieceMoved both tk buffered left rest delivered later held (held_in s) used) same moved
+
+-- A fill keeps the joined list.
+pub joins_fill : {ts tk : Bool} {delivered held left rest all : List ℕ} → Joins ts tk delivered held left all
     → (IsTrue ts → rest ≡ left) → Joins ts tk delivered held rest all
-joins_fill ts tk delivered held left rest all joins same = λ s k. ap (λ l. (delivered ++ held) ++ l) (same s) ∙ joins s k
-
--- What a run read is gone from what is left, and from the number of bytes that may still come.
-pub budget_piece : (ts both : Bool) (left rest buffered : List ℕ) (used budget most total : ℕ) → (IsTrue ts → IsTrue both)
-    → used ≤ min budget (length buffered) → (IsTrue both → left ≡ take used buffered ++ rest)
-    → (IsTrue ts → length left + most ≡ total + budget) → IsTrue ts → length rest + most ≡ total + (budget - used)
-budget_piece ts both left rest buffered used budget most total tell within cut sum s =
-    omega (arith, within, sum s, ap length (cut (tell s)), length-append (take used buffered) rest, length-take used buffered)
+joins_fill {ts} {tk} {delivered} {held} joins same =
+    record { joined = λ s k. ap (λ l. (delivered ++ held) ++ l) (same s) ∙ joins.joined s k }
 
 -- A fill keeps the number.
 pub budget_fill : (ts : Bool) (left rest : List ℕ) (most sum : ℕ) → (IsTrue ts → length left + most ≡ sum) → (IsTrue ts → rest ≡ left)
@@ -68,11 +78,6 @@ run_rose size used first faults later copy step copied is order runs =
 pub run_waits : (size used faults later : ℕ) (copy next : Copying) (step : Step Copying Copied) → step ≡ Pending next
     → PieceRuns size used faults later copy step → (used ≡ size) × (length next.held ≤ length copy.held + used)
 run_waits size used faults later copy next step is runs = subst (λ s. PieceRuns size used faults later copy s) is runs
-
--- What was delivered and is held, where it is known what a run answers.
-pub run_joined : (tk : Bool) (later delivered held took : List ℕ) (step is : Step Copying Copied) → step ≡ is
-    → (IsTrue tk → later ++ held_in step ≡ delivered ++ (held ++ took)) → IsTrue tk → later ++ held_in is ≡ delivered ++ (held ++ took)
-run_joined tk later delivered held took step is same joined = λ k. ap (λ s. later ++ held_in s) (sym same) ∙ joined k
 
 -- A test that finds bytes: there are some.
 pub some_there : (xs : List ℕ) (empty : Bool) → empty ≡ eqb (length xs) 0 → empty ≡ false → 0 < length xs

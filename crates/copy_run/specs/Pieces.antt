@@ -1,6 +1,6 @@
 -- The streams between which a copy goes, and what one run of it over the bytes that are buffered does.
 use Rattle.std.specs.Prelude.{ℕ, ◌≡◌, ◌≤◌, ◌<◌, ◌+◌, ◌*◌, ◌-◌, ◌^◌, List, [], ◌++◌, length}
-use Rattle.std.specs.Prelude.{Result, Ok, Err}
+use Rattle.std.specs.Prelude.{Bool, IsTrue, take, Result, Ok, Err}
 use Rattle.rent_buf.specs.Counts.{Rose}
 use Rattle.rent_buf.specs.declared.fault.IoFault.{IoFault}
 use Rattle.rent_io.specs.Counts.{no_counts}
@@ -31,6 +31,11 @@ outlet_writer taken faults w = sink_writer (delivered_by taken w) faults w.inner
 -- Some bytes are the first of others.
 abbrev pub IsFirst : List ℕ → List ℕ → Type 0
 IsFirst some all = (rest : List ℕ) × (all ≡ some ++ rest)
+
+-- A run read the first so many of the bytes that were buffered: what was delivered and is held, joined, grew by them.
+pub record PieceMoved (reads writes : Bool) (buffered left rest delivered later held kept : List ℕ) (used : ℕ) : Type 0 where
+  pub behind : IsTrue reads → left ≡ take used buffered ++ rest
+  pub joined : IsTrue writes → later ++ kept ≡ delivered ++ (held ++ take used buffered)
 
 -- How a run ends over a piece: by a fault of the sink.
 abbrev pub IsSinkFault : ℕ → ℕ → Result ℕ IoFault → Type 0

@@ -15,9 +15,8 @@ pub record SinkAt (tells : Bool) (before : List ℕ) (faults place : ℕ) (taken
   pub grew : IsTrue tells → taken ≡ before ++ drop (length before) taken
 
 -- Bytes that were delivered, bytes that are held and bytes that are left, joined, are these, where the source and the sink tell theirs.
-abbrev pub Joins : Bool → Bool → List ℕ → List ℕ → List ℕ → List ℕ → Type 0
-Joins tells_source tells_sink delivered held left all =
-    IsTrue tells_source → IsTrue tells_sink → delivered ++ held ++ left ≡ all
+pub record Joins (tells_source tells_sink : Bool) (delivered held left all : List ℕ) : Type 0 where
+  pub joined : IsTrue tells_source → IsTrue tells_sink → delivered ++ held ++ left ≡ all
 
 -- What has become of a source that had this left when the copy began, and had failed so often.
 abbrev pub read_since : List ℕ → ℕ → List ℕ → ℕ → Reading

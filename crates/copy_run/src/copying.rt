@@ -1,12 +1,12 @@
 //! The copy, and how it ends.
-ghost use Rattle.std.specs.Prelude.{◌≡◌, ◌≤◌, ◌+◌, ◌++◌, [], IfOk, IfErr, OnOk, OnErr, IsTrue, false, length, drop, take, max, min};
+ghost use Rattle.std.specs.Prelude.{◌≡◌, ◌≤◌, ◌+◌, ◌++◌, [], IfOk, IfErr, OnOk, OnErr, IsTrue, false, length, drop, max, min};
 ghost use Rattle.rent_buf.specs.Counts.{Rose};
 ghost use Rattle.rent_io.specs.Call.{reading, writing};
 ghost use Rattle.stream_util.specs.BufReader.{fresh_reader};
 ghost use Rattle.stream_util.specs.Copy.{held_in};
 ghost use Rattle.stream_util.specs.PrefixedReadIo.{prefix_left};
 ghost use Rattle.copy_run.specs.Ending.{CopyEnds};
-ghost use Rattle.copy_run.specs.Pieces.{IsFirst, PieceRuns, delivered_by};
+ghost use Rattle.copy_run.specs.Pieces.{IsFirst, PieceMoved, PieceRuns, delivered_by};
 ghost use Rattle.copy_run.specs.Places.{Joins, read_since, written_since};
 
 use crate::front::Front;
@@ -199,11 +199,9 @@ fn copy_piece<R: AsyncBufRead, K: ByteSink>(
 ) -> (Step<Copy, Copied>, usize)
     ensures within { result.1 ≤ min most (length (R.buffered reader.old)) }
     ensures buffered { R.buffered reader.new ≡ drop result.1 (R.buffered reader.old) }
-    ensures behind { IsTrue R.tells → (R.reader reader.old).left
-        ≡ take result.1 (R.buffered reader.old) ++ (R.reader reader.new).left }
-    ensures joined { IsTrue K.tells → delivered_by (K.taken writer.new.writer.inner.sink) writer.new.writer ++ held_in result.0
-        ≡ delivered_by (K.taken writer.old.writer.inner.sink) writer.old.writer
-        ++ (copy.held ++ take result.1 (R.buffered reader.old)) }
+    ensures moved { PieceMoved R.tells K.tells (R.buffered reader.old) (R.reader reader.old).left (R.reader reader.new).left
+        (delivered_by (K.taken writer.old.writer.inner.sink) writer.old.writer)
+        (delivered_by (K.taken writer.new.writer.inner.sink) writer.new.writer) copy.held (held_in result.0) result.1 }
     ensures runs { PieceRuns (min most (length (R.buffered reader.old))) result.1 (K.faults writer.old.writer.inner.sink)
         (K.faults writer.new.writer.inner.sink) copy result.0 }
 {

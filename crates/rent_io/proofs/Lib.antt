@@ -1,4 +1,3 @@
-pub mod Completeness
 pub mod ExactRuns
 pub mod Files
 pub mod FirstParts
@@ -9,6 +8,7 @@ pub mod NumberRuns
 pub mod Pieces
 pub mod Rests
 pub mod Runs
+mod ReadStates
 pub mod ScatterRuns
 pub mod Scatters
 pub mod SendRuns

@@ -7,7 +7,7 @@ use Rattle.std.proofs.Math.Seq.{drop-cons}
 use Rattle.std.proofs.Math.ListN.{drop_of_length-le}
 use Rattle.std.proofs.lemmas.List.{length-take, length-drop, take-append-drop, drop-drop}
 use Rattle.rent_io.specs.WriteAll.{Sending, SendsOn}
-use Rattle.rent_io.specs.WriteVectoredAll.{rest_from, PartCut}
+use Rattle.rent_io.specs.WriteVectoredAll.{rest_from, IsPlace, PartCut}
 
 -- The first bytes of two joined lists are dropped from the first.
 pub drop-first : (xs ys : List ℕ) (n : ℕ) → n ≤ length xs → drop n (xs ++ ys) ≡ drop n xs ++ ys
@@ -59,76 +59,45 @@ pub record PartSent {T : Type 0} (parts : T → List (List ℕ)) (tells : Bool) 
     pub within : n ≤ length (drop cut.begin (slice_index_or (parts cut.inner) cut.part []))
     pub joined : IsTrue tells → now ≡ before ++ take n (drop cut.begin (slice_index_or (parts cut.inner) cut.part []))
 
--- A write of bytes of the part at a place.
-pub record Placed {T : Type 0} (parts : T → List (List ℕ)) (tells : Bool) (before now : List ℕ) (s : Sending T) (buf back : T)
-    (k sent n k' sent' total : ℕ) : Type 0 where
-  pub buf_is : buf ≡ s.buf
-  pub rest_is : rest_from (parts buf) k sent ≡ s.rest
-  pub total_is : total ≡ s.total
-  pub there : k < length (parts buf)
-  pub in_part : sent ≤ length (slice_index_or (parts buf) k [])
-  pub next_is : rest_from (parts back) k' sent' ≡ rest_from (parts back) k (sent + n)
-  pub same_back : back ≡ buf
-  pub within : n ≤ length (drop sent (slice_index_or (parts buf) k []))
-  pub joined : IsTrue tells → now ≡ before ++ take n (drop sent (slice_index_or (parts buf) k []))
+module _ {T : Type 0} (parts : T → List (List ℕ)) (tells : Bool) (before now : List ℕ) (s : Sending T) (buf back : T)
+    (part sent k at n total upto : ℕ) (cut slice : PartCut T)
+    (is : record { buf = buf; rest = rest_from (parts buf) part sent; total = total } ≡ s) (here : IsPlace (parts buf) part sent k at)
+    (cut_is : cut ≡ record { inner = buf; part = k; begin = at }) (told : PartSent parts tells before now cut slice n)
+    (inner : back ≡ slice.inner) (behind : upto ≡ slice.begin + n) where
+  -- A write of bytes of the part at a place.
+  moved : PartSent parts tells before now (record { inner = buf; part = k; begin = at }) slice n
+  moved = subst (λ x. PartSent parts tells before now x slice n) cut_is told
 
--- The bytes to be written are those that were written, and those of the next place on.
-placed-cut : {T : Type 0} (parts : T → List (List ℕ)) (tells : Bool) (before now : List ℕ) (s : Sending T) (buf back : T)
-    (k sent n k' sent' total : ℕ) → Placed parts tells before now s buf back k sent n k' sent' total
-    → s.rest ≡ take n (drop sent (slice_index_or (parts buf) k [])) ++ rest_from (parts back) k' sent'
-placed-cut parts tells before now s buf back k sent n k' sent' total p =
-    let part = slice_index_or (parts buf) k [] in
-    let fits : sent + n ≤ length part = omega (arith, p.within, length-drop sent part, p.in_part) in
-    sym p.rest_is ∙ rest-cut (parts buf) k sent n p.there fits
-    ∙ ap (λ l. take n (drop sent part) ++ l) (ap (λ b. rest_from (parts b) k (sent + n)) (sym p.same_back) ∙ sym p.next_is)
+  -- The buffer comes back.
+  same_back : back ≡ buf
+  same_back = inner ∙ ap (λ x. x.inner) moved.same
 
--- After it more bytes are to be written, where there is a next place.
-pub placed_sends_on : {T : Type 0} (parts : T → List (List ℕ)) (tells : Bool) (before now : List ℕ) (s : Sending T) (buf back : T)
-    (k sent n k' sent' total : ℕ) → Placed parts tells before now s buf back k sent n k' sent' total
-    → n ≢ 0 → k' < length (parts back) → sent' < length (slice_index_or (parts back) k' [])
-    → SendsOn tells before now s (record { buf = back; rest = rest_from (parts back) k' sent'; total = total })
-placed_sends_on parts tells before now s buf back k sent n k' sent' total p some there less =
-    let part = slice_index_or (parts buf) k [] in
-    record {
-      sent = take n (drop sent part);
-      some = omega (arith, length-take n (drop sent part), p.within, some);
-      more = rest-some (parts back) k' sent' there less;
-      cut = placed-cut parts tells before now s buf back k sent n k' sent' total p;
-      same_buf = p.same_back ∙ p.buf_is;
-      same_total = p.total_is;
-      joined = p.joined;
-    }
+  -- The bytes to be written are those that were written, and those behind them.
+  placed_cut : s.rest ≡ take n (drop at (slice_index_or (parts buf) k [])) ++ rest_from (parts back) k upto
+  placed_cut =
+      let bytes = slice_index_or (parts buf) k [] in
+      ap (λ x. x.rest) (sym is) ∙ sym here.same
+      ∙ rest-cut (parts buf) k at n here.there (omega (arith, moved.within, length-drop at bytes, here.less))
+      ∙ ap (λ l. take n (drop at bytes) ++ l) (ap (λ b. rest_from (parts b) k (at + n)) (sym same_back)
+      ∙ ap (rest_from (parts back) k) (sym (behind ∙ ap (λ x. x.begin + n) moved.same)))
 
--- After it all bytes are delivered, where there is none.
-pub placed_ends : {T : Type 0} (parts : T → List (List ℕ)) (tells : Bool) (before now : List ℕ) (s : Sending T) (buf back : T)
-    (k sent n k' sent' total : ℕ) → Placed parts tells before now s buf back k sent n k' sent' total
-    → length (parts back) ≤ k' → IsTrue tells → now ≡ before ++ s.rest
-placed_ends parts tells before now s buf back k sent n k' sent' total p behind t =
-    let part = slice_index_or (parts buf) k [] in
-    let all : s.rest ≡ take n (drop sent part) = placed-cut parts tells before now s buf back k sent n k' sent' total p
-    ∙ ap (λ l. take n (drop sent part) ++ l) (rest_none (parts back) k' sent' behind) ∙ append-nil (take n (drop sent part)) in
-    p.joined t ∙ ap (λ l. before ++ l) (sym all)
+  -- After it more bytes are to be written, where there is a next place.
+  pub placed_sends_on : (k' at' : ℕ) → IsPlace (parts back) k upto k' at' → n ≢ 0
+      → SendsOn tells before now s (record { buf = back; rest = rest_from (parts back) k' at'; total = total })
+  placed_sends_on k' at' next some =
+      let bytes = drop at (slice_index_or (parts buf) k []) in record {
+        sent = take n bytes;
+        some = omega (arith, length-take n bytes, moved.within, some);
+        more = rest-some (parts back) k' at' next.there next.less;
+        cut = placed_cut ∙ ap (λ l. take n bytes ++ l) (sym next.same);
+        same_buf = same_back ∙ ap (λ x. x.buf) is;
+        same_total = ap (λ x. x.total) is;
+        joined = moved.joined;
+      }
 
--- What the calls of a poll told of such a write.
-pub placed : {T : Type 0} (parts : T → List (List ℕ)) (tells : Bool) (before now : List ℕ) (s : Sending T) (buf back : T)
-    (k sent n k' sent' total upto : ℕ) (cut slice : PartCut T)
-    → cut ≡ record { inner = buf; part = k; begin = sent } → PartSent parts tells before now cut slice n → back ≡ slice.inner
-    → upto ≡ slice.begin + n
-    → rest_from (parts back) k' sent' ≡ rest_from (parts back) k upto
-    → buf ≡ s.buf → rest_from (parts buf) k sent ≡ s.rest → total ≡ s.total → k < length (parts buf)
-    → sent ≤ length (slice_index_or (parts buf) k [])
-    → Placed parts tells before now s buf back k sent n k' sent' total
-placed parts tells before now s buf back k sent n k' sent' total upto cut slice is told inner behind next buf_is rest_is total_is there
-    in_part =
-    let moved = subst (λ x. PartSent parts tells before now x slice n) is told in
-    record {
-      buf_is = buf_is;
-      rest_is = rest_is;
-      total_is = total_is;
-      there = there;
-      in_part = in_part;
-      next_is = next ∙ ap (rest_from (parts back) k) (behind ∙ ap (λ x. x.begin + n) moved.same);
-      same_back = inner ∙ ap (λ x. x.inner) moved.same;
-      within = moved.within;
-      joined = moved.joined;
-    }
+  -- After it all bytes are delivered, where there is none.
+  pub placed_ends : rest_from (parts back) k upto ≡ [] → ((total ≡ s.total) × (IsTrue tells → now ≡ before ++ s.rest)) × (back ≡ s.buf)
+  placed_ends none =
+      let bytes = drop at (slice_index_or (parts buf) k []) in
+      let all : s.rest ≡ take n bytes = placed_cut ∙ ap (λ l. take n bytes ++ l) none ∙ append-nil (take n bytes) in
+      ((ap (λ x. x.total) is, λ t. moved.joined t ∙ ap (λ l. before ++ l) (sym all)), same_back ∙ ap (λ x. x.buf) is)

@@ -1,12 +1,10 @@
 -- Calls of a stream, one behind the other.
-use Rattle.std.proofs.Common.{◌≡◌, ◌∙◌, ℕ, ◌+◌, ◌<◌, ◌≤◌, List, ◌++◌, ◌⊎◌, inl, inr, Bool, sym, ap, arith, append_assoc}
-use Rattle.std.specs.Prelude.{IsTrue, Option, Result, Ok, Err}
+use Rattle.std.proofs.Common.{◌≡◌, ◌∙◌, ℕ, ◌+◌, ◌<◌, ◌≤◌, ◌⊎◌, inl, inr, arith}
+use Rattle.std.specs.Prelude.{Option, Result, Ok, Err}
 use Rattle.rent_buf.specs.declared.fault.IoFault.{IoFault}
 use Rattle.rent_io.specs.Counts.{Counts, AfterCall, Rose}
 use Rattle.rent_io.specs.Polls.{Fails, IsFlushCaused}
 use Rattle.rent_io.specs.declared.poll.PollCount.TheVariants.{Ready}
-use Rattle.rent_io.specs.Reader.{Reader, WasFront}
-use Rattle.rent_io.specs.ReadExact.{Interrupted}
 use Rattle.rent_io.specs.Runs.{AfterCalls}
 
 -- The group of the last call that was made.
@@ -31,26 +29,6 @@ one_more group i most before mid now less calls call = record {
 -- Faults that rose later rose.
 pub rose_later : (before mid now : ℕ) → before ≤ mid → Rose mid now → Rose before now
 rose_later before mid now stay rose = omega (arith, stay, rose)
-
--- Bytes that were first, and then those that were first of the rest, joined.
-pub front_twice : (tells : Bool) (left mid rest u v : List ℕ) → WasFront tells left u mid → WasFront tells mid v rest
-    → WasFront tells left (u ++ v) rest
-front_twice tells left mid rest u v first second = λ t. first t ∙ ap (λ l. u ++ l) (second t) ∙ sym (append_assoc u v rest)
-
--- The same where the stream paused.
-pub front_paused : (tells : Bool) (left mid rest u : List ℕ) → WasFront tells left u mid → (IsTrue tells → mid ≡ rest)
-    → WasFront tells left u rest
-front_paused tells left mid rest u first same = λ t. first t ∙ ap (λ l. u ++ l) (same t)
-
--- It is as it was.
-abbrev pub Stays : {S : Type 0} → Bool → Reader → Reader → S → S → Type 0
-Stays tells before now f next = (next ≡ f) × (IsTrue tells → before.left ≡ now.left)
-
--- A poll that was interrupted, or went on, leaves it as it was, or went on.
-pub breaking : {S : Type 0} (tells : Bool) (before now : Reader) (f next : S) (G : Type 0)
-    → Interrupted tells before now f next ⊎ G → Stays tells before now f next ⊎ G
-breaking tells before now f next G (inl is) = inl (is.0, is.1)
-breaking tells before now f next G (inr goes) = inr goes
 
 -- Faults that came later came.
 pub fails_later : (before mid now : Counts) (fault : IoFault) → before.faults ≤ mid.faults → Fails mid now fault → Fails before now fault

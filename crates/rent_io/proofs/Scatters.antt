@@ -2,7 +2,7 @@
 use Rattle.std.proofs.Common.{◌≡◌, ◌∙◌, ℕ, zero, suc, ◌+◌, ◌<◌, ◌≤◌, ◌≢◌, ◌⊎◌, inl, inr, Bool, List, [], ◌∷◌, ◌++◌, length, take, refl}
 use Rattle.std.proofs.Common.{sym, ap, subst}
 use Rattle.std.proofs.Common.{arith, add-one, append-nil, append_assoc, length-append}
-use Rattle.std.specs.Prelude.{All, IsTrue}
+use Rattle.std.specs.Prelude.{IsTrue, None}
 use Rattle.std.specs.List.{concat}
 use Rattle.std.proofs.lemmas.List.{take_all, length-take, nil_from_length}
 use Rattle.std.proofs.lemmas.List.Sums.{sum_by-cons}
@@ -11,10 +11,11 @@ use Rattle.rent_buf.specs.Rent.{Rented}
 use Rattle.rent_buf.specs.declared.fault.IoFault.TheVariants.{UnexpectedEof}
 use Rattle.rent_buf.specs.Parts.{Parts, IsParts, bytes_of, rooms_of, part_at, part_put}
 use Rattle.rent_io.specs.PartRoom.{PartTaken}
-use Rattle.rent_io.specs.ReadVectoredExact.{Scattering, has_read, read_of, AreFullBefore, rooms}
+use Rattle.rent_io.specs.ReadVectoredExact.{Scattering, has_read, read_of, AreFull, AreFullBefore, IsRoom, NextRoom, rooms}
 use Rattle.rent_io.specs.ReadVectoredExact.{IsScattered, ScatterGoesOn, ScatterEndsEarly}
 use Rattle.rent_io.specs.Counts.{Rose}
 use Rattle.rent_io.specs.Reader.{Reader, WasFront}
+use Rattle.rent_io.specs.ReadState.{Gave}
 
 -- Behind a part whose bytes are all filled the same bytes were read.
 passed : (parts : Parts) (k n : ℕ) → k < length parts → n ≤ length (part_at parts k).bytes → length (part_at parts k).bytes ≤ n
@@ -51,11 +52,14 @@ all_read (part ∷ parts) zero n behind = absurd (omega arith)
 all_read (part ∷ parts) (suc k) n behind = ap (λ l. part.bytes ++ l) (all_read parts k n (omega arith))
 
 -- And all are full.
-pub all_full : (parts : Parts) (k : ℕ) → length parts ≤ k → AreFullBefore parts k → All (λ part. length part.bytes ≡ part.total) parts
+pub all_full : (parts : Parts) (k : ℕ) → length parts ≤ k → AreFullBefore parts k → AreFull parts
 all_full [] k behind full = All-nil (λ part. length part.bytes ≡ part.total)
 all_full (part ∷ parts) zero behind full = absurd (omega arith)
 all_full (part ∷ parts) (suc k) behind full = All-cons (λ part. length part.bytes ≡ part.total) part parts full.0
     (all_full parts k (omega arith) full.1)
+
+-- What parts that are full leave to be read.
+pub ruleset passing = (passed_read, passed_full, all_read, all_full)
 
 -- Bytes stored behind the filled ones of a part were read behind those that were.
 pub put_read : (parts : Parts) (k at n : ℕ) (got : List ℕ) → k < length parts → at ≤ length (part_at parts k).bytes → n ≡ length got
@@ -100,16 +104,18 @@ read_less (part ∷ parts) (suc k) n there full less =
 abbrev pub scatter_at : Parts → ℕ → ℕ → ℕ → Scattering
 scatter_at parts part filled total = record { parts = parts; part = part; filled = filled; total = total }
 
--- A place behind all parts is the end of the read.
-pub ends_full : (tells : Bool) (left rest got : List ℕ) (s : Scattering) (parts back : Parts) (part filled k n total : ℕ)
-    → scatter_at parts part filled total ≡ s → read_of back k n ≡ read_of parts part filled ++ got → length back ≤ k
-    → AreFullBefore back k → rooms back ≡ rooms parts → WasFront tells left got rest → IsScattered tells left rest s back total
-ends_full tells left rest got s parts back part filled k n total is read behind full same front = record {
+-- Where all parts are full, the read is done.
+pub ends_full : (tells : Bool) (before now : Reader) (got : List ℕ) (s : Scattering) (parts back : Parts) (part filled total : ℕ)
+    → scatter_at parts part filled total ≡ s → concat (bytes_of back) ≡ read_of parts part filled ++ got → AreFull back
+    → rooms back ≡ rooms parts → WasFront tells before.left got now.left → Gave tells before now (IsScattered s back total)
+ends_full tells before now got s parts back part filled total is read full same front = record {
   got = got;
-  is_read = sym (all_read back k n behind) ∙ read ∙ ap (λ x. has_read x ++ got) is;
-  full = all_full back k behind full;
-  same_rooms = same ∙ ap (λ x. rooms x.parts) is;
-  total = ap (λ x. x.total) is;
+  is = record {
+    is_read = read ∙ ap (λ x. has_read x ++ got) is;
+    full = full;
+    same_rooms = same ∙ ap (λ x. rooms x.parts) is;
+    total = ap (λ x. x.total) is;
+  };
   front = front;
 }
 
@@ -118,73 +124,60 @@ rose_of : (before now : ℕ) → ◌≡◌ {A = ℕ} 1 0 ⊎ Rose before now →
 rose_of before now (inl is) = absurd cc
 rose_of before now (inr rose) = rose
 
--- A read of no byte into a part that has room at a place is the stream's end.
-pub ends_early : (tells : Bool) (before now : Reader) (s : Scattering) (parts back : Parts) (part filled k n m total : ℕ)
-    → scatter_at parts part filled total ≡ s → k < length parts → AreFullBefore parts k → n < (part_at parts k).total
-    → read_of parts k n ≡ read_of parts part filled → PartTaken tells before.left now.left parts back k n m → m ≡ 0
-    → (m ≡ 0 → ◌≡◌ {A = ℕ} 1 0 ⊎ Rose before.counts.zeros now.counts.zeros)
-    → (IsTrue tells → before.left ≡ now.left) × ScatterEndsEarly tells before now s back UnexpectedEof
-ends_early tells before now s parts back part filled k n m total is there full less same taken none counted =
-    let nothing : taken.got ≡ [] = nil_from_length taken.got (taken.count ∙ none) in
-    let held = ap (λ x. x.parts) is in
-    let read : read_of parts k n ≡ has_read s = same ∙ ap has_read is in (
-      λ t. taken.front t ∙ ap (λ l. l ++ now.left) nothing,
-      record {
-        into = k;
-        at = n;
-        is_eof = refl;
-        more = subst (λ l. n < (part_at l k).total) held less;
-        lacks = subst (λ l. length (has_read s) < rooms_of l) held (omega (arith, read_less parts k n there full less, ap length read));
-        same_read = subst (λ l. read_of l k n ≡ has_read s) held read;
-        at_end = ((λ t. taken.at_end t none), rose_of _ _ (counted none));
-        nothing = taken.is_put ∙ ap (part_put parts k n) nothing ∙ ap (λ l. part_put l k n []) held;
-      },
-    )
+module _ (tells : Bool) (before now : Reader) (s : Scattering) (parts back : Parts) (part filled total into at n : ℕ)
+    (is : scatter_at parts part filled total ≡ s) (here : IsRoom parts part filled into at)
+    (taken : PartTaken tells before.left now.left parts back into at n) where
+  -- A read of no byte into the part at a place with room is the stream's end.
+  pub ends_early : n ≡ 0 → (n ≡ 0 → ◌≡◌ {A = ℕ} 1 0 ⊎ Rose before.counts.zeros now.counts.zeros)
+      → (IsTrue tells → before.left ≡ now.left) × ScatterEndsEarly tells before now s back UnexpectedEof
+  ends_early none counted =
+      let nothing : taken.got ≡ [] = nil_from_length taken.got (taken.count ∙ none) in
+      let held = ap (λ x. x.parts) is in
+      let read : read_of parts into at ≡ has_read s = here.same ∙ ap has_read is in
+      let still : IsTrue tells → before.left ≡ now.left = λ t. taken.front t ∙ ap (λ l. l ++ now.left) nothing in
+      let less = read_less parts into at here.there here.full here.room in (
+        still,
+        record {
+          into = into;
+          at = at;
+          early = (refl, (λ t. sym (still t) ∙ taken.at_end t none), rose_of _ _ (counted none));
+          more = subst (λ l. at < (part_at l into).total) held here.room;
+          lacks = subst (λ l. length (has_read s) < rooms_of l) held (omega (arith, less, ap length read));
+          same_read = subst (λ l. read_of l into at ≡ has_read s) held read;
+          nothing = taken.is_put ∙ ap (part_put parts into at) nothing ∙ ap (λ l. part_put l into at []) held;
+        },
+      )
 
--- A read of n bytes into the part at a place, and the next place.
-pub record Stepped (tells : Bool) (left rest : List ℕ) (s : Scattering) (parts back : Parts) (part filled total into at n k m : ℕ) : Type 0
-  where
-    pub state : scatter_at parts part filled total ≡ s
-    pub there : into < length parts
-    pub within : at ≤ length (part_at parts into).bytes
-    pub same : read_of parts into at ≡ read_of parts part filled
-    pub taken : PartTaken tells left rest parts back into at n
-    pub next : read_of back k m ≡ read_of back into (at + n)
-    pub full : AreFullBefore back k
+  -- Its rooms stay.
+  taken_rooms : rooms back ≡ rooms parts
+  taken_rooms = ap rooms taken.is_put ∙ put_rooms parts into at taken.got
 
--- After it the bytes that were read are those before and those that it read.
-taken_read : (tells : Bool) (left rest : List ℕ) (s : Scattering) (parts back : Parts) (part filled total into at n k m : ℕ)
-    (st : Stepped tells left rest s parts back part filled total into at n k m)
-    → read_of back k m ≡ read_of parts part filled ++ st.taken.got
-taken_read tells left rest s parts back part filled total into at n k m st =
-    let t = st.taken in
-    st.next ∙ ap (λ l. read_of l into (at + n)) t.is_put ∙ put_read parts into at n t.got st.there st.within (sym t.count)
-    ∙ ap (λ l. l ++ t.got) st.same
+  -- The bytes that were read are those before and those that it read.
+  taken_read : read_of back into (at + n) ≡ read_of parts part filled ++ taken.got
+  taken_read = ap (λ l. read_of l into (at + n)) taken.is_put ∙ put_read parts into at n taken.got here.there here.within (sym taken.count)
+      ∙ ap (λ l. l ++ taken.got) here.same
 
--- It is done where the next place is behind all parts.
-pub step_ends : (tells : Bool) (left rest : List ℕ) (s : Scattering) (parts back : Parts) (part filled total into at n k m : ℕ)
-    → Stepped tells left rest s parts back part filled total into at n k m → length back ≤ k → IsScattered tells left rest s back total
-step_ends tells left rest s parts back part filled total into at n k m st behind =
-    let t = st.taken in
-    ends_full tells left rest t.got s parts back part filled k m total st.state
-    (taken_read tells left rest s parts back part filled total into at n k m st) behind st.full
-    (ap rooms t.is_put ∙ put_rooms parts into at t.got) t.front
+  -- It is done where no place behind has room.
+  pub step_ends : NextRoom back into (at + n) None → Gave tells before now (IsScattered s back total)
+  step_ends full =
+      ends_full tells before now taken.got s parts back part filled total is (full.0 ∙ taken_read) full.1 taken_rooms taken.front
 
--- And more are to come, where the next place has room.
-pub step_goes_on : (tells : Bool) (left rest : List ℕ) (s : Scattering) (parts back : Parts) (part filled total into at n k m : ℕ)
-    → Stepped tells left rest s parts back part filled total into at n k m → n ≢ 0 → k < length back → m < (part_at back k).total
-    → ScatterGoesOn tells left rest s (scatter_at back k m total)
-step_goes_on tells left rest s parts back part filled total into at n k m st some there less =
-    let t = st.taken in
-    record {
-      got = t.got;
-      some = omega (arith, t.count, some);
+  -- And more are to come, where one has.
+  pub step_goes_on : (k m : ℕ) → IsRoom back into (at + n) k m → n ≢ 0
+      → Gave tells before now (ScatterGoesOn s (scatter_at back k m total))
+  step_goes_on k m next some = record {
+    got = taken.got;
+    is = record {
+      some = omega (arith, taken.count, some);
       into = into;
       at = at;
-      is_put = t.is_put ∙ ap (λ x. part_put x.parts into at t.got) st.state;
-      is_read = taken_read tells left rest s parts back part filled total into at n k m st ∙ ap (λ x. has_read x ++ t.got) st.state;
-      same_rooms = ap rooms t.is_put ∙ put_rooms parts into at t.got ∙ ap (λ x. rooms x.parts) st.state;
-      same_total = ap (λ x. x.total) st.state;
-      more = read_less back k m there st.full less;
-      front = t.front;
-    }
+      is_put = taken.is_put ∙ ap (λ x. part_put x.parts into at taken.got) is;
+      adds = record {
+        is_read = next.same ∙ taken_read ∙ ap (λ x. has_read x ++ taken.got) is;
+        same_rooms = taken_rooms ∙ ap (λ x. rooms x.parts) is;
+        same_total = ap (λ x. x.total) is;
+      };
+      more = read_less back k m next.there next.full next.room;
+    };
+    front = taken.front;
+  }

@@ -1,13 +1,16 @@
 -- Polls of a write of all bytes, one behind the other.
 use Rattle.std.proofs.Common.{◌≡◌, ◌∙◌, ℕ, ◌≤◌, ◌⊎◌, inl, inr, [], ◌++◌, Bool, refl, sym, ap, append_assoc, append-nil}
-use Rattle.std.specs.Prelude.{IsTrue, Result, Ok, Err}
+use Rattle.std.proofs.Common.{arith, length, length-append}
+use Rattle.std.specs.Prelude.{IsTrue, IfErr, Result, Ok, Err}
 use Rattle.rent_buf.specs.declared.fault.IoFault.{IoFault}
 use Rattle.rent_io.specs.declared.poll.Step.{Step}
 use Rattle.rent_io.specs.declared.poll.Step.TheVariants.{Ready, Pending, Again}
 use Rattle.rent_io.specs.Writer.{EndsStay, Writer}
 use Rattle.rent_io.specs.WriteAll.{Sending, SendsOn, BreaksAll, IsAllEnd, WritesAll}
 use Rattle.rent_io.specs.Runs.{AllRunEnd, EndsAll, HasSent}
-use Rattle.rent_io.specs.State.{Ran}
+use Rattle.rent_io.specs.Completeness.{IsQuiet}
+use Rattle.rent_io.specs.Polls.{TookNone}
+use Rattle.rent_io.specs.State.{Advances, Ran}
 use Rattle.rent_io.proofs.Runs.{fails_later, rose_later}
 
 -- A stream that flushed and shut down as often, twice.
@@ -83,3 +86,21 @@ send_more tells task before mid now s g (Ready end) stay zeros has is = (
 )
 send_more tells task before mid now s g (Pending next) stay zeros has is = send_stays tells before mid now s g next has is.1 is.0.0 is.0.1
 send_more tells task before mid now s g (Again next) stay zeros has is = send_again tells before mid now s g next has is.1 is.0
+
+-- A write of all bytes ends so.
+all-end : {T : Type 0} (tells : Bool) (before now : Writer) (s : Sending T) (end : Result ℕ IoFault) → IsQuiet before.counts now.counts
+    → IsAllEnd tells before now s end → IfErr end (TookNone before.counts now.counts)
+all-end tells before now s (Ok n) quiet is = tt
+all-end tells before now s (Err fault) quiet (same, inl failed) = absurd (quiet.0 failed.0)
+all-end tells before now s (Err fault) quiet (same, inr zero) = (zero.0, zero.2)
+
+-- A write of all bytes gets on.
+pub all_advances : {T : Type 0} (tells : Bool) (task : ℕ) (before now : Writer) (s : Sending T)
+    (step : Step (Sending T) (Result ℕ IoFault × T))
+    → WritesAll tells task before now s step
+    → Advances (λ s. 0) (λ s. length s.rest) (λ end. IfErr end.0 (TookNone before.counts now.counts)) before.counts now.counts s step
+all_advances tells task before now s (Ready end) is = λ quiet. all-end tells before now s end.0 quiet is.0
+all_advances tells task before now s (Pending next) is = (is.0, is.2.0)
+all_advances tells task before now s (Again next) (inl breaks) = inl (breaks.0, breaks.2)
+all_advances tells task before now s (Again next) (inr goes) =
+    inr (omega (arith, goes.some, ap length goes.cut, length-append goes.sent next.rest))

@@ -12,35 +12,13 @@ range-to_end xs from total is =
     let rest = length-drop from xs in
     take_all (total - from) (drop from xs) (omega (arith, rest, is))
 
--- After a write of some but not all bytes, those behind them are to be written.
-pub sends_on : {T : Type 0} (content : T → List ℕ) (tells : Bool) (before now : List ℕ) (s : Sending T) (buf back : T) (sent n total : ℕ)
-    → record { buf = buf; rest = drop sent (content buf); total = length (content buf) } ≡ s
-    → back ≡ buf → total ≡ length (content buf) → n ≤ length (slice_range (content buf) sent total) → n ≢ 0 → sent + n ≢ total
-    → (IsTrue tells → now ≡ before ++ take n (slice_range (content buf) sent total))
-    → SendsOn tells before now s (record { buf = back; rest = drop (sent + n) (content back); total = length (content back) })
-sends_on content tells before now s buf back sent n total is same end within some short joined =
-    let xs = content buf in
-    let whole = range-to_end xs sent total end in
-    let fits : n ≤ length (drop sent xs) = rw (← whole) within in
-    let count = length-drop sent xs in
-    record {
-      sent = take n (drop sent xs);
-      some = omega (arith, length-take n (drop sent xs), fits, some);
-      more = rw same (omega (arith, length-drop (sent + n) xs, count, fits, short, end));
-      cut = ap (λ x. x.rest) (sym is) ∙ sym (take-append-drop n (drop sent xs))
-          ∙ ap (λ l. take n (drop sent xs) ++ l) (drop-drop n sent xs ∙ ap (λ b. drop (sent + n) (content b)) (sym same));
-      same_buf = same ∙ ap (λ x. x.buf) is;
-      same_total = ap (λ b. length (content b)) same ∙ ap (λ x. x.total) is;
-      joined = λ t. joined t ∙ ap (λ l. before ++ take n l) whole;
-    }
-
 -- What a write of some of a slice's bytes did.
 pub record SliceSent {T : Type 0} (content : T → List ℕ) (tells : Bool) (before now : List ℕ) (slice part : Cut T) (n : ℕ) : Type 0 where
   pub same : part ≡ slice
   pub within : n ≤ length (slice_range (content slice.inner) slice.begin slice.end)
   pub joined : IsTrue tells → now ≡ before ++ take n (slice_range (content slice.inner) slice.begin slice.end)
 
--- The same, where the slice was the bytes of a buffer from a place to its end.
+-- After a write of some but not all of the bytes from a place to the end of a buffer, those behind them are to be written.
 pub slice_sends_on : {T : Type 0} (content : T → List ℕ) (tells : Bool) (before now : List ℕ) (s : Sending T) (buf back : T)
     (sent n total : ℕ) (slice part : Cut T)
     → record { buf = buf; rest = drop sent (content buf); total = length (content buf) } ≡ s
@@ -49,5 +27,17 @@ pub slice_sends_on : {T : Type 0} (content : T → List ℕ) (tells : Bool) (bef
     → SendsOn tells before now s (record { buf = back; rest = drop (sent + n) (content back); total = length (content back) })
 slice_sends_on content tells before now s buf back sent n total slice part is cut sent_of inner end some short =
     let moved = subst (λ sl. SliceSent content tells before now sl part n) cut sent_of in
-    sends_on content tells before now s buf back sent n total is (inner
-    ∙ ap (λ p. p.inner) moved.same) end moved.within some short moved.joined
+    let same = inner ∙ ap (λ p. p.inner) moved.same in
+    let xs = content buf in
+    let whole = range-to_end xs sent total end in
+    let fits : n ≤ length (drop sent xs) = rw (← whole) moved.within in
+    record {
+      sent = take n (drop sent xs);
+      some = omega (arith, length-take n (drop sent xs), fits, some);
+      more = rw same (omega (arith, length-drop (sent + n) xs, length-drop sent xs, fits, short, end));
+      cut = ap (λ x. x.rest) (sym is) ∙ sym (take-append-drop n (drop sent xs))
+          ∙ ap (λ l. take n (drop sent xs) ++ l) (drop-drop n sent xs ∙ ap (λ b. drop (sent + n) (content b)) (sym same));
+      same_buf = same ∙ ap (λ x. x.buf) is;
+      same_total = ap (λ b. length (content b)) same ∙ ap (λ x. x.total) is;
+      joined = λ t. moved.joined t ∙ ap (λ l. before ++ take n l) whole;
+    }

@@ -1,11 +1,12 @@
 -- Polls of a send and a flush, one behind the other.
-use Rattle.std.proofs.Common.{◌≡◌, ◌∙◌, ◌≤◌, inl, inr, refl, sym, subst}
-use Rattle.std.specs.Prelude.{Option, None, IsSome, Result, Ok, Err}
+use Rattle.std.proofs.Common.{◌≡◌, ◌∙◌, ◌≤◌, inl, inr, refl, sym, subst, ap, arith}
+use Rattle.std.specs.Prelude.{IfErr, Option, None, Some, IsSome, Result, Ok, Err}
 use Rattle.rent_io.specs.declared.poll.Step.{Step}
 use Rattle.rent_io.specs.declared.poll.Step.TheVariants.{Ready, Pending, Again}
 use Rattle.rent_io.specs.Counts.{Rose}
-use Rattle.rent_io.specs.ItemSink.{ItemSink, NothingDone, IsTaken, HasSend, SendEnd, SendsAndFlushes}
-use Rattle.rent_io.specs.State.{Ran}
+use Rattle.rent_io.specs.ItemSink.{ItemSink, NothingDone, IsTaken, HasSend, SendEnd, SendsAndFlushes, unsent}
+use Rattle.rent_io.specs.Completeness.{IsQuiet}
+use Rattle.rent_io.specs.State.{Advances, Ran}
 use Rattle.rent_io.proofs.Runs.{rose_later}
 
 -- An item that was taken stays so where nothing is done.
@@ -62,3 +63,22 @@ pub sink_more : {I E : Type 0} (before mid now : ItemSink) (item g : Option I) (
 sink_more before mid now item g (Ready end) stay has is = sink_ends before mid now item g end stay has is
 sink_more before mid now item g (Pending next) stay has is = sink_waits before mid now item g next has is.0 is.1
 sink_more before mid now item g (Again next) stay has is = sink_takes before mid now item g next has is.0 is.1 is.2 is.3
+
+-- A send and a flush ends so.
+send-end : {I E : Type 0} (before now : ItemSink) (item : Option I) (end : Result (Unit {0}) E) → IsQuiet before.counts now.counts
+    → SendsAndFlushes before now item (Ready end) → IfErr end (λ error. ⊥)
+send-end before now item (Ok done) quiet is = tt
+send-end before now item (Err error) quiet is = quiet.0 is.1
+
+-- An item that is there is one.
+unsent-some : {I : Type 0} (item : Option I) → IsSome item → unsent item ≡ 1
+unsent-some None some = absurd cc
+unsent-some (Some item) some = refl
+
+-- A send and a flush gets on.
+pub send_advances : {I E : Type 0} (before now : ItemSink) (item : Option I) (step : Step (Option I) (Result (Unit {0}) E))
+    → SendsAndFlushes before now item step
+    → Advances (λ item. 0) unsent (λ end. IfErr end (λ error. ⊥)) before.counts now.counts item step
+send_advances before now item (Ready end) is = λ quiet. send-end before now item end quiet is
+send_advances before now item (Pending next) is = (is.0, is.2)
+send_advances before now item (Again next) is = inr (omega (arith, unsent-some item is.0, ap unsent is.1))

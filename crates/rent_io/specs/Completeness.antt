@@ -9,7 +9,7 @@ use Rattle.rent_io.specs.declared.poll.PollCount.{PollCount}
 use Rattle.rent_io.specs.declared.poll.PollCount.TheVariants.{Ready as CountReady, Pending as CountPending, Again as CountAgain}
 use Rattle.rent_io.specs.Counts.{Counts, Rose}
 use Rattle.rent_io.specs.Reader.{Reader}
-use Rattle.rent_io.specs.LineRuns.{IsWholeLine}
+use Rattle.rent_io.specs.ReadUntil.{IsWholeLine}
 
 -- None of the counts of faults, of pauses and of interrupts rose.
 abbrev pub IsQuiet : Counts → Counts → Type 0

@@ -4,10 +4,10 @@ pub mod Completeness
 pub mod Counts
 pub mod FileAt
 pub mod ItemSink
-pub mod LineRuns
 pub mod MemSource
 pub mod PartRoom
 pub mod Polls
+pub mod ReadState
 pub mod ReadExact
 pub mod ReadLine
 pub mod ReadNumber
@@ -15,7 +15,6 @@ pub mod ReadUntil
 pub mod ReadVectoredExact
 pub mod Reader
 pub mod Runs
-pub mod ScatterRuns
 pub mod Scripted
 pub mod Sink
 pub mod Source

@@ -1,14 +1,12 @@
--- A read that fills its buffer: what each poll of it does.
-use Rattle.std.specs.Prelude.{ℕ, ◌≡◌, ◌+◌, ◌-◌, ◌<◌, ◌⊎◌, Bool, IsTrue, List, [], ◌∷◌, length, Result, Ok, Err}
+-- A read that fills its buffer: what each poll of it does, and what many have done. The clauses `answer` and `run` cite it.
+use Rattle.std.specs.Prelude.{ℕ, ◌≡◌, ◌+◌, ◌-◌, ◌<◌, ◌≤◌, ◌⊎◌, Bool, List, [], ◌∷◌, length, Result}
 use Rattle.rent_buf.specs.Buffer.{Buffer, room, put}
 use Rattle.rent_buf.specs.Parts.{Parts}
 use Rattle.rent_buf.specs.declared.fault.IoFault.{IoFault}
-use Rattle.rent_buf.specs.declared.fault.IoFault.TheVariants.{UnexpectedEof}
 use Rattle.rent_io.specs.declared.poll.Step.{Step}
-use Rattle.rent_io.specs.declared.poll.Step.TheVariants.{Ready, Pending, Again}
-use Rattle.rent_io.specs.Counts.{Rose}
-use Rattle.rent_io.specs.Polls.{Fails, Pauses}
-use Rattle.rent_io.specs.Reader.{AtEnd, Reader, WasFront}
+use Rattle.rent_io.specs.Polls.{Fails}
+use Rattle.rent_io.specs.Reader.{Reader}
+use Rattle.rent_io.specs.ReadState.{EndsEarly, Gave, ReadPoll, ReadEnd, ReadRunEnd}
 
 -- Such a read is its buffer, the ranges under that and the parts beside it, and how many bytes of the range it has filled.
 pub record Filling : Type 0 where
@@ -34,50 +32,38 @@ with_more f (byte ∷ bytes) = put f.buffer (f.buffer.begin + f.filled) (byte �
 abbrev pub filled_with : Filling → List ℕ → Filling
 filled_with f got = record f { buffer = with_more f got; filled = f.filled + length got }
 
--- It read some bytes, and more are to come.
-pub record GoesOn (tells : Bool) (left rest : List ℕ) (f next : Filling) : Type 0 where
-  pub got : List ℕ
-  pub some : 0 < length got
-  pub more : length got < lacks f
-  pub is_next : next ≡ filled_with f got
-  pub front : WasFront tells left got rest
+-- With these bytes it goes on: some, and more are to come.
+abbrev pub FillsOn : Filling → Filling → List ℕ → Type 0
+FillsOn f next got = (0 < length got) × (length got < lacks f) × (next ≡ filled_with f got)
 
--- It read all that was to come: the buffer is full.
-pub record IsFilled (tells : Bool) (left rest : List ℕ) (f : Filling) (back : Buffer) (n : ℕ) : Type 0 where
-  pub got : List ℕ
-  pub all : length got ≡ lacks f
-  pub total : n ≡ room f.buffer
-  pub is_full : back ≡ with_more f got
-  pub front : WasFront tells left got rest
+-- These bytes are behind those that it had filled.
+abbrev pub Fills : Filling → Filling → List ℕ → Type 0
+Fills f next got = (length got ≤ lacks f) × (next ≡ filled_with f got)
 
--- A read gave no byte though more are to come: it stored nothing.
-pub record EndsEarly (tells : Bool) (before now : Reader) (f : Filling) (back : Buffer) (fault : IoFault) : Type 0 where
-  pub is_eof : fault ≡ UnexpectedEof
-  pub more : 0 < lacks f
-  pub at_end : AtEnd tells before now
-  pub nothing : back ≡ put f.buffer (f.buffer.begin + f.filled) []
+-- With these bytes it is full.
+abbrev pub IsFilled : Filling → Buffer → ℕ → List ℕ → Type 0
+IsFilled f back n got = (length got ≡ lacks f) × (n ≡ room f.buffer) × (back ≡ with_more f got)
 
--- How it ends: full, or at a fault, at which this poll read nothing.
-abbrev pub IsExactEnd : Bool → Reader → Reader → Filling → Buffer → Result ℕ IoFault → Type 0
-IsExactEnd tells before now f back (Ok n) = IsFilled tells before.left now.left f back n
-IsExactEnd tells before now f back (Err fault) =
-    (IsTrue tells → before.left ≡ now.left) ×
-    ((back ≡ f.buffer) × Fails before.counts now.counts fault ⊎ EndsEarly tells before now f back fault)
+-- With these bytes it stops at a fault of the stream; or a read gave no byte though more are to come, and stored nothing.
+abbrev pub StopsFilling : Bool → Reader → Reader → Filling → Buffer → IoFault → List ℕ → Type 0
+StopsFilling tells before now f back fault got =
+    (back ≡ with_more f got) × Fails before.counts now.counts fault
+    ⊎ EndsEarly tells before now fault × (length got < lacks f) × (back ≡ put f.buffer (f.buffer.begin + f.filled) got)
 
--- It is as it was, since the stream paused, and will wake this task.
-abbrev pub Paused : {S : Type 0} → Bool → ℕ → Reader → Reader → S → S → Type 0
-Paused tells task before now f next = (next ≡ f) × (IsTrue tells → before.left ≡ now.left) × Pauses task before.counts now.counts
-
--- It is as it was, since the stream was interrupted.
-abbrev pub Interrupted : {S : Type 0} → Bool → Reader → Reader → S → S → Type 0
-Interrupted tells before now f next =
-    (next ≡ f) × (IsTrue tells → before.left ≡ now.left) × Rose before.counts.interrupts now.counts.interrupts
-
--- A poll of it.
+-- A poll of it. The ranges under the buffer and the parts beside it stay.
 abbrev pub ReadsExact : {T : Type 0} → Bool → ℕ → Reader → Reader → (T → Buffer) → (T → List (ℕ × ℕ)) → (T → Parts) → Filling
     → Step Filling (Result ℕ IoFault × T) → Type 0
-ReadsExact tells task before now buffer under beside f (Ready end) =
-    IsExactEnd tells before now f (buffer end.1) end.0 × (under end.1 ≡ f.under) × (beside end.1 ≡ f.beside)
-ReadsExact tells task before now buffer under beside f (Pending next) = Paused tells task before now f next
-ReadsExact tells task before now buffer under beside f (Again next) = Interrupted tells before now f next
-    ⊎ GoesOn tells before.left now.left f next
+ReadsExact tells task before now buffer under beside f step = ReadPoll tells task before now f
+    (λ end. ReadEnd tells before now (IsFilled f (buffer end.1)) (StopsFilling tells before now f (buffer end.1)) end.0
+    × (under end.1 ≡ f.under) × (beside end.1 ≡ f.beside)) (FillsOn f) step
+
+-- Polls that aren't the end: the bytes that left the stream stand behind those before them, each once and in order.
+abbrev pub HasFilled : Bool → Reader → Reader → Filling → Filling → Type 0
+HasFilled tells before now f next = Gave tells before now (Fills f next)
+
+-- How its polls end.
+abbrev pub EndsExact : {T : Type 0} → Bool → Reader → Reader → (T → Buffer) → (T → List (ℕ × ℕ)) → (T → Parts) → Filling
+    → Result ℕ IoFault × T → Type 0
+EndsExact tells before now buffer under beside f (end, back) =
+    ReadRunEnd tells before now (IsFilled f (buffer back)) (StopsFilling tells before now f (buffer back)) end
+    × (under back ≡ f.under) × (beside back ≡ f.beside)

@@ -1,15 +1,11 @@
 -- What an exact read and a write of all bytes have done after many polls: one law for every schedule of pauses, short calls, interrupts
 -- and faults. The clause `run` of `drive` cites it.
-use Rattle.std.specs.Prelude.{ℕ, ◌≡◌, ◌+◌, ◌-◌, ◌^◌, ◌<◌, ◌≤◌, ◌⊎◌, min, Bool, IsTrue, List, [], ◌++◌, length, Option, Result, Ok, Err}
-use Rattle.rent_buf.specs.Buffer.{Buffer, put}
-use Rattle.rent_buf.specs.Parts.{Parts}
+use Rattle.std.specs.Prelude.{ℕ, ◌≡◌, ◌+◌, ◌-◌, ◌^◌, ◌<◌, ◌≤◌, ◌⊎◌, min, Bool, IsTrue, List, ◌++◌, length, Option, Result, Ok, Err}
 use Rattle.rent_buf.specs.declared.fault.IoFault.{IoFault}
-use Rattle.rent_buf.specs.declared.fault.IoFault.TheVariants.{UnexpectedEof, WriteZero}
+use Rattle.rent_buf.specs.declared.fault.IoFault.TheVariants.{WriteZero}
 use Rattle.rent_io.specs.Counts.{Counts, Rose}
 use Rattle.rent_io.specs.Polls.{Fails}
-use Rattle.rent_io.specs.Reader.{Reader, WasFront}
 use Rattle.rent_io.specs.Writer.{EndsStay, Writer}
-use Rattle.rent_io.specs.ReadExact.{Filling, lacks, with_more, filled_with, IsFilled}
 use Rattle.rent_io.specs.WriteAll.{Sending}
 
 -- What so many calls at most, plain or under this cancel group, make of the counts: none falls, and each call counts once.
@@ -29,32 +25,6 @@ pub record AreUsed (polls from upto : ℕ) (before now : Counts) : Type 0 where
   pub each : polls + from ≤ upto + paused + interrupted
   pub pauses : min (before.pauses + paused) (2 ^ 64 - 1) ≤ now.pauses
   pub interrupts : min (before.interrupts + interrupted) (2 ^ 64 - 1) ≤ now.interrupts
-
--- An exact read that isn't done: the bytes that left the stream stand behind those before them, each once and in order.
-pub record HasFilled (tells : Bool) (left rest : List ℕ) (f next : Filling) : Type 0 where
-  pub got : List ℕ
-  pub within : length got ≤ lacks f
-  pub is_next : next ≡ filled_with f got
-  pub front : WasFront tells left got rest
-
--- An exact read that ended at a fault: the bytes that left the stream are stored, and the stream's faults rose, or it ended too early.
-pub record StopsFilling (tells : Bool) (before now : Reader) (f : Filling) (back : Buffer) (fault : IoFault) : Type 0 where
-  pub got : List ℕ
-  pub front : WasFront tells before.left got now.left
-  pub cause : (back ≡ with_more f got) × Fails before.counts now.counts fault
-      ⊎ ((fault ≡ UnexpectedEof) × (length got < lacks f) × (IsTrue tells → now.left ≡ [])
-      × Rose before.counts.zeros now.counts.zeros × (back ≡ put f.buffer (f.buffer.begin + f.filled) got))
-
--- How polls of an exact read end: with the full range, or at a fault.
-abbrev pub ExactRunEnd : Bool → Reader → Reader → Filling → Buffer → Result ℕ IoFault → Type 0
-ExactRunEnd tells before now f back (Ok n) = IsFilled tells before.left now.left f back n
-ExactRunEnd tells before now f back (Err fault) = StopsFilling tells before now f back fault
-
--- The same of the buffer as it comes back; the ranges under it and the parts beside it stay.
-abbrev pub EndsExact : {T : Type 0} → Bool → Reader → Reader → (T → Buffer) → (T → List (ℕ × ℕ)) → (T → Parts) → Filling
-    → Result ℕ IoFault × T → Type 0
-EndsExact tells before now buffer under beside f end =
-    ExactRunEnd tells before now f (buffer end.1) end.0 × (under end.1 ≡ f.under) × (beside end.1 ≡ f.beside)
 
 -- A write of all bytes that isn't done: those that were delivered are the first ones, each once and in order, and nothing was flushed or
 -- shut down.

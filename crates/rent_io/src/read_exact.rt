@@ -1,8 +1,7 @@
 //! A read that fills its buffer.
 ghost use Rattle.std.specs.Prelude.{◌≡◌, ◌+◌, ◌≤◌, length, IfErr};
 ghost use Rattle.rent_io.specs.Completeness.{IsShort};
-ghost use Rattle.rent_io.specs.ReadExact.{ReadsExact, filling, lacks};
-ghost use Rattle.rent_io.specs.Runs.{EndsExact, HasFilled};
+ghost use Rattle.rent_io.specs.ReadExact.{EndsExact, HasFilled, ReadsExact, filling, lacks};
 ghost use Rattle.rent_io.specs.State.{plain, under};
 
 use crate::async_read_rent::AsyncReadRent;
@@ -83,11 +82,11 @@ impl<T: IoBufMut, A: AsyncReadRent, C: ReadCall<A>> Polled<A, C> for ExactState<
 
     ghost short = { λ before now f end. IfErr end.0 (IsShort A.tells (A.reader before) (A.reader now) (lacks f)) };
 
-    ghost goes = { λ before now f next. HasFilled A.tells (A.reader before).left (A.reader now).left f next };
+    ghost goes = { λ before now f next. HasFilled A.tells (A.reader before) (A.reader now) f next };
 
     ghost ended = { λ before now f end. EndsExact A.tells (A.reader before) (A.reader now) T.buffer T.under T.beside f end };
 
-    #[tactic(auto, using(crate::proofs::ExactRuns::filled_within))]
+    #[tactic(auto, using(crate::proofs::ExactRuns::laws))]
     fn laws(&self) {
         self.buf.keeps_bounds();
     }

@@ -1,8 +1,7 @@
 //! A read of a line.
 ghost use Rattle.std.specs.Prelude.{◌≡◌, ◌≤◌, [], IsUtf8, MatchBool, length, take, drop, string_bytes, IfErr};
 ghost use Rattle.rent_io.specs.Completeness.{IsNoLine};
-ghost use Rattle.rent_io.specs.LineRuns.{HasLined, LineRunEnd};
-ghost use Rattle.rent_io.specs.ReadLine.{ReadsLine, TextOf};
+ghost use Rattle.rent_io.specs.ReadLine.{HasLined, LineRunEnd, ReadsLine, TextOf};
 ghost use Rattle.rent_io.specs.State.{plain};
 
 use crate::async_buf_read::AsyncBufRead;
@@ -113,10 +112,11 @@ impl<A: AsyncBufRead> Polled<A, Plain> for LineState {
 
     ghost short = { λ before now l end. IfErr end.0 (IsNoLine A.tells l.added (A.reader before).left) };
 
-    ghost goes = { λ before now l next. HasLined A.tells (A.reader before).left (A.reader now).left l next };
+    ghost goes = { λ before now l next. HasLined A.tells (A.reader before) (A.reader now) l next };
 
     ghost ended = { λ before now l end. LineRunEnd A.tells (A.reader before) (A.reader now) l (string_bytes end.1) end.0 };
 
+    #[tactic(auto, using(crate::proofs::LineRuns::line_none, crate::proofs::LineRuns::line_advances))]
     fn laws(&self) {}
 
     fn poll_by(

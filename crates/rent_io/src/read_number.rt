@@ -1,8 +1,7 @@
 //! A read of a number.
 ghost use Rattle.std.specs.Prelude.{◌≡◌, ◌-◌, length, IfOk, IfErr};
 ghost use Rattle.rent_io.specs.Completeness.{IsShort};
-ghost use Rattle.rent_io.specs.LineRuns.{HasDigits, NumberRunEnd};
-ghost use Rattle.rent_io.specs.ReadNumber.{number_of, ReadsNumber};
+ghost use Rattle.rent_io.specs.ReadNumber.{HasDigits, NumberRunEnd, ReadsNumber, number_of};
 ghost use Rattle.rent_io.specs.State.{plain, under};
 
 use crate::async_read_rent::AsyncReadRent;
@@ -96,10 +95,11 @@ impl<N: Number, A: AsyncReadRent, C: ReadCall<A>> Polled<A, C> for NumberState<N
 
     ghost short = { λ before now r end. IfErr end (IsShort A.tells (A.reader before) (A.reader now) (r.size - length r.bytes)) };
 
-    ghost goes = { λ before now r next. HasDigits A.tells (A.reader before).left (A.reader now).left r next };
+    ghost goes = { λ before now r next. HasDigits A.tells (A.reader before) (A.reader now) r next };
 
     ghost ended = { λ before now r end. NumberRunEnd A.tells (A.reader before) (A.reader now) N.value r end };
 
+    #[tactic(auto, using(crate::proofs::NumberRuns::laws))]
     fn laws(&self) {}
 
     fn poll_by(self, io: &mut A, call: &C, task: u64) -> Step<NumberState<N>, Result<N, IoFault>> {

@@ -1,8 +1,7 @@
 //! A read up to a delimiter.
 ghost use Rattle.std.specs.Prelude.{◌≡◌, ◌<◌, ◌≤◌, length, take, MatchBool, IfErr};
 ghost use Rattle.rent_buf.specs.declared.fault.IoFault.TheVariants.{OutOfMemory};
-ghost use Rattle.rent_io.specs.LineRuns.{HasAdded, UntilRunEnd};
-ghost use Rattle.rent_io.specs.ReadUntil.{Lacks, IsLine, ReadsUntil};
+ghost use Rattle.rent_io.specs.ReadUntil.{HasAdded, IsLine, Lacks, ReadsUntil, UntilRunEnd};
 ghost use Rattle.rent_io.specs.State.{plain};
 
 use crate::async_buf_read::AsyncBufRead;
@@ -89,10 +88,11 @@ impl<A: AsyncBufRead> Polled<A, Plain> for UntilState {
 
     ghost short = { λ before now u end. IfErr end.0 (λ fault. fault ≡ OutOfMemory) };
 
-    ghost goes = { λ before now u next. HasAdded A.tells (A.reader before).left (A.reader now).left u next };
+    ghost goes = { λ before now u next. HasAdded A.tells (A.reader before) (A.reader now) u next };
 
-    ghost ended = { λ before now u end. UntilRunEnd A.tells (A.reader before) (A.reader now) u end.1 end.0 };
+    ghost ended = { λ before now u end. UntilRunEnd A.tells (A.reader before) (A.reader now) u end };
 
+    #[tactic(auto, using(crate::proofs::LineRuns::until_none, crate::proofs::LineRuns::until_advances))]
     fn laws(&self) {}
 
     fn poll_by(

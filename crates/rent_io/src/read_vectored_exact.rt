@@ -1,9 +1,9 @@
 //! A read that fills all parts of a vector of buffers.
-ghost use Rattle.std.specs.Prelude.{◌≡◌, ◌<◌, ◌≤◌, length, IsOk, IfOk, IfErr};
+ghost use Rattle.std.specs.Prelude.{◌≡◌, ◌≤◌, length, IsOk, IfOk, IfErr};
 ghost use Rattle.rent_buf.specs.Parts.{part_at};
 ghost use Rattle.rent_io.specs.Completeness.{IsShort};
-ghost use Rattle.rent_io.specs.ReadVectoredExact.{AreFullBefore, ReadsScattered, has_read, read_of, scattering, wanted};
-ghost use Rattle.rent_io.specs.ScatterRuns.{HasScattered, ScatterRunEnd};
+ghost use Rattle.rent_io.specs.ReadVectoredExact.{AreFullBefore, HasScattered, NextRoom, ReadsScattered, ScatterRunEnd, has_read};
+ghost use Rattle.rent_io.specs.ReadVectoredExact.{scattering, wanted};
 ghost use Rattle.rent_io.specs.State.{plain, under};
 
 use crate::async_read_rent::AsyncReadRent;
@@ -100,10 +100,11 @@ impl<T: IoVecBufMut, A: AsyncReadRent, C: ReadCall<A>> Polled<A, C> for Vectored
 
     ghost short = { λ before now s end. IfErr end.0 (IsShort A.tells (A.reader before) (A.reader now) (wanted s)) };
 
-    ghost goes = { λ before now s next. HasScattered A.tells (A.reader before).left (A.reader now).left s next };
+    ghost goes = { λ before now s next. HasScattered A.tells (A.reader before) (A.reader now) s next };
 
-    ghost ended = { λ before now s end. ScatterRunEnd A.tells (A.reader before) (A.reader now) s (T.held end.1) end.0 };
+    ghost ended = { λ before now s end. ScatterRunEnd A.tells (A.reader before) (A.reader now) T.held s end };
 
+    #[tactic(auto, using(crate::proofs::ScatterRuns::scatter_none, crate::proofs::ScatterRuns::scatter_advances))]
     fn laws(&self) {}
 
     fn poll_by(
@@ -118,27 +119,25 @@ impl<T: IoVecBufMut, A: AsyncReadRent, C: ReadCall<A>> Polled<A, C> for Vectored
             filled,
             total,
         } = self;
-        buf.keeps_bounds();
-        let (into, at) = next_room(&buf, part, filled);
-        if into >= buf.parts_len() {
-            return Step::Ready((Ok(total), buf));
-        }
+        let (into, at) = match next_room(&buf, part, filled) {
+            Some(place) => place,
+            None => return Step::Ready((Ok(total), buf)),
+        };
         match read_part(io, call, buf, into, at, task) {
             PollBuf::Ready(Ok(n), buf) => {
                 if n == 0 {
                     return Step::Ready((Err(IoFault::UnexpectedEof), buf));
                 }
                 buf.keeps_bounds();
-                let (part, filled) = next_room(&buf, into, at + n);
-                if part >= buf.parts_len() {
-                    return Step::Ready((Ok(total), buf));
+                match next_room(&buf, into, at + n) {
+                    None => Step::Ready((Ok(total), buf)),
+                    Some((part, filled)) => Step::Again(VectoredExactState {
+                        buf,
+                        part,
+                        filled,
+                        total,
+                    }),
                 }
-                Step::Again(VectoredExactState {
-                    buf,
-                    part,
-                    filled,
-                    total,
-                })
             }
             PollBuf::Ready(Err(fault), buf) => Step::Ready((Err(fault), buf)),
             PollBuf::Pending(buf) => Step::Pending(VectoredExactState {
@@ -157,26 +156,22 @@ impl<T: IoVecBufMut, A: AsyncReadRent, C: ReadCall<A>> Polled<A, C> for Vectored
     }
 }
 
-// From a place of a part on, the first place with room, or one behind all parts.
-#[tactic(auto, using(crate::proofs::SingleParts::length_bytes, crate::proofs::Scatters::passed_read, crate::proofs::Scatters::passed_full))]
-fn next_room<T: IoVecBufMut>(buf: &T, part: usize, filled: usize) -> (usize, usize)
+// From a place of a part on, the first place with room, if any.
+#[tactic(auto, using(crate::proofs::SingleParts::length_bytes, crate::proofs::Scatters::passing))]
+fn next_room<T: IoVecBufMut>(buf: &T, part: usize, filled: usize) -> Option<(usize, usize)>
     requires bound { part ≤ length (T.held buf.now) }
     requires full { AreFullBefore (T.held buf.now) part }
     requires within { filled ≤ length (part_at (T.held buf.now) part).bytes }
-    ensures same { read_of (T.held buf.now) result.0 result.1 ≡ read_of (T.held buf.now) part filled }
-    ensures full { AreFullBefore (T.held buf.now) result.0 }
-    ensures within { result.1 ≤ length (part_at (T.held buf.now) result.0).bytes }
-    ensures bound { result.0 ≤ length (T.held buf.now) }
-    ensures room { result.0 < length (T.held buf.now) → result.1 < (part_at (T.held buf.now) result.0).total }
+    ensures { NextRoom (T.held buf.now) part filled result }
 {
     buf.keeps_bounds();
     let count = buf.parts_len();
     let mut filled = filled;
     for i in part..count {
         if filled < buf.room(i) {
-            return (i, filled);
+            return Some((i, filled));
         }
         filled = 0;
     }
-    (count, 0)
+    None
 }

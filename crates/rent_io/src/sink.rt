@@ -123,6 +123,7 @@ impl<I, S: Sink<I>> Polled<S, Plain> for SendState<I> {
 
     ghost ended = { λ before now item end. SendEnd (S.sink before) (S.sink now) item end };
 
+    #[tactic(auto, using(crate::proofs::SinkRuns::sink_none, crate::proofs::SinkRuns::sink_more, crate::proofs::SinkRuns::send_advances))]
     fn laws(&self) {}
 
     fn poll_by(

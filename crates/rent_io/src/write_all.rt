@@ -89,6 +89,7 @@ impl<T: IoBuf, A: AsyncWriteRent, C: WriteCall<A>> Polled<A, C> for AllState<T> 
 
     ghost ended = { λ before now s end. EndsAll A.tells (A.writer before) (A.writer now) s end };
 
+    #[tactic(auto, using(crate::proofs::SendRuns::send_none, crate::proofs::SendRuns::all_advances))]
     fn laws(&self) {}
 
     fn poll_by(self, io: &mut A, call: &C, task: u64) -> Step<AllState<T>, BufResult<usize, T>> {

@@ -4,7 +4,7 @@ ghost use Rattle.rent_io.specs.Polls.{TookNone};
 ghost use Rattle.rent_io.specs.Runs.{EndsAll, HasSent};
 ghost use Rattle.rent_io.specs.State.{plain, under};
 ghost use Rattle.rent_io.specs.WriteAll.{WritesAll, sending_parts};
-ghost use Rattle.rent_io.specs.WriteVectoredAll.{rest_from};
+ghost use Rattle.rent_io.specs.WriteVectoredAll.{NextPlace};
 ghost use Rattle.rent_io.specs.Writer.{EndsStay};
 
 use crate::async_write_rent::AsyncWriteRent;
@@ -107,6 +107,7 @@ impl<T: IoVecBuf, A: AsyncWriteRent, C: WriteCall<A>> Polled<A, C> for VectoredA
 
     ghost ended = { λ before now s end. EndsAll A.tells (A.writer before) (A.writer now) s end };
 
+    #[tactic(auto, using(crate::proofs::SendRuns::send_none, crate::proofs::SendRuns::all_advances))]
     fn laws(&self) {}
 
     fn poll_by(
@@ -121,10 +122,10 @@ impl<T: IoVecBuf, A: AsyncWriteRent, C: WriteCall<A>> Polled<A, C> for VectoredA
             sent,
             total,
         } = self;
-        let (part, sent) = next_place(&buf, part, sent);
-        if part >= buf.parts_len() {
-            return Step::Ready((Ok(total), buf));
-        }
+        let (part, sent) = match next_place(&buf, part, sent) {
+            Some(place) => place,
+            None => return Step::Ready((Ok(total), buf)),
+        };
         match call.write(io, PartFrom::new(buf, part, sent), task) {
             PollBuf::Ready(Ok(n), slice) => {
                 let upto = slice.place_behind(n);
@@ -132,16 +133,15 @@ impl<T: IoVecBuf, A: AsyncWriteRent, C: WriteCall<A>> Polled<A, C> for VectoredA
                 if n == 0 {
                     return Step::Ready((Err(IoFault::WriteZero), buf));
                 }
-                let (part, sent) = next_place(&buf, part, upto);
-                if part >= buf.parts_len() {
-                    return Step::Ready((Ok(total), buf));
+                match next_place(&buf, part, upto) {
+                    None => Step::Ready((Ok(total), buf)),
+                    Some((part, sent)) => Step::Again(VectoredAllState {
+                        buf,
+                        part,
+                        sent,
+                        total,
+                    }),
                 }
-                Step::Again(VectoredAllState {
-                    buf,
-                    part,
-                    sent,
-                    total,
-                })
             }
             PollBuf::Ready(Err(fault), slice) => Step::Ready((Err(fault), slice.into_inner())),
             PollBuf::Pending(slice) => Step::Pending(VectoredAllState {
@@ -172,22 +172,19 @@ fn total_len<T: IoVecBuf>(buf: &T) -> usize
     sum
 }
 
-// From a place of a part on, the first place with a byte, or one behind all parts.
+// From a place of a part on, the first place with a byte, if any.
 #[tactic(auto, using(crate::proofs::Rests::rest_passed, crate::proofs::Rests::rest_none))]
-fn next_place<T: IoVecBuf>(buf: &T, part: usize, sent: usize) -> (usize, usize)
+fn next_place<T: IoVecBuf>(buf: &T, part: usize, sent: usize) -> Option<(usize, usize)>
     requires { sent ≤ length (slice_index_or (T.parts buf.now) part []) }
-    ensures same { rest_from (T.parts buf.now) result.0 result.1 ≡ rest_from (T.parts buf.now) part sent }
-    ensures place { result.0 < length (T.parts buf.now) → result.1 < length (slice_index_or (T.parts buf.now) result.0 []) }
-    ensures bound { result.0 ≤ length (T.parts buf.now) }
-    ensures within { result.1 ≤ length (slice_index_or (T.parts buf.now) result.0 []) }
+    ensures { NextPlace (T.parts buf.now) part sent result }
 {
     let count = buf.parts_len();
     let mut sent = sent;
     for i in part..count {
         if sent < buf.part(i).len() {
-            return (i, sent);
+            return Some((i, sent));
         }
         sent = 0;
     }
-    (count, 0)
+    None
 }

@@ -8,74 +8,63 @@ use Rattle.rent_io.specs.declared.poll.PollCount.{PollCount}
 use Rattle.rent_io.specs.declared.poll.PollCount.TheVariants.{Ready as CountReady, Pending as CountPending, Again as CountAgain}
 use Rattle.rent_io.specs.declared.poll.PollBuf.{PollBuf}
 use Rattle.rent_io.specs.declared.poll.PollBuf.TheVariants.{Ready as BufReady, Pending as BufPending, Again as BufAgain}
-use Rattle.rent_io.specs.Completeness.{IsQuiet, CountGetsOn, Completes}
+use Rattle.rent_io.specs.Completeness.{IsQuiet, CountGetsOn, Completes, GetsOn}
 use Rattle.rent_io.specs.Polls.{IsFlushCaused, IsWriteCaused, TookNone}
 use Rattle.rent_io.specs.Writer.{Writer, Writes}
 use Rattle.stream_util.specs.BufWriter.{TakesNothing, WriteGetsOn}
-use Rattle.stream_util.specs.Copy.{Breaks, CopyFails, Copying, Ends, Waits, IsCopyEnd, Copies, CopyCompletes}
+use Rattle.stream_util.specs.Copy.{CopyFails, CopyPoll, Copying, Ends, IsCopyEnd, Copies, CopyCompletes, MovesSome}
 use Rattle.stream_util.specs.Split.{IsShutdownEnd, ShutsDown, part_in}
 use Rattle.stream_util.specs.ZeroCopy.{IsZeroCopyEnd, ZeroCopies, SplicesNone}
 use Rattle.stream_util.specs.declared.copy.Copied.{Copied}
 
--- A copy that waits had a pause.
-waits-none : (reads writes : Bool) (task : ℕ) (before now : Ends) (copy next : Copying) → IsQuiet before.reader.counts now.reader.counts
-    → IsQuiet before.writer.counts now.writer.counts → Waits reads writes task before now copy next → ⊥
-waits-none reads writes task before now copy next reader writer (same, nothing, inl paused) = reader.1 paused.0
-waits-none reads writes task before now copy next reader writer (same, nothing, inr paused) = writer.1 paused.0
+module _ (before now : Ends) (reader : IsQuiet before.reader.counts now.reader.counts)
+    (writer : IsQuiet before.writer.counts now.writer.counts) where
+  -- A copy fails so.
+  copy_fails : (held : List ℕ) (fault : IoFault) → CopyFails before now held fault → TookNone before.writer.counts now.writer.counts fault
+  copy_fails held fault (inl failed) = absurd (reader.0 failed.0)
+  copy_fails held fault (inr (inl failed)) = absurd (writer.0 failed.0)
+  copy_fails held fault (inr (inr none)) = none.1
 
--- A copy that was interrupted had an interrupt.
-breaks-none : (reads writes : Bool) (before now : Ends) (copy next : Copying) → IsQuiet before.reader.counts now.reader.counts
-    → IsQuiet before.writer.counts now.writer.counts → Breaks reads writes before now copy next → ⊥
-breaks-none reads writes before now copy next reader writer (same, nothing, inl rose) = reader.2 rose
-breaks-none reads writes before now copy next reader writer (same, nothing, inr rose) = writer.2 rose
+  -- A copy ends so.
+  copy_end : (reads : Bool) (copy : Copying) (end : Result ℕ IoFault) → IsCopyEnd reads before now copy end
+      → IfErr end (TookNone before.writer.counts now.writer.counts)
+  copy_end reads copy (Ok n) is = tt
+  copy_end reads copy (Err fault) is = copy_fails copy.held fault is
 
--- A copy fails so.
-copy-fails : (before now : Ends) (held : List ℕ) (fault : IoFault) → IsQuiet before.reader.counts now.reader.counts
-    → IsQuiet before.writer.counts now.writer.counts → CopyFails before now held fault
-    → TookNone before.writer.counts now.writer.counts fault
-copy-fails before now held fault reader writer (inl failed) = absurd (reader.0 failed.0)
-copy-fails before now held fault reader writer (inr (inl failed)) = absurd (writer.0 failed.0)
-copy-fails before now held fault reader writer (inr (inr none)) = none.1
+  -- A copy by splices ends so.
+  zero_copy_end : (reads : Bool) (copy : Copying) (end : Result ℕ IoFault) → IsZeroCopyEnd reads before now copy end
+      → IfErr end (SplicesNone before now copy)
+  zero_copy_end reads copy (Ok n) is = tt
+  zero_copy_end reads copy (Err fault) (inl failed) = inl (copy_fails copy.held fault failed)
+  zero_copy_end reads copy (Err fault) (inr none) = inr none
 
--- A copy ends so.
-copy-end : (reads : Bool) (before now : Ends) (copy : Copying) (end : Result ℕ IoFault)
-    → IsQuiet before.reader.counts now.reader.counts → IsQuiet before.writer.counts now.writer.counts
-    → IsCopyEnd reads before now copy end → IfErr end (TookNone before.writer.counts now.writer.counts)
-copy-end reads before now copy (Ok n) reader writer is = tt
-copy-end reads before now copy (Err fault) reader writer is = copy-fails before now copy.held fault reader writer is
+  -- A copy that ends so gets on.
+  copy_gets_on : (reads writes : Bool) (task : ℕ) (copy : Copying) (ends : Result ℕ IoFault → Type 0) (faults : IoFault → Type 0)
+      (step : Step Copying Copied) → ((end : Result ℕ IoFault) → ends end → IfErr end faults)
+      → CopyPoll reads writes task before now copy ends step
+      → GetsOn step (λ copied. IfErr copied.result faults) (λ next. MovesSome reads writes before now copy next)
+  copy_gets_on reads writes task copy ends faults (Ready copied) is_end is = is_end copied.result is.2
+  copy_gets_on reads writes task copy ends faults (Pending next) is_end (same, nothing, inl paused) = reader.1 paused.0
+  copy_gets_on reads writes task copy ends faults (Pending next) is_end (same, nothing, inr paused) = writer.1 paused.0
+  copy_gets_on reads writes task copy ends faults (Again next) is_end (inl (same, nothing, inl rose)) = absurd (reader.2 rose)
+  copy_gets_on reads writes task copy ends faults (Again next) is_end (inl (same, nothing, inr rose)) = absurd (writer.2 rose)
+  copy_gets_on reads writes task copy ends faults (Again next) is_end (inr moves) = moves
 
 -- A copy gets on.
 pub copy_completes : (reads writes : Bool) (task : ℕ) (before now : Ends) (copy : Copying) (step : Step Copying Copied)
     → Copies reads writes task before now copy step
     → CopyCompletes reads writes before now copy step (TookNone before.writer.counts now.writer.counts)
-copy_completes reads writes task before now copy (Ready copied) is reader writer =
-    copy-end reads before now copy copied.result reader writer is.2
-copy_completes reads writes task before now copy (Pending next) is reader writer =
-    waits-none reads writes task before now copy next reader writer is
-copy_completes reads writes task before now copy (Again next) (inl breaks) reader writer =
-    absurd (breaks-none reads writes before now copy next reader writer breaks)
-copy_completes reads writes task before now copy (Again next) (inr moves) reader writer = moves
-
--- A copy by splices ends so.
-zero-copy-end : (reads : Bool) (before now : Ends) (copy : Copying) (end : Result ℕ IoFault)
-    → IsQuiet before.reader.counts now.reader.counts → IsQuiet before.writer.counts now.writer.counts
-    → IsZeroCopyEnd reads before now copy end → IfErr end (SplicesNone before now copy)
-zero-copy-end reads before now copy (Ok n) reader writer is = tt
-zero-copy-end reads before now copy (Err fault) reader writer (inl failed) =
-    inl (copy-fails before now copy.held fault reader writer failed)
-zero-copy-end reads before now copy (Err fault) reader writer (inr none) = inr none
+copy_completes reads writes task before now copy step is reader writer =
+    copy_gets_on before now reader writer reads writes task copy (IsCopyEnd reads before now copy)
+    (TookNone before.writer.counts now.writer.counts) step (copy_end before now reader writer reads copy) is
 
 -- A copy by splices gets on.
 pub zero_copy_completes : (reads writes : Bool) (task : ℕ) (before now : Ends) (copy : Copying) (step : Step Copying Copied)
     → ZeroCopies reads writes task before now copy step
     → CopyCompletes reads writes before now copy step (SplicesNone before now copy)
-zero_copy_completes reads writes task before now copy (Ready copied) is reader writer =
-    zero-copy-end reads before now copy copied.result reader writer is.2
-zero_copy_completes reads writes task before now copy (Pending next) is reader writer =
-    waits-none reads writes task before now copy next reader writer is
-zero_copy_completes reads writes task before now copy (Again next) (inl breaks) reader writer =
-    absurd (breaks-none reads writes before now copy next reader writer breaks)
-zero_copy_completes reads writes task before now copy (Again next) (inr moves) reader writer = moves
+zero_copy_completes reads writes task before now copy step is reader writer =
+    copy_gets_on before now reader writer reads writes task copy (IsZeroCopyEnd reads before now copy) (SplicesNone before now copy) step
+    (zero_copy_end before now reader writer reads copy) is
 
 -- A shutdown ends so.
 shutdown-end : (before now : Writer) (end : Result ℕ IoFault) → IsQuiet before.counts now.counts → IsShutdownEnd before now end

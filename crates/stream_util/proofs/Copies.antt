@@ -12,11 +12,10 @@ use Rattle.rent_io.specs.declared.poll.Step.TheVariants.{Ready, Pending}
 use Rattle.rent_io.specs.Reader.{Reader, Taken}
 use Rattle.rent_io.specs.Writer.{Writer}
 use Rattle.rent_io.specs.Counts.{Counts, Rose}
-use Rattle.rent_io.specs.Polls.{WriteFails}
 use Rattle.rent_io.specs.Runs.{AfterCalls}
 use Rattle.rent_io.proofs.Runs.{fails_later, one_more, rose_later}
 use Rattle.rent_io.proofs.Sends.{SliceSent, range-to_end}
-use Rattle.stream_util.specs.Copy.{Breaks, CopyFails, Copying, Ends, OneCall, RunCalls, Copies, UsesAll, Waits, Moves, MovesSome, IsCopyEnd}
+use Rattle.stream_util.specs.Copy.{Breaks, Copying, Ends, OneCall, RunCalls, Copies, UsesAll, Waits, Moves, MovesSome, IsCopyEnd}
 use Rattle.stream_util.specs.Copy.{IsSameJoined, count_more}
 use Rattle.stream_util.specs.Copy.{HasCopied, IsRunEnd, Runs, CopiesAll, HasAll}
 use Rattle.stream_util.specs.declared.copy.Copied.{Copied}
@@ -93,6 +92,14 @@ moves_none reads writes before now copy next bounded same left delivered = recor
   counted = omega (arith, ap (λ c. c.count) same, bounded);
 }
 
+-- A poll that goes on leaves the joined list too.
+pub again_joined : (reads writes : Bool) (before now : Ends) (copy next : Copying) → copy.count < 2 ^ 64
+    → Breaks reads writes before now copy next ⊎ MovesSome reads writes before now copy next
+    → IsSameJoined reads writes before now copy.held next.held
+again_joined reads writes before now copy next bounded (inl (same, nothing, broken)) =
+    same_joined reads writes before now copy next (moves_none reads writes before now copy next bounded same nothing.0 nothing.1)
+again_joined reads writes before now copy next bounded (inr some) = same_joined reads writes before now copy next some.moves
+
 -- What moved in some polls and then in others moved in all of them.
 abbrev pub moves_then : (reads writes : Bool) (before mid now : Ends) (copy next later : Copying) → Moves reads writes before mid copy next
     → Moves reads writes mid now next later → Moves reads writes before now copy later
@@ -149,72 +156,52 @@ ran_none reads writes ends copy bounded = record {
 renamed : (copy : Copying) (rest : List ℕ) → rest ≡ copy.held → (record { held = rest; count = copy.count }) ≡ copy
 renamed copy rest same = ap (λ (l : List ℕ). record { held = l; count = copy.count }) same
 
--- A turn that was interrupted is used.
-uses_break : (turns : ℕ) (reads writes : Bool) (before mid now : Ends) (copy next later : Copying)
-    → Ran turns reads writes before mid copy next
-    → OneCall mid now → Moves reads writes mid now next later
-    → Rose mid.reader.counts.interrupts now.reader.counts.interrupts ⊎ Rose mid.writer.counts.interrupts now.writer.counts.interrupts
-    → UsesAll (turns + 1) reads writes before now copy later
-uses_break turns reads writes before mid now copy next later ran call none (inl rose) =
-    let u = ran.uses in
-    let moved : Moves reads writes before now copy later = moves_then reads writes before mid now copy next later u.moves none in
-    let got : length moved.got ≡ length u.moves.got + length none.got = length-append u.moves.got none.got in
-    let sent : length moved.sent ≡ length u.moves.sent + length none.sent = length-append u.moves.sent none.sent in
-    record {
-      moves = moved;
-      reader = u.reader + 1;
-      writer = u.writer;
-      each = omega (arith, u.each, got, sent);
-      reads_break = omega (arith, u.reads_break, rose);
-      writes_break = omega (arith, u.writes_break, call.writer.interrupts_stay);
-    }
-uses_break turns reads writes before mid now copy next later ran call none (inr rose) =
-    let u = ran.uses in
-    let moved : Moves reads writes before now copy later = moves_then reads writes before mid now copy next later u.moves none in
-    let got : length moved.got ≡ length u.moves.got + length none.got = length-append u.moves.got none.got in
-    let sent : length moved.sent ≡ length u.moves.sent + length none.sent = length-append u.moves.sent none.sent in
-    record {
-      moves = moved;
-      reader = u.reader;
-      writer = u.writer + 1;
-      each = omega (arith, u.each, got, sent);
-      reads_break = omega (arith, u.reads_break, call.reader.interrupts_stay);
-      writes_break = omega (arith, u.writes_break, rose);
-    }
-
--- A turn that moved a byte is used.
-uses_some : (turns : ℕ) (reads writes : Bool) (before mid now : Ends) (copy next later : Copying)
-    → Ran turns reads writes before mid copy next
-    → OneCall mid now → MovesSome reads writes mid now next later → UsesAll (turns + 1) reads writes before now copy later
-uses_some turns reads writes before mid now copy next later ran call some =
-    let u = ran.uses in
-    let m = some.moves in
-    let moved : Moves reads writes before now copy later = moves_then reads writes before mid now copy next later u.moves m in
-    let got : length moved.got ≡ length u.moves.got + length m.got = length-append u.moves.got m.got in
-    let sent : length moved.sent ≡ length u.moves.sent + length m.sent = length-append u.moves.sent m.sent in
-    record {
-      moves = moved;
-      reader = u.reader;
-      writer = u.writer;
-      each = omega (arith, u.each, some.some, got, sent);
-      reads_break = omega (arith, u.reads_break, call.reader.interrupts_stay);
-      writes_break = omega (arith, u.writes_break, call.writer.interrupts_stay);
-    }
+-- One poll that goes on is used.
+uses_one : (reads writes : Bool) (before now : Ends) (copy next : Copying) → copy.count < 2 ^ 64 → OneCall before now
+    → Breaks reads writes before now copy next ⊎ MovesSome reads writes before now copy next → UsesAll 1 reads writes before now copy next
+uses_one reads writes before now copy next bounded call (inl (same, nothing, inl rose)) = record {
+  moves = moves_none reads writes before now copy next bounded same nothing.0 nothing.1;
+  reader = 1;
+  writer = 0;
+  each = omega arith;
+  reads_break = omega (arith, rose);
+  writes_break = omega (arith, call.writer.interrupts_stay);
+}
+uses_one reads writes before now copy next bounded call (inl (same, nothing, inr rose)) = record {
+  moves = moves_none reads writes before now copy next bounded same nothing.0 nothing.1;
+  reader = 0;
+  writer = 1;
+  each = omega arith;
+  reads_break = omega (arith, call.reader.interrupts_stay);
+  writes_break = omega (arith, rose);
+}
+uses_one reads writes before now copy next bounded call (inr some) = record {
+  moves = some.moves;
+  reader = 0;
+  writer = 0;
+  each = omega (arith, some.some);
+  reads_break = omega (arith, call.reader.interrupts_stay);
+  writes_break = omega (arith, call.writer.interrupts_stay);
+}
 
 -- One more poll that goes on.
 pub ran_again : (turns : ℕ) (reads writes : Bool) (before mid now : Ends) (copy next later : Copying)
     → Ran turns reads writes before mid copy next
     → OneCall mid now → Breaks reads writes mid now next later ⊎ MovesSome reads writes mid now next later
     → Ran (turns + 1) reads writes before now copy later
-ran_again turns reads writes before mid now copy next later ran call (inl breaks) = record {
-  uses = uses_break turns reads writes before mid now copy next later ran call
-      (moves_none reads writes mid now next later (omega (arith, ran.uses.moves.counted)) breaks.0 breaks.1.0 breaks.1.1) breaks.2;
-  calls = calls_more turns (turns + 1) before mid now (omega arith) ran.calls call;
-}
-ran_again turns reads writes before mid now copy next later ran call (inr some) = record {
-  uses = uses_some turns reads writes before mid now copy next later ran call some;
-  calls = calls_more turns (turns + 1) before mid now (omega arith) ran.calls call;
-}
+ran_again turns reads writes before mid now copy next later ran call goes =
+    let u = ran.uses in
+    let v = uses_one reads writes mid now next later (omega (arith, u.moves.counted)) call goes in record {
+      uses = record {
+        moves = moves_then reads writes before mid now copy next later u.moves v.moves;
+        reader = u.reader + v.reader;
+        writer = u.writer + v.writer;
+        each = omega (arith, u.each, v.each, length-append u.moves.got v.moves.got, length-append u.moves.sent v.moves.sent);
+        reads_break = omega (arith, u.reads_break, v.reads_break);
+        writes_break = omega (arith, u.writes_break, v.writes_break);
+      };
+      calls = calls_more turns (turns + 1) before mid now (omega arith) ran.calls call;
+    }
 
 -- One more poll that has to wait.
 pub ran_waits : (turns most : ℕ) (reads writes : Bool) (task : ℕ) (before mid now : Ends) (copy next later : Copying)
@@ -224,8 +211,8 @@ ran_waits turns most reads writes task before mid now copy next later ran waits 
   moves_then reads writes before mid now copy next later ran.uses.moves
       (moves_none reads writes mid now next later (omega (arith, ran.uses.moves.counted)) waits.0 waits.1.0 waits.1.1),
   elim waits.2 [
-    | inl p ↦ inl (rose_later before.reader.counts.pauses mid.reader.counts.pauses now.reader.counts.pauses ran.calls.reader.pauses_stay p.0, p.1)
-    | inr p ↦ inr (rose_later before.writer.counts.pauses mid.writer.counts.pauses now.writer.counts.pauses ran.calls.writer.pauses_stay p.0, p.1)
+    | inl p ↦ inl (rose_later _ mid.reader.counts.pauses _ ran.calls.reader.pauses_stay p.0, p.1)
+    | inr p ↦ inr (rose_later _ mid.writer.counts.pauses _ ran.calls.writer.pauses_stay p.0, p.1)
   ],
 )
 
@@ -246,7 +233,7 @@ run-end turns reads writes before mid now copy next rest (Err fault) ran same le
 run-end turns reads writes before mid now copy next rest (Err fault) ran same left (inr (inr none)) =
     inr (inr (
       omega (arith, none.0, ap length same),
-      (none.1.0, rose_later before.writer.counts.zeros mid.writer.counts.zeros now.writer.counts.zeros ran.calls.writer.zeros_stay none.1.1),
+      (none.1.0, rose_later _ mid.writer.counts.zeros _ ran.calls.writer.zeros_stay none.1.1),
     ))
 
 -- A write of none of a slice's bytes was counted, where the slice has some.
@@ -265,12 +252,6 @@ slice_counted content buf slice sent total n before now cut some end none counte
       ))
       | inr rose ↦ rose
     ]
-
--- What a write that failed of some bytes that are held says of the copy.
-pub write_failed : (before now : Ends) (held : List ℕ) (fault : IoFault) → 0 < length held
-    → WriteFails before.writer.counts now.writer.counts fault → CopyFails before now held fault
-write_failed before now held fault some (inl failed) = inr (inl failed)
-write_failed before now held fault some (inr none) = inr (inr (some, none))
 
 -- One more poll that is done.
 pub ran_ends : (turns : ℕ) (reads writes : Bool) (task : ℕ) (before mid now : Ends) (copy next : Copying) (copied : Copied)

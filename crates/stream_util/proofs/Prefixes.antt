@@ -1,7 +1,7 @@
 -- Reads of a prefix.
 use Rattle.std.proofs.Common.{◌≡◌, ◌∙◌, ℕ, ◌+◌, ◌≤◌, ◌≢◌, List, ◌++◌, Bool, true, false, length, take, ap, append_assoc, arith, min}
 use Rattle.std.proofs.Common.{subst, sym}
-use Rattle.std.specs.Prelude.{IsTrue, ◌&&◌, Option, Ok, Err}
+use Rattle.std.specs.Prelude.{IsTrue, ◌&&◌, Option, None, Ok, Err}
 use Rattle.std.proofs.lemmas.Bool.{false≢true}
 use Rattle.rent_buf.specs.Buffer.{Buffer, room, put}
 use Rattle.rent_buf.specs.Parts.{Parts, parts_stored}
@@ -9,10 +9,10 @@ use Rattle.rent_io.specs.declared.poll.PollBuf.{PollBuf}
 use Rattle.rent_io.specs.declared.poll.PollBuf.TheVariants.{Ready, Pending, Again}
 use Rattle.rent_io.specs.Counts.{AfterCall, Counts}
 use Rattle.rent_io.specs.Polls.{IsCaused}
-use Rattle.rent_io.specs.Reader.{Taken, Scattered, first_room}
+use Rattle.rent_io.specs.Reader.{Reader, Taken, Scattered, first_room}
 use Rattle.rent_io.specs.Source.{Gives}
 use Rattle.rent_io.specs.declared.source_stream.TheConstants.{PIECE}
-use Rattle.stream_util.specs.PrefixedReadIo.{Prefixed, PrefixEnds, PrefixRule, counts_behind, fault_of, prefix_left}
+use Rattle.stream_util.specs.PrefixedReadIo.{Prefixed, PrefixEnds, PrefixRule, counts_behind, prefix_left}
 use Rattle.rent_io.proofs.Pieces.{taken_piece, scattered_piece}
 
 -- Where both tell, the second does.
@@ -54,35 +54,50 @@ scattered_prefix first tells finished left rest behind piece parts back size n g
     })
 
 -- A read of the stream inside, behind a prefix that has ended, has the cause that it has there.
-caused_so : {T : Type 0} (task : ℕ) (finished ended : Bool) (faults later : ℕ) (before now : Counts) (result : PollBuf T)
-    → ended ≡ true → faults ≤ later → IsCaused task before now result
-    → IsCaused task (counts_behind finished faults before) (counts_behind ended later now) result
-caused_so task finished ended faults later before now (Ready (Ok n) back) is grew cause = tt
-caused_so task finished ended faults later before now (Ready (Err fault) back) is grew cause =
-    (omega (arith, cause.0, grew), ap (λ b. fault_of b now.fault) is ∙ cause.1)
-caused_so task finished ended faults later before now (Pending back) is grew cause = cause
-caused_so task finished ended faults later before now (Again back) is grew cause = cause
+caused_so : {T : Type 0} (task : ℕ) (finished : Bool) (faults later : ℕ) (before now : Counts) (result : PollBuf T) → faults ≤ later
+    → IsCaused task before now result → IsCaused task (counts_behind finished faults before) (counts_behind true later now) result
+caused_so task finished faults later before now (Ready (Ok n) back) grew cause = tt
+caused_so task finished faults later before now (Ready (Err fault) back) grew cause = (omega (arith, cause.0, grew), cause.1)
+caused_so task finished faults later before now (Pending back) grew cause = cause
+caused_so task finished faults later before now (Again back) grew cause = cause
 
--- The same, where the stream inside was left alone before.
-pub caused_behind : {T : Type 0} (task : ℕ) (finished ended : Bool) (faults later : ℕ) (before mid now : Counts) (result : PollBuf T)
-    → mid ≡ before → ended ≡ true → faults ≤ later → IsCaused task mid now result
-    → IsCaused task (counts_behind finished faults before) (counts_behind ended later now) result
-caused_behind task finished ended faults later before mid now result same is grew cause =
-    caused_so task finished ended faults later before now result is grew (subst (λ counts. IsCaused task counts now result) same cause)
+-- The counts of a stream with a prefix.
+abbrev pub counted : {I P : Type 0} → (I → Reader) → (P → ℕ) → Prefixed I P → Counts
+counted reader faults s = counts_behind s.finished (faults s.prefix) (reader s.io).counts
 
--- And it is one call.
-pub called_behind : (group : Option ℕ) (finished ended : Bool) (faults later : ℕ) (before mid now : Counts) → mid ≡ before
-    → faults ≤ later → AfterCall group mid now → AfterCall group (counts_behind finished faults before) (counts_behind ended later now)
-called_behind group finished ended faults later before mid now same grew called =
-    let call : AfterCall group before now = subst (λ counts. AfterCall group counts now) same called in
-    record {
-      faults_stay = omega (arith, call.faults_stay, grew);
-      pauses_stay = call.pauses_stay;
-      interrupts_stay = call.interrupts_stay;
-      zeros_stay = call.zeros_stay;
-      one_call = call.one_call;
-      under = call.under;
-    }
+module _ {I P : Type 0} (reader : I → Reader) (faults : P → ℕ) (before new mid : Prefixed I P) (now : I) (is : mid ≡ new)
+    (ended : new.finished ≡ true) (left_alone : new.io ≡ before.io)
+    (read : AfterCall None (counted reader faults before) (counted reader faults new)) where
+  -- The stream inside is as it was.
+  same : mid.io ≡ before.io
+  same = ap (λ s. s.io) is ∙ left_alone
+
+  -- The faults of the prefix grew.
+  grew : faults before.prefix ≤ faults mid.prefix
+  grew = omega (arith, read.faults_stay, ap (λ io. (reader io).counts.faults) left_alone, ap (λ s. faults s.prefix) is)
+
+  -- Such a read, of a stream that the read of the prefix left alone, has its cause.
+  pub caused_behind : {T : Type 0} (task : ℕ) (result : PollBuf T) → IsCaused task (reader mid.io).counts (reader now).counts result
+      → IsCaused task (counted reader faults before) (counted reader faults (record mid { io = now })) result
+  caused_behind task result cause =
+      let over : mid.finished ≡ true = ap (λ s. s.finished) is ∙ ended in
+      rw over (caused_so task before.finished (faults before.prefix) (faults mid.prefix) (reader before.io).counts (reader now).counts
+      result grew (subst (λ io. IsCaused task (reader io).counts (reader now).counts result) same cause))
+
+  -- And it is one call.
+  pub called_behind : (group : Option ℕ) → AfterCall group (reader mid.io).counts (reader now).counts
+      → AfterCall group (counted reader faults before) (counted reader faults (record mid { io = now }))
+  called_behind group called =
+      let call : AfterCall group (reader before.io).counts (reader now).counts =
+      subst (λ io. AfterCall group (reader io).counts (reader now).counts) same called in
+      record {
+        faults_stay = omega (arith, call.faults_stay, grew);
+        pauses_stay = call.pauses_stay;
+        interrupts_stay = call.interrupts_stay;
+        zeros_stay = call.zeros_stay;
+        one_call = call.one_call;
+        under = call.under;
+      }
 
 -- A read behind a prefix that has ended keeps to the rule.
 pub rule_behind : {I P T : Type 0} (tells : Bool) (left : P → List ℕ) (before mid now : Prefixed I P) (space : ℕ) (result : PollBuf T)

@@ -82,13 +82,18 @@ abbrev pub IsCopyEnd : Bool → Ends → Ends → Copying → Result ℕ IoFault
 IsCopyEnd reads before now copy (Ok n) = (n ≡ copy.count) × (copy.held ≡ []) × AtEnd reads before.reader now.reader
 IsCopyEnd reads before now copy (Err fault) = CopyFails before now copy.held fault
 
+-- A poll that may end so, where nothing moved: else the copy waits, was interrupted, or moved some bytes.
+abbrev pub CopyPoll : Bool → Bool → ℕ → Ends → Ends → Copying → (Result ℕ IoFault → Type 0) → Step Copying Copied → Type 0
+CopyPoll reads writes task before now copy ends (Ready copied) =
+    (copied.rest ≡ copy.held) × NothingMoved reads writes before now × ends copied.result
+CopyPoll reads writes task before now copy ends (Pending next) = Waits reads writes task before now copy next
+CopyPoll reads writes task before now copy ends (Again next) =
+    Breaks reads writes before now copy next ⊎ MovesSome reads writes before now copy next
+
 -- A poll of it.
 abbrev pub Copies : Bool → Bool → ℕ → Ends → Ends → Copying → Step Copying Copied → Type 0
-Copies reads writes task before now copy (Ready copied) =
-    (copied.rest ≡ copy.held) × NothingMoved reads writes before now × IsCopyEnd reads before now copy copied.result
-Copies reads writes task before now copy (Pending next) = Waits reads writes task before now copy next
-Copies reads writes task before now copy (Again next) =
-    Breaks reads writes before now copy next ⊎ MovesSome reads writes before now copy next
+Copies reads writes task before now copy step =
+    CopyPoll reads writes task before now copy (IsCopyEnd reads before now copy) step
 
 -- A poll in which no count of the reader and of the writer rose got on: it is done, or ended with one of these faults, or bytes moved.
 abbrev pub CopyCompletes : Bool → Bool → Ends → Ends → Copying → Step Copying Copied → (IoFault → Type 0) → Type 0

@@ -3,10 +3,9 @@ use Rattle.std.specs.Prelude.{ℕ, ◌≡◌, ◌⊎◌, Bool, [], Result, Ok, E
 use Rattle.rent_buf.specs.declared.fault.IoFault.{IoFault}
 use Rattle.rent_buf.specs.declared.fault.IoFault.TheVariants.{OutOfMemory}
 use Rattle.rent_io.specs.declared.poll.Step.{Step}
-use Rattle.rent_io.specs.declared.poll.Step.TheVariants.{Ready, Pending, Again}
 use Rattle.rent_io.specs.Polls.{TookNone}
 use Rattle.rent_io.specs.Reader.{AtEnd}
-use Rattle.stream_util.specs.Copy.{Breaks, CopyFails, Copying, Ends, NothingMoved, Waits, MovesSome}
+use Rattle.stream_util.specs.Copy.{CopyFails, Copying, CopyPoll, Ends}
 use Rattle.stream_util.specs.declared.copy.Copied.{Copied}
 
 -- How it ends: as a copy does, but that the pipe's growth may be refused too.
@@ -22,8 +21,5 @@ SplicesNone before now copy fault = TookNone before.writer.counts now.writer.cou
 
 -- A poll of it.
 abbrev pub ZeroCopies : Bool → Bool → ℕ → Ends → Ends → Copying → Step Copying Copied → Type 0
-ZeroCopies reads writes task before now copy (Ready copied) =
-    (copied.rest ≡ copy.held) × NothingMoved reads writes before now × IsZeroCopyEnd reads before now copy copied.result
-ZeroCopies reads writes task before now copy (Pending next) = Waits reads writes task before now copy next
-ZeroCopies reads writes task before now copy (Again next) =
-    Breaks reads writes before now copy next ⊎ MovesSome reads writes before now copy next
+ZeroCopies reads writes task before now copy step =
+    CopyPoll reads writes task before now copy (IsZeroCopyEnd reads before now copy) step

@@ -1,14 +1,11 @@
 use Rattle.std.proofs.Common.{◌≡◌, length}
-use Rattle.copy_run.specs.Pieces.{outlet_writer}
-use Rattle.copy_run.proofs.Outlets.{Kept}
+use Rattle.copy_run.proofs.Outlets.{KeptBy}
 use Rattle.copy_run.proofs.outlet.OutletAsyncWriteRent.poll_write.Given as goal
 
 -- Bytes left the buffer, and else nothing has changed but the count of faults.
 abbrev pub invariant-loop-back : goal.invariant-loop-back
 invariant-loop-back g l =
-    Kept g.K.ByteSink.tells
-    (outlet_writer (g.K.ByteSink.taken l.initial.self.writer.inner.sink) (g.K.ByteSink.faults l.initial.self.writer.inner.sink) l.initial.self.writer)
-    (outlet_writer (g.K.ByteSink.taken l.self.writer.inner.sink) (g.K.ByteSink.faults l.self.writer.inner.sink) l.self.writer)
+    KeptBy g.K.ByteSink.tells g.K.ByteSink.taken g.K.ByteSink.faults l.initial.self.writer l.self.writer
     × (l.buf ≡ l.initial.buf)
 
 abbrev pub decreases-loop-back : goal.decreases-loop-back

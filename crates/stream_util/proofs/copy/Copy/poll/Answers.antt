@@ -3,7 +3,7 @@ use Rattle.std.proofs.lemmas.List.{length-drop}
 use Rattle.std.proofs.Math.ListN.{drop_of_length-le}
 use Rattle.rent_io.specs.declared.poll.Step.TheVariants.{Again}
 use Rattle.stream_util.proofs.Completeness.{copy_completes}
-use Rattle.stream_util.proofs.Copies.{fetched, delivered, same_joined, slice_counted}
+use Rattle.stream_util.proofs.Copies.{again_joined, fetched, delivered, slice_counted}
 use Rattle.stream_util.proofs.copy.Copy.poll.Goals as goal
 
 pub returns-else-n-eq0-clause-answer : goal.returns-else-n-eq0-clause-answer
@@ -22,11 +22,7 @@ returns-else-n-eq0-clause-answer g c =
 
 pub returns-else-n-eq0-clause-complete : goal.returns-else-n-eq0-clause-complete
 returns-else-n-eq0-clause-complete g c =
-    let reader = g.R.AsyncReadRent.reader in
-    let writer = g.W.AsyncWriteRent.writer c.args.writer.now in
-    copy_completes g.R.AsyncReadRent.tells g.W.AsyncWriteRent.tells c.args.task
-    (record { reader = reader c.args.reader.now; writer = writer })
-    (record { reader = reader c.poll_read.new.self; writer = writer }) c.args.self (Again _) (returns-else-n-eq0-clause-answer g c)
+    copy_completes _ _ c.args.task _ _ c.args.self (Again _) (returns-else-n-eq0-clause-answer g c)
 
 pub returns-then-n-eq0-2-clause-answer : goal.returns-then-n-eq0-2-clause-answer
 returns-then-n-eq0-2-clause-answer g c =
@@ -66,30 +62,13 @@ returns-else-n-eq0-2-clause-answer g c =
 
 pub returns-then-n-eq0-2-clause-complete : goal.returns-then-n-eq0-2-clause-complete
 returns-then-n-eq0-2-clause-complete g c =
-    let reader = g.R.AsyncReadRent.reader c.args.reader.now in
-    let writer = g.W.AsyncWriteRent.writer in
-    copy_completes g.R.AsyncReadRent.tells g.W.AsyncWriteRent.tells c.args.task
-    (record { reader = reader; writer = writer c.args.writer.now })
-    (record { reader = reader; writer = writer c.poll_write.new.self }) c.args.self c.ended-then-n-eq0-2.result
-    (returns-then-n-eq0-2-clause-answer g c)
+    copy_completes _ _ c.args.task _ _ c.args.self c.ended-then-n-eq0-2.result (returns-then-n-eq0-2-clause-answer g c)
 
 pub returns-else-n-eq0-2-clause-complete : goal.returns-else-n-eq0-2-clause-complete
 returns-else-n-eq0-2-clause-complete g c =
-    let reader = g.R.AsyncReadRent.reader c.args.reader.now in
-    let writer = g.W.AsyncWriteRent.writer in
-    copy_completes g.R.AsyncReadRent.tells g.W.AsyncWriteRent.tells c.args.task
-    (record { reader = reader; writer = writer c.args.writer.now })
-    (record { reader = reader; writer = writer c.poll_write.new.self }) c.args.self (Again _) (returns-else-n-eq0-2-clause-answer g c)
+    copy_completes _ _ c.args.task _ _ c.args.self (Again _) (returns-else-n-eq0-2-clause-answer g c)
 
 pub returns-else-n-eq0-2-clause-joined : goal.returns-else-n-eq0-2-clause-joined
 returns-else-n-eq0-2-clause-joined g c =
-    let a = c.in-Ready-Ok-default-poll_write in
-    let i = c.self.inside in
-    let writer = g.W.AsyncWriteRent.writer in
-    let writes = rw a.field-0-is at a.ensures.writes in
-    let some = delivered g.R.AsyncReadRent.tells g.W.AsyncWriteRent.tells (g.R.AsyncReadRent.reader c.args.reader.now)
-    (writer c.args.writer.now)
-    (writer c.poll_write.new.self) c.args.self i.buf c.into_inner-buf.result i.sent a.n i.count c.len-len.result c.new.result a.part
-    c.self.view_is c.new.ensures (record { same = writes.0; within = writes.1; joined = writes.2 }) c.into_inner-buf.ensures
-    c.len-len.ensures c.if-n-eq0-2.false in
-    same_joined _ _ _ _ _ _ some.moves
+    let count = ap (λ k. k.count) c.self.view_is in
+    again_joined _ _ _ _ c.args.self _ (omega (arith, count, c.self.invariant.2)) (returns-else-n-eq0-2-clause-answer g c)

@@ -1,4 +1,3 @@
-use Rattle.std.proofs.Common.{◌∙◌, ◌≤◌, ap, arith}
 use Rattle.std.specs.Prelude.{None}
 use Rattle.stream_util.proofs.Prefixes.{called_behind, caused_behind}
 use Rattle.stream_util.proofs.prefixed_io.PrefixedReadIoAsyncReadRent.poll_readv.Goals as goal
@@ -11,41 +10,10 @@ returns-in-Answered-clause-counts g c = c.readv_prefix.ensures.counts None
 
 pub returns-in-Behind-clause-cause : goal.returns-in-Behind-clause-cause
 returns-in-Behind-clause-cause g c =
-    let reader = g.I.AsyncReadRent.reader in
-    let old = c.args.self.now in
-    let mid = c.self.inside in
-    let is = c.self.view_is in
-    let call = c.readv_prefix.ensures.counts None in
-    let same = ap (λ s. (reader s.io).counts) is ∙ ap (λ io. (reader io).counts) c.readv_prefix.ensures.io in
-    let grew : g.P.ByteSource.faults old.prefix ≤ g.P.ByteSource.faults mid.prefix =
-    omega (
-      arith,
-      call.faults_stay,
-      ap (λ io. (reader io).counts.faults) c.readv_prefix.ensures.io,
-      ap
-          (λ s. g.P.ByteSource.faults s.prefix) is,
-    ) in
-    caused_behind c.args.task old.finished mid.finished (g.P.ByteSource.faults old.prefix) (g.P.ByteSource.faults mid.prefix)
-    (reader old.io).counts
-    (reader mid.io).counts (reader c.poll_readv.new.self).counts c.poll_readv.result same
-    (ap (λ s. s.finished) is ∙ c.in-Behind.ensures.behind.1) grew c.poll_readv.ensures.cause
+    caused_behind g.I.AsyncReadRent.reader g.P.ByteSource.faults c.args.self.now _ _ _ c.self.view_is c.in-Behind.ensures.behind.1
+    c.readv_prefix.ensures.io (c.readv_prefix.ensures.counts None) c.args.task c.poll_readv.result c.poll_readv.ensures.cause
 
 pub returns-in-Behind-clause-counts : goal.returns-in-Behind-clause-counts
 returns-in-Behind-clause-counts g c =
-    let reader = g.I.AsyncReadRent.reader in
-    let old = c.args.self.now in
-    let mid = c.self.inside in
-    let is = c.self.view_is in
-    let call = c.readv_prefix.ensures.counts None in
-    let same = ap (λ s. (reader s.io).counts) is ∙ ap (λ io. (reader io).counts) c.readv_prefix.ensures.io in
-    let grew : g.P.ByteSource.faults old.prefix ≤ g.P.ByteSource.faults mid.prefix =
-    omega (
-      arith,
-      call.faults_stay,
-      ap (λ io. (reader io).counts.faults) c.readv_prefix.ensures.io,
-      ap
-          (λ s. g.P.ByteSource.faults s.prefix) is,
-    ) in
-    called_behind None old.finished mid.finished (g.P.ByteSource.faults old.prefix) (g.P.ByteSource.faults mid.prefix)
-    (reader old.io).counts
-    (reader mid.io).counts (reader c.poll_readv.new.self).counts same grew c.poll_readv.ensures.counts
+    called_behind g.I.AsyncReadRent.reader g.P.ByteSource.faults c.args.self.now _ _ _ c.self.view_is c.in-Behind.ensures.behind.1
+    c.readv_prefix.ensures.io (c.readv_prefix.ensures.counts None) None c.poll_readv.ensures.counts

@@ -29,18 +29,8 @@ returns-else-n-eq0-2-clause-answer g c =
 
 pub returns-else-n-eq0-clause-complete : goal.returns-else-n-eq0-clause-complete
 returns-else-n-eq0-clause-complete g c =
-    let source = g.S.SpliceSource.source in
-    let destination = g.D.SpliceDestination.destination c.args.writer.now in
-    zero_copy_completes g.S.SpliceSource.tells g.D.SpliceDestination.tells c.args.task
-    (record { reader = source c.args.reader.now; writer = destination })
-    (record { reader = source c.poll_splice_to.new.self; writer = destination }) c.args.self (Again _)
-    (returns-else-n-eq0-clause-answer g c)
+    zero_copy_completes _ _ c.args.task _ _ c.args.self (Again _) (returns-else-n-eq0-clause-answer g c)
 
 pub returns-else-n-eq0-2-clause-complete : goal.returns-else-n-eq0-2-clause-complete
 returns-else-n-eq0-2-clause-complete g c =
-    let source = g.S.SpliceSource.source c.args.reader.now in
-    let destination = g.D.SpliceDestination.destination in
-    zero_copy_completes g.S.SpliceSource.tells g.D.SpliceDestination.tells c.args.task
-    (record { reader = source; writer = destination c.args.writer.now })
-    (record { reader = source; writer = destination c.poll_splice_from.new.self }) c.args.self (Again _)
-    (returns-else-n-eq0-2-clause-answer g c)
+    zero_copy_completes _ _ c.args.task _ _ c.args.self (Again _) (returns-else-n-eq0-2-clause-answer g c)
