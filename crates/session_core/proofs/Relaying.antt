@@ -2,15 +2,17 @@
 use Rattle.std.proofs.Common.{◌≡◌, ◌≤◌, ◌∙◌, inl, inr, refl, sym, ap, subst, Bool, IsTrue, ℕ, List, [], ◌∷◌, Option, Some, None, get_or, arith}
 use Rattle.std.specs.Prelude.{codes, decimal}
 use Rattle.ring_core.specs.Counts.{Rose}
-use Rattle.rent_io.specs.Call.{Took}
+use Rattle.event_text.specs.TextWords.{bytes_word}
 use Rattle.relay_run.specs.declared.plan.Plan.{Plan}
+use Rattle.session_core.specs.declared.command.TheConstants.{MOST_PORT}
 use Rattle.session_core.specs.declared.command.Command.{Command}
 use Rattle.session_core.specs.declared.command.Command.TheVariants.{Run, Ready, Generate, Trace, Wake, Copy, Unframe, Relay}
 use Rattle.session_core.specs.declared.top.Kept.{Kept}
 use Rattle.session_core.specs.declared.top.Status.{Status}
 use Rattle.session_core.specs.declared.top.Status.TheVariants.{Done, BadWords, BadLine, TooLong}
 use Rattle.session_core.specs.declared.top.Status.TheVariants.{ReadFault, WriteFault, OutOfMemory, NetFault, BadFrame}
-use Rattle.session_core.specs.Command.{IsRelay, KeepsNothing, ReadsCommand, ReadsNothing, UsesNoNet, relay_words}
+use Rattle.session_core.specs.Command.{IsPortIf, IsRelay, KeepsNothing, ReadsCommand, ReadsFromOne, ReadsNothing, ReadsPlan}
+use Rattle.session_core.specs.Command.{UsesNoNet, relay_words}
 use Rattle.session_core.specs.Complete.{IsDoneOrShort, NoneRose}
 use Rattle.session_core.specs.Ends.{CommandEnds, Reading, StatusFor, Writing}
 use Rattle.session_core.specs.Relays.{RelaysFor}
@@ -32,6 +34,42 @@ same-relayed words plan other first second =
     let texts = last-word plan.to other.to plan.port plan.limit plan.rounds other.port other.limit other.rounds
         (sym first.words_are ∙ second.words_are) in
     same-number plan.rounds other.rounds (let small = first.small in omega arith) (let small = second.small in omega arith) texts
+
+-- Words that begin with `relay`, and whose other numbers are none of a plan, are no command's.
+pub relay-or-none : (port to limit rounds : List ℕ) (end : ℕ) → ReadsFromOne MOST_PORT to (Some end) →
+    ReadsPlan (Some end) port limit rounds None → ReadsCommand (codes "relay" ∷ port ∷ to ∷ limit ∷ rounds ∷ []) None
+relay-or-none port to limit rounds end reads none = record {
+  no_run = λ capacity is. (let all : five ≡ codes "run" ∷ decimal capacity ∷ [] = is.words_are in cc);
+  no_ready = λ is. (let all : five ≡ codes "ready" ∷ [] = is in cc);
+  no_generate = λ seed count is. (let all : five ≡ codes "gen" ∷ decimal seed ∷ decimal count ∷ [] = is.words_are in cc);
+  no_trace = λ seed count is.
+      (let all : five ≡ codes "gen" ∷ decimal seed ∷ decimal count ∷ codes "--events" ∷ [] = is.words_are in cc);
+  no_wake = λ senders count is. (let all : five ≡ codes "wake" ∷ decimal senders ∷ decimal count ∷ [] = is.words_are in cc);
+  no_copy = λ capacity prefix is.
+      (let all : five ≡ codes "copy" ∷ decimal capacity ∷ bytes_word prefix ∷ [] = is.words_are in cc);
+  no_unframe = λ is. (let all : five ≡ codes "unframe" ∷ [] = is in cc);
+  no_relay = λ plan is. no-plan plan is plan.to refl is.to is.words_are;
+}
+  where
+    five : List (List ℕ)
+    five = codes "relay" ∷ port ∷ to ∷ limit ∷ rounds ∷ []
+    no-plan : (plan : Plan) → IsRelay five plan → (other : Option ℕ) → plan.to ≡ other → IsPortIf other
+        → five ≡ relay_words other plan.port plan.limit plan.rounds → ⊥
+    no-plan plan is None to_is port_if all = absurd cc
+    no-plan plan is (Some other) to_is port_if all =
+        let same = same-number end other (let fits = reads.1 in omega arith) (let fits = port_if.1 in omega arith)
+            (sym reads.2 ∙ ap (λ ws. get_or ws 2 []) all) in
+        none plan (record {
+          positive = is.positive;
+          port = is.port;
+          some = is.some;
+          few = is.few;
+          small = is.small;
+          to_is = to_is ∙ ap Some (sym same);
+          first_is = ap (λ ws. get_or ws 1 []) all;
+          second_is = ap (λ ws. get_or ws 3 []) all;
+          third_is = ap (λ ws. get_or ws 4 []) all;
+        })
 
 -- What a command has done where its words are those of a relay.
 pub relay-ends : (ts tk : Bool) (words : List (List ℕ)) (command : Command) (plan : Plan) (source : Reading) (sink : Writing)

@@ -1,6 +1,8 @@
 use Rattle.session_core.specs.DriverKind.{completion, readiness, KeepsRun, KeepsReady}
 use Rattle.session_core.proofs.Endings.{ends-status}
 use Rattle.session_core.proofs.Framing.{unframe-status}
+use Rattle.session_core.proofs.Relaying.{relay-status}
+use Rattle.std.proofs.Common.{refl}
 use Rattle.session_core.proofs.top.run_command.Goals as goal
 
 pub returns-in-Run-clause-status : goal.returns-in-Run-clause-status
@@ -13,3 +15,7 @@ returns-in-Ready-clause-status g c =
 
 pub returns-in-Unframe-clause-status : goal.returns-in-Unframe-clause-status
 returns-in-Unframe-clause-status g c = unframe-status g.S.ByteSource.tells g.K.ByteSink.tells _ _ _ c.run_unframe.ensures
+
+pub returns-in-Relay-clause-status : goal.returns-in-Relay-clause-status
+returns-in-Relay-clause-status g c =
+    relay-status g.S.ByteSource.tells g.K.ByteSink.tells c.in-Relay.plan.rounds _ _ _ refl refl c.run_relay.ensures.relays
