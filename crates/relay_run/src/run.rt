@@ -149,15 +149,7 @@ fn listen<R: Wait + Clock, I: Sockets, P: Ledger, D: Ledger>(
     };
     match plan.to {
         None => relay(rt, alloc, plan, driver, listener, Mirror, sleeper),
-        Some(to) => relay(
-            rt,
-            alloc,
-            plan,
-            driver,
-            listener,
-            PortFar::new(to),
-            sleeper,
-        ),
+        Some(to) => relay(rt, alloc, plan, driver, listener, PortFar::new(to), sleeper),
     }
 }
 
@@ -201,8 +193,7 @@ pub fn make_rounds<R: Wait + Clock, I: Sockets, F: Far<I>, P: Ledger, D: Ledger>
     ensures stops { IfErr result (StopsFor (I.view relay.old.driver.handling.io) (I.view relay.new.driver.handling.io)) }
 {
     let mut closed: u64 = 0;
-    for made in 0..rounds {
-        let _ = made;
+    for _made in 0..rounds {
         match relay.round(rt, sleeper, Some(MILLIS)) {
             Ok(round) => closed = closed.saturating_add(round.closed.len() as u64),
             Err((why, _)) => return Err(why),

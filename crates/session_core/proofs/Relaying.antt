@@ -32,7 +32,7 @@ last-word (Some a) (Some b) port limit rounds more most all same = ap (λ ws. ge
 same-relayed : (words : List (List ℕ)) (plan other : Plan) → IsRelay words plan → IsRelay words other → plan.rounds ≡ other.rounds
 same-relayed words plan other first second =
     let texts = last-word plan.to other.to plan.port plan.limit plan.rounds other.port other.limit other.rounds
-        (sym first.words_are ∙ second.words_are) in
+    (sym first.words_are ∙ second.words_are) in
     same-number plan.rounds other.rounds (let small = first.small in omega arith) (let small = second.small in omega arith) texts
 
 -- Words that begin with `relay`, and whose other numbers are none of a plan, are no command's.
@@ -53,12 +53,13 @@ relay-or-none port to limit rounds end reads none = record {
   where
     five : List (List ℕ)
     five = codes "relay" ∷ port ∷ to ∷ limit ∷ rounds ∷ []
+
     no-plan : (plan : Plan) → IsRelay five plan → (other : Option ℕ) → plan.to ≡ other → IsPortIf other
         → five ≡ relay_words other plan.port plan.limit plan.rounds → ⊥
     no-plan plan is None to_is port_if all = absurd cc
     no-plan plan is (Some other) to_is port_if all =
         let same = same-number end other (let fits = reads.1 in omega arith) (let fits = port_if.1 in omega arith)
-            (sym reads.2 ∙ ap (λ ws. get_or ws 2 []) all) in
+        (sym reads.2 ∙ ap (λ ws. get_or ws 2 []) all) in
         none plan (record {
           positive = is.positive;
           port = is.port;

@@ -190,12 +190,7 @@ fn five_of<'a>(
 }
 
 // The command of two ports, of connections and of rounds.
-fn relay_of<'a>(
-    port: &[u8],
-    to: &[u8],
-    connections: &[u8],
-    rounds: &[u8],
-) -> Option<Command<'a>>
+fn relay_of<'a>(port: &[u8], to: &[u8], connections: &[u8], rounds: &[u8]) -> Option<Command<'a>>
     ensures { ReadsCommand (codes "relay" ∷ port.now ∷ to.now ∷ connections.now ∷ rounds.now ∷ []) result }
 {
     let Some(to) = number_from_one(to, MOST_PORT) else {

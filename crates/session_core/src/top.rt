@@ -64,7 +64,8 @@ pub enum Status {
     ReadFault,
     /// The sink failed. A prefix of the text was written.
     WriteFault,
-    /// Memory ran out, and nothing that was seen gives another status. A prefix of the text may have been written.
+    /// Memory ran out, and nothing that was seen gives another status. A prefix of the text may have been written; by `echo` and `relay`
+    /// nothing, which end so also where no number was left for a handle.
     OutOfMemory,
     /// The object of `echo` and `relay` failed where it was to listen, or in a round: its count of faults rose. Nothing was written.
     NetFault,

@@ -68,13 +68,8 @@ struct Echoing<'a, R> {
 }
 
 // An echo relay over sockets.
-fn echo_on<R: Net>(
-    rt: &R,
-    alloc: Global,
-    port: u16,
-) -> Option<Relay<MioIo<&R>, Mirror>> {
-    let mut driver: LegacyDriver<MioIo<&R>, Buf> =
-        LegacyDriver::over(alloc, MioIo::new(rt, alloc));
+fn echo_on<R: Net>(rt: &R, alloc: Global, port: u16) -> Option<Relay<MioIo<&R>, Mirror>> {
+    let mut driver: LegacyDriver<MioIo<&R>, Buf> = LegacyDriver::over(alloc, MioIo::new(rt, alloc));
     let listener = driver.listen(port).ok()?;
     if !driver.user_holds(listener.number()) {
         return None;

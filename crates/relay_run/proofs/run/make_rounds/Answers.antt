@@ -8,12 +8,15 @@ loop-made-preserved g c =
     let round = c.in-Ok.round in
     let serving = c.in-Ok.ensures.serving in
     let counted = c.saturating_add-closed.ensures ∙ ap (λ n. min (c.loop-made.closed + n) (2 ^ 64 - 1)) c.len.ensures in
-    let next : suc c.loop-made.made ≡ c.loop-made.made + 1 = omega arith in
+    let next : suc c.loop-made._made ≡ c.loop-made._made + 1 = omega arith in
     record {
       made = subst
-          (λ n. MakesRounds g.I.NonBlock.view g.I.NonBlock.tells c.args.relay.now n c.saturating_add-closed.result c.round.new.self) next
-          (c.loop-made.relay, c.loop-made.closed, c.loop-made.invariant.made,
-          record { round = round; serving = serving; counted = counted });
+          (λ n. MakesRounds g.I.NonBlock.view g.I.NonBlock.tells c.args.relay.now n c.saturating_add-closed.result c.round.new.self) next (
+            c.loop-made.relay,
+            c.loop-made.closed,
+            c.loop-made.invariant.made,
+            record { round = round; serving = serving; counted = counted },
+          );
       given = let before = c.loop-made.invariant.given in let more = c.round.ensures.given in omega arith;
       later = let before = c.loop-made.invariant.later in let more = serving.later.faults in omega arith;
     }
