@@ -1,4 +1,4 @@
-use Rattle.std.proofs.Common.{◌≡◌, ◌+◌, ◌-◌, ◌*◌, ◌∙◌, suc, subst, ap, arith}
+use Rattle.std.proofs.Common.{◌≡◌, ◌+◌, ◌-◌, ◌∙◌, suc, subst, ap, arith}
 use Rattle.std.specs.Prelude.{◌^◌, min}
 use Rattle.relay_run.specs.Relaying.{MakesRounds}
 use Rattle.relay_run.proofs.run.make_rounds.Goals as goal
@@ -7,7 +7,8 @@ pub loop-made-preserved : goal.loop-made-preserved
 loop-made-preserved g c =
     let round = c.in-Ok.round in
     let serving = c.in-Ok.ensures.serving in
-    let counted = c.saturating_add-closed.ensures ∙ ap (λ n. min (c.loop-made.closed + n) (2 ^ 64 - 1)) c.len.ensures in
+    let counted = ◌∙◌ {b = min (c.loop-made.closed + c.len.result) (2 ^ 64 - 1)} c.saturating_add-closed.ensures
+    (ap (λ n. min (c.loop-made.closed + n) (2 ^ 64 - 1)) c.len.ensures) in
     let next : suc c.loop-made._made ≡ c.loop-made._made + 1 = omega arith in
     record {
       made = subst
