@@ -88,8 +88,11 @@ fn until_closed<R: Wait + Clock, I: Sockets, P: Ledger, D: Ledger>(
             return false;
         }
         match relay.round(rt, sleeper, Some(1)) {
-            Ok(round) if !round.closed.is_empty() => return true,
-            Ok(_) => {}
+            Ok(round) => {
+                if !round.closed.is_empty() {
+                    return true;
+                }
+            }
             Err(_) => return false,
         }
     }
@@ -163,11 +166,10 @@ fn talk<R: Net<Stream = TcpStream> + Clock>(rt: &R) -> io::Result<bool> {
 }
 
 // Serves in a thread, and talks beside it.
-fn serve_and_talk<'s, E, R: Threads + Wait + Net<Stream = TcpStream> + Clock + Sync>(
-    rt: &'s R,
-    alloc: Global,
-    scope: &Scope<'s, E>,
-) -> io::Result<bool> {
+fn serve_and_talk<'s, E, R>(rt: &'s R, alloc: Global, scope: &Scope<'s, E>) -> io::Result<bool>
+where
+    R: Threads + Wait + Net<Listener = TcpListener, Stream = TcpStream> + Clock + Sync,
+{
     let Ok(server) = scope.spawn(move || serve(rt, alloc)) else {
         return Ok(false);
     };
