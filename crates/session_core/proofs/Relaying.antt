@@ -1,7 +1,6 @@
 -- What `echo` and `relay` have done, by their words and their status.
-use Rattle.std.proofs.Common.{◌≡◌, ◌≤◌, ◌∙◌, inl, inr, refl, sym, ap, subst, Bool, IsTrue, ℕ, List, [], ◌∷◌, Option, Some, None, get_or, arith}
+use Rattle.std.proofs.Common.{◌≡◌, ◌∙◌, inl, inr, refl, sym, ap, subst, Bool, ℕ, List, [], ◌∷◌, Option, Some, None, get_or, arith}
 use Rattle.std.specs.Prelude.{codes, decimal}
-use Rattle.ring_core.specs.Counts.{Rose}
 use Rattle.event_text.specs.TextWords.{bytes_word}
 use Rattle.relay_run.specs.declared.plan.Plan.{Plan}
 use Rattle.session_core.specs.declared.command.TheConstants.{MOST_PORT}
@@ -16,7 +15,7 @@ use Rattle.session_core.specs.Command.{UsesNoNet, relay_words}
 use Rattle.session_core.specs.Complete.{IsDoneOrShort, NoneRose}
 use Rattle.session_core.specs.Ends.{CommandEnds, Reading, StatusFor, Writing}
 use Rattle.session_core.specs.Relays.{RelaysFor}
-use Rattle.session_core.proofs.Commands.{same-number, trace-alone}
+use Rattle.session_core.proofs.Commands.{same-number}
 use Rattle.session_core.proofs.RelayWords.{not-copy-relay, not-generate-relay, not-ready-relay, not-run-relay, not-trace-relay}
 use Rattle.session_core.proofs.RelayWords.{not-unframe-relay, not-wake-relay}
 
