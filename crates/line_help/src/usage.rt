@@ -46,7 +46,7 @@ type Form = (
     Option<&'static str>,
 );
 
-const FORMS: [Form; 10] = [
+const FORMS: [Form; 12] = [
     (
         "run",
         "CAP, or CAP -i",
@@ -87,6 +87,27 @@ const FORMS: [Form; 10] = [
         &[
             Param::Number("capacity", 1, 4294967295, "a number from 1 to 4294967295"),
             Param::Enters("script"),
+        ],
+        None,
+    ),
+    (
+        "echo",
+        "PORT CONNECTIONS ROUNDS",
+        &[
+            Param::Number("port", 1, 65535, "a number from 1 to 65535"),
+            Param::Number("number of connections", 1, 64, "a number from 1 to 64"),
+            Param::Number("number of rounds", 0, 1000000, "a number from 0 to 1000000"),
+        ],
+        None,
+    ),
+    (
+        "relay",
+        "PORT TO CONNECTIONS ROUNDS",
+        &[
+            Param::Number("port", 1, 65535, "a number from 1 to 65535"),
+            Param::Number("other port", 1, 65535, "a number from 1 to 65535"),
+            Param::Number("number of connections", 1, 64, "a number from 1 to 64"),
+            Param::Number("number of rounds", 0, 1000000, "a number from 0 to 1000000"),
         ],
         None,
     ),

@@ -8,7 +8,7 @@ use Rattle.session_core.specs.declared.input.TheConstants.{MOST_INPUT}
 use Rattle.session_core.specs.declared.session.Session.{Session}
 use Rattle.session_core.specs.declared.top.Status.{Status}
 use Rattle.session_core.specs.declared.top.Status.TheVariants.{Done, BadWords, BadLine, TooLong}
-use Rattle.session_core.specs.declared.top.Status.TheVariants.{ReadFault, WriteFault, OutOfMemory, BadFrame}
+use Rattle.session_core.specs.declared.top.Status.TheVariants.{ReadFault, WriteFault, OutOfMemory, NetFault, BadFrame}
 use Rattle.session_core.specs.declared.top.Stop.{Stop}
 use Rattle.session_core.specs.Session.{SessionStands}
 use Rattle.ring_core.specs.Run.{replies}
@@ -79,6 +79,8 @@ unread-gives ts tk L all left rest text session taken now ran count f g h p q fl
   record { read = λ told. why told ∙ calm told; wrote = still },
   record { events = at.events; ran = first-ran ts tk L all text session taken now ran at; named = inl none },
 )
+unread-gives ts tk L all left rest text session taken now ran count f g h p q flushed stop NetFault at took order calm still none why =
+    absurd why
 unread-gives ts tk L all left rest text session taken now ran count f g h p q flushed stop BadFrame at took order calm still none why =
     absurd why
 
@@ -96,6 +98,7 @@ stop-gives ts tk L source taken mid now p q r flushed stop ReadFault stops read 
 stop-gives ts tk L source taken mid now p q r flushed stop WriteFault stops read order calm why = (rose_later p q r order why, stops)
 stop-gives ts tk L source taken mid now p q r flushed stop OutOfMemory stops read order calm why =
     (record { read = read; wrote = λ told. why told ∙ calm told }, stops)
+stop-gives ts tk L source taken mid now p q r flushed stop NetFault stops read order calm why = absurd stops
 stop-gives ts tk L source taken mid now p q r flushed stop BadFrame stops read order calm why = absurd stops
 
 -- All was read, and all lines have run.
@@ -124,6 +127,7 @@ stops-later tk taken mid now p q r flushed TooLong order calm why = absurd why
 stops-later tk taken mid now p q r flushed ReadFault order calm why = absurd why
 stops-later tk taken mid now p q r flushed WriteFault order calm why = rose_later p q r order why
 stops-later tk taken mid now p q r flushed OutOfMemory order calm why = λ told. why told ∙ calm told
+stops-later tk taken mid now p q r flushed NetFault order calm why = absurd why
 stops-later tk taken mid now p q r flushed BadFrame order calm why = absurd why
 
 -- A flush that fails behind the last line leaves the replies to the first ones written.

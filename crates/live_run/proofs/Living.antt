@@ -15,7 +15,7 @@ use Rattle.event_text.proofs.TextLinesRead.{have_read-more}
 use Rattle.session_core.specs.declared.session.Session.{Session}
 use Rattle.session_core.specs.declared.top.Status.{Status}
 use Rattle.session_core.specs.declared.top.Status.TheVariants.{Done, BadWords, BadLine, TooLong}
-use Rattle.session_core.specs.declared.top.Status.TheVariants.{ReadFault, WriteFault, OutOfMemory, BadFrame}
+use Rattle.session_core.specs.declared.top.Status.TheVariants.{ReadFault, WriteFault, OutOfMemory, NetFault, BadFrame}
 use Rattle.session_core.specs.declared.top.Stop.{Stop}
 use Rattle.session_core.specs.declared.top.Stop.TheVariants.{Line, Short}
 use Rattle.session_core.specs.Session.{SessionStands}
@@ -122,6 +122,7 @@ event-stops ts tk L all rest line behind old new taken now later ran number stop
 }
 event-stops ts tk L all rest line behind old new taken now later ran number stop event OutOfMemory at first stands is runs =
     short-stops ts tk L all rest old taken now later ran number stop at runs is
+event-stops ts tk L all rest line behind old new taken now later ran number stop event NetFault at first stands is runs = absurd runs
 event-stops ts tk L all rest line behind old new taken now later ran number stop event BadFrame at first stands is runs = absurd runs
 
 -- The next line is wrong.
@@ -156,6 +157,7 @@ wrong-stops ts tk L all rest line behind session taken now later ran number stop
           (subst (λ n. WrotePrefix (bad_line_text n) now later) place (refuses told));
     }
 wrong-stops ts tk L all rest line behind session taken now later ran number stop OutOfMemory at first wrong is refuses = absurd refuses
+wrong-stops ts tk L all rest line behind session taken now later ran number stop NetFault at first wrong is refuses = absurd refuses
 wrong-stops ts tk L all rest line behind session taken now later ran number stop BadFrame at first wrong is refuses = absurd refuses
 
 -- What the run of its event did, a line did.

@@ -133,7 +133,7 @@ unknown_unheld table h new = by-found (map.get table.holders h) refl
         absurd cc
 
 -- What the user got it holds.
-given_held : (old new : Table) (h : ℕ) → new.holders ≡ map.insert old.holders h by_user → is_users new h ≡ true
+pub given_held : (old new : Table) (h : ℕ) → new.holders ≡ map.insert old.holders h by_user → is_users new h ≡ true
 given_held old new h same =
     ap (λ m. nat_lt 0 (unwrap_or (map.get m h) nobody).user) same
     ∙ ap (λ o. nat_lt 0 (unwrap_or o nobody).user) (put-same old.holders h by_user)

@@ -3,10 +3,11 @@ use Rattle.std.proofs.Common.{◌≡◌, ◌≤◌, ◌<◌, ℕ, List, [], ◌�
 use Rattle.std.specs.Prelude.{◌^◌, codes, decimal, option_map}
 use Rattle.session_core.specs.declared.command.TheConstants.{MOST_CAPACITY, MOST_ENTRIES}
 use Rattle.session_core.specs.declared.command.Command.{Command}
-use Rattle.session_core.specs.declared.command.Command.TheVariants.{Run, Ready, Generate, Trace, Wake, Copy, Unframe}
+use Rattle.session_core.specs.declared.command.Command.TheVariants.{Run, Ready, Generate, Trace, Wake, Copy, Unframe, Relay}
 use Rattle.session_core.specs.Command.{IsRun, IsReady, IsWake, IsGenerate, IsTrace, IsCopy}
 use Rattle.session_core.specs.Command.{IsCopyOf, IsCapacity, IsNoCommand, IsUnframe, ReadsUpTo}
 use Rattle.session_core.specs.Command.{KeepsNothing, ReadsCommand, ReadsNothing}
+use Rattle.session_core.proofs.RelayWords.{not-trace-relay, three-no-relay}
 use Rattle.event_text.specs.TextReads.{number_of, bytes_of}
 use Rattle.event_text.specs.TextWords.{bytes_word}
 use Rattle.event_text.proofs.TextHex.{bytes_of-Some, bytes_of-bytes_word}
@@ -52,7 +53,7 @@ upto-unread most word small reads = λ number within is.
     (let never : ◌≡◌ {A = Option ℕ} None (Some number) = sym reads ∙ ap number_of is ∙ number_of-decimal number (omega arith) in cc)
 
 -- A number has one text.
-same-number : (a b : ℕ) → a < 2 ^ 64 → b < 2 ^ 64 → decimal a ≡ decimal b → a ≡ b
+pub same-number : (a b : ℕ) → a < 2 ^ 64 → b < 2 ^ 64 → decimal a ≡ decimal b → a ≡ b
 same-number a b small_a small_b texts =
     let low : Some a ≡ Some b = sym (number_of-decimal a small_a) ∙ ap number_of texts ∙ number_of-decimal b small_b in
     cc
@@ -107,6 +108,7 @@ copy-or-none first second none = record {
   no_wake = λ senders count is. copy-isnt-wake (wake-name (codes "copy") first second senders count is);
   no_copy = none;
   no_unframe = many-no-unframe (codes "copy") first (second ∷ []);
+  no_relay = three-no-relay (codes "copy") first second;
 }
 
 -- Words of `copy` whose capacity is 0 are no command's.
@@ -223,6 +225,7 @@ trace-alone words seed rounds (Copy c word) is reads =
 trace-alone words seed rounds Unframe is reads =
     (let all : codes "gen" ∷ decimal seed ∷ decimal rounds ∷ codes "--events" ∷ [] ≡ codes "unframe" ∷ [] =
     sym is.words_are ∙ reads in absurd (cc))
+trace-alone words seed rounds (Relay plan) is reads = absurd (not-trace-relay words seed rounds plan is reads)
 
 -- Nor are those of `copy`.
 pub not-copy-trace : (words : List (List ℕ)) (seed rounds capacity : ℕ) (prefix : List ℕ) → IsTrace words seed rounds →
@@ -336,6 +339,7 @@ reads-nothing words (Trace s r) senders count reads wake = tt
 reads-nothing words (Wake s c) senders count reads wake = tt
 reads-nothing words (Copy c word) senders count reads wake = absurd (not-wake-copy words senders count c reads.prefix wake reads.is_copy)
 reads-nothing words Unframe senders count reads wake = absurd (not-wake-unframe words senders count wake reads)
+reads-nothing words (Relay plan) senders count reads wake = tt
 
 -- Nor does one that `gen` asks for.
 pub generate-nothing : (words : List (List ℕ)) (command : Command) (seed rounds : ℕ) → ReadsCommand words (Some command) →
@@ -347,6 +351,7 @@ generate-nothing words (Trace s c) seed rounds reads gen = tt
 generate-nothing words (Wake s c) seed rounds reads gen = tt
 generate-nothing words (Copy c word) seed rounds reads gen = absurd (not-generate-copy words seed rounds c reads.prefix gen reads.is_copy)
 generate-nothing words Unframe seed rounds reads gen = absurd (not-generate-unframe words seed rounds gen reads)
+generate-nothing words (Relay plan) seed rounds reads gen = tt
 
 -- A command that `wake` asks for keeps nothing.
 pub wake-keeps : (words : List (List ℕ)) (command : Command) (senders count : ℕ) → ReadsCommand words (Some command) →
@@ -358,6 +363,7 @@ wake-keeps words (Trace s r) senders count reads wake = tt
 wake-keeps words (Wake s c) senders count reads wake = tt
 wake-keeps words (Copy c word) senders count reads wake = tt
 wake-keeps words Unframe senders count reads wake = tt
+wake-keeps words (Relay plan) senders count reads wake = tt
 
 -- Nor does one that `copy` asks for.
 pub copy-keeps : (words : List (List ℕ)) (command : Command) (capacity : ℕ) (prefix : List ℕ) → ReadsCommand words (Some command) →
@@ -369,6 +375,7 @@ copy-keeps words (Trace s r) capacity prefix reads copy = tt
 copy-keeps words (Wake s c) capacity prefix reads copy = tt
 copy-keeps words (Copy c word) capacity prefix reads copy = tt
 copy-keeps words Unframe capacity prefix reads copy = tt
+copy-keeps words (Relay plan) capacity prefix reads copy = tt
 
 -- Nor does one that `unframe` asks for.
 pub unframe-keeps : (words : List (List ℕ)) (command : Command) → ReadsCommand words (Some command) → IsUnframe words →
@@ -380,6 +387,7 @@ unframe-keeps words (Trace s r) reads unframe = tt
 unframe-keeps words (Wake s c) reads unframe = tt
 unframe-keeps words (Copy c word) reads unframe = tt
 unframe-keeps words Unframe reads unframe = tt
+unframe-keeps words (Relay plan) reads unframe = tt
 
 -- A command that writes generated events reads nothing, and keeps nothing.
 pub trace-nothing : (words : List (List ℕ)) (command : Command) (seed rounds : ℕ) → ReadsCommand words (Some command) →
@@ -391,3 +399,4 @@ trace-nothing words (Trace s r) seed rounds reads is = (tt, tt)
 trace-nothing words (Wake s c) seed rounds reads is = absurd (trace-alone words seed rounds (Wake s c) is reads)
 trace-nothing words (Copy c word) seed rounds reads is = absurd (trace-alone words seed rounds (Copy c word) is reads)
 trace-nothing words Unframe seed rounds reads is = absurd (trace-alone words seed rounds Unframe is reads)
+trace-nothing words (Relay plan) seed rounds reads is = (tt, tt)

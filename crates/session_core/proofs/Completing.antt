@@ -9,7 +9,7 @@ use Rattle.session_core.specs.declared.input.TheConstants.{MOST_INPUT}
 use Rattle.session_core.specs.declared.top.Kept.{Kept}
 use Rattle.session_core.specs.declared.top.Status.{Status}
 use Rattle.session_core.specs.declared.top.Status.TheVariants.{Done, BadWords, BadLine, TooLong}
-use Rattle.session_core.specs.declared.top.Status.TheVariants.{ReadFault, WriteFault, OutOfMemory, BadFrame}
+use Rattle.session_core.specs.declared.top.Status.TheVariants.{ReadFault, WriteFault, OutOfMemory, NetFault, BadFrame}
 use Rattle.event_text.specs.TextLines.{lines, AreEventsFor, IsFirstWrongFor}
 use Rattle.session_core.specs.Command.{IsNoCommand, ReadsCommand}
 use Rattle.session_core.specs.Generated.{generated_events}
@@ -54,6 +54,7 @@ run-complete driver ts tk L source sink keeps TooLong told right calm ends =
 run-complete driver ts tk L source sink keeps ReadFault told right calm ends = absurd (calm.read ends.0)
 run-complete driver ts tk L source sink keeps WriteFault told right calm ends = absurd (calm.wrote ends.0)
 run-complete driver ts tk L source sink keeps OutOfMemory told right calm ends = inr refl
+run-complete driver ts tk L source sink keeps NetFault told right calm ends = absurd ends
 run-complete driver ts tk L source sink keeps BadFrame told right calm ends = absurd ends
 
 -- A generated run, where nothing fails.
@@ -66,6 +67,7 @@ sum-complete ts tk events source sink kept TooLong calm ends caused = absurd end
 sum-complete ts tk events source sink kept ReadFault calm ends caused = absurd ends
 sum-complete ts tk events source sink kept WriteFault calm ends caused = absurd (calm.wrote caused)
 sum-complete ts tk events source sink kept OutOfMemory calm ends caused = inr refl
+sum-complete ts tk events source sink kept NetFault calm ends caused = absurd ends
 sum-complete ts tk events source sink kept BadFrame calm ends caused = absurd ends
 
 -- Generated events that are written, where nothing fails.
@@ -78,6 +80,7 @@ trace-complete ts tk events source sink TooLong calm ends caused = absurd ends
 trace-complete ts tk events source sink ReadFault calm ends caused = absurd ends
 trace-complete ts tk events source sink WriteFault calm ends caused = absurd (calm.wrote caused)
 trace-complete ts tk events source sink OutOfMemory calm ends caused = inr refl
+trace-complete ts tk events source sink NetFault calm ends caused = absurd ends
 trace-complete ts tk events source sink BadFrame calm ends caused = absurd ends
 
 -- Wakers that are sent, where nothing fails.
@@ -90,6 +93,7 @@ wake-complete ts tk total source sink TooLong calm ends caused = absurd ends
 wake-complete ts tk total source sink ReadFault calm ends caused = absurd ends
 wake-complete ts tk total source sink WriteFault calm ends caused = absurd (calm.wrote caused)
 wake-complete ts tk total source sink OutOfMemory calm ends caused = inr refl
+wake-complete ts tk total source sink NetFault calm ends caused = absurd ends
 wake-complete ts tk total source sink BadFrame calm ends caused = absurd ends
 
 -- A copy of bytes that aren't too many, where nothing fails.
@@ -102,6 +106,7 @@ copy-complete ts tk prefix source sink TooLong told few calm ends = absurd (few-
 copy-complete ts tk prefix source sink ReadFault told few calm ends = absurd (calm.read ends.0)
 copy-complete ts tk prefix source sink WriteFault told few calm ends = absurd (calm.wrote ends.0)
 copy-complete ts tk prefix source sink OutOfMemory told few calm ends = inr refl
+copy-complete ts tk prefix source sink NetFault told few calm ends = absurd ends
 copy-complete ts tk prefix source sink BadFrame told few calm ends = absurd ends
 
 -- Any command, whose input is one that it takes.

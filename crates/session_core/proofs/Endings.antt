@@ -4,18 +4,19 @@ use Rattle.std.specs.Prelude.{Result, Ok, Err}
 use Rattle.ring_core.specs.declared.ledger.Event.{Event}
 use Rattle.ring_core.specs.Ledger.{Ledger}
 use Rattle.session_core.specs.declared.command.Command.{Command}
-use Rattle.session_core.specs.declared.command.Command.TheVariants.{Run, Ready, Generate, Trace, Wake, Copy, Unframe}
+use Rattle.session_core.specs.declared.command.Command.TheVariants.{Run, Ready, Generate, Trace, Wake, Copy, Unframe, Relay}
 use Rattle.session_core.specs.declared.input.NoEvents.{NoEvents}
 use Rattle.session_core.specs.declared.top.Kept.{Kept}
 use Rattle.session_core.specs.declared.top.Status.{Status}
 use Rattle.session_core.specs.declared.top.Status.TheVariants.{Done, BadWords, BadLine, TooLong}
-use Rattle.session_core.specs.declared.top.Status.TheVariants.{ReadFault, WriteFault, OutOfMemory, BadFrame}
+use Rattle.session_core.specs.declared.top.Status.TheVariants.{ReadFault, WriteFault, OutOfMemory, NetFault, BadFrame}
 use Rattle.session_core.specs.Command.{IsRun, IsReady, IsGenerate, IsTrace, IsWake, IsCopy, IsUnframe, ReadsCommand}
 use Rattle.session_core.specs.DriverKind.{DriverKind, completion, readiness, after_on, replies_on}
 use Rattle.session_core.specs.Generated.{generated_events}
 use Rattle.session_core.specs.Top.{SumsFor, WakesFor, WasRead, IsBadLine, all_right, of_replies, of_bad_line, bad_line_text}
 use Rattle.session_core.specs.Top.{reply_lines}
 use Rattle.session_core.specs.Reads.{WhyNoEvents}
+use Rattle.session_core.specs.Relays.{RelaysFor}
 use Rattle.session_core.specs.Trace.{TracesFor}
 use Rattle.session_core.specs.Writes.{RefusesFor, WritesLine}
 use Rattle.session_core.specs.Ends.{Reading, Writing, RunEnds, ReadyEnds, EventsEnd, EventsGive, RunsEvents, RunsGive, CommandEnds}
@@ -26,6 +27,7 @@ use Rattle.session_core.proofs.Commands.{not-copy-trace, trace-alone}
 use Rattle.session_core.proofs.Commands.{not-run-ready, not-generate-ready, not-wake-ready, not-copy-ready}
 use Rattle.session_core.proofs.Commands.{not-run-unframe, not-ready-unframe, not-generate-unframe, not-wake-unframe, not-copy-unframe}
 use Rattle.session_core.proofs.Reading.{few-read}
+use Rattle.session_core.proofs.RelayWords.{not-copy-relay, not-generate-relay, not-ready-relay, not-run-relay, not-wake-relay}
 
 -- What running the events of an input has done is what the command has done.
 pub ends-run : (driver : DriverKind) (ts tk : Bool) (L : Ledger) (source : Reading) (sink : Writing) (keeps : Ledger → Type 0)
@@ -48,6 +50,7 @@ ends-run driver ts tk L source sink keeps events OutOfMemory read calm runs = (
   },
   inr (record { text = reply_lines (replies_on driver L events); may = of_replies events read; prefix = λ told. (runs told).prefix }),
 )
+ends-run driver ts tk L source sink keeps events NetFault read calm runs = absurd runs
 ends-run driver ts tk L source sink keeps events BadFrame read calm runs = absurd runs
 
 -- So is what writing the number of a wrong line has done.
@@ -62,6 +65,7 @@ ends-line driver ts tk L source sink keeps line ReadFault bad writes = absurd wr
 ends-line driver ts tk L source sink keeps line WriteFault bad writes =
     (writes.0, record { text = bad_line_text line; may = of_bad_line line bad; prefix = writes.1 })
 ends-line driver ts tk L source sink keeps line OutOfMemory bad writes = absurd writes
+ends-line driver ts tk L source sink keeps line NetFault bad writes = absurd writes
 ends-line driver ts tk L source sink keeps line BadFrame bad writes = absurd writes
 
 -- So is what refusing it has done.
@@ -113,6 +117,7 @@ ends-kept driver ts tk L source sink keeps then TooLong more ends = ends
 ends-kept driver ts tk L source sink keeps then ReadFault more ends = ends
 ends-kept driver ts tk L source sink keeps then WriteFault more ends = ends
 ends-kept driver ts tk L source sink keeps then OutOfMemory more ends = ends
+ends-kept driver ts tk L source sink keeps then NetFault more ends = ends
 ends-kept driver ts tk L source sink keeps then BadFrame more ends = ends
 
 -- What a command that runs events has done is what every command has done.
@@ -125,6 +130,7 @@ ends-status driver ts tk L source sink keeps TooLong ends = ends.0
 ends-status driver ts tk L source sink keeps ReadFault ends = ends.0
 ends-status driver ts tk L source sink keeps WriteFault ends = ends.0
 ends-status driver ts tk L source sink keeps OutOfMemory ends = record { few = ends.0.few; calm = ends.0.calm }
+ends-status driver ts tk L source sink keeps NetFault ends = absurd ends
 ends-status driver ts tk L source sink keeps BadFrame ends = absurd ends
 
 -- What a command has done where its words are those of `run`.
@@ -142,6 +148,7 @@ run-ends ts tk words (Wake s c) capacity source sink kept status reads run ends 
 run-ends ts tk words (Copy c word) capacity source sink kept status reads run ends =
     absurd (not-run-copy words capacity c reads.prefix run reads.is_copy)
 run-ends ts tk words Unframe capacity source sink kept status reads run ends = absurd (not-run-unframe words capacity run reads)
+run-ends ts tk words (Relay plan) capacity source sink kept status reads run ends = absurd (not-run-relay words capacity plan run reads)
 
 -- The same of `ready`.
 pub ready-ends : (ts tk : Bool) (words : List (List ℕ)) (command : Command) (capacity : ℕ) (source : Reading) (sink : Writing)
@@ -157,6 +164,7 @@ ready-ends ts tk words (Wake s c) capacity source sink kept status reads ready e
 ready-ends ts tk words (Copy c word) capacity source sink kept status reads ready ends =
     absurd (not-copy-ready words c reads.prefix reads.is_copy ready)
 ready-ends ts tk words Unframe capacity source sink kept status reads ready ends = absurd (not-ready-unframe words ready reads)
+ready-ends ts tk words (Relay plan) capacity source sink kept status reads ready ends = absurd (not-ready-relay words plan ready reads)
 
 -- The same of `gen`.
 pub sum-ends : (ts tk : Bool) (words : List (List ℕ)) (command : Command) (seed rounds : ℕ) (source : Reading) (sink : Writing)
@@ -177,6 +185,8 @@ sum-ends ts tk words (Copy c word) seed rounds source sink kept status reads gen
     absurd (not-generate-copy words seed rounds c reads.prefix gen reads.is_copy)
 sum-ends ts tk words Unframe seed rounds source sink kept status reads gen ends =
     absurd (not-generate-unframe words seed rounds gen reads)
+sum-ends ts tk words (Relay plan) seed rounds source sink kept status reads gen ends =
+    absurd (not-generate-relay words seed rounds plan gen reads)
 
 -- The same of `wake`.
 pub wake-ends : (ts tk : Bool) (words : List (List ℕ)) (command : Command) (senders count : ℕ) (source : Reading) (sink : Writing)
@@ -197,6 +207,8 @@ wake-ends ts tk words (Copy c word) senders count source sink kept status reads 
     absurd (not-wake-copy words senders count c reads.prefix wake reads.is_copy)
 wake-ends ts tk words Unframe senders count source sink kept status reads wake ends =
     absurd (not-wake-unframe words senders count wake reads)
+wake-ends ts tk words (Relay plan) senders count source sink kept status reads wake ends =
+    absurd (not-wake-relay words senders count plan wake reads)
 
 -- The same of `copy`.
 pub copy-ends : (ts tk : Bool) (words : List (List ℕ)) (command : Command) (capacity : ℕ) (prefix : List ℕ) (source : Reading)
@@ -217,6 +229,8 @@ copy-ends ts tk words (Copy c word) capacity prefix source sink kept status read
     ends prefix (same-prefix words c capacity word.now prefix reads copy)
 copy-ends ts tk words Unframe capacity prefix source sink kept status reads copy ends =
     absurd (not-copy-unframe words capacity prefix copy reads)
+copy-ends ts tk words (Relay plan) capacity prefix source sink kept status reads copy ends =
+    absurd (not-copy-relay words capacity prefix plan copy reads)
 
 -- The same of `gen SEED COUNT --events`.
 pub trace-ends : (ts tk : Bool) (words : List (List ℕ)) (command : Command) (seed rounds : ℕ) (source : Reading) (sink : Writing)
@@ -236,6 +250,8 @@ trace-ends ts tk words (Wake s c) seed rounds source sink kept status reads is e
 trace-ends ts tk words (Copy c word) seed rounds source sink kept status reads is ends =
     absurd (trace-alone words seed rounds (Copy c word) is reads)
 trace-ends ts tk words Unframe seed rounds source sink kept status reads is ends = absurd (trace-alone words seed rounds Unframe is reads)
+trace-ends ts tk words (Relay plan) seed rounds source sink kept status reads is ends =
+    absurd (trace-alone words seed rounds (Relay plan) is reads)
 
 -- A command other than `copy` and `unframe` has written nothing, where too many bytes were read or a read failed.
 pub written-late : (ts tk : Bool) (words : List (List ℕ)) (command : Command) (source : Reading) (sink : Writing) (kept : Option Kept)
@@ -265,6 +281,10 @@ written-late ts tk words (Wake s c) source sink kept status reads ends other las
     absurd (subst (λ x. WakesFor tk (s * c) sink.taken sink.now x) is ends)
 written-late ts tk words (Copy c word) source sink kept status reads ends other last why = absurd (other c reads.prefix reads.is_copy)
 written-late ts tk words Unframe source sink kept status reads ends other last why = absurd (last reads)
+written-late ts tk words (Relay plan) source sink kept status reads ends other last (inl is) =
+    absurd (subst (λ x. RelaysFor tk plan.rounds sink x) is ends)
+written-late ts tk words (Relay plan) source sink kept status reads ends other last (inr is) =
+    absurd (subst (λ x. RelaysFor tk plan.rounds sink x) is ends)
 
 -- A line is wrong only for a command that runs events.
 line-ends : (ts tk : Bool) (words : List (List ℕ)) (command : Command) (source : Reading) (sink : Writing) (kept : Option Kept) →
@@ -277,6 +297,7 @@ line-ends ts tk words (Trace s r) source sink kept reads ends = absurd ends
 line-ends ts tk words (Wake s c) source sink kept reads ends = absurd ends
 line-ends ts tk words (Copy c word) source sink kept reads ends = absurd (ends reads.prefix reads.writes)
 line-ends ts tk words Unframe source sink kept reads ends = absurd ends
+line-ends ts tk words (Relay plan) source sink kept reads ends = absurd ends
 
 -- So it is where the status says so.
 pub line-refused : (ts tk : Bool) (words : List (List ℕ)) (command : Command) (source : Reading) (sink : Writing) (kept : Option Kept)

@@ -1,12 +1,12 @@
 -- What `unframe` has done, by its words and its status.
 use Rattle.std.proofs.Common.{◌≡◌, ◌≤◌, inl, inr, refl, subst, Bool, IsTrue, ℕ, List, Option, Some, length}
 use Rattle.session_core.specs.declared.command.Command.{Command}
-use Rattle.session_core.specs.declared.command.Command.TheVariants.{Run, Ready, Generate, Trace, Wake, Copy, Unframe}
+use Rattle.session_core.specs.declared.command.Command.TheVariants.{Run, Ready, Generate, Trace, Wake, Copy, Unframe, Relay}
 use Rattle.session_core.specs.declared.input.TheConstants.{MOST_INPUT}
 use Rattle.session_core.specs.declared.top.Kept.{Kept}
 use Rattle.session_core.specs.declared.top.Status.{Status}
 use Rattle.session_core.specs.declared.top.Status.TheVariants.{Done, BadWords, BadLine, TooLong}
-use Rattle.session_core.specs.declared.top.Status.TheVariants.{ReadFault, WriteFault, OutOfMemory, BadFrame}
+use Rattle.session_core.specs.declared.top.Status.TheVariants.{ReadFault, WriteFault, OutOfMemory, NetFault, BadFrame}
 use Rattle.session_core.specs.Command.{IsUnframe, ReadsCommand, ReadsNothing}
 use Rattle.session_core.specs.Complete.{IsReadOrShort, NoneRose}
 use Rattle.session_core.specs.DriverKind.{completion, readiness}
@@ -16,6 +16,7 @@ use Rattle.session_core.proofs.Commands.{not-run-unframe, not-ready-unframe, not
 use Rattle.session_core.proofs.Commands.{trace-alone}
 use Rattle.session_core.proofs.Completing.{few-taken}
 use Rattle.session_core.proofs.Reading.{never-wrong}
+use Rattle.session_core.proofs.RelayWords.{not-unframe-relay}
 
 -- What a command has done where its words are those of `unframe`.
 pub unframe-ends : (ts tk : Bool) (words : List (List ℕ)) (command : Command) (source : Reading) (sink : Writing) (kept : Option Kept)
@@ -30,6 +31,7 @@ unframe-ends ts tk words (Wake s c) source sink kept status reads unframe ends =
 unframe-ends ts tk words (Copy c word) source sink kept status reads unframe ends =
     absurd (not-copy-unframe words c reads.prefix reads.is_copy unframe)
 unframe-ends ts tk words Unframe source sink kept status reads unframe ends = ends
+unframe-ends ts tk words (Relay plan) source sink kept status reads unframe ends = absurd (not-unframe-relay words plan unframe reads)
 
 -- What `unframe` has done is what every command has done.
 pub unframe-status : (ts tk : Bool) (source : Reading) (sink : Writing) (status : Status) → UnframesFor ts tk source sink status →
@@ -46,6 +48,7 @@ unframe-status ts tk source sink OutOfMemory ends = record {
       record { count = few.0; few = few.1; taken = few.2.taken };
   calm = record { read = ends.0.read; wrote = ends.0.wrote };
 }
+unframe-status ts tk source sink NetFault ends = tt
 unframe-status ts tk source sink BadFrame ends = tt
 
 -- Bytes that aren't too many, where nothing fails.
@@ -58,6 +61,7 @@ unframe-complete ts tk source sink TooLong told few calm ends = absurd (few-take
 unframe-complete ts tk source sink ReadFault told few calm ends = absurd (calm.read ends.0)
 unframe-complete ts tk source sink WriteFault told few calm ends = absurd (calm.wrote ends.0)
 unframe-complete ts tk source sink OutOfMemory told few calm ends = inr (inr refl)
+unframe-complete ts tk source sink NetFault told few calm ends = absurd ends
 unframe-complete ts tk source sink BadFrame told few calm ends = inr (inl refl)
 
 -- A wrong piece is found only by `unframe`.
@@ -70,6 +74,7 @@ frame-ends ts tk words (Trace s r) source sink kept reads ends = absurd ends
 frame-ends ts tk words (Wake s c) source sink kept reads ends = absurd ends
 frame-ends ts tk words (Copy c word) source sink kept reads ends = absurd (ends reads.prefix reads.writes)
 frame-ends ts tk words Unframe source sink kept reads ends = reads
+frame-ends ts tk words (Relay plan) source sink kept reads ends = absurd ends
 
 -- So it is where the status says so.
 pub frame-refused : (ts tk : Bool) (words : List (List ℕ)) (command : Command) (source : Reading) (sink : Writing) (kept : Option Kept)
@@ -98,6 +103,8 @@ short-ends ts tk words (Wake s c) source sink kept reads ends low none other =
 short-ends ts tk words (Copy c word) source sink kept reads ends low none other =
     record { few = low.few; lines = λ told. unread (ends reads.prefix reads.writes).unread; calm = low.calm }
 short-ends ts tk words Unframe source sink kept reads ends low none other = absurd (other reads)
+short-ends ts tk words (Relay plan) source sink kept reads ends low none other =
+    record { few = low.few; lines = λ told. unread (none tt); calm = low.calm }
 
 -- So it is where the status says so.
 pub ran-short-of : (ts tk : Bool) (words : List (List ℕ)) (command : Command) (source : Reading) (sink : Writing) (kept : Option Kept)

@@ -1,5 +1,6 @@
 pub mod Driven
 pub mod Commands
+mod RelayWords
 mod KeptGroups
 mod Refusals
 mod Submitting
@@ -18,3 +19,4 @@ mod Completing
 mod Framing
 mod Stopping
 mod Tracing
+mod Relaying

@@ -5,11 +5,11 @@ use Rattle.ring_core.specs.declared.ledger.Event.{Event}
 use Rattle.ring_core.specs.Ledger.{Ledger, empty}
 use Rattle.rent_io.specs.Call.{Reading, Writing}
 use Rattle.session_core.specs.declared.command.Command.{Command}
-use Rattle.session_core.specs.declared.command.Command.TheVariants.{Run, Ready, Generate, Trace, Wake, Copy, Unframe}
+use Rattle.session_core.specs.declared.command.Command.TheVariants.{Run, Ready, Generate, Trace, Wake, Copy, Unframe, Relay}
 use Rattle.session_core.specs.declared.input.NoEvents.{NoEvents}
 use Rattle.session_core.specs.declared.top.Status.{Status}
 use Rattle.session_core.specs.declared.top.Status.TheVariants.{Done, BadWords, BadLine, TooLong}
-use Rattle.session_core.specs.declared.top.Status.TheVariants.{ReadFault, WriteFault, OutOfMemory, BadFrame}
+use Rattle.session_core.specs.declared.top.Status.TheVariants.{ReadFault, WriteFault, OutOfMemory, NetFault, BadFrame}
 use Rattle.session_core.specs.declared.top.Stop.{Stop}
 use Rattle.session_core.specs.Command.{IsRun, IsReady, ReadsCommand}
 use Rattle.session_core.specs.DriverKind.{DriverKind, completion, readiness}
@@ -19,6 +19,7 @@ use Rattle.session_core.specs.Top.{WasRead}
 use Rattle.session_core.specs.Writes.{RefusesFor}
 use Rattle.session_core.proofs.Commands.{same-capacity, not-both, not-run-generate, not-run-copy, not-run-ready, not-generate-ready}
 use Rattle.session_core.proofs.Commands.{not-wake-ready, not-copy-ready, not-run-unframe, not-ready-unframe, trace-alone}
+use Rattle.session_core.proofs.RelayWords.{not-ready-relay, not-run-relay}
 
 -- Where no bytes were given, no line was looked at.
 pub unread-stops : (driver : DriverKind) (tells : Bool) (left rest : List ℕ) (faults later : ℕ) (stop : Option Stop) (why : NoEvents) →
@@ -39,6 +40,7 @@ refused-stops driver ts tk L source sink stop (NoEvents.BadLine n) TooLong names
 refused-stops driver ts tk L source sink stop (NoEvents.BadLine n) ReadFault names refuses = absurd refuses
 refused-stops driver ts tk L source sink stop (NoEvents.BadLine n) WriteFault names refuses = inr names
 refused-stops driver ts tk L source sink stop (NoEvents.BadLine n) OutOfMemory names refuses = absurd refuses
+refused-stops driver ts tk L source sink stop (NoEvents.BadLine n) NetFault names refuses = absurd refuses
 refused-stops driver ts tk L source sink stop (NoEvents.BadLine n) BadFrame names refuses = absurd refuses
 refused-stops driver ts tk L source sink stop NoEvents.TooLong status names refuses =
     subst (λ s. EventsStop driver ts tk L source sink stop s) (sym refuses.0) names
@@ -61,6 +63,7 @@ given-stops driver ts tk L source sink stop events (Err ReadFault) read stops = 
 given-stops driver ts tk L source sink stop events (Err WriteFault) read stops = inl stops
 given-stops driver ts tk L source sink stop events (Err OutOfMemory) read stops =
     inr (record { events = events; read = read; named = stops })
+given-stops driver ts tk L source sink stop events (Err NetFault) read stops = absurd stops
 given-stops driver ts tk L source sink stop events (Err BadFrame) read stops = absurd stops
 
 -- What a command names where its words are those of `run`.
@@ -77,6 +80,8 @@ run-stops ts tk words (Wake s c) capacity source sink stop status reads run stop
 run-stops ts tk words (Copy c word) capacity source sink stop status reads run stops =
     absurd (not-run-copy words capacity c reads.prefix run reads.is_copy)
 run-stops ts tk words Unframe capacity source sink stop status reads run stops = absurd (not-run-unframe words capacity run reads)
+run-stops ts tk words (Relay plan) capacity source sink stop status reads run stops =
+    absurd (not-run-relay words capacity plan run reads)
 
 -- The same of `ready`.
 pub ready-stops : (ts tk : Bool) (words : List (List ℕ)) (command : Command) (capacity : ℕ) (source : Reading) (sink : Writing)
@@ -91,6 +96,8 @@ ready-stops ts tk words (Wake s c) capacity source sink stop status reads ready 
 ready-stops ts tk words (Copy c word) capacity source sink stop status reads ready stops =
     absurd (not-copy-ready words c reads.prefix reads.is_copy ready)
 ready-stops ts tk words Unframe capacity source sink stop status reads ready stops = absurd (not-ready-unframe words ready reads)
+ready-stops ts tk words (Relay plan) capacity source sink stop status reads ready stops =
+    absurd (not-ready-relay words plan ready reads)
 
 -- A command of other words names no line.
 pub none-stops : (ts tk : Bool) (words : List (List ℕ)) (command : Command) (source : Reading) (sink : Writing) (stop : Option Stop)
@@ -103,3 +110,4 @@ none-stops ts tk words (Trace s r) source sink stop status reads no_run no_ready
 none-stops ts tk words (Wake s c) source sink stop status reads no_run no_ready stops = stops
 none-stops ts tk words (Copy c word) source sink stop status reads no_run no_ready stops = stops
 none-stops ts tk words Unframe source sink stop status reads no_run no_ready stops = stops
+none-stops ts tk words (Relay plan) source sink stop status reads no_run no_ready stops = stops

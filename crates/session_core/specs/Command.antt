@@ -1,8 +1,11 @@
 -- What the words of the command line ask for.
 use Rattle.std.specs.Prelude.{ℕ, ◌≡◌, ◌≤◌, List, [], ◌∷◌, Option, Some, None, IsSome, ⊤, codes, decimal}
-use Rattle.session_core.specs.declared.command.TheConstants.{MOST_CAPACITY, MOST_COUNT, MOST_ENTRIES, MOST_ROUNDS, MOST_SEED, MOST_SENDERS}
+use Rattle.session_core.specs.declared.command.TheConstants.{MOST_CAPACITY, MOST_COUNT, MOST_ENTRIES, MOST_PORT, MOST_ROUNDS, MOST_SEED}
+use Rattle.session_core.specs.declared.command.TheConstants.{MOST_SENDERS}
 use Rattle.session_core.specs.declared.command.Command.{Command}
-use Rattle.session_core.specs.declared.command.Command.TheVariants.{Run, Ready, Generate, Trace, Wake, Copy, Unframe}
+use Rattle.session_core.specs.declared.command.Command.TheVariants.{Run, Ready, Generate, Trace, Wake, Copy, Unframe, Relay}
+use Rattle.relay_run.specs.declared.plan.Plan.{Plan}
+use Rattle.relay_run.specs.declared.plan.TheConstants.{MOST_LIMIT, MOST_RELAY_ROUNDS}
 use Rattle.event_text.specs.TextWords.{AreBytes}
 use Rattle.event_text.specs.TextReads.{bytes_of}
 use Rattle.event_text.specs.TextWords.{bytes_word}
@@ -52,6 +55,26 @@ pub record IsCopy (words : List (List ℕ)) (capacity : ℕ) (prefix : List ℕ)
 abbrev pub IsUnframe : List (List ℕ) → Type 0
 IsUnframe words = words ≡ codes "unframe" ∷ []
 
+-- A port of a relay's other end, where it has one, is from 1 to 65535.
+abbrev pub IsPortIf : Option ℕ → Type 0
+IsPortIf None = ⊤
+IsPortIf (Some port) = (1 ≤ port) × (port ≤ MOST_PORT)
+
+-- The words of a relay: `echo PORT CONNECTIONS ROUNDS` where what comes goes back, else `relay PORT TO CONNECTIONS ROUNDS`.
+abbrev pub relay_words : Option ℕ → ℕ → ℕ → ℕ → List (List ℕ)
+relay_words None port limit rounds = codes "echo" ∷ decimal port ∷ decimal limit ∷ decimal rounds ∷ []
+relay_words (Some to) port limit rounds = codes "relay" ∷ decimal port ∷ decimal to ∷ decimal limit ∷ decimal rounds ∷ []
+
+-- The words are those of a relay, with ports from 1 to 65535, 1 to 64 connections, and at most 1000000 rounds.
+pub record IsRelay (words : List (List ℕ)) (plan : Plan) : Type 0 where
+  pub positive : 1 ≤ plan.port
+  pub port : plan.port ≤ MOST_PORT
+  pub to : IsPortIf plan.to
+  pub some : 1 ≤ plan.limit
+  pub few : plan.limit ≤ MOST_LIMIT
+  pub small : plan.rounds ≤ MOST_RELAY_ROUNDS
+  pub words_are : words ≡ relay_words plan.to plan.port plan.limit plan.rounds
+
 -- The words are no command's.
 pub record IsNoCommand (words : List (List ℕ)) : Type 0 where
   pub no_run : (capacity : ℕ) → IsRun words capacity → ⊥
@@ -61,6 +84,7 @@ pub record IsNoCommand (words : List (List ℕ)) : Type 0 where
   pub no_wake : (senders count : ℕ) → IsWake words senders count → ⊥
   pub no_copy : (capacity : ℕ) (prefix : List ℕ) → IsCopy words capacity prefix → ⊥
   pub no_unframe : IsUnframe words → ⊥
+  pub no_relay : (plan : Plan) → IsRelay words plan → ⊥
 
 -- The word is a capacity.
 pub record IsCapacity (word : List ℕ) (capacity : ℕ) : Type 0 where
@@ -78,6 +102,28 @@ ReadsCapacity word (Some _) = ⊥
 abbrev pub ReadsUpTo : ℕ → List ℕ → Option ℕ → Type 0
 ReadsUpTo most word None = (number : ℕ) → number ≤ most → word ≡ decimal number → ⊥
 ReadsUpTo most word (Some number) = (number ≤ most) × (word ≡ decimal number)
+
+-- The number of a word, from 1 to this one: none exactly when it is no such number.
+abbrev pub ReadsFromOne : ℕ → List ℕ → Option ℕ → Type 0
+ReadsFromOne most word None = (number : ℕ) → 1 ≤ number → number ≤ most → word ≡ decimal number → ⊥
+ReadsFromOne most word (Some number) = (1 ≤ number) × (number ≤ most) × (word ≡ decimal number)
+
+-- The words are the port of a relay with this other end, how many connections may be open, and how many rounds it makes.
+pub record ArePlan (to : Option ℕ) (first second third : List ℕ) (plan : Plan) : Type 0 where
+  pub positive : 1 ≤ plan.port
+  pub port : plan.port ≤ MOST_PORT
+  pub some : 1 ≤ plan.limit
+  pub few : plan.limit ≤ MOST_LIMIT
+  pub small : plan.rounds ≤ MOST_RELAY_ROUNDS
+  pub to_is : plan.to ≡ to
+  pub first_is : first ≡ decimal plan.port
+  pub second_is : second ≡ decimal plan.limit
+  pub third_is : third ≡ decimal plan.rounds
+
+-- The plan of these words: none exactly when they are no such numbers.
+abbrev pub ReadsPlan : Option ℕ → List ℕ → List ℕ → List ℕ → Option Plan → Type 0
+ReadsPlan to first second third None = (plan : Plan) → ArePlan to first second third plan → ⊥
+ReadsPlan to first second third (Some plan) = ArePlan to first second third plan
 
 -- The words are how many senders there are, and how many wakers each sends.
 pub record AreCounts (first second : List ℕ) (senders count : ℕ) : Type 0 where
@@ -121,6 +167,7 @@ ReadsCommand words (Some (Trace seed rounds)) = IsTrace words seed rounds
 ReadsCommand words (Some (Wake senders count)) = IsWake words senders count
 ReadsCommand words (Some (Copy capacity word)) = IsCopyOf words capacity word.now
 ReadsCommand words (Some Unframe) = IsUnframe words
+ReadsCommand words (Some (Relay plan)) = IsRelay words plan
 
 -- The numbers of a command are within its bounds, and the word of a prefix writes one.
 abbrev pub IsWithin : Command → Type 0
@@ -131,6 +178,7 @@ IsWithin (Trace seed rounds) = rounds ≤ MOST_ROUNDS
 IsWithin (Wake senders count) = senders ≤ MOST_SENDERS
 IsWithin (Copy capacity word) = IsSome (bytes_of word.now)
 IsWithin Unframe = ⊤
+IsWithin (Relay plan) = (plan.limit ≤ MOST_LIMIT) × (plan.rounds ≤ MOST_RELAY_ROUNDS)
 
 -- The command reads no input.
 abbrev pub ReadsNothing : Command → Type 0
@@ -141,6 +189,7 @@ ReadsNothing (Trace seed rounds) = ⊤
 ReadsNothing (Wake senders count) = ⊤
 ReadsNothing (Copy capacity word) = ⊥
 ReadsNothing Unframe = ⊥
+ReadsNothing (Relay plan) = ⊤
 
 -- The command keeps nothing.
 abbrev pub KeepsNothing : Command → Type 0
@@ -151,3 +200,9 @@ KeepsNothing (Trace seed rounds) = ⊤
 KeepsNothing (Wake senders count) = ⊤
 KeepsNothing (Copy capacity word) = ⊤
 KeepsNothing Unframe = ⊤
+KeepsNothing (Relay plan) = ⊤
+
+-- The command doesn't use the object that listens and dials.
+abbrev pub UsesNoNet : Command → Type 0
+UsesNoNet (Relay plan) = ⊥
+UsesNoNet _ = ⊤

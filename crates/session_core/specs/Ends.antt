@@ -12,17 +12,19 @@ use Rattle.frame_run.specs.declared.unframing.Unframed.{Unframed}
 use Rattle.frame_run.specs.Unframing.{UnframeEnds}
 use Rattle.session_core.specs.declared.top.Status.{Status}
 use Rattle.session_core.specs.declared.top.Status.TheVariants.{Done, BadWords, BadLine, TooLong}
-use Rattle.session_core.specs.declared.top.Status.TheVariants.{ReadFault, WriteFault, OutOfMemory, BadFrame}
+use Rattle.session_core.specs.declared.top.Status.TheVariants.{ReadFault, WriteFault, OutOfMemory, NetFault, BadFrame}
 use Rattle.session_core.specs.declared.input.TheConstants.{MOST_INPUT}
 use Rattle.session_core.specs.declared.top.Kept.{Kept}
 use Rattle.session_core.specs.declared.command.Command.{Command}
-use Rattle.session_core.specs.declared.command.Command.TheVariants.{Run as RunOf, Ready as ReadyOf, Generate, Trace, Wake, Copy, Unframe}
+use Rattle.session_core.specs.declared.command.Command.TheVariants.{Run as RunOf, Ready as ReadyOf, Generate, Trace, Wake, Copy}
+use Rattle.session_core.specs.declared.command.Command.TheVariants.{Unframe, Relay}
 use Rattle.session_core.specs.Command.{RunsOn}
 use Rattle.session_core.specs.DriverKind.{DriverKind, completion, readiness, replies_on, after_on, KeepsRun, KeepsReady}
 use Rattle.session_core.specs.Generated.{generated_events}
 use Rattle.event_text.specs.TextReads.{bytes_of}
 use Rattle.session_core.specs.Top.{EventsDone, LineRefused, NoLineWrong, TookTooMany, WrotePrefix, WroteSome, SumsFor}
 use Rattle.session_core.specs.Top.{TookFew, WakesFor, reply_lines}
+use Rattle.session_core.specs.Relays.{RelaysFor}
 use Rattle.session_core.specs.Trace.{TracesFor}
 use Rattle.session_core.specs.Writes.{WroteShort}
 
@@ -65,6 +67,7 @@ EventsEnd driver tells_source tells_sink L source sink keeps WriteFault =
 EventsEnd driver tells_source tells_sink L source sink keeps OutOfMemory = RanShort driver tells_source tells_sink source sink
     × ((IsTrue tells_sink → sink.now ≡ sink.taken)
     ⊎ WroteSome driver tells_source tells_sink L source.left source.rest sink.taken sink.now)
+EventsEnd driver tells_source tells_sink L source sink keeps NetFault = ⊥
 EventsEnd driver tells_source tells_sink L source sink keeps BadFrame = ⊥
 
 -- What a run of events gives: the session behind them, which stands for the ledger that they lead to; or a status other than Done.
@@ -105,6 +108,7 @@ CopiesFor tells_source tells_sink prefix source sink WriteFault =
     CopyEnds tells_source tells_sink MOST_INPUT prefix source sink Ending.WriteFault
 CopiesFor tells_source tells_sink prefix source sink OutOfMemory =
     CopyEnds tells_source tells_sink MOST_INPUT prefix source sink Ending.OutOfMemory
+CopiesFor tells_source tells_sink prefix source sink NetFault = ⊥
 CopiesFor tells_source tells_sink prefix source sink BadFrame = ⊥
 
 -- What `unframe` has done, by the status: what was done with the messages of the input that ends so.
@@ -117,6 +121,7 @@ UnframesFor tells_source tells_sink source sink ReadFault = UnframeEnds tells_so
 UnframesFor tells_source tells_sink source sink WriteFault = UnframeEnds tells_source tells_sink MOST_INPUT source sink Unframed.WriteFault
 UnframesFor tells_source tells_sink source sink OutOfMemory =
     UnframeEnds tells_source tells_sink MOST_INPUT source sink Unframed.OutOfMemory
+UnframesFor tells_source tells_sink source sink NetFault = ⊥
 UnframesFor tells_source tells_sink source sink BadFrame = UnframeEnds tells_source tells_sink MOST_INPUT source sink Unframed.BadFrame
 
 -- What a command that reads nothing has done to a sink, by the status.
@@ -141,6 +146,7 @@ CommandEnds tells_source tells_sink (Wake senders count) source sink kept status
 CommandEnds tells_source tells_sink (Copy capacity word) source sink kept status =
     (prefix : List ℕ) → bytes_of word.now ≡ Some prefix → CopiesFor tells_source tells_sink prefix source sink status
 CommandEnds tells_source tells_sink Unframe source sink kept status = UnframesFor tells_source tells_sink source sink status
+CommandEnds tells_source tells_sink (Relay plan) source sink kept status = RelaysFor tells_sink plan.rounds sink status
 
 -- Memory ran out: no more was taken than the input may have, and no count of faults rose.
 pub record RanLow (tells_source tells_sink : Bool) (source : Reading) (sink : Writing) : Type 0 where
@@ -156,6 +162,7 @@ StatusFor tells_source tells_sink source sink TooLong = IsTrue tells_source → 
 StatusFor tells_source tells_sink source sink ReadFault = Rose source.faults source.later
 StatusFor tells_source tells_sink source sink WriteFault = Rose sink.faults sink.later
 StatusFor tells_source tells_sink source sink OutOfMemory = RanLow tells_source tells_sink source sink
+StatusFor tells_source tells_sink source sink NetFault = ⊤
 StatusFor tells_source tells_sink source sink BadFrame = ⊤
 
 -- A line is wrong for the command of these words, which reads events: its number was written, and nothing else.

@@ -11,3 +11,4 @@ pub mod Ends
 pub mod Complete
 pub mod Stops
 pub mod Trace
+pub mod Relays

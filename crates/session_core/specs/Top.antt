@@ -13,7 +13,7 @@ use Rattle.session_core.specs.declared.top.Kept.{Kept}
 use Rattle.session_core.specs.declared.top.Kept.TheVariants.{Run}
 use Rattle.session_core.specs.declared.top.Status.{Status}
 use Rattle.session_core.specs.declared.top.Status.TheVariants.{Done, BadWords, BadLine, TooLong}
-use Rattle.session_core.specs.declared.top.Status.TheVariants.{ReadFault, WriteFault, OutOfMemory, BadFrame}
+use Rattle.session_core.specs.declared.top.Status.TheVariants.{ReadFault, WriteFault, OutOfMemory, NetFault, BadFrame}
 use Rattle.session_core.specs.declared.generated.TheConstants.{ENTRIES}
 use Rattle.session_core.specs.declared.input.TheConstants.{MOST_INPUT, PIECE}
 use Rattle.session_core.specs.Session.{SessionStands}
@@ -31,6 +31,7 @@ exit_number TooLong = 3
 exit_number ReadFault = 4
 exit_number WriteFault = 5
 exit_number OutOfMemory = 6
+exit_number NetFault = 7
 exit_number BadFrame = 8
 
 -- A text and its newline.

@@ -1,8 +1,9 @@
 //! The words of the command line.
 ghost use Rattle.std.specs.Prelude.{map, codes, string_bytes, ◌∷◌, []};
-ghost use Rattle.session_core.specs.Command.{ReadsCapacity, ReadsCounts, ReadsRounds, ReadsCommand, ReadsUpTo};
+ghost use Rattle.session_core.specs.Command.{ReadsCapacity, ReadsCounts, ReadsRounds, ReadsCommand, ReadsFromOne, ReadsPlan, ReadsUpTo};
 
 use event_text::{count_bytes, read_number};
+use relay_run::{MOST_LIMIT, MOST_RELAY_ROUNDS, Plan};
 
 /// The most entries of `run`'s queue. (not in monoio)
 pub const MOST_ENTRIES: u64 = 4294967295;
@@ -22,6 +23,9 @@ pub const MOST_COUNT: u64 = 100000;
 /// The most bytes of each buffer of `copy`. (not in monoio)
 pub const MOST_CAPACITY: u64 = 16777216;
 
+/// The greatest port of `echo` and `relay`. (not in monoio)
+pub const MOST_PORT: u64 = 65535;
+
 /// A command of the program. (not in monoio)
 #[derive(Clone, Copy, Debug, PartialEq, Eq)]
 pub enum Command<'a> {
@@ -40,6 +44,8 @@ pub enum Command<'a> {
     Copy(u32, &'a [u8]),
     /// `unframe`: writes the lines of the messages whose pieces are read.
     Unframe,
+    /// `echo PORT CONNECTIONS ROUNDS` and `relay PORT TO CONNECTIONS ROUNDS`: makes the rounds of a relay that listens on a port.
+    Relay(Plan),
 }
 
 /// The command that words write; `None` if they write none. Numbers have no sign and no leading zero. (not in monoio)
@@ -50,11 +56,18 @@ pub fn command_of(words: &[String]) -> Option<Command<'_>>
         [name] => single_of(name.as_str()),
         [name, capacity] => run_of(name.as_str(), capacity.as_str()),
         [name, first, second] => counted_of(name.as_str(), first.as_str(), second.as_str()),
-        [name, seed, rounds, last] => trace_of(
+        [name, first, second, third] => four_of(
             name.as_str(),
-            seed.as_str(),
+            first.as_str(),
+            second.as_str(),
+            third.as_str(),
+        ),
+        [name, port, to, connections, rounds] => five_of(
+            name.as_str(),
+            port.as_str(),
+            to.as_str(),
+            connections.as_str(),
             rounds.as_str(),
-            last.as_str(),
         ),
         _ => None,
     }
@@ -130,16 +143,78 @@ fn generate_of<'a>(seed: &[u8], rounds: &[u8]) -> Option<Command<'a>>
     Some(Command::Generate(seed as u32, rounds as u32))
 }
 
-// The command `gen` of four words.
-fn trace_of<'a>(name: &str, seed: &str, rounds: &str, last: &str) -> Option<Command<'a>>
-    ensures { ReadsCommand (name.now ∷ seed.now ∷ rounds.now ∷ last.now ∷ []) result }
+// The command of four words: `echo` and three numbers, or `gen`, two numbers and `--events`.
+fn four_of<'a>(name: &str, first: &str, second: &str, third: &str) -> Option<Command<'a>>
+    ensures { ReadsCommand (name.now ∷ first.now ∷ second.now ∷ third.now ∷ []) result }
 {
-    if name == "gen" && last == "--events" {
-        let seed = number_up_to(seed.as_bytes(), MOST_SEED)?;
-        let rounds = number_up_to(rounds.as_bytes(), MOST_ROUNDS)?;
+    if name == "echo" {
+        return echo_of(first.as_bytes(), second.as_bytes(), third.as_bytes());
+    }
+    if name == "gen" && third == "--events" {
+        let seed = number_up_to(first.as_bytes(), MOST_SEED)?;
+        let rounds = number_up_to(second.as_bytes(), MOST_ROUNDS)?;
         return Some(Command::Trace(seed as u32, rounds as u32));
     }
     None
+}
+
+// The command of a port, of connections and of rounds.
+fn echo_of<'a>(port: &[u8], connections: &[u8], rounds: &[u8]) -> Option<Command<'a>>
+    ensures { ReadsCommand (codes "echo" ∷ port.now ∷ connections.now ∷ rounds.now ∷ []) result }
+{
+    match plan_of(port, None, connections, rounds) {
+        Some(plan) => Some(Command::Relay(plan)),
+        None => None,
+    }
+}
+
+// The command of five words: `relay`, two ports and two numbers.
+fn five_of<'a>(
+    name: &str,
+    port: &str,
+    to: &str,
+    connections: &str,
+    rounds: &str,
+) -> Option<Command<'a>>
+    ensures { ReadsCommand (name.now ∷ port.now ∷ to.now ∷ connections.now ∷ rounds.now ∷ []) result }
+{
+    if name != "relay" {
+        return None;
+    }
+    relay_of(
+        port.as_bytes(),
+        to.as_bytes(),
+        connections.as_bytes(),
+        rounds.as_bytes(),
+    )
+}
+
+// The command of two ports, of connections and of rounds.
+fn relay_of<'a>(port: &[u8], to: &[u8], connections: &[u8], rounds: &[u8]) -> Option<Command<'a>>
+    ensures { ReadsCommand (codes "relay" ∷ port.now ∷ to.now ∷ connections.now ∷ rounds.now ∷ []) result }
+{
+    let Some(to) = number_from_one(to, MOST_PORT) else {
+        return None;
+    };
+    match plan_of(port, Some(to as u16), connections, rounds) {
+        Some(plan) => Some(Command::Relay(plan)),
+        None => None,
+    }
+}
+
+// The plan of a port, of connections and of rounds, with this other end.
+fn plan_of(port: &[u8], to: Option<u16>, connections: &[u8], rounds: &[u8]) -> Option<Plan>
+    ensures { ReadsPlan to port.now connections.now rounds.now result }
+{
+    let port = number_from_one(port, MOST_PORT)?;
+    let limit = number_from_one(connections, MOST_LIMIT as u64)?;
+    let rounds = number_up_to(rounds, MOST_RELAY_ROUNDS as u64)?;
+    Some(Plan {
+        port: port as u16,
+        to,
+        limit: limit as u32,
+        rounds: rounds as u32,
+    })
 }
 
 // The command of a capacity from 1 to 16777216, and the word of a prefix.
@@ -160,6 +235,16 @@ fn number_up_to(word: &[u8], most: u64) -> Option<u64>
 {
     match read_number(word) {
         Some(number) if number <= most => Some(number),
+        _ => None,
+    }
+}
+
+// A decimal number from 1 to the most.
+fn number_from_one(word: &[u8], most: u64) -> Option<u64>
+    ensures { ReadsFromOne most word.now result }
+{
+    match number_up_to(word, most) {
+        Some(number) if number >= 1 => Some(number),
         _ => None,
     }
 }

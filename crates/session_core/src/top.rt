@@ -7,7 +7,7 @@ ghost use Rattle.ring_core.specs.Run.{ledger};
 ghost use Rattle.session_core.specs.Session.{SessionStands};
 ghost use Rattle.ring_core.specs.Counts.{Rose};
 ghost use Rattle.session_core.specs.Command.{IsRun, IsReady, IsGenerate, IsTrace, IsWake, IsCopy};
-ghost use Rattle.session_core.specs.Command.{IsNoCommand, IsUnframe, IsWithin, KeepsNothing, ReadsNothing};
+ghost use Rattle.session_core.specs.Command.{IsNoCommand, IsRelay, IsUnframe, IsWithin, KeepsNothing, ReadsNothing, UsesNoNet};
 ghost use Rattle.session_core.specs.DriverKind.{StandsOn, completion, readiness};
 ghost use Rattle.session_core.specs.Generated.{generated_events};
 ghost use Rattle.session_core.specs.Top.{SumsFor, TookTooMany, WakesFor, exit_number, summary_text};
@@ -18,7 +18,10 @@ ghost use Rattle.session_core.specs.Ends.{CommandEnds, CommandRefused, CopiesFor
 ghost use Rattle.session_core.specs.Ends.{SinkEnds, StatusFor, UnframesFor, reading, writing};
 ghost use Rattle.session_core.specs.Complete.{IsDoneOrShort, IsReadOrShort, NoneRose, TakesInput};
 ghost use Rattle.session_core.specs.Stops.{CommandStops, EventsStop, ResultStops, RunStops};
+ghost use Rattle.session_core.specs.Relays.{RelaysFor};
 ghost use Rattle.session_core.specs.Trace.{TracesFor};
+ghost use Rattle.relay_run.specs.declared.plan.Plan.{Plan as Planned};
+ghost use Rattle.relay_run.specs.declared.plan.TheConstants.{MOST_LIMIT, MOST_RELAY_ROUNDS};
 
 use crate::command::{Command, MOST_SENDERS, command_of};
 use crate::generated::{ENTRIES, generated, run_counted};
@@ -31,7 +34,9 @@ use crate::wake::wake_all;
 use copy_run::{Ending, copy_all};
 use event_text::read_bytes;
 use frame_run::{Unframed, unframe_all};
+use ready_driver::Sockets;
 use ready_run::ReadySession;
+use relay_run::{Plan, Relayed, relay_all};
 use rent_buf::{ByteList, OutOfMemory};
 use rent_io::{ByteSink, ByteSource};
 use std::alloc::Global;
@@ -59,8 +64,11 @@ pub enum Status {
     ReadFault,
     /// The sink failed. A prefix of the text was written.
     WriteFault,
-    /// Memory ran out, and nothing that was seen gives another status. A prefix of the text may have been written.
+    /// Memory ran out, and nothing that was seen gives another status. A prefix of the text may have been written; by `echo` and `relay`
+    /// nothing, which end so also where no number was left for a handle.
     OutOfMemory,
+    /// The object of `echo` and `relay` failed where it was to listen, or in a round: its count of faults rose. Nothing was written.
+    NetFault,
     /// The input of `unframe` has a wrong piece. The lines of the messages before it were written, and `bad OFFSET NAME`.
     BadFrame,
 }
@@ -78,6 +86,7 @@ impl Status {
             Status::ReadFault => 4,
             Status::WriteFault => 5,
             Status::OutOfMemory => 6,
+            Status::NetFault => 7,
             Status::BadFrame => 8,
         }
     }
@@ -118,14 +127,17 @@ pub enum Stop {
 /// many wakers from a thread of its own, and `drained N` and a newline are written. `copy CAP PREFIXHEX` writes the bytes of
 /// `PREFIXHEX`, and then all that it reads, by way of buffers of `CAP` bytes. `unframe` reads pieces of messages, and writes
 /// `message C HEX` for each message, with its channel and its bytes; at a wrong piece it writes `bad OFFSET NAME`, and ends with
-/// BadFrame. The condition is that nothing is kept yet. Afterwards `stop` names the line of `run` or `ready` that is wrong, or at which
+/// BadFrame. `echo PORT CONNECTIONS ROUNDS` and `relay PORT TO CONNECTIONS ROUNDS` read nothing: they listen with `net` on `PORT`, make so
+/// many rounds of a relay, each of which waits a millisecond at most, and write `closed N` for the connections that the rounds closed; what
+/// comes goes back, or to `TO`. The condition is that nothing is kept yet. Afterwards `stop` names the line of `run` or `ready` that is wrong, or at which
 /// memory ran out; it is `None` where there is none. (not in monoio)
-pub fn top<R: Threads + Wait + Clock + Sync, S: ByteSource, K: ByteSink>(
+pub fn top<R: Threads + Wait + Clock + Sync, S: ByteSource, K: ByteSink, N: Sockets>(
     rt: &R,
     alloc: Global,
     words: &[String],
     source: &mut S,
     sink: &mut K,
+    net: &mut N,
     kept: &mut Option<Kept>,
     stop: &mut Option<Stop>,
 ) -> Status
@@ -154,6 +166,8 @@ pub fn top<R: Threads + Wait + Clock + Sync, S: ByteSource, K: ByteSink>(
 
     ensures traces { (seed rounds : ℕ) → IsTrace (map string_bytes words.now) seed rounds →
         TracesFor K.tells (generated_events seed rounds) (K.taken sink.old) (K.taken sink.new) result }
+    ensures relays { (plan : Planned) → IsRelay (map string_bytes words.now) plan →
+        RelaysFor K.tells plan.rounds (writing K.taken K.faults K.is_flushed sink.old sink.new) result }
 
     // Which line is named.
     ensures stops_run { (capacity : ℕ) → IsRun (map string_bytes words.now) capacity →
@@ -165,7 +179,8 @@ pub fn top<R: Threads + Wait + Clock + Sync, S: ByteSource, K: ByteSink>(
     ensures stops_none { ((capacity : ℕ) → IsRun (map string_bytes words.now) capacity → ⊥) →
         (IsReady (map string_bytes words.now) → ⊥) → stop.new ≡ None }
 
-    // `gen` and `wake` read nothing. Only Done keeps something, and `gen` with `--events`, `wake`, `copy` and `unframe` keep nothing.
+    // `gen`, `wake`, `echo` and `relay` read nothing. Only Done keeps something, and `gen` with `--events`, `wake`, `copy`, `unframe`,
+    // `echo` and `relay` keep nothing.
     ensures unread_sums { (seed rounds : ℕ) → IsGenerate (map string_bytes words.now) seed rounds → source.new ≡ source.old }
     ensures unread_wakes { (senders count : ℕ) → IsWake (map string_bytes words.now) senders count → (source.new ≡ source.old) ×
         (kept.new ≡ None) }
@@ -173,6 +188,8 @@ pub fn top<R: Threads + Wait + Clock + Sync, S: ByteSource, K: ByteSink>(
         (kept.new ≡ None) }
     ensures unkept_copies { (capacity : ℕ) (prefix : List ℕ) → IsCopy (map string_bytes words.now) capacity prefix → kept.new ≡ None }
     ensures unkept_unframes { IsUnframe (map string_bytes words.now) → kept.new ≡ None }
+    ensures unread_relays { (plan : Planned) → IsRelay (map string_bytes words.now) plan → (source.new ≡ source.old) ×
+        (kept.new ≡ None) }
     ensures kept { (result ≡ Status.Done → ⊥) → kept.new ≡ None }
 
     // Done means that the sink is flushed. Each other status has its cause, whatever the command; `copy` and `unframe` alone write before
@@ -187,6 +204,9 @@ pub fn top<R: Threads + Wait + Clock + Sync, S: ByteSource, K: ByteSink>(
         (IsUnframe (map string_bytes words.now) → ⊥) → (result ≡ Status.TooLong) ⊎ (result ≡ Status.ReadFault) → IsTrue K.tells →
         K.taken sink.new ≡ K.taken sink.old }
     ensures bad_frame { result ≡ Status.BadFrame → IsUnframe (map string_bytes words.now) }
+    // Only `echo` and `relay` use the object.
+    ensures net_fault { result ≡ Status.NetFault → Rose (N.view net.old).faults (N.view net.new).faults }
+    ensures unused_net { ((plan : Planned) → IsRelay (map string_bytes words.now) plan → ⊥) → net.new ≡ net.old }
     ensures memory { (IsUnframe (map string_bytes words.now) → ⊥) → result ≡ Status.OutOfMemory →
         RanShort completion S.tells K.tells (reading S.left S.faults source.old source.new)
         (writing K.taken K.faults K.is_flushed sink.old sink.new) }
@@ -199,21 +219,26 @@ pub fn top<R: Threads + Wait + Clock + Sync, S: ByteSource, K: ByteSink>(
     ensures complete_unframes { IsUnframe (map string_bytes words.now) → IsTrue S.tells → length (S.left source.old) ≤ MOST_INPUT →
         NoneRose (reading S.left S.faults source.old source.new) (writing K.taken K.faults K.is_flushed sink.old sink.new) →
         IsReadOrShort result }
+    // `echo` and `relay` may also fail where the object's count of faults rose.
+    ensures complete_relays { (plan : Planned) → IsRelay (map string_bytes words.now) plan →
+        NoneRose (reading S.left S.faults source.old source.new) (writing K.taken K.faults K.is_flushed sink.old sink.new) →
+        (Rose (N.view net.old).faults (N.view net.new).faults → ⊥) → IsDoneOrShort result }
 {
     *stop = None;
     match command_of(words) {
-        Some(command) => run_command(rt, alloc, command, source, sink, kept, stop),
+        Some(command) => run_command(rt, alloc, command, source, sink, net, kept, stop),
         None => Status::BadWords,
     }
 }
 
 // Does what a command asks for.
-fn run_command<R: Threads + Wait + Clock + Sync, S: ByteSource, K: ByteSink>(
+fn run_command<R: Threads + Wait + Clock + Sync, S: ByteSource, K: ByteSink, N: Sockets>(
     rt: &R,
     alloc: Global,
     command: Command<'_>,
     source: &mut S,
     sink: &mut K,
+    net: &mut N,
     kept: &mut Option<Kept>,
     stop: &mut Option<Stop>,
 ) -> Status
@@ -229,6 +254,8 @@ fn run_command<R: Threads + Wait + Clock + Sync, S: ByteSource, K: ByteSink>(
     ensures unkept { KeepsNothing command.entry → kept.new ≡ None }
     ensures stops { CommandStops S.tells K.tells command.entry (reading S.left S.faults source.old source.new)
         (writing K.taken K.faults K.is_flushed sink.old sink.new) stop.new result }
+    ensures net_fault { result ≡ Status.NetFault → Rose (N.view net.old).faults (N.view net.new).faults }
+    ensures unused { UsesNoNet command.entry → net.new ≡ net.old }
 {
     match command {
         Command::Run(capacity) => run_lines(alloc, capacity, source, sink, kept, stop),
@@ -238,6 +265,7 @@ fn run_command<R: Threads + Wait + Clock + Sync, S: ByteSource, K: ByteSink>(
         Command::Wake(senders, count) => run_wake(rt, alloc, senders, count, sink),
         Command::Copy(capacity, word) => run_copy(alloc, capacity, word, source, sink),
         Command::Unframe => run_unframe(rt, alloc, source, sink),
+        Command::Relay(plan) => run_relay(rt, alloc, plan, sink, net),
     }
 }
 
@@ -411,6 +439,29 @@ fn run_wake<R: Threads + Wait + Clock + Sync, K: ByteSink>(
     match write_number(b"drained ", settled.drained, sink) {
         Ok(()) => Status::Done,
         Err(_) => Status::WriteFault,
+    }
+}
+
+// Makes the rounds of a relay, and writes how many connections they closed.
+fn run_relay<R: Wait + Clock, K: ByteSink, N: Sockets>(
+    rt: &R,
+    alloc: Global,
+    plan: Plan,
+    sink: &mut K,
+    net: &mut N,
+) -> Status
+    requires limit { plan.limit ≤ MOST_LIMIT }
+    requires rounds { plan.rounds ≤ MOST_RELAY_ROUNDS }
+    ensures relays { RelaysFor K.tells plan.rounds (writing K.taken K.faults K.is_flushed sink.old sink.new) result }
+    ensures net_fault { result ≡ Status.NetFault → Rose (N.view net.old).faults (N.view net.new).faults }
+{
+    match relay_all(rt, alloc, plan, net) {
+        Relayed::Closed(count) => match write_number(b"closed ", count, sink) {
+            Ok(()) => Status::Done,
+            Err(_) => Status::WriteFault,
+        },
+        Relayed::Fault => Status::NetFault,
+        Relayed::OutOfMemory => Status::OutOfMemory,
     }
 }
 

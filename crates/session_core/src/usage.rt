@@ -18,6 +18,8 @@ usage: session_run run CAP [-i]
        session_run wake SENDERS COUNT
        session_run faults CAP ENTERS
        session_run copy CAP PREFIXHEX
+       session_run echo PORT CONNECTIONS ROUNDS
+       session_run relay PORT TO CONNECTIONS ROUNDS
        session_run unframe
        session_run frame
        session_run --help
@@ -45,6 +47,15 @@ faults CAP ENTERS    answers events over a ring of CAP entries (1 to 4294967295)
 copy CAP PREFIXHEX   writes the bytes of PREFIXHEX (hexadecimal digits, or -
                      for none) and then standard input, by way of buffers of
                      CAP bytes (1 to 16777216)
+echo PORT CONNECTIONS ROUNDS
+                     listens on PORT of this machine (1 to 65535), and sends what
+                     comes on a connection back; it has at most CONNECTIONS open
+                     (1 to 64), makes ROUNDS rounds (0 to 1000000), each of which
+                     waits a millisecond at most, and writes how many connections
+                     were closed
+relay PORT TO CONNECTIONS ROUNDS
+                     does so with a connection to port TO of this machine for each
+                     that came, and passes what comes on one on to the other
 unframe              reads pieces of messages from standard input, and writes
                      the channel and the bytes of each message, one a line
 frame                reads lines of a channel's number and bytes in hexadecimal
@@ -53,7 +64,8 @@ frame                reads lines of a channel's number and bytes in hexadecimal
 
 exit status: 0 success; 1 invalid command line; 2 invalid line, whose number
 is printed; 3 more than 16777216 bytes of input; 4 reading failed; 5 writing
-failed; 6 out of memory; 8 invalid piece, whose place and fault are printed";
+failed; 6 out of memory; 7 the network failed; 8 invalid piece, whose place
+and fault are printed";
 
 /// What `--version` writes to standard output. (not in monoio)
 pub const VERSION: &str = "session_run 0.1.0";
@@ -153,6 +165,9 @@ fn tell<R: Eprint>(rt: &R, status: Status, known: Known<'_>) -> io::Result<()> {
             eprintln!(rt; "session_run: {}; see --help", usage_error(known.words))
         }
         Status::BadLine => tell_line(rt, &known),
+        Status::NetFault => {
+            eprintln!(rt; "session_run: the network failed, as where the port is taken")
+        }
         Status::BadFrame => eprintln!(rt; "session_run: the input has an invalid piece"),
         Status::TooLong => { eprintln!(rt; "session_run: the input has more than 16777216 bytes") }
         Status::ReadFault => tell_fault(rt, "reading the input failed", known.read),

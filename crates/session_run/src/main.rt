@@ -11,7 +11,9 @@ use rent_io::{ByteSink, ByteSource, StdSink, StdSource};
 use session_core::top::top;
 use session_core::usage::{Known, answer, asked_of, end_unread, end_with, words_of};
 use session_core::{Kept, MOST_INPUT, Status, Stop};
+use socket_io::MioIo;
 use std::alloc::Global;
+use std::net::Net;
 use std::process::ExitCode;
 use std::sync::Wait;
 use std::thread::Threads;
@@ -60,7 +62,7 @@ fn main(rt: HostRuntime) -> ExitCode {
 }
 
 // Does what the words say: `frame`, `faults` and `run CAP -i` by their calls, and all else by `top`.
-fn run<R: Threads + Wait + Clock + Sync, S: ByteSource, K: ByteSink>(
+fn run<R: Threads + Wait + Net + Clock + Sync, S: ByteSource, K: ByteSink>(
     rt: &R,
     alloc: Global,
     words: &[String],
@@ -83,7 +85,8 @@ fn run<R: Threads + Wait + Clock + Sync, S: ByteSource, K: ByteSink>(
         };
     }
     let mut kept: Option<Kept> = None;
-    Ok(top(rt, alloc, words, source, sink, &mut kept, stop))
+    let mut net = MioIo::new(rt, alloc);
+    Ok(top(rt, alloc, words, source, sink, &mut net, &mut kept, stop))
 }
 
 // The words are those of `frame`.

@@ -3,6 +3,7 @@ mod failing;
 mod frames;
 mod live;
 pub(crate) mod program;
+mod relays;
 mod requests;
 mod rows;
 mod senders;

@@ -1,5 +1,6 @@
-// Runs of the top call over a source and a sink in memory.
+// Runs of the top call over a source and a sink in memory, and handles in memory or sockets.
 use crate::tests::text::{lines_of, list_of, pairs_of, split_words};
+use ready_driver::{MemIo, Sockets};
 use rent_buf::NumList;
 use rent_io::{MemSink, MemSource};
 use session_core::top::top;
@@ -66,12 +67,13 @@ fn failing(alloc: Global, call: Option<u64>) -> Result<NumList, AllocError> {
 }
 
 // Makes the top call, and keeps the sink alone.
-fn run_top<R: Threads + Wait + Clock + Sync>(
+fn run_top<R: Threads + Wait + Clock + Sync, N: Sockets>(
     rt: &R,
     alloc: Global,
     words: &[String],
     mut source: MemSource,
     mut sink: MemSink,
+    mut net: N,
 ) -> Ran {
     let mut kept = None;
     let mut stop = None;
@@ -81,6 +83,7 @@ fn run_top<R: Threads + Wait + Clock + Sync>(
         words,
         &mut source,
         &mut sink,
+        &mut net,
         &mut kept,
         &mut stop,
     );
@@ -93,14 +96,24 @@ pub(crate) fn run<R: Threads + Wait + Clock + Sync>(
     alloc: Global,
     call: Call<'_>,
 ) -> Result<Ran, AllocError> {
+    run_over(rt, alloc, call, MemIo::new(alloc))
+}
+
+/// Runs the program with this object to listen and dial with.
+pub(crate) fn run_over<R: Threads + Wait + Clock + Sync, N: Sockets>(
+    rt: &R,
+    alloc: Global,
+    call: Call<'_>,
+    net: N,
+) -> Result<Ran, AllocError> {
     let words = split_words(alloc, call.words)?;
     let source = MemSource::new(list_of(alloc, call.input)?, failing(alloc, call.read)?);
     let sink = MemSink::new(alloc, failing(alloc, call.write)?);
-    Ok(run_top(rt, alloc, words.as_slice(), source, sink))
+    Ok(run_top(rt, alloc, words.as_slice(), source, sink, net))
 }
 
-// What a run left is this status and these bytes.
-fn is_like(ran: &Ran, status: Status, written: &[u8]) -> Result<(), Why> {
+/// What a run left is this status and these bytes.
+pub(crate) fn is_like(ran: &Ran, status: Status, written: &[u8]) -> Result<(), Why> {
     if ran.status != status {
         return Err(Why::Ended(ran.status));
     }

@@ -1,5 +1,6 @@
 // The standard source and sink over readers and writers that work or fail, through the top call.
 use crate::tests::text::split_words;
+use ready_driver::MemIo;
 use rent_io::{ByteSink, ByteSource, StdSink, StdSource};
 use session_core::Status;
 use session_core::top::top;
@@ -65,6 +66,7 @@ fn run<R: Threads + Wait + Clock + Sync, S: ByteSource, K: ByteSink>(
     sink: &mut K,
 ) -> Result<(Status, bool), AllocError> {
     let words = split_words(alloc, "run 1")?;
+    let mut net = MemIo::new(alloc);
     let mut kept = None;
     let mut stop = None;
     let status = top(
@@ -73,6 +75,7 @@ fn run<R: Threads + Wait + Clock + Sync, S: ByteSource, K: ByteSink>(
         words.as_slice(),
         source,
         sink,
+        &mut net,
         &mut kept,
         &mut stop,
     );

@@ -76,7 +76,7 @@ fn is_line(kept: &Cell<Option<String>>, line: Option<&str>) -> bool {
 
 // Each status, its number, and the line that standard error gets where nothing more is known.
 #[rattlefmt::skip]
-const STATUSES: [(Status, u8, Option<&str>); 8] = [
+const STATUSES: [(Status, u8, Option<&str>); 9] = [
     (Status::Done, 0, None),
     (Status::BadWords, 1, Some("session_run: no command is named; see --help")),
     (Status::BadLine, 2, Some("session_run: a line is no event")),
@@ -84,6 +84,7 @@ const STATUSES: [(Status, u8, Option<&str>); 8] = [
     (Status::ReadFault, 4, Some("session_run: reading the input failed")),
     (Status::WriteFault, 5, Some("session_run: writing the output failed")),
     (Status::OutOfMemory, 6, Some("session_run: out of memory")),
+    (Status::NetFault, 7, Some("session_run: the network failed, as where the port is taken")),
     (Status::BadFrame, 8, Some("session_run: the input has an invalid piece")),
 ];
 
@@ -183,7 +184,7 @@ fn the_system_s_reason_is_told(rt: HostRuntime) -> Result<(), Fail> {
 
 // The lines of the help.
 #[rattlefmt::skip]
-const LINES: [&str; 44] = [
+const LINES: [&str; 56] = [
     "Runs an I/O engine with owned buffers on events that it reads.",
     "",
     "usage: session_run run CAP [-i]",
@@ -192,6 +193,8 @@ const LINES: [&str; 44] = [
     "       session_run wake SENDERS COUNT",
     "       session_run faults CAP ENTERS",
     "       session_run copy CAP PREFIXHEX",
+    "       session_run echo PORT CONNECTIONS ROUNDS",
+    "       session_run relay PORT TO CONNECTIONS ROUNDS",
     "       session_run unframe",
     "       session_run frame",
     "       session_run --help",
@@ -219,6 +222,15 @@ const LINES: [&str; 44] = [
     "copy CAP PREFIXHEX   writes the bytes of PREFIXHEX (hexadecimal digits, or -",
     "                     for none) and then standard input, by way of buffers of",
     "                     CAP bytes (1 to 16777216)",
+    "echo PORT CONNECTIONS ROUNDS",
+    "                     listens on PORT of this machine (1 to 65535), and sends what",
+    "                     comes on a connection back; it has at most CONNECTIONS open",
+    "                     (1 to 64), makes ROUNDS rounds (0 to 1000000), each of which",
+    "                     waits a millisecond at most, and writes how many connections",
+    "                     were closed",
+    "relay PORT TO CONNECTIONS ROUNDS",
+    "                     does so with a connection to port TO of this machine for each",
+    "                     that came, and passes what comes on one on to the other",
     "unframe              reads pieces of messages from standard input, and writes",
     "                     the channel and the bytes of each message, one a line",
     "frame                reads lines of a channel's number and bytes in hexadecimal",
@@ -227,7 +239,8 @@ const LINES: [&str; 44] = [
     "",
     "exit status: 0 success; 1 invalid command line; 2 invalid line, whose number",
     "is printed; 3 more than 16777216 bytes of input; 4 reading failed; 5 writing",
-    "failed; 6 out of memory; 8 invalid piece, whose place and fault are printed",
+    "failed; 6 out of memory; 7 the network failed; 8 invalid piece, whose place",
+    "and fault are printed",
 ];
 
 #[test]

@@ -3,6 +3,7 @@ use Rattle.session_core.proofs.Commands.{reads-nothing, generate-nothing, trace-
 use Rattle.session_core.proofs.Endings.{run-ends, ready-ends, sum-ends, trace-ends, wake-ends, copy-ends, line-refused, written-late}
 use Rattle.session_core.proofs.Completing.{command-complete, input-taken}
 use Rattle.session_core.proofs.Framing.{frame-refused, ran-short-of, unframe-complete, unframe-ends}
+use Rattle.session_core.proofs.Relaying.{other-unused, relay-complete, relay-ends, relay-nothing}
 use Rattle.session_core.proofs.Stopping.{run-stops, ready-stops, none-stops}
 use Rattle.session_core.proofs.top.top.Goals as goal
 
@@ -110,3 +111,24 @@ pub returns-in-Some-clause-stops_none : goal.returns-in-Some-clause-stops_none
 returns-in-Some-clause-stops_none g c = λ no_run no_ready.
     none-stops g.S.ByteSource.tells g.K.ByteSink.tells _ c.in-Some.command _ _ _ _ c.in-Some.ensures no_run no_ready
     c.run_command.ensures.stops
+
+pub returns-in-Some-clause-relays : goal.returns-in-Some-clause-relays
+returns-in-Some-clause-relays g c = λ plan relay.
+    relay-ends g.S.ByteSource.tells g.K.ByteSink.tells _ c.in-Some.command plan _ _ _ _ c.in-Some.ensures relay c.run_command.ensures.ends
+
+pub returns-in-Some-clause-unread_relays : goal.returns-in-Some-clause-unread_relays
+returns-in-Some-clause-unread_relays g c = λ plan relay.
+    let nothing = relay-nothing _ c.in-Some.command plan c.in-Some.ensures relay in
+    (c.run_command.ensures.unread nothing.0, c.run_command.ensures.unkept nothing.1)
+
+pub returns-in-Some-clause-unused_net : goal.returns-in-Some-clause-unused_net
+returns-in-Some-clause-unused_net g c = λ other. c.run_command.ensures.unused (other-unused _ c.in-Some.command c.in-Some.ensures other)
+
+pub returns-in-Some-clause-complete_relays : goal.returns-in-Some-clause-complete_relays
+returns-in-Some-clause-complete_relays g c = λ plan relay calm still.
+    relay-complete g.K.ByteSink.tells plan.rounds _ _ _ calm (λ is. still (c.run_command.ensures.net_fault is))
+    (relay-ends g.S.ByteSource.tells g.K.ByteSink.tells _ c.in-Some.command plan _ _ _ _ c.in-Some.ensures relay
+    c.run_command.ensures.ends)
+
+pub returns-in-None-clause-complete_relays : goal.returns-in-None-clause-complete_relays
+returns-in-None-clause-complete_relays g c = λ plan relay calm still. absurd (c.in-None.ensures.no_relay plan relay)

@@ -1,0 +1,2 @@
+pub mod NetPlace
+pub mod Relaying
