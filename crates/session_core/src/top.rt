@@ -129,8 +129,8 @@ pub enum Stop {
 /// `message C HEX` for each message, with its channel and its bytes; at a wrong piece it writes `bad OFFSET NAME`, and ends with
 /// BadFrame. `echo PORT CONNECTIONS ROUNDS` and `relay PORT TO CONNECTIONS ROUNDS` read nothing: they listen with `net` on `PORT`, make so
 /// many rounds of a relay, each of which waits a millisecond at most, and write `closed N` for the connections that the rounds closed; what
-/// comes goes back, or to `TO`. The condition is that nothing is kept yet. Afterwards `stop` names the line of `run` or `ready` that is wrong, or at which
-/// memory ran out; it is `None` where there is none. (not in monoio)
+/// comes goes back, or to `TO`. The condition is that nothing is kept yet. Afterwards `stop` names the line of `run` or `ready` that is
+/// wrong, or at which memory ran out; it is `None` where there is none. (not in monoio)
 pub fn top<R: Threads + Wait + Clock + Sync, S: ByteSource, K: ByteSink, N: Sockets>(
     rt: &R,
     alloc: Global,
