@@ -5,6 +5,7 @@ pub mod command;
 pub mod generated;
 mod input;
 mod output;
+mod relays;
 pub mod session;
 mod stepping;
 pub mod top;

@@ -21,12 +21,12 @@ ghost use Rattle.session_core.specs.Stops.{CommandStops, EventsStop, ResultStops
 ghost use Rattle.session_core.specs.Relays.{RelaysFor};
 ghost use Rattle.session_core.specs.Trace.{TracesFor};
 ghost use Rattle.relay_run.specs.declared.plan.Plan.{Plan as Planned};
-ghost use Rattle.relay_run.specs.declared.plan.TheConstants.{MOST_LIMIT, MOST_RELAY_ROUNDS};
 
 use crate::command::{Command, MOST_SENDERS, command_of};
 use crate::generated::{ENTRIES, generated, run_counted};
 use crate::input::{MOST_INPUT, NoEvents, read_input};
 use crate::output::{Unwritten, write_last, write_number, write_replies};
+use crate::relays::run_relay;
 use crate::session::Session;
 use crate::stepping::Stepping;
 use crate::trace::run_trace;
@@ -36,7 +36,6 @@ use event_text::read_bytes;
 use frame_run::{Unframed, unframe_all};
 use ready_driver::Sockets;
 use ready_run::ReadySession;
-use relay_run::{Plan, Relayed, relay_all};
 use rent_buf::{ByteList, OutOfMemory};
 use rent_io::{ByteSink, ByteSource};
 use std::alloc::Global;
@@ -439,29 +438,6 @@ fn run_wake<R: Threads + Wait + Clock + Sync, K: ByteSink>(
     match write_number(b"drained ", settled.drained, sink) {
         Ok(()) => Status::Done,
         Err(_) => Status::WriteFault,
-    }
-}
-
-// Makes the rounds of a relay, and writes how many connections they closed.
-fn run_relay<R: Wait + Clock, K: ByteSink, N: Sockets>(
-    rt: &R,
-    alloc: Global,
-    plan: Plan,
-    sink: &mut K,
-    net: &mut N,
-) -> Status
-    requires limit { plan.limit ≤ MOST_LIMIT }
-    requires rounds { plan.rounds ≤ MOST_RELAY_ROUNDS }
-    ensures relays { RelaysFor K.tells plan.rounds (writing K.taken K.faults K.is_flushed sink.old sink.new) result }
-    ensures net_fault { result ≡ Status.NetFault → Rose (N.view net.old).faults (N.view net.new).faults }
-{
-    match relay_all(rt, alloc, plan, net) {
-        Relayed::Closed(count) => match write_number(b"closed ", count, sink) {
-            Ok(()) => Status::Done,
-            Err(_) => Status::WriteFault,
-        },
-        Relayed::Fault => Status::NetFault,
-        Relayed::OutOfMemory => Status::OutOfMemory,
     }
 }
 
