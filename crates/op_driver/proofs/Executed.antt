@@ -14,13 +14,12 @@ use Rattle.ring_core.specs.Ring.{RingView}
 use Rattle.ring_core.proofs.Numbers.{same-or-not}
 use Rattle.ring_core.proofs.Requests.{request-is}
 use Rattle.driver_core.specs.declared.op.Executed.{Executed}
-use Rattle.driver_core.specs.declared.op.Op.{Op}
 use Rattle.driver_core.specs.declared.slot.Slot.{Slot}
-use Rattle.driver_core.specs.Op.{Holds, number_of}
+use Rattle.driver_core.specs.Op.{number_of}
 use Rattle.driver_core.specs.Operations.{StoresAt}
 use Rattle.driver_core.specs.Ops.{Ops}
 use Rattle.driver_core.specs.Requests.{request_at, request_in}
-use Rattle.driver_core.specs.Slot.{FillsIf, FillsSlot, IsFilled, fits_in, number_at}
+use Rattle.driver_core.specs.Slot.{FillsIf, FillsSlot, fits_in, number_at}
 use Rattle.driver_core.proofs.Maps.{put-same, put-other}
 use Rattle.uring_driver.specs.declared.uring.IoUringDriver.{IoUringDriver}
 use Rattle.uring_driver.specs.Executed.{ExecutesOver}

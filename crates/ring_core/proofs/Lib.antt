@@ -9,6 +9,8 @@ pub mod Written
 pub mod Laid
 pub mod Counting
 pub mod Keeping
+pub mod Binding
+pub mod Leading
 pub mod Executed
 pub mod Few
 pub mod Marked

@@ -20,6 +20,7 @@ pub mod MadeRows
 pub mod Counts
 pub mod Entry
 pub mod Ring
+pub mod Bound
 pub mod Ranks
 pub mod Closes
 pub mod Flights

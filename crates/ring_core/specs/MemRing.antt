@@ -1,5 +1,5 @@
 -- What executing an entry in flight does to the ring in memory.
-use Rattle.std.specs.Prelude.{ℕ, ◌≡◌, ◌≤◌, Bool, true, false, List, [], ◌∷◌, ◌++◌, length, remove, slice_get, nat_le, option_map, Option}
+use Rattle.std.specs.Prelude.{ℕ, suc, ◌≡◌, ◌≤◌, Bool, true, false, List, [], ◌∷◌, ◌++◌, length, drop, slice_get, nat_le, option_map, Option}
 use Rattle.std.specs.Prelude.{Some, None, Result, Ok, Err}
 use Rattle.ring_core.specs.declared.request.Told.{Told}
 use Rattle.ring_core.specs.declared.request.Outcome.{Outcome}
@@ -9,8 +9,9 @@ use Rattle.ring_core.specs.declared.entry.Entry.{Entry}
 use Rattle.ring_core.specs.declared.entry.Flight.{Flight}
 use Rattle.ring_core.specs.declared.entry.Completion.{Completion}
 use Rattle.ring_core.specs.declared.mem_ring.ExecRefusal.{ExecRefusal}
-use Rattle.ring_core.specs.declared.mem_ring.ExecRefusal.TheVariants.{NotFlying, BadOutcome, OutOfMemory}
+use Rattle.ring_core.specs.declared.mem_ring.ExecRefusal.TheVariants.{NotFlying, Waiting, BadOutcome, OutOfMemory}
 pub use Rattle.ring_core.specs.Called.{is_allowed_body, body_effect}
+pub use Rattle.ring_core.specs.Bound.{completion_of, is_bound, broken, taken_along, flying_left, HasLeader}
 use Rattle.ring_core.specs.Effect.{Effect, unmoved, call_sends}
 use Rattle.ring_core.specs.Payloads.{body_comes, StoresIf, body_may_run_out}
 use Rattle.ring_core.specs.Ring.{RingView}
@@ -39,15 +40,13 @@ body_sends (Calls call) told = call_sends call told
 body_sends (Cancels key) told = None
 body_sends (Closes h) told = None
 
--- The completion of an entry with an outcome.
-abbrev pub completion_of : Entry → Outcome → Completion
-completion_of entry outcome = record { word = entry.word; serial = entry.serial; outcome = outcome }
-
--- The ring after the entry at a place was executed: it is the last completion.
+-- The ring after the entry at a place was executed: its completion is behind all others, and behind it are those of the entries that it
+-- takes with it.
 abbrev pub finished : RingView → ℕ → Entry → Effect → RingView
 finished view place entry result = record view {
-  flying = remove view.flying place;
-  done = view.done ++ completion_of entry result.outcome ∷ [];
+  flying = flying_left result.outcome place view.flying;
+  done = view.done
+      ++ completion_of entry result.outcome ∷ broken (taken_along result.outcome (drop (suc place) view.flying));
   world = result.world;
 }
 
@@ -56,15 +55,17 @@ pub record IsFinished (old : RingView) (place : ℕ) (told : Told) (sent : List 
     (completion : Completion) : Type 0 where
   pub flight : Flight
   pub there : slice_get old.flying place ≡ Some flight
+  pub free : flight.bound ≡ false
   pub allows : is_allowed_body old.world flight.marked flight.entry.body told ≡ true
   pub answer : completion ≡ completion_of flight.entry (body_effect old.world flight.entry.body sent told).outcome
   pub ring : new ≡ finished old place flight.entry (body_effect old.world flight.entry.body sent told)
   pub bytes : got ≡ (body_effect old.world flight.entry.body sent told).got
 
--- The outcome isn't allowed to what is at a place.
+-- The outcome isn't allowed to what is at a place, which isn't bound.
 pub record IsForbidden (old : RingView) (place : ℕ) (told : Told) : Type 0 where
   pub flight : Flight
   pub there : slice_get old.flying place ≡ Some flight
+  pub free : flight.bound ≡ false
   pub forbids : is_allowed_body old.world flight.marked flight.entry.body told ≡ false
 
 -- What is in flight at a place was executed with the bytes that the payload of its data word offers; what came was stored there.
@@ -78,6 +79,7 @@ pub record IsExecuted {P : Type 0} (offered : P → ℕ → List ℕ) (stores : 
 pub record MayRunOut (takes_memory : ℕ → Bool) (old : RingView) (place : ℕ) (told : Told) : Type 0 where
   pub flight : Flight
   pub there : slice_get old.flying place ≡ Some flight
+  pub free : flight.bound ≡ false
   pub allows : is_allowed_body old.world flight.marked flight.entry.body told ≡ true
   pub takes : body_may_run_out takes_memory flight.entry.body told ≡ true
 
@@ -88,6 +90,8 @@ ExecutesFor offered stores takes_memory old place told new before after (Ok comp
     IsExecuted offered stores old place told new before after completion
 ExecutesFor offered stores takes_memory old place told new before after (Err NotFlying) =
     (length old.flying ≤ place) × (new ≡ old) × (after ≡ before)
+ExecutesFor offered stores takes_memory old place told new before after (Err Waiting) =
+    (is_bound old.flying place ≡ true) × (new ≡ old) × (after ≡ before)
 ExecutesFor offered stores takes_memory old place told new before after (Err BadOutcome) =
     IsForbidden old place told × (new ≡ old) × (after ≡ before)
 ExecutesFor offered stores takes_memory old place told new before after (Err OutOfMemory) =
@@ -102,5 +106,6 @@ completed view place entry outcome = finished view place entry (unmoved view.wor
 abbrev pub FinishesFor : RingView → ℕ → Told → List ℕ → RingView → List ℕ → Result Completion ExecRefusal → Type 0
 FinishesFor old place told sent new got (Ok completion) = IsFinished old place told sent new got completion
 FinishesFor old place told sent new got (Err NotFlying) = (length old.flying ≤ place) × (new ≡ old) × (got ≡ [])
+FinishesFor old place told sent new got (Err Waiting) = (is_bound old.flying place ≡ true) × (new ≡ old) × (got ≡ [])
 FinishesFor old place told sent new got (Err BadOutcome) = IsForbidden old place told × (new ≡ old) × (got ≡ [])
 FinishesFor old place told sent new got (Err OutOfMemory) = MayRunOut (nat_le 1) old place told × (new ≡ old) × (got ≡ [])

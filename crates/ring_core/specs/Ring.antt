@@ -34,11 +34,21 @@ pub record RingView : Type 0 where
 abbrev pub marked_by : ℕ → Flight → Flight
 marked_by key flight = record flight { marked = flight.marked || flight.entry.word == key }
 
--- What is in flight after one entry was taken: a call and a close join the end; a cancel marks what has its key.
-abbrev pub flying_after_entry : List Flight → Entry → Body → List Flight
-flying_after_entry flying entry (Calls call) = flying ++ record { entry = entry; marked = false } ∷ []
-flying_after_entry flying entry (Cancels key) = map (marked_by key) flying
-flying_after_entry flying entry (Closes h) = flying ++ record { entry = entry; marked = false } ∷ []
+-- An entry that was taken, bound or not.
+abbrev pub fresh_flight : Entry → Bool → Flight
+fresh_flight entry bound = record { entry = entry; marked = false; bound = bound }
+
+-- What is in flight after one entry was taken: a call and a close join the end, a call bound or not; a cancel marks what has its key.
+abbrev pub flying_after_entry : Bool → List Flight → Entry → Body → List Flight
+flying_after_entry bound flying entry (Calls call) = flying ++ fresh_flight entry bound ∷ []
+flying_after_entry bound flying entry (Cancels key) = map (marked_by key) flying
+flying_after_entry bound flying entry (Closes h) = flying ++ fresh_flight entry false ∷ []
+
+-- The call that is taken directly behind an entry is bound where that entry is a linked call.
+abbrev pub binds_next : Entry → Body → Bool
+binds_next entry (Calls call) = entry.linked
+binds_next entry (Cancels key) = false
+binds_next entry (Closes h) = false
 
 -- The completions after one entry was taken: a call and a close leave none; a cancel is done, whatever it marked.
 abbrev pub done_after_entry : List Completion → Entry → Body → List Completion
@@ -46,10 +56,15 @@ done_after_entry done entry (Calls call) = done
 done_after_entry done entry (Cancels key) = done ++ record { word = entry.word; serial = entry.serial; outcome = Counted 0 } ∷ []
 done_after_entry done entry (Closes h) = done
 
--- What is in flight after entries were taken, in order.
+-- What is in flight after entries were taken, in order, where a call at their front is bound or not.
+abbrev pub flying_bound : Bool → List Flight → List Entry → List Flight
+flying_bound bound flying [] = flying
+flying_bound bound flying (entry ∷ entries) =
+    flying_bound (binds_next entry entry.body) (flying_after_entry bound flying entry entry.body) entries
+
+-- What is in flight after entries were taken at once, in order. A call is bound where the entry directly before it is a linked call.
 abbrev pub flying_after : List Flight → List Entry → List Flight
-flying_after flying [] = flying
-flying_after flying (entry ∷ entries) = flying_after (flying_after_entry flying entry entry.body) entries
+flying_after flying entries = flying_bound false flying entries
 
 -- The completions after entries were taken, in order.
 abbrev pub done_after : List Completion → List Entry → List Completion

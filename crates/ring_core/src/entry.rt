@@ -1,6 +1,6 @@
 //! The entries of a ring, and its completions.
 ghost use Rattle.std.specs.Prelude.{◌≡◌, ◌<◌};
-ghost use Rattle.ring_core.specs.Entry.{target, call_entry, cancel_entry, close_entry};
+ghost use Rattle.ring_core.specs.Entry.{target, call_entry, cancel_entry, close_entry, may_link};
 ghost use Rattle.ring_core.specs.MemRing.{body_sends};
 
 use crate::request::{Call, Outcome, Told};
@@ -79,18 +79,22 @@ pub struct Entry {
     pub word: u64,
     /// The operation's number, or the handle's, for those who read the ring and not for the ring itself.
     pub serial: u64,
+    /// Whether the call that is taken directly behind it, in the same enter, waits for it. Only a call is linked. (io_uring:
+    /// `IOSQE_IO_LINK`)
+    pub linked: bool,
     /// What it asks for.
     pub body: Body,
 }
 
 impl Entry {
-    /// The entry of an operation's call: the key of the operation's slot is its word. (not in monoio)
-    pub fn call(key: usize, serial: u64, call: Call) -> Entry
-        ensures { result ≡ call_entry key serial call }
+    /// The entry of an operation's call, linked or not: the key of the operation's slot is its word. (not in monoio)
+    pub fn call(key: usize, serial: u64, linked: bool, call: Call) -> Entry
+        ensures { result ≡ call_entry key serial linked call }
     {
         Entry {
             word: key as u64,
             serial,
+            linked,
             body: Body::Call(call),
         }
     }
@@ -102,6 +106,7 @@ impl Entry {
         Entry {
             word: CANCEL_WORD,
             serial,
+            linked: false,
             body: Body::Cancel(key as u64),
         }
     }
@@ -115,7 +120,18 @@ impl Entry {
         Entry {
             word: FIRST_CLOSE + h,
             serial: h,
+            linked: false,
             body: Body::Close(h),
+        }
+    }
+
+    /// Whether it may be pushed: a cancel and a close aren't linked. (not in monoio)
+    pub fn may_link(&self) -> bool
+        ensures { result ≡ may_link self.now self.now.body }
+    {
+        match self.body {
+            Body::Call(_) => true,
+            Body::Cancel(_) | Body::Close(_) => !self.linked,
         }
     }
 }
@@ -127,6 +143,8 @@ pub struct Flight {
     pub entry: Entry,
     /// A cancel that names its data word was taken since.
     pub marked: bool,
+    /// It is a call that waits for the linked one directly before it.
+    pub bound: bool,
 }
 
 /// A completion. (io_uring: a completion queue entry, without its flags)

@@ -1,5 +1,6 @@
 //! A ring in memory whose enters fail where they are told to, for tests.
-ghost use Rattle.std.specs.Prelude.{◌≡◌, ◌<◌, refl, true, false, OnOk, OnErr};
+ghost use Rattle.std.specs.Prelude.{◌≡◌, ◌<◌, refl, true, false, IsTrue, OnOk, OnErr};
+ghost use Rattle.ring_core.specs.Entry.{may_link};
 ghost use Rattle.ring_core.specs.Ring.{PushesFor, EntersFor, IsSynced, NextFor, reserved};
 ghost use Rattle.ring_core.specs.FaultRing.{fresh_faults, faulty_ring, with_ring, with_completion, is_next, EntersFaulty};
 
@@ -111,7 +112,8 @@ impl Ring for FaultRing {
     }
 
     fn push_reserved(&mut self, entry: Entry) -> Push
-        requires { 0 < self.old.ring.spare }
+        requires room { 0 < self.old.ring.spare }
+        requires links { IsTrue (may_link entry entry.body) }
         ensures pushes { PushesFor true entry (faulty_ring self.old) (faulty_ring self.new) result }
         ensures same { self.new ≡ with_ring self.old self.new.ring }
     {

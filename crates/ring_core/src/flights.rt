@@ -7,6 +7,7 @@ ghost use Rattle.ring_core.specs.Ranks.{kept, kept_first};
 ghost use Rattle.std.specs.Option.{ForSome};
 ghost use Rattle.ring_core.specs.Flights.{IsSpot, words_of};
 ghost use Rattle.ring_core.specs.Links.{AreLinked};
+ghost use Rattle.ring_core.specs.Bound.{unbound, fresh_flight, TakesBound};
 
 use crate::entry::{Entry, Flight};
 use crate::links::{Link, Links};
@@ -129,16 +130,17 @@ impl Flights {
         Ok(())
     }
 
-    /// An entry joins the end, unmarked. It takes no memory.
-    pub fn push_reserved(&mut self, entry: Entry)
+    /// An entry joins the end, unmarked, and bound or not. It takes no memory.
+    pub fn push_reserved(&mut self, entry: Entry, bound: bool)
         requires { length self.old.flights < self.old.room }
-        ensures { self.new ≡ record (self.old) { flights = self.old.flights ++ record { entry = entry; marked = false } ∷ [] } }
+        ensures { self.new ≡ record (self.old) { flights = self.old.flights ++ fresh_flight entry bound ∷ [] } }
     {
         self.looked = None;
         make_way(&mut self.items, &mut self.ranks, &mut self.links);
         self.items.push_reserved(Flight {
             entry,
             marked: false,
+            bound,
         });
         link(&self.items, &mut self.ranks, &mut self.links);
         self.live += 1;
@@ -168,6 +170,33 @@ impl Flights {
             self.items.clear();
             self.ranks.restart();
             self.links.forget();
+        }
+    }
+}
+
+impl Flights {
+    /// What is in flight at a place is bound no more. Where there is nothing, nothing changes.
+    pub fn unbind(&mut self, place: usize)
+        ensures { self.new ≡ record (self.old) { flights = amended self.old.flights place unbound } }
+    {
+        if place >= self.live {
+            return;
+        }
+        let slot = self.ranks.select(place);
+        unbind_at(&mut self.items, slot);
+    }
+
+    /// Takes what is at a place out where it is bound: its entry; None exactly where it isn't, or nothing is there.
+    pub fn take_bound(&mut self, place: usize) -> Option<Entry>
+        ensures takes { TakesBound self.old.flights place self.new.flights result }
+        ensures room { self.new.room ≡ self.old.room }
+    {
+        match self.look(place) {
+            Some(flight) if flight.bound => {
+                self.remove(place);
+                Some(flight.entry)
+            }
+            _ => None,
         }
     }
 }
@@ -260,6 +289,27 @@ fn mark_at(items: &mut Vec<Flight>, slot: usize, word: u64)
     }
 }
 
+// What stands on a slot is bound no more.
+fn unbind_at(items: &mut Vec<Flight>, slot: usize)
+    requires { slot < length items.old.items }
+    ensures items { items.new.items ≡ amended items.old.items slot unbound }
+    ensures length { vec_len items.new ≡ vec_len items.old }
+    ensures capacity { vec_capacity items.new ≡ vec_capacity items.old }
+{
+    items[slot] = free(items[slot]);
+}
+
+// An entry in flight that is bound no more.
+fn free(flight: Flight) -> Flight
+    ensures { result ≡ unbound flight }
+{
+    Flight {
+        entry: flight.entry,
+        marked: flight.marked,
+        bound: false,
+    }
+}
+
 // What stands on any slot is marked where its data word is this.
 fn mark_all(items: &mut Vec<Flight>, word: u64)
     ensures items { items.new.items ≡ map (marked_by word) items.old.items }
@@ -285,5 +335,6 @@ fn marked(flight: Flight, word: u64) -> Flight
     Flight {
         entry: flight.entry,
         marked: flight.marked || flight.entry.word == word,
+        bound: flight.bound,
     }
 }

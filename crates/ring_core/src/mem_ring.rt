@@ -1,8 +1,9 @@
 //! The ring in memory.
-ghost use Rattle.std.specs.Prelude.{◌≡◌, ◌<◌, ◌≤◌, ◌+◌, [], length, true, IfSome, OnOk, OnErr};
+ghost use Rattle.std.specs.Prelude.{◌≡◌, ◌<◌, ◌≤◌, ◌+◌, [], ◌++◌, length, take, drop, Some, true, IfSome, OnOk, OnErr};
 ghost use Rattle.std.specs.VecDeque.{deque_len, deque_capacity};
 ghost use Rattle.std.specs.Borrow.{sem};
-ghost use Rattle.ring_core.specs.Ring.{flying_after_entry, flying_after, done_after_entry, done_after};
+ghost use Rattle.ring_core.specs.Ring.{flying_after_entry, flying_after, done_after_entry, done_after, binds_next};
+ghost use Rattle.ring_core.specs.Bound.{is_bound, HasLeader, broken, bound_front, behind_bound, left_behind, taken_along};
 ghost use Rattle.ring_core.specs.MemRing.{fresh_ring, entry_at, completion_of, completed, FinishesFor, ExecutesFor};
 ghost use Rattle.ring_core.specs.Lends.{lends_world};
 ghost use Rattle.ring_core.specs.FaultRing.{with_completion};
@@ -10,7 +11,7 @@ ghost use Rattle.ring_core.specs.FaultRing.{with_completion};
 use crate::entry::{Body, Completion, Entry, MOST_HANDLES};
 use crate::flights::Flights;
 use crate::payloads::{Payloads, append_first, copy_first};
-use crate::request::{Outcome, Told};
+use crate::request::{CANCELED, Outcome, Told};
 use crate::ring::{EnterError, Push, Ring};
 use crate::room::make_room;
 use crate::world::{RunError, World};
@@ -27,6 +28,9 @@ pub enum ExecRefusal {
     /// The place isn't below the length of the in-flight list.
     #[error("NotFlying")]
     NotFlying,
+    /// The entry at the place is bound: it waits for the one directly before it.
+    #[error("Waiting")]
+    Waiting,
     /// The outcome isn't allowed to the entry at the place.
     #[error("BadOutcome")]
     BadOutcome,
@@ -51,6 +55,8 @@ impl Model for MemRing {
     ghost use Rattle.std.specs.VecDeque.{deque_len, deque_capacity};
     ghost use Rattle.ring_core.specs.Ring.{RingView};
     ghost use Rattle.ring_core.specs.Reserved.{RingHasRoom};
+    ghost use Rattle.ring_core.specs.Bound.{AreLed};
+    ghost use Rattle.std.specs.Prelude.{false};
 
     ghost Value = { RingView };
 
@@ -67,7 +73,7 @@ impl Model for MemRing {
     } };
 
     ghost invariant = { λ r. RingHasRoom r.entries (deque_len r.queue) (length r.flying.flights) (deque_len r.done) r.spare
-        (deque_capacity r.queue) r.flying.room (deque_capacity r.done) };
+        (deque_capacity r.queue) r.flying.room (deque_capacity r.done) × AreLed false r.flying.flights };
 }
 
 impl MemRing {
@@ -103,6 +109,18 @@ impl MemRing {
         }
     }
 
+    /// Whether the entry in flight at a place is bound: it waits for the linked call directly before it. (not in monoio)
+    pub fn bound(&self, place: usize) -> bool
+        requires { place < length self.now.flying }
+        ensures value { result ≡ is_bound self.now.flying place }
+        ensures led { result ≡ true → HasLeader self.now.flying place }
+    {
+        match self.flying.get(place) {
+            Some(flight) => flight.bound,
+            None => false,
+        }
+    }
+
     /// The handles of the ring, mutably.
     pub fn world(&mut self) -> &mut World
         ensures* writes_back { sem 𝓛 (lends_world self.entry result) }
@@ -112,11 +130,12 @@ impl MemRing {
     }
 
     /// Executes what is in flight at a place with a reported outcome: its bytes move between its handle and the payload of
-    /// its data word, and it becomes the last completion, which is returned. What comes is stored, what is sent is copied
-    /// once; an error stores nothing. `NotFlying` comes exactly when the place isn't below the length of the in-flight list,
-    /// else `BadOutcome` exactly when the outcome isn't allowed, else `OutOfMemory` only where bytes are sent, or where
-    /// storing those that came takes memory. After an error the ring and the payloads are as they were.
-    /// (not in monoio)
+    /// its data word, and it joins the completions; its own is returned. What comes is stored, what is sent is copied
+    /// once; an error stores nothing. After an error those directly behind it that are bound end too, in order, each with
+    /// `CANCELED`; after any other outcome the next one is bound no more. `NotFlying` comes exactly when the place isn't below
+    /// the length of the in-flight list, else `Waiting` exactly when the entry is bound, else `BadOutcome` exactly when the
+    /// outcome isn't allowed, else `OutOfMemory` only where bytes are sent, or where storing those that came takes memory. After
+    /// an error of the call the ring and the payloads are as they were. (not in monoio)
     pub fn execute<P: Payloads>(
         &mut self,
         place: usize,
@@ -129,6 +148,9 @@ impl MemRing {
         let Some(flight) = self.flying.look(place) else {
             return Err(ExecRefusal::NotFlying);
         };
+        if flight.bound {
+            return Err(ExecRefusal::Waiting);
+        }
         match self.world.execute(&flight, told, payloads) {
             Ok(outcome) => Ok(self.complete(place, flight.entry, outcome)),
             Err(RunError::NotAllowed) => Err(ExecRefusal::BadOutcome),
@@ -147,15 +169,18 @@ impl MemRing {
         Ok(())
     }
 
-    // The entry at a place becomes the last completion.
+    // The entry at a place ends with an outcome. Only behind a linked one may an entry be bound.
     fn complete(&mut self, place: usize, entry: Entry, outcome: Outcome) -> Completion
-        requires { place < length self.old.flying }
+        requires { entry_at self.old.flying place ≡ Some entry }
         ensures ring { self.new ≡ completed self.old place entry outcome }
         ensures answer { result ≡ completion_of entry outcome }
     {
         let completion = completion_for(entry, outcome);
         self.flying.remove(place);
         self.done.push_back_reserved(completion);
+        if entry.linked {
+            release(&mut self.flying, &mut self.done, place, outcome);
+        }
         completion
     }
 
@@ -302,21 +327,62 @@ fn completion_for(entry: Entry, outcome: Outcome) -> Completion
     }
 }
 
-// One entry is taken.
-fn take_entry(entry: Entry, flying: &mut Flights, done: &mut VecDeque<Completion>)
+// The entry before a place ended with an outcome: what was bound to it ends with it, or is bound no more.
+fn release(flying: &mut Flights, done: &mut VecDeque<Completion>, place: usize, outcome: Outcome)
+    requires { length flying.old.flights + deque_len done.old ≤ deque_capacity done.old }
+    ensures flying { flying.new.flights ≡ take place flying.old.flights ++ left_behind outcome (drop place flying.old.flights) }
+    ensures done { done.new.items ≡ done.old.items ++ broken (taken_along outcome (drop place flying.old.flights)) }
+    ensures length { length flying.new.flights + deque_len done.new ≡ length flying.old.flights + deque_len done.old }
+    ensures room { (flying.new.room ≡ flying.old.room) × (deque_capacity done.new ≡ deque_capacity done.old) }
+{
+    match outcome {
+        Outcome::Fail(_) => break_bound(flying, done, place),
+        _ => flying.unbind(place),
+    }
+}
+
+// The bound entries from a place on end, in order, up to the first that isn't bound.
+fn break_bound(flying: &mut Flights, done: &mut VecDeque<Completion>, place: usize)
+    requires { length flying.old.flights + deque_len done.old ≤ deque_capacity done.old }
+    ensures flying { flying.new.flights ≡ take place flying.old.flights ++ behind_bound (drop place flying.old.flights) }
+    ensures done { done.new.items ≡ done.old.items ++ broken (bound_front (drop place flying.old.flights)) }
+    ensures length { length flying.new.flights + deque_len done.new ≡ length flying.old.flights + deque_len done.old }
+    ensures room { (flying.new.room ≡ flying.old.room) × (deque_capacity done.new ≡ deque_capacity done.old) }
+{
+    while let Some(entry) = flying.take_bound(place) {
+        done.push_back_reserved(completion_for(entry, Outcome::Fail(CANCELED)));
+    }
+}
+
+// One entry is taken, bound where it is a call that follows a linked one. It answers whether the next one does.
+fn take_entry(
+    entry: Entry,
+    bound: bool,
+    flying: &mut Flights,
+    done: &mut VecDeque<Completion>,
+) -> bool
     requires flying_room { length flying.old.flights < flying.old.room }
     requires done_room { deque_len done.old < deque_capacity done.old }
-    ensures flying { flying.new.flights ≡ flying_after_entry flying.old.flights entry entry.body }
+    ensures binds { result ≡ binds_next entry entry.body }
+    ensures flying { flying.new.flights ≡ flying_after_entry bound flying.old.flights entry entry.body }
     ensures done { done.new.items ≡ done_after_entry done.old.items entry entry.body }
     ensures length { length flying.new.flights + deque_len done.new ≡ length flying.old.flights + deque_len done.old + 1 }
     ensures longer { (length flying.old.flights ≤ length flying.new.flights) × (deque_len done.old ≤ deque_len done.new) }
     ensures room { (flying.new.room ≡ flying.old.room) × (deque_capacity done.new ≡ deque_capacity done.old) }
 {
     match entry.body {
-        Body::Call(_) | Body::Close(_) => flying.push_reserved(entry),
+        Body::Call(_) => {
+            flying.push_reserved(entry, bound);
+            entry.linked
+        }
+        Body::Close(_) => {
+            flying.push_reserved(entry, false);
+            false
+        }
         Body::Cancel(key) => {
             flying.mark(key);
             done.push_back_reserved(completion_for(entry, Outcome::Count(0)));
+            false
         }
     }
 }
@@ -334,7 +400,8 @@ fn take_all(queue: &mut VecDeque<Entry>, flying: &mut Flights, done: &mut VecDeq
     ensures capacities { (deque_capacity queue.new ≡ deque_capacity queue.old) × (flying.new.room ≡ flying.old.room) ×
         (deque_capacity done.new ≡ deque_capacity done.old) }
 {
+    let mut bound = false;
     while let Some(entry) = queue.pop_front() {
-        take_entry(entry, flying, done);
+        bound = take_entry(entry, bound, flying, done);
     }
 }

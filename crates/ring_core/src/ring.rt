@@ -1,6 +1,7 @@
 //! What the driver asks of a ring.
 ghost use Rattle.std.specs.Prelude.{◌≡◌, ◌<◌, ◌≤◌, Bool, length, IsTrue, IsOk, OnOk, OnErr};
 ghost use Rattle.ring_core.specs.Ring.{RingView, PushesFor, EntersFor, IsSynced, NextFor, reserved};
+ghost use Rattle.ring_core.specs.Entry.{may_link};
 
 use crate::entry::{Completion, Entry};
 use rent_buf::OutOfMemory;
@@ -64,14 +65,16 @@ pub trait Ring: Drop {
         ensures ok { OnOk result (view self.new ≡ reserved (view self.old) n) }
         ensures err { OnErr result (view self.new ≡ view self.old) };
 
-    /// Puts an entry at the queue's end; `Full` comes exactly when the queue is at capacity. It takes no memory: `reserve` took
-    /// it before.
+    /// Puts an entry at the queue's end; `Full` comes exactly when the queue is at capacity. Only a call is linked. It takes no memory:
+    /// `reserve` took it before.
     fn push_reserved(&mut self, entry: Entry) -> Push
-        requires { 0 < (view self.old).spare }
+        requires room { 0 < (view self.old).spare }
+        requires links { IsTrue (may_link entry entry.body) }
         ensures { PushesFor tells entry (view self.old) (view self.new) result };
 
-    /// Takes the queue, in order, and returns how many entries it took. It takes no memory for what was reserved. After an error
-    /// a prefix of the queue may have been taken.
+    /// Takes the queue, in order, and returns how many entries it took. A call waits for the linked one that is taken directly before it.
+    /// It takes no memory for what was reserved. After an error a prefix of the queue may have been taken: what is taken later waits for
+    /// none of it.
     fn enter(&mut self) -> Result<u32, EnterError>
         ensures enters { EntersFor tells (view self.old) (view self.new) result }
         ensures steady { IsTrue steady → IsOk result };

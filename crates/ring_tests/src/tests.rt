@@ -4,6 +4,7 @@ mod cancels;
 mod entry;
 mod executes;
 mod faults;
+mod links;
 mod members;
 mod moves;
 mod order;

@@ -155,7 +155,7 @@ module _ {B : Type 0} (buffer : B → Buffer) (w : RingView) (slots : FinMap nat
     (old : Means buffer w slots M) (there : get slots key ≡ Some s) (serial : s.serial ≡ number) where
   -- Its key is no close's word.
   pub cancel-queues : QueuedFor buffer slots M.ops (cancel_entry key number) (Cancels key)
-  cancel-queues = (refl, let below = old.in_slots.below key s there in omega (arith, below))
+  cancel-queues = (refl, (let below = old.in_slots.below key s there in omega (arith, below)), refl)
 
   -- Its key is that of its number alone.
   pub cancel-meets : (k : ℕ) → Cancels key ≡ Cancels k → (e : Entry) → EntryFor buffer slots e → Meets e k number

@@ -9,15 +9,21 @@ use Rattle.ring_core.specs.declared.entry.Flight.{Flight}
 use Rattle.ring_core.specs.declared.entry.Completion.{Completion}
 use Rattle.ring_core.specs.declared.ring.EnterError.{EnterError}
 use Rattle.ring_core.specs.declared.ring.EnterError.TheVariants.{Fault, Busy}
-use Rattle.ring_core.specs.Ring.{RingView, IsLater, TookFront, EntersFor, IsPushed, entered, pushed, with_done, flying_after_entry}
+use Rattle.ring_core.specs.Ring.{RingView, IsLater, TookFront, EntersFor, IsPushed, entered, pushed, with_done}
 use Rattle.ring_core.specs.Ring.{flying_after, done_after_entry, done_after}
 use Rattle.uring_driver.specs.Pending.{Pending}
-use Rattle.uring_driver.specs.Submissions.{with_spare, with_due, room_made, pending_ring, TakesFront, Enters, KeptOut, Posts, PendingMoves}
+use Rattle.uring_driver.specs.Submissions.{with_spare, with_due, room_made, pending_ring, flying_each, taken_by, TakesFront, Enters}
+use Rattle.uring_driver.specs.Submissions.{KeptOut, Posts, PendingMoves}
 
--- What is taken in two parts is taken in one.
-flying-joined : (flying : List Flight) (xs ys : List Entry) → flying_after flying (xs ++ ys) ≡ flying_after (flying_after flying xs) ys
+-- Some enters, then others.
+flying-joined : (flying : List Flight) (xs ys : List (List Entry)) → flying_each flying (xs ++ ys) ≡ flying_each (flying_each flying xs) ys
 flying-joined flying [] ys = refl
-flying-joined flying (x ∷ xs) ys = flying-joined (flying_after_entry flying x x.body) xs ys
+flying-joined flying (x ∷ xs) ys = flying-joined (flying_after flying x) xs ys
+
+-- What they took, one behind the other.
+taken-joined : (xs ys : List (List Entry)) → taken_by (xs ++ ys) ≡ taken_by xs ++ taken_by ys
+taken-joined [] ys = refl
+taken-joined (x ∷ xs) ys = ap (λ zs. x ++ zs) (taken-joined xs ys) ∙ sym (append_assoc x (taken_by xs) (taken_by ys))
 
 -- What two parts add to what is done they add as one.
 done-joined : (done : List Completion) (xs ys : List Entry) → done_after done (xs ++ ys) ≡ done_after (done_after done xs) ys
@@ -45,7 +51,11 @@ drop-front (suc n) (x ∷ xs) ys h = drop-front n xs ys (omega (arith, h))
 
 -- Nothing is taken.
 pub took-none : (v : RingView) (spare : ℕ) → TakesFront v (with_spare v spare)
-took-none v spare = record { count = 0; took = record { within = omega arith; queue = refl; flying = refl; done = refl; world = refl } }
+took-none v spare = record {
+  count = 0;
+  takings = [];
+  took = record { within = omega arith; taken = refl; queue = refl; flying = refl; done = refl; world = refl };
+}
 
 -- One prefix is taken, then one of what is left.
 pub took-on : (a b c : RingView) → TakesFront a b → TakesFront b c → TakesFront a c
@@ -56,14 +66,15 @@ took-on a b c f g =
     ∙ ap (λ q. take m a.queue ++ take n q) (sym f.took.queue) in
     record {
       count = m + n;
+      takings = f.takings ++ g.takings;
       took = record {
         within =
             (let w = g.took.within in let l = ap length f.took.queue ∙ length-drop m a.queue in
             let x = f.took.within in omega (arith, w, l, x));
+        taken = taken-joined f.takings g.takings ∙ ap (λ x. x ++ taken_by g.takings) f.took.taken
+            ∙ ap (λ x. take m a.queue ++ x) g.took.taken ∙ sym front;
         queue = g.took.queue ∙ ap (drop n) f.took.queue ∙ drop-more m n a.queue;
-        flying =
-            g.took.flying ∙ ap (λ x. flying_after x (take n b.queue)) f.took.flying
-            ∙ sym (flying-joined a.flying (take m a.queue) (take n b.queue)) ∙ ap (flying_after a.flying) (sym front);
+        flying = g.took.flying ∙ ap (λ x. flying_each x g.takings) f.took.flying ∙ sym (flying-joined a.flying f.takings g.takings);
         done =
             g.took.done ∙ ap (λ x. done_after x (take n b.queue)) f.took.done ∙ sym (done-joined a.done (take m a.queue) (take n b.queue))
             ∙ ap (done_after a.done) (sym front);
@@ -75,10 +86,12 @@ took-on a b c f g =
 took-behind : (n : ℕ) (v w : RingView) (due : List Entry) → TookFront n v w → TakesFront (with_due v due) (with_due w due)
 took-behind n v w due t = record {
   count = n;
+  takings = take n v.queue ∷ [];
   took = record {
     within = (let l = length-append v.queue due in let x = t.within in omega (arith, l, x));
+    taken = append-nil (take n v.queue) ∙ sym (take-front n v.queue due t.within);
     queue = ap (λ q. q ++ due) t.queue ∙ sym (drop-front n v.queue due t.within);
-    flying = t.flying ∙ ap (flying_after v.flying) (sym (take-front n v.queue due t.within));
+    flying = t.flying;
     done = t.done ∙ ap (done_after v.done) (sym (take-front n v.queue due t.within));
     world = t.world;
   };

@@ -195,6 +195,7 @@ module _ {B : Type 0} (buffer : B → Buffer) (v : RingView) (before after : Ops
     there = get-amended-other f L.ops n x.entry.serial q ∙ a.there;
     stays = a.stays;
     marked = a.marked;
+    free = a.free;
   }
 
   entry-kept : (x : Entry) → EntryFor buffer slots x → x.serial ≢ n → EntryFor buffer slots' x
@@ -203,6 +204,7 @@ module _ {B : Type 0} (buffer : B → Buffer) (v : RingView) (before after : Ops
     there = slot-kept x.word E.slot E.there (λ r. q (sym E.serial ∙ r));
     serial = E.serial;
     call = E.call;
+    unlinked = E.unlinked;
   }
 
   completion-kept : (x : Completion) → CompletionFor slots x → x.serial ≢ n → CompletionFor slots' x

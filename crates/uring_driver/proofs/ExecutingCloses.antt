@@ -34,7 +34,7 @@ close-world world (Fail e) = refl
 -- A close in flight at a place, in a ring and slots that mean a ledger.
 module _ {B : Type 0} (buffer : B → Buffer) (v : RingView) (slots : FinMap nat_cmp (Slot B)) (L : Ledger) (place : ℕ) (flight : Flight)
     (k : ℕ) (old : Means buffer v slots L) (there : slice_get v.flying place ≡ Some flight) (closes : flight.entry.body ≡ Closes k) where
-  here : (flight.entry ≡ close_entry k) × (k < MOST_HANDLES) × (flight.marked ≡ false)
+  here : (flight.entry ≡ close_entry k) × (k < MOST_HANDLES) × (flight.marked ≡ false) × (flight.bound ≡ false)
   here = subst (λ b. FlightFor buffer slots L.ops flight b) closes (old.in_lists.in_flight place flight there)
 
   -- Its word names the handle.

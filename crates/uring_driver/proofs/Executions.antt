@@ -56,6 +56,7 @@ finished-behind : (v w : RingView) (place : ℕ) (told : Told) (sent got : List 
 finished-behind v w place told sent got c due fin = record {
   flight = fin.flight;
   there = fin.there;
+  free = fin.free;
   allows = fin.allows;
   answer = fin.answer;
   ring = ap (λ x. with_due x due) fin.ring;

@@ -1,18 +1,21 @@
 -- What an execution leaves of a ring's lists: what was in flight at a place is the last completion.
-use Rattle.std.proofs.Common.{◌≡◌, ◌≢◌, ◌⊎◌, inl, inr, ℕ, true, List, ◌++◌, [], ◌∷◌, Some, refl, sym, ◌∙◌, ap, subst}
+use Rattle.std.proofs.Common.{◌≡◌, ◌≢◌, ◌⊎◌, inl, inr, ℕ, suc, true, List, ◌++◌, [], ◌∷◌, Some, refl, sym, ◌∙◌, ap, subst}
 use Rattle.std.proofs.Common.{length, map, flat_map}
-use Rattle.std.specs.Prelude.{slice_get, remove}
+use Rattle.std.specs.Prelude.{slice_get, remove, take, drop}
 use Rattle.std.specs.Ordering.{nat_cmp}
 use Rattle.std.specs.FinMap.{FinMap}
 use Rattle.std.proofs.lemmas.List.Concat.{flat_map-append}
 use Rattle.rent_buf.specs.Buffer.{Buffer}
 use Rattle.ring_core.specs.Ring.{RingView}
 use Rattle.ring_core.specs.Entry.{target}
-use Rattle.ring_core.specs.MemRing.{IsFinished}
+use Rattle.ring_core.specs.MemRing.{IsFinished, body_effect, completion_of, broken, taken_along}
+use Rattle.ring_core.specs.Bound.{left_behind}
+use Rattle.ring_core.proofs.Binding.{free-behind, free-from, remove-parts}
 use Rattle.ring_core.specs.declared.entry.Entry.{Entry}
 use Rattle.ring_core.specs.declared.entry.Flight.{Flight}
 use Rattle.ring_core.specs.declared.entry.Completion.{Completion}
 use Rattle.ring_core.specs.declared.request.Told.{Told}
+use Rattle.ring_core.specs.declared.request.Outcome.{Outcome}
 use Rattle.ring_core.specs.declared.world.HandleState.{HandleState}
 use Rattle.ring_core.specs.Ledger.{Ledger, Operation, Owner, InQueue, InDone, Item}
 use Rattle.ring_core.specs.Turn.{complete_at}
@@ -20,7 +23,7 @@ use Rattle.driver_core.specs.declared.slot.Slot.{Slot}
 use Rattle.driver_core.proofs.Lists.{skip, skip-one, get-removed, map-removed, get-pushed}
 use Rattle.uring_driver.specs.Lists.{EntryFor, CompletionFor, DoneFor, IsAt, IsFlown, ListsStand, is_call, names_slot, queued_of, item_of}
 use Rattle.uring_driver.specs.Lists.{done_items_of}
-use Rattle.uring_driver.proofs.Kept.{queued-kept, flight-kept, done-kept}
+use Rattle.uring_driver.proofs.Kept.{queued-kept, flight-kept, done-kept, free-flown}
 
 -- A ring's lists mean those of a ledger with other owners too.
 pub lists-owners : {B : Type 0} (buffer : B → Buffer) (slots : FinMap nat_cmp (Slot B)) (v : RingView) (L : Ledger) (owners : List Owner) →
@@ -44,11 +47,21 @@ module _ {B : Type 0} (buffer : B → Buffer) (slots slots' : FinMap nat_cmp (Sl
   queue-is : v'.queue ≡ v.queue
   queue-is = ap (λ x. x.queue) fin.ring
 
+  abbrev outcome : Outcome
+  outcome = (body_effect v.world fin.flight.entry.body sent told).outcome
+
+  -- Nothing is bound, so what was executed ends alone.
+  alone : (left_behind outcome (drop (suc place) v.flying) ≡ drop (suc place) v.flying)
+      × (taken_along outcome (drop (suc place) v.flying) ≡ [])
+  alone = free-behind outcome (drop (suc place) v.flying) (free-from v.flying (suc place)
+      (λ i x h. free-flown buffer slots L.ops x x.entry.body (old.in_flight i x h)))
+
   flying-is : v'.flying ≡ remove v.flying place
-  flying-is = ap (λ x. x.flying) fin.ring
+  flying-is = ap (λ x. x.flying) fin.ring ∙ ap (λ xs. take place v.flying ++ xs) alone.0 ∙ sym (remove-parts v.flying place)
 
   done-is : v'.done ≡ v.done ++ c ∷ []
-  done-is = ap (λ x. x.done) fin.ring ∙ ap (λ x. v.done ++ x ∷ []) (sym fin.answer)
+  done-is = ap (λ x. x.done) fin.ring ∙ ap (λ xs. v.done ++ completion_of fin.flight.entry outcome ∷ broken xs) alone.1
+      ∙ ap (λ x. v.done ++ x ∷ []) (sym fin.answer)
 
   queued : (i : ℕ) (x : Entry) → slice_get v'.queue i ≡ Some x → slice_get v.queue i ≡ Some x
   queued i x h = ap (λ xs. slice_get xs i) (sym queue-is) ∙ h

@@ -6,7 +6,7 @@ use Rattle.std.specs.Prelude.{slice_get}
 use Rattle.std.specs.Ordering.{nat_cmp}
 use Rattle.std.specs.FinMap.{FinMap, get}
 use Rattle.rent_buf.specs.Buffer.{Buffer}
-use Rattle.ring_core.specs.Ring.{RingView}
+use Rattle.ring_core.specs.Ring.{RingView, binds_next}
 use Rattle.ring_core.specs.Request.{call_of, plain_request}
 use Rattle.ring_core.specs.declared.entry.Body.{Body}
 use Rattle.ring_core.specs.declared.entry.Body.TheVariants.{Call as Calls, Cancel as Cancels, Close as Closes}
@@ -32,6 +32,7 @@ call-queued buffer slots ops e (Closes k) q h = (let f : ⊥ = cc in absurd f)
 -- What a cancel in the queue is: its word is reserved, and its key is no close's word.
 pub cancel-queued : {B : Type 0} (buffer : B → Buffer) (slots : FinMap nat_cmp (Slot B)) (ops : List Operation) (e : Entry) (b : Body) →
     QueuedFor buffer slots ops e b → (key : ℕ) → b ≡ Cancels key → (e.word ≡ CANCEL_WORD) × (key < FIRST_CLOSE)
+    × (e.linked ≡ false)
 cancel-queued buffer slots ops e b q key h = subst (λ x. QueuedFor buffer slots ops e x) h q
 
 -- What a close in the queue is.
@@ -65,6 +66,20 @@ close-flown buffer slots ops f (Calls call) q h = (let f : ⊥ = cc in absurd f)
 close-flown buffer slots ops f (Cancels key) q h = absurd q
 close-flown buffer slots ops f (Closes k) q h = (let w = ap (λ e. e.word) q.0 in omega (arith, w))
 
+-- What is in flight isn't bound.
+pub free-flown : {B : Type 0} (buffer : B → Buffer) (slots : FinMap nat_cmp (Slot B)) (ops : List Operation) (f : Flight) (b : Body) →
+    FlightFor buffer slots ops f b → f.bound ≡ false
+free-flown buffer slots ops f (Calls call) q = q.1.free
+free-flown buffer slots ops f (Cancels key) q = absurd q
+free-flown buffer slots ops f (Closes k) q = q.3
+
+-- What stands in the queue binds nothing.
+pub unlinked-queued : {B : Type 0} (buffer : B → Buffer) (slots : FinMap nat_cmp (Slot B)) (ops : List Operation) (e : Entry) (b : Body) →
+    QueuedFor buffer slots ops e b → binds_next e b ≡ false
+unlinked-queued buffer slots ops e (Calls call) q = q.0.unlinked
+unlinked-queued buffer slots ops e (Cancels key) q = refl
+unlinked-queued buffer slots ops e (Closes k) q = refl
+
 -- What an entry in flight means is kept by all that keeps it of a call, also where the mark of a call changes.
 pub flight-kept : {B : Type 0} (buffer : B → Buffer) (slots slots' : FinMap nat_cmp (Slot B)) (ops ops' : List Operation) (f : Flight)
     (m : Bool) (b : Body) → (is_call b ≡ false → m ≡ f.marked) → (is_call b ≡ true → EntryFor buffer slots f.entry × IsFlown ops f →
@@ -72,7 +87,7 @@ pub flight-kept : {B : Type 0} (buffer : B → Buffer) (slots slots' : FinMap na
     FlightFor buffer slots ops f b → FlightFor buffer slots' ops' (record f { marked = m }) b
 flight-kept buffer slots slots' ops ops' f m (Calls call) stays go q = go refl q
 flight-kept buffer slots slots' ops ops' f m (Cancels key) stays go q = q
-flight-kept buffer slots slots' ops ops' f m (Closes h) stays go q = (q.0, q.1, stays refl ∙ q.2)
+flight-kept buffer slots slots' ops ops' f m (Closes h) stays go q = (q.0, q.1, stays refl ∙ q.2, q.3)
 
 -- A call in flight is an operation.
 pub call-item : (e : Entry) (b : Body) → is_call b ≡ true → item_in e b ≡ Op e.serial
@@ -119,6 +134,7 @@ module _ {B : Type 0} (buffer : B → Buffer) (slots slots' : FinMap nat_cmp (Sl
         there = u.1;
         serial = u.2 ∙ E.serial;
         call = E.call ∙ ap (λ r. Calls (call_of (plain_request buffer r))) (sym u.3);
+        unlinked = E.unlinked;
       })
 
   pub at-kept : (n : ℕ) (p : Place) → KeepsOp ops ops' n → IsAt ops n p → IsAt ops' n p
@@ -126,7 +142,7 @@ module _ {B : Type 0} (buffer : B → Buffer) (slots slots' : FinMap nat_cmp (Sl
 
   pub flown-kept : (f : Flight) → KeepsOp ops ops' f.entry.serial → IsFlown ops f → IsFlown ops' f
   flown-kept f keeps a = (let o = keeps a.operation a.there in
-      record { operation = o.0; there = o.1; stays = o.2 ∙ a.stays; marked = a.marked ∙ sym o.3 })
+      record { operation = o.0; there = o.1; stays = o.2 ∙ a.stays; marked = a.marked ∙ sym o.3; free = a.free })
 
   pub completion-kept : (c : Completion) → KeepsSlot slots slots' c.serial → CompletionFor slots c → CompletionFor slots' c
   completion-kept c keeps C = (let u = keeps c.word C.slot C.there C.serial in record { slot = u.0; there = u.1; serial = u.2 ∙ C.serial })

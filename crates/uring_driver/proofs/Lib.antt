@@ -1,5 +1,6 @@
 mod Means
 mod Finish
+mod Pushable
 mod Entering
 mod Kept
 pub mod Steps

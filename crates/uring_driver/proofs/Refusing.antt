@@ -10,7 +10,7 @@ use Rattle.ring_core.specs.declared.entry.Body.TheVariants.{Call as Calls, Cance
 use Rattle.ring_core.specs.declared.entry.Flight.{Flight}
 use Rattle.ring_core.specs.declared.request.Told.{Told}
 use Rattle.ring_core.specs.declared.mem_ring.ExecRefusal.{ExecRefusal}
-use Rattle.ring_core.specs.declared.mem_ring.ExecRefusal.TheVariants.{NotFlying, BadOutcome, OutOfMemory}
+use Rattle.ring_core.specs.declared.mem_ring.ExecRefusal.TheVariants.{NotFlying, Waiting, BadOutcome, OutOfMemory}
 use Rattle.ring_core.specs.Ledger.{Ledger, Item, Op}
 use Rattle.ring_core.specs.Refusal.{allowed}
 use Rattle.uring_driver.specs.declared.uring.IoUringDriver.{IoUringDriver}
@@ -19,7 +19,8 @@ use Rattle.uring_driver.specs.Lists.{FlightFor, is_call, item_in, item_of}
 use Rattle.uring_driver.specs.Executed.{RefusedFor}
 use Rattle.uring_driver.specs.Stands.{Stands}
 use Rattle.uring_driver.proofs.Means.{means-of}
-use Rattle.uring_driver.proofs.Kept.{call-item}
+use Rattle.uring_driver.proofs.Kept.{call-item, free-flown}
+use Rattle.ring_core.proofs.Binding.{never-bound}
 use Rattle.uring_driver.proofs.Steps.{unrefused-exec, cause-flying, cause-outcome, allowed-op}
 use Rattle.uring_driver.proofs.Flights.{o, which, allows-is, flying-at}
 use Rattle.uring_driver.proofs.ExecutingCloses.{close-allows}
@@ -29,6 +30,7 @@ pub refused-keeps : {P : Type 0} (offers : P → ℕ → List ℕ) (stores : P �
     (place : ℕ) (told : Told) (before after : P) (why : ExecRefusal) →
     ExecutesFor offers stores takes old place told new before after (Err why) → after ≡ before
 refused-keeps offers stores takes old new place told before after NotFlying refused = refused.2
+refused-keeps offers stores takes old new place told before after Waiting refused = refused.2
 refused-keeps offers stores takes old new place told before after BadOutcome refused = refused.2
 refused-keeps offers stores takes old new place told before after OutOfMemory refused = refused.2
 
@@ -70,6 +72,9 @@ module _ {B : Type 0} (buffer : B → Buffer) (d : IoUringDriver RingView B) (L 
   unfolding AllowsFor
   refuses-executes offers stores new before after takes NotFlying past =
       cause-flying L place told (omega (arith, ap length old.ring.in_lists.flying, length-map (ring_in d).flying item_of, past.0))
+  refuses-executes offers stores new before after takes Waiting waits =
+      never-bound (ring_in d).flying place
+      (λ i f h. free-flown buffer d.slots.values L.ops f f.entry.body (old.ring.in_lists.in_flight i f h)) waits.0
   refuses-executes offers stores new before after takes BadOutcome bad =
       let a = allows-at bad.0.flight bad.0.there in cause-outcome L place told a.0 a.1 (a.2 ∙ bad.0.forbids)
   refuses-executes offers stores new before after takes OutOfMemory short =

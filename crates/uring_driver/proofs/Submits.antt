@@ -16,7 +16,7 @@ use Rattle.ring_core.specs.Ranks.{one_if}
 use Rattle.ring_core.specs.Request.{named, makes, call_of, held_of, plain_request}
 use Rattle.ring_core.specs.declared.request.Request.{Request}
 use Rattle.ring_core.proofs.Requests.{named-mapped}
-use Rattle.ring_core.specs.declared.entry.Body.TheVariants.{Call as Calls}
+use Rattle.ring_core.specs.Entry.{call_entry}
 use Rattle.ring_core.specs.declared.entry.Entry.{Entry}
 use Rattle.ring_core.specs.declared.ledger.Event.TheVariants.{Submit}
 use Rattle.ring_core.specs.declared.ledger.Reply.TheVariants.{Submitted, CanceledAtOnce}
@@ -150,7 +150,7 @@ module _ {R B : Type 0} (view : R → RingView) (buffer : B → Buffer) where
       new.slots.values ≡ insert d.slots.values key (record { serial = d.given; request = request; life = Fresh }) →
       mid ≡ with_spare (room_made (whole_ring view d)) spare → length mid.queue < mid.capacity →
       whole_ring view new
-      ≡ with_spare (pushed mid (record { word = key; serial = d.given; body = Calls (call_of (plain_request buffer request)) })) spare' →
+      ≡ with_spare (pushed mid (call_entry key d.given false (call_of (plain_request buffer request)))) spare' →
       IsSameHolding d.holding held → len d.slots.values + (places held + one_if (makes request)) + 1 ≤ room_in new →
       CanJoin held.table (named request) → new.given ≡ d.given + 1 → new.holding ≡ op_joined held (named request) (makes request) →
       IsUnder L under handle → IfSome under (λ g. g < length d.members.groups) → is_under_canceled d.members under ≡ false →
@@ -162,7 +162,7 @@ module _ {R B : Type 0} (view : R → RingView) (buffer : B → Buffer) where
       let r = plain_request buffer request in
       let v = whole_ring view d in
       let before = means-of old in
-      let entry : Entry = record { word = key; serial = d.given; body = Calls (call_of r) } in
+      let entry : Entry = call_entry key d.given false (call_of r) in
       let names : named r ≡ named request = named-mapped buffer (λ parts. parts) request in
       let user' = lacks-none d L (named r) old.handles.holders.users (ap (holds_all d) names ∙ user) in
       let s = step-submit L r handle (under-known L r under handle names_group) user'

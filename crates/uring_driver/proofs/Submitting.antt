@@ -1,5 +1,5 @@
 -- What a new operation and its entry do to a ring and slots that mean a ledger.
-use Rattle.std.proofs.Common.{◌≡◌, ◌≢◌, ◌⊎◌, inl, inr, ℕ, ◌+◌, ◌<◌, true, List, [], ◌∷◌, ◌++◌, length, Option, Some, None, refl, sym, ◌∙◌}
+use Rattle.std.proofs.Common.{◌≡◌, ◌≢◌, ◌⊎◌, inl, inr, ℕ, ◌+◌, ◌<◌, true, false, List, [], ◌∷◌, ◌++◌, length, Option, Some, None, refl, sym, ◌∙◌}
 use Rattle.std.proofs.Common.{ap, subst, arith}
 use Rattle.std.specs.Prelude.{slice_get}
 use Rattle.std.specs.Ordering.{nat_cmp}
@@ -16,8 +16,8 @@ use Rattle.ring_core.specs.declared.entry.Entry.{Entry}
 use Rattle.ring_core.specs.declared.entry.Completion.{Completion}
 use Rattle.ring_core.specs.declared.entry.Flight.{Flight}
 use Rattle.ring_core.specs.declared.request.Request.{Request}
-use Rattle.ring_core.specs.declared.entry.Body.TheVariants.{Call as Calls, Cancel as Cancels}
-use Rattle.ring_core.specs.Entry.{target}
+use Rattle.ring_core.specs.declared.entry.Body.TheVariants.{Cancel as Cancels}
+use Rattle.ring_core.specs.Entry.{target, call_entry}
 use Rattle.ring_core.specs.Ledger.{Ledger, Req, Operation, Place, InQueue, InDone, is_live, new_operation}
 use Rattle.ring_core.specs.Queue.{append}
 use Rattle.ring_core.specs.Step.{with_new_op}
@@ -40,7 +40,7 @@ module _ {B : Type 0} (buffer : B → Buffer) (w : RingView) (slots : FinMap nat
   t = record { serial = given; request = request; life = Fresh }
 
   abbrev e : Entry
-  e = record { word = key; serial = given; body = Calls (call_of (plain_request buffer request)) }
+  e = call_entry key given false (call_of (plain_request buffer request))
 
   abbrev new : Operation
   new = new_operation (plain_request buffer request) group
@@ -71,10 +71,11 @@ module _ {B : Type 0} (buffer : B → Buffer) (w : RingView) (slots : FinMap nat
     there = get-front M.ops (new ∷ []) x.entry.serial a.operation a.there;
     stays = a.stays;
     marked = a.marked;
+    free = a.free;
   }
 
   entry-kept : (x : Entry) → EntryFor buffer slots x → EntryFor buffer (insert slots key t) x
-  entry-kept x E = record { slot = E.slot; there = kept x.word E.slot E.there; serial = E.serial; call = E.call }
+  entry-kept x E = record { slot = E.slot; there = kept x.word E.slot E.there; serial = E.serial; call = E.call; unlinked = E.unlinked }
 
   completion-kept : (c : Completion) → CompletionFor slots c → CompletionFor (insert slots key t) c
   completion-kept c C = record { slot = C.slot; there = kept c.word C.slot C.there; serial = C.serial }
@@ -169,7 +170,7 @@ module _ {B : Type 0} (buffer : B → Buffer) (w : RingView) (slots : FinMap nat
       | inl a ↦ queued-kept buffer slots (insert slots key t) M.ops ops' x x.body (λ _ m. (entry-kept x m.0, at-kept x.serial InQueue m.1))
           (l.in_queue i x a)
       | inr a ↦ subst (λ y. QueuedFor buffer (insert slots key t) ops' y y.body) (sym a.1) (
-        record { slot = t; there = put-same slots key t; serial = refl; call = refl },
+        record { slot = t; there = put-same slots key t; serial = refl; call = refl; unlinked = refl },
         record {
           operation = new;
           there = there-new;
@@ -196,7 +197,7 @@ module _ {B : Type 0} (buffer : B → Buffer) (w : RingView) (slots : FinMap nat
     cancels = cancels-stay;
   })
 
-  pub means-pushed : Means buffer (pushed w (record { word = key; serial = given; body = Calls (call_of (plain_request buffer request)) }))
+  pub means-pushed : Means buffer (pushed w (call_entry key given false (call_of (plain_request buffer request))))
       (insert slots key (record { serial = given; request = request; life = Fresh }))
       (append (with_new_op M (new_operation (plain_request buffer request) group)) (Req given))
   means-pushed = record {

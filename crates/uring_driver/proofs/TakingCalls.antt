@@ -41,7 +41,7 @@ module _ {B : Type 0} (buffer : B → Buffer) (v : RingView) (slots : FinMap nat
   ops' = amended L.ops e.serial (at_place InFlight)
 
   abbrev f' : Flight
-  f' = record { entry = e; marked = false }
+  f' = record { entry = e; marked = false; bound = false }
 
   not-this : (m : ℕ) (p : Place) → IsAt L.ops m p → p ≢ InQueue → m ≢ e.serial
   unfolding here
@@ -70,6 +70,7 @@ module _ {B : Type 0} (buffer : B → Buffer) (v : RingView) (slots : FinMap nat
         (not-this f.entry.serial InFlight (flown-at L.ops f a) (λ q. cc)) ∙ a.there;
     stays = a.stays;
     marked = a.marked;
+    free = a.free;
   }
 
   fits : (t : Slot B) → t.serial ≡ e.serial → SlotFor buffer L.ops t → SlotFor buffer ops' t
@@ -113,6 +114,7 @@ module _ {B : Type 0} (buffer : B → Buffer) (v : RingView) (slots : FinMap nat
     there = get-amended-same (at_place InFlight) L.ops e.serial here.1.operation here.1.there;
     stays = refl;
     marked = uncanceled;
+    free = refl;
   }
 
   -- A call in flight has another number.

@@ -61,7 +61,7 @@ module _ {B : Type 0} (buffer : B → Buffer) (v : RingView) (slots : FinMap nat
   abbrev answer : Completion
   answer = record { word = e.word; serial = e.serial; outcome = Counted 0 }
 
-  is-cancel : (e.word ≡ CANCEL_WORD) × (key < FIRST_CLOSE)
+  is-cancel : (e.word ≡ CANCEL_WORD) × (key < FIRST_CLOSE) × (e.linked ≡ false)
   is-cancel = cancel-queued buffer slots L.ops e e.body (old.in_lists.in_queue 0 e (at-head v.queue e rest first)) key body
 
   -- The word of its completion is reserved, and names no slot.
@@ -96,12 +96,14 @@ module _ {B : Type 0} (buffer : B → Buffer) (v : RingView) (slots : FinMap nat
           stays = ap (λ x. x.place) (cancel-same a.operation.place a.operation) ∙ a.stays;
           marked = ap (λ b. f.marked || b) (equal-is f.entry.word key (meets.by_serial q)) ∙ or-true f.marked
               ∙ sym (ap (λ p. (canceled_at p a.operation).canceled) a.stays);
+          free = a.free;
         }
         | inr q ↦ record {
           operation = a.operation;
           there = get-amended-other with_cancel L.ops e.serial f.entry.serial q ∙ a.there;
           stays = a.stays;
           marked = ap (λ b. f.marked || b) (equal-other f.entry.word key (λ w. q (meets.by_word w))) ∙ or-false f.marked ∙ a.marked;
+          free = a.free;
         }
       ]
 

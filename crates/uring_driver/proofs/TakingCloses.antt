@@ -26,7 +26,7 @@ module _ {B : Type 0} (buffer : B → Buffer) (v : RingView) (slots : FinMap nat
   here = close-queued buffer slots L.ops e e.body (old.in_lists.in_queue 0 e (at-head v.queue e rest first)) k body
 
   abbrev f' : Flight
-  f' = record { entry = e; marked = false }
+  f' = record { entry = e; marked = false; bound = false }
 
   not-call : (x : Flight) → x ≡ f' → is_call x.entry.body ≡ true → ⊥
   not-call x h q = (let z : false ≡ true = sym (ap (λ y. is_call y.entry.body) h ∙ ap is_call body) ∙ q in cc)
@@ -42,7 +42,7 @@ module _ {B : Type 0} (buffer : B → Buffer) (v : RingView) (slots : FinMap nat
     in_flight = λ i x h. elim (get-pushed v.flying f' i x h) [
       | inl r ↦ old.in_lists.in_flight i x r
       | inr r ↦ subst (λ y. FlightFor buffer slots L.ops y y.entry.body) (sym r.1)
-          (subst (λ b. FlightFor buffer slots L.ops f' b) (sym body) (here.0, here.1, refl))
+          (subst (λ b. FlightFor buffer slots L.ops f' b) (sym body) (here.0, here.1, refl, refl))
     ];
     in_done = old.in_lists.in_done;
     queue_once = once-behind _ _ v.queue e rest first old.in_lists.queue_once;

@@ -102,8 +102,8 @@ module _ {R B : Type 0} (view : R → RingView) (buffer : B → Buffer) (tells s
       let later = later-behind (view (ring_in old)) (view (ring_in mid)) (due_in old) (due_in mid) enter.later in
       amid-mid (taken_front front.count L)
       (amid-front buffer (whole_ring view old) (whole_ring view mid) old.slots.values old.holding L (amid-of stands making-old) front.count
-      (means-took-front buffer (whole_ring view old) old.slots.values L (means-of stands) (whole_ring view mid) front.count later
-      front.took))
+      (means-took-front buffer (whole_ring view old) old.slots.values L (means-of stands) (whole_ring view mid) front.count
+      front.takings later front.took))
 
   all-mid : EnteredFor view tells steady old.ring mid.ring false →
       Amid buffer (whole_ring view mid) mid.slots.values mid.holding (take_all L)
@@ -112,8 +112,8 @@ module _ {R B : Type 0} (view : R → RingView) (buffer : B → Buffer) (tells s
       let later = later-behind (view (ring_in old)) (view (ring_in mid)) (due_in old) (due_in mid) enter.0.later in
       amid-mid (take_all L)
       (amid-all buffer (whole_ring view old) (whole_ring view mid) old.slots.values old.holding L (amid-of stands making-old)
-      (means-took-all buffer (whole_ring view old) old.slots.values L (means-of stands) (whole_ring view mid) front.count later
-      front.took (none-pending (view (ring_in mid)).queue (due_in mid) enter.1 enter.2)))
+      (means-took-all buffer (whole_ring view old) old.slots.values L (means-of stands) (whole_ring view mid) front.count
+      front.takings later front.took (none-pending (view (ring_in mid)).queue (due_in mid) enter.1 enter.2)))
 
   -- Against the ledger to which the enter led.
   module _ (K : Ledger) (amid : Amid buffer (whole_ring view mid) mid.slots.values mid.holding K)

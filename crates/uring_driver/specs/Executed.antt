@@ -1,12 +1,12 @@
 -- What an execution answers, of a driver that stands for a ledger, and of every driver.
-use Rattle.std.specs.Prelude.{ℕ, ◌≡◌, ◌≤◌, false, length, Some, None, Result, Ok, Err}
+use Rattle.std.specs.Prelude.{ℕ, ◌≡◌, ◌≤◌, true, false, length, Some, None, Result, Ok, Err}
 use Rattle.rent_buf.specs.Buffer.{Buffer}
 use Rattle.ring_core.specs.declared.request.Told.{Told}
 use Rattle.ring_core.specs.declared.ledger.Event.TheVariants.{Exec}
 use Rattle.ring_core.specs.declared.ledger.Reply.TheVariants.{ExecutedOp, ExecutedClose}
 use Rattle.ring_core.specs.declared.ledger.Refusal.TheVariants.{NotFlying as NoFlight, BadOutcome as WrongOutcome}
 use Rattle.ring_core.specs.declared.mem_ring.ExecRefusal.{ExecRefusal}
-use Rattle.ring_core.specs.declared.mem_ring.ExecRefusal.TheVariants.{NotFlying, BadOutcome, OutOfMemory}
+use Rattle.ring_core.specs.declared.mem_ring.ExecRefusal.TheVariants.{NotFlying, Waiting, BadOutcome, OutOfMemory}
 use Rattle.ring_core.specs.Refusal.{cause}
 use Rattle.ring_core.specs.Ledger.{Ledger}
 use Rattle.ring_core.specs.Ring.{RingView}
@@ -16,16 +16,17 @@ use Rattle.ring_core.specs.declared.entry.Completion.{Completion}
 use Rattle.ring_core.specs.declared.entry.Target.{Target}
 use Rattle.ring_core.specs.declared.entry.Target.TheVariants.{Slot as Keyed, Handle, Reserved}
 use Rattle.ring_core.specs.Entry.{target}
-use Rattle.ring_core.specs.MemRing.{IsExecuted, IsForbidden, MayRunOut}
+use Rattle.ring_core.specs.MemRing.{IsExecuted, IsForbidden, MayRunOut, is_bound}
 use Rattle.driver_core.specs.Operations.{offered, StoresAt}
 use Rattle.uring_driver.specs.declared.uring.IoUringDriver.{IoUringDriver}
 use Rattle.uring_driver.specs.Uring.{ring_in}
 use Rattle.uring_driver.specs.Op.{ops_in}
 use Rattle.uring_driver.specs.Stands.{Answers}
 
--- Why an execution was refused: by the machine's cause, or memory ran out and the machine names none.
+-- Why an execution was refused: by the machine's cause, or memory ran out and the machine names none. Nothing in flight waits.
 abbrev pub RefusedFor : Ledger → ℕ → Told → ExecRefusal → Type 0
 RefusedFor L place told NotFlying = cause L (Exec place told) ≡ Some NoFlight
+RefusedFor L place told Waiting = ⊥
 RefusedFor L place told BadOutcome = cause L (Exec place told) ≡ Some WrongOutcome
 RefusedFor L place told OutOfMemory = cause L (Exec place told) ≡ None
 
@@ -48,9 +49,10 @@ pub record IsExecutedOver {B : Type 0} (buffer : B → Buffer) (old : IoUringDri
   pub named : answer ≡ executed_as completion (target completion.word)
   pub executed : IsExecuted (offered buffer) (StoresAt buffer) (ring_in old) place told (ring_in new) (ops_in old) (ops_in new) completion
 
--- Why nothing was executed: there is nothing at the place, the outcome isn't allowed to it, or bytes are sent and memory ran out.
+-- Why nothing was executed: there is nothing at the place, it is bound, the outcome isn't allowed to it, or bytes are sent and memory ran out.
 abbrev pub NotExecuted : RingView → ℕ → Told → ExecRefusal → Type 0
 NotExecuted ring place told NotFlying = length ring.flying ≤ place
+NotExecuted ring place told Waiting = is_bound ring.flying place ≡ true
 NotExecuted ring place told BadOutcome = IsForbidden ring place told
 NotExecuted ring place told OutOfMemory = MayRunOut (λ count. false) ring place told
 

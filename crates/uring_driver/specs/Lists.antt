@@ -71,19 +71,21 @@ pub record IsAt (ops : List Operation) (number : ℕ) (place : Place) : Type 0 w
   pub there : slice_get ops number ≡ Some operation
   pub stays : operation.place ≡ place
 
--- An entry in flight is marked exactly where its operation's cancel was taken.
+-- An entry in flight is marked exactly where its operation's cancel was taken, and isn't bound.
 pub record IsFlown (ops : List Operation) (flight : Flight) : Type 0 where
   pub operation : Operation
   pub there : slice_get ops flight.entry.serial ≡ Some operation
   pub stays : operation.place ≡ InFlight
   pub marked : flight.marked ≡ operation.canceled
+  pub free : flight.bound ≡ false
 
--- An entry's word is the key of the slot that has its serial, and it asks for that slot's request.
+-- An entry's word is the key of the slot that has its serial, it asks for that slot's request, and it isn't linked.
 pub record EntryFor {B : Type 0} (buffer : B → Buffer) (slots : finite.FinMap nat_cmp (Slot B)) (entry : Entry) : Type 0 where
   pub slot : Slot B
   pub there : finite.get slots entry.word ≡ Some slot
   pub serial : slot.serial ≡ entry.serial
   pub call : entry.body ≡ Calls (call_of (plain_request buffer slot.request))
+  pub unlinked : entry.linked ≡ false
 
 -- A completion's word is the key of the slot that has its serial.
 pub record CompletionFor {B : Type 0} (slots : finite.FinMap nat_cmp (Slot B)) (completion : Completion) : Type 0 where
@@ -91,18 +93,20 @@ pub record CompletionFor {B : Type 0} (slots : finite.FinMap nat_cmp (Slot B)) (
   pub there : finite.get slots completion.word ≡ Some slot
   pub serial : slot.serial ≡ completion.serial
 
--- What stands in the queue, by its body: a call is that of an operation that is queued; the word of a cancel is reserved, and its key is
--- no close's word; a close is that of a handle below the bound of handles.
+-- What stands in the queue, by its body: a call is that of an operation that is queued; the word of a cancel is reserved, its key is no
+-- close's word, and it isn't linked; a close is that of a handle below the bound of handles.
 abbrev pub QueuedFor : {B : Type 0} → (B → Buffer) → finite.FinMap nat_cmp (Slot B) → List Operation → Entry → Body → Type 0
 QueuedFor buffer slots ops entry (Calls call) = EntryFor buffer slots entry × IsAt ops entry.serial InQueue
-QueuedFor buffer slots ops entry (Cancels key) = (entry.word ≡ CANCEL_WORD) × (key < FIRST_CLOSE)
+QueuedFor buffer slots ops entry (Cancels key) = (entry.word ≡ CANCEL_WORD) × (key < FIRST_CLOSE) × (entry.linked ≡ false)
 QueuedFor buffer slots ops entry (Closes h) = (entry ≡ close_entry h) × (h < MOST_HANDLES)
 
--- What is in flight, by its body: a call is that of an operation that is in flight, a close is never marked, and a cancel never flies.
+-- What is in flight, by its body: a call is that of an operation that is in flight, a close is never marked or bound, and a cancel never
+-- flies.
 abbrev pub FlightFor : {B : Type 0} → (B → Buffer) → finite.FinMap nat_cmp (Slot B) → List Operation → Flight → Body → Type 0
 FlightFor buffer slots ops flight (Calls call) = EntryFor buffer slots flight.entry × IsFlown ops flight
 FlightFor buffer slots ops flight (Cancels key) = ⊥
 FlightFor buffer slots ops flight (Closes h) = (flight.entry ≡ close_entry h) × (h < MOST_HANDLES) × (flight.marked ≡ false)
+    × (flight.bound ≡ false)
 
 -- What is done, by what its word names: a slot is that of an operation that is done with this outcome, a handle's close has its number as
 -- its serial too, and a reserved word says nothing.

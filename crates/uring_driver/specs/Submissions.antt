@@ -1,12 +1,13 @@
 -- The ring as the driver uses it: what is pending, and what entering it and joining it do. Cited by `Submissions`, and by the
 -- driver's calls.
-use Rattle.std.specs.Prelude.{ℕ, ◌≡◌, ◌+◌, ◌<◌, ◌≤◌, ◌==◌, ◌⊎◌, if◌then◌else◌, Bool, true, false, IsTrue, List, [], ◌∷◌, ◌++◌, length, drop}
+use Rattle.std.specs.Prelude.{ℕ, ◌≡◌, ◌+◌, ◌<◌, ◌≤◌, ◌==◌, ◌⊎◌, if◌then◌else◌, Bool, true, false, IsTrue, List, [], ◌∷◌, ◌++◌, length, take, drop}
 use Rattle.ring_core.specs.Counts.{Rose}
 use Rattle.ring_core.specs.declared.entry.Entry.{Entry}
 use Rattle.ring_core.specs.declared.ring.EnterError.{EnterError}
 use Rattle.ring_core.specs.declared.ring.EnterError.TheVariants.{Fault, Busy}
 use Rattle.ring_core.specs.Lends.{with_world}
-use Rattle.ring_core.specs.Ring.{RingView, IsLater, TookFront, entered, pushed, with_done}
+use Rattle.ring_core.specs.declared.entry.Flight.{Flight}
+use Rattle.ring_core.specs.Ring.{RingView, IsLater, entered, pushed, with_done, flying_after, done_after}
 use Rattle.uring_driver.specs.Pending.{Pending}
 
 -- Nothing is queued, in flight or standing.
@@ -43,10 +44,30 @@ IsSameButWorld old new = new ≡ record old { ring = with_world old.ring new.rin
 abbrev pub expected_in : {R : Type 0} → (R → RingView) → Pending R → ℕ
 expected_in view out = (length (view out.ring).done + (length (view out.ring).queue + length out.due)) + (view out.ring).to_come
 
--- A prefix of what is pending was taken, of some length.
+-- What is in flight after enters, one after another, each of which took these entries.
+abbrev pub flying_each : List Flight → List (List Entry) → List Flight
+flying_each flying [] = flying
+flying_each flying (entries ∷ takings) = flying_each (flying_after flying entries) takings
+
+-- The entries that enters took, in order.
+abbrev pub taken_by : List (List Entry) → List Entry
+taken_by [] = []
+taken_by (entries ∷ takings) = entries ++ taken_by takings
+
+-- A prefix of what is pending was taken, of `count` entries, by enters that took these entries, one after another.
+pub record TookEach (takings : List (List Entry)) (count : ℕ) (old new : RingView) : Type 0 where
+  pub within : count ≤ length old.queue
+  pub taken : taken_by takings ≡ take count old.queue
+  pub queue : new.queue ≡ drop count old.queue
+  pub flying : new.flying ≡ flying_each old.flying takings
+  pub done : new.done ≡ done_after old.done (take count old.queue)
+  pub world : new.world ≡ old.world
+
+-- A prefix of what is pending was taken, of some length, by some enters.
 pub record TakesFront (old new : RingView) : Type 0 where
   pub count : ℕ
-  pub took : TookFront count old new
+  pub takings : List (List Entry)
+  pub took : TookEach takings count old new
 
 -- What is pending went towards the ring, and a prefix of it was taken, with at most one completion for each of its entries, that came or
 -- is to come. No completion was lost.

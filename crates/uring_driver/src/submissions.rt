@@ -4,6 +4,7 @@ ghost use Rattle.std.specs.Prelude.{IfSome, IfNone, IfOk, IfErr, OnOk, OnErr};
 ghost use Rattle.ring_core.specs.Ring.{IsLater, NextFor, entered, pushed};
 ghost use Rattle.ring_core.specs.World.{fresh, look_at, WorldFeeds, WorldFeedsMessage, WorldEnds};
 ghost use Rattle.ring_core.specs.Lends.{with_world};
+ghost use Rattle.ring_core.specs.Entry.{may_link};
 ghost use Rattle.ring_core.specs.MemRing.{ExecutesFor};
 ghost use Rattle.uring_driver.specs.Finish.{over_ring, injected};
 ghost use Rattle.uring_driver.specs.Submissions.{with_spare, room_made, pending_ring, expected_in, IsSameButWorld};
@@ -32,7 +33,7 @@ pub struct Submissions<R: Ring> {
 impl<R: Ring> Model for Submissions<R> {
     ghost use Rattle.std.specs.Prelude.{◌≤◌, ◌+◌};
     ghost use Rattle.std.specs.VecDeque.{deque_len, deque_capacity};
-    ghost use Rattle.uring_driver.specs.Pending.{Pending, pending_code};
+    ghost use Rattle.uring_driver.specs.Pending.{Pending, pending_code, MayBePushed};
 
     ghost Value = { Pending R };
 
@@ -40,7 +41,8 @@ impl<R: Ring> Model for Submissions<R> {
 
     ghost view = { λ o. record { ring = o.ring; due = o.due.items; room = o.room } };
 
-    ghost invariant = { λ o. (deque_len o.due + o.room ≤ (R.view o.ring).spare) × (deque_len o.due + o.room ≤ deque_capacity o.due) };
+    ghost invariant = { λ o. (deque_len o.due + o.room ≤ (R.view o.ring).spare) × (deque_len o.due + o.room ≤ deque_capacity o.due) ×
+        MayBePushed o.due.items };
 }
 
 impl<R: Ring> Submissions<R> {
@@ -190,9 +192,11 @@ impl<R: Ring> Submissions<R> {
         self.make_room()
     }
 
-    /// An entry joins the end of what is pending: the queue's end, where nothing is due and the queue has room, else it is due.
+    /// An entry joins the end of what is pending: the queue's end, where nothing is due and the queue has room, else it is due. Only a call
+    /// is linked.
     pub fn join(&mut self, entry: Entry)
-        requires { 0 < self.old.room }
+        requires room { 0 < self.old.room }
+        requires links { IsTrue (may_link entry entry.body) }
         ensures told { IsTrue R.tells → pending_ring R.view self.new ≡
             with_spare (pushed (pending_ring R.view self.old) entry) (R.view self.new.ring).spare }
         ensures due { self.old.due ≡ [] → length (R.view self.old.ring).queue < (R.view self.old.ring).capacity → self.new.due ≡ [] }
@@ -215,9 +219,10 @@ impl<R: Ring> Submissions<R> {
     }
 
     /// Makes way for an entry, and lets it join the end of what is pending, also where the ring failed or is busy. It takes no
-    /// memory: its room was reserved before.
+    /// memory: its room was reserved before. Only a call is linked.
     pub fn post(&mut self, entry: Entry)
-        requires { 0 < self.old.room }
+        requires room { 0 < self.old.room }
+        requires links { IsTrue (may_link entry entry.body) }
         ensures posts { Posts R.view R.tells R.steady self.old self.new entry }
         ensures none { IsTrue R.steady → self.old.due ≡ [] → self.new.due ≡ [] }
     {

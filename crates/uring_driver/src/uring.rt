@@ -196,7 +196,7 @@ impl<R: Ring, B: IoBufMut + Drop> IoUringDriver<R, B> {
         let number = op.number();
         let key = op.key();
         self.members.set_key(number, key);
-        self.ring.join(Entry::call(key, number, call));
+        self.ring.join(Entry::call(key, number, false, call));
         Ok(Submitted::Op(op))
     }
 

@@ -1,5 +1,6 @@
 // Drivers over rings that aren't ours: they show no lists.
-ghost use Rattle.std.specs.Prelude.{◌≡◌, ◌≤◌, ◌+◌, false, [], length};
+ghost use Rattle.std.specs.Prelude.{◌≡◌, ◌≤◌, ◌+◌, false, [], length, OnSome};
+ghost use Rattle.ring_core.specs.Bound.{is_bound};
 
 use crate::tests::asks::Why;
 use crate::tests::bench::Bench;
@@ -47,7 +48,28 @@ impl HastyRing {
     }
 }
 
-/// What is in flight at a place fails.
+// What is in flight at a place is bound; nothing there isn't.
+#[tactic(auto, using(crate::proofs::Waits::within_entry, crate::proofs::Waits::none_entry))]
+fn waits(ring: &MemRing, place: usize) -> bool
+    ensures { result ≡ is_bound ring.now.flying place }
+{
+    match ring.flying_at(place) {
+        Some(_) => ring.bound(place),
+        None => false,
+    }
+}
+
+// What is in flight at a place, where nothing waits for it.
+fn alone_at(ring: &MemRing, place: usize) -> Option<Entry>
+    ensures { OnSome result (is_bound ring.now.flying (place + 1) ≡ false) }
+{
+    let entry = ring.flying_at(place)?;
+    let next = place.checked_add(1)?;
+    if waits(ring, next) { None } else { Some(entry) }
+}
+
+/// What is in flight at a place fails, where nothing waits for it.
+#[tactic(auto, using(crate::proofs::Waits::one_more))]
 pub(crate) fn fail_at(ring: &mut MemRing, place: usize, alloc: Global)
     ensures queue { ring.new.queue ≡ ring.old.queue }
     ensures capacity { ring.new.capacity ≡ ring.old.capacity }
@@ -57,7 +79,7 @@ pub(crate) fn fail_at(ring: &mut MemRing, place: usize, alloc: Global)
     ensures more { length ring.old.done ≤ length ring.new.done }
     ensures few { length ring.new.done ≤ length ring.old.done + 1 }
 {
-    let Some(entry) = ring.flying_at(place) else {
+    let Some(entry) = alone_at(ring, place) else {
         return;
     };
     let mut got = ByteList::new(alloc);

@@ -78,8 +78,9 @@ impl World {
             None => return WorldCall::WouldBlock,
         };
         let flight = Flight {
-            entry: Entry::call(0, 0, call),
+            entry: Entry::call(0, 0, false, call),
             marked: false,
+            bound: false,
         };
         match self.execute(&flight, told, request) {
             Ok(outcome) => WorldCall::Done(outcome),

@@ -31,11 +31,17 @@ pub(crate) fn bench_of(alloc: Global, entries: u32) -> Result<Bench<MemRing>, Wh
 
 impl<R: Ring> Stage for Bench<R> {
     fn push(&mut self, entry: Entry) -> Result<Push, Why> {
+        if !entry.may_link() {
+            return Err(Why::Unmet);
+        }
         self.ring.reserve(1)?;
         Ok(self.ring.push_reserved(entry))
     }
 
     fn push_both(&mut self, first: Entry, second: Entry) -> Result<(Push, Push), Why> {
+        if !first.may_link() || !second.may_link() {
+            return Err(Why::Unmet);
+        }
         self.ring.reserve(2)?;
         let one = self.ring.push_reserved(first);
         Ok((one, self.ring.push_reserved(second)))
@@ -143,6 +149,13 @@ impl Handles for Bench<MemRing> {
 
     fn flying_at(&self, place: usize) -> Option<Entry> {
         self.ring.flying_at(place)
+    }
+
+    fn bound(&self, place: usize) -> Option<bool> {
+        if self.ring.flying_at(place).is_none() {
+            return None;
+        }
+        Some(self.ring.bound(place))
     }
 
     fn finish(

@@ -12,6 +12,7 @@ use std::test::Fail;
 const FIVE: Entry = Entry {
     word: 5,
     serial: 6,
+    linked: false,
     body: Body::Call(Call::In { h: 0, ask: 1 }),
 };
 
@@ -19,6 +20,7 @@ const FIVE: Entry = Entry {
 const SIX: Entry = Entry {
     word: 6,
     serial: 5,
+    linked: false,
     body: Body::Call(Call::In { h: 0, ask: 1 }),
 };
 
@@ -26,6 +28,7 @@ const SIX: Entry = Entry {
 const CANCEL_FIVE: Entry = Entry {
     word: CANCEL_WORD,
     serial: 9,
+    linked: false,
     body: Body::Cancel(5),
 };
 
@@ -33,6 +36,7 @@ const CANCEL_FIVE: Entry = Entry {
 const CANCEL_SEVEN: Entry = Entry {
     word: CANCEL_WORD,
     serial: 9,
+    linked: false,
     body: Body::Cancel(7),
 };
 

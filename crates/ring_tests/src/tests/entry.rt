@@ -46,15 +46,15 @@ const CALL: Call = Call::In { h: 3, ask: 4 };
 // How an entry is made, and the entry.
 #[rattlefmt::skip]
 const ENTRIES: [(Makes, Entry); 3] = [
-    (Makes::Call(5, 7, CALL), Entry { word: 5, serial: 7, body: Body::Call(CALL) }),
-    (Makes::Cancel(5, 7), Entry { word: CANCEL_WORD, serial: 7, body: Body::Cancel(5) }),
-    (Makes::Close(9), Entry { word: 9223372036854775817, serial: 9, body: Body::Close(9) }),
+    (Makes::Call(5, 7, CALL), Entry { word: 5, serial: 7, linked: false, body: Body::Call(CALL) }),
+    (Makes::Cancel(5, 7), Entry { word: CANCEL_WORD, serial: 7, linked: false, body: Body::Cancel(5) }),
+    (Makes::Close(9), Entry { word: 9223372036854775817, serial: 9, linked: false, body: Body::Close(9) }),
 ];
 
 // Makes an entry; None where its condition isn't met.
 fn make(makes: Makes) -> Option<Entry> {
     match makes {
-        Makes::Call(key, serial, call) => Some(Entry::call(key, serial, call)),
+        Makes::Call(key, serial, call) => Some(Entry::call(key, serial, false, call)),
         Makes::Cancel(key, serial) => Some(Entry::cancel(key, serial)),
         Makes::Close(h) if h < MOST_HANDLES => Some(Entry::close(h)),
         Makes::Close(_) => None,

@@ -21,6 +21,7 @@ fn entry(word: u64) -> Entry {
     Entry {
         word,
         serial: word,
+        linked: false,
         body: Body::Close(word),
     }
 }

@@ -57,7 +57,7 @@ fn calls<S: Stage + Handles>(
     is_like(stage.give(kind)? == 0)?;
     feeds(stage, kind, fed)?;
     is_like(stage.give(HandleKind::Pipe)? == 1)?;
-    submit(stage, Entry::call(5, 7, call))
+    submit(stage, Entry::call(5, 7, false, call))
 }
 
 // The execution of a row.

@@ -14,6 +14,7 @@ const STREAM: Step = Give(HandleKind::Stream, 0);
 const READ: Entry = Entry {
     word: 5,
     serial: 7,
+    linked: false,
     body: Body::Call(Call::In { h: 0, ask: 2 }),
 };
 
@@ -21,6 +22,7 @@ const READ: Entry = Entry {
 const SEND: Entry = Entry {
     word: 5,
     serial: 7,
+    linked: false,
     body: Body::Call(Call::Out { h: 0, ask: 5 }),
 };
 
@@ -28,12 +30,14 @@ const SEND: Entry = Entry {
 const FIRST: Entry = Entry {
     word: 0,
     serial: 0,
+    linked: false,
     body: Body::Call(Call::In { h: 0, ask: 1 }),
 };
 
 const SECOND: Entry = Entry {
     word: 1,
     serial: 1,
+    linked: false,
     body: Body::Call(Call::In { h: 0, ask: 1 }),
 };
 

@@ -66,6 +66,9 @@ pub(crate) trait Handles {
     /// What is in flight at a place.
     fn flying_at(&self, place: usize) -> Option<Entry>;
 
+    /// Whether what is in flight at a place is bound; None where there is nothing.
+    fn bound(&self, place: usize) -> Option<bool>;
+
     /// What an execution with these bytes to send answers, and the bytes that came.
     fn finish(
         &mut self,

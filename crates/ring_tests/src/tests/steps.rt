@@ -20,6 +20,12 @@ pub(crate) enum Step {
     Submit(Entry),
     /// Two entries are pushed at once, with these answers.
     Both(Entry, Entry, Push, Push),
+    /// Entries are pushed, in order.
+    Pushes(&'static [Entry]),
+    /// So many entries are entered.
+    Enter(u32),
+    /// Whether what is in flight at the first places is bound, and nothing is behind them.
+    Bound(&'static [bool]),
     /// What is in flight at a place.
     Flies(usize, Option<Entry>),
     /// What is in flight at a place is executed, with these bytes to send: its answer, and the bytes that come.
@@ -35,6 +41,7 @@ pub(crate) fn read_entry(word: u64, serial: u64, ask: u32) -> Entry {
     Entry {
         word,
         serial,
+        linked: false,
         body: Body::Call(Call::In { h: 0, ask }),
     }
 }
@@ -44,6 +51,7 @@ pub(crate) fn send_entry(word: u64, serial: u64, ask: u32) -> Entry {
     Entry {
         word,
         serial,
+        linked: false,
         body: Body::Call(Call::Out { h: 0, ask }),
     }
 }
@@ -81,6 +89,22 @@ fn has<S: Stage>(stage: &S, queued: u32, ready: usize) -> Result<(), Why> {
     is_like(now.1 == queued && now.2 == ready)
 }
 
+// Entries are pushed, in order.
+fn pushes_each<S: Stage>(stage: &mut S, entries: &[Entry]) -> Result<(), Why> {
+    for entry in entries {
+        is_like(stage.push(*entry)? == Push::Done)?;
+    }
+    Ok(())
+}
+
+// What is in flight at the first places is bound or not, and nothing is behind them.
+fn are_bound<S: Handles>(stage: &S, want: &[bool]) -> Result<(), Why> {
+    for place in 0..want.len() {
+        is_like(stage.bound(place) == Some(want[place]))?;
+    }
+    is_like(stage.bound(want.len()).is_none())
+}
+
 // Makes a step. `Unlike` comes where it answers otherwise than it says.
 fn make_step<S: Stage + Handles>(stage: &mut S, step: Step) -> Result<(), Why> {
     match step {
@@ -91,6 +115,9 @@ fn make_step<S: Stage + Handles>(stage: &mut S, step: Step) -> Result<(), Why> {
         Step::Look(h, want) => shows(stage, h, want),
         Step::Submit(entry) => submit(stage, entry),
         Step::Both(first, second, one, other) => pushes(stage, (first, second), (one, other)),
+        Step::Pushes(entries) => pushes_each(stage, entries),
+        Step::Enter(count) => is_like(stage.enter() == Ok(count)),
+        Step::Bound(want) => are_bound(stage, want),
         Step::Flies(place, want) => is_like(stage.flying_at(place) == want),
         Step::Finish(place, told, sent, want, came) => {
             finishes(stage, place, told, sent, want, came)

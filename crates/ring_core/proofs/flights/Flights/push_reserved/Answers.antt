@@ -1,4 +1,5 @@
-use Rattle.std.proofs.Common.{◌≡◌, [], ◌∷◌, ◌++◌, true, false, length, sym, ap, subst, ◌∙◌, arith}
+use Rattle.std.proofs.Common.{◌≡◌, [], ◌∷◌, ◌++◌, true, length, sym, ap, subst, ◌∙◌, arith}
+use Rattle.ring_core.specs.Ring.{fresh_flight}
 use Rattle.ring_core.specs.Ranks.{kept, kept_first}
 use Rattle.ring_core.specs.Flights.{words_of}
 use Rattle.ring_core.specs.Links.{AreLinked}
@@ -63,5 +64,5 @@ returns c =
     (ap (λ flags. kept flags c.push_reserved.new.self.items) c.link.ensures.flags
     ∙ ap (kept (c.make_way.new.ranks.flags ++ true ∷ [])) c.push_reserved.ensures.items
     ∙ kept-joined c.make_way.new.ranks.flags c.make_way.new.items.items _ (omega arith)
-    ∙ ap (λ flights. flights ++ record { entry = c.args.entry; marked = false } ∷ []) c.make_way.ensures.kept)
-    ∙ ap (λ v. in_flight v.room (v.flights ++ record { entry = c.args.entry; marked = false } ∷ [])) c.self.view_is
+    ∙ ap (λ flights. flights ++ fresh_flight c.args.entry c.args.bound ∷ []) c.make_way.ensures.kept)
+    ∙ ap (λ v. in_flight v.room (v.flights ++ fresh_flight c.args.entry c.args.bound ∷ [])) c.self.view_is

@@ -10,7 +10,7 @@ returns-in-Ok-clause-executes g c =
     c.execute.new.payloads c.complete.result)
     c.self.view_is
     (run-executed _ _ _ _ c.execute.new.self _ _ _ _ c.in-Some.flight c.in-Ok.outcome _
-    (sym c.in-Some.ensures.value) c.in-Ok.ensures.runs
+    (sym c.in-Some.ensures.value) c.if-flight.false c.in-Ok.ensures.runs
     (subst (λ (f : InFlight). c.complete.new.self ≡ completed (record {
       capacity = c.self.inside.entries;
       queue = c.self.inside.queue.items;

@@ -11,6 +11,7 @@ returns-in-Ok-clause-calls g c =
     (ap (attempt c.args.self.now) (sym c.call-call.ensures) ∙ sym c.in-Some.ensures.attempt) (record {
       entry = c.call.result;
       marked = false;
+      bound = false;
     }) (ap (λ entry. entry.body) c.call.ensures ∙ ap Calls c.call-call.ensures) _ _ _ c.in-Ok.ensures.runs
 
 pub returns-in-Ok-clause-surroundings : goal.returns-in-Ok-clause-surroundings
@@ -19,6 +20,7 @@ returns-in-Ok-clause-surroundings g c =
     (ap (attempt c.args.self.now) (sym c.call-call.ensures) ∙ sym c.in-Some.ensures.attempt) (record {
       entry = c.call.result;
       marked = false;
+      bound = false;
     }) (ap (λ entry. entry.body) c.call.ensures ∙ ap Calls c.call-call.ensures) _ _ _ c.in-Ok.ensures.runs
 
 pub returns-in-Err-OutOfMemory-clause-calls : goal.returns-in-Err-OutOfMemory-clause-calls
@@ -27,5 +29,6 @@ returns-in-Err-OutOfMemory-clause-calls g c =
     (ap (attempt c.args.self.now) (sym c.call-call.ensures) ∙ sym c.in-Some.ensures.attempt) (record {
       entry = c.call.result;
       marked = false;
+      bound = false;
     }) (ap (λ entry. entry.body) c.call.ensures ∙ ap Calls c.call-call.ensures) _ _ c.execute.result
     (c.in-Err-OutOfMemory.is ∙ ap Err c.in-Err-OutOfMemory.field-0-is) c.execute.ensures.runs

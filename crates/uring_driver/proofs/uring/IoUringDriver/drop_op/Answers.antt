@@ -53,8 +53,8 @@ invariant_of-self g c =
           c.number.result c.number.ensures c.leave.ensures.left c.drop_op.ensures.tokens c.self.invariant.2,
     )
 
-pub post-requires : goal.post-requires
-post-requires g c =
+pub post-requires-clause-room : goal.post-requires-clause-room
+post-requires-clause-room g c =
     let d : State g.row.R.Denot g.row.B.Denot =
     by_parts c.self.inside.ring c.self.inside.ops c.self.inside.handles c.self.inside.members in
     let holds : Holds d c.args.op = subst (λ x. Holds x c.args.op) (sym c.self.view_is) c.requires in

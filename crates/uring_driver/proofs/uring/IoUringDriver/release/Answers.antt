@@ -10,8 +10,8 @@ use Rattle.uring_driver.specs.Uring.{holds_handle}
 use Rattle.uring_driver.proofs.Handling.{kept-fewer, len-still, len-unheld, room-held, not-last, releases-held, releases-last, close-moves}
 use Rattle.uring_driver.proofs.uring.IoUringDriver.release.Goals as goal
 
-pub post-requires : goal.post-requires
-post-requires g c =
+pub post-requires-clause-room : goal.post-requires-clause-room
+post-requires-clause-room g c =
     let held = subst (λ x. holds_handle x c.args.fd ≡ true) (sym c.self.view_is) c.requires in
     room-held c.self.inside.ring.room c.self.inside.ops.slots.values c.self.inside.handles c.args.fd c.self.invariant.0 held
 

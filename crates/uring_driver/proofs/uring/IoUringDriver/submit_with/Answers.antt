@@ -1,10 +1,10 @@
-use Rattle.std.proofs.Common.{IsTrue, IfSome, ◌<◌, ◌+◌, ◌≤◌, refl, sym, ap, subst, ◌∙◌, arith, length, length-append}
+use Rattle.std.proofs.Common.{false, IsTrue, IfSome, ◌<◌, ◌+◌, ◌≤◌, refl, sym, ap, subst, ◌∙◌, arith, length, length-append}
 use Rattle.std.specs.FinMap as map
 use Rattle.op_slots.specs.declared.slab.TheConstants.{MAX_LIVE}
+use Rattle.ring_core.specs.Entry.{call_entry}
 use Rattle.ring_core.specs.Ring.{pushed}
 use Rattle.ring_core.specs.Request.{named, makes}
 use Rattle.ring_core.specs.Ranks.{one_if}
-use Rattle.ring_core.specs.declared.entry.Body.TheVariants.{Call}
 use Rattle.driver_core.specs.declared.operations.TheConstants.{MOST_GIVEN}
 use Rattle.driver_core.specs.Holds.{CanJoin}
 use Rattle.driver_core.specs.Slot.{number_at}
@@ -146,11 +146,9 @@ returns-clause-answers g c =
     (c.in-Ok.ensures.told tells (fits-split (view d.ring.ring).queue d.ring.due (view d.ring.ring).capacity stands.fits))
     roomy
     (c.join-2.ensures.told tells ∙ ap (λ e. with_spare (pushed mid e) spare) c.call.ensures
-    ∙ ap (λ k. with_spare (pushed mid
-    (record { word = k; serial = c.number-number.result; body = Call c.call-call.result })) spare) c.key-key.ensures
-    ∙ ap (λ n. with_spare (pushed mid (record { word = op.key; serial = n; body = Call c.call-call.result })) spare)
-    (c.number-number.ensures ∙ puts.number)
-    ∙ ap (λ x. with_spare (pushed mid (record { word = op.key; serial = d.given; body = Call x })) spare) c.call-call.ensures)
+    ∙ ap (λ k. with_spare (pushed mid (call_entry k c.number-number.result false c.call-call.result)) spare) c.key-key.ensures
+    ∙ ap (λ n. with_spare (pushed mid (call_entry op.key n false c.call-call.result)) spare) (c.number-number.ensures ∙ puts.number)
+    ∙ ap (λ x. with_spare (pushed mid (call_entry op.key d.given false x)) spare) c.call-call.ensures)
     same more can puts.given (c.join.ensures ∙ ap (λ hs. op_joined held hs c.makes-maker.result) c.names.ensures
     ∙ ap (op_joined held (named c.args.request)) c.makes-maker.ensures)
     named_by within open_group op puts.number adds members)

@@ -4,8 +4,8 @@ use Rattle.uring_driver.specs.Submissions.{Posts, PostsEach}
 use Rattle.uring_driver.proofs.Groups.{few-cancels, few-taken, more-cancels, posts-more, posts-room}
 use Rattle.uring_driver.proofs.uring.groups.post_cancels.Goals as goal
 
-pub post-requires : goal.post-requires
-post-requires g c =
+pub post-requires-clause-room : goal.post-requires-clause-room
+post-requires-clause-room g c =
     let front = take c.loop-i.i c.args.numbers.now in
     let some = few-cancels c.args.members.now front in
     let less = few-taken c.loop-i.i c.args.numbers.now in
