@@ -10,7 +10,7 @@ use Rattle.core_exec.specs.Marks.{has_number, with_mark, ready_tasks}
 use Rattle.core_exec.specs.Turns.{Turns, AddsOutputs}
 use Rattle.core_exec.specs.Exec.{HasAims, fresh}
 use Rattle.core_exec.proofs.Counted.{not_some}
-use Rattle.core_exec.proofs.Late.{not_both}
+use Rattle.core_exec.proofs.Marking.{not_both}
 use Rattle.core_exec.proofs.Reaching.{there_marked}
 
 -- No task is there where there is none.
@@ -97,7 +97,7 @@ module _ {J O : Type 0} (aim : J → List ℕ) (meets : List ℕ → O → Type 
     of_outputs = subst (λ x. All (λ o. meets (aims o.0) o.1) x) (sym outputs) has.of_outputs;
   }
 
-module _ {D J : Type 0} (fits : D → J → Type 0) (apart : J → J → Type 0) (driver : D) where
+module _ {D J : Type 0} (fits : D → ℕ → J → Type 0) (apart : J → J → Type 0) (driver : D) where
   -- The same jobs are as sound.
   pub sound_same : (old new : ℕ → Option (Task J)) → ((s : ℕ) → new s ≡ old s) → AreSound fits apart driver (λ s. job_in (old s))
       → AreSound fits apart driver (λ s. job_in (new s))
@@ -119,12 +119,13 @@ module _ {D J : Type 0} (fits : D → J → Type 0) (apart : J → J → Type 0)
 
   -- So they are with one more that fits and has no operation.
   pub sound_spawn : (old new : ℕ → Option (Task J)) (t : ℕ) (job : J) (deadline : Option ℕ) → new t ≡ Some (fresh job deadline)
-      → ((s : ℕ) → s ≢ t → new s ≡ old s) → fits driver job → ((other : J) → apart job other) → ((one other : J) → apart one other
+      → ((s : ℕ) → s ≢ t → new s ≡ old s) → fits driver t job → ((other : J) → apart job other) → ((one other : J) → apart one other
       → apart other one)
       → AreSound fits apart driver (λ s. job_in (old s)) → AreSound fits apart driver (λ s. job_in (new s))
   sound_spawn old new t job deadline this rest fit idle both sound = record {
     all_fit = λ s one is. elim (eqb_tells s t) [
-      | inl e ↦ subst (fits driver) (some_is job job one (sym (ap job_in this) ∙ subst (λ x. job_in (new x) ≡ Some one) e.1 is)) fit
+      | inl e ↦ subst (λ x. fits driver x one) (sym e.1)
+          (subst (fits driver t) (some_is job job one (sym (ap job_in this) ∙ subst (λ x. job_in (new x) ≡ Some one) e.1 is)) fit)
       | inr e ↦ sound.all_fit s one (sym (ap job_in (rest s e.1)) ∙ is)
     ];
     all_apart = λ r s one other differ is are. elim (eqb_tells r t) [

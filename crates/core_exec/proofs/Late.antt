@@ -7,13 +7,9 @@ use Rattle.core_exec.specs.declared.table.Flags.{Flags}
 use Rattle.core_exec.specs.declared.deadlines.Deadlines.{Deadlines}
 use Rattle.core_exec.specs.Tasks.{mark_of, canceled_of, deadline_of, FlagsOf}
 use Rattle.core_exec.specs.Deadlines.{is_set, LeavesSet}
-use Rattle.core_exec.specs.Marks.{with_mark, has_come, has_number, is_late, ready_tasks, MarkedLate, AreSet, LateOf}
+use Rattle.core_exec.specs.Marks.{with_mark, has_come, has_number, is_late, ready_tasks, MarkedLate, AreSet}
 use Rattle.core_exec.proofs.Visiting.{or_true}
-use Rattle.core_exec.proofs.Marking.{no_mark, mark_stays, two_marks}
-
--- No test is both.
-pub not_both : {A : Type 0} → ◌≡◌ {A = Bool} false true → A
-not_both e = absurd (subst (λ (b : Bool). elim b as (λ _. Type 0) [ true ↦ ⊥ | false ↦ Unit {0} ]) e tt)
+use Rattle.core_exec.proofs.Marking.{no_mark, mark_stays, not_both, two_marks}
 
 -- What makes a task late: it wasn't canceled, and has a deadline that has come.
 pub record IsLate (now : ℕ) (canceled : Bool) (deadline : Option ℕ) : Type 0 where
@@ -48,8 +44,8 @@ module _ {J : Type 0} where
       ap (λ c. not c && has_come now (deadline_of x)) canceled ∙ ap (has_come now) has ∙ test
 
   -- What is asked of a task says whether it is late.
-  pub late_flags : (now : ℕ) (x : Option (Task J)) (flags : Flags) (late : Bool) → FlagsOf x (Some flags) → LateOf now flags late
-      → late ≡ is_late now x
+  pub late_flags : (now : ℕ) (x : Option (Task J)) (flags : Flags) (late : Bool) → FlagsOf x (Some flags)
+      → late ≡ (not flags.canceled && has_come now flags.deadline) → late ≡ is_late now x
   late_flags now None flags late of by = absurd of
   late_flags now (Some task) flags late of by =
       by ∙ ap (λ c. not c && has_come now flags.deadline) of.2 ∙ ap (λ d. not task.canceled && has_come now d) of.1

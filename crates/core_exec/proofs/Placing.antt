@@ -14,7 +14,7 @@ use Rattle.core_exec.specs.Marks.{has_number, is_late, with_mark, ready_tasks}
 use Rattle.core_exec.specs.Places.{ArePlaced, StayPlaced, outputs_at, places}
 use Rattle.core_exec.specs.Steps.{StepsTask, StepsOutput}
 use Rattle.core_exec.specs.Exec.{fresh}
-use Rattle.core_exec.proofs.Late.{not_both}
+use Rattle.core_exec.proofs.Marking.{not_both}
 use Rattle.core_exec.proofs.Reaching.{there_marked}
 
 -- An output joins others.

@@ -14,7 +14,7 @@ use Rattle.core_exec.specs.Tasks.{job_in, mark_of, aim_in}
 use Rattle.core_exec.specs.Marks.{has_number, is_late, Covers}
 use Rattle.core_exec.specs.Steps.{StepsTask, StepsOutput, with_number, is_polled, is_done, is_stopped}
 use Rattle.core_exec.specs.Turns.{Turns, Reaches, StopsAt, AddsOutputs}
-use Rattle.core_exec.proofs.Late.{not_both}
+use Rattle.core_exec.proofs.Marking.{not_both}
 use Rattle.core_exec.proofs.Counted.{not_some}
 use Rattle.core_exec.proofs.Turning.{stop_of, next_turn, has_snoc}
 

@@ -1,35 +1,22 @@
 -- A marked task's part of a turn, and the deadlines behind it.
-use Rattle.std.proofs.Common.{ℕ, ◌≡◌, ◌≢◌, ◌≤◌, ◌∙◌, ◌⊎◌, inl, inr, ap, sym, refl, subst, Bool, true, false, List, Some, None}
+use Rattle.std.proofs.Common.{ℕ, ◌≡◌, ◌≢◌, ◌≤◌, ◌∙◌, ◌⊎◌, inl, inr, ap, sym, refl, subst, Bool, true, false, List, Some}
 use Rattle.std.specs.Prelude.{Option, IsSome}
 use Rattle.std.proofs.lemmas.Bool.Decides.{eqb_tells}
 use Rattle.core_exec.specs.declared.table.Task.{Task}
-use Rattle.core_exec.specs.declared.table.Flags.{Flags}
 use Rattle.core_exec.specs.declared.visit.Visit.{Visit}
 use Rattle.core_exec.specs.declared.visit.Visit.TheVariants.{Done, Pending, Short, Refused}
 use Rattle.core_exec.specs.declared.deadlines.Deadlines.{Deadlines}
-use Rattle.core_exec.specs.Tasks.{job_in, mark_of, canceled_of, deadline_of, FlagsOf, HaveJobs}
+use Rattle.core_exec.specs.Tasks.{job_in, mark_of, canceled_of, deadline_of, HaveJobs}
 use Rattle.core_exec.specs.Deadlines.{is_set, KeepsSet}
-use Rattle.core_exec.specs.Marks.{is_late, AreSet, LateOf}
+use Rattle.core_exec.specs.Marks.{is_late, AreSet}
 use Rattle.core_exec.specs.Visits.{VisitsTask}
-use Rattle.core_exec.specs.Steps.{ends_at}
-use Rattle.core_exec.proofs.Late.{late_flags, late_parts, is_late_by, not_both}
+use Rattle.core_exec.specs.Steps.{StepsTask, ends_at}
+use Rattle.core_exec.proofs.Late.{is_late_by}
+use Rattle.core_exec.proofs.Marking.{not_both}
 use Rattle.core_exec.proofs.Counted.{not_some}
 use Rattle.core_exec.proofs.Visiting.{or_parts}
 
 module _ {J : Type 0} where
-  -- Whether a task is late, as its flags say.
-  pub marked_late : (now : ℕ) (x : Option (Task J)) (flags : Flags) (late : Bool) → FlagsOf x (Some flags) → LateOf now flags late
-      → is_late now x ≡ late
-  marked_late now x flags late of by = sym (late_flags now x flags late of by)
-
-  -- A late task wasn't canceled.
-  pub late_not_canceled : (now : ℕ) (x : Option (Task J)) (flags : Flags) (late : Bool) → FlagsOf x (Some flags)
-      → LateOf now flags late → late ≡ true
-      → flags.canceled ≡ false
-  late_not_canceled now None flags late of by is = absurd of
-  late_not_canceled now (Some task) flags late of by is =
-      of.2 ∙ (late_parts now (Some task) (sym (late_flags now (Some task) flags late of by) ∙ is)).not_canceled
-
   -- What a visit leaves of a task that wasn't canceled: it wasn't late, and has its deadline still.
   kept_by_visit : (polls cancels : J → ℕ) (aim : J → List ℕ) (late : Bool) (was is : Option (Task J)) (visit : Visit) (d : ℕ)
       → VisitsTask polls cancels aim late was is visit → canceled_of is ≡ false → deadline_of is ≡ Some d
@@ -45,7 +32,7 @@ module _ {J : Type 0} where
       (sym (ap canceled_of by.0) ∙ canceled, sym (ap deadline_of by.0) ∙ has, refl, inr by.0)
 
   -- The deadlines that are set behind a visit.
-  pub set_behind_visit : (polls cancels : J → ℕ) (aim : J → List ℕ) (now t : ℕ) (old new : ℕ → Option (Task J))
+  set_behind_visit : (polls cancels : J → ℕ) (aim : J → List ℕ) (now t : ℕ) (old new : ℕ → Option (Task J))
       (before after : Deadlines) (visit : Visit)
       → VisitsTask polls cancels aim (is_late now (old t)) (old t) (new t) visit → AreSet now old before
       → ((s : ℕ) → s ≢ t → new s ≡ old s) → ((d s : ℕ) → s ≢ t → is_set before d s ≡ true → is_set after d s ≡ true)
@@ -78,7 +65,7 @@ module _ {J : Type 0} where
       (λ x. IsSome x) by.0 there))
 
   -- Each task has its job behind a visit.
-  pub jobs_behind_visit : (polls cancels : J → ℕ) (aim : J → List ℕ) (late : Bool) (t : ℕ) (old new : ℕ → Option (Task J)) (visit : Visit)
+  jobs_behind_visit : (polls cancels : J → ℕ) (aim : J → List ℕ) (late : Bool) (t : ℕ) (old new : ℕ → Option (Task J)) (visit : Visit)
       → VisitsTask polls cancels aim late (old t) (new t) visit → HaveJobs old → ((s : ℕ) → s ≢ t → new s ≡ old s) → HaveJobs new
   jobs_behind_visit polls cancels aim late t old new visit by have rest = record {
     has_job = λ s there. elim (eqb_tells s t) [
@@ -87,3 +74,17 @@ module _ {J : Type 0} where
       | inr e ↦ subst (λ x. IsSome (job_in x)) (sym (rest s e.1)) (have.has_job s (subst (λ x. IsSome x) (rest s e.1) there))
     ];
   }
+
+  -- The same where the task was ready, as its step says.
+  pub set_behind_step : (polls cancels : J → ℕ) (aim : J → List ℕ) (now t : ℕ) (old new : ℕ → Option (Task J))
+      (before after : Deadlines) (visit : Visit)
+      → StepsTask polls cancels aim now (old t) (new t) (Some visit) → AreSet now old before
+      → ((s : ℕ) → s ≢ t → new s ≡ old s) → ((d s : ℕ) → s ≢ t → is_set before d s ≡ true → is_set after d s ≡ true)
+      → (ends_at visit ≡ false → KeepsSet before after) → AreSet now new after
+  set_behind_step polls cancels aim now t old new before after visit by =
+      set_behind_visit polls cancels aim now t old new before after visit by.1
+
+  pub jobs_behind_step : (polls cancels : J → ℕ) (aim : J → List ℕ) (now t : ℕ) (old new : ℕ → Option (Task J)) (visit : Visit)
+      → StepsTask polls cancels aim now (old t) (new t) (Some visit) → HaveJobs old → ((s : ℕ) → s ≢ t → new s ≡ old s) → HaveJobs new
+  jobs_behind_step polls cancels aim now t old new visit by =
+      jobs_behind_visit polls cancels aim (is_late now (old t)) t old new visit by.1

@@ -11,7 +11,7 @@ use Rattle.core_exec.specs.Polls.{IsPolled}
 use Rattle.core_exec.specs.Marks.{has_number, is_late}
 use Rattle.core_exec.specs.Steps.{StepsTask, with_number, is_polled, is_done, is_stopped}
 use Rattle.core_exec.specs.Turns.{AllAbove, Ascends, Turns}
-use Rattle.core_exec.proofs.Late.{not_both}
+use Rattle.core_exec.proofs.Marking.{not_both}
 use Rattle.core_exec.proofs.Counted.{not_some}
 use Rattle.core_exec.proofs.Visiting.{or_true, or_false, or_parts}
 use Rattle.core_exec.proofs.Marking.{or_assoc}

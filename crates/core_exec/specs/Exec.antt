@@ -42,8 +42,8 @@ pub record KeepsDriver {D J O : Type 0} (old new : Exec D J O) : Type 0 where
   pub same_turns : turns_of new ≡ turns_of old
   pub same_moment : moment_of new ≡ moment_of old
 
--- Each unfinished job fits the driver, and no two have an operation in common.
-abbrev pub IsSound : {D J O : Type 0} → (D → J → Type 0) → (J → J → Type 0) → Exec D J O → Type 0
+-- Each unfinished job fits the driver as its task, and no two have an operation in common.
+abbrev pub IsSound : {D J O : Type 0} → (D → ℕ → J → Type 0) → (J → J → Type 0) → Exec D J O → Type 0
 IsSound fits apart exec = AreSound fits apart exec.driver (jobs_of exec)
 
 -- The tasks of a turn, of which the ready ones are marked.

@@ -1,3 +1,4 @@
+pub mod Answers
 pub mod Deadlines
 pub mod Exec
 pub mod Job

@@ -3,7 +3,6 @@ use Rattle.std.specs.Prelude.{ℕ, ◌≡◌, ◌≤◌, ◌+◌, ◌⊎◌, ◌
 use Rattle.std.specs.Prelude.{None, option_map}
 use Rattle.std.specs.List.{Contains}
 use Rattle.std.specs.Vec.{vec_len, vec_capacity}
-use Rattle.core_exec.specs.declared.table.Flags.{Flags}
 use Rattle.core_exec.specs.declared.table.Task.{Task}
 use Rattle.core_exec.specs.declared.deadlines.Deadlines.{Deadlines}
 use Rattle.core_exec.specs.declared.ready.Ready.{Ready}
@@ -27,10 +26,6 @@ has_come now None = false
 -- A task is late: its deadline has come, and it wasn't canceled.
 abbrev pub is_late : {J : Type 0} → ℕ → Option (Task J) → Bool
 is_late now task = not (canceled_of task) && has_come now (deadline_of task)
-
--- What is asked of a task says whether it is late.
-abbrev pub LateOf : ℕ → Flags → Bool → Type 0
-LateOf now flags late = late ≡ (not flags.canceled && has_come now flags.deadline)
 
 -- The list has each task that is marked.
 abbrev pub Covers : {J : Type 0} → (ℕ → Option (Task J)) → List ℕ → Type 0

@@ -2,6 +2,7 @@
 use Rattle.std.specs.Prelude.{ℕ, ◌≡◌, ◌++◌, Bool, true, false, cond, List, [], ◌∷◌, Option, Some, None}
 use Rattle.core_exec.specs.declared.table.Task.{Task}
 use Rattle.core_exec.specs.declared.visit.Visit.{Visit}
+use Rattle.core_exec.specs.declared.visit.Visited.{Visited}
 use Rattle.core_exec.specs.declared.visit.Visit.TheVariants.{Done, Pending, Short, Refused}
 use Rattle.core_exec.specs.Tasks.{mark_of}
 use Rattle.core_exec.specs.Marks.{is_late}
@@ -42,6 +43,11 @@ is_done None = false
 abbrev pub is_stopped : Option Visit → Bool
 is_stopped (Some visit) = stops_at visit
 is_stopped None = false
+
+-- How the part of a task ended that may not have been ready.
+abbrev pub visit_in : Option Visited → Option Visit
+visit_in (Some visited) = Some visited.visit
+visit_in None = None
 
 -- A task without a mark stays as it is, and a marked one has its part of the turn.
 abbrev pub StepsTask : {J : Type 0} → (J → ℕ) → (J → ℕ) → (J → List ℕ) → ℕ → Option (Task J) → Option (Task J) → Option Visit → Type 0

@@ -1,10 +1,11 @@
 -- The unfinished tasks of an executor, by number. Cited by `Table`.
-use Rattle.std.specs.Prelude.{ℕ, ◌≡◌, ◌≢◌, ◌+◌, Bool, true, false, cond, List, [], ◌∷◌, Option, Some, None, IsSome}
+use Rattle.std.specs.Prelude.{ℕ, ◌≡◌, ◌≢◌, ◌+◌, Bool, true, false, not, cond, List, [], ◌∷◌, Option, Some, None, IsSome}
 use Rattle.std.specs.Ordering.{nat_cmp}
 use Rattle.std.specs.BTreeMap as tree
 use Rattle.core_exec.specs.declared.table.Task.{Task}
 use Rattle.core_exec.specs.declared.table.Flags.{Flags}
 use Rattle.core_exec.specs.declared.table.Table.{Table}
+use Rattle.core_exec.specs.declared.table.Taken.{Taken}
 
 -- The unfinished task of a number.
 abbrev pub task_at : {J : Type 0} → Table J → ℕ → Option (Task J)
@@ -40,15 +41,15 @@ abbrev pub aim_in : {J : Type 0} → (J → List ℕ) → Option J → List ℕ
 aim_in aim (Some job) = aim job
 aim_in aim None = []
 
--- Each of some jobs, by number, fits the driver, and no two have an operation in common.
-pub record AreSound {D J : Type 0} (fits : D → J → Type 0) (apart : J → J → Type 0) (driver : D) (jobs : ℕ → Option J) : Type 0 where
-  pub all_fit : (t : ℕ) (job : J) → jobs t ≡ Some job → fits driver job
+-- Each of some jobs, by number, fits the driver as the task of its number, and no two have an operation in common.
+pub record AreSound {D J : Type 0} (fits : D → ℕ → J → Type 0) (apart : J → J → Type 0) (driver : D) (jobs : ℕ → Option J) : Type 0 where
+  pub all_fit : (t : ℕ) (job : J) → jobs t ≡ Some job → fits driver t job
   pub all_apart : (s t : ℕ) (one other : J) → s ≢ t → jobs s ≡ Some one → jobs t ≡ Some other → apart one other
 
--- A job fits the driver, and has no operation with one of some jobs.
-pub record IsApart {D J : Type 0} (fits : D → J → Type 0) (apart : J → J → Type 0) (driver : D) (jobs : ℕ → Option J)
-    (job : J) : Type 0 where
-  pub fit : fits driver job
+-- A job fits the driver as the task of a number, and has no operation with one of some jobs.
+pub record IsApart {D J : Type 0} (fits : D → ℕ → J → Type 0) (apart : J → J → Type 0) (driver : D) (jobs : ℕ → Option J)
+    (t : ℕ) (job : J) : Type 0 where
+  pub fit : fits driver t job
   pub from : (s : ℕ) (other : J) → jobs s ≡ Some other → apart job other
 
 -- Each task has its job.
@@ -59,6 +60,11 @@ pub record HaveJobs {J : Type 0} (tasks : ℕ → Option (Task J)) : Type 0 wher
 abbrev pub cost : {J : Type 0} → Option (Task J) → ℕ
 cost (Some task) = cond task.marked 0 1
 cost None = 0
+
+-- There is a task that was looked up, and it has no mark.
+abbrev pub is_unmarked : {J : Type 0} → Option (Task J) → Bool
+is_unmarked (Some task) = not task.marked
+is_unmarked None = false
 
 -- How many of some entries are tasks without a mark.
 abbrev pub unmarked : {J : Type 0} → List (ℕ × Task J) → ℕ
@@ -78,6 +84,15 @@ without_job task = record task { job = None }
 
 abbrev pub with_job : {J : Type 0} → J → Bool → Bool → Task J → Task J
 with_job job marked canceled task = record task { job = Some job; marked = marked; canceled = canceled }
+
+-- A marked task, with its job or while that is taken out.
+abbrev pub marked_task : {J : Type 0} → Option J → Option ℕ → Bool → Task J
+marked_task job deadline canceled = record { job = job; marked = true; deadline = deadline; canceled = canceled }
+
+-- The job of a marked task was taken out.
+pub record TakesMarked {J : Type 0} (was is : Option (Task J)) (taken : Taken J) : Type 0 where
+  pub with_it : was ≡ Some (marked_task (Some taken.job) taken.deadline taken.canceled)
+  pub without : is ≡ Some (marked_task None taken.deadline taken.canceled)
 
 -- What is asked of a task that was looked up.
 abbrev pub FlagsOf : {J : Type 0} → Option (Task J) → Option Flags → Type 0

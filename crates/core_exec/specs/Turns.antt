@@ -5,6 +5,7 @@ use Rattle.std.specs.List.{All}
 use Rattle.std.specs.Vec.{vec_len, vec_capacity}
 use Rattle.std.specs.Global.{Vec}
 use Rattle.core_exec.specs.declared.table.Task.{Task}
+use Rattle.core_exec.specs.declared.turn.Ran.{Ran}
 use Rattle.core_exec.specs.Tasks.{job_in, mark_of, canceled_of, count_in, aim_in}
 use Rattle.core_exec.specs.Polls.{IsPolled}
 use Rattle.core_exec.specs.Marks.{has_number, is_late}
@@ -62,6 +63,13 @@ pub record AddsOutputs {J O : Type 0} (aim : J → List ℕ) (meets : List ℕ �
 pub record AreCounted {J : Type 0} (polls cancels : J → ℕ) (most : ℕ) (tasks : ℕ → Option (Task J)) : Type 0 where
   pub polls_within : (t : ℕ) → count_in polls (job_in (tasks t)) ≤ most
   pub asked_once : (t : ℕ) → count_in cancels (job_in (tasks t)) ≡ cond (canceled_of (tasks t)) 1 0
+
+-- The lists of an answer are empty, and no task is named.
+pub record DidNothing (ran : Ran) : Type 0 where
+  pub polled : ran.polled.items ≡ []
+  pub canceled : ran.canceled.items ≡ []
+  pub done : ran.done.items ≡ []
+  pub stopped : ran.stopped ≡ None
 
 -- A list has no number, and room for so many.
 abbrev pub HasRoom : Vec ℕ → ℕ → Type 0

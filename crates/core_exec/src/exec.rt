@@ -5,7 +5,7 @@ ghost use Rattle.std.specs.List.{All};
 ghost use Rattle.std.specs.List.Sorted.{IsNonDecreasingBy, IsPermutation};
 ghost use Rattle.std.specs.Vec.{vec_len, vec_capacity};
 ghost use Rattle.core_exec.specs.Tasks.{HaveJobs, IsApart, unmarked_in};
-ghost use Rattle.core_exec.specs.Turns.{AreCounted, Reaches};
+ghost use Rattle.core_exec.specs.Turns.{AreCounted, DidNothing, Reaches};
 ghost use Rattle.core_exec.specs.Exec.{IsSound, KeepsDriver, KeepsPlaces, MeetAims, OutputsOf, Spawns, Stands, TakesOut, TurnsTo};
 ghost use Rattle.core_exec.specs.Marks.{AreListed, HasDeadlines, with_mark};
 ghost use Rattle.core_exec.specs.Places.{ArePlaced, outputs_at};
@@ -86,7 +86,6 @@ impl<D, J: Job<D>> Exec<D, J, J::Out> {
     /// names them, and those whose deadline has come and that weren't canceled. Each ready task is polled once, in ascending order; a late
     /// one is canceled before. If memory runs out at a task, the turn ends there, and that task and those behind it are ready in the next
     /// turn. `OutOfMemory` comes if memory runs out for the lists of the answer; then no task is polled, and the ready ones are marked.
-    #[tactic(auto, using(crate::proofs::Aims::aims_ready, crate::proofs::Aims::aims_same, crate::proofs::Aims::aims_turn, crate::proofs::Placing::stay_marked, crate::proofs::Placing::stay_turn, crate::proofs::Placing::placed_marked, crate::proofs::Placing::placed_turn))]
     pub fn turn(&mut self, now: u64, named: &[u64]) -> Result<Ran, OutOfMemory>
         requires stands { Stands J.polls J.cancels self.old }
         requires sound { IsSound J.fits J.apart self.old }
@@ -110,19 +109,43 @@ impl<D, J: Job<D>> Exec<D, J, J::Out> {
         ensures err { OnErr result ((self.new.driver ≡ self.old.driver) × (outputs_of self.new ≡ outputs_of self.old)) }
         ensures not_counted { OnErr result (turns_of self.new ≡ turns_of self.old) }
     {
+        let mut ran = Ran::new(*self.outputs.allocator());
+        match self.turn_into(now, named, &mut ran) {
+            Ok(()) => Ok(ran),
+            Err(error) => Err(error),
+        }
+    }
+
+    /// A turn as `turn` makes it. Its answer is put into the lists of an earlier one, so that it takes memory only where these are too
+    /// short. `OutOfMemory` comes as there, and then the lists are empty. (not in monoio)
+    #[tactic(auto, using(crate::proofs::Aims::aims_ready, crate::proofs::Aims::aims_same, crate::proofs::Aims::aims_turn, crate::proofs::Placing::stay_marked, crate::proofs::Placing::stay_turn, crate::proofs::Placing::placed_marked, crate::proofs::Placing::placed_turn))]
+    pub fn turn_into(&mut self, now: u64, named: &[u64], ran: &mut Ran) -> Result<(), OutOfMemory>
+        requires stands { Stands J.polls J.cancels self.old }
+        requires sound { IsSound J.fits J.apart self.old }
+        requires moment { moment_of self.old ≤ now }
+        requires counter { turns_of self.old < 2 ^ 62 }
+        ensures stands { Stands J.polls J.cancels self.new }
+        ensures sound { IsSound J.fits J.apart self.new }
+        ensures moment { moment_of self.new ≡ now }
+        ensures spawned { spawned_of self.new ≡ spawned_of self.old }
+        ensures aims { (aims : ℕ → List ℕ) → MeetAims J.aim J.meets aims self.old → MeetAims J.aim J.meets aims self.new }
+        ensures turns { OnOk result (TurnsTo J.polls J.cancels J.aim now named.now self.old self.new ran.new) }
+        ensures reaches { OnOk result (Reaches (ready_of now named.now self.old) (tasks_of self.new) ran.new.polled.items ran.new.stopped) }
+        ensures outputs { OnOk result (OutputsOf J.aim J.meets (ready_of now named.now self.old) self.old self.new ran.new) }
+        ensures places { KeepsPlaces self.old self.new }
+        ensures counted { OnOk result (turns_of self.new ≡ turns_of self.old + 1) }
+        ensures marked { OnErr result ((t : ℕ) → tasks_of self.new t ≡ ready_of now named.now self.old t) }
+        ensures err { OnErr result ((self.new.driver ≡ self.old.driver) × (outputs_of self.new ≡ outputs_of self.old)) }
+        ensures not_counted { OnErr result (turns_of self.new ≡ turns_of self.old) }
+        ensures nothing { OnErr result (DidNothing ran.new) }
+    {
         self.ready.mark_ready(now, named);
-        let alloc = *self.outputs.allocator();
-        let mut ran = Ran::with_room(alloc, self.ready.marks.len())?;
-        let (came, stopped) = poll_ready(
-            &mut self.driver,
-            &mut self.ready,
-            &mut self.outputs,
-            &mut ran,
-        );
+        ran.make_room(self.ready.marks.len())?;
+        let (came, stopped) = poll_ready(&mut self.driver, &mut self.ready, &mut self.outputs, ran);
         self.ready.drop_first(came);
         self.turns += 1;
         ran.stopped = stopped;
-        Ok(ran)
+        Ok(())
     }
 
     /// Makes an unfinished task ready in the next turn, as a waker from another thread does. It takes no memory, and a number of no
@@ -178,8 +201,9 @@ impl<D, J: Job<D>> Exec<D, J, J::Out> {
         ensures kept { KeepsDriver self.old self.new }
         ensures outputs { outputs_of self.new ≡ outputs_of self.old }
         ensures counted { OnErr result ((spawned_of self.new ≡ spawned_of self.old) × (left_of self.new ≡ left_of self.old)) }
-        // A job that fits the driver and has no operation joins the others; with its number's aim, it meets it.
-        ensures sound { J.fits self.old.driver job → J.idle job → IsSound J.fits J.apart self.old → IsSound J.fits J.apart self.new }
+        // A job that fits the driver as its task and has no operation joins the others; with its number's aim, it meets it.
+        ensures sound { J.fits self.old.driver (spawned_of self.old) job → J.idle job → IsSound J.fits J.apart self.old
+            → IsSound J.fits J.apart self.new }
         ensures aims { (aims : ℕ → List ℕ) → aims (spawned_of self.old) ≡ J.aim job
             → MeetAims J.aim J.meets aims self.old → MeetAims J.aim J.meets aims self.new }
     {
@@ -227,8 +251,9 @@ impl<D, J: Job<D>> Exec<D, J, J::Out> {
         ensures kept { KeepsDriver self.old self.new }
         ensures outputs { outputs_of self.new ≡ outputs_of self.old }
         ensures counted { OnErr result ((spawned_of self.new ≡ spawned_of self.old) × (left_of self.new ≡ left_of self.old)) }
-        // A job that fits the driver and has no operation joins the others; with its number's aim, it meets it.
-        ensures sound { J.fits self.old.driver job → J.idle job → IsSound J.fits J.apart self.old → IsSound J.fits J.apart self.new }
+        // A job that fits the driver as its task and has no operation joins the others; with its number's aim, it meets it.
+        ensures sound { J.fits self.old.driver (spawned_of self.old) job → J.idle job → IsSound J.fits J.apart self.old
+            → IsSound J.fits J.apart self.new }
         ensures aims { (aims : ℕ → List ℕ) → aims (spawned_of self.old) ≡ J.aim job
             → MeetAims J.aim J.meets aims self.old → MeetAims J.aim J.meets aims self.new }
     {
@@ -248,8 +273,9 @@ impl<D, J: Job<D>> Exec<D, J, J::Out> {
         ensures kept { KeepsDriver self.old self.new }
         ensures outputs { outputs_of self.new ≡ outputs_of self.old }
         ensures counted { OnErr result ((spawned_of self.new ≡ spawned_of self.old) × (left_of self.new ≡ left_of self.old)) }
-        // A job that fits the driver and has no operation joins the others; with its number's aim, it meets it.
-        ensures sound { J.fits self.old.driver job → J.idle job → IsSound J.fits J.apart self.old → IsSound J.fits J.apart self.new }
+        // A job that fits the driver as its task and has no operation joins the others; with its number's aim, it meets it.
+        ensures sound { J.fits self.old.driver (spawned_of self.old) job → J.idle job → IsSound J.fits J.apart self.old
+            → IsSound J.fits J.apart self.new }
         ensures aims { (aims : ℕ → List ℕ) → aims (spawned_of self.old) ≡ J.aim job
             → MeetAims J.aim J.meets aims self.old → MeetAims J.aim J.meets aims self.new }
     {
@@ -294,9 +320,9 @@ impl<D, J: Job<D>> Exec<D, J, J::Out> {
         ensures numbers { (spawned_of self.new ≡ spawned_of self.old) × (outputs_of self.new ≡ outputs_of self.old) }
         ensures aims { (aims : ℕ → List ℕ) → MeetAims J.aim J.meets aims self.old → MeetAims J.aim J.meets aims self.new }
         ensures sound { IsSound J.fits J.apart self.old → IsSound J.fits J.apart self.new }
-        // It fits the driver, and has no operation with those that are left.
+        // It fits the driver as that task, and has no operation with those that are left.
         ensures apart { IfSome result (λ taken. IsSound J.fits J.apart self.old
-            → IsApart J.fits J.apart self.new.driver (jobs_of self.new) taken.1) }
+            → IsApart J.fits J.apart self.new.driver (jobs_of self.new) taken.0 taken.1) }
     {
         let t = self.ready.table.first()?;
         Some((t, self.take_out(t)))

@@ -31,8 +31,8 @@ pub trait Job<D>: Sized {
     // An output meets an aim.
     ghost meets: { List ℕ → Self.Out → Type 0 };
 
-    // The driver holds each of its operations, and the user each of its handles.
-    ghost fits: { D → Self → Type 0 };
+    // The driver holds each of its operations for the task of this number.
+    ghost fits: { D → ℕ → Self → Type 0 };
 
     // No operation is of both.
     ghost apart: { Self → Self → Type 0 };
@@ -42,26 +42,26 @@ pub trait Job<D>: Sized {
 
     /// Polls it, as the task of a number.
     fn poll(self, driver: &mut D, task: u64) -> JobStep<Self, Self::Out>
-        requires fits { fits driver.old self }
+        requires fits { fits driver.old task self }
         requires counter { polls self < 2 ^ 62 }
         ensures step { Steps polls cancels aim meets self result }
-        ensures fits { IfBack result (fits driver.new) }
+        ensures fits { IfBack result (fits driver.new task) }
 
         // Each other job that has no operation with this one fits still, and has none with the one that comes back.
-        ensures others { (other : Self) → fits driver.old other → apart self other → fits driver.new other }
-        ensures apart { IfBack result (λ job. (other : Self) → fits driver.old other → apart self other → apart job other) };
+        ensures others { (other : Self) (s : ℕ) → fits driver.old s other → apart self other → fits driver.new s other }
+        ensures apart { IfBack result (λ job. (other : Self) (s : ℕ) → fits driver.old s other → apart self other → apart job other) };
 
     /// Asks for the cancel of what it waits for. If memory runs out, the job is as it was.
     fn cancel(&mut self, driver: &mut D) -> Result<(), OutOfMemory>
-        requires fits { fits driver.old self.old }
+        requires fits { (s : ℕ) × fits driver.old s self.old }
         requires counter { cancels self.old < 2 ^ 62 }
         ensures ok { OnOk result (cancels self.new ≡ cancels self.old + 1) }
         ensures err { OnErr result (self.new ≡ self.old) }
         ensures polls { polls self.new ≡ polls self.old }
         ensures aim { aim self.new ≡ aim self.old }
-        ensures fits { fits driver.new self.new }
-        ensures others { (other : Self) → fits driver.old other → apart self.old other → fits driver.new other }
-        ensures apart { (other : Self) → fits driver.old other → apart self.old other → apart self.new other };
+        ensures fits { (s : ℕ) → fits driver.old s self.old → fits driver.new s self.new }
+        ensures others { (other : Self) (s : ℕ) → fits driver.old s other → apart self.old other → fits driver.new s other }
+        ensures apart { (other : Self) (s : ℕ) → fits driver.old s other → apart self.old other → apart self.new other };
 
     // It is so from either side.
     ghost apart_both: { (one other : Self) → apart one other → apart other one };

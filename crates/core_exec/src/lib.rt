@@ -4,7 +4,6 @@
 mod deadlines;
 mod exec;
 mod job;
-mod poll;
 mod ready;
 mod table;
 mod turn;

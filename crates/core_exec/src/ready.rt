@@ -1,5 +1,5 @@
 // Unfinished tasks, a list of those that are marked, and the deadlines that are to come.
-ghost use Rattle.std.specs.Prelude.{◌≡◌, ◌≢◌, ◌<◌, ◌≤◌, ◌+◌, ◌==◌, ℕ, option_map, true, false, drop, OnOk};
+ghost use Rattle.std.specs.Prelude.{◌≡◌, ◌≢◌, ◌<◌, ◌≤◌, ◌+◌, ◌==◌, ◌&&◌, ℕ, not, option_map, true, false, drop, OnOk};
 ghost use Rattle.std.specs.Ordering.{nat_cmp};
 ghost use Rattle.std.specs.List.Sorted.{IsSorted};
 ghost use Rattle.std.specs.Vec.{vec_len, vec_capacity};
@@ -7,10 +7,10 @@ ghost use Rattle.std.specs.BTreeMap.{btree_map_len};
 ghost use Rattle.std.specs.BTreeSet.{btree_set_len};
 ghost use Rattle.core_exec.specs.Deadlines.{is_set, IsSetAt, KeepsSet};
 ghost use Rattle.core_exec.specs.Tasks.{task_at, mark_of, unmarked_in};
-ghost use Rattle.core_exec.specs.Marks.{AreListed, Covers, HasDeadlines, MarkedLate, with_mark, has_number, is_late, ready_tasks, LateOf};
+ghost use Rattle.core_exec.specs.Marks.{AreListed, Covers, HasDeadlines, MarkedLate, with_mark, has_come, has_number, is_late, ready_tasks};
 
 use crate::deadlines::Deadlines;
-use crate::table::{Flags, Table};
+use crate::table::Table;
 use rent_buf::OutOfMemory;
 
 // The unfinished tasks, with what finds those that are ready.
@@ -25,14 +25,14 @@ pub(crate) struct Ready<J> {
     pub(crate) moment: u64,
 }
 
-// A task is late at a moment.
-pub(crate) fn late_at(flags: Flags, now: u64) -> bool
-    ensures { LateOf now flags result }
+// A task of this deadline, which was canceled or not, is late at a moment.
+pub(crate) fn late_at(deadline: Option<u64>, canceled: bool, now: u64) -> bool
+    ensures { result ≡ (not canceled && has_come now deadline) }
 {
-    if flags.canceled {
+    if canceled {
         return false;
     }
-    match flags.deadline {
+    match deadline {
         Some(at) => at <= now,
         None => false,
     }
@@ -40,7 +40,7 @@ pub(crate) fn late_at(flags: Flags, now: u64) -> bool
 
 impl<J> Ready<J> {
     // Marks a task, if there is one of that number.
-    #[tactic(auto, using(crate::proofs::Marking::mark_once, crate::proofs::Marking::mark_again, crate::proofs::Marking::mark_none, crate::proofs::Marking::covers_more))]
+    #[tactic(auto, using(crate::proofs::Marking::mark_once, crate::proofs::Marking::covers_more, crate::proofs::Marking::covers_again, crate::proofs::Marking::costs_one, crate::proofs::Marking::costs_none))]
     pub(crate) fn mark(&mut self, t: u64)
         requires listed { AreListed self.old }
         ensures listed { AreListed self.new }
@@ -49,14 +49,8 @@ impl<J> Ready<J> {
         ensures deadlines { self.new.deadlines ≡ self.old.deadlines }
         ensures moment { self.new.moment ≡ self.old.moment }
     {
-        match self.table.flags(t) {
-            Some(flags) => {
-                if !flags.marked {
-                    self.table.mark(t);
-                    self.marks.push_reserved(t);
-                }
-            }
-            None => {}
+        if self.table.mark(t) {
+            self.marks.push_reserved(t);
         }
     }
 
@@ -88,7 +82,7 @@ impl<J> Ready<J> {
     {
         match self.table.flags(t) {
             Some(flags) => {
-                if late_at(flags, self.moment) {
+                if late_at(flags.deadline, flags.canceled, self.moment) {
                     self.mark(t);
                 }
             }

@@ -1,7 +1,9 @@
 //! Unfinished tasks, by number.
-ghost use Rattle.std.specs.Prelude.{◌≡◌, ◌≢◌, ◌+◌, ◌≤◌, ◌↔◌, ℕ, Some, None, IsSome, IsNone, IfSome, OnOk, OnErr, IfErr, cond, option_map};
+ghost use Rattle.std.specs.Prelude.{◌≡◌, ◌≢◌, ◌+◌, ◌≤◌, ◌↔◌, ℕ, Some, None, IsSome, IsNone, IfSome, IfNone, OnOk, OnErr, IfErr};
+ghost use Rattle.std.specs.Prelude.{cond, false, option_map};
 ghost use Rattle.std.specs.BTreeMap.{btree_map_len};
-ghost use Rattle.core_exec.specs.Tasks.{task_at, job_at, unmarked_in, cost, marked, without_job, with_job, FlagsOf};
+ghost use Rattle.core_exec.specs.Tasks.{task_at, job_at, mark_of, unmarked_in, cost, is_unmarked, marked, without_job, with_job, FlagsOf};
+ghost use Rattle.core_exec.specs.Tasks.{TakesMarked};
 
 use std::alloc::Global;
 use std::collections::BTreeMap;
@@ -23,6 +25,16 @@ pub struct Task<J> {
 pub(crate) struct Flags {
     // The next turn polls it.
     pub(crate) marked: bool,
+    // The moment from which on it is late, if it has one.
+    pub(crate) deadline: Option<u64>,
+    // Its cancel was asked for.
+    pub(crate) canceled: bool,
+}
+
+// The job of a marked task, with what a turn asks of the task.
+pub(crate) struct Taken<J> {
+    // Its job.
+    pub(crate) job: J,
     // The moment from which on it is late, if it has one.
     pub(crate) deadline: Option<u64>,
     // Its cancel was asked for.
@@ -67,16 +79,49 @@ impl<J> Table<J> {
         }
     }
 
-    // Marks an unfinished task.
-    pub(crate) fn mark(&mut self, t: u64)
-        requires unfinished { IsSome (task_at self.old t) }
+    // Marks a task, if there is one of that number: whether it had no mark before.
+    pub(crate) fn mark(&mut self, t: u64) -> bool
+        ensures value { result ≡ is_unmarked (task_at self.old t) }
         ensures this { task_at self.new t ≡ option_map marked (task_at self.old t) }
         ensures rest { (s : ℕ) → s ≢ t → task_at self.new s ≡ task_at self.old s }
         ensures len { btree_map_len self.new.tree ≡ btree_map_len self.old.tree }
         ensures unmarked { unmarked_in self.new + cost (task_at self.old t) ≡ unmarked_in self.old }
     {
-        if let Some(task) = self.tree.get_mut(&t) {
-            task.marked = true;
+        match self.tree.get_mut(&t) {
+            Some(task) => {
+                let fresh = !task.marked;
+                task.marked = true;
+                fresh
+            }
+            None => false,
+        }
+    }
+
+    // Takes the job of a marked task out, with what else the turn asks of it. None if it isn't marked, or finished.
+    pub(crate) fn take_marked(&mut self, t: u64) -> Option<Taken<J>>
+        requires jobs { IsSome (task_at self.old t) → IsSome (job_at self.old t) }
+        ensures some { IfSome result (TakesMarked (task_at self.old t) (task_at self.new t)) }
+        ensures none { IfNone result ((mark_of (task_at self.old t) ≡ false) × (task_at self.new t ≡ task_at self.old t)) }
+        ensures rest { (s : ℕ) → s ≢ t → task_at self.new s ≡ task_at self.old s }
+        ensures len { btree_map_len self.new.tree ≡ btree_map_len self.old.tree }
+        ensures unmarked { unmarked_in self.new ≡ unmarked_in self.old }
+    {
+        match self.tree.get_mut(&t) {
+            Some(task) => {
+                let unmarked = !task.marked;
+                if unmarked {
+                    return None;
+                }
+                match task.job.take() {
+                    Some(job) => Some(Taken {
+                        job,
+                        deadline: task.deadline,
+                        canceled: task.canceled,
+                    }),
+                    None => unreachable!(),
+                }
+            }
+            None => None,
         }
     }
 

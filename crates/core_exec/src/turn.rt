@@ -1,21 +1,19 @@
 // The ready tasks of a turn, one after another.
-ghost use Rattle.std.specs.Prelude.{◌≡◌, ◌≢◌, ◌<◌, ◌≤◌, ◌+◌, ◌^◌, ◌&&◌, ℕ, IfOk, true, false, [], drop};
+ghost use Rattle.std.specs.Prelude.{◌≡◌, ◌≢◌, ◌<◌, ◌≤◌, ◌+◌, ◌^◌, ◌&&◌, ℕ, OnOk, true, false, drop};
 ghost use Rattle.std.specs.Ordering.{nat_cmp};
 ghost use Rattle.std.specs.List.Sorted.{IsSorted};
 ghost use Rattle.std.specs.Vec.{vec_len, vec_capacity};
 ghost use Rattle.std.specs.BTreeMap.{btree_map_len};
 ghost use Rattle.core_exec.specs.Deadlines.{is_set, KeepsSet};
-ghost use Rattle.core_exec.specs.Tasks.{AreSound, HaveJobs, FlagsOf, task_at, job_at, unmarked_in, mark_of, count_in};
+ghost use Rattle.core_exec.specs.Tasks.{AreSound, HaveJobs, task_at, job_at, unmarked_in, mark_of, count_in};
 ghost use Rattle.core_exec.specs.Marks.{AreListed, Covers, HasDeadlines, is_late};
-ghost use Rattle.core_exec.specs.Visits.{VisitsTask, GivesOutput, MarksAfter};
 ghost use Rattle.core_exec.specs.Steps.{StepsTask, StepsOutput, MarksStep, with_number, polls_at, ends_at, is_polled, is_done, is_stopped};
 ghost use Rattle.core_exec.specs.Places.{StayPlaced};
-ghost use Rattle.core_exec.specs.Turns.{AddsOutputs, GrowsByOne, HasRoom, Reaches, Turns};
+ghost use Rattle.core_exec.specs.Turns.{AddsOutputs, DidNothing, GrowsByOne, HasRoom, Reaches, Turns};
 
 use crate::deadlines::Deadlines;
 use crate::job::Job;
-use crate::ready::{Ready, late_at};
-use crate::table::Flags;
+use crate::ready::Ready;
 use crate::visit::{Visit, visit_task};
 use rent_buf::OutOfMemory;
 use std::alloc::Global;
@@ -34,21 +32,33 @@ pub struct Ran {
 }
 
 impl Ran {
-    // Empty lists with room for so many tasks.
-    pub(crate) fn with_room(alloc: Global, count: usize) -> Result<Ran, OutOfMemory>
-        ensures polled { IfOk result (λ ran. HasRoom ran.polled count) }
-        ensures canceled { IfOk result (λ ran. HasRoom ran.canceled count) }
-        ensures done { IfOk result (λ ran. HasRoom ran.done count) }
+    /// The answer of no turn: its lists are empty. It takes no memory. (not in monoio)
+    pub fn new(alloc: Global) -> Ran
+        ensures { DidNothing result }
     {
-        let polled = Vec::with_capacity(alloc, count)?;
-        let canceled = Vec::with_capacity(alloc, count)?;
-        let done = Vec::with_capacity(alloc, count)?;
-        Ok(Ran {
-            polled,
-            canceled,
-            done,
+        Ran {
+            polled: Vec::new(alloc),
+            canceled: Vec::new(alloc),
+            done: Vec::new(alloc),
             stopped: None,
-        })
+        }
+    }
+
+    // Empties the lists, with room for so many tasks. If memory runs out they are empty.
+    pub(crate) fn make_room(&mut self, count: usize) -> Result<(), OutOfMemory>
+        ensures polled { OnOk result (HasRoom self.new.polled count) }
+        ensures canceled { OnOk result (HasRoom self.new.canceled count) }
+        ensures done { OnOk result (HasRoom self.new.done count) }
+        ensures nothing { DidNothing self.new }
+    {
+        self.polled.clear();
+        self.canceled.clear();
+        self.done.clear();
+        self.stopped = None;
+        self.polled.reserve(count)?;
+        self.canceled.reserve(count)?;
+        self.done.reserve(count)?;
+        Ok(())
     }
 }
 
@@ -93,55 +103,8 @@ fn drop_deadline(deadlines: &mut Deadlines, t: u64, at: Option<u64>, visit: Visi
     }
 }
 
-// A marked task's part of a turn.
-#[tactic(auto, using(crate::proofs::Stepping::marked_late, crate::proofs::Stepping::late_not_canceled, crate::proofs::Stepping::set_behind_visit, crate::proofs::Stepping::jobs_behind_visit))]
-fn poll_marked<D, J: Job<D>>(
-    driver: &mut D,
-    ready: &mut Ready<J>,
-    outputs: &mut Vec<(u64, J::Out)>,
-    ran: &mut Ran,
-    t: u64,
-    flags: Flags,
-) -> Visit
-    requires flags { FlagsOf (task_at ready.old.table t) (Some flags) }
-    requires marked { mark_of (task_at ready.old.table t) ≡ true }
-    requires sound { AreSound J.fits J.apart driver.old (job_at ready.old.table) }
-    requires jobs { HaveJobs (task_at ready.old.table) }
-    requires deadlines { HasDeadlines ready.old }
-    requires polls { count_in J.polls (job_at ready.old.table t) < 2 ^ 62 }
-    requires cancels { count_in J.cancels (job_at ready.old.table t) < 2 ^ 62 }
-    requires room { vec_len outputs.old < vec_capacity outputs.old }
-    requires polled { vec_len ran.old.polled < vec_capacity ran.old.polled }
-    requires canceled { vec_len ran.old.canceled < vec_capacity ran.old.canceled }
-    requires done { vec_len ran.old.done < vec_capacity ran.old.done }
-    ensures sound { AreSound J.fits J.apart driver.new (job_at ready.new.table) }
-    ensures jobs { HaveJobs (task_at ready.new.table) }
-    ensures deadlines { HasDeadlines ready.new }
-    ensures this { VisitsTask J.polls J.cancels J.aim (is_late ready.old.moment (task_at ready.old.table t))
-        (task_at ready.old.table t) (task_at ready.new.table t) result }
-    ensures rest { (s : ℕ) → s ≢ t → task_at ready.new.table s ≡ task_at ready.old.table s }
-    ensures output { GivesOutput J.aim J.meets t (job_at ready.old.table t) outputs.old.items outputs.new.items result }
-    ensures len { vec_len outputs.new + btree_map_len ready.new.table.tree ≡ vec_len outputs.old + btree_map_len ready.old.table.tree }
-    ensures capacity { vec_capacity outputs.new ≡ vec_capacity outputs.old }
-    ensures unmarked { MarksAfter result (unmarked_in ready.old.table) (unmarked_in ready.new.table) }
-    ensures marks { (ready.new.marks ≡ ready.old.marks) × (ready.new.moment ≡ ready.old.moment) }
-    ensures polled { ran.new.polled.items ≡ with_number (polls_at result) t ran.old.polled.items }
-    ensures canceled { ran.new.canceled.items
-        ≡ with_number (polls_at result && is_late ready.old.moment (task_at ready.old.table t)) t ran.old.canceled.items }
-    ensures done { ran.new.done.items ≡ with_number (ends_at result) t ran.old.done.items }
-    ensures polled_room { GrowsByOne ran.old.polled ran.new.polled }
-    ensures canceled_room { GrowsByOne ran.old.canceled ran.new.canceled }
-    ensures done_room { GrowsByOne ran.old.done ran.new.done }
-    ensures stopped { ran.new.stopped ≡ ran.old.stopped }
-{
-    let late = late_at(flags, ready.moment);
-    let visit = visit_task(driver, &mut ready.table, outputs, t, late, flags.canceled);
-    note(ran, t, late, visit);
-    drop_deadline(&mut ready.deadlines, t, flags.deadline, visit);
-    visit
-}
-
 // A task's part of a turn, if it is marked.
+#[tactic(auto, using(crate::proofs::Stepping::set_behind_step, crate::proofs::Stepping::jobs_behind_step))]
 fn poll_at<D, J: Job<D>>(
     driver: &mut D,
     ready: &mut Ready<J>,
@@ -177,12 +140,11 @@ fn poll_at<D, J: Job<D>>(
     ensures done_room { GrowsByOne ran.old.done ran.new.done }
     ensures stopped { ran.new.stopped ≡ ran.old.stopped }
 {
-    match ready.table.flags(t) {
-        Some(flags) => {
-            if flags.marked {
-                return Some(poll_marked(driver, ready, outputs, ran, t, flags));
-            }
-            None
+    match visit_task(driver, &mut ready.table, outputs, t, ready.moment) {
+        Some(visited) => {
+            note(ran, t, visited.late, visited.visit);
+            drop_deadline(&mut ready.deadlines, t, visited.deadline, visited.visit);
+            Some(visited.visit)
         }
         None => None,
     }

@@ -225,12 +225,12 @@ module _ {S : Type 0} where
 
   -- Jobs are sound behind the drop of one that was apart from them.
   pub apart_sound : {D : Type 0} (ops : D → Ops Rented) (old new : NetDriver D) (jobs : ℕ → Option (NetJob S)) (job : NetJob S)
-      → AreSound (FitsJob ops) ApartJobs old jobs → IsApart (FitsJob ops) ApartJobs old jobs job
+      → AreSound (FitsJob ops) ApartJobs old jobs → (t : ℕ) × IsApart (FitsJob ops) ApartJobs old jobs t job
       → ((other : NetJob S) → FitsWaits (ops old.driver) other.state → WaitApart job.state other.state
       → FitsWaits (ops new.driver) other.state)
       → AreSound (FitsJob ops) ApartJobs new jobs
   apart_sound ops old new jobs job sound apart others = record {
-    all_fit = λ t other is. others other (sound.all_fit t other is) (apart.from t other is);
+    all_fit = λ t other is. others other (sound.all_fit t other is) (apart.1.from t other is);
     all_apart = sound.all_apart;
   }
 

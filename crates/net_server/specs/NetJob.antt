@@ -111,9 +111,9 @@ polls_of job = job.polls
 abbrev pub cancels_of : {S : Type 0} → NetJob S → ℕ
 cancels_of job = job.cancels
 
--- A job fits a driver whose operations are these.
-abbrev pub FitsJob : {D S : Type 0} → (D → Ops Rented) → NetDriver D → NetJob S → Type 0
-FitsJob ops driver job = FitsWaits (ops driver.driver) job.state
+-- A job fits a driver whose operations are these, as the task of each number.
+abbrev pub FitsJob : {D S : Type 0} → (D → Ops Rented) → NetDriver D → ℕ → NetJob S → Type 0
+FitsJob ops driver task job = FitsWaits (ops driver.driver) job.state
 
 -- The cancel of a job was asked for: its deadline came.
 abbrev pub IsLate : {S : Type 0} → NetJob S → Type 0

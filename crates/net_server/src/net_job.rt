@@ -1,5 +1,5 @@
 //! A job that accepts on a listener, or that serves a connection.
-ghost use Rattle.std.specs.Prelude.{◌≡◌, ◌<◌, ◌^◌, ◌∷◌, [], None, Some, IsSome, IfOk, IfErr, true, IsTrue};
+ghost use Rattle.std.specs.Prelude.{◌≡◌, ◌<◌, ◌^◌, ◌∷◌, [], ℕ, None, Some, IsSome, IfOk, IfErr, true, IsTrue};
 ghost use Rattle.core_exec.specs.Job.{IfBack, Steps};
 ghost use Rattle.net_stream.specs.Connection.{FitsConnection};
 ghost use Rattle.net_stream.specs.Drives.{IsGone};
@@ -339,12 +339,13 @@ impl<S: Serve, D: OpDriver<Rent>> Job<NetDriver<D>> for NetJob<S> {
     /// something in the last of them puts its task into the driver's list `again`. One whose cancel was asked for is done, as late.
     #[tactic(auto, using(crate::proofs::Frames::left_others, crate::proofs::Frames::ended_others))]
     fn poll(self, driver: &mut NetDriver<D>, task: u64) -> JobStep<NetJob<S>, NetEnd<S>>
-        requires fits { FitsJob D.ops driver.old self }
+        requires fits { FitsJob D.ops driver.old task self }
         requires counter { polls_of self < 2 ^ 62 }
         ensures step { Steps polls_of cancels_of no_aim AnyOutput self result }
-        ensures fits { IfBack result (FitsJob D.ops driver.new) }
-        ensures others { (other : NetJob S) → FitsJob D.ops driver.old other → ApartJobs self other → FitsJob D.ops driver.new other }
-        ensures apart { IfBack result (λ job. (other : NetJob S) → FitsJob D.ops driver.old other → ApartJobs self other
+        ensures fits { IfBack result (FitsJob D.ops driver.new task) }
+        ensures others { (other : NetJob S) (s : ℕ) → FitsJob D.ops driver.old s other → ApartJobs self other
+            → FitsJob D.ops driver.new s other }
+        ensures apart { IfBack result (λ job. (other : NetJob S) (s : ℕ) → FitsJob D.ops driver.old s other → ApartJobs self other
             → ApartJobs job other) }
         // It is done where its cancel was asked for; and the next turn is to name its task, besides others, or no further one.
         ensures late { IsLate self → IsEnded result }

@@ -11,7 +11,7 @@ use crate::net_job::NetEnd;
 use crate::places::{Places, first};
 use crate::serve::Serve;
 use crate::spawning::{accept, begin, end_exec, run_jobs};
-use core_exec::Exec;
+use core_exec::{Exec, Ran};
 use driver_core::{Stop, Turned};
 use handle_core::SharedFd;
 use ready_driver::{LegacyDriver, Sockets};
@@ -71,6 +71,8 @@ pub struct Server<I: Sockets, S: Serve> {
     listener: Option<SharedFd>,
     // Memory for the tasks that a turn names.
     named: Vec<u64>,
+    // What the last turn of the jobs answered. Its lists are used again.
+    ran: Ran,
     // A task is ready that no turn has named.
     fresh: bool,
     // Something was refused in the last turn.
@@ -121,6 +123,7 @@ impl<I: Sockets, S: Serve> Server<I, S> {
             places: Places::new(limits.most),
             listener: None,
             named: Vec::new(alloc),
+            ran: Ran::new(alloc),
             fresh: false,
             short: false,
             start: None,
@@ -300,10 +303,10 @@ impl<I: Sockets, S: Serve> Server<I, S> {
         ensures faults { IfSome result IsTurnFault }
     {
         let now = now.max(self.exec.moment());
-        match run_jobs(&mut self.exec, &mut self.named, now, woken) {
-            Ok(ran) => {
+        match run_jobs(&mut self.exec, &mut self.named, &mut self.ran, now, woken) {
+            Ok(()) => {
                 self.fresh = false;
-                self.short = self.short | ran.stopped.is_some();
+                self.short = self.short | self.ran.stopped.is_some();
                 None
             }
             Err(why) => {
@@ -401,6 +404,7 @@ impl<I: Sockets, S: Serve> Server<I, S> {
             places,
             listener,
             named: _,
+            ran: _,
             fresh: _,
             short: _,
             start: _,

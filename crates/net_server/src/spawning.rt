@@ -1,5 +1,5 @@
 // The jobs of a server: they are spawned, polled in turns, and taken out.
-ghost use Rattle.std.specs.Prelude.{◌≡◌, ◌≤◌, ◌<◌, ◌+◌, ◌^◌, ◌++◌, false, true, IfOk, IfErr, OnErr};
+ghost use Rattle.std.specs.Prelude.{◌≡◌, ◌≤◌, ◌<◌, ◌+◌, ◌^◌, ◌++◌, false, true, IfOk, IfErr, OnErr, ℕ};
 ghost use Rattle.core_exec.specs.Exec.{IsSound, Stands, jobs_of, left_of, moment_of, spawned_of};
 ghost use Rattle.core_exec.specs.Tasks.{IsApart};
 ghost use Rattle.ready_driver.specs.LegacyState.{ops_in};
@@ -20,13 +20,14 @@ use ready_driver::Sockets;
 use std::alloc::Global;
 use std::mem;
 
-// A turn of the jobs that are ready, and of those that the driver or a job names.
+// A turn of the jobs that are ready, and of those that the driver or a job names. Its answer is put into an earlier one.
 pub(crate) fn run_jobs<I: Sockets, S: Serve>(
     exec: &mut NetExec<I, S>,
     named: &mut Vec<u64>,
+    ran: &mut Ran,
     now: u64,
     woken: &[u64],
-) -> Result<Ran, ServerFault>
+) -> Result<(), ServerFault>
     requires stands { Stands polls_of cancels_of exec.old }
     requires sound { IsSound (FitsJob ops_in) ApartJobs exec.old }
     requires moment { moment_of exec.old ≤ now }
@@ -39,8 +40,8 @@ pub(crate) fn run_jobs<I: Sockets, S: Serve>(
     }
     let all = name_all(exec, named, woken);
     let list = if all { named.as_slice() } else { woken };
-    match exec.turn(now, list) {
-        Ok(ran) => Ok(ran),
+    match exec.turn_into(now, list, ran) {
+        Ok(()) => Ok(()),
         Err(_) => Err(ServerFault::OutOfMemory),
     }
 }
@@ -168,7 +169,7 @@ pub(crate) fn accept<I: Sockets, S: Serve>(
 fn abandon_job<I: Sockets, S: Serve>(exec: &mut NetExec<I, S>, job: NetJob<S>)
     requires stands { Stands polls_of cancels_of exec.old }
     requires sound { IsSound (FitsJob ops_in) ApartJobs exec.old }
-    requires apart { IsApart (FitsJob ops_in) ApartJobs exec.old.driver (jobs_of exec.old) job }
+    requires apart { (t : ℕ) × IsApart (FitsJob ops_in) ApartJobs exec.old.driver (jobs_of exec.old) t job }
     ensures stands { Stands polls_of cancels_of exec.new }
     ensures sound { IsSound (FitsJob ops_in) ApartJobs exec.new }
     ensures left { left_of exec.new ≡ left_of exec.old }

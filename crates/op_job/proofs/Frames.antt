@@ -14,7 +14,7 @@ use Rattle.op_job.specs.declared.op_job.State.{State}
 use Rattle.op_job.specs.declared.op_job.State.TheVariants.{Unsent, Waiting}
 use Rattle.core_exec.specs.Tasks.{AreSound, IsApart}
 use Rattle.op_job.specs.declared.op_job.OpJob.{OpJob}
-use Rattle.op_job.specs.OpJob.{ApartOps, ApartStates, FitsOps, FitsState, KeepsApart}
+use Rattle.op_job.specs.OpJob.{ApartOps, ApartStates, FitsOps, FitsState, HoldsOps, KeepsApart}
 
 module _ {B : Type 0} where
   -- A call that keeps every token keeps each state.
@@ -72,10 +72,10 @@ pub slots_sound : {I B : Type 0} (old new : LegacyState I B) (jobs : ℕ → Opt
 slots_sound old new jobs slots given sound = kept_sound ops_in old new jobs (same_tokens old new (ap (λ s. s.values) slots)) given sound
 
 -- Jobs are sound behind the drop of one that was apart from them.
-pub abandoned_sound : {D B : Type 0} (ops : D → Ops B) (old new : D) (jobs : ℕ → Option (OpJob B)) (job : OpJob B)
-    → AreSound (FitsOps ops) ApartOps old jobs → IsApart (FitsOps ops) ApartOps old jobs job
-    → ((other : OpJob B) → FitsOps ops old other → ApartOps job other → FitsOps ops new other) → AreSound (FitsOps ops) ApartOps new jobs
-abandoned_sound ops old new jobs job sound apart others = record {
+pub abandoned_sound : {D B : Type 0} (ops : D → Ops B) (old new : D) (jobs : ℕ → Option (OpJob B)) (task : ℕ) (job : OpJob B)
+    → AreSound (FitsOps ops) ApartOps old jobs → IsApart (FitsOps ops) ApartOps old jobs task job
+    → ((other : OpJob B) → HoldsOps ops old other → ApartOps job other → HoldsOps ops new other) → AreSound (FitsOps ops) ApartOps new jobs
+abandoned_sound ops old new jobs task job sound apart others = record {
   all_fit = λ t other is. others other (sound.all_fit t other is) (apart.from t other is);
   all_apart = sound.all_apart;
 }

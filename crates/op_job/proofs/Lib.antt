@@ -1,1 +1,4 @@
 pub mod Frames
+pub mod Naming
+pub mod Pending
+pub mod Reached

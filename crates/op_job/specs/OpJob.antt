@@ -1,8 +1,12 @@
 -- A job of one operation, and the driver that holds it. Cited by `OpJob`.
-use Rattle.std.specs.Prelude.{ℕ, ◌≡◌, ◌≢◌, ◌<◌, List, [], Result, IsOk}
+use Rattle.std.specs.Prelude.{ℕ, ◌≡◌, ◌≢◌, ◌<◌, List, [], Result, Ok, IsOk}
 use Rattle.rent_buf.specs.declared.fault.OutOfMemory.{OutOfMemory}
 use Rattle.std.proofs.Common.{sym}
+use Rattle.core_exec.specs.declared.job.JobStep.{JobStep}
+use Rattle.core_exec.specs.declared.job.JobStep.TheVariants as step
 use Rattle.driver_core.specs.declared.op.Op.{Op}
+use Rattle.driver_core.specs.declared.op.PollOp.{PollOp}
+use Rattle.driver_core.specs.declared.op.PollOp.TheVariants as polled
 use Rattle.driver_core.specs.Op.{Holds, number_of}
 use Rattle.driver_core.specs.Ops.{Ops}
 use Rattle.op_job.specs.declared.op_job.OpEnd.{OpEnd}
@@ -40,6 +44,24 @@ abbrev pub AsksOp : {D B : Type 0} → (D → D → Op → Result Unit OutOfMemo
 AsksOp cancels old new (Unsent request) result = (new ≡ old) × IsOk result
 AsksOp cancels old new (Waiting op) result = cancels old new op result
 
+-- A job waits for an operation, which its driver polled last for this task, and that poll was pending.
+abbrev pub PendsState : {D B : Type 0} → (D → D → Op → ℕ → Result (PollOp B) (OutOfMemory × Op) → Type 0) → D → ℕ → State B → Type 0
+PendsState polls new task (Unsent request) = ⊥
+PendsState {D} polls new task (Waiting op) = (mid : D) × polls mid new op task (Ok (polled.Pending op))
+
+-- So does one of which a poll is pending.
+abbrev pub PendsBy : {D B O : Type 0} → (D → D → Op → ℕ → Result (PollOp B) (OutOfMemory × Op) → Type 0) → D → ℕ → JobStep (State B) O
+    → Type 0
+PendsBy polls new task (step.Done end) = Unit {0}
+PendsBy polls new task (step.Pending state) = PendsState polls new task state
+PendsBy polls new task (step.OutOfMemory state) = Unit {0}
+
+abbrev pub PendsJob : {D B O : Type 0} → (D → D → Op → ℕ → Result (PollOp B) (OutOfMemory × Op) → Type 0) → D → ℕ → JobStep (OpJob B) O
+    → Type 0
+PendsJob polls new task (step.Done end) = Unit {0}
+PendsJob polls new task (step.Pending job) = PendsState polls new task job.state
+PendsJob polls new task (step.OutOfMemory job) = Unit {0}
+
 -- How often a job was polled.
 abbrev pub polls_of : {B : Type 0} → OpJob B → ℕ
 polls_of job = job.polls
@@ -48,9 +70,13 @@ polls_of job = job.polls
 abbrev pub cancels_of : {B : Type 0} → OpJob B → ℕ
 cancels_of job = job.cancels
 
--- A job fits a driver whose operations are these.
-abbrev pub FitsOps : {D B : Type 0} → (D → Ops B) → D → OpJob B → Type 0
-FitsOps ops driver job = FitsState (ops driver) job.state
+-- A driver whose operations are these holds that of a job.
+abbrev pub HoldsOps : {D B : Type 0} → (D → Ops B) → D → OpJob B → Type 0
+HoldsOps ops driver job = FitsState (ops driver) job.state
+
+-- So it fits that driver as the task of each number.
+abbrev pub FitsOps : {D B : Type 0} → (D → Ops B) → D → ℕ → OpJob B → Type 0
+FitsOps ops driver task job = HoldsOps ops driver job
 
 -- The operation that a job waited for is gone, if it waited for one.
 abbrev pub GoneOps : {D B : Type 0} → (D → Ops B) → D → OpJob B → Type 0

@@ -1,8 +1,8 @@
 //! A job that submits one request, and is done as its operation ends.
-ghost use Rattle.std.specs.Prelude.{◌≡◌, ◌<◌, ◌+◌, ◌^◌, OnErr, OnOk};
-ghost use Rattle.op_job.specs.OpJob.{AnyEnd, AsksOp, AsksOps, ApartOps, ApartStates, FitsOps, FitsState, GoneOps, HasNoOp, KeepsApart};
+ghost use Rattle.std.specs.Prelude.{◌≡◌, ◌<◌, ◌+◌, ◌^◌, ℕ, OnErr, OnOk};
+ghost use Rattle.op_job.specs.OpJob.{AnyEnd, AsksOp, AsksOps, ApartOps, ApartStates, FitsOps, FitsState, GoneOps, HasNoOp, HoldsOps, KeepsApart, PendsBy, PendsJob};
 ghost use Rattle.op_job.specs.OpJob.{apart_swaps, cancels_of, no_aim, polls_of, unsent_apart};
-ghost use Rattle.core_exec.specs.Job.{IfBack};
+ghost use Rattle.core_exec.specs.Job.{IfBack, Steps};
 
 use core_exec::{Job, JobStep};
 use driver_core::{Done, MOST_GIVEN, Op, PollOp, SubmitError, SubmitFault};
@@ -54,9 +54,9 @@ impl<B: IoBufMut + Drop> OpJob<B> {
     /// Drops a job, and its operation if it has one. Each other job that fits the driver and doesn't wait for the same operation fits
     /// still.
     pub fn abandon<D: OpDriver<B>>(self, driver: &mut D)
-        requires fits { FitsOps D.ops driver.old self }
+        requires fits { HoldsOps D.ops driver.old self }
         ensures gone { GoneOps D.ops driver.new self }
-        ensures others { (other : OpJob B) → FitsOps D.ops driver.old other → ApartOps self other → FitsOps D.ops driver.new other }
+        ensures others { (other : OpJob B) → HoldsOps D.ops driver.old other → ApartOps self other → HoldsOps D.ops driver.new other }
     {
         let OpJob {
             state,
@@ -81,6 +81,7 @@ fn poll_op<B: IoBufMut + Drop, D: OpDriver<B>>(
     ensures fits { IfBack result (FitsState (D.ops driver.new)) }
     ensures same { IfBack result (λ state. state ≡ State.Waiting op) }
     ensures others { KeepsApart (D.ops driver.old) (D.ops driver.new) (State.Waiting op) }
+    ensures pends { PendsBy D.polls driver.new task result }
 {
     match driver.poll_op(op, task) {
         Ok(PollOp::Pending(op)) => JobStep::Pending(State::Waiting(op)),
@@ -99,6 +100,7 @@ fn submit<B: IoBufMut + Drop, D: OpDriver<B>>(
     ensures fits { IfBack result (FitsState (D.ops driver.new)) }
     ensures others { (other : State B) → FitsState (D.ops driver.old) other → FitsState (D.ops driver.new) other }
     ensures apart { IfBack result (λ state. (other : State B) → FitsState (D.ops driver.old) other → ApartStates state other) }
+    ensures pends { PendsBy D.polls driver.new task result }
 {
     if !driver.holds_names(request.names()) || driver.given() >= MOST_GIVEN {
         return JobStep::Done(OpEnd::NotHeld(request));
@@ -124,6 +126,7 @@ fn poll_state<B: IoBufMut + Drop, D: OpDriver<B>>(
     ensures others { KeepsApart (D.ops driver.old) (D.ops driver.new) state }
     ensures apart { IfBack result (λ next. (other : State B) → FitsState (D.ops driver.old) other → ApartStates state other
         → ApartStates next other) }
+    ensures pends { PendsBy D.polls driver.new task result }
 {
     match state {
         State::Unsent(request) => {
@@ -173,7 +176,18 @@ impl<B: IoBufMut + Drop, D: OpDriver<B>> Job<D> for OpJob<B> {
 
     ghost apart_idle = { λ one other idle. unsent_apart one.state other.state idle };
 
-    fn poll(self, driver: &mut D, task: u64) -> JobStep<OpJob<B>, OpEnd<B>> {
+    fn poll(self, driver: &mut D, task: u64) -> JobStep<OpJob<B>, OpEnd<B>>
+        requires fits { FitsOps D.ops driver.old task self }
+        requires counter { polls_of self < 2 ^ 62 }
+        ensures step { Steps polls_of cancels_of no_aim AnyEnd self result }
+        ensures fits { IfBack result (FitsOps D.ops driver.new task) }
+        ensures others { (other : OpJob B) (s : ℕ) → FitsOps D.ops driver.old s other → ApartOps self other
+            → FitsOps D.ops driver.new s other }
+        ensures apart { IfBack result (λ job. (other : OpJob B) (s : ℕ) → FitsOps D.ops driver.old s other → ApartOps self other
+            → ApartOps job other) }
+        // A job that isn't done waits for an operation that the driver polled last for this task, and that poll was pending.
+        ensures pends { PendsJob D.polls driver.new task result }
+    {
         let OpJob {
             state,
             polls,
@@ -196,15 +210,17 @@ impl<B: IoBufMut + Drop, D: OpDriver<B>> Job<D> for OpJob<B> {
     }
 
     fn cancel(&mut self, driver: &mut D) -> Result<(), OutOfMemory>
-        requires fits { FitsOps D.ops driver.old self.old }
+        requires fits { (s : ℕ) × FitsOps D.ops driver.old s self.old }
         requires counter { cancels_of self.old < 2 ^ 62 }
         ensures ok { OnOk result (cancels_of self.new ≡ cancels_of self.old + 1) }
         ensures err { OnErr result (self.new ≡ self.old) }
         ensures polls { polls_of self.new ≡ polls_of self.old }
         ensures aim { no_aim self.new ≡ no_aim self.old }
-        ensures fits { FitsOps D.ops driver.new self.new }
-        ensures others { (other : OpJob B) → FitsOps D.ops driver.old other → ApartOps self.old other → FitsOps D.ops driver.new other }
-        ensures apart { (other : OpJob B) → FitsOps D.ops driver.old other → ApartOps self.old other → ApartOps self.new other }
+        ensures fits { (s : ℕ) → FitsOps D.ops driver.old s self.old → FitsOps D.ops driver.new s self.new }
+        ensures others { (other : OpJob B) (s : ℕ) → FitsOps D.ops driver.old s other → ApartOps self.old other
+            → FitsOps D.ops driver.new s other }
+        ensures apart { (other : OpJob B) (s : ℕ) → FitsOps D.ops driver.old s other → ApartOps self.old other
+            → ApartOps self.new other }
         // The driver is asked for the cancel of the operation that it waits for.
         ensures asks { AsksOps D.cancels driver.old driver.new self.old result }
     {

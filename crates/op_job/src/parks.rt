@@ -3,8 +3,9 @@ ghost use Rattle.std.specs.Prelude.{◌≡◌, ◌<◌, ◌≤◌, ◌+◌, ◌^
 ghost use Rattle.core_exec.specs.Turns.{Reaches};
 ghost use Rattle.core_exec.specs.Exec.{IsSound, KeepsPlaces, Stands, TurnsTo, moment_of, ready_of, spawned_of, tasks_of, turns_of};
 ghost use Rattle.exec_wake.specs.Wakes.{named_by};
-ghost use Rattle.ready_driver.specs.LegacyTurns.{DrainsFor};
+ghost use Rattle.ready_driver.specs.LegacyTurns.{DrainsFor, LegacyTurns};
 ghost use Rattle.ready_driver.specs.LegacyState.{ops_in};
+ghost use Rattle.op_job.specs.Met.{MissesNone};
 ghost use Rattle.op_job.specs.OpJob.{ApartOps, FitsOps, cancels_of, no_aim, polls_of};
 
 use crate::turns::OpExec;
@@ -33,6 +34,7 @@ fn park_driver<I: NonBlock, B: IoBufMut + Drop, P: Ledger, D: Ledger, T: Wait + 
     ensures numbers { (exec.new.spawned ≡ exec.old.spawned) × (exec.new.turns ≡ exec.old.turns) }
     ensures taken { sleeper.new.taken ≡ (sleeper.old.taken + length result.remote.first) + length result.remote.again }
     ensures drains { DrainsFor result.turned.stop (Some millis) sleeper.old sleeper.new result.remote }
+    ensures turns { LegacyTurns I.view I.tells I.reporting I.memory exec.old.driver exec.new.driver result.turned }
 {
     exec.driver.park_timeout(rt, sleeper, millis)
 }
@@ -60,6 +62,8 @@ pub fn park<I: NonBlock, B: IoBufMut + Drop, P: Ledger, D: Ledger, T: Wait + Clo
     ensures places { KeepsPlaces exec.old exec.new }
     ensures spawned { spawned_of exec.new ≡ spawned_of exec.old }
     ensures marked { OnErr result.1 ((t : ℕ) → tasks_of exec.new t ≡ ready_of now (named_by result.0) exec.old t) }
+    // It comes to each task whose operation waits in a handle's list and can go on.
+    ensures misses { IfOk result.1 (MissesNone I.view I.tells I.reporting I.memory exec.old.driver result.0.turned (tasks_of exec.old)) }
     // The wakers of the answer are those that the sleeper drained, in its order.
     ensures taken { sleeper.new.taken ≡ (sleeper.old.taken + length result.0.remote.first) + length result.0.remote.again }
     ensures drains { DrainsFor result.0.turned.stop (Some millis) sleeper.old sleeper.new result.0.remote }

@@ -21,6 +21,7 @@ fn turn_driver<B: IoBufMut + Drop, D: OpDriver<B>>(exec: &mut OpExec<D, B>) -> T
     ensures ready { exec.new.ready ≡ exec.old.ready }
     ensures outputs { exec.new.outputs ≡ exec.old.outputs }
     ensures numbers { (exec.new.spawned ≡ exec.old.spawned) × (exec.new.turns ≡ exec.old.turns) }
+    ensures turns { D.turns exec.old.driver exec.new.driver result }
 {
     exec.driver.turn()
 }
@@ -43,6 +44,8 @@ pub fn turn<B: IoBufMut + Drop, D: OpDriver<B>>(
     ensures places { KeepsPlaces exec.old exec.new }
     ensures spawned { spawned_of exec.new ≡ spawned_of exec.old }
     ensures marked { OnErr result.1 ((t : ℕ) → tasks_of exec.new t ≡ ready_of now result.0.woken exec.old t) }
+    // The driver made a turn of its own, behind which it was so.
+    ensures driver { (mid : D) × D.turns exec.old.driver mid result.0 }
 {
     let turned = turn_driver(exec);
     let ran = exec.turn(now, turned.woken.as_slice());

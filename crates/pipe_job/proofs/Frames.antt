@@ -25,7 +25,7 @@ use Rattle.ready_driver.specs.Calling.{request_in}
 use Rattle.ready_driver.specs.LegacyState.{LegacyState, ops_in}
 use Rattle.ready_driver.specs.Named.{PollsSlotFor, IsCompleted, canceled_if, canceled_in, canceled_slots}
 use Rattle.pipe_job.specs.Course.{MovesOn}
-use Rattle.pipe_job.specs.PipeJob.{ApartPipes, FitsPipe}
+use Rattle.pipe_job.specs.PipeJob.{ApartPipes, FitsPipe, HoldsPipe}
 use Rattle.pipe_job.specs.Waits.{ApartWaits, FitsWait, HoldsWait, IsOwn, KeepsApart, MovesIf}
 use Rattle.pipe_job.specs.declared.pipe_job.PipeJob.{PipeJob}
 use Rattle.pipe_job.specs.declared.step.Wait.{Wait}
@@ -191,10 +191,10 @@ kept_sound old new jobs slots given sound = record {
 }
 
 -- Jobs are sound behind the drop of one that was apart from them.
-pub abandoned_sound : {I : Type 0} (old new : LegacyState I Rented) (jobs : ℕ → Option PipeJob) (job : PipeJob)
-    → AreSound FitsPipe ApartPipes old jobs → IsApart FitsPipe ApartPipes old jobs job
-    → ((other : PipeJob) → FitsPipe old other → ApartPipes job other → FitsPipe new other) → AreSound FitsPipe ApartPipes new jobs
-abandoned_sound old new jobs job sound apart others = record {
+pub abandoned_sound : {I : Type 0} (old new : LegacyState I Rented) (jobs : ℕ → Option PipeJob) (task : ℕ) (job : PipeJob)
+    → AreSound FitsPipe ApartPipes old jobs → IsApart FitsPipe ApartPipes old jobs task job
+    → ((other : PipeJob) → HoldsPipe old other → ApartPipes job other → HoldsPipe new other) → AreSound FitsPipe ApartPipes new jobs
+abandoned_sound old new jobs task job sound apart others = record {
   all_fit = λ t other is. others other (sound.all_fit t other is) (apart.from t other is);
   all_apart = sound.all_apart;
 }

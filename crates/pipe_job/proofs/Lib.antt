@@ -1,3 +1,4 @@
+pub mod Awaiting
 pub mod Calls
 pub mod Frames
 pub mod Stepping

@@ -1,3 +1,4 @@
+pub mod Awaits
 pub mod Causes
 pub mod Course
 pub mod PipeJob

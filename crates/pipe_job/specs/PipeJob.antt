@@ -33,8 +33,12 @@ IsAim aim (Ok bytes) = bytes ≡ aim
 IsAim aim (Err fault) = Unit {0}
 
 -- The driver holds the operation that a job waits for.
-abbrev pub FitsPipe : {I : Type 0} → LegacyState I Rented → PipeJob → Type 0
-FitsPipe driver job = FitsWait (ops_in driver) job.course.pipe job.cancels job.wait
+abbrev pub HoldsPipe : {I : Type 0} → LegacyState I Rented → PipeJob → Type 0
+HoldsPipe driver job = FitsWait (ops_in driver) job.course.pipe job.cancels job.wait
+
+-- So it fits the driver as the task of each number.
+abbrev pub FitsPipe : {I : Type 0} → LegacyState I Rented → ℕ → PipeJob → Type 0
+FitsPipe driver task job = HoldsPipe driver job
 
 -- The operation that a job waited for is gone, if it waited for one.
 abbrev pub IsGonePipe : {I : Type 0} → LegacyState I Rented → PipeJob → Type 0

@@ -4,7 +4,8 @@ ghost use Rattle.core_exec.specs.Turns.{Reaches};
 ghost use Rattle.core_exec.specs.Exec.{IsSound, KeepsPlaces, MeetAims, Stands, TurnsTo, moment_of, ready_of, spawned_of, tasks_of};
 ghost use Rattle.core_exec.specs.Exec.{turns_of};
 ghost use Rattle.exec_wake.specs.Wakes.{named_by};
-ghost use Rattle.ready_driver.specs.LegacyTurns.{DrainsFor};
+ghost use Rattle.op_job.specs.Met.{MissesNone};
+ghost use Rattle.ready_driver.specs.LegacyTurns.{DrainsFor, LegacyTurns};
 ghost use Rattle.pipe_job.specs.PipeJob.{FitsPipe, ApartPipes, IsAim, aim_of, cancels_of, polls_of};
 
 use crate::turns::PipeExec;
@@ -34,6 +35,7 @@ fn park_driver<I: NonBlock, P: Ledger, D: Ledger, T: Wait + Clock>(
     ensures taken { sleeper.new.taken ≡ (sleeper.old.taken + length result.remote.first) + length result.remote.again }
     ensures drains { DrainsFor result.turned.stop (Some millis) sleeper.old sleeper.new result.remote }
     ensures aims { (aims : ℕ → List ℕ) → MeetAims aim_of IsAim aims exec.old → MeetAims aim_of IsAim aims exec.new }
+    ensures turns { LegacyTurns I.view I.tells I.reporting I.memory exec.old.driver exec.new.driver result.turned }
 {
     exec.driver.park_timeout(rt, sleeper, millis)
 }
@@ -63,6 +65,8 @@ pub fn park<I: NonBlock, P: Ledger, D: Ledger, T: Wait + Clock>(
     ensures places { KeepsPlaces exec.old exec.new }
     ensures spawned { spawned_of exec.new ≡ spawned_of exec.old }
     ensures marked { OnErr result.1 ((t : ℕ) → tasks_of exec.new t ≡ ready_of now (named_by result.0) exec.old t) }
+    // It comes to each task whose operation waits in its pipe's list and can go on.
+    ensures misses { IfOk result.1 (MissesNone I.view I.tells I.reporting I.memory exec.old.driver result.0.turned (tasks_of exec.old)) }
     // The wakers of the answer are those that the sleeper drained, in its order.
     ensures taken { sleeper.new.taken ≡ (sleeper.old.taken + length result.0.remote.first) + length result.0.remote.again }
     ensures drains { DrainsFor result.0.turned.stop (Some millis) sleeper.old sleeper.new result.0.remote }

@@ -1,9 +1,10 @@
 //! A job that sends its bytes into a pipe, and then receives as many.
-ghost use Rattle.std.specs.Prelude.{◌≡◌, ◌<◌, ◌+◌, ◌^◌, OnErr, OnOk};
+ghost use Rattle.std.specs.Prelude.{◌≡◌, ◌<◌, ◌+◌, ◌^◌, ℕ, OnErr, OnOk};
 ghost use Rattle.core_exec.specs.Job.{IfBack, Steps};
 ghost use Rattle.ready_driver.specs.LegacyState.{ops_in};
+ghost use Rattle.pipe_job.specs.Awaits.{AwaitsBy, AwaitsJob};
 ghost use Rattle.pipe_job.specs.PipeJob.{FitsPipe, ApartPipes, IsIdle, IsAim, aim_of, cancels_of, polls_of};
-ghost use Rattle.pipe_job.specs.PipeJob.{AsksPipe, AsksWait, EndsJob, FitsEach, IsGonePipe, WaitsJob};
+ghost use Rattle.pipe_job.specs.PipeJob.{AsksPipe, AsksWait, EndsJob, FitsEach, HoldsPipe, IsGonePipe, WaitsJob};
 ghost use Rattle.pipe_job.specs.Course.{IsSameBytes};
 ghost use Rattle.pipe_job.specs.Steps.{IfWhole, IsWhole, StepsTo, as_step};
 ghost use Rattle.pipe_job.specs.Waits.{FitsWait, HoldsWait, IsGoneWait, KeepsApart, apart_swaps, idle_apart};
@@ -45,9 +46,9 @@ impl PipeJob {
     /// Drops a job, and its operation if it has one. It takes no memory.
     #[tactic(auto, using(crate::proofs::Frames::fits_holds))]
     pub fn abandon<I: NonBlock>(self, driver: &mut LegacyDriver<I, Rent>)
-        requires fits { FitsPipe driver.old self }
+        requires fits { HoldsPipe driver.old self }
         ensures gone { IsGonePipe driver.new self }
-        ensures others { (other : PipeJob) → FitsPipe driver.old other → ApartPipes self other → FitsPipe driver.new other }
+        ensures others { (other : PipeJob) → HoldsPipe driver.old other → ApartPipes self other → HoldsPipe driver.new other }
     {
         let PipeJob {
             course: _,
@@ -104,6 +105,7 @@ fn run<I: NonBlock>(
     requires fits { FitsWait (ops_in driver.old) course.old.pipe cancels wait }
     ensures same { IsSameBytes course.old course.new }
     ensures steps { StepsTo I.view course.old.pipe cancels driver.old driver.new wait (as_step result) }
+    ensures awaits { AwaitsBy I.files I.view I.tells driver.new course.old.pipe task (as_step result) }
     ensures whole { IfWhole (as_step result) (IsWhole course.new) }
 {
     let mut wait = wait;
@@ -143,16 +145,18 @@ impl<I: NonBlock> Job<LegacyDriver<I, Rent>> for PipeJob {
         driver: &mut LegacyDriver<I, Rent>,
         task: u64,
     ) -> JobStep<PipeJob, Result<ByteList, IoFault>>
-        requires fits { FitsPipe driver.old self }
+        requires fits { FitsPipe driver.old task self }
         requires counter { polls_of self < 2 ^ 62 }
         ensures step { Steps polls_of cancels_of aim_of IsAim self result }
-        ensures fits { IfBack result (FitsPipe driver.new) }
-        ensures others { (other : PipeJob) → FitsPipe driver.old other → ApartPipes self other → FitsPipe driver.new other }
-        ensures apart { IfBack result (λ job. (other : PipeJob) → FitsPipe driver.old other → ApartPipes self other
+        ensures fits { IfBack result (FitsPipe driver.new task) }
+        ensures others { (other : PipeJob) (s : ℕ) → FitsPipe driver.old s other → ApartPipes self other → FitsPipe driver.new s other }
+        ensures apart { IfBack result (λ job. (other : PipeJob) (s : ℕ) → FitsPipe driver.old s other → ApartPipes self other
             → ApartPipes job other) }
         // Each fault has its cause, and it is pending only where more can't be done at once.
         ensures ends { EndsJob I.view driver.old driver.new self result }
         ensures waits { WaitsJob I.view driver.old driver.new result }
+        // One that is pending waits with its task in the list of its pipe.
+        ensures awaits { AwaitsJob I.files I.view I.tells driver.new task result }
     {
         let PipeJob {
             course,
@@ -182,15 +186,17 @@ impl<I: NonBlock> Job<LegacyDriver<I, Rent>> for PipeJob {
 
     #[tactic(auto, using(crate::proofs::Frames::fits_holds))]
     fn cancel(&mut self, driver: &mut LegacyDriver<I, Rent>) -> Result<(), OutOfMemory>
-        requires fits { FitsPipe driver.old self.old }
+        requires fits { (s : ℕ) × FitsPipe driver.old s self.old }
         requires counter { cancels_of self.old < 2 ^ 62 }
         ensures ok { OnOk result (cancels_of self.new ≡ cancels_of self.old + 1) }
         ensures err { OnErr result (self.new ≡ self.old) }
         ensures polls { polls_of self.new ≡ polls_of self.old }
         ensures aim { aim_of self.new ≡ aim_of self.old }
-        ensures fits { FitsPipe driver.new self.new }
-        ensures others { (other : PipeJob) → FitsPipe driver.old other → ApartPipes self.old other → FitsPipe driver.new other }
-        ensures apart { (other : PipeJob) → FitsPipe driver.old other → ApartPipes self.old other → ApartPipes self.new other }
+        ensures fits { (s : ℕ) → FitsPipe driver.old s self.old → FitsPipe driver.new s self.new }
+        ensures others { (other : PipeJob) (s : ℕ) → FitsPipe driver.old s other → ApartPipes self.old other
+            → FitsPipe driver.new s other }
+        ensures apart { (other : PipeJob) (s : ℕ) → FitsPipe driver.old s other → ApartPipes self.old other
+            → ApartPipes self.new other }
         // The driver is asked for the cancel of the operation that it waits for.
         ensures asks { AsksPipe driver.old driver.new self.old result }
     {

@@ -5,6 +5,7 @@ ghost use Rattle.driver_core.specs.Op.{AddsToken};
 ghost use Rattle.ready_driver.specs.LegacyState.{holds_all, ops_in};
 ghost use Rattle.ready_driver.specs.LegacyCalls.{JoinsOp, SubmitRefused};
 ghost use Rattle.ready_driver.specs.Io.{IsLater};
+ghost use Rattle.pipe_job.specs.Awaits.{AwaitsBy, AwaitsNone};
 ghost use Rattle.pipe_job.specs.Course.{IsSameBytes, left_of};
 ghost use Rattle.pipe_job.specs.Waits.{FitsWait, IfBack, IfAgain, KeepsApart, StaysApart, most_steps};
 ghost use Rattle.pipe_job.specs.Causes.{StepEndsFor, WaitsBy};
@@ -81,6 +82,7 @@ fn submit<I: NonBlock>(
     ensures later { IsLater (I.view driver.old.handling.io) (I.view driver.new.handling.io) }
     ensures ends { StepEndsFor I.view course.now.pipe cancels driver.old driver.new result }
     ensures waits { WaitsBy I.view driver.old driver.new result }
+    ensures awaits { AwaitsNone result }
     ensures less { IfAgain result (λ next. most_steps course.now next < most_steps course.now (Wait.Room room)) }
     ensures whole { IfWhole result (IsWhole course.now) }
 {
@@ -135,6 +137,7 @@ fn poll_op<I: NonBlock>(
     requires fits { FitsWait (ops_in driver.old) course.old.pipe cancels (Wait.Waiting op) }
     ensures same { IsSameBytes course.old course.new }
     ensures steps { StepsTo I.view course.old.pipe cancels driver.old driver.new (Wait.Waiting op) result }
+    ensures awaits { AwaitsBy I.files I.view I.tells driver.new course.old.pipe task result }
     ensures less { IfAgain result (λ next. most_steps course.new next < most_steps course.old (Wait.Waiting op)) }
     ensures whole { IfWhole result (IsWhole course.new) }
 {
@@ -155,6 +158,7 @@ pub(crate) fn advance<I: NonBlock>(
     requires fits { FitsWait (ops_in driver.old) course.old.pipe cancels wait }
     ensures same { IsSameBytes course.old course.new }
     ensures steps { StepsTo I.view course.old.pipe cancels driver.old driver.new wait result }
+    ensures awaits { AwaitsBy I.files I.view I.tells driver.new course.old.pipe task result }
     ensures less { IfAgain result (λ next. most_steps course.new next < most_steps course.old wait) }
     ensures whole { IfWhole result (IsWhole course.new) }
 {

@@ -3,6 +3,8 @@ ghost use Rattle.std.specs.Prelude.{◌≡◌, ◌<◌, ◌≤◌, ◌+◌, ◌^
 ghost use Rattle.core_exec.specs.Turns.{Reaches};
 ghost use Rattle.core_exec.specs.Exec.{IsSound, KeepsPlaces, MeetAims, Stands, TurnsTo, left_of, moment_of, ready_of, spawned_of, tasks_of};
 ghost use Rattle.core_exec.specs.Exec.{turns_of};
+ghost use Rattle.op_job.specs.Met.{MissesNone};
+ghost use Rattle.ready_driver.specs.LegacyTurns.{LegacyTurns};
 ghost use Rattle.pipe_job.specs.PipeJob.{FitsPipe, ApartPipes, IsAim, aim_of, cancels_of, polls_of};
 
 use crate::pipe_job::PipeJob;
@@ -23,6 +25,7 @@ fn turn_driver<I: NonBlock>(exec: &mut PipeExec<I>) -> Turned
     ensures outputs { exec.new.outputs ≡ exec.old.outputs }
     ensures numbers { (exec.new.spawned ≡ exec.old.spawned) × (exec.new.turns ≡ exec.old.turns) }
     ensures aims { (aims : ℕ → List ℕ) → MeetAims aim_of IsAim aims exec.old → MeetAims aim_of IsAim aims exec.new }
+    ensures turns { LegacyTurns I.view I.tells I.reporting I.memory exec.old.driver exec.new.driver result }
 {
     exec.driver.submit()
 }
@@ -44,6 +47,8 @@ pub fn turn<I: NonBlock>(exec: &mut PipeExec<I>, now: u64) -> (Turned, Result<Ra
     ensures places { KeepsPlaces exec.old exec.new }
     ensures spawned { spawned_of exec.new ≡ spawned_of exec.old }
     ensures marked { OnErr result.1 ((t : ℕ) → tasks_of exec.new t ≡ ready_of now result.0.woken exec.old t) }
+    // It comes to each task whose operation waits in its pipe's list and can go on.
+    ensures misses { IfOk result.1 (MissesNone I.view I.tells I.reporting I.memory exec.old.driver result.0 (tasks_of exec.old)) }
 {
     let turned = turn_driver(exec);
     let ran = exec.turn(now, turned.woken.as_slice());

@@ -33,7 +33,7 @@ impl Job<Memory> for Steps {
 
     ghost meets = { λ aim out. aim ≡ out ∷ [] };
 
-    ghost fits = { λ driver job. Unit {0} };
+    ghost fits = { λ driver task job. Unit {0} };
 
     ghost apart = { λ one other. Unit {0} };
 
@@ -128,9 +128,9 @@ fn forget(job: Steps) -> u64
 // Spawns a job.
 fn spawn_one(exec: &mut Steppers, number: u64, last: u64, deadline: Option<u64>) -> bool
     requires stands { Stands (λ (job : Steps). job.polls) (λ job. job.cancels) exec.old }
-    requires sound { AreSound (λ driver (job : Steps). Unit {0}) (λ one other. Unit {0}) exec.old.driver (jobs_of exec.old) }
+    requires sound { AreSound (λ driver task (job : Steps). Unit {0}) (λ one other. Unit {0}) exec.old.driver (jobs_of exec.old) }
     ensures stands { Stands (λ (job : Steps). job.polls) (λ job. job.cancels) exec.new }
-    ensures sound { AreSound (λ driver (job : Steps). Unit {0}) (λ one other. Unit {0}) exec.new.driver (jobs_of exec.new) }
+    ensures sound { AreSound (λ driver task (job : Steps). Unit {0}) (λ one other. Unit {0}) exec.new.driver (jobs_of exec.new) }
 {
     if exec.spawned() >= 1 << 62 {
         return false;
@@ -157,9 +157,9 @@ fn spawn_one(exec: &mut Steppers, number: u64, last: u64, deadline: Option<u64>)
 // Spawns the jobs.
 fn spawn_all(exec: &mut Steppers) -> bool
     requires stands { Stands (λ (job : Steps). job.polls) (λ job. job.cancels) exec.old }
-    requires sound { AreSound (λ driver (job : Steps). Unit {0}) (λ one other. Unit {0}) exec.old.driver (jobs_of exec.old) }
+    requires sound { AreSound (λ driver task (job : Steps). Unit {0}) (λ one other. Unit {0}) exec.old.driver (jobs_of exec.old) }
     ensures stands { Stands (λ (job : Steps). job.polls) (λ job. job.cancels) exec.new }
-    ensures sound { AreSound (λ driver (job : Steps). Unit {0}) (λ one other. Unit {0}) exec.new.driver (jobs_of exec.new) }
+    ensures sound { AreSound (λ driver task (job : Steps). Unit {0}) (λ one other. Unit {0}) exec.new.driver (jobs_of exec.new) }
 {
     for k in 0..JOBS.len() {
         let (last, deadline) = JOBS[k];
@@ -173,9 +173,9 @@ fn spawn_all(exec: &mut Steppers) -> bool
 // A turn does as its row wants.
 fn turns_so(exec: &mut Steppers, row: &Row) -> bool
     requires stands { Stands (λ (job : Steps). job.polls) (λ job. job.cancels) exec.old }
-    requires sound { AreSound (λ driver (job : Steps). Unit {0}) (λ one other. Unit {0}) exec.old.driver (jobs_of exec.old) }
+    requires sound { AreSound (λ driver task (job : Steps). Unit {0}) (λ one other. Unit {0}) exec.old.driver (jobs_of exec.old) }
     ensures stands { Stands (λ (job : Steps). job.polls) (λ job. job.cancels) exec.new }
-    ensures sound { AreSound (λ driver (job : Steps). Unit {0}) (λ one other. Unit {0}) exec.new.driver (jobs_of exec.new) }
+    ensures sound { AreSound (λ driver task (job : Steps). Unit {0}) (λ one other. Unit {0}) exec.new.driver (jobs_of exec.new) }
 {
     exec.driver.calls = row.calls;
     if exec.turns() >= 1 << 62 || exec.moment() > row.now {
@@ -195,9 +195,9 @@ fn turns_so(exec: &mut Steppers, row: &Row) -> bool
 // All turns do as their rows want.
 fn turn_all(exec: &mut Steppers) -> bool
     requires stands { Stands (λ (job : Steps). job.polls) (λ job. job.cancels) exec.old }
-    requires sound { AreSound (λ driver (job : Steps). Unit {0}) (λ one other. Unit {0}) exec.old.driver (jobs_of exec.old) }
+    requires sound { AreSound (λ driver task (job : Steps). Unit {0}) (λ one other. Unit {0}) exec.old.driver (jobs_of exec.old) }
     ensures stands { Stands (λ (job : Steps). job.polls) (λ job. job.cancels) exec.new }
-    ensures sound { AreSound (λ driver (job : Steps). Unit {0}) (λ one other. Unit {0}) exec.new.driver (jobs_of exec.new) }
+    ensures sound { AreSound (λ driver task (job : Steps). Unit {0}) (λ one other. Unit {0}) exec.new.driver (jobs_of exec.new) }
 {
     for k in 0..ROWS.len() {
         if !turns_so(exec, &ROWS[k]) {

@@ -7,5 +7,5 @@ use Rattle.core_exec.proofs.exec.tests.turn_all.Given as goal
 abbrev pub invariant-loop-k : goal.invariant-loop-k
 invariant-loop-k l = record {
   stands : Stands (λ (job : Steps). job.polls) (λ job. job.cancels) l.exec;
-  sound : AreSound (λ driver (job : Steps). Unit {0}) (λ one other. Unit {0}) l.exec.driver (jobs_of l.exec);
+  sound : AreSound (λ driver task (job : Steps). Unit {0}) (λ one other. Unit {0}) l.exec.driver (jobs_of l.exec);
 }

@@ -6,7 +6,7 @@ use Rattle.core_exec.specs.Exec.{HasAims, tasks_of}
 use Rattle.core_exec.specs.Places.{ArePlaced}
 use Rattle.core_exec.proofs.Aims.{aims_ready, aims_turn}
 use Rattle.core_exec.proofs.Placing.{placed_turn}
-use Rattle.core_exec.proofs.exec.Exec+D+J+J+Out.turn.Goals as goal
+use Rattle.core_exec.proofs.exec.Exec+D+J+J+Out.turn_into.Goals as goal
 
 -- the tasks that the turn began with are the ready ones
 pub returns-clause-reaches : goal.returns-clause-reaches
