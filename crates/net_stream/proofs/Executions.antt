@@ -1,10 +1,10 @@
 -- What an execution of the completion driver leaves of connections.
-use Rattle.std.proofs.Common.{ℕ, ◌≡◌, ◌<◌, Option, Some, None, arith}
+use Rattle.std.proofs.Common.{◌≡◌, Option, Some, None, arith}
 use Rattle.rent_buf.specs.Parts.{Parts}
 use Rattle.rent_buf.specs.Rent.{Rented, buffer_of_rent}
 use Rattle.ring_core.specs.declared.request.Request.{Request}
 use Rattle.driver_core.specs.declared.op.Op.{Op}
-use Rattle.driver_core.specs.Op.{KeepsTokens, number_of}
+use Rattle.driver_core.specs.Op.{KeepsTokens}
 use Rattle.driver_core.specs.Ops.{Ops}
 use Rattle.op_driver.specs.Returned.{IsBackOf, KeepsBack}
 use Rattle.net_stream.specs.declared.connection.Connection.{Connection}

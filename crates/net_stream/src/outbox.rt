@@ -9,7 +9,7 @@ ghost use Rattle.net_stream.specs.Outbox.{FlushesOutbox, PutIn, SameBytes, Taken
 ghost use Rattle.net_stream.specs.Outbox.{WantsSent, WritesOutbox, fresh_outbox, has_failed, later_fault, outbox_writer};
 
 use crate::tally::{Tally, Turn};
-use rent_buf::{IoBuf, IoBufMut, IoFault, IoVecBuf, OutOfMemory, Rent};
+use rent_buf::{IoBuf, IoBufMut as _, IoFault, IoVecBuf, OutOfMemory, Rent};
 use rent_io::vectored::first_part;
 use rent_io::{AsyncWriteRent, PollBuf, PollCount};
 use std::alloc::Global;

@@ -11,7 +11,7 @@ use driver_core::{
 };
 use handle_core::SharedFd;
 use op_driver::OpDriver;
-use rent_buf::{IoBufMut, IoFault, Rent, VecBuf};
+use rent_buf::{IoBufMut as _, IoFault, Rent, VecBuf};
 use ring_core::{Outcome, Request};
 use std::marker::Model;
 use std::mem;

@@ -8,7 +8,7 @@ use net_stream::{Connection, Inbox, Outbox};
 use op_driver::OpDriver;
 use ready_driver::{LegacyDriver, MemIo};
 use rent_buf::Rent;
-use rent_io::{AsyncReadRent, AsyncWriteRent, PollBuf};
+use rent_io::{AsyncReadRent as _, AsyncWriteRent as _, PollBuf};
 use ring_core::{HandleKind, MOST_HANDLES, Names};
 use std::alloc::Global;
 use std::test::Fail;

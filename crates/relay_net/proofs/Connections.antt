@@ -37,6 +37,7 @@ use Rattle.relay_net.specs.declared.flow.Flow.{Flow}
 use Rattle.relay_net.specs.declared.flow.Stage.{Stage}
 use Rattle.relay_net.specs.declared.flow.Stage.TheVariants as stage
 use Rattle.relay_net.specs.declared.round.RelayError.TheVariants as why
+use Rattle.relay_net.proofs.Marks.{follows_marks, moves_ended, streams_then}
 use Rattle.relay_net.proofs.Calls.{later_same, later_then, pending_kept, plain_in, released_users, users_then}
 
 -- A handle that the user holds may be named.
@@ -106,8 +107,10 @@ moves_elsewhere old new near far (inr sent) h first second =
     (sent_others old new far h second sent, sent_inputs old new far h second sent)
 
 moves_streams : (old new : List HandleState) (near far : ℕ) → MovesBetween old near far new → KeepsStreams old new
-moves_streams old new near far (inl taken) h stream = taken_stream old new near h taken stream
-moves_streams old new near far (inr sent) h stream = sent_stream old new far h sent stream
+moves_streams old new near far (inl taken) h =
+    (λ stream. taken_stream old new near h taken stream, λ ended. moves_ended old new near far (inl taken) h ended)
+moves_streams old new near far (inr sent) h =
+    (λ stream. sent_stream old new far h sent stream, λ ended. moves_ended old new near far (inr sent) h ended)
 
 -- What follows from what a direction came to.
 follows_cause : (old new : IoView) (c : Came) (before now : Bool) (answer : Served) → CameFor old new c → FollowsAs c before now answer
@@ -201,6 +204,9 @@ module _ {I : Type 0} (view : I → IoView) (tells : Bool) where
           forth_idle = quiet;
           back_idle = λ marked. idle_same before.back;
         };
+        marks = λ t. follows_marks (world_of view old) (world_of view new) c before
+            (record { forth = flow; back = before.back; ending = ending }) answer near follows from to
+            (moves_streams (world_of view old) (world_of view new) near far (flows.leaves.moves t)) (flows.ended t) (inl refl);
       }
 
   -- What a step the other way leaves.
@@ -235,6 +241,9 @@ module _ {I : Type 0} (view : I → IoView) (tells : Bool) where
           forth_idle = λ marked idle. idle;
           back_idle = λ marked. subst (λ b. StaysIdle b (Some flow)) (sym there) (quiet marked);
         };
+        marks = λ t. follows_marks (world_of view old) (world_of view new) c before
+            (record { forth = before.forth; back = Some flow; ending = ending }) answer far follows refl refl
+            (moves_streams (world_of view old) (world_of view new) far near (flows.leaves.moves t)) (flows.ended t) (inr refl);
       }
 
   -- Where there is none all stays.
@@ -249,11 +258,12 @@ module _ {I : Type 0} (view : I → IoView) (tells : Bool) where
       users = λ h held. held;
       ops = λ op held asked. refl;
       elsewhere = λ t h first second. (refl, refl);
-      streams = λ t h stream. stream;
+      streams = λ t h. (λ stream. stream, λ ended. ended);
     };
     lines = record { forth_line = λ t a b. refl; back_line = λ t apart a b. refl };
     cause = tt;
     ends = record { ending = λ marked. marked; forth_idle = λ marked idle. idle; back_idle = λ marked. idle_same conn.back };
+    marks = λ t marked. marked;
   }
 
   -- One call about a connection, and then another.
@@ -267,7 +277,7 @@ module _ {I : Type 0} (view : I → IoView) (tells : Bool) where
       (second.elsewhere t h a b).0 ∙ (first.elsewhere t h a b).0,
       (second.elsewhere t h a b).1 ∙ (first.elsewhere t h a b).1,
     );
-    streams = λ t h stream. second.streams t h (first.streams t h stream);
+    streams = λ t. streams_then (world_of view old) (world_of view mid) (world_of view new) (first.streams t) (second.streams t);
   }
 
   -- A cause behind an earlier call is one behind both.
@@ -300,9 +310,9 @@ module _ {I : Type 0} (view : I → IoView) (tells : Bool) where
         fits = second.fits;
         leaves = leaves_then old mid new near far first.leaves leaves;
         lines = record {
-          forth_line = λ t a b. lines.forth_line t (first.leaves.streams t near a) (first.leaves.streams t far b)
+          forth_line = λ t a b. lines.forth_line t ((first.leaves.streams t near).0 a) ((first.leaves.streams t far).0 b)
               ∙ first.lines.forth_line t a b;
-          back_line = λ t apart a b. lines.back_line t apart (first.leaves.streams t near a) (first.leaves.streams t far b)
+          back_line = λ t apart a b. lines.back_line t apart ((first.leaves.streams t near).0 a) ((first.leaves.streams t far).0 b)
               ∙ first.lines.back_line t apart a b;
         };
         cause = cause_later (view old.handling.io) (view mid.handling.io) (view new.handling.io) answer first.leaves.later second.cause;
@@ -312,6 +322,7 @@ module _ {I : Type 0} (view : I → IoView) (tells : Bool) where
           back_idle = λ marked. idle_then before.back between.back now.back (first.ends.back_idle marked)
               (second.ends.back_idle (first.ends.ending marked));
         };
+        marks = λ t marked. second.marks t (first.marks t marked);
       }
 
   -- A connection that goes on is over all the same.
@@ -325,6 +336,7 @@ module _ {I : Type 0} (view : I → IoView) (tells : Bool) where
     lines = serves.lines;
     cause = tt;
     ends = serves.ends;
+    marks = serves.marks;
   }
 
   -- A handle that was given up.

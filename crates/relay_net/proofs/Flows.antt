@@ -37,9 +37,9 @@ use Rattle.net_stream.proofs.Handles.{sent_waiting, taken_sent}
 use Rattle.relay_net.specs.Flow.{FitsStage, IfAsked, IsElse, IsPending, IsReceive, IsSend, asked_at, bytes_sent, empty_buffer, held_in}
 use Rattle.relay_net.specs.Flow.{line}
 use Rattle.relay_net.specs.Flow.{send_bytes}
-use Rattle.relay_net.specs.Keeping.{AnyRequest, CameFor, KeepsUsers, LeavesFlow, MovesBetween, Stays, StopsAs, StopsFor, world_of}
+use Rattle.relay_net.specs.Keeping.{AnyRequest, CameFor, HasEnded, KeepsUsers, LeavesFlow, MovesBetween, Stays, StopsAs, StopsFor, world_of}
 use Rattle.relay_net.specs.Outcomes.{CountsAs, HoldsJust, ReceivedAs, SentAs}
-use Rattle.relay_net.specs.Steps.{Abandons, Begins, Flows}
+use Rattle.relay_net.specs.Steps.{Abandons, Begins, EndsAt, Flows}
 use Rattle.relay_net.specs.declared.flow.Came.{Came}
 use Rattle.relay_net.specs.declared.flow.Came.TheVariants as came
 use Rattle.relay_net.specs.declared.flow.Stage.{Stage}
@@ -128,6 +128,7 @@ module _ {I : Type 0} (view : I → IoView) (tells : Bool) where
     line_is = λ t a b. same_line (world_of view old) (world_of view new) from to held (held_in (ops_in new) s) (begins.stays.world t)
         begins.held_is;
     cause = begins.stops;
+    ended = λ t. tt;
   }
 
   -- One that began, and then was polled.
@@ -142,6 +143,7 @@ module _ {I : Type 0} (view : I → IoView) (tells : Bool) where
         (subst (λ w. IsStream w to) (sym (begins.stays.world t)) b)
         ∙ same_line (world_of view old) (world_of view mid) from to held (held_in (ops_in mid) s) (begins.stays.world t) begins.held_is;
     cause = came-later c flows.cause;
+    ended = flows.ended;
   }
     where
       came-later : (c : Came) → CameFor (view mid.handling.io) (view new.handling.io) c
@@ -234,14 +236,15 @@ still_flows view tells driver from to s fits = record {
   leaves = stays_leaves view tells driver driver from to (none_stays view tells driver);
   line_is = λ t a b. refl;
   cause = tt;
+  ended = λ t. tt;
 }
 
 -- What a count of a receive leaves of the line.
 counts_flow : (old new : IoView) (tells : Bool) (from to k : ℕ) (bytes : List ℕ) (s : Stage) (c : Came) → length bytes ≡ k
-    → (IsTrue tells → (bytes ++ input_at new.world from ≡ input_at old.world from) × IsTaken old.world from new.world)
-    → CountsAs k bytes s c
+    → (IsTrue tells → (bytes ++ input_at new.world from ≡ input_at old.world from) × IsTaken old.world from new.world
+    × (k ≡ 0 → HasEnded new.world from)) → CountsAs k bytes s c
     → (held : List ℕ) × (HoldsJust s held × (IsTrue tells → line new.world from to held ≡ line old.world from to [])
-    × (IsTrue tells → MovesBetween old.world from to new.world) × CameFor old new c)
+    × (IsTrue tells → MovesBetween old.world from to new.world) × CameFor old new c × (IsTrue tells → EndsAt new.world from c))
 counts_flow old new tells from to zero bytes s c size brings is =
     let none : bytes ≡ [] = no_bytes bytes size in (
       [],
@@ -251,6 +254,7 @@ counts_flow old new tells from to zero bytes s c size brings is =
             (brings t).1,
         λ t. inl (brings t).1,
         subst (CameFor old new) (sym is.1) tt,
+        λ t. subst (EndsAt new.world from) (sym is.1) ((brings t).2 refl),
       ),
     )
   where
@@ -264,6 +268,7 @@ counts_flow old new tells from to (suc k) bytes s c size brings is = (
     λ t. brought_line old.world new.world from to bytes (brings t).0 (brings t).1,
     λ t. inl (brings t).1,
     subst (CameFor old new) (sym is.1) tt,
+    λ t. subst (EndsAt new.world from) (sym is.1) tt,
   ),
 )
 
@@ -271,7 +276,7 @@ counts_flow old new tells from to (suc k) bytes s c size brings is = (
 brings_flow : (old new : IoView) (tells : Bool) (from to : ℕ) (outcome : Outcome) (bytes : List ℕ) (s : Stage) (c : Came)
     → Brings old new tells from outcome bytes → ReceivedAs outcome bytes s c
     → (held : List ℕ) × (HoldsJust s held × (IsTrue tells → line new.world from to held ≡ line old.world from to [])
-    × (IsTrue tells → MovesBetween old.world from to new.world) × CameFor old new c)
+    × (IsTrue tells → MovesBetween old.world from to new.world) × CameFor old new c × (IsTrue tells → EndsAt new.world from c))
 brings_flow old new tells from to (Count k) bytes s c brings is = counts_flow old new tells from to k bytes s c brings.0 brings.1 is
 brings_flow old new tells from to (From k addr) bytes s c brings is = counts_flow old new tells from to k bytes s c brings.0 brings.1 is
 brings_flow old new tells from to (Made h) bytes s c brings is = absurd brings
@@ -282,6 +287,7 @@ brings_flow old new tells from to (Fail error) bytes s c brings is = (
     λ t. same_line old.world new.world from to [] [] (brings.1 t) refl,
     λ t. inl (inl (brings.1 t)),
     subst (CameFor old new) (sym is.1) brings.0,
+    λ t. subst (EndsAt new.world from) (sym is.1) tt,
   ),
 )
 
@@ -290,7 +296,7 @@ takes_flow : (old new : IoView) (tells : Bool) (from to : ℕ) (outcome : Outcom
     → Takes old new tells to outcome bytes → SentAs outcome bytes s c
     → (held : List ℕ) × (HoldsJust s held
     × (IsTrue tells → IsStream old.world to → line new.world from to held ≡ line old.world from to bytes)
-    × (IsTrue tells → MovesBetween old.world from to new.world) × CameFor old new c)
+    × (IsTrue tells → MovesBetween old.world from to new.world) × CameFor old new c × EndsAt new.world from c)
 takes_flow old new tells from to (Count k) bytes s c takes is = (
   drop k bytes,
   (
@@ -298,6 +304,7 @@ takes_flow old new tells from to (Count k) bytes s c takes is = (
     λ t stream. took_line old.world new.world from to bytes (drop k bytes) stream ((takes t).0 stream) (takes t).1,
     λ t. inr (takes t).1,
     subst (CameFor old new) (sym is.1) tt,
+    subst (EndsAt new.world from) (sym is.1) tt,
   ),
 )
 takes_flow old new tells from to (From k addr) bytes s c takes is = (
@@ -307,6 +314,7 @@ takes_flow old new tells from to (From k addr) bytes s c takes is = (
     λ t stream. took_line old.world new.world from to bytes (drop k bytes) stream ((takes t).0 stream) (takes t).1,
     λ t. inr (takes t).1,
     subst (CameFor old new) (sym is.1) tt,
+    subst (EndsAt new.world from) (sym is.1) tt,
   ),
 )
 takes_flow old new tells from to (Made h) bytes s c takes is = absurd takes
@@ -317,6 +325,7 @@ takes_flow old new tells from to (Fail error) bytes s c takes is = (
     λ t stream. same_line old.world new.world from to bytes bytes (takes.1 t) refl,
     λ t. inl (inl (takes.1 t)),
     subst (CameFor old new) (sym is.1) takes.0,
+    subst (EndsAt new.world from) (sym is.1) tt,
   ),
 )
 
@@ -339,6 +348,7 @@ module _ {I : Type 0} (view : I → IoView) (tells memory : Bool) (files : I →
         };
         line_is = λ t a b. same_line (world_of view old) (world_of view new) from to [] [] (waits.world t) refl;
         cause = tt;
+        ended = λ t. tt;
       }
 
   -- One whose poll ran out of memory.
@@ -359,6 +369,7 @@ module _ {I : Type 0} (view : I → IoView) (tells memory : Bool) (files : I →
         };
         line_is = λ t a b. same_line (world_of view old) (world_of view new) from to [] [] (waits.world t) refl;
         cause = tt;
+        ended = λ t. tt;
       }
 
   -- One that ended.
@@ -382,6 +393,7 @@ module _ {I : Type 0} (view : I → IoView) (tells memory : Bool) (files : I →
         };
         line_is = λ t a b. ap (line (world_of view new) from to) (just_holds (ops_in new) s flow.0 flow.1.0) ∙ flow.1.1 t;
         cause = flow.1.3;
+        ended = flow.1.4;
       }
     where
       recv_same : (h : ℕ) (one other : Buffer) → ◌≡◌ {A = Request Buffer Parts} (Recv h one) (Recv h other) → one ≡ other
@@ -406,6 +418,7 @@ module _ {I : Type 0} (view : I → IoView) (tells memory : Bool) (files : I →
         line_is = λ t a b. same_line (world_of view old) (world_of view new) from to (bytes_sent (asked_at (ops_in old) op))
             (bytes_sent (asked_at (ops_in new) op)) (waits.world t) (ap bytes_sent waits.asked);
         cause = tt;
+        ended = λ t. tt;
       }
 
   pub send_starved : (old new : LegacyState I Buf) (op : Op) (error : NoMemory) (task from to count : ℕ)
@@ -427,6 +440,7 @@ module _ {I : Type 0} (view : I → IoView) (tells memory : Bool) (files : I →
         line_is = λ t a b. same_line (world_of view old) (world_of view new) from to (bytes_sent (asked_at (ops_in old) op))
             (bytes_sent (asked_at (ops_in new) op)) (waits.world t) (ap bytes_sent waits.asked);
         cause = tt;
+        ended = λ t. tt;
       }
 
   -- One that ended.
@@ -452,6 +466,7 @@ module _ {I : Type 0} (view : I → IoView) (tells memory : Bool) (files : I →
         line_is = λ t a b. ap (line (world_of view new) from to) (just_holds (ops_in new) s flow.0 flow.1.0)
             ∙ (flow.1.1 t b ∙ ap (line (world_of view old) from to) (ap shown same ∙ ap bytes_sent (sym went.1.0)));
         cause = flow.1.3;
+        ended = λ t. flow.1.4;
       }
     where
       send_same : (h : ℕ) (one other : Buffer) → ◌≡◌ {A = Request Buffer Parts} (Send h one) (Send h other) → one ≡ other

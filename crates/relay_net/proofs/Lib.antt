@@ -1,4 +1,5 @@
 pub mod Calls
+pub mod Marks
 pub mod Polls
 pub mod Moves
 pub mod Flows
@@ -6,5 +7,6 @@ pub mod Connections
 pub mod Places
 pub mod Relays
 pub mod Opens
+pub mod Listens
 pub mod Numbers
 pub mod Feeds

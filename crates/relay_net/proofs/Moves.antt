@@ -22,6 +22,8 @@ use Rattle.ring_core.specs.declared.world.HandleKind.TheVariants.{Stream}
 use Rattle.ring_core.specs.declared.world.HandleState.{HandleState}
 use Rattle.ring_core.specs.Effect.{made_by, sent_to_kind, with_sent, without_front}
 use Rattle.ring_core.specs.Lists.{amended}
+use Rattle.ring_core.specs.Outcome.{may_count}
+use Rattle.ring_core.specs.declared.request.Call.TheVariants.{In}
 use Rattle.ring_core.specs.Request.{held, held_of, plain_request, shape_of}
 use Rattle.ring_core.specs.World.{input_at}
 use Rattle.ring_core.specs.WorldCall.{call_effect}
@@ -30,7 +32,7 @@ use Rattle.driver_core.specs.declared.op.Done.{Done as Ended}
 use Rattle.driver_core.specs.declared.op.Op.{Op}
 use Rattle.driver_core.specs.declared.op.PollOp.TheVariants.{Ready}
 use Rattle.ready_driver.specs.Calling.{Called}
-use Rattle.ready_driver.specs.Io.{EndsFor, FailRose, IoView, IsLater, IsMade, IsMoved}
+use Rattle.ready_driver.specs.Io.{EndsFor, FailRose, IoView, IsLater, IsMade, IsMoved, MayEnd}
 use Rattle.ready_driver.specs.LegacyPolls.{HandsOver}
 use Rattle.ready_driver.specs.LegacyState.{LegacyState, ops_in}
 use Rattle.op_driver.specs.Legacy.{LegacyPolls}
@@ -38,8 +40,9 @@ use Rattle.net_stream.specs.Told.{IsSentTo, IsStream, IsTaken, output_at}
 use Rattle.net_stream.proofs.Told.{same_outcome}
 use Rattle.driver_core.proofs.Rising.{rose-later}
 use Rattle.relay_net.specs.Flow.{IfAsked, IsPending, IsReceive, IsSend, asked_at, empty_buffer}
-use Rattle.relay_net.specs.Keeping.{KeepsUsers, world_of}
+use Rattle.relay_net.specs.Keeping.{HasEnded, KeepsUsers, world_of}
 use Rattle.relay_net.proofs.Calls.{Lawful, later_then}
+use Rattle.relay_net.proofs.Marks.{spent_here, taken_ended}
 use Rattle.relay_net.proofs.Polls.{Ends, ready_ends}
 
 -- A request of a receive's shape that holds a buffer is that receive.
@@ -70,9 +73,11 @@ stored_shows bytes within = take_all 4096 bytes within
 -- What a receive brought, by how its call ended.
 abbrev pub Brings : IoView → IoView → Bool → ℕ → Outcome → List ℕ → Type 0
 Brings old new tells from (Count k) bytes = (length bytes ≡ k) × (IsTrue tells
-    → (bytes ++ input_at new.world from ≡ input_at old.world from) × IsTaken old.world from new.world)
+    → (bytes ++ input_at new.world from ≡ input_at old.world from) × IsTaken old.world from new.world
+    × (k ≡ 0 → HasEnded new.world from))
 Brings old new tells from (From k addr) bytes = (length bytes ≡ k) × (IsTrue tells
-    → (bytes ++ input_at new.world from ≡ input_at old.world from) × IsTaken old.world from new.world)
+    → (bytes ++ input_at new.world from ≡ input_at old.world from) × IsTaken old.world from new.world
+    × (k ≡ 0 → HasEnded new.world from))
 Brings old new tells from (Made h) bytes = ⊥
 Brings old new tells from (Fail error) bytes = Rose old.fails new.fails × (IsTrue tells → new.world ≡ old.world)
 
@@ -101,10 +106,11 @@ filled_moves : (k : ℕ) (old new : List HandleState) (from : ℕ) (bytes : List
     → length bytes ≡ k → k ≤ 4096 → shown buf ≡ bytes → now ≡ Recv from buf
     → ((e : ℕ) → call ≡ Fail e → ⊥) → ((j : ℕ) → call ≡ Count j → j ≡ k)
     → IsMoved old (Recv from empty_buffer) new now call
-    → (shown buf ++ input_at new from ≡ input_at old from) × IsTaken old from new
+    → (shown buf ++ input_at new from ≡ input_at old from) × IsTaken old from new × (k ≡ 0 → HasEnded new from)
 filled_moves k old new from bytes buf now call size within shows is sound counts moved = by-told moved.told refl
   where
-    by-told : (t : Told) → moved.told ≡ t → (shown buf ++ input_at new from ≡ input_at old from) × IsTaken old from new
+    by-told : (t : Told) → moved.told ≡ t
+        → (shown buf ++ input_at new from ≡ input_at old from) × IsTaken old from new × (k ≡ 0 → HasEnded new from)
     by-told (told.Fail e) t = absurd (sound e (moved.outcome_is
         ∙ ap (λ x. (call_effect old (Recv from empty_buffer) x).outcome) t))
     by-told (told.Count j) t =
@@ -122,6 +128,10 @@ filled_moves k old new from bytes buf now call size within shows is sound counts
               ∙ (ap (λ w. take j (input_at old from) ++ input_at w from) world
               ∙ (ap (λ rest. take j (input_at old from) ++ rest) (input_left j from old) ∙ take-append-drop j (input_at old from))),
           inr (j, world),
+          λ none.
+              let may : MayEnd old (Recv from empty_buffer) (told.Count j) = subst (MayEnd old (Recv from empty_buffer)) t moved.may in
+              let nought : may_count old (In from 4096) 0 ≡ true = subst (λ n. may_count old (In from 4096) n ≡ true) (e ∙ none) may in
+              subst (λ w. HasEnded w from) (sym world) (taken_ended j old from (spent_here old from nought)),
         )
 
 -- A call that failed moved nothing.
@@ -269,6 +279,7 @@ brings_later old mid new tells from (Count k) bytes later world brings = (
   λ t. (
     ap (λ w. bytes ++ input_at w from) (world t) ∙ (brings.1 t).0,
     subst (λ w. IsTaken old.world from w) (sym (world t)) (brings.1 t).1,
+    λ none. subst (λ w. HasEnded w from) (sym (world t)) ((brings.1 t).2 none),
   ),
 )
 brings_later old mid new tells from (From k addr) bytes later world brings = (
@@ -276,6 +287,7 @@ brings_later old mid new tells from (From k addr) bytes later world brings = (
   λ t. (
     ap (λ w. bytes ++ input_at w from) (world t) ∙ (brings.1 t).0,
     subst (λ w. IsTaken old.world from w) (sym (world t)) (brings.1 t).1,
+    λ none. subst (λ w. HasEnded w from) (sym (world t)) ((brings.1 t).2 none),
   ),
 )
 brings_later old mid new tells from (Made h) bytes later world brings = brings

@@ -47,13 +47,13 @@ use Rattle.ready_driver.specs.LegacyState.{LegacyState, SameOps, ops_in}
 use Rattle.ready_driver.specs.LegacyTurns.{LegacyTurns, TurnsBy, turning_in}
 use Rattle.ready_driver.specs.Registry.{Handling, TriesFor, is_old, is_users}
 use Rattle.op_driver.specs.Legacy.{LegacyDrops, LegacyPolls}
-use Rattle.net_stream.specs.Told.{IsStream, output_at}
+use Rattle.net_stream.specs.Told.{output_at}
 use Rattle.driver_core.proofs.Lists.{get-front}
 use Rattle.relay_net.specs.Connection.{FitsConnection, Releases, KeepsStreams, far_of, held_back, held_forth, near_of}
 use Rattle.relay_net.specs.Flow.{IfAsked, IsPending, IsReceive, IsSend, asked_at}
 use Rattle.relay_net.specs.Keeping.{AnyRequest, KeepsOps, KeepsUsers, Stays, world_of}
 use Rattle.relay_net.specs.Opening.{AcceptFails, AcceptedAs, AcceptedFor, FarFails, IsFar, IsFresh, IsNew, IsTransfer, KeepsBytes}
-use Rattle.relay_net.specs.Opening.{Opening, Widens}
+use Rattle.relay_net.specs.Opening.{IsFirst, Opening, WasOpened, Widens}
 use Rattle.relay_net.specs.Relay.{AreBeside, AreServed, FitsAccept, IsAccept, IsAmong, IsServed, IsSound}
 use Rattle.relay_net.specs.Relay.{Serving, StopsUnless}
 use Rattle.relay_net.specs.Relaying.{TurnStops}
@@ -67,6 +67,7 @@ use Rattle.relay_net.proofs.Polls.{other_key, pending_pends, pending_waits, poll
 use Rattle.relay_net.proofs.Connections.{asked_as, ops_fewer}
 use Rattle.relay_net.proofs.Relays.{IsKept, beside_swap, bytes_lines, connection_kept, lines_then, stops_later}
 use Rattle.relay_net.proofs.Places.{get_pushed}
+use Rattle.relay_net.proofs.Marks.{all_marked, appended_ended, marked_kept, pushed_marked, same_handles, streams_then}
 
 -- A receive, and a send, are transfers; an accept is none.
 receive_transfer : (h : ℕ) (request : Request Buffer Parts) → IsReceive h request → IsTransfer request
@@ -102,15 +103,22 @@ appended_bytes world h = elim (appended_at world h) [
 ]
 
 appended_streams : (world : List HandleState) → KeepsStreams world (world ++ fresh Stream ∷ [])
-appended_streams world h stream =
-    record { handle = stream.handle; there = get-front world (fresh Stream ∷ []) h stream.handle stream.there; kind = stream.kind }
+appended_streams world h = (
+  λ stream. record {
+    handle = stream.handle;
+    there = get-front world (fresh Stream ∷ []) h stream.handle stream.there;
+    kind = stream.kind;
+  },
+  λ ended. appended_ended world h ended,
+)
 
 -- Bytes stay where the handles do.
 same_bytes : (old new : List HandleState) → new ≡ old → KeepsBytes old new
 same_bytes old new same h = (ap (λ w. output_at w h) same, ap (λ w. input_at w h) same)
 
-same_streams : (old new : List HandleState) → new ≡ old → KeepsStreams old new
-same_streams old new same h stream = subst (λ w. IsStream w h) (sym same) stream
+-- Bytes stay in one call and then in another.
+bytes_then : (old mid new : List HandleState) → KeepsBytes old mid → KeepsBytes mid new → KeepsBytes old new
+bytes_then old mid new first second h = ((second h).0 ∙ (first h).0, (second h).1 ∙ (first h).1)
 
 -- What the call of an accept leaves: a handle more, or none.
 accept_world : (old new : List HandleState) (listener : ℕ) (now : Request Buffer Parts) (call : Outcome)
@@ -146,7 +154,7 @@ module _ {I : Type 0} (view : I → IoView) (tells : Bool) where
     users = stays.users;
     ops = ops_fewer (ops_in old) (ops_in new) AnyRequest IsTransfer (λ request is. tt) stays.ops;
     bytes = λ t. same_bytes (world_of view old) (world_of view new) (stays.world t);
-    streams = λ t. same_streams (world_of view old) (world_of view new) (stays.world t);
+    streams = λ t. same_handles (world_of view old) (world_of view new) (stays.world t);
   }
 
   -- A served connection is served still.
@@ -194,9 +202,12 @@ module _ {I : Type 0} (view : I → IoView) (tells : Bool) where
               (held_forth (ops_in old) still.now) (held_back (ops_in old) still.now) (held_forth (ops_in new) still.now)
               (held_back (ops_in new) still.now) (λ t. widens.bytes t (near_of conn)) (λ t. widens.bytes t (far_of conn)) kept.forth
               kept.back);
+          mark = λ t marked. marked_kept (world_of view old) (world_of view new) still.now (widens.streams t) (still.mark t marked);
         };
     later = later_then (view start.handling.io) (view old.handling.io) (view new.handling.io) opening.later widens.later;
-    streams = λ t h stream. widens.streams t h (opening.streams t h stream);
+    bytes = λ t. bytes_then (world_of view start) (world_of view old) (world_of view new) (opening.bytes t) (widens.bytes t);
+    streams = λ t. streams_then (world_of view start) (world_of view old) (world_of view new) (opening.streams t) (widens.streams t);
+    marks = λ t marked. all_marked (world_of view old) (world_of view new) all (widens.streams t) (opening.marks t marked);
   }
 
   -- As a round begins each connection is open.
@@ -209,16 +220,18 @@ module _ {I : Type 0} (view : I → IoView) (tells : Bool) where
       near = refl;
       far = refl;
       lines = record { forth_line = λ t a b. refl; back_line = λ t apart a b. refl };
+      mark = λ t marked. marked;
     };
     later = later_same (view driver.handling.io);
-    streams = λ t h stream. stream;
+    bytes = λ t h. (refl, refl);
+    streams = λ t h. (λ stream. stream, λ ended. ended);
+    marks = λ t marked. marked;
   }
 
   -- A further connection leaves each open.
   pub opening_pushed : (start now : LegacyState I Buf) (was all : List Connection) (conn : Connection)
-      → Opening view tells start was now all
-      → Opening view tells start was now (all ++ conn ∷ [])
-  opening_pushed start now was all conn opening = record {
+      → conn.ending ≡ false → Opening view tells start was now all → Opening view tells start was now (all ++ conn ∷ [])
+  opening_pushed start now was all conn going opening = record {
     each = λ one among.
         let still = opening.each one among in
         record {
@@ -228,9 +241,12 @@ module _ {I : Type 0} (view : I → IoView) (tells : Bool) where
           near = still.near;
           far = still.far;
           lines = still.lines;
+          mark = still.mark;
         };
     later = opening.later;
+    bytes = opening.bytes;
     streams = opening.streams;
+    marks = λ t marked. pushed_marked (world_of view now) all conn going (opening.marks t marked);
   }
 
   -- None has ended yet.
@@ -241,6 +257,7 @@ module _ {I : Type 0} (view : I → IoView) (tells : Bool) where
     fails = λ lost among. none_lost lost among.0 among.1;
     later = opening.later;
     streams = opening.streams;
+    marks = opening.marks;
   }
     where
       none_lost : {P : Type 0} (lost : Lost) (k : ℕ) → slice_get {X = Lost} [] k ≡ Some lost → P
@@ -332,7 +349,7 @@ module _ {I : Type 0} (view : I → IoView) (tells memory : Bool) where
         users = waited.1;
         ops = λ op held asked. ap (λ s. map.get s.values op.key) turns.slots;
         bytes = λ t. same_bytes (world_of view old) (world_of view new) (waited.2 t);
-        streams = λ t. same_streams (world_of view old) (world_of view new) (waited.2 t);
+        streams = λ t. same_handles (world_of view old) (world_of view new) (waited.2 t);
       }
     where
       by-same : new.handling ≡ old.handling → IsLater (view old.handling.io) (view new.handling.io)
@@ -391,7 +408,7 @@ module _ {I : Type 0} (view : I → IoView) (tells memory : Bool) (files : I →
           ops = polled_others view tells memory files called law old new op task (Ok (Pending back)) (IsAccept listener) IsTransfer asked
               pending (accept_apart listener);
           bytes = λ t. same_bytes (world_of view old) (world_of view new) (waits.world t);
-          streams = λ t. same_streams (world_of view old) (world_of view new) (waits.world t);
+          streams = λ t. same_handles (world_of view old) (world_of view new) (waits.world t);
         },
         subst (λ b. IsPending (ops_in new) b (IsAccept listener)) (sym tokens.0)
             (pending_pends view tells memory files called law old new op back task (IsAccept listener) asked tokens.1 pending),
@@ -409,7 +426,7 @@ module _ {I : Type 0} (view : I → IoView) (tells memory : Bool) (files : I →
           ops = polled_others view tells memory files called law old new op task (Err (error, back)) (IsAccept listener) IsTransfer polls
               pending (accept_apart listener);
           bytes = λ t. same_bytes (world_of view old) (world_of view new) (waits.world t);
-          streams = λ t. same_streams (world_of view old) (world_of view new) (waits.world t);
+          streams = λ t. same_handles (world_of view old) (world_of view new) (waits.world t);
         },
         subst (λ b. IsPending (ops_in new) b (IsAccept listener)) (sym tokens.0)
             (starved_pends view tells memory files called law old new op (error, back) task (IsAccept listener) polls tokens.1 pending),
@@ -447,7 +464,7 @@ module _ {I : Type 0} (view : I → IoView) (tells memory : Bool) (files : I →
             | inr e ↦ subst (KeepsBytes (world_of view old)) (sym e) (appended_bytes (world_of view old))
           ];
           streams = λ t. elim (world t) [
-            | inl e ↦ same_streams (world_of view old) (world_of view new) e
+            | inl e ↦ same_handles (world_of view old) (world_of view new) e
             | inr e ↦ subst (KeepsStreams (world_of view old)) (sym e) (appended_streams (world_of view old))
           ];
         },
@@ -553,9 +570,16 @@ released_opening view tells start old new was all listener h releases served ope
             (held_back (ops_in new) still.now)
             (λ t. same_bytes (world_of view old) (world_of view new) (releases.world t) (near_of conn))
             (λ t. same_bytes (world_of view old) (world_of view new) (releases.world t) (far_of conn)) kept.forth kept.back);
+        mark = λ t marked. marked_kept (world_of view old) (world_of view new) still.now
+            (same_handles (world_of view old) (world_of view new) (releases.world t)) (still.mark t marked);
       };
   later = later_then (view start.handling.io) (view old.handling.io) (view new.handling.io) opening.later releases.later;
-  streams = λ t h stream. same_streams (world_of view old) (world_of view new) (releases.world t) h (opening.streams t h stream);
+  bytes = λ t. bytes_then (world_of view start) (world_of view old) (world_of view new) (opening.bytes t)
+      (same_bytes (world_of view old) (world_of view new) (releases.world t));
+  streams = λ t. streams_then (world_of view start) (world_of view old) (world_of view new) (opening.streams t)
+      (same_handles (world_of view old) (world_of view new) (releases.world t));
+  marks = λ t marked. all_marked (world_of view old) (world_of view new) all
+      (same_handles (world_of view old) (world_of view new) (releases.world t)) (opening.marks t marked);
 }
 
 -- The same connections are sound behind a call that moved no bytes, with an accept that fits.
@@ -610,7 +634,7 @@ unopened_widens view tells memory old new why unopened rest = record {
   users = same_users old.handling.table new.handling.table unopened.holders;
   ops = λ op held asked. ap (λ m. map.get m op.key) rest.slots;
   bytes = λ t. same_bytes (world_of view old) (world_of view new) (unopened.object.world t);
-  streams = λ t. same_streams (world_of view old) (world_of view new) (unopened.object.world t);
+  streams = λ t. same_handles (world_of view old) (world_of view new) (unopened.object.world t);
 }
 
 pub unopened_fails : {I : Type 0} (view : I → IoView) (tells memory : Bool) (old new : Handling I) (why : NonBlockError)
@@ -631,7 +655,7 @@ none_widens view tells driver = record {
   users = λ h held. held;
   ops = λ op held asked. refl;
   bytes = λ t h. (refl, refl);
-  streams = λ t h stream. stream;
+  streams = λ t h. (λ stream. stream, λ ended. ended);
 }
 
 -- Connections are sound behind a call that leaves every operation.
@@ -709,7 +733,7 @@ dropped_widens view tells memory old new op listener drops pending = record {
       ∙ gone-other old.slots.values op.key other.key
       (other_key (ops_in old) op other (IsAccept listener) IsTransfer pending.asks else (accept_apart listener));
   bytes = λ t. same_bytes (world_of view old) (world_of view new) (drops.handles.object.world t);
-  streams = λ t. same_streams (world_of view old) (world_of view new) (drops.handles.object.world t);
+  streams = λ t. same_handles (world_of view old) (world_of view new) (drops.handles.object.world t);
 }
 
 -- Why an accept failed, over a longer time.
@@ -717,3 +741,32 @@ pub accept_within : (a b c d : IoView) (accept : Option ℕ) → a.fails ≤ b.f
     → AcceptFails a d accept
 accept_within a b c d None first last fails = tt
 accept_within a b c d (Some error) first last fails = omega (arith, first, last, fails)
+
+-- What became of a connection that was opened in a round, from the accept on.
+pub opened_becomes : {I : Type 0} (view : I → IoView) (tells : Bool) (old mid new : LegacyState I Buf) (was all now : List Connection)
+    (n : ℕ) (closed : List ℕ) (failed : List Lost) → Opening view tells old was mid all → IsFirst (ops_in mid) all n
+    → Serving view tells mid all new now closed failed → WasOpened view tells old n new now closed failed
+opened_becomes view tells old mid new was all now n closed failed opening is serving = record {
+  mid = mid;
+  first = is.first;
+  near = is.near;
+  going = is.going;
+  forth = is.forth;
+  back = is.back;
+  bytes = opening.bytes;
+  becomes = serving.each is.first is.among;
+}
+
+-- No number is among none.
+pub none_opened : {P : Type 0} (names : List ℕ) (n : ℕ) → names ≡ [] → IsAmong names n → P
+none_opened names n none among =
+    let at : slice_get {X = ℕ} [] among.0 ≡ Some n = subst (λ xs. slice_get xs among.0 ≡ Some n) none among.1 in
+    absurd cc
+
+-- A number among one is that.
+pub one_opened : (names : List ℕ) (near n : ℕ) → names ≡ near ∷ [] → IsAmong names n → near ≡ n
+one_opened names near n is among = by-place among.0 (subst (λ xs. slice_get xs among.0 ≡ Some n) is among.1)
+  where
+    by-place : (k : ℕ) → slice_get (near ∷ []) k ≡ Some n → near ≡ n
+    by-place zero at = cc
+    by-place (suc k) at = absurd cc

@@ -18,9 +18,9 @@ use Rattle.driver_core.specs.declared.op.Op.{Op}
 use Rattle.ready_driver.specs.Io.{IoView, IsLater}
 use Rattle.ready_driver.specs.LegacyState.{LegacyState, ops_in}
 use Rattle.ready_driver.specs.Registry.{is_users}
-use Rattle.net_stream.specs.Told.{IsStream, output_at}
+use Rattle.net_stream.specs.Told.{output_at}
 use Rattle.driver_core.proofs.Lists.{get-front}
-use Rattle.relay_net.specs.Connection.{EndsConnection, FitsBack, FitsConnection, IsLostAs, IsOutside, IsOver, KeepsLines}
+use Rattle.relay_net.specs.Connection.{EndsConnection, FitsBack, FitsConnection, IsLostAs, IsMarked, IsOutside, IsOver, KeepsLines}
 use Rattle.relay_net.specs.Connection.{KeepsStreams, LeavesConnection, Serves, far_of, held_back, held_by, held_forth, near_of}
 use Rattle.relay_net.specs.Flow.{IsReceive, IsSend, asked_at, line}
 use Rattle.relay_net.specs.Keeping.{KeepsOps, world_of}
@@ -32,6 +32,8 @@ use Rattle.relay_net.specs.declared.flow.Flow.{Flow}
 use Rattle.relay_net.specs.declared.round.Lost.{Lost}
 use Rattle.relay_net.specs.declared.round.RelayError.{RelayError}
 use Rattle.relay_net.specs.declared.round.RelayError.TheVariants as why
+use Rattle.relay_net.proofs.Marks.{all_marked, either_kept, either_same, marked_kept, removed_marked, same_handles, set_marked}
+use Rattle.relay_net.proofs.Marks.{streams_then}
 use Rattle.relay_net.proofs.Calls.{later_then, pending_kept}
 use Rattle.relay_net.proofs.Connections.{asked_as, receive_else, send_else, stage_kept}
 use Rattle.relay_net.proofs.Places.{get_last, get_removed, get_set, get_set_other, placed, placed_differ}
@@ -107,8 +109,8 @@ pub lines_then : (tells : Bool) (old mid new : List HandleState) (near far : ℕ
     → (IsTrue tells → KeepsStreams old mid) → KeepsLines tells old mid near far f b f1 b1 → KeepsLines tells mid new near far f1 b1 f2 b2
     → KeepsLines tells old new near far f b f2 b2
 lines_then tells old mid new near far f b f1 b1 f2 b2 streams first second = record {
-  forth_line = λ t a c. second.forth_line t (streams t near a) (streams t far c) ∙ first.forth_line t a c;
-  back_line = λ t apart a c. second.back_line t apart (streams t near a) (streams t far c) ∙ first.back_line t apart a c;
+  forth_line = λ t a c. second.forth_line t ((streams t near).0 a) ((streams t far).0 c) ∙ first.forth_line t a c;
+  back_line = λ t apart a c. second.back_line t apart ((streams t near).0 a) ((streams t far).0 c) ∙ first.back_line t apart a c;
 }
 
 -- Who is found twice at a place is one.
@@ -225,6 +227,7 @@ module _ {I : Type 0} (view : I → IoView) (tells : Bool) where
                   (subst (λ h. KeepsLines tells (world_of view old) (world_of view new) (near_of still.now) h
                   (held_forth (ops_in old) still.now) (held_back (ops_in old) still.now) (held_forth (ops_in new) now)
                   (held_back (ops_in new) now)) still.far mine.lines));
+              mark = λ t marked. mine.marks t (still.mark t marked);
             })
         | inr e ↦ let apart = served.apart still.place k still.now conn e still.there there in
             let kept = outside_kept (ops_in old) (ops_in new) (near_of conn) (far_of conn) still.now serves.leaves.ops apart
@@ -245,6 +248,8 @@ module _ {I : Type 0} (view : I → IoView) (tells : Bool) where
                   (λ same. apart.near_far (still.near ∙ same)))
                   (λ t. serves.leaves.elsewhere t (far_of was) (λ same. apart.far_near (still.far ∙ same))
                   (λ same. apart.far_far (still.far ∙ same))) kept.forth kept.back);
+              mark = λ t marked. marked_kept (world_of view old) (world_of view new) still.now (serves.leaves.streams t)
+                  (still.mark t marked);
             })
       ]
   becomes_set start old new was conn now answer all k closed failed listener streams served there serves (inr (apart, ended)) =
@@ -273,7 +278,12 @@ module _ {I : Type 0} (view : I → IoView) (tells : Bool) where
 
       by-end : WasClosed view tells start was old closed ⊎ WasLost view tells start was old failed
           → WasClosed view tells start was new closed ⊎ WasLost view tells start was new failed
-      by-end (inl close) = inl (record { named = close.named; lines = beside [] [] close.lines })
+      by-end (inl close) = inl (record {
+        named = close.named;
+        lines = beside [] [] close.lines;
+        ended = λ t marked. either_kept (world_of view old) (world_of view new) (near_of was) (far_of was) (serves.leaves.streams t)
+            (close.ended t marked);
+      })
       by-end (inr loss) = inr (record {
         lost = loss.lost;
         named = loss.named;
@@ -298,7 +308,9 @@ module _ {I : Type 0} (view : I → IoView) (tells : Bool) where
         let later = serves.leaves.later.fails in
         omega (arith, rose, later);
     later = later_then (view start.handling.io) (view old.handling.io) (view new.handling.io) serving.later serves.leaves.later;
-    streams = λ t h stream. serves.leaves.streams t h (serving.streams t h stream);
+    streams = λ t. streams_then (world_of view start) (world_of view old) (world_of view new) (serving.streams t) (serves.leaves.streams t);
+    marks = λ t marked. set_marked (world_of view old) (world_of view new) all k conn now there (serves.leaves.streams t) (serves.marks t)
+        (serving.marks t marked);
   }
 
   -- All others are served once one was taken out and ended.
@@ -338,6 +350,7 @@ module _ {I : Type 0} (view : I → IoView) (tells : Bool) where
       → ((n : ℕ) → IsAmong closed n → IsAmong later n) → ((one : Lost) → IsAmong failed one → IsAmong lost one)
       → ((lines : KeepsLines tells (world_of view start) (world_of view new) (near_of was) (far_of was) (held_forth (ops_in start) was)
       (held_back (ops_in start) was) (held_forth (ops_in old) conn) (held_back (ops_in old) conn)) → near_of conn ≡ near_of was
+      → far_of conn ≡ far_of was → (IsTrue tells → IsMarked (world_of view start) was → IsMarked (world_of view old) conn)
       → WasClosed view tells start was new later ⊎ WasLost view tells start was new lost)
       → Becomes view tells start was old all closed failed → Becomes view tells start was new (remove all k) later lost
   becomes_removed start old new was conn all k closed later failed lost listener streams served there ends more_closed more_lost this
@@ -368,7 +381,8 @@ module _ {I : Type 0} (view : I → IoView) (tells : Bool) where
                   (held_back (ops_in old) conn) (held_forth (ops_in old) conn) (held_back (ops_in old) conn)
                   (λ t. (ap (λ w. output_at w (near_of was)) (ends.world t), ap (λ w. input_at w (near_of was)) (ends.world t)))
                   (λ t. (ap (λ w. output_at w (far_of was)) (ends.world t), ap (λ w. input_at w (far_of was)) (ends.world t))) refl refl))
-                  (sym near),
+                  (sym near) (sym far)
+                  (subst (λ c. IsTrue tells → IsMarked (world_of view start) was → IsMarked (world_of view old) c) is still.mark),
             )
         | inr e ↦ let apart = served.apart still.place k still.now conn e still.there there in
             let kept = outside_kept (ops_in old) (ops_in new) (near_of conn) (far_of conn) still.now ends.ops apart
@@ -389,6 +403,8 @@ module _ {I : Type 0} (view : I → IoView) (tells : Bool) where
                   (λ t. (ap (λ w. output_at w (near_of was)) (ends.world t), ap (λ w. input_at w (near_of was)) (ends.world t)))
                   (λ t. (ap (λ w. output_at w (far_of was)) (ends.world t), ap (λ w. input_at w (far_of was)) (ends.world t)))
                   kept.forth kept.back);
+              mark = λ t marked. marked_kept (world_of view old) (world_of view new) still.now
+                  (same_handles (world_of view old) (world_of view new) (ends.world t)) (still.mark t marked);
             })
       ]
   becomes_removed start old new was conn all k closed later failed lost listener streams served there ends more_closed more_lost this
@@ -409,7 +425,12 @@ module _ {I : Type 0} (view : I → IoView) (tells : Bool) where
 
       by-end : WasClosed view tells start was old closed ⊎ WasLost view tells start was old failed
           → WasClosed view tells start was new later ⊎ WasLost view tells start was new lost
-      by-end (inl close) = inl (record { named = more_closed (near_of was) close.named; lines = beside [] [] close.lines })
+      by-end (inl close) = inl (record {
+        named = more_closed (near_of was) close.named;
+        lines = beside [] [] close.lines;
+        ended = λ t marked. either_kept (world_of view old) (world_of view new) (near_of was) (far_of was)
+            (same_handles (world_of view old) (world_of view new) (ends.world t)) (close.ended t marked);
+      })
       by-end (inr loss) = inr (record {
         lost = loss.lost;
         named = more_lost loss.lost loss.named;
@@ -430,19 +451,25 @@ module _ {I : Type 0} (view : I → IoView) (tells : Bool) where
   serving_closed start old new was conn all k closed failed listener served there ends over serving = record {
     each = λ one among. becomes_removed start old new one conn all k closed (closed ++ near_of conn ∷ []) failed failed listener
         serving.streams served there ends (λ n is. (is.0, get-front closed (near_of conn ∷ []) is.0 n is.1)) (λ lost is. is)
-        (λ lines near. inl (record {
+        (λ lines near far mark. inl (record {
           named = (length closed, get_last closed (near_of conn) ∙ ap Some near);
           lines = subst (λ f. KeepsLines tells (world_of view start) (world_of view new) (near_of one) (far_of one)
               (held_forth (ops_in start) one) (held_back (ops_in start) one) f []) over.forth
               (subst (λ b. KeepsLines tells (world_of view start) (world_of view new) (near_of one) (far_of one)
               (held_forth (ops_in start) one) (held_back (ops_in start) one) (held_forth (ops_in old) conn) b) over.back lines);
+          ended = λ t marked. either_same (world_of view old) (world_of view new) (near_of conn) (far_of conn) (near_of one) (far_of one)
+              (ends.world t) near far (mark t marked over.ending);
         })) (serving.each one among);
     fails = λ lost among.
         let rose = serving.fails lost among in
         let later = ends.later.fails in
         omega (arith, rose, later);
     later = later_then (view start.handling.io) (view old.handling.io) (view new.handling.io) serving.later ends.later;
-    streams = λ t h stream. subst (λ w. IsStream w h) (sym (ends.world t)) (serving.streams t h stream);
+    streams = λ t. streams_then (world_of view start) (world_of view old) (world_of view new) (serving.streams t)
+        (same_handles (world_of view old) (world_of view new) (ends.world t));
+    marks = λ t marked. removed_marked (world_of view new) all k
+        (all_marked (world_of view old) (world_of view new) all (same_handles (world_of view old) (world_of view new) (ends.world t))
+        (serving.marks t marked));
   }
 
   -- One that failed was taken out and ended: it is named, with how much it holds.
@@ -455,7 +482,7 @@ module _ {I : Type 0} (view : I → IoView) (tells : Bool) where
   serving_lost start old new was conn all k fault closed failed lost listener served there ends is rose serving = record {
     each = λ one among. becomes_removed start old new one conn all k closed closed failed (failed ++ lost ∷ []) listener
         serving.streams served there ends (λ n at. at) (λ other at. (at.0, get-front failed (lost ∷ []) at.0 other at.1))
-        (λ lines near. inr (record {
+        (λ lines near far mark. inr (record {
           lost = lost;
           named = (length failed, get_last failed lost);
           connection = is.connection ∙ near;
@@ -467,7 +494,11 @@ module _ {I : Type 0} (view : I → IoView) (tells : Bool) where
         })) (serving.each one among);
     fails = λ other among. let later = ends.later.fails in omega (arith, rose, later);
     later = later_then (view start.handling.io) (view old.handling.io) (view new.handling.io) serving.later ends.later;
-    streams = λ t h stream. subst (λ w. IsStream w h) (sym (ends.world t)) (serving.streams t h stream);
+    streams = λ t. streams_then (world_of view start) (world_of view old) (world_of view new) (serving.streams t)
+        (same_handles (world_of view old) (world_of view new) (ends.world t));
+    marks = λ t marked. removed_marked (world_of view new) all k
+        (all_marked (world_of view old) (world_of view new) all (same_handles (world_of view old) (world_of view new) (ends.world t))
+        (serving.marks t marked));
   }
 
 -- Why a later call stopped is why both did.

@@ -1,5 +1,5 @@
 -- A connection of a relay: its directions, its bytes on their way, and what its calls leave of all else. Cited by `connection`.
-use Rattle.std.specs.Prelude.{ℕ, ◌≡◌, ◌≢◌, Bool, true, IsTrue, List, [], length, Option, Some, None}
+use Rattle.std.specs.Prelude.{ℕ, ◌≡◌, ◌≢◌, ◌⊎◌, Bool, true, IsTrue, List, [], length, Option, Some, None}
 use Rattle.rent_buf.specs.Buffer.{Buffer}
 use Rattle.rent_buf.specs.Counts.{Rose}
 use Rattle.rent_buf.specs.Parts.{Parts}
@@ -13,7 +13,7 @@ use Rattle.ready_driver.specs.LegacyState.{LegacyState, ops_in}
 use Rattle.ready_driver.specs.Registry.{is_users}
 use Rattle.net_stream.specs.Told.{IsStream, output_at}
 use Rattle.relay_net.specs.Flow.{FitsFlow, FitsStage, IsElse, held_in, line}
-use Rattle.relay_net.specs.Keeping.{AnyRequest, KeepsOps, KeepsUsers, StopsFor, world_of}
+use Rattle.relay_net.specs.Keeping.{AnyRequest, HasEnded, KeepsOps, KeepsUsers, StopsFor, world_of}
 use Rattle.relay_net.specs.Outcomes.{IsIdle}
 use Rattle.relay_net.specs.declared.connection.Connection.{Connection}
 use Rattle.relay_net.specs.declared.connection.Served.{Served}
@@ -65,9 +65,13 @@ abbrev pub KeepsElsewhere : List HandleState → ℕ → ℕ → List HandleStat
 KeepsElsewhere old near far new = (h : ℕ) → h ≢ near → h ≢ far →
     (output_at new h ≡ output_at old h) × (input_at new h ≡ input_at old h)
 
--- Streams stay streams.
+-- Streams stay streams, and handles that have ended have ended still.
 abbrev pub KeepsStreams : List HandleState → List HandleState → Type 0
-KeepsStreams old new = (h : ℕ) → IsStream old h → IsStream new h
+KeepsStreams old new = (h : ℕ) → (IsStream old h → IsStream new h) × (HasEnded old h → HasEnded new h)
+
+-- A connection is ending only where one of its handles has ended.
+abbrev pub IsMarked : List HandleState → Connection → Type 0
+IsMarked world conn = conn.ending ≡ true → HasEnded world (near_of conn) ⊎ HasEnded world (far_of conn)
 
 -- A call was about one connection alone.
 pub record LeavesConnection {I : Type 0} (view : I → IoView) (tells : Bool) (old : LegacyState I Buf) (near far : ℕ)
@@ -119,6 +123,7 @@ pub record Serves {I : Type 0} (view : I → IoView) (tells : Bool) (old new : L
       (held_back (ops_in old) before) (held_forth (ops_in new) now) (held_back (ops_in new) now)
   pub cause : ServedFor (view old.handling.io) (view new.handling.io) served
   pub ends : KeepsEnd before now
+  pub marks : IsTrue tells → IsMarked (world_of view old) before → IsMarked (world_of view new) now
 
 -- A connection is over: its end is marked, and it holds nothing.
 pub record IsOver (ops : Ops Buf) (conn : Connection) : Type 0 where

@@ -1,11 +1,12 @@
 -- What a call on the driver leaves of all that it isn't about. Cited by each layer of the relay.
-use Rattle.std.specs.Prelude.{ℕ, ◌≡◌, ◌⊎◌, Bool, true, IsTrue, List, Option, Some, None}
+use Rattle.std.specs.Prelude.{ℕ, ◌≡◌, ◌⊎◌, Bool, true, IsTrue, List, [], Option, Some, None, slice_get}
 use Rattle.std.specs.FinMap as map
 use Rattle.rent_buf.specs.Counts.{Rose}
 use Rattle.rent_buf.specs.Buffer.{Buffer}
 use Rattle.rent_buf.specs.Parts.{Parts}
 use Rattle.rent_buf.specs.declared.plain.Buf.{Buf}
 use Rattle.ring_core.specs.declared.request.Request.{Request}
+use Rattle.ring_core.specs.declared.world.HandleKind.TheVariants.{Stream}
 use Rattle.ring_core.specs.declared.world.HandleState.{HandleState}
 use Rattle.handle_core.specs.Table.{Table}
 use Rattle.driver_core.specs.Op.{Holds}
@@ -58,6 +59,12 @@ pub record LeavesFlow {I : Type 0} (view : I → IoView) (tells : Bool) (old : L
   pub users : KeepsUsers old.handling.table new.handling.table
   pub ops : KeepsOps (IsElse from to) (ops_in old) (ops_in new)
   pub moves : IsTrue tells → MovesBetween (world_of view old) from to (world_of view new)
+
+-- A handle is there, and if it is a stream, nothing waits at it, and its end is marked.
+pub record HasEnded (world : List HandleState) (h : ℕ) : Type 0 where
+  pub handle : HandleState
+  pub there : slice_get world h ≡ Some handle
+  pub spent : handle.kind ≡ Stream → (handle.input ≡ []) × (handle.ended ≡ true)
 
 -- Why a call stopped, if it did: a fault of the object was counted, or memory ran out.
 abbrev pub StopsFor : IoView → IoView → RelayError → Type 0

@@ -5,4 +5,5 @@ pub mod Steps
 pub mod Connection
 pub mod Relay
 pub mod Opening
+pub mod Listening
 pub mod Relaying

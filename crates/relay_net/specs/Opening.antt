@@ -1,10 +1,11 @@
 -- What a round does before it serves the connections: the turn, the accept, and the other end. Cited by `opening`, `far` and `relay`.
-use Rattle.std.specs.Prelude.{ℕ, ◌≡◌, ◌≢◌, ◌⊎◌, Bool, true, false, IfSome, IsTrue, List, Option}
+use Rattle.std.specs.Prelude.{ℕ, ◌≡◌, ◌≢◌, ◌⊎◌, Bool, true, false, IfSome, IsTrue, List, [], Option}
 use Rattle.rent_buf.specs.Buffer.{Buffer}
 use Rattle.rent_buf.specs.Counts.{Rose}
 use Rattle.rent_buf.specs.Parts.{Parts}
 use Rattle.rent_buf.specs.declared.plain.Buf.{Buf}
 use Rattle.handle_core.specs.Table.{Table}
+use Rattle.driver_core.specs.Ops.{Ops}
 use Rattle.ring_core.specs.World.{input_at}
 use Rattle.ring_core.specs.declared.request.Request.{Request}
 use Rattle.ring_core.specs.declared.request.Request.TheVariants.{Recv, Send}
@@ -15,15 +16,16 @@ use Rattle.ready_driver.specs.Io.{IoView, IsLater}
 use Rattle.ready_driver.specs.LegacyState.{LegacyState, ops_in}
 use Rattle.ready_driver.specs.Registry.{is_users}
 use Rattle.net_stream.specs.Told.{output_at}
-use Rattle.relay_net.specs.Connection.{KeepsStreams, far_of, near_of}
+use Rattle.relay_net.specs.Connection.{KeepsStreams, far_of, held_back, held_forth, near_of}
 use Rattle.relay_net.specs.Flow.{IsPending}
 use Rattle.relay_net.specs.Keeping.{KeepsOps, KeepsUsers, world_of}
-use Rattle.relay_net.specs.Relay.{IsAccept, IsAmong, IsOpenStill}
+use Rattle.relay_net.specs.Relay.{AreMarked, Becomes, IsAccept, IsAmong, IsOpenStill}
 use Rattle.relay_net.specs.declared.connection.Connection.{Connection}
 use Rattle.ring_core.specs.declared.request.Outcome.{Outcome}
 use Rattle.ring_core.specs.declared.request.Outcome.TheVariants as ended
 use Rattle.relay_net.specs.declared.opening.Arrival.{Arrival}
 use Rattle.relay_net.specs.declared.opening.Arrival.TheVariants as arrival
+use Rattle.relay_net.specs.declared.round.Lost.{Lost}
 use Rattle.relay_net.specs.declared.round.RelayError.{RelayError}
 use Rattle.relay_net.specs.declared.round.RelayError.TheVariants as relay
 use Rattle.relay_net.specs.declared.opening.Accepted.{Accepted}
@@ -65,13 +67,37 @@ AcceptedFor view old new listener (OutOfMemory op) = IsPending (ops_in new) op (
 abbrev pub IsFar : Table → Table → ℕ → ℕ → Type 0
 IsFar old new near far = (far ≡ near) ⊎ IsNew old new far
 
--- Each connection that was open is open still.
+-- Each connection that was open is open still, and no bytes moved.
 pub record Opening {I : Type 0} (view : I
     → IoView) (tells : Bool) (old : LegacyState I Buf) (was : List Connection) (new : LegacyState I Buf)
     (open_ones : List Connection) : Type 0 where
   pub each : (conn : Connection) → IsAmong was conn → IsOpenStill view tells old conn new open_ones
   pub later : IsLater (view old.handling.io) (view new.handling.io)
+  pub bytes : IsTrue tells → KeepsBytes (world_of view old) (world_of view new)
   pub streams : IsTrue tells → KeepsStreams (world_of view old) (world_of view new)
+  pub marks : IsTrue tells → AreMarked (world_of view old) was → AreMarked (world_of view new) open_ones
+
+-- A connection is among these that has this number, holds nothing and isn't ending.
+pub record IsFirst (ops : Ops Buf) (all : List Connection) (n : ℕ) : Type 0 where
+  pub first : Connection
+  pub among : IsAmong all first
+  pub near : near_of first ≡ n
+  pub going : first.ending ≡ false
+  pub forth : held_forth ops first ≡ []
+  pub back : held_back ops first ≡ []
+
+-- A connection was opened: between two calls of a round it held nothing, and no bytes had moved; what became of it from then on is what
+-- becomes of one that was open.
+pub record WasOpened {I : Type 0} (view : I → IoView) (tells : Bool) (old : LegacyState I Buf) (n : ℕ) (new : LegacyState I Buf)
+    (open_ones : List Connection) (closed : List ℕ) (failed : List Lost) : Type 0 where
+  pub mid : LegacyState I Buf
+  pub first : Connection
+  pub near : near_of first ≡ n
+  pub going : first.ending ≡ false
+  pub forth : held_forth (ops_in mid) first ≡ []
+  pub back : held_back (ops_in mid) first ≡ []
+  pub bytes : IsTrue tells → KeepsBytes (world_of view old) (world_of view mid)
+  pub becomes : Becomes view tells mid first new open_ones closed failed
 
 -- What an accept came to that ended so. An outcome that no accept has is none.
 abbrev pub AcceptedAs : Outcome → Accepted → Type 0

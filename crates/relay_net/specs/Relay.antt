@@ -8,14 +8,16 @@ use Rattle.rent_buf.specs.declared.plain.Buf.{Buf}
 use Rattle.handle_core.specs.Table.{Table}
 use Rattle.ring_core.specs.declared.request.Request.{Request}
 use Rattle.ring_core.specs.declared.request.Request.TheVariants.{Accept}
+use Rattle.ring_core.specs.declared.world.HandleState.{HandleState}
 use Rattle.driver_core.specs.Ops.{Ops}
 use Rattle.driver_core.specs.declared.op.Op.{Op}
 use Rattle.ready_driver.specs.Io.{IoView, IsLater}
 use Rattle.ready_driver.specs.LegacyState.{LegacyState, ops_in}
 use Rattle.ready_driver.specs.Registry.{is_users}
-use Rattle.relay_net.specs.Connection.{FitsConnection, KeepsLines, KeepsStreams, far_of, held_back, held_forth, near_of}
+use Rattle.relay_net.specs.Connection.{FitsConnection, IsMarked, KeepsLines, KeepsStreams, far_of, held_back, held_forth}
+use Rattle.relay_net.specs.Connection.{near_of}
 use Rattle.relay_net.specs.Flow.{IsPending}
-use Rattle.relay_net.specs.Keeping.{StopsFor, world_of}
+use Rattle.relay_net.specs.Keeping.{HasEnded, StopsFor, world_of}
 use Rattle.relay_net.specs.declared.connection.Connection.{Connection}
 use Rattle.relay_net.specs.declared.round.Lost.{Lost}
 use Rattle.relay_net.specs.declared.round.RelayError.{RelayError}
@@ -73,13 +75,16 @@ pub record IsOpenStill {I : Type 0} (view : I → IoView) (tells : Bool) (old : 
   pub far : far_of now ≡ far_of conn
   pub lines : KeepsLines tells (world_of view old) (world_of view new) (near_of conn) (far_of conn) (held_forth (ops_in old) conn)
       (held_back (ops_in old) conn) (held_forth (ops_in new) now) (held_back (ops_in new) now)
+  pub mark : IsTrue tells → IsMarked (world_of view old) conn → IsMarked (world_of view new) now
 
--- A connection was closed: it is named, and nothing is held.
+-- A connection was closed: it is named, nothing is held, and one of its handles has ended.
 pub record WasClosed {I : Type 0} (view : I → IoView) (tells : Bool) (old : LegacyState I Buf) (conn : Connection)
     (new : LegacyState I Buf) (closed : List ℕ) : Type 0 where
   pub named : IsAmong closed (near_of conn)
   pub lines : KeepsLines tells (world_of view old) (world_of view new) (near_of conn) (far_of conn) (held_forth (ops_in old) conn)
       (held_back (ops_in old) conn) [] []
+  pub ended : IsTrue tells → IsMarked (world_of view old) conn
+      → HasEnded (world_of view new) (near_of conn) ⊎ HasEnded (world_of view new) (far_of conn)
 
 -- A connection was lost: it is named, and its two numbers count what is held.
 pub record WasLost {I : Type 0} (view : I → IoView) (tells : Bool) (old : LegacyState I Buf) (conn : Connection)
@@ -105,6 +110,10 @@ Becomes view tells old conn new open_ones closed failed =
     IsOpenStill view tells old conn new open_ones
     ⊎ (IsApartFromAll conn open_ones × (WasClosed view tells old conn new closed ⊎ WasLost view tells old conn new failed))
 
+-- Each of these connections is ending only where one of its handles has ended.
+abbrev pub AreMarked : List HandleState → List Connection → Type 0
+AreMarked world all = (conn : Connection) → IsAmong all conn → IsMarked world conn
+
 -- What became of each connection that was open. A connection is among those that failed only where the object counted a call that ended
 -- with
 -- an error.
@@ -115,6 +124,7 @@ pub record Serving {I : Type 0} (view : I
   pub fails : (lost : Lost) → IsAmong failed lost → Rose (view old.handling.io).fails (view new.handling.io).fails
   pub later : IsLater (view old.handling.io) (view new.handling.io)
   pub streams : IsTrue tells → KeepsStreams (world_of view old) (world_of view new)
+  pub marks : IsTrue tells → AreMarked (world_of view old) was → AreMarked (world_of view new) open_ones
 
 -- The numbers of connections, which are their near handles: of those that are open, then of those that were closed, then of those that were
 -- lost.

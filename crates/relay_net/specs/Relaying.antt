@@ -1,5 +1,6 @@
 -- A relay as contracts see it, and what its rounds show. Cited by `Relay`.
-use Rattle.std.specs.Prelude.{ℕ, ◌≡◌, ◌+◌, ◌&&◌, Bool, List, length, nat_lt, Option, Result, Ok, Err, refl}
+use Rattle.std.specs.Prelude.{ℕ, ◌≡◌, ◌+◌, ◌&&◌, Bool, List, [], length, nat_lt, Option, Result, Ok, Err, refl}
+use Rattle.std.specs.Vec.{vec_len}
 use Rattle.std.specs.Coded.{Coded, code_by, coded×, coded_ℕ, coded_list, coded_option}
 use Rattle.rent_buf.specs.declared.plain.Buf.{Buf}
 use Rattle.wake_core.specs.declared.park.Woken.{Woken}
@@ -14,6 +15,7 @@ use Rattle.ready_driver.specs.MemIo.{Memory}
 use Rattle.ready_driver.specs.Registry.{is_users}
 use Rattle.relay_net.specs.Keeping.{StopsFor}
 use Rattle.relay_net.specs.declared.connection.Connection.{Connection}
+use Rattle.relay_net.specs.declared.relay.lists.Lists.{Lists}
 use Rattle.relay_net.specs.declared.round.RelayError.{RelayError}
 use Rattle.relay_net.specs.declared.round.Round.{Round}
 
@@ -32,6 +34,12 @@ relaying_code driver op connection = code_by (LegacyState _ Buf × (ℕ × (Opti
     (λ r. (r.driver, (r.listener, (r.accept, (r.open_ones, r.limit)))))
     (λ t. record { driver = t.0; listener = t.1.0; accept = t.1.1.0; open_ones = t.1.1.1.0; limit = t.1.1.1.1 })
     (λ _. refl)
+
+-- The lists of what a round names have nothing.
+abbrev pub AreEmpty : Lists → Type 0
+AreEmpty lists =
+    (lists.opened.items ≡ []) × (lists.accept ≡ Option.None) × (lists.ended.closed.items ≡ []) × (lists.ended.failed.items ≡ [])
+    × (vec_len lists.opened ≡ 0) × (vec_len lists.ended.closed ≡ 0) × (vec_len lists.ended.failed ≡ 0)
 
 -- The user holds a handle in memory.
 abbrev pub has_handle : LegacyState Memory Buf → ℕ → Bool

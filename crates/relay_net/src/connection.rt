@@ -1,5 +1,5 @@
 // A connection: what comes at either of its handles goes to the other.
-ghost use Rattle.std.specs.Prelude.{◌≡◌, ◌≢◌, ◌≤◌, ◌<◌, ◌+◌, [], true, length, IsTrue};
+ghost use Rattle.std.specs.Prelude.{◌≡◌, ◌≢◌, ◌≤◌, ◌<◌, ◌+◌, [], true, false, length, IsTrue};
 ghost use Rattle.rent_buf.specs.declared.plain.Buf.{Buf};
 ghost use Rattle.driver_core.specs.Ops.{Ops};
 ghost use Rattle.ready_driver.specs.LegacyState.{ops_in};
@@ -158,6 +158,7 @@ impl Connection {
         ensures handles { (near_of result ≡ near) × (far_of result ≡ far) }
         ensures fits { (ops : Ops Buf) → FitsConnection ops result }
         ensures none { (ops : Ops Buf) → (held_forth ops result ≡ []) × (held_back ops result ≡ []) }
+        ensures going { result.ending ≡ false }
     {
         let back = if near == far {
             None

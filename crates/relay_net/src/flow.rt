@@ -1,11 +1,12 @@
 // One direction of a connection: bytes come at a handle, and go to another one.
-ghost use Rattle.std.specs.Prelude.{◌≡◌, ◌≤◌, ◌<◌, ◌+◌, ◌∷◌, [], false, None, IsTrue, IfOk, IfErr, drop, length};
+ghost use Rattle.std.specs.Prelude.{◌≡◌, ◌≤◌, ◌<◌, ◌+◌, ◌∷◌, [], false, None, ℕ, IsTrue, IfOk, IfErr, OnOk, drop, length};
 ghost use Rattle.rent_buf.specs.Buf.{built, content_of};
 ghost use Rattle.rent_buf.specs.Buffer.{Buffer, shown};
 ghost use Rattle.ring_core.specs.Effect.{made_by};
 ghost use Rattle.ring_core.specs.Request.{named, plain_request};
 ghost use Rattle.ring_core.specs.declared.request.Request.TheVariants.{Recv, Send};
 ghost use Rattle.ready_driver.specs.LegacyState.{holds_all, ops_in};
+ghost use Rattle.ready_driver.specs.Records.{io_at};
 ghost use Rattle.relay_net.specs.Flow.{FitsFlow, FitsStage, IsPending, IsReceive, IsSend, asked_at, bytes_sent, empty_buffer, held_in};
 ghost use Rattle.relay_net.specs.Keeping.{Stays, StopsAs, StopsFor};
 ghost use Rattle.relay_net.specs.Outcomes.{IsIdle, ReceivedAs, SentAs};
@@ -90,6 +91,7 @@ pub(crate) fn submit<I: NonBlock>(
     requires counter { driver.old.given < MOST_GIVEN }
     ensures stays { Stays I.view I.tells driver.old driver.new }
     ensures pends { IfOk result (λ op. IsPending (ops_in driver.new) op (λ asked. asked ≡ plain_request built request)) }
+    ensures bits { OnOk result ((h : ℕ) → (io_at driver.new.handling.records h).ready ≡ (io_at driver.old.handling.records h).ready) }
     ensures back { IfErr result (λ refused. refused.1 ≡ request) }
     ensures stops { IfErr result (λ refused. StopsFor (I.view driver.old.handling.io) (I.view driver.new.handling.io) refused.0) }
     ensures given { driver.new.given ≤ driver.old.given + 1 }

@@ -1,12 +1,13 @@
 // The accept of a relay, and its new connections.
-ghost use Rattle.std.specs.Prelude.{◌≡◌, ◌≤◌, ◌<◌, ◌+◌, ◌++◌, ◌∷◌, [], false, None, List, OnErr, OnOk, map};
+ghost use Rattle.std.specs.Prelude.{◌≡◌, ◌≤◌, ◌<◌, ◌+◌, ◌++◌, ◌∷◌, [], false, None, ℕ, List, IsSome, IsTrue, OnErr, OnOk, map};
 ghost use Rattle.relay_net.specs.Connection.{near_of};
 ghost use Rattle.std.specs.Vec.{vec_len};
 ghost use Rattle.ready_driver.specs.Registry.{is_old};
 ghost use Rattle.ready_driver.specs.LegacyState.{LegacyState, ops_in};
 ghost use Rattle.rent_buf.specs.declared.plain.Buf.{Buf};
 ghost use Rattle.relay_net.specs.Flow.{IsPending};
-ghost use Rattle.relay_net.specs.Opening.{AcceptedAs, AcceptedFor, ArrivesFor, FarStops, IsFresh, Opening, Widens};
+ghost use Rattle.relay_net.specs.Listening.{ArrivesUnless, IsAtHand, IsMadeUnless};
+ghost use Rattle.relay_net.specs.Opening.{AcceptedAs, AcceptedFor, ArrivesFor, FarStops, IsFirst, IsFresh, Opening, Widens};
 ghost use Rattle.relay_net.specs.Relay.{IsAccept, IsSound, StopsUnless};
 ghost use Rattle.relay_net.specs.declared.connection.Connection.{Connection as Conn};
 
@@ -65,6 +66,7 @@ fn poll_accept<I: Sockets>(driver: &mut Reads<I>, op: Op, listener: SharedFd) ->
     requires number { is_old driver.old.handling.table (I.view driver.old.handling.io).made ≡ false }
     ensures widens { Widens I.view I.tells driver.old driver.new }
     ensures accepted { AcceptedFor I.view driver.old driver.new listener result }
+    ensures makes { IsTrue I.memory → IsAtHand I.view driver.old listener → IsMadeUnless result }
     ensures given { driver.new.given ≡ driver.old.given }
 {
     let _ = listener;
@@ -104,6 +106,8 @@ pub(crate) fn begin_accept<I: NonBlock>(state: &mut State<I>) -> Result<(), Rela
         → Opening I.view I.tells start was state.new.driver state.new.open.items }
     ensures stops { StopsUnless (I.view state.old.driver.handling.io) (I.view state.new.driver.handling.io) result }
     ensures same { (state.new.listener ≡ state.old.listener) × (state.new.open ≡ state.old.open) }
+    ensures waits { OnOk result (IsSome state.new.accept) }
+    ensures hand { OnOk result (IsTrue I.tells → (h : ℕ) → IsAtHand I.view state.old.driver h → IsAtHand I.view state.new.driver h) }
     ensures given { state.new.driver.given ≤ state.old.driver.given + 1 }
 {
     if state.accept.is_some() {
@@ -129,6 +133,8 @@ pub(crate) fn arrive<I: Sockets>(state: &mut State<I>) -> Arrival
         → Opening I.view I.tells start was state.new.driver state.new.open.items }
     ensures arrives { ArrivesFor (I.view state.old.driver.handling.io) (I.view state.new.driver.handling.io)
         state.new.driver.handling.table state.new.listener state.new.open.items result }
+    ensures makes { IsTrue I.memory → IsSome state.old.accept → IsAtHand I.view state.old.driver state.old.listener
+        → ArrivesUnless result }
     ensures same { (state.new.listener ≡ state.old.listener) × (state.new.open ≡ state.old.open) }
     ensures given { state.new.driver.given ≡ state.old.driver.given }
 {
@@ -181,6 +187,7 @@ pub(crate) fn open_one<I: Sockets, F: Far<I>>(
     ensures given { state.new.driver.given ≡ state.old.driver.given }
     ensures names { OnOk result (map near_of state.new.open.items ≡ map near_of state.old.open.items ++ near ∷ []) }
     ensures err { OnErr result (map near_of state.new.open.items ≡ map near_of state.old.open.items) }
+    ensures first { OnOk result (IsFirst (ops_in state.new.driver) state.new.open.items near) }
     ensures more { vec_len state.new.open ≤ vec_len state.old.open + 1 }
 {
     if state.open.reserve(1).is_err() {

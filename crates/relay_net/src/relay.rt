@@ -1,54 +1,63 @@
 //! The relay: it accepts connections, and passes bytes between each and its other end.
-ghost use Rattle.std.specs.Prelude.{◌≡◌, ◌≤◌, ◌<◌, ◌+◌, ◌++◌, [], true, None, List, Ok, Err, IfOk, IfErr, IsPermutation, map};
+ghost use Rattle.std.specs.Prelude.{◌≡◌, ◌≤◌, ◌<◌, ◌+◌, ◌++◌, [], true, None, List, ℕ, Ok, Err, length, map};
+ghost use Rattle.std.specs.Prelude.{◌≢◌, IsTrue, IfOk, IfErr, IsOk, OnOk, IsPermutation};
 ghost use Rattle.std.specs.Vec.{vec_len, vec_capacity};
 ghost use Rattle.ready_driver.specs.Io.{IoView, IsLater};
 ghost use Rattle.ready_driver.specs.LegacyState.{LegacyState, ops_in};
 ghost use Rattle.ready_driver.specs.Registry.{is_users};
 ghost use Rattle.rent_buf.specs.declared.plain.Buf.{Buf};
 ghost use Rattle.relay_net.specs.declared.connection.Connection.{Connection as Conn};
-ghost use Rattle.relay_net.specs.Opening.{AcceptFails, Opening, Widens};
+ghost use Rattle.relay_net.specs.Opening.{AcceptFails, IsFirst, Opening, WasOpened, Widens};
 ghost use Rattle.relay_net.specs.Flow.{IsPending};
+ghost use Rattle.relay_net.specs.Listening.{IsAtHand, MayListen};
 ghost use Rattle.relay_net.specs.Connection.{near_of};
-ghost use Rattle.relay_net.specs.Relay.{AreServed, IsAccept, IsSound, Serving, StopsUnless, connections_in};
+ghost use Rattle.relay_net.specs.Relay.{AreMarked, AreServed, IsAccept, IsAmong, IsSound, Serving, StopsUnless, connections_in};
 ghost use Rattle.relay_net.specs.Relaying.{HandsOn, RoundStops, TurnStops, round_of};
 
+mod lists;
 mod memory;
 
 use crate::connection::Connection;
 use crate::far::Far;
 use crate::flow::Reads;
 use crate::opening::{Arrival, arrive, begin_accept, open_one};
-use crate::round::{Lost, LostList, RelayError, Round};
-use crate::state::{Ended, State, serve_all};
+use crate::relay::lists::{Lists, no_round, no_wakers, round_with};
+use crate::round::{RelayError, Round};
+use crate::state::{State, serve_all};
 use driver_core::{Driver, MOST_GIVEN, Op, Stop};
 use handle_core::SharedFd;
 use op_driver::OpDriver;
 use ready_driver::{LegacyDriver, Sockets};
-use rent_buf::{Buf, NumList, OutOfMemory};
+use rent_buf::{Buf, OutOfMemory};
 use std::alloc::Global;
 use std::marker::Model;
 use std::sync::Wait;
 use std::sync::ledger::Ledger;
 use std::time::Clock;
-use wake_core::{Sleeper, WakerList, Woken};
+use wake_core::{Sleeper, Woken};
 
 /// A relay over a readiness driver: it accepts connections at a handle, and passes bytes between each and its other end. (not in monoio)
 pub struct Relay<I: Sockets, F: Far<I>> {
     state: State<I>,
     limit: usize,
     far: F,
+    // What a round names, of which nothing stays between rounds but its memory.
+    lists: Lists,
     // The last round ended a connection, so that there is a place for another one. No contract sees it.
     again: bool,
+    // How many connections, from the lowest on, may go on: all, or those in front of where the last round ran out of memory. No contract
+    // sees it.
+    able: usize,
     alloc: Global,
 }
 
 impl<I: Sockets, F: Far<I>> Model for Relay<I, F> {
     ghost use Rattle.std.specs.Coded.{codes};
-    ghost use Rattle.std.specs.Prelude.{◌≤◌};
+    ghost use Rattle.std.specs.Prelude.{◌≤◌, IsTrue};
     ghost use Rattle.std.specs.Vec.{vec_len};
     ghost use Rattle.ready_driver.specs.LegacyState.{legacy_code, ops_in};
-    ghost use Rattle.relay_net.specs.Relay.{IsSound};
-    ghost use Rattle.relay_net.specs.Relaying.{Relaying, relaying_code};
+    ghost use Rattle.relay_net.specs.Relay.{AreMarked, IsSound};
+    ghost use Rattle.relay_net.specs.Relaying.{AreEmpty, Relaying, relaying_code};
 
     ghost Value = { Relaying I };
 
@@ -65,78 +74,8 @@ impl<I: Sockets, F: Far<I>> Model for Relay<I, F> {
 
     ghost invariant = { λ r.
         IsSound (ops_in r.state.driver) r.state.driver.handling.table r.state.listener r.state.accept r.state.open.items
-        × (vec_len r.state.open ≤ r.limit) × (r.limit ≤ 64) };
-}
-
-// What a round did to connections.
-struct Lists {
-    opened: Vec<u64>,
-    accept: Option<u16>,
-    ended: Ended,
-}
-
-// Lists with room for so many connections that end, and for one that is opened.
-fn room_for(alloc: Global, count: usize) -> Result<Lists, OutOfMemory>
-    ensures none { IfOk result (λ lists. (lists.ended.closed.items ≡ []) × (lists.ended.failed.items ≡ [])) }
-    ensures opened { IfOk result (λ lists. (lists.opened.items ≡ []) × (lists.accept ≡ None)) }
-    ensures len { IfOk result (λ lists. (vec_len lists.ended.closed ≡ 0) × (vec_len lists.ended.failed ≡ 0) × (vec_len lists.opened ≡ 0)) }
-    ensures room { IfOk result (λ lists. (vec_capacity lists.ended.closed ≡ count) × (vec_capacity lists.ended.failed ≡ count)
-        × (vec_capacity lists.opened ≡ 1)) }
-{
-    let opened = Vec::with_capacity(alloc, 1)?;
-    let closed = Vec::with_capacity(alloc, count)?;
-    let failed = Vec::with_capacity(alloc, count)?;
-    Ok(Lists {
-        opened,
-        accept: None,
-        ended: Ended { closed, failed },
-    })
-}
-
-// What a park drained that wasn't made.
-fn no_wakers(alloc: Global) -> Woken
-    ensures { (result.first ≡ []) × (result.again ≡ []) }
-{
-    Woken {
-        first: WakerList::from_vec(Vec::new(alloc)),
-        again: WakerList::from_vec(Vec::new(alloc)),
-    }
-}
-
-// A round that did nothing.
-fn no_round(alloc: Global) -> Round
-    ensures lists { (result.closed ≡ []) × (result.failed ≡ []) }
-    ensures opened { (result.opened ≡ []) × (result.accept ≡ None) }
-    ensures remote { (result.remote.first ≡ []) × (result.remote.again ≡ []) }
-{
-    Round {
-        remote: no_wakers(alloc),
-        opened: NumList::new(alloc),
-        closed: NumList::new(alloc),
-        accept: None,
-        failed: LostList::new(alloc),
-    }
-}
-
-// What a round did.
-fn round_with(remote: Woken, lists: Lists) -> Round
-    ensures lists { (result.closed ≡ lists.ended.closed.items) × (result.failed ≡ lists.ended.failed.items) }
-    ensures opened { (result.opened ≡ lists.opened.items) × (result.accept ≡ lists.accept) }
-    ensures remote { result.remote ≡ remote }
-{
-    let Lists {
-        opened,
-        accept,
-        ended,
-    } = lists;
-    let Ended { closed, failed } = ended;
-    Round {
-        remote,
-        opened: NumList::from_vec(opened),
-        closed: NumList::from_vec(closed),
-        accept,
-        failed: LostList::from_vec(failed),
-    }
+        × (vec_len r.state.open ≤ r.limit) × (r.limit ≤ 64) × AreEmpty r.lists
+        × (IsTrue I.tells → AreMarked (I.view r.state.driver.handling.io).world r.state.open.items) };
 }
 
 // How a round goes on after a turn.
@@ -151,8 +90,8 @@ fn turn_stop(stop: Option<Stop>) -> Result<(), RelayError>
 }
 
 // How long a round waits at most that is to wait so many milliseconds at most: not at all where there is something to do at once.
-fn longest<I: Sockets>(state: &State<I>, again: bool, millis: u64) -> u64 {
-    if again || state.is_at_hand() {
+fn longest<I: Sockets>(state: &State<I>, again: bool, able: usize, millis: u64) -> u64 {
+    if again || state.is_at_hand(able) {
         return 0;
     }
     millis
@@ -167,6 +106,7 @@ fn turn<R: Wait + Clock, I: Sockets, P: Ledger, D: Ledger>(
     sleeper: &mut Sleeper<P, D>,
     wait: Option<u64>,
     again: bool,
+    able: usize,
 ) -> (Woken, Result<(), RelayError>)
     requires sound { IsSound (ops_in state.old.driver) state.old.driver.handling.table state.old.listener state.old.accept
         state.old.open.items }
@@ -175,6 +115,8 @@ fn turn<R: Wait + Clock, I: Sockets, P: Ledger, D: Ledger>(
     ensures opening { Opening I.view I.tells state.old.driver state.old.open.items state.new.driver state.new.open.items }
     ensures stops { StopsUnless (I.view state.old.driver.handling.io) (I.view state.new.driver.handling.io) result.1 }
     ensures drains { HandsOn sleeper.old sleeper.new result.0 }
+    ensures hand { OnOk result.1 (IsTrue I.memory → MayListen I.view state.old.driver state.old.listener
+        → IsAtHand I.view state.new.driver state.old.listener) }
     ensures same { (state.new.listener ≡ state.old.listener) × (state.new.open ≡ state.old.open) }
     ensures given { state.new.driver.given ≡ state.old.driver.given }
 {
@@ -184,7 +126,7 @@ fn turn<R: Wait + Clock, I: Sockets, P: Ledger, D: Ledger>(
             (no_wakers(alloc), turn_stop(turned.stop))
         }
         Some(millis) => {
-            let limit = longest(state, again, millis);
+            let limit = longest(state, again, able, millis);
             let parked = state.driver.park_timeout(rt, sleeper, limit);
             let turned = parked.turned;
             (parked.remote, turn_stop(turned.stop))
@@ -214,6 +156,9 @@ fn accept<I: Sockets, F: Far<I>>(
     ensures ended { lists.new.ended ≡ lists.old.ended }
     ensures fails { AcceptFails (I.view state.old.driver.handling.io) (I.view state.new.driver.handling.io) lists.new.accept }
     ensures names { map near_of state.new.open.items ≡ map near_of state.old.open.items ++ lists.new.opened.items }
+    ensures opened { (n : ℕ) → IsAmong lists.new.opened.items n → IsFirst (ops_in state.new.driver) state.new.open.items n }
+    ensures accepts { OnOk result (IsTrue I.memory → IsAtHand I.view state.old.driver state.old.listener → vec_len state.old.open < limit
+        → lists.new.opened.items ≢ []) }
     ensures places { vec_len state.new.open ≤ limit }
     ensures more { vec_len state.new.open ≤ vec_len state.old.open + 1 }
     ensures given { state.new.driver.given ≤ state.old.driver.given + 1 }
@@ -264,6 +209,12 @@ fn work<I: Sockets, F: Far<I>>(
         lists.new.ended.failed.items }
     ensures stops { StopsUnless (I.view state.old.driver.handling.io) (I.view state.new.driver.handling.io) result }
     ensures fails { AcceptFails (I.view state.old.driver.handling.io) (I.view state.new.driver.handling.io) lists.new.accept }
+    ensures opens { (start : LegacyState I Buf) (was : List Conn)
+        → Opening I.view I.tells start was state.old.driver state.old.open.items → (n : ℕ) → IsAmong lists.new.opened.items n
+        → WasOpened I.view I.tells start n state.new.driver state.new.open.items lists.new.ended.closed.items
+        lists.new.ended.failed.items }
+    ensures accepts { OnOk result (IsTrue I.memory → IsAtHand I.view state.old.driver state.old.listener → vec_len state.old.open < limit
+        → lists.new.opened.items ≢ []) }
     ensures names { IsPermutation (connections_in state.new.open.items lists.new.ended.closed.items lists.new.ended.failed.items)
         (map near_of state.old.open.items ++ lists.new.opened.items) }
     ensures places { vec_len state.new.open ≤ limit }
@@ -302,6 +253,12 @@ fn behind<I: Sockets, F: Far<I>>(
     ensures stops { (old : IoView) → StopsUnless old (I.view state.old.driver.handling.io) turned
         → IsLater old (I.view state.old.driver.handling.io) → StopsUnless old (I.view state.new.driver.handling.io) result }
     ensures fails { AcceptFails (I.view state.old.driver.handling.io) (I.view state.new.driver.handling.io) lists.new.accept }
+    ensures opens { (start : LegacyState I Buf) (was : List Conn)
+        → Opening I.view I.tells start was state.old.driver state.old.open.items → (n : ℕ) → IsAmong lists.new.opened.items n
+        → WasOpened I.view I.tells start n state.new.driver state.new.open.items lists.new.ended.closed.items
+        lists.new.ended.failed.items }
+    ensures accepts { OnOk result (IsTrue I.memory → OnOk turned (IsAtHand I.view state.old.driver state.old.listener)
+        → vec_len state.old.open < limit → lists.new.opened.items ≢ []) }
     ensures names { IsPermutation (connections_in state.new.open.items lists.new.ended.closed.items lists.new.ended.failed.items)
         (map near_of state.old.open.items ++ lists.new.opened.items) }
     ensures places { vec_len state.new.open ≤ limit }
@@ -313,9 +270,19 @@ fn behind<I: Sockets, F: Far<I>>(
     }
 }
 
+// How many connections, from the lowest on, may go on behind a round that came to this: where it ran out of memory, those in front of the
+// connection that it reached.
+fn able_behind(worked: &Result<(), RelayError>, reached: usize, limit: usize) -> usize {
+    match worked {
+        Err(RelayError::OutOfMemory) => reached,
+        _ => limit,
+    }
+}
+
 // A round that came to this.
 fn finish(worked: Result<(), RelayError>, round: Round) -> Result<Round, (RelayError, Round)>
     ensures round { round_of result ≡ round }
+    ensures works { OnOk result (IsOk worked) }
     ensures stops { (old new : IoView) → StopsUnless old new worked → RoundStops old new result }
 {
     match worked {
@@ -351,7 +318,9 @@ impl<I: Sockets, F: Far<I>> Relay<I, F> {
                 },
                 limit,
                 far,
+                lists: Lists::new(alloc),
                 again: false,
+                able: limit,
                 alloc,
             }),
             Err(_) => Err((OutOfMemory, driver)),
@@ -365,15 +334,19 @@ impl<I: Sockets, F: Far<I>> Relay<I, F> {
         &self.state.driver
     }
 
-    /// How many connections are open. (not in monoio)
-    pub fn connections(&self) -> usize {
+    /// How many connections are open. Where the object tells its handles, each of them is ending only where one of its handles, if it is a
+    /// stream, has an empty input and a marked end. (not in monoio)
+    pub fn connections(&self) -> usize
+        ensures value { result ≡ length self.now.open_ones }
+        ensures marked { IsTrue I.tells → AreMarked (I.view self.now.driver.handling.io).world self.now.open_ones }
+    {
         self.state.open.len()
     }
 
     /// A round: a turn of the driver, which waits so many milliseconds at most, and not at all where that is `None`; then an accept, where
-    /// there is a place; then a step of each direction of each connection, the lowest near handle first. Each connection that was open is
-    /// open still, was closed or failed; at an error too, which says why the round stopped: then the next one goes on. At most 129
-    /// operations are submitted. The handle of an accepted connection that gets no other end is released. (not in monoio)
+    /// there is a place; then a step of each direction of each connection, the lowest near handle first. Each connection that was open, or
+    /// that it opened, is open still, was closed or failed; at an error too, which says why the round stopped: then the next one goes on.
+    /// At most 129 operations are submitted. The handle of an accepted connection that gets no other end is released. (not in monoio)
     ///
     /// It doesn't wait either where a direction is to receive or has bytes to send, or where the round before ended a connection: so one
     /// round may follow another, each with a wait, and no byte waits for that.
@@ -386,6 +359,10 @@ impl<I: Sockets, F: Far<I>> Relay<I, F> {
         requires counter { self.old.driver.given + 129 ≤ MOST_GIVEN }
         ensures serving { Serving I.view I.tells self.old.driver self.old.open_ones self.new.driver self.new.open_ones
             (round_of result).closed (round_of result).failed }
+        ensures opens { (n : ℕ) → IsAmong (round_of result).opened n → WasOpened I.view I.tells self.old.driver n self.new.driver
+            self.new.open_ones (round_of result).closed (round_of result).failed }
+        ensures accepts { OnOk result (IsTrue I.memory → MayListen I.view self.old.driver self.old.listener
+            → length self.old.open_ones < self.old.limit → (round_of result).opened ≢ []) }
         ensures names { IsPermutation (connections_in self.new.open_ones (round_of result).closed (round_of result).failed)
             (map near_of self.old.open_ones ++ (round_of result).opened) }
         ensures drains { HandsOn sleeper.old sleeper.new (round_of result).remote }
@@ -393,20 +370,30 @@ impl<I: Sockets, F: Far<I>> Relay<I, F> {
         ensures stops { RoundStops (I.view self.old.driver.handling.io) (I.view self.new.driver.handling.io) result }
         ensures given { self.new.driver.given ≤ self.old.driver.given + 129 }
     {
-        let Ok(mut lists) = room_for(self.alloc, self.state.open.len() + 1) else {
+        if self.lists.reserve(self.state.open.len() + 1).is_err() {
+            self.able = 0;
             return Err((RelayError::OutOfMemory, no_round(self.alloc)));
-        };
-        let (remote, turned) = turn(rt, self.alloc, &mut self.state, sleeper, wait, self.again);
+        }
+        let (remote, turned) = turn(
+            rt,
+            self.alloc,
+            &mut self.state,
+            sleeper,
+            wait,
+            self.again,
+            self.able,
+        );
         let worked = behind(
             &mut self.state,
             &mut self.far,
             self.limit,
             self.alloc,
-            &mut lists,
+            &mut self.lists,
             turned,
         );
-        self.again = !lists.ended.closed.is_empty() || !lists.ended.failed.is_empty();
-        finish(worked, round_with(remote, lists))
+        self.again = self.lists.ended.is_some();
+        self.able = able_behind(&worked, self.lists.ended.reached, self.limit);
+        finish(worked, round_with(self.alloc, remote, &mut self.lists))
     }
 }
 
@@ -469,7 +456,9 @@ impl<I: Sockets, F: Far<I>> Drop for Relay<I, F> {
             state,
             limit: _,
             far: _,
+            lists: _,
             again: _,
+            able: _,
             alloc: _,
         } = self;
         end_all(state);

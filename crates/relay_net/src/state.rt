@@ -28,9 +28,10 @@ pub(crate) struct State<I: NonBlock> {
 }
 
 impl<I: NonBlock> State<I> {
-    // The next step of a connection submits an operation: then there is no need to wait for the object.
-    pub(crate) fn is_at_hand(&self) -> bool {
-        for conn in &self.open {
+    // The next step of one of so many connections, from the lowest on, submits an operation: then there is no need to wait for the object.
+    pub(crate) fn is_at_hand(&self, able: usize) -> bool {
+        let able = able.min(self.open.len());
+        for conn in &self.open[..able] {
             if conn.is_at_hand() {
                 return true;
             }
@@ -39,10 +40,34 @@ impl<I: NonBlock> State<I> {
     }
 }
 
-// What a round closed, and what it lost, in memory that was reserved.
-pub(crate) struct Ended {
-    pub(crate) closed: Vec<u64>,
-    pub(crate) failed: Vec<Lost>,
+/// What a round closed, and what it lost, in memory that was reserved.
+#[derive(Drop)]
+pub struct Ended {
+    /// Those that were closed.
+    pub closed: Vec<u64>,
+    /// Those that failed.
+    pub failed: Vec<Lost>,
+    /// The place that it came to. No contract sees it.
+    pub reached: usize,
+}
+
+impl Ended {
+    // None. It takes no memory.
+    pub(crate) fn new(alloc: Global) -> Ended
+        ensures none { (result.closed.items ≡ []) × (result.failed.items ≡ []) }
+        ensures len { (vec_len result.closed ≡ 0) × (vec_len result.failed ≡ 0) }
+    {
+        Ended {
+            closed: Vec::new(alloc),
+            failed: Vec::new(alloc),
+            reached: 0,
+        }
+    }
+
+    // A connection ended.
+    pub(crate) fn is_some(&self) -> bool {
+        !self.closed.is_empty() || !self.failed.is_empty()
+    }
 }
 
 // A round of the connection at a place.
@@ -199,6 +224,7 @@ pub(crate) fn serve_all<I: NonBlock>(
     let mut at = 0;
     while at < state.open.len() {
         let _ = state.open.as_slice();
+        ended.reached = at;
         if serve_at(state, alloc, at, ended)? {
             at += 1;
         }

@@ -2,7 +2,7 @@
 ghost use Rattle.std.specs.Prelude.{◌≡◌, ◌≤◌, ℕ, true, false};
 ghost use Rattle.rent_buf.specs.Counts.{Rose};
 ghost use Rattle.relay_run.specs.NetPlace.{NetAt};
-ghost use Rattle.relay_run.specs.Relaying.{ClosesNone};
+ghost use Rattle.relay_run.specs.Relaying.{ClosesNone, ListensFor};
 
 use crate::run::Relayed;
 use driver_core::{CallAnswer, Calls};
@@ -13,17 +13,21 @@ use std::marker::{Brand, PhantomData};
 use wake_core::Bell;
 
 /// How an object was when a run began, as constants of a type, since values that are borrowed for the run speak of them: the name of its
-/// borrow, and its count of faults.
+/// borrow, its count of faults and its count of handles.
 pub trait NetPlaces {
     ghost net: { ℕ };
 
     ghost faults: { ℕ };
+
+    ghost made: { ℕ };
 }
 
 impl NetPlaces for Brand {
     ghost net = { 0 };
 
     ghost faults = { 0 };
+
+    ghost made = { 0 };
 }
 
 /// An object, and how the run over it ended.
@@ -32,29 +36,33 @@ pub(crate) struct Ran<'a, N> {
     pub(crate) relayed: Relayed,
 }
 
-/// An object that is lent. It knows whether a call of it failed.
+/// An object that is lent. It knows whether a call of it failed, and whether it listened.
 #[derive(Drop)]
 pub(crate) struct Lent<'a, N: Sockets, P: NetPlaces> {
     net: &'a mut N,
     failed: bool,
+    listens: bool,
     of: PhantomData<P>,
-    ghost home: { NetAt P.net P.faults net.ghost_name (N.view net.now).faults failed },
+    ghost home: { NetAt P.net P.faults P.made net.ghost_name (N.view net.now).faults (N.view net.now).made failed listens },
 }
 
 /// Lends an object.
 pub(crate) fn lend<'a, N: Sockets, P: NetPlaces>(ran: Ran<'a, N>) -> Lent<'a, N, P>
     requires net { ran.net.ghost_name ≡ P.net }
     requires faults { (N.view ran.net.now).faults ≡ P.faults }
+    requires made { (N.view ran.net.now).made ≡ P.made }
 {
     let Ran { net, relayed: _ } = ran;
     Lent {
         net,
         failed: false,
+        listens: false,
         of: PhantomData,
     }
 }
 
-/// Gives the object back. A fault that no call of it counted is none: no number was left for a handle.
+/// Gives the object back. A fault that no call of it counted is none: no number was left for a handle. No rounds are made of an object that
+/// didn't listen.
 pub(crate) fn give_back<'a, N: Sockets, P: NetPlaces>(
     relayed: Relayed,
     lent: Lent<'a, N, P>,
@@ -62,11 +70,18 @@ pub(crate) fn give_back<'a, N: Sockets, P: NetPlaces>(
     ensures same { result.net.ghost_name ≡ P.net }
     ensures fault { result.relayed ≡ Relayed.Fault → Rose P.faults (N.view result.net.now).faults }
     ensures order { P.faults ≤ (N.view result.net.now).faults }
+    ensures listens { ListensFor result.relayed P.made (N.view result.net.now).made }
     ensures none { (rounds : ℕ) → ClosesNone rounds relayed → ClosesNone rounds result.relayed }
 {
-    let Lent { net, failed, of: _ } = lent;
+    let Lent {
+        net,
+        failed,
+        listens,
+        of: _,
+    } = lent;
     let relayed = match relayed {
         Relayed::Fault if !failed => Relayed::OutOfMemory,
+        Relayed::Closed(_) if !listens => Relayed::OutOfMemory,
         other => other,
     };
     Ran { net, relayed }
@@ -149,6 +164,10 @@ impl<'a, N: Sockets, P: NetPlaces> Sockets for Lent<'a, N, P> {
 
     fn listen(&mut self, port: u16) -> Result<u64, NonBlockError> {
         match self.net.listen(port) {
+            Ok(h) => {
+                self.listens = true;
+                Ok(h)
+            }
             Err(NonBlockError::Fault(code)) => {
                 self.failed = true;
                 Err(NonBlockError::Fault(code))

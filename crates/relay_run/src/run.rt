@@ -1,10 +1,10 @@
 //! The run: it listens, makes the relay and its rounds, and counts the connections that were closed.
-ghost use Rattle.std.specs.Prelude.{◌≡◌, ◌≤◌, ◌+◌, ◌*◌, ℕ, true, [], IfOk, IfErr};
+ghost use Rattle.std.specs.Prelude.{◌≡◌, ◌≤◌, ◌+◌, ◌*◌, true, [], IfOk, IfErr};
 ghost use Rattle.rent_buf.specs.Counts.{Rose};
 ghost use Rattle.ready_driver.specs.Registry.{is_users};
 ghost use Rattle.relay_net.specs.Keeping.{StopsFor};
 ghost use Rattle.relay_run.specs.declared.plan.TheConstants.{MOST_LIMIT, MOST_RELAY_ROUNDS};
-ghost use Rattle.relay_run.specs.Relaying.{ClosesNone, MakesRounds};
+ghost use Rattle.relay_run.specs.Relaying.{ClosesNone, ListensFor, MakesRounds};
 
 use crate::lent::{Lent, NetPlaces, Ran, give_back, lend};
 use crate::plan::{MOST_LIMIT, MOST_RELAY_ROUNDS, Plan};
@@ -46,6 +46,7 @@ pub fn relay_all<R: Wait + Clock, N: Sockets>(
     requires rounds { plan.rounds ≤ MOST_RELAY_ROUNDS }
     ensures fault { result ≡ Relayed.Fault → Rose (N.view net.old).faults (N.view net.new).faults }
     ensures order { (N.view net.old).faults ≤ (N.view net.new).faults }
+    ensures listens { ListensFor result (N.view net.old).made (N.view net.new).made }
     ensures none { ClosesNone plan.rounds result }
 {
     let ran = Ran {
@@ -68,9 +69,11 @@ fn relay_at<'a, R: Wait + Clock, N: Sockets, P: NetPlaces>(
     requires rounds { plan.rounds ≤ MOST_RELAY_ROUNDS }
     requires net { ran.net.ghost_name ≡ P.net }
     requires faults { (N.view ran.net.now).faults ≡ P.faults }
+    requires made { (N.view ran.net.now).made ≡ P.made }
     ensures same { result.net.ghost_name ≡ P.net }
     ensures fault { result.relayed ≡ Relayed.Fault → Rose P.faults (N.view result.net.now).faults }
     ensures order { P.faults ≤ (N.view result.net.now).faults }
+    ensures listens { ListensFor result.relayed P.made (N.view result.net.now).made }
     ensures none { ClosesNone plan.rounds result.relayed }
 {
     let mut lent: Lent<'a, N, P> = lend(ran);
@@ -189,7 +192,7 @@ pub fn make_rounds<R: Wait + Clock, I: Sockets, F: Far<I>, P: Ledger, D: Ledger>
     rounds: u32,
 ) -> Result<u64, RelayError>
     requires counter { relay.old.driver.given + 129 * rounds ≤ MOST_GIVEN }
-    ensures made { IfOk result (λ closed. MakesRounds I.view I.tells relay.old rounds closed relay.new) }
+    ensures made { IfOk result (λ closed. MakesRounds I.view I.tells I.memory relay.old rounds closed relay.new) }
     ensures stops { IfErr result (StopsFor (I.view relay.old.driver.handling.io) (I.view relay.new.driver.handling.io)) }
 {
     let mut closed: u64 = 0;

@@ -1,6 +1,6 @@
 // A relay over handles in memory, row by row: what each does is written by hand.
 use crate::far::{Far, MemFar, Mirror};
-use crate::relay::Relay;
+use crate::relay::{Relay, longest};
 use crate::round::{RelayError, Round};
 use driver_core::MOST_GIVEN;
 use handle_core::SharedFd;
@@ -33,6 +33,8 @@ enum Act {
     End(u64),
     // What was sent to a handle.
     Sent(u64, &'static str),
+    // A round that may wait `LIMIT` milliseconds would wait so many.
+    Waits(u64),
     // A handle that nobody holds: no bytes and no end arrive at it, and looking shows nothing.
     Gone(u64),
 }
@@ -43,9 +45,14 @@ enum End {
     Mirror,
     Stream,
     Nothing,
+    // The near handle itself, of the first two connections.
+    Few,
 }
 
-use Act::{Closes, End as Ends, Feed, Gone, Opens, Refuses, Round as Goes, Sent, Starves};
+// How long a round may wait that is asked how long it would.
+const LIMIT: u64 = 7;
+
+use Act::{Closes, End as Ends, Feed, Gone, Opens, Refuses, Round as Goes, Sent, Starves, Waits};
 
 // A row: the other end, the most connections, what listens, and what is done.
 struct Row {
@@ -57,7 +64,7 @@ struct Row {
 }
 
 #[rattlefmt::skip]
-const ROWS: [Row; 10] = [
+const ROWS: [Row; 12] = [
     Row { name: "an echo, and its end", end: End::Mirror, limit: 1, kind: HandleKind::Listener,
         acts: &[Opens(1), Feed(1, "ab"), Goes, Sent(1, ""), Goes, Sent(1, "ab"), Ends(1), Closes(1)] },
     Row { name: "as many are open as may be", end: End::Mirror, limit: 2, kind: HandleKind::Listener,
@@ -76,6 +83,10 @@ const ROWS: [Row; 10] = [
         acts: &[Starves, Starves] },
     Row { name: "an accept fails where nothing listens", end: End::Mirror, limit: 1, kind: HandleKind::Stream,
         acts: &[Goes, Feed(0, "x"), Refuses(22), Refuses(22)] },
+    Row { name: "a round waits unless a direction has something to do", end: End::Mirror, limit: 1, kind: HandleKind::Listener,
+        acts: &[Waits(7), Opens(1), Waits(7), Feed(1, "ab"), Goes, Waits(0), Goes, Waits(0), Goes, Waits(7)] },
+    Row { name: "a round waits behind one that ran out of memory", end: End::Few, limit: 3, kind: HandleKind::Listener,
+        acts: &[Opens(1), Feed(1, "ab"), Opens(2), Waits(0), Starves, Waits(7), Starves, Waits(7), Sent(1, "")] },
     Row { name: "nothing is open yet", end: End::Mirror, limit: 1, kind: HandleKind::Listener,
         acts: &[Gone(1), Opens(1)] },
 ];
@@ -90,7 +101,8 @@ impl Far<MemIo> for End {
         match *self {
             End::Mirror => Mirror.far(driver, near),
             End::Stream => MemFar.far(driver, near),
-            End::Nothing => Err(NonBlockError::OutOfMemory),
+            End::Few if near.number() < 3 => Mirror.far(driver, near),
+            End::Few | End::Nothing => Err(NonBlockError::OutOfMemory),
         }
     }
 }
@@ -171,6 +183,7 @@ fn holds<R: Wait + Clock, P: Ledger, D: Ledger>(
         Act::Feed(h, bytes) => relay.feed(h, bytes.as_bytes()).is_ok(),
         Act::End(h) => relay.end(h).is_ok(),
         Act::Sent(h, want) => was_sent(relay, h, Some(want)),
+        Act::Waits(millis) => longest(&relay.state, relay.again, relay.able, LIMIT) == millis,
         Act::Gone(h) => {
             relay.feed(h, b"x").is_err() && relay.end(h).is_err() && was_sent(relay, h, None)
         }

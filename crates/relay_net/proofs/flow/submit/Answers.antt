@@ -2,6 +2,7 @@ use Rattle.std.proofs.Common.{◌≡◌, refl}
 use Rattle.rent_buf.specs.Buf.{built}
 use Rattle.ring_core.specs.Request.{plain_request}
 use Rattle.relay_net.proofs.Calls.{submitted_pends, submitted_stays}
+use Rattle.relay_net.proofs.Listens.{submitted_bits}
 use Rattle.relay_net.proofs.flow.submit.Goals as goal
 
 pub returns-in-Ok-clause-stays : goal.returns-in-Ok-clause-stays
@@ -15,3 +16,8 @@ returns-in-Ok-clause-pends g c =
     submitted_pends g.I.NonBlock.view g.I.NonBlock.tells g.I.NonBlock.memory c.args.driver.now c.submit_op.new.self c.args.request
     c.in-Ok.op
     (λ asked. asked ≡ plain_request built c.args.request) c.in-Ok.ensures.submits c.in-Ok.ensures.token refl
+
+pub returns-in-Ok-clause-bits : goal.returns-in-Ok-clause-bits
+returns-in-Ok-clause-bits g c = λ h.
+    submitted_bits g.I.NonBlock.view g.I.NonBlock.tells g.I.NonBlock.memory c.args.driver.now c.submit_op.new.self c.args.request c.in-Ok.op
+    c.in-Ok.ensures.submits h

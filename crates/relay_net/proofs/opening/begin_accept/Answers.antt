@@ -2,6 +2,7 @@ use Rattle.std.proofs.Common.{subst, sym}
 use Rattle.ready_driver.specs.LegacyState.{ops_in}
 use Rattle.relay_net.specs.Relay.{FitsAccept}
 use Rattle.relay_net.proofs.Opens.{opening_widens, stays_sound, stays_widens, widens_sound}
+use Rattle.relay_net.proofs.Listens.{at_hand_kept}
 use Rattle.relay_net.proofs.opening.begin_accept.Goals as goal
 
 pub returns-in-Ok-clause-sound : goal.returns-in-Ok-clause-sound
@@ -29,3 +30,8 @@ returns-clause-opening g c = λ start was opening.
     c.args.state.now.listener
     (stays_widens g.I.NonBlock.view g.I.NonBlock.tells c.args.state.now.driver c.submit.new.driver c.submit.ensures.stays)
     c.requires.sound.served opening
+
+pub returns-in-Ok-clause-hand : goal.returns-in-Ok-clause-hand
+returns-in-Ok-clause-hand g c = λ told h hand.
+    at_hand_kept g.I.NonBlock.view c.args.state.now.driver c.submit.new.driver h (c.in-Ok.ensures.stays.world told) (c.in-Ok.ensures.bits h)
+    hand

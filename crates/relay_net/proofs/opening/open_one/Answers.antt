@@ -1,5 +1,6 @@
 use Rattle.std.proofs.Common.{◌∙◌, ap, subst, sym, ◌++◌, ◌∷◌, []}
-use Rattle.std.specs.Prelude.{map}
+use Rattle.std.specs.Prelude.{length, map, slice_get}
+use Rattle.relay_net.proofs.Places.{get_last}
 use Rattle.ready_driver.specs.LegacyState.{ops_in}
 use Rattle.relay_net.specs.Connection.{near_of}
 use Rattle.relay_net.specs.Opening.{Opening}
@@ -37,7 +38,8 @@ returns-in-Ok-clause-opening g c = λ start was opening.
     subst (Opening g.I.NonBlock.view g.I.NonBlock.tells start was c.far.new.driver)
     (sym (c.push_reserved.ensures.items ∙ ap (λ xs. xs ++ c.new.result ∷ []) c.reserve.ensures.items))
     (opening_pushed g.I.NonBlock.view g.I.NonBlock.tells start c.far.new.driver was c.args.state.now.open.items c.new.result
-    (opening_widens g.I.NonBlock.view g.I.NonBlock.tells start c.args.state.now.driver c.far.new.driver was c.args.state.now.open.items
+    c.new.ensures.going (opening_widens g.I.NonBlock.view g.I.NonBlock.tells start c.args.state.now.driver c.far.new.driver was
+    c.args.state.now.open.items
     c.args.state.now.listener
     c.far.ensures.widens c.requires.sound.served opening))
 
@@ -78,3 +80,18 @@ returns-in-Ok-clause-names g c =
 
 pub returns-in-Err-clause-err : goal.returns-in-Err-clause-err
 returns-in-Err-clause-err g c = ap (λ xs. map near_of xs) c.reserve.ensures.items
+
+pub returns-in-Ok-clause-first : goal.returns-in-Ok-clause-first
+returns-in-Ok-clause-first g c = record {
+  first = c.new.result;
+  among = (
+    length c.args.state.now.open.items,
+    ap (λ xs. slice_get xs (length c.args.state.now.open.items))
+        (c.push_reserved.ensures.items ∙ ap (λ xs. xs ++ c.new.result ∷ []) c.reserve.ensures.items)
+        ∙ get_last c.args.state.now.open.items c.new.result,
+  );
+  near = c.new.ensures.handles.0;
+  going = c.new.ensures.going;
+  forth = (c.new.ensures.none (ops_in c.far.new.driver)).0;
+  back = (c.new.ensures.none (ops_in c.far.new.driver)).1;
+}

@@ -1,4 +1,5 @@
 use Rattle.relay_net.proofs.Opens.{accept_ends, accept_fails, accept_starves, accept_waits, accepted_for}
+use Rattle.relay_net.proofs.Listens.{accept_goes, accept_makes}
 use Rattle.relay_net.proofs.opening.poll_accept.Goals as goal
 
 pub returns-in-Ok-Pending-clause-widens : goal.returns-in-Ok-Pending-clause-widens
@@ -40,3 +41,16 @@ returns-in-Err-clause-accepted g c =
     (accept_starves g.I.NonBlock.view g.I.NonBlock.tells g.I.NonBlock.memory g.I.NonBlock.files g.I.Calls.called g.met.I.NonBlock.calls
     c.args.driver.now c.poll_op.new.self c.args.op c.in-Err.op c.in-Err.field-0-0 0 c.args.listener c.in-Err.ensures.polls
     c.in-Err.ensures.tokens c.requires.pending).1
+
+pub returns-in-Ok-Pending-clause-makes : goal.returns-in-Ok-Pending-clause-makes
+returns-in-Ok-Pending-clause-makes g c = λ memory hand.
+    absurd (accept_goes g.I.NonBlock.view g.I.NonBlock.tells g.I.NonBlock.memory g.I.NonBlock.files g.I.Calls.called g.met.I.NonBlock.calls
+    c.args.driver.now c.poll_op.new.self c.args.op c.in-Ok-Pending.op c.in-Ok-Pending.field-0 0 c.args.listener
+    c.in-Ok-Pending.field-0-is c.in-Ok-Pending.ensures.polls c.requires.pending memory hand)
+
+pub returns-in-Ok-Ready-clause-makes : goal.returns-in-Ok-Ready-clause-makes
+returns-in-Ok-Ready-clause-makes g c = λ memory hand.
+    accept_makes g.I.NonBlock.view g.I.NonBlock.tells g.I.NonBlock.memory g.I.NonBlock.files g.I.Calls.called g.met.I.NonBlock.calls
+    g.met.I.Sockets.numbered c.args.driver.now c.poll_op.new.self c.args.op c.in-Ok-Ready.field-0 c.in-Ok-Ready.done 0 c.args.listener
+    c.accepted_of.result c.in-Ok-Ready.field-0-is c.in-Ok-Ready.ensures.polls c.requires.pending c.requires.number c.accepted_of.ensures
+    memory hand

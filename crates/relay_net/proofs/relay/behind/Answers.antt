@@ -1,7 +1,10 @@
 use Rattle.std.proofs.Common.{subst, sym, []}
 use Rattle.relay_net.specs.Relay.{Serving, StopsUnless}
-use Rattle.relay_net.proofs.Opens.{opening_serving}
+use Rattle.relay_net.proofs.Opens.{none_opened, opening_serving}
 use Rattle.relay_net.proofs.Relays.{stops_later}
+use Rattle.std.specs.Prelude.{OnOk}
+use Rattle.relay_net.specs.Listening.{IsAtHand}
+use Rattle.relay_net.proofs.Listens.{map_ok}
 use Rattle.relay_net.proofs.relay.behind.Goals as goal
 
 pub returns-in-Ok-clause-stops : goal.returns-in-Ok-clause-stops
@@ -23,3 +26,17 @@ returns-in-Err-clause-serving g c = λ start was opening.
     (subst (Serving g.I.NonBlock.view g.I.NonBlock.tells start was c.args.state.now.driver c.args.state.now.open.items []) (sym
     c.requires.none.1)
     (opening_serving g.I.NonBlock.view g.I.NonBlock.tells start c.args.state.now.driver was c.args.state.now.open.items opening))
+
+pub returns-in-Ok-clause-opens : goal.returns-in-Ok-clause-opens
+returns-in-Ok-clause-opens g c = λ start was opening n among. c.work.ensures.opens start was opening n among
+
+pub returns-in-Err-clause-opens : goal.returns-in-Err-clause-opens
+returns-in-Err-clause-opens g c = λ start was opening n among.
+    none_opened c.args.lists.now.opened.items n c.requires.unopened.0 among
+
+pub returns-in-Ok-clause-accepts : goal.returns-in-Ok-clause-accepts
+returns-in-Ok-clause-accepts g c =
+    map_ok c.work.result _ _ (λ goes memory hand places.
+    goes memory
+    (subst (λ turned. OnOk turned (IsAtHand g.I.NonBlock.view c.args.state.now.driver c.args.state.now.listener)) c.in-Ok.is hand)
+    places) c.work.ensures.accepts

@@ -1,7 +1,9 @@
 use Rattle.std.proofs.Common.{◌∙◌, ap, arith, subst, sym, []}
 use Rattle.relay_net.specs.Relay.{Serving}
-use Rattle.relay_net.proofs.Opens.{accept_within, opening_serving, opening_starts}
+use Rattle.relay_net.specs.Opening.{WasOpened}
+use Rattle.relay_net.proofs.Opens.{accept_within, opened_becomes, opening_serving, opening_starts}
 use Rattle.relay_net.proofs.Relays.{stops_later}
+use Rattle.relay_net.proofs.Listens.{on_ok}
 use Rattle.relay_net.proofs.relay.work.Goals as goal
 
 pub returns-in_err-accept-clause-serving : goal.returns-in_err-accept-clause-serving
@@ -40,3 +42,34 @@ returns-clause-fails g c =
     accept_within (g.I.NonBlock.view c.args.state.now.driver.handling.io) (g.I.NonBlock.view c.args.state.now.driver.handling.io)
     (g.I.NonBlock.view c.accept.new.state.driver.handling.io) (g.I.NonBlock.view c.serve_all.new.state.driver.handling.io)
     c.accept.new.lists.accept (omega arith) c.serve_all.ensures.later.fails c.accept.ensures.fails
+
+pub returns-in_err-accept-clause-opens : goal.returns-in_err-accept-clause-opens
+returns-in_err-accept-clause-opens g c = λ start was opening n among.
+    subst (λ closed. WasOpened g.I.NonBlock.view g.I.NonBlock.tells start n c.accept.new.state.driver c.accept.new.state.open.items
+    closed c.accept.new.lists.ended.failed.items) (sym (ap (λ e. e.closed.items) c.accept.ensures.ended ∙ c.requires.none.0))
+    (subst (WasOpened g.I.NonBlock.view g.I.NonBlock.tells start n c.accept.new.state.driver c.accept.new.state.open.items [])
+    (sym (ap (λ e. e.failed.items) c.accept.ensures.ended ∙ c.requires.none.1))
+    (opened_becomes g.I.NonBlock.view g.I.NonBlock.tells start c.accept.new.state.driver c.accept.new.state.driver was
+    c.accept.new.state.open.items c.accept.new.state.open.items n [] [] (c.accept.ensures.opening start was opening)
+    (c.accept.ensures.opened n among)
+    (opening_serving g.I.NonBlock.view g.I.NonBlock.tells c.accept.new.state.driver c.accept.new.state.driver
+    c.accept.new.state.open.items c.accept.new.state.open.items
+    (opening_starts g.I.NonBlock.view g.I.NonBlock.tells c.accept.new.state.driver c.accept.new.state.open.items))))
+
+pub returns-clause-opens : goal.returns-clause-opens
+returns-clause-opens g c = λ start was opening n among.
+    opened_becomes g.I.NonBlock.view g.I.NonBlock.tells start c.accept.new.state.driver c.serve_all.new.state.driver was
+    c.accept.new.state.open.items c.serve_all.new.state.open.items n c.serve_all.new.ended.closed.items c.serve_all.new.ended.failed.items
+    (c.accept.ensures.opening start was opening) (c.accept.ensures.opened n among)
+    (c.serve_all.ensures.serving c.accept.new.state.driver c.accept.new.state.open.items
+    (subst (λ closed. Serving g.I.NonBlock.view g.I.NonBlock.tells c.accept.new.state.driver c.accept.new.state.open.items
+    c.accept.new.state.driver c.accept.new.state.open.items closed c.accept.new.lists.ended.failed.items)
+    (sym (ap (λ e. e.closed.items) c.accept.ensures.ended ∙ c.requires.none.0))
+    (subst (Serving g.I.NonBlock.view g.I.NonBlock.tells c.accept.new.state.driver c.accept.new.state.open.items c.accept.new.state.driver
+    c.accept.new.state.open.items []) (sym (ap (λ e. e.failed.items) c.accept.ensures.ended ∙ c.requires.none.1))
+    (opening_serving g.I.NonBlock.view g.I.NonBlock.tells c.accept.new.state.driver c.accept.new.state.driver
+    c.accept.new.state.open.items c.accept.new.state.open.items
+    (opening_starts g.I.NonBlock.view g.I.NonBlock.tells c.accept.new.state.driver c.accept.new.state.open.items)))))
+
+pub returns-clause-accepts : goal.returns-clause-accepts
+returns-clause-accepts g c = on_ok c.serve_all.result _ c.in_ok-accept.ensures.accepts

@@ -12,11 +12,18 @@ loop-made-preserved g c =
     let next : suc c.loop-made._made ≡ c.loop-made._made + 1 = omega arith in
     record {
       made = subst
-          (λ n. MakesRounds g.I.NonBlock.view g.I.NonBlock.tells c.args.relay.now n c.saturating_add-closed.result c.round.new.self) next (
+          (λ n. MakesRounds g.I.NonBlock.view g.I.NonBlock.tells g.I.NonBlock.memory c.args.relay.now n c.saturating_add-closed.result
+          c.round.new.self) next (
             c.loop-made.relay,
             c.loop-made.closed,
             c.loop-made.invariant.made,
-            record { round = round; serving = serving; counted = counted },
+            record {
+              round = round;
+              serving = serving;
+              names = c.in-Ok.ensures.names;
+              accepts = c.in-Ok.ensures.accepts;
+              counted = counted;
+            },
           );
       given = let before = c.loop-made.invariant.given in let more = c.round.ensures.given in omega arith;
       later = let before = c.loop-made.invariant.later in let more = serving.later.faults in omega arith;
