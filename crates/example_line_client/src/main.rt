@@ -6,7 +6,7 @@ mod talk;
 mod trial;
 
 use anyhow::Result;
-use net_server::{ByLines, Limits, Lines, Server, wait_for};
+use net_server::{ByLines, Limits, Lines as _, Server, wait_for};
 use ready_driver::LegacyDriver;
 use socket_io::MioIo;
 use std::env;

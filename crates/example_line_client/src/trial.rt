@@ -1,10 +1,10 @@
 // A server of two answers, by std's sockets.
 use crate::talk::Talk;
 use anyhow::Result;
-use net_server::{ByLines, Lines, Server, wait_for};
+use net_server::{ByLines, Lines as _, Server, wait_for};
 use ready_driver::Sockets;
 use std::alloc::Global;
-use std::io::{Print, Read, Write};
+use std::io::{Print, Read as _, Write as _};
 use std::net::{Ipv4Addr, Net, SocketAddr, TcpListener, TcpStream};
 use std::sync::Wait;
 use std::time::Clock;

@@ -4,7 +4,7 @@ use anyhow::{Result, bail};
 use net_server::{Server, run};
 use ready_driver::Sockets;
 use std::alloc::Global;
-use std::io::{Print, Read, Write};
+use std::io::{Print, Read as _, Write};
 use std::net::{Ipv4Addr, Net, Shutdown, SocketAddr, TcpStream};
 use std::sync::Wait;
 use std::time::Clock;

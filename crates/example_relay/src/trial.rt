@@ -6,7 +6,7 @@ use ready_driver::{LegacyDriver, Sockets};
 use relay_net::Mirror;
 use rent_buf::Buf;
 use std::alloc::Global;
-use std::io::{Print, Read, Write};
+use std::io::{Print, Read as _, Write};
 use std::net::{Ipv4Addr, Net, Shutdown, SocketAddr, TcpStream};
 use std::sync::Wait;
 use std::time::Clock;

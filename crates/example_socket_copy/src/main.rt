@@ -8,7 +8,7 @@ use ready_driver::LegacyDriver;
 use rent_buf::Rent;
 use socket_io::MioIo;
 use std::env;
-use std::io::{Read, Write};
+use std::io::{Read as _, Write as _};
 use std::net::{Ipv4Addr, SocketAddr, TcpListener};
 
 // The size of each buffer.

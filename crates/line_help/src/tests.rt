@@ -276,6 +276,7 @@ const WORDS: &[(&str, &str)] = &[
     ("unframe", "unframe: takes no further word"),
     ("unframe 8", "unframe: takes no further word"),
     ("frame 8", "frame: takes no further word"),
+    ("tasks 8", "tasks: takes no further word"),
     ("faults 8", "faults: takes CAP ENTERS"),
     ("faults 0 f", "faults: capacity '0' is not a number from 1 to 4294967295"),
     ("faults 8 fx", "faults: script 'fx' is not letters f, b or -, one for each enter"),

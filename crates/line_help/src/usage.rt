@@ -46,7 +46,7 @@ type Form = (
     Option<&'static str>,
 );
 
-const FORMS: [Form; 12] = [
+const FORMS: [Form; 13] = [
     (
         "run",
         "CAP, or CAP -i",
@@ -113,6 +113,7 @@ const FORMS: [Form; 12] = [
     ),
     ("unframe", "no further word", &[], None),
     ("frame", "no further word", &[], None),
+    ("tasks", "no further word", &[], None),
     ("--help", "no further word", &[], None),
     ("--version", "no further word", &[], None),
 ];

@@ -1,13 +1,14 @@
 -- What the words of the command line ask for.
-use Rattle.std.proofs.Common.{◌≡◌, ◌≤◌, ◌<◌, ℕ, List, [], ◌∷◌, length, get_or, Option, None, Some, sym, ◌∙◌, ap, refl, arith}
+use Rattle.std.proofs.Common.{◌≡◌, ◌≤◌, ◌<◌, ℕ, List, [], ◌∷◌, length, get_or, Option, None, Some, sym, ◌∙◌, ap, refl, subst, arith}
 use Rattle.std.specs.Prelude.{◌^◌, codes, decimal, option_map}
 use Rattle.session_core.specs.declared.command.TheConstants.{MOST_CAPACITY, MOST_ENTRIES}
 use Rattle.session_core.specs.declared.command.Command.{Command}
-use Rattle.session_core.specs.declared.command.Command.TheVariants.{Run, Ready, Generate, Trace, Wake, Copy, Unframe, Relay}
+use Rattle.session_core.specs.declared.command.Command.TheVariants.{Run, Ready, Generate, Trace, Wake, Copy, Unframe, Relay, Tasks}
 use Rattle.session_core.specs.Command.{IsRun, IsReady, IsWake, IsGenerate, IsTrace, IsCopy}
-use Rattle.session_core.specs.Command.{IsCopyOf, IsCapacity, IsNoCommand, IsUnframe, ReadsUpTo}
+use Rattle.session_core.specs.Command.{IsCopyOf, IsCapacity, IsNoCommand, IsTasks, IsUnframe, ReadsUpTo}
 use Rattle.session_core.specs.Command.{KeepsNothing, ReadsCommand, ReadsNothing}
 use Rattle.session_core.proofs.RelayWords.{not-trace-relay, three-no-relay}
+use Rattle.session_core.proofs.TaskWords.{many-no-tasks, tasks-alone, tasks-are}
 use Rattle.event_text.specs.TextReads.{number_of, bytes_of}
 use Rattle.event_text.specs.TextWords.{bytes_word}
 use Rattle.event_text.proofs.TextHex.{bytes_of-Some, bytes_of-bytes_word}
@@ -109,6 +110,7 @@ copy-or-none first second none = record {
   no_copy = none;
   no_unframe = many-no-unframe (codes "copy") first (second ∷ []);
   no_relay = three-no-relay (codes "copy") first second;
+  no_tasks = many-no-tasks (codes "copy") first (second ∷ []);
 }
 
 -- Words of `copy` whose capacity is 0 are no command's.
@@ -226,6 +228,7 @@ trace-alone words seed rounds Unframe is reads =
     (let all : codes "gen" ∷ decimal seed ∷ decimal rounds ∷ codes "--events" ∷ [] ≡ codes "unframe" ∷ [] =
     sym is.words_are ∙ reads in absurd (cc))
 trace-alone words seed rounds (Relay plan) is reads = absurd (not-trace-relay words seed rounds plan is reads)
+trace-alone words seed rounds Tasks is reads = absurd (tasks-alone words (Trace seed rounds) reads is)
 
 -- Nor are those of `copy`.
 pub not-copy-trace : (words : List (List ℕ)) (seed rounds capacity : ℕ) (prefix : List ℕ) → IsTrace words seed rounds →
@@ -340,6 +343,7 @@ reads-nothing words (Wake s c) senders count reads wake = tt
 reads-nothing words (Copy c word) senders count reads wake = absurd (not-wake-copy words senders count c reads.prefix wake reads.is_copy)
 reads-nothing words Unframe senders count reads wake = absurd (not-wake-unframe words senders count wake reads)
 reads-nothing words (Relay plan) senders count reads wake = tt
+reads-nothing words Tasks senders count reads wake = absurd (tasks-alone words (Wake senders count) reads wake)
 
 -- Nor does one that `gen` asks for.
 pub generate-nothing : (words : List (List ℕ)) (command : Command) (seed rounds : ℕ) → ReadsCommand words (Some command) →
@@ -352,6 +356,7 @@ generate-nothing words (Wake s c) seed rounds reads gen = tt
 generate-nothing words (Copy c word) seed rounds reads gen = absurd (not-generate-copy words seed rounds c reads.prefix gen reads.is_copy)
 generate-nothing words Unframe seed rounds reads gen = absurd (not-generate-unframe words seed rounds gen reads)
 generate-nothing words (Relay plan) seed rounds reads gen = tt
+generate-nothing words Tasks seed rounds reads gen = absurd (tasks-alone words (Generate seed rounds) reads gen)
 
 -- A command that `wake` asks for keeps nothing.
 pub wake-keeps : (words : List (List ℕ)) (command : Command) (senders count : ℕ) → ReadsCommand words (Some command) →
@@ -364,6 +369,7 @@ wake-keeps words (Wake s c) senders count reads wake = tt
 wake-keeps words (Copy c word) senders count reads wake = tt
 wake-keeps words Unframe senders count reads wake = tt
 wake-keeps words (Relay plan) senders count reads wake = tt
+wake-keeps words Tasks senders count reads wake = tt
 
 -- Nor does one that `copy` asks for.
 pub copy-keeps : (words : List (List ℕ)) (command : Command) (capacity : ℕ) (prefix : List ℕ) → ReadsCommand words (Some command) →
@@ -376,6 +382,7 @@ copy-keeps words (Wake s c) capacity prefix reads copy = tt
 copy-keeps words (Copy c word) capacity prefix reads copy = tt
 copy-keeps words Unframe capacity prefix reads copy = tt
 copy-keeps words (Relay plan) capacity prefix reads copy = tt
+copy-keeps words Tasks capacity prefix reads copy = tt
 
 -- Nor does one that `unframe` asks for.
 pub unframe-keeps : (words : List (List ℕ)) (command : Command) → ReadsCommand words (Some command) → IsUnframe words →
@@ -388,6 +395,12 @@ unframe-keeps words (Wake s c) reads unframe = tt
 unframe-keeps words (Copy c word) reads unframe = tt
 unframe-keeps words Unframe reads unframe = tt
 unframe-keeps words (Relay plan) reads unframe = tt
+unframe-keeps words Tasks reads unframe = tt
+
+-- Nor does one that `tasks` asks for.
+pub tasks-keeps : (words : List (List ℕ)) (command : Command) → ReadsCommand words (Some command) → IsTasks words →
+    KeepsNothing command
+tasks-keeps words command reads tasks = subst KeepsNothing (sym (tasks-are words command reads tasks)) tt
 
 -- A command that writes generated events reads nothing, and keeps nothing.
 pub trace-nothing : (words : List (List ℕ)) (command : Command) (seed rounds : ℕ) → ReadsCommand words (Some command) →
@@ -400,3 +413,4 @@ trace-nothing words (Wake s c) seed rounds reads is = absurd (trace-alone words 
 trace-nothing words (Copy c word) seed rounds reads is = absurd (trace-alone words seed rounds (Copy c word) is reads)
 trace-nothing words Unframe seed rounds reads is = absurd (trace-alone words seed rounds Unframe is reads)
 trace-nothing words (Relay plan) seed rounds reads is = (tt, tt)
+trace-nothing words Tasks seed rounds reads is = absurd (trace-alone words seed rounds Tasks is reads)

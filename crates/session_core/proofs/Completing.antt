@@ -1,6 +1,7 @@
 -- A command whose input is right, and whose source and sink don't fail, is done, or runs out of memory.
 use Rattle.std.proofs.Common.{◌≤◌, ◌*◌, inl, inr, refl, ℕ, List, [], ◌∷◌, ◌++◌, length, Bool, IsTrue, Option, Some}
-use Rattle.std.proofs.Common.{arith, subst}
+use Rattle.std.proofs.Common.{◌≡◌, None, arith, subst, sym}
+use Rattle.std.specs.Prelude.{IsSome}
 use Rattle.std.specs.List.{AllZip}
 use Rattle.ring_core.specs.declared.ledger.Event.{Event}
 use Rattle.ring_core.specs.Ledger.{Ledger, empty}
@@ -14,11 +15,14 @@ use Rattle.event_text.specs.TextLines.{lines, AreEventsFor, IsFirstWrongFor}
 use Rattle.session_core.specs.Command.{IsNoCommand, ReadsCommand}
 use Rattle.session_core.specs.Generated.{generated_events}
 use Rattle.session_core.specs.Top.{SumsFor, TookTooMany, WakesFor}
-use Rattle.session_core.specs.Complete.{HoldsEvents, IsDoneOrShort, NoneRose, TakesInput, of_events, of_copy}
+use Rattle.session_core.specs.Complete.{HoldsEvents, HoldsTasks, IsDoneOrShort, NoneRose, TakesInput, of_events, of_copy, of_tasks}
 use Rattle.session_core.specs.Complete.{of_generate, of_trace, of_wake}
 use Rattle.session_core.specs.Ends.{Reading, Writing, CommandEnds, CopiesFor, EventsEnd, StatusFor}
 use Rattle.session_core.specs.DriverKind.{DriverKind, StandsOn, completion, readiness, KeepsRun, KeepsReady}
+use Rattle.session_core.specs.Tasking.{TasksFor}
 use Rattle.session_core.specs.Trace.{TracesFor}
+use Rattle.task_run.specs.Tasks.{AreRight, IsWrongLine, line_bytes}
+use Rattle.session_core.proofs.Tasking.{tasks-ends}
 use Rattle.session_core.proofs.Endings.{run-ends, ready-ends, sum-ends, trace-ends, wake-ends, copy-ends}
 
 -- Where each line stands for an event, so does the one behind any others.
@@ -109,6 +113,34 @@ copy-complete ts tk prefix source sink OutOfMemory told few calm ends = inr refl
 copy-complete ts tk prefix source sink NetFault told few calm ends = absurd ends
 copy-complete ts tk prefix source sink BadFrame told few calm ends = absurd ends
 
+-- Where each line of an input writes bytes, none is the first wrong one.
+right-line : (text left : List ℕ) (number : ℕ) → text ≡ left → AreRight left (length (lines left)) → IsWrongLine text number → ⊥
+right-line text left number same right wrong =
+    let there = wrong.there in
+    let is = wrong.number_is in
+    let some : IsSome (line_bytes text wrong.before) =
+    subst (λ x. AreRight x (length (lines x))) (sym same) right wrong.before (omega (arith, there, is)) in
+    none-some (line_bytes text wrong.before) wrong.wrong some
+  where
+    none-some : (found : Option (List ℕ)) → found ≡ None → IsSome found → ⊥
+    none-some None is some = absurd cc
+    none-some (Some bytes) is some = absurd cc
+
+-- Tasks of lines that write bytes, where nothing fails.
+tasks-complete : (ts tk : Bool) (source : Reading) (sink : Writing) (status : Status) → IsTrue ts → HoldsTasks source.left →
+    NoneRose source sink → TasksFor ts tk source sink status → IsDoneOrShort status
+tasks-complete ts tk source sink Done told right calm ends = inl refl
+tasks-complete ts tk source sink BadWords told right calm ends = absurd ends
+tasks-complete ts tk source sink BadLine told right calm ends = absurd (right-line ends.1.is.input source.left ends.0
+    ((ends.1.is.read told).all) right.right ends.1.is.output.0)
+tasks-complete ts tk source sink TooLong told right calm ends =
+    absurd (few-taken source.left source.rest right.within (ends.0 told))
+tasks-complete ts tk source sink ReadFault told right calm ends = absurd (calm.read ends.0)
+tasks-complete ts tk source sink WriteFault told right calm ends = absurd (calm.wrote ends.0)
+tasks-complete ts tk source sink OutOfMemory told right calm ends = inr refl
+tasks-complete ts tk source sink NetFault told right calm ends = absurd ends
+tasks-complete ts tk source sink BadFrame told right calm ends = absurd ends
+
 -- Any command, whose input is one that it takes.
 pub command-complete : (ts tk : Bool) (words : List (List ℕ)) (command : Command) (source : Reading) (sink : Writing) (kept : Option Kept)
     (status : Status) →
@@ -132,6 +164,8 @@ command-complete ts tk words command source sink kept status reads ends caused (
 command-complete ts tk words command source sink kept status reads ends caused (of_copy capacity prefix is told few) calm =
     copy-complete ts tk prefix source sink status told few calm
     (copy-ends ts tk words command capacity prefix source sink kept status reads is ends)
+command-complete ts tk words command source sink kept status reads ends caused (of_tasks is told right) calm =
+    tasks-complete ts tk source sink status told right calm (tasks-ends ts tk words command source sink kept status reads is ends)
 
 -- Words of a command aren't those of none.
 pub input-taken : (ts : Bool) (words : List (List ℕ)) (left : List ℕ) → TakesInput ts words left → IsNoCommand words → ⊥
@@ -141,3 +175,4 @@ input-taken ts words left (of_generate seed rounds is) none = none.no_generate s
 input-taken ts words left (of_trace seed rounds is) none = none.no_trace seed rounds is
 input-taken ts words left (of_wake senders count is) none = none.no_wake senders count is
 input-taken ts words left (of_copy capacity prefix is told few) none = none.no_copy capacity prefix is
+input-taken ts words left (of_tasks is told right) none = none.no_tasks is

@@ -1,22 +1,23 @@
 -- What a command has done, by its words and its status.
-use Rattle.std.proofs.Common.{◌≡◌, ◌*◌, ◌⊎◌, inl, inr, Bool, IsTrue, ℕ, List, Option, Some, sym, subst}
+use Rattle.std.proofs.Common.{◌≡◌, ◌*◌, ◌⊎◌, inl, inr, Bool, IsTrue, ℕ, List, Option, Some, sym, subst, arith}
 use Rattle.std.specs.Prelude.{Result, Ok, Err}
 use Rattle.ring_core.specs.declared.ledger.Event.{Event}
 use Rattle.ring_core.specs.Ledger.{Ledger}
 use Rattle.session_core.specs.declared.command.Command.{Command}
-use Rattle.session_core.specs.declared.command.Command.TheVariants.{Run, Ready, Generate, Trace, Wake, Copy, Unframe, Relay}
+use Rattle.session_core.specs.declared.command.Command.TheVariants.{Run, Ready, Generate, Trace, Wake, Copy, Unframe, Relay, Tasks}
 use Rattle.session_core.specs.declared.input.NoEvents.{NoEvents}
 use Rattle.session_core.specs.declared.top.Kept.{Kept}
 use Rattle.session_core.specs.declared.top.Status.{Status}
 use Rattle.session_core.specs.declared.top.Status.TheVariants.{Done, BadWords, BadLine, TooLong}
 use Rattle.session_core.specs.declared.top.Status.TheVariants.{ReadFault, WriteFault, OutOfMemory, NetFault, BadFrame}
-use Rattle.session_core.specs.Command.{IsRun, IsReady, IsGenerate, IsTrace, IsWake, IsCopy, IsUnframe, ReadsCommand}
+use Rattle.session_core.specs.Command.{IsRun, IsReady, IsGenerate, IsTrace, IsWake, IsCopy, IsTasks, IsUnframe, ReadsCommand}
 use Rattle.session_core.specs.DriverKind.{DriverKind, completion, readiness, after_on, replies_on}
 use Rattle.session_core.specs.Generated.{generated_events}
 use Rattle.session_core.specs.Top.{SumsFor, WakesFor, WasRead, IsBadLine, all_right, of_replies, of_bad_line, bad_line_text}
 use Rattle.session_core.specs.Top.{reply_lines}
 use Rattle.session_core.specs.Reads.{WhyNoEvents}
 use Rattle.session_core.specs.Relays.{RelaysFor}
+use Rattle.session_core.specs.Tasking.{TasksFor}
 use Rattle.session_core.specs.Trace.{TracesFor}
 use Rattle.session_core.specs.Writes.{RefusesFor, WritesLine}
 use Rattle.session_core.specs.Ends.{Reading, Writing, RunEnds, ReadyEnds, EventsEnd, EventsGive, RunsEvents, RunsGive, CommandEnds}
@@ -27,7 +28,8 @@ use Rattle.session_core.proofs.Commands.{not-copy-trace, trace-alone}
 use Rattle.session_core.proofs.Commands.{not-run-ready, not-generate-ready, not-wake-ready, not-copy-ready}
 use Rattle.session_core.proofs.Commands.{not-run-unframe, not-ready-unframe, not-generate-unframe, not-wake-unframe, not-copy-unframe}
 use Rattle.session_core.proofs.Reading.{few-read}
-use Rattle.session_core.proofs.RelayWords.{not-copy-relay, not-generate-relay, not-ready-relay, not-run-relay, not-wake-relay}
+use Rattle.session_core.proofs.RelayWords.{few-no-relay}
+use Rattle.session_core.proofs.TaskWords.{not-copy-tasks, tasks-alone}
 
 -- What running the events of an input has done is what the command has done.
 pub ends-run : (driver : DriverKind) (ts tk : Bool) (L : Ledger) (source : Reading) (sink : Writing) (keeps : Ledger → Type 0)
@@ -148,7 +150,9 @@ run-ends ts tk words (Wake s c) capacity source sink kept status reads run ends 
 run-ends ts tk words (Copy c word) capacity source sink kept status reads run ends =
     absurd (not-run-copy words capacity c reads.prefix run reads.is_copy)
 run-ends ts tk words Unframe capacity source sink kept status reads run ends = absurd (not-run-unframe words capacity run reads)
-run-ends ts tk words (Relay plan) capacity source sink kept status reads run ends = absurd (not-run-relay words capacity plan run reads)
+run-ends ts tk words (Relay plan) capacity source sink kept status reads run ends =
+    absurd (few-no-relay plan run.words_are (omega arith) reads)
+run-ends ts tk words Tasks capacity source sink kept status reads run ends = absurd (tasks-alone words (Run capacity) reads run)
 
 -- The same of `ready`.
 pub ready-ends : (ts tk : Bool) (words : List (List ℕ)) (command : Command) (capacity : ℕ) (source : Reading) (sink : Writing)
@@ -164,7 +168,8 @@ ready-ends ts tk words (Wake s c) capacity source sink kept status reads ready e
 ready-ends ts tk words (Copy c word) capacity source sink kept status reads ready ends =
     absurd (not-copy-ready words c reads.prefix reads.is_copy ready)
 ready-ends ts tk words Unframe capacity source sink kept status reads ready ends = absurd (not-ready-unframe words ready reads)
-ready-ends ts tk words (Relay plan) capacity source sink kept status reads ready ends = absurd (not-ready-relay words plan ready reads)
+ready-ends ts tk words (Relay plan) capacity source sink kept status reads ready ends = absurd (few-no-relay plan ready (omega arith) reads)
+ready-ends ts tk words Tasks capacity source sink kept status reads ready ends = absurd (tasks-alone words Ready reads ready)
 
 -- The same of `gen`.
 pub sum-ends : (ts tk : Bool) (words : List (List ℕ)) (command : Command) (seed rounds : ℕ) (source : Reading) (sink : Writing)
@@ -186,7 +191,9 @@ sum-ends ts tk words (Copy c word) seed rounds source sink kept status reads gen
 sum-ends ts tk words Unframe seed rounds source sink kept status reads gen ends =
     absurd (not-generate-unframe words seed rounds gen reads)
 sum-ends ts tk words (Relay plan) seed rounds source sink kept status reads gen ends =
-    absurd (not-generate-relay words seed rounds plan gen reads)
+    absurd (few-no-relay plan gen.words_are (omega arith) reads)
+sum-ends ts tk words Tasks seed rounds source sink kept status reads gen ends =
+    absurd (tasks-alone words (Generate seed rounds) reads gen)
 
 -- The same of `wake`.
 pub wake-ends : (ts tk : Bool) (words : List (List ℕ)) (command : Command) (senders count : ℕ) (source : Reading) (sink : Writing)
@@ -208,7 +215,9 @@ wake-ends ts tk words (Copy c word) senders count source sink kept status reads 
 wake-ends ts tk words Unframe senders count source sink kept status reads wake ends =
     absurd (not-wake-unframe words senders count wake reads)
 wake-ends ts tk words (Relay plan) senders count source sink kept status reads wake ends =
-    absurd (not-wake-relay words senders count plan wake reads)
+    absurd (few-no-relay plan wake.words_are (omega arith) reads)
+wake-ends ts tk words Tasks senders count source sink kept status reads wake ends =
+    absurd (tasks-alone words (Wake senders count) reads wake)
 
 -- The same of `copy`.
 pub copy-ends : (ts tk : Bool) (words : List (List ℕ)) (command : Command) (capacity : ℕ) (prefix : List ℕ) (source : Reading)
@@ -230,7 +239,9 @@ copy-ends ts tk words (Copy c word) capacity prefix source sink kept status read
 copy-ends ts tk words Unframe capacity prefix source sink kept status reads copy ends =
     absurd (not-copy-unframe words capacity prefix copy reads)
 copy-ends ts tk words (Relay plan) capacity prefix source sink kept status reads copy ends =
-    absurd (not-copy-relay words capacity prefix plan copy reads)
+    absurd (few-no-relay plan copy.words_are (omega arith) reads)
+copy-ends ts tk words Tasks capacity prefix source sink kept status reads copy ends =
+    absurd (not-copy-tasks words capacity prefix copy reads)
 
 -- The same of `gen SEED COUNT --events`.
 pub trace-ends : (ts tk : Bool) (words : List (List ℕ)) (command : Command) (seed rounds : ℕ) (source : Reading) (sink : Writing)
@@ -252,6 +263,7 @@ trace-ends ts tk words (Copy c word) seed rounds source sink kept status reads i
 trace-ends ts tk words Unframe seed rounds source sink kept status reads is ends = absurd (trace-alone words seed rounds Unframe is reads)
 trace-ends ts tk words (Relay plan) seed rounds source sink kept status reads is ends =
     absurd (trace-alone words seed rounds (Relay plan) is reads)
+trace-ends ts tk words Tasks seed rounds source sink kept status reads is ends = absurd (trace-alone words seed rounds Tasks is reads)
 
 -- A command other than `copy` and `unframe` has written nothing, where too many bytes were read or a read failed.
 pub written-late : (ts tk : Bool) (words : List (List ℕ)) (command : Command) (source : Reading) (sink : Writing) (kept : Option Kept)
@@ -285,23 +297,29 @@ written-late ts tk words (Relay plan) source sink kept status reads ends other l
     absurd (subst (λ x. RelaysFor tk plan.rounds sink x) is ends)
 written-late ts tk words (Relay plan) source sink kept status reads ends other last (inr is) =
     absurd (subst (λ x. RelaysFor tk plan.rounds sink x) is ends)
+written-late ts tk words Tasks source sink kept status reads ends other last (inl is) =
+    (subst (λ x. TasksFor ts tk source sink x) is ends).1
+written-late ts tk words Tasks source sink kept status reads ends other last (inr is) =
+    (subst (λ x. TasksFor ts tk source sink x) is ends).1
 
--- A line is wrong only for a command that runs events.
+-- A line is wrong only for a command that runs events, or for `tasks`.
 line-ends : (ts tk : Bool) (words : List (List ℕ)) (command : Command) (source : Reading) (sink : Writing) (kept : Option Kept) →
-    ReadsCommand words (Some command) → CommandEnds ts tk command source sink kept BadLine →
+    ReadsCommand words (Some command) → CommandEnds ts tk command source sink kept BadLine → (IsTasks words → ⊥) →
     CommandRefused words ts tk source.left source.rest sink.taken sink.now
-line-ends ts tk words (Run c) source sink kept reads ends = record { driver = completion; runs = (c, reads); refused = ends }
-line-ends ts tk words Ready source sink kept reads ends = record { driver = readiness; runs = reads; refused = ends 0 }
-line-ends ts tk words (Generate s r) source sink kept reads ends = absurd ends
-line-ends ts tk words (Trace s r) source sink kept reads ends = absurd ends
-line-ends ts tk words (Wake s c) source sink kept reads ends = absurd ends
-line-ends ts tk words (Copy c word) source sink kept reads ends = absurd (ends reads.prefix reads.writes)
-line-ends ts tk words Unframe source sink kept reads ends = absurd ends
-line-ends ts tk words (Relay plan) source sink kept reads ends = absurd ends
+line-ends ts tk words (Run c) source sink kept reads ends other = record { driver = completion; runs = (c, reads); refused = ends }
+line-ends ts tk words Ready source sink kept reads ends other = record { driver = readiness; runs = reads; refused = ends 0 }
+line-ends ts tk words (Generate s r) source sink kept reads ends other = absurd ends
+line-ends ts tk words (Trace s r) source sink kept reads ends other = absurd ends
+line-ends ts tk words (Wake s c) source sink kept reads ends other = absurd ends
+line-ends ts tk words (Copy c word) source sink kept reads ends other = absurd (ends reads.prefix reads.writes)
+line-ends ts tk words Unframe source sink kept reads ends other = absurd ends
+line-ends ts tk words (Relay plan) source sink kept reads ends other = absurd ends
+line-ends ts tk words Tasks source sink kept reads ends other = absurd (other reads)
 
 -- So it is where the status says so.
 pub line-refused : (ts tk : Bool) (words : List (List ℕ)) (command : Command) (source : Reading) (sink : Writing) (kept : Option Kept)
     (status : Status) → ReadsCommand words (Some command) → CommandEnds ts tk command source sink kept status → status ≡ BadLine →
+    (IsTasks words → ⊥) →
     CommandRefused words ts tk source.left source.rest sink.taken sink.now
-line-refused ts tk words command source sink kept status reads ends is =
-    line-ends ts tk words command source sink kept reads (subst (λ s. CommandEnds ts tk command source sink kept s) is ends)
+line-refused ts tk words command source sink kept status reads ends is other =
+    line-ends ts tk words command source sink kept reads (subst (λ s. CommandEnds ts tk command source sink kept s) is ends) other

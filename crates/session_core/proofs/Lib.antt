@@ -1,6 +1,7 @@
 pub mod Driven
 pub mod Commands
 mod RelayWords
+mod TaskWords
 mod KeptGroups
 mod Refusals
 mod Submitting
@@ -18,5 +19,6 @@ pub mod Parts
 mod Completing
 mod Framing
 mod Stopping
+pub mod Tasking
 mod Tracing
 mod Relaying

@@ -2,49 +2,19 @@
 use Rattle.std.proofs.Common.{◌≡◌, ◌≤◌, ◌<◌, ℕ, List, [], ◌∷◌, length, get_or, Option, None, Some, sym, ◌∙◌, ap, refl, subst, arith}
 use Rattle.std.specs.Prelude.{codes, decimal}
 use Rattle.relay_run.specs.declared.plan.Plan.{Plan}
-use Rattle.event_text.specs.TextWords.{bytes_word}
-use Rattle.session_core.specs.Command.{IsCopy, IsGenerate, IsReady, IsRelay, IsRun, IsTrace, IsUnframe, IsWake, relay_words}
+use Rattle.session_core.specs.Command.{IsRelay, IsTrace, relay_words}
 
 -- They are four at least.
 words-four : (to : Option ℕ) (port limit rounds : ℕ) → 4 ≤ length (relay_words to port limit rounds)
 words-four None port limit rounds = omega arith
 words-four (Some to) port limit rounds = omega arith
 
--- So fewer words are none.
-few-no-relay : (words few : List (List ℕ)) (plan : Plan) → words ≡ few → length few < 4 → IsRelay words plan → ⊥
-few-no-relay words few plan same short relay =
+-- So fewer words are none: those of `run`, `ready`, `unframe`, `gen`, `wake`, `copy` and `tasks` among them.
+pub few-no-relay : {words few : List (List ℕ)} (plan : Plan) → words ≡ few → length few < 4 → IsRelay words plan → ⊥
+few-no-relay {few = few} plan same short relay =
     let four : 4 ≤ length few =
     subst (λ ws. 4 ≤ length ws) (sym relay.words_are ∙ same) (words-four plan.to plan.port plan.limit plan.rounds) in
     absurd (omega (arith, four, short))
-
--- Words don't ask for a relay and for another command: `run`,
-pub not-run-relay : (words : List (List ℕ)) (capacity : ℕ) (plan : Plan) → IsRun words capacity → IsRelay words plan → ⊥
-not-run-relay words capacity plan run relay =
-    few-no-relay words (codes "run" ∷ decimal capacity ∷ []) plan run.words_are (omega arith) relay
-
--- `ready`,
-pub not-ready-relay : (words : List (List ℕ)) (plan : Plan) → IsReady words → IsRelay words plan → ⊥
-not-ready-relay words plan ready relay = few-no-relay words (codes "ready" ∷ []) plan ready (omega arith) relay
-
--- `unframe`,
-pub not-unframe-relay : (words : List (List ℕ)) (plan : Plan) → IsUnframe words → IsRelay words plan → ⊥
-not-unframe-relay words plan unframe relay = few-no-relay words (codes "unframe" ∷ []) plan unframe (omega arith) relay
-
--- `gen`,
-pub not-generate-relay : (words : List (List ℕ)) (seed rounds : ℕ) (plan : Plan) → IsGenerate words seed rounds → IsRelay words plan → ⊥
-not-generate-relay words seed rounds plan gen relay =
-    few-no-relay words (codes "gen" ∷ decimal seed ∷ decimal rounds ∷ []) plan gen.words_are (omega arith) relay
-
--- `wake`,
-pub not-wake-relay : (words : List (List ℕ)) (senders count : ℕ) (plan : Plan) → IsWake words senders count → IsRelay words plan → ⊥
-not-wake-relay words senders count plan wake relay =
-    few-no-relay words (codes "wake" ∷ decimal senders ∷ decimal count ∷ []) plan wake.words_are (omega arith) relay
-
--- `copy`,
-pub not-copy-relay : (words : List (List ℕ)) (capacity : ℕ) (prefix : List ℕ) (plan : Plan) → IsCopy words capacity prefix
-    → IsRelay words plan → ⊥
-not-copy-relay words capacity prefix plan copy relay =
-    few-no-relay words (codes "copy" ∷ decimal capacity ∷ bytes_word prefix ∷ []) plan copy.words_are (omega arith) relay
 
 -- Four words are those of a relay only where the first is `echo`.
 echo-name : (to : Option ℕ) (port limit rounds : ℕ) (name first second third : List ℕ)
@@ -52,7 +22,7 @@ echo-name : (to : Option ℕ) (port limit rounds : ℕ) (name first second third
 echo-name None port limit rounds name first second third all = ap (λ ws. get_or ws 0 []) all
 echo-name (Some to) port limit rounds name first second third all = absurd cc
 
--- or `gen` with `--events`.
+-- So they aren't those of `gen` with `--events`.
 pub not-trace-relay : (words : List (List ℕ)) (seed rounds : ℕ) (plan : Plan) → IsTrace words seed rounds → IsRelay words plan → ⊥
 not-trace-relay words seed rounds plan trace relay =
     let same : codes "gen" ≡ codes "echo" = echo-name plan.to plan.port plan.limit plan.rounds (codes "gen") (decimal seed) (decimal rounds)
@@ -62,7 +32,7 @@ not-trace-relay words seed rounds plan trace relay =
 -- Three words are those of no relay.
 pub three-no-relay : (name first second : List ℕ) (plan : Plan) → IsRelay (name ∷ first ∷ second ∷ []) plan → ⊥
 three-no-relay name first second plan relay =
-    few-no-relay (name ∷ first ∷ second ∷ []) (name ∷ first ∷ second ∷ []) plan refl (omega arith) relay
+    few-no-relay {few = name ∷ first ∷ second ∷ []} plan refl (omega arith) relay
 
 -- Four words whose first is another than `echo` are those of none.
 pub four-no-relay : (name first second third : List ℕ) → (name ≡ codes "echo" → ⊥) → (plan : Plan)

@@ -5,7 +5,7 @@ use Rattle.event_text.specs.TextWords.{bytes_word}
 use Rattle.relay_run.specs.declared.plan.Plan.{Plan}
 use Rattle.session_core.specs.declared.command.TheConstants.{MOST_PORT}
 use Rattle.session_core.specs.declared.command.Command.{Command}
-use Rattle.session_core.specs.declared.command.Command.TheVariants.{Run, Ready, Generate, Trace, Wake, Copy, Unframe, Relay}
+use Rattle.session_core.specs.declared.command.Command.TheVariants.{Run, Ready, Generate, Trace, Wake, Copy, Unframe, Relay, Tasks}
 use Rattle.session_core.specs.declared.top.Kept.{Kept}
 use Rattle.session_core.specs.declared.top.Status.{Status}
 use Rattle.session_core.specs.declared.top.Status.TheVariants.{Done, BadWords, BadLine, TooLong}
@@ -16,8 +16,8 @@ use Rattle.session_core.specs.Complete.{IsDoneOrShort, NoneRose}
 use Rattle.session_core.specs.Ends.{CommandEnds, Reading, StatusFor, Writing}
 use Rattle.session_core.specs.Relays.{RelaysFor}
 use Rattle.session_core.proofs.Commands.{same-number}
-use Rattle.session_core.proofs.RelayWords.{not-copy-relay, not-generate-relay, not-ready-relay, not-run-relay, not-trace-relay}
-use Rattle.session_core.proofs.RelayWords.{not-unframe-relay, not-wake-relay}
+use Rattle.session_core.proofs.RelayWords.{few-no-relay, not-trace-relay}
+use Rattle.session_core.proofs.TaskWords.{many-no-tasks}
 
 -- The last word of a relay is how many rounds it makes.
 last-word : (to other : Option ℕ) (port limit rounds more most all : ℕ)
@@ -47,6 +47,7 @@ relay-or-none port to limit rounds end reads none = record {
   no_copy = λ capacity prefix is.
       (let all : five ≡ codes "copy" ∷ decimal capacity ∷ bytes_word prefix ∷ [] = is.words_are in cc);
   no_unframe = λ is. (let all : five ≡ codes "unframe" ∷ [] = is in cc);
+  no_tasks = many-no-tasks (codes "relay") port (to ∷ limit ∷ rounds ∷ []);
   no_relay = λ plan is. no-plan plan is plan.to refl is.to is.words_are;
 }
   where
@@ -76,28 +77,32 @@ pub relay-ends : (ts tk : Bool) (words : List (List ℕ)) (command : Command) (p
     (kept : Option Kept) (status : Status) →
     ReadsCommand words (Some command) → IsRelay words plan → CommandEnds ts tk command source sink kept status →
     RelaysFor tk plan.rounds sink status
-relay-ends ts tk words (Run c) plan source sink kept status reads relay ends = absurd (not-run-relay words c plan reads relay)
-relay-ends ts tk words Ready plan source sink kept status reads relay ends = absurd (not-ready-relay words plan reads relay)
+relay-ends ts tk words (Run c) plan source sink kept status reads relay ends =
+    absurd (few-no-relay plan reads.words_are (omega arith) relay)
+relay-ends ts tk words Ready plan source sink kept status reads relay ends = absurd (few-no-relay plan reads (omega arith) relay)
 relay-ends ts tk words (Generate s r) plan source sink kept status reads relay ends =
-    absurd (not-generate-relay words s r plan reads relay)
+    absurd (few-no-relay plan reads.words_are (omega arith) relay)
 relay-ends ts tk words (Trace s r) plan source sink kept status reads relay ends = absurd (not-trace-relay words s r plan reads relay)
-relay-ends ts tk words (Wake s c) plan source sink kept status reads relay ends = absurd (not-wake-relay words s c plan reads relay)
+relay-ends ts tk words (Wake s c) plan source sink kept status reads relay ends =
+    absurd (few-no-relay plan reads.words_are (omega arith) relay)
 relay-ends ts tk words (Copy c word) plan source sink kept status reads relay ends =
-    absurd (not-copy-relay words c reads.prefix plan reads.is_copy relay)
-relay-ends ts tk words Unframe plan source sink kept status reads relay ends = absurd (not-unframe-relay words plan reads relay)
+    absurd (few-no-relay plan reads.is_copy.words_are (omega arith) relay)
+relay-ends ts tk words Unframe plan source sink kept status reads relay ends = absurd (few-no-relay plan reads (omega arith) relay)
+relay-ends ts tk words Tasks plan source sink kept status reads relay ends = absurd (few-no-relay plan reads (omega arith) relay)
 relay-ends ts tk words (Relay p) plan source sink kept status reads relay ends =
     subst (λ rounds. RelaysFor tk rounds sink status) (same-relayed words p plan reads relay) ends
 
 -- A command of a relay reads nothing, and keeps nothing.
 pub relay-nothing : (words : List (List ℕ)) (command : Command) (plan : Plan) → ReadsCommand words (Some command) →
     IsRelay words plan → ReadsNothing command × KeepsNothing command
-relay-nothing words (Run c) plan reads relay = absurd (not-run-relay words c plan reads relay)
-relay-nothing words Ready plan reads relay = absurd (not-ready-relay words plan reads relay)
-relay-nothing words (Generate s r) plan reads relay = absurd (not-generate-relay words s r plan reads relay)
+relay-nothing words (Run c) plan reads relay = absurd (few-no-relay plan reads.words_are (omega arith) relay)
+relay-nothing words Ready plan reads relay = absurd (few-no-relay plan reads (omega arith) relay)
+relay-nothing words (Generate s r) plan reads relay = absurd (few-no-relay plan reads.words_are (omega arith) relay)
 relay-nothing words (Trace s r) plan reads relay = (tt, tt)
 relay-nothing words (Wake s c) plan reads relay = (tt, tt)
-relay-nothing words (Copy c word) plan reads relay = absurd (not-copy-relay words c reads.prefix plan reads.is_copy relay)
-relay-nothing words Unframe plan reads relay = absurd (not-unframe-relay words plan reads relay)
+relay-nothing words (Copy c word) plan reads relay = absurd (few-no-relay plan reads.is_copy.words_are (omega arith) relay)
+relay-nothing words Unframe plan reads relay = absurd (few-no-relay plan reads (omega arith) relay)
+relay-nothing words Tasks plan reads relay = absurd (few-no-relay plan reads (omega arith) relay)
 relay-nothing words (Relay p) plan reads relay = (tt, tt)
 
 -- A command of other words doesn't use the object.
@@ -110,7 +115,21 @@ other-unused words (Trace s r) reads other = tt
 other-unused words (Wake s c) reads other = tt
 other-unused words (Copy c word) reads other = tt
 other-unused words Unframe reads other = tt
+other-unused words Tasks reads other = tt
 other-unused words (Relay plan) reads other = absurd (other plan reads)
+
+-- A command of a relay uses the object.
+pub relay-uses : (words : List (List ℕ)) (command : Command) (plan : Plan) → ReadsCommand words (Some command) →
+    IsRelay words plan → UsesNoNet command → ⊥
+relay-uses words (Run c) plan reads relay none = few-no-relay plan reads.words_are (omega arith) relay
+relay-uses words Ready plan reads relay none = few-no-relay plan reads (omega arith) relay
+relay-uses words (Generate s r) plan reads relay none = few-no-relay plan reads.words_are (omega arith) relay
+relay-uses words (Trace s r) plan reads relay none = not-trace-relay words s r plan reads relay
+relay-uses words (Wake s c) plan reads relay none = few-no-relay plan reads.words_are (omega arith) relay
+relay-uses words (Copy c word) plan reads relay none = few-no-relay plan reads.is_copy.words_are (omega arith) relay
+relay-uses words Unframe plan reads relay none = few-no-relay plan reads (omega arith) relay
+relay-uses words Tasks plan reads relay none = few-no-relay plan reads (omega arith) relay
+relay-uses words (Relay p) plan reads relay none = none
 
 -- What a relay has done is what every command has done, where nothing was read.
 pub relay-status : (ts tk : Bool) (rounds : ℕ) (source : Reading) (sink : Writing) (status : Status) → source.rest ≡ source.left →

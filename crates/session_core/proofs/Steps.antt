@@ -231,6 +231,7 @@ pub steps-unexecuted : (old new : Session) (L : Ledger) (place : ℕ) (told : To
 steps-unexecuted old new L place told ExecRefusal.NotFlying result stands tokens cause_is driver answer =
     subst (λ r. StepsFor L (Exec place told) new r) (sym answer)
     (answers-refused old new L (Exec place told) NotFlying stands cause_is driver tokens)
+steps-unexecuted old new L place told ExecRefusal.Waiting result stands tokens cause_is driver answer = absurd cause_is
 steps-unexecuted old new L place told ExecRefusal.BadOutcome result stands tokens cause_is driver answer =
     subst (λ r. StepsFor L (Exec place told) new r) (sym answer)
     (answers-refused old new L (Exec place told) BadOutcome stands cause_is driver tokens)

@@ -1,25 +1,27 @@
 -- Which line a command names.
-use Rattle.std.proofs.Common.{◌≡◌, inl, inr, ℕ, Bool, IsTrue, List, Option, Some, None, sym, subst}
+use Rattle.std.proofs.Common.{◌≡◌, inl, inr, ℕ, Bool, IsTrue, List, Option, Some, None, sym, subst, arith}
 use Rattle.std.specs.Prelude.{Result, Ok, Err}
 use Rattle.ring_core.specs.declared.ledger.Event.{Event}
 use Rattle.ring_core.specs.Ledger.{Ledger, empty}
 use Rattle.rent_io.specs.Call.{Reading, Writing}
 use Rattle.session_core.specs.declared.command.Command.{Command}
-use Rattle.session_core.specs.declared.command.Command.TheVariants.{Run, Ready, Generate, Trace, Wake, Copy, Unframe, Relay}
+use Rattle.session_core.specs.declared.command.Command.TheVariants.{Run, Ready, Generate, Trace, Wake, Copy, Unframe, Relay, Tasks}
 use Rattle.session_core.specs.declared.input.NoEvents.{NoEvents}
 use Rattle.session_core.specs.declared.top.Status.{Status}
 use Rattle.session_core.specs.declared.top.Status.TheVariants.{Done, BadWords, BadLine, TooLong}
 use Rattle.session_core.specs.declared.top.Status.TheVariants.{ReadFault, WriteFault, OutOfMemory, NetFault, BadFrame}
 use Rattle.session_core.specs.declared.top.Stop.{Stop}
-use Rattle.session_core.specs.Command.{IsRun, IsReady, ReadsCommand}
+use Rattle.session_core.specs.Command.{IsRun, IsReady, ReadsCommand, IsTasks}
 use Rattle.session_core.specs.DriverKind.{DriverKind, completion, readiness}
 use Rattle.session_core.specs.Reads.{WhyUnread}
+use Rattle.session_core.specs.Tasking.{TasksStop}
 use Rattle.session_core.specs.Stops.{CommandStops, EventsStop, ReadStops, ResultStops, RunStops}
 use Rattle.session_core.specs.Top.{WasRead}
 use Rattle.session_core.specs.Writes.{RefusesFor}
 use Rattle.session_core.proofs.Commands.{same-capacity, not-both, not-run-generate, not-run-copy, not-run-ready, not-generate-ready}
 use Rattle.session_core.proofs.Commands.{not-wake-ready, not-copy-ready, not-run-unframe, not-ready-unframe, trace-alone}
-use Rattle.session_core.proofs.RelayWords.{not-ready-relay, not-run-relay}
+use Rattle.session_core.proofs.RelayWords.{few-no-relay}
+use Rattle.session_core.proofs.TaskWords.{tasks-alone, tasks-are}
 
 -- Where no bytes were given, no line was looked at.
 pub unread-stops : (driver : DriverKind) (tells : Bool) (left rest : List ℕ) (faults later : ℕ) (stop : Option Stop) (why : NoEvents) →
@@ -81,7 +83,8 @@ run-stops ts tk words (Copy c word) capacity source sink stop status reads run s
     absurd (not-run-copy words capacity c reads.prefix run reads.is_copy)
 run-stops ts tk words Unframe capacity source sink stop status reads run stops = absurd (not-run-unframe words capacity run reads)
 run-stops ts tk words (Relay plan) capacity source sink stop status reads run stops =
-    absurd (not-run-relay words capacity plan run reads)
+    absurd (few-no-relay plan run.words_are (omega arith) reads)
+run-stops ts tk words Tasks capacity source sink stop status reads run stops = absurd (tasks-alone words (Run capacity) reads run)
 
 -- The same of `ready`.
 pub ready-stops : (ts tk : Bool) (words : List (List ℕ)) (command : Command) (capacity : ℕ) (source : Reading) (sink : Writing)
@@ -97,17 +100,27 @@ ready-stops ts tk words (Copy c word) capacity source sink stop status reads rea
     absurd (not-copy-ready words c reads.prefix reads.is_copy ready)
 ready-stops ts tk words Unframe capacity source sink stop status reads ready stops = absurd (not-ready-unframe words ready reads)
 ready-stops ts tk words (Relay plan) capacity source sink stop status reads ready stops =
-    absurd (not-ready-relay words plan ready reads)
+    absurd (few-no-relay plan ready (omega arith) reads)
+ready-stops ts tk words Tasks capacity source sink stop status reads ready stops = absurd (tasks-alone words Ready reads ready)
+
+-- The same of `tasks`.
+pub tasks-stops : (ts tk : Bool) (words : List (List ℕ)) (command : Command) (source : Reading) (sink : Writing)
+    (stop : Option Stop) (status : Status) → ReadsCommand words (Some command) → IsTasks words →
+    CommandStops ts tk command source sink stop status → TasksStop ts source stop status
+tasks-stops ts tk words command source sink stop status reads tasks stops =
+    subst (λ c. CommandStops ts tk c source sink stop status) (tasks-are words command reads tasks) stops
 
 -- A command of other words names no line.
 pub none-stops : (ts tk : Bool) (words : List (List ℕ)) (command : Command) (source : Reading) (sink : Writing) (stop : Option Stop)
     (status : Status) → ReadsCommand words (Some command) → ((capacity : ℕ) → IsRun words capacity → ⊥) → (IsReady words → ⊥) →
+    (IsTasks words → ⊥) →
     CommandStops ts tk command source sink stop status → stop ≡ None
-none-stops ts tk words (Run c) source sink stop status reads no_run no_ready stops = absurd (no_run c reads)
-none-stops ts tk words Ready source sink stop status reads no_run no_ready stops = absurd (no_ready reads)
-none-stops ts tk words (Generate s r) source sink stop status reads no_run no_ready stops = stops
-none-stops ts tk words (Trace s r) source sink stop status reads no_run no_ready stops = stops
-none-stops ts tk words (Wake s c) source sink stop status reads no_run no_ready stops = stops
-none-stops ts tk words (Copy c word) source sink stop status reads no_run no_ready stops = stops
-none-stops ts tk words Unframe source sink stop status reads no_run no_ready stops = stops
-none-stops ts tk words (Relay plan) source sink stop status reads no_run no_ready stops = stops
+none-stops ts tk words (Run c) source sink stop status reads no_run no_ready no_tasks stops = absurd (no_run c reads)
+none-stops ts tk words Ready source sink stop status reads no_run no_ready no_tasks stops = absurd (no_ready reads)
+none-stops ts tk words (Generate s r) source sink stop status reads no_run no_ready no_tasks stops = stops
+none-stops ts tk words (Trace s r) source sink stop status reads no_run no_ready no_tasks stops = stops
+none-stops ts tk words (Wake s c) source sink stop status reads no_run no_ready no_tasks stops = stops
+none-stops ts tk words (Copy c word) source sink stop status reads no_run no_ready no_tasks stops = stops
+none-stops ts tk words Unframe source sink stop status reads no_run no_ready no_tasks stops = stops
+none-stops ts tk words (Relay plan) source sink stop status reads no_run no_ready no_tasks stops = stops
+none-stops ts tk words Tasks source sink stop status reads no_run no_ready no_tasks stops = absurd (no_tasks reads)

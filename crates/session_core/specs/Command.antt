@@ -3,7 +3,7 @@ use Rattle.std.specs.Prelude.{ℕ, ◌≡◌, ◌≤◌, List, [], ◌∷◌, Op
 use Rattle.session_core.specs.declared.command.TheConstants.{MOST_CAPACITY, MOST_COUNT, MOST_ENTRIES, MOST_PORT, MOST_ROUNDS, MOST_SEED}
 use Rattle.session_core.specs.declared.command.TheConstants.{MOST_SENDERS}
 use Rattle.session_core.specs.declared.command.Command.{Command}
-use Rattle.session_core.specs.declared.command.Command.TheVariants.{Run, Ready, Generate, Trace, Wake, Copy, Unframe, Relay}
+use Rattle.session_core.specs.declared.command.Command.TheVariants.{Run, Ready, Generate, Trace, Wake, Copy, Unframe, Relay, Tasks}
 use Rattle.relay_run.specs.declared.plan.Plan.{Plan}
 use Rattle.relay_run.specs.declared.plan.TheConstants.{MOST_LIMIT, MOST_RELAY_ROUNDS}
 use Rattle.event_text.specs.TextWords.{AreBytes}
@@ -75,6 +75,10 @@ pub record IsRelay (words : List (List ℕ)) (plan : Plan) : Type 0 where
   pub small : plan.rounds ≤ MOST_RELAY_ROUNDS
   pub words_are : words ≡ relay_words plan.to plan.port plan.limit plan.rounds
 
+-- The words are `tasks`.
+abbrev pub IsTasks : List (List ℕ) → Type 0
+IsTasks words = words ≡ codes "tasks" ∷ []
+
 -- The words are no command's.
 pub record IsNoCommand (words : List (List ℕ)) : Type 0 where
   pub no_run : (capacity : ℕ) → IsRun words capacity → ⊥
@@ -85,6 +89,7 @@ pub record IsNoCommand (words : List (List ℕ)) : Type 0 where
   pub no_copy : (capacity : ℕ) (prefix : List ℕ) → IsCopy words capacity prefix → ⊥
   pub no_unframe : IsUnframe words → ⊥
   pub no_relay : (plan : Plan) → IsRelay words plan → ⊥
+  pub no_tasks : IsTasks words → ⊥
 
 -- The word is a capacity.
 pub record IsCapacity (word : List ℕ) (capacity : ℕ) : Type 0 where
@@ -168,6 +173,7 @@ ReadsCommand words (Some (Wake senders count)) = IsWake words senders count
 ReadsCommand words (Some (Copy capacity word)) = IsCopyOf words capacity word.now
 ReadsCommand words (Some Unframe) = IsUnframe words
 ReadsCommand words (Some (Relay plan)) = IsRelay words plan
+ReadsCommand words (Some Tasks) = IsTasks words
 
 -- The numbers of a command are within its bounds, and the word of a prefix writes one.
 abbrev pub IsWithin : Command → Type 0
@@ -179,6 +185,7 @@ IsWithin (Wake senders count) = senders ≤ MOST_SENDERS
 IsWithin (Copy capacity word) = IsSome (bytes_of word.now)
 IsWithin Unframe = ⊤
 IsWithin (Relay plan) = (plan.limit ≤ MOST_LIMIT) × (plan.rounds ≤ MOST_RELAY_ROUNDS)
+IsWithin Tasks = ⊤
 
 -- The command reads no input.
 abbrev pub ReadsNothing : Command → Type 0
@@ -190,6 +197,7 @@ ReadsNothing (Wake senders count) = ⊤
 ReadsNothing (Copy capacity word) = ⊥
 ReadsNothing Unframe = ⊥
 ReadsNothing (Relay plan) = ⊤
+ReadsNothing Tasks = ⊥
 
 -- The command keeps nothing.
 abbrev pub KeepsNothing : Command → Type 0
@@ -201,6 +209,7 @@ KeepsNothing (Wake senders count) = ⊤
 KeepsNothing (Copy capacity word) = ⊤
 KeepsNothing Unframe = ⊤
 KeepsNothing (Relay plan) = ⊤
+KeepsNothing Tasks = ⊤
 
 -- The command doesn't use the object that listens and dials.
 abbrev pub UsesNoNet : Command → Type 0

@@ -6,7 +6,8 @@ use Rattle.event_text.specs.TextLines.{lines, AreEventsFor}
 use Rattle.session_core.specs.declared.input.TheConstants.{MOST_INPUT}
 use Rattle.session_core.specs.declared.top.Status.{Status}
 use Rattle.session_core.specs.declared.top.Status.TheVariants.{Done, OutOfMemory, BadFrame}
-use Rattle.session_core.specs.Command.{RunsOn, IsGenerate, IsTrace, IsWake, IsCopy}
+use Rattle.session_core.specs.Command.{RunsOn, IsGenerate, IsTasks, IsTrace, IsWake, IsCopy}
+use Rattle.task_run.specs.Tasks.{AreRight}
 use Rattle.session_core.specs.DriverKind.{DriverKind, StandsOn}
 
 -- An input of no more bytes than it may have, each of whose lines stands for an event that a driver takes.
@@ -14,13 +15,19 @@ pub record HoldsEvents (driver : DriverKind) (left : List ℕ) : Type 0 where
   pub within : length left ≤ MOST_INPUT
   pub right : AreEventsFor (StandsOn driver) (lines left)
 
--- The words are a command, and the source tells an input that the command takes: `run` and `ready` the lines of events, `copy` any bytes
--- that aren't too many. `gen` and `wake` read nothing, so that they take any.
+-- An input of no more bytes than it may have, each of whose lines writes bytes.
+pub record HoldsTasks (left : List ℕ) : Type 0 where
+  pub within : length left ≤ MOST_INPUT
+  pub right : AreRight left (length (lines left))
+
+-- The words are a command, and the source tells an input that the command takes: `run` and `ready` the lines of events, `tasks`
+-- lines of bytes, `copy` any bytes that aren't too many. `gen` and `wake` read nothing, so that they take any.
 pub data TakesInput (tells : Bool) (words : List (List ℕ)) (left : List ℕ) : Type 0 where
   of_events : (driver : DriverKind) → RunsOn driver words → IsTrue tells → HoldsEvents driver left → TakesInput tells words left
   of_generate : (seed rounds : ℕ) → IsGenerate words seed rounds → TakesInput tells words left
   of_trace : (seed rounds : ℕ) → IsTrace words seed rounds → TakesInput tells words left
   of_wake : (senders count : ℕ) → IsWake words senders count → TakesInput tells words left
+  of_tasks : IsTasks words → IsTrue tells → HoldsTasks left → TakesInput tells words left
   of_copy : (capacity : ℕ) (prefix : List ℕ) → IsCopy words capacity prefix → IsTrue tells → length left ≤ MOST_INPUT
       → TakesInput tells words left
 

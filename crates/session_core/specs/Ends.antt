@@ -17,7 +17,7 @@ use Rattle.session_core.specs.declared.input.TheConstants.{MOST_INPUT}
 use Rattle.session_core.specs.declared.top.Kept.{Kept}
 use Rattle.session_core.specs.declared.command.Command.{Command}
 use Rattle.session_core.specs.declared.command.Command.TheVariants.{Run as RunOf, Ready as ReadyOf, Generate, Trace, Wake, Copy}
-use Rattle.session_core.specs.declared.command.Command.TheVariants.{Unframe, Relay}
+use Rattle.session_core.specs.declared.command.Command.TheVariants.{Unframe, Relay, Tasks}
 use Rattle.session_core.specs.Command.{RunsOn}
 use Rattle.session_core.specs.DriverKind.{DriverKind, completion, readiness, replies_on, after_on, KeepsRun, KeepsReady}
 use Rattle.session_core.specs.Generated.{generated_events}
@@ -26,12 +26,9 @@ use Rattle.session_core.specs.Top.{EventsDone, LineRefused, NoLineWrong, TookToo
 use Rattle.session_core.specs.Top.{TookFew, WakesFor, reply_lines}
 use Rattle.session_core.specs.Relays.{RelaysFor}
 use Rattle.session_core.specs.Trace.{TracesFor}
+use Rattle.session_core.specs.Tasking.{TasksFor}
+pub use Rattle.session_core.specs.Low.{NoFaults, RanLow}
 use Rattle.session_core.specs.Writes.{WroteShort}
-
--- No count of faults rose, as far as the source and the sink tell it.
-pub record NoFaults (tells_source tells_sink : Bool) (source : Reading) (sink : Writing) : Type 0 where
-  pub read : IsTrue tells_source → source.later ≡ source.faults
-  pub wrote : IsTrue tells_sink → sink.later ≡ sink.faults
 
 -- Memory ran out, and nothing gives another status: no more was taken than the input may have, no line that could be looked at is
 -- wrong, and no count of faults rose.
@@ -147,11 +144,7 @@ CommandEnds tells_source tells_sink (Copy capacity word) source sink kept status
     (prefix : List ℕ) → bytes_of word.now ≡ Some prefix → CopiesFor tells_source tells_sink prefix source sink status
 CommandEnds tells_source tells_sink Unframe source sink kept status = UnframesFor tells_source tells_sink source sink status
 CommandEnds tells_source tells_sink (Relay plan) source sink kept status = RelaysFor tells_sink plan.rounds sink status
-
--- Memory ran out: no more was taken than the input may have, and no count of faults rose.
-pub record RanLow (tells_source tells_sink : Bool) (source : Reading) (sink : Writing) : Type 0 where
-  pub few : IsTrue tells_source → TookFew source.left source.rest
-  pub calm : NoFaults tells_source tells_sink source sink
+CommandEnds tells_source tells_sink Tasks source sink kept status = TasksFor tells_source tells_sink source sink status
 
 -- What every command has done, by the status, but for its lines: which of them is wrong depends on the command.
 abbrev pub StatusFor : Bool → Bool → Reading → Writing → Status → Type 0

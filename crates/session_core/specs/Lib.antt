@@ -7,6 +7,8 @@ pub mod Generated
 pub mod Top
 pub mod Reads
 pub mod Writes
+pub mod Low
+pub mod Tasking
 pub mod Ends
 pub mod Complete
 pub mod Stops

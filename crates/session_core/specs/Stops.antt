@@ -6,7 +6,7 @@ use Rattle.ring_core.specs.Ledger.{Ledger, empty}
 use Rattle.rent_io.specs.Call.{Reading, Writing}
 use Rattle.event_text.specs.TextLines.{lines, IsFirstWrongFor}
 use Rattle.session_core.specs.declared.command.Command.{Command}
-use Rattle.session_core.specs.declared.command.Command.TheVariants.{Run as RunOf, Ready as ReadyOf}
+use Rattle.session_core.specs.declared.command.Command.TheVariants.{Run as RunOf, Ready as ReadyOf, Tasks}
 use Rattle.session_core.specs.declared.input.NoEvents.{NoEvents}
 use Rattle.session_core.specs.declared.output.Unwritten.{Unwritten}
 use Rattle.session_core.specs.declared.top.Status.{Status}
@@ -14,6 +14,7 @@ use Rattle.session_core.specs.declared.top.Status.TheVariants.{BadLine, WriteFau
 use Rattle.session_core.specs.declared.top.Stop.{Stop}
 use Rattle.session_core.specs.declared.top.Stop.TheVariants.{Wrong, Short}
 use Rattle.session_core.specs.DriverKind.{DriverKind, StandsOn, completion, readiness, replies_on}
+use Rattle.session_core.specs.Tasking.{TasksStop}
 use Rattle.session_core.specs.Top.{WasRead, WrotePrefix, reply_lines}
 use Rattle.session_core.specs.Writes.{Wrote}
 
@@ -68,6 +69,7 @@ CommandStops tells_source tells_sink (RunOf capacity) source sink stop status =
     EventsStop completion tells_source tells_sink (empty capacity) source sink stop status
 CommandStops tells_source tells_sink ReadyOf source sink stop status =
     (capacity : ℕ) → EventsStop readiness tells_source tells_sink (empty capacity) source sink stop status
+CommandStops tells_source tells_sink Tasks source sink stop status = TasksStop tells_source source stop status
 CommandStops tells_source tells_sink _ source sink stop status = stop ≡ None
 
 -- Which line is named where a source gave no events.

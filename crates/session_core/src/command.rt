@@ -46,6 +46,8 @@ pub enum Command<'a> {
     Unframe,
     /// `echo PORT CONNECTIONS ROUNDS` and `relay PORT TO CONNECTIONS ROUNDS`: makes the rounds of a relay that listens on a port.
     Relay(Plan),
+    /// `tasks`: runs a job for each line of bytes that is read, and writes what they are done with.
+    Tasks,
 }
 
 /// The command that words write; `None` if they write none. Numbers have no sign and no leading zero. (not in monoio)
@@ -73,7 +75,7 @@ pub fn command_of(words: &[String]) -> Option<Command<'_>>
     }
 }
 
-// The command of one word: `ready` or `unframe`.
+// The command of one word: `ready`, `unframe` or `tasks`.
 fn single_of<'a>(name: &str) -> Option<Command<'a>>
     ensures { ReadsCommand (name.now ∷ []) result }
 {
@@ -82,6 +84,9 @@ fn single_of<'a>(name: &str) -> Option<Command<'a>>
     }
     if name == "unframe" {
         return Some(Command::Unframe);
+    }
+    if name == "tasks" {
+        return Some(Command::Tasks);
     }
     None
 }

@@ -61,8 +61,8 @@ pub(crate) fn read_input<M: Stepping, S: ByteSource>(
     }
 }
 
-// All that a source gives.
-fn read_all<S: ByteSource>(alloc: Global, source: &mut S) -> Result<Vec<u8>, NoEvents>
+/// All that a source gives.
+pub(crate) fn read_all<S: ByteSource>(alloc: Global, source: &mut S) -> Result<Vec<u8>, NoEvents>
     ensures read { IfOk result (λ text. IsTrue S.tells → IsAll (S.left source.old) (S.left source.new) text.items) }
     ensures calm { OnOk result (IsTrue S.tells → S.faults source.new ≡ S.faults source.old) }
     ensures why { (driver : DriverKind) → IfErr result (WhyUnread driver S.tells (S.left source.old) (S.left source.new)

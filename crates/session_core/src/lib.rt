@@ -8,6 +8,7 @@ mod output;
 mod relays;
 pub mod session;
 mod stepping;
+mod tasks;
 pub mod top;
 mod trace;
 pub mod usage;

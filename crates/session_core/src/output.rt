@@ -8,10 +8,11 @@ ghost use Rattle.session_core.specs.DriverKind.{StandsOn, after_on, replies_on};
 ghost use Rattle.event_text.specs.TextReply.{reply_text};
 ghost use Rattle.session_core.specs.Top.{ended, reply_lines};
 ghost use Rattle.session_core.specs.Stops.{CutsFor, CutStops};
-ghost use Rattle.session_core.specs.Writes.{Sent, WhyUnwritten, WritesAll};
+ghost use Rattle.session_core.specs.Writes.{RefusesFor, Sent, WhyUnwritten, WritesAll};
 
+use crate::input::NoEvents;
 use crate::stepping::Stepping;
-use crate::top::Stop;
+use crate::top::{Status, Stop};
 use event_text::{first_line, write_reply};
 use itoa::Buffer;
 use rent_buf::OutOfMemory;
@@ -194,4 +195,19 @@ fn write_all<K: ByteSink>(bytes: &[u8], sink: &mut K) -> Result<(), Failed>
         rest = &rest[count..];
     }
     Ok(())
+}
+
+/// Ends a command that has no text to run; only a wrong line is written.
+pub(crate) fn refuse<K: ByteSink>(why: NoEvents, sink: &mut K) -> Status
+    ensures { RefusesFor K.tells (K.taken sink.old) (K.taken sink.new) (K.faults sink.old) (K.faults sink.new) result why }
+{
+    match why {
+        NoEvents::BadLine(line) => match write_number(b"line ", line, sink) {
+            Ok(()) => Status::BadLine,
+            Err(_) => Status::WriteFault,
+        },
+        NoEvents::TooLong => Status::TooLong,
+        NoEvents::Fault => Status::ReadFault,
+        NoEvents::OutOfMemory => Status::OutOfMemory,
+    }
 }

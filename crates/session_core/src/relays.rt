@@ -1,5 +1,5 @@
 //! The commands `echo` and `relay`.
-ghost use Rattle.std.specs.Prelude.{◌≡◌, ◌≤◌};
+ghost use Rattle.std.specs.Prelude.{◌≡◌, ◌≤◌, ◌<◌};
 ghost use Rattle.ring_core.specs.Counts.{Rose};
 ghost use Rattle.relay_run.specs.declared.plan.TheConstants.{MOST_LIMIT, MOST_RELAY_ROUNDS};
 ghost use Rattle.session_core.specs.Ends.{writing};
@@ -26,6 +26,7 @@ pub(crate) fn run_relay<R: Wait + Clock, K: ByteSink, N: Sockets>(
     requires rounds { plan.rounds ≤ MOST_RELAY_ROUNDS }
     ensures relays { RelaysFor K.tells plan.rounds (writing K.taken K.faults K.is_flushed sink.old sink.new) result }
     ensures net_fault { result ≡ Status.NetFault → Rose (N.view net.old).faults (N.view net.new).faults }
+    ensures listens { result ≡ Status.Done → (N.view net.old).made < (N.view net.new).made }
 {
     match relay_all(rt, alloc, plan, net) {
         Relayed::Closed(count) => match write_number(b"closed ", count, sink) {

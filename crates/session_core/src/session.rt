@@ -395,13 +395,13 @@ fn executed_reply(executed: Executed) -> Reply
     }
 }
 
-// The answer to an execution that was refused.
+// The answer to an execution that was refused. The session links nothing, so nothing waits in it.
 fn refused_execution(why: ExecRefusal) -> Result<Reply, OutOfMemory>
     ensures { AnswersRefusal why result }
 {
     match why {
         ExecRefusal::NotFlying => Ok(Reply::Refused(Refusal::NotFlying)),
-        ExecRefusal::BadOutcome => Ok(Reply::Refused(Refusal::BadOutcome)),
+        ExecRefusal::Waiting | ExecRefusal::BadOutcome => Ok(Reply::Refused(Refusal::BadOutcome)),
         ExecRefusal::OutOfMemory => Err(OutOfMemory),
     }
 }

@@ -7,28 +7,29 @@ ghost use Rattle.ring_core.specs.Run.{ledger};
 ghost use Rattle.session_core.specs.Session.{SessionStands};
 ghost use Rattle.ring_core.specs.Counts.{Rose};
 ghost use Rattle.session_core.specs.Command.{IsRun, IsReady, IsGenerate, IsTrace, IsWake, IsCopy};
-ghost use Rattle.session_core.specs.Command.{IsNoCommand, IsRelay, IsUnframe, IsWithin, KeepsNothing, ReadsNothing, UsesNoNet};
+ghost use Rattle.session_core.specs.Command.{IsNoCommand, IsRelay, IsTasks, IsUnframe, IsWithin, KeepsNothing, ReadsNothing, UsesNoNet};
 ghost use Rattle.session_core.specs.DriverKind.{StandsOn, completion, readiness};
 ghost use Rattle.session_core.specs.Generated.{generated_events};
 ghost use Rattle.session_core.specs.Top.{SumsFor, TookTooMany, WakesFor, exit_number, summary_text};
 ghost use Rattle.event_text.specs.TextLines.{AreEventsFor, lines};
 ghost use Rattle.event_text.specs.TextReads.{bytes_of};
-ghost use Rattle.session_core.specs.Writes.{RefusesFor};
 ghost use Rattle.session_core.specs.Ends.{CommandEnds, CommandRefused, CopiesFor, EventsGive, RanShort, ReadyEnds, RunEnds, RunsGive};
 ghost use Rattle.session_core.specs.Ends.{SinkEnds, StatusFor, UnframesFor, reading, writing};
 ghost use Rattle.session_core.specs.Complete.{IsDoneOrShort, IsReadOrShort, NoneRose, TakesInput};
 ghost use Rattle.session_core.specs.Stops.{CommandStops, EventsStop, ResultStops, RunStops};
 ghost use Rattle.session_core.specs.Relays.{RelaysFor};
+ghost use Rattle.session_core.specs.Tasking.{TasksFor, TasksStop};
 ghost use Rattle.session_core.specs.Trace.{TracesFor};
 ghost use Rattle.relay_run.specs.declared.plan.Plan.{Plan as Planned};
 
 use crate::command::{Command, MOST_SENDERS, command_of};
 use crate::generated::{ENTRIES, generated, run_counted};
-use crate::input::{MOST_INPUT, NoEvents, read_input};
-use crate::output::{Unwritten, write_last, write_number, write_replies};
+use crate::input::{MOST_INPUT, read_input};
+use crate::output::{Unwritten, refuse, write_last, write_number, write_replies};
 use crate::relays::run_relay;
 use crate::session::Session;
 use crate::stepping::Stepping;
+use crate::tasks::run_tasks;
 use crate::trace::run_trace;
 use crate::wake::wake_all;
 use copy_run::{Ending, copy_all};
@@ -53,18 +54,19 @@ pub enum Status {
     Done,
     /// The words are no command's. Nothing was read or written.
     BadWords,
-    /// The whole input was read, and a line of it is no event's text. Nothing was run, and `line N` was written.
+    /// The whole input was read, and a line of it is no event's text, or under `tasks` no bytes' word. Nothing was run, and `line N` was
+    /// written.
     BadLine,
-    /// More than 16777216 bytes were read. `run` and `ready` have written nothing, `copy` only the first of its prefix and its input,
-    /// and `unframe` only the lines of the first messages.
+    /// More than 16777216 bytes were read. `run`, `ready` and `tasks` have written nothing, `copy` only the first of its prefix and its
+    /// input, and `unframe` only the lines of the first messages.
     TooLong,
-    /// The source failed. `run` and `ready` have written nothing, `copy` only the first of its prefix and what it read, and `unframe`
-    /// only the lines of the first messages.
+    /// The source failed. `run`, `ready` and `tasks` have written nothing, `copy` only the first of its prefix and what it read, and
+    /// `unframe` only the lines of the first messages.
     ReadFault,
     /// The sink failed. A prefix of the text was written.
     WriteFault,
-    /// Memory ran out, and nothing that was seen gives another status. A prefix of the text may have been written; by `echo` and `relay`
-    /// nothing, which end so also where no number was left for a handle.
+    /// Memory ran out, and nothing that was seen gives another status. A prefix of the text may have been written; by `echo`,
+    /// `relay` and `tasks` nothing, which end so also where no number was left for a handle.
     OutOfMemory,
     /// The object of `echo` and `relay` failed where it was to listen, or in a round: its count of faults rose. Nothing was written.
     NetFault,
@@ -110,7 +112,8 @@ impl Drop for Kept {
 /// At which line a command stopped. (not in monoio)
 #[derive(Debug, Drop)]
 pub enum Stop {
-    /// The line of this number, counted from 1, is the first of this text, the input, that stands for no event that the command takes.
+    /// The line of this number, counted from 1, is the first of this text, the input, that stands for no event that the command takes, or
+    /// that writes no bytes, under `tasks`.
     Wrong(u64, ByteList),
     /// The line of this number stands for no event, and this is its text.
     Line(u64, ByteList),
@@ -128,8 +131,10 @@ pub enum Stop {
 /// `message C HEX` for each message, with its channel and its bytes; at a wrong piece it writes `bad OFFSET NAME`, and ends with
 /// BadFrame. `echo PORT CONNECTIONS ROUNDS` and `relay PORT TO CONNECTIONS ROUNDS` read nothing: they listen with `net` on `PORT`, make so
 /// many rounds of a relay, each of which waits a millisecond at most, and write `closed N` for the connections that the rounds closed; what
-/// comes goes back, or to `TO`. The condition is that nothing is kept yet. Afterwards `stop` names the line of `run` or `ready` that is
-/// wrong, or at which memory ran out; it is `None` where there is none. (not in monoio)
+/// comes goes back, or to `TO`. `tasks` reads lines of bytes, in hexadecimal digits, sends each through a pipe of its own as a job of an
+/// executor, which makes 16 turns at most, and writes `task T HEX` for each job that is done, `task T err TEXT` for one that failed, and
+/// `left N`. The condition is that nothing is kept yet. Afterwards `stop` names the line of `run`, `ready` or `tasks` that is wrong, or the
+/// one of `run` or `ready` at which memory ran out; it is `None` where there is none. (not in monoio)
 pub fn top<R: Threads + Wait + Clock + Sync, S: ByteSource, K: ByteSink, N: Sockets>(
     rt: &R,
     alloc: Global,
@@ -162,6 +167,9 @@ pub fn top<R: Threads + Wait + Clock + Sync, S: ByteSource, K: ByteSink, N: Sock
     ensures unframes { IsUnframe (map string_bytes words.now) →
         UnframesFor S.tells K.tells (reading S.left S.faults source.old source.new)
         (writing K.taken K.faults K.is_flushed sink.old sink.new) result }
+    ensures tasks { IsTasks (map string_bytes words.now) →
+        TasksFor S.tells K.tells (reading S.left S.faults source.old source.new)
+        (writing K.taken K.faults K.is_flushed sink.old sink.new) result }
 
     ensures traces { (seed rounds : ℕ) → IsTrace (map string_bytes words.now) seed rounds →
         TracesFor K.tells (generated_events seed rounds) (K.taken sink.old) (K.taken sink.new) result }
@@ -175,11 +183,13 @@ pub fn top<R: Threads + Wait + Clock + Sync, S: ByteSource, K: ByteSink, N: Sock
     ensures stops_ready { IsReady (map string_bytes words.now) → (capacity : ℕ) →
         EventsStop readiness S.tells K.tells (empty capacity) (reading S.left S.faults source.old source.new)
         (writing K.taken K.faults K.is_flushed sink.old sink.new) stop.new result }
+    ensures stops_tasks { IsTasks (map string_bytes words.now) →
+        TasksStop S.tells (reading S.left S.faults source.old source.new) stop.new result }
     ensures stops_none { ((capacity : ℕ) → IsRun (map string_bytes words.now) capacity → ⊥) →
-        (IsReady (map string_bytes words.now) → ⊥) → stop.new ≡ None }
+        (IsReady (map string_bytes words.now) → ⊥) → (IsTasks (map string_bytes words.now) → ⊥) → stop.new ≡ None }
 
     // `gen`, `wake`, `echo` and `relay` read nothing. Only Done keeps something, and `gen` with `--events`, `wake`, `copy`, `unframe`,
-    // `echo` and `relay` keep nothing.
+    // `echo`, `relay` and `tasks` keep nothing.
     ensures unread_sums { (seed rounds : ℕ) → IsGenerate (map string_bytes words.now) seed rounds → source.new ≡ source.old }
     ensures unread_wakes { (senders count : ℕ) → IsWake (map string_bytes words.now) senders count → (source.new ≡ source.old) ×
         (kept.new ≡ None) }
@@ -189,13 +199,15 @@ pub fn top<R: Threads + Wait + Clock + Sync, S: ByteSource, K: ByteSink, N: Sock
     ensures unkept_unframes { IsUnframe (map string_bytes words.now) → kept.new ≡ None }
     ensures unread_relays { (plan : Planned) → IsRelay (map string_bytes words.now) plan → (source.new ≡ source.old) ×
         (kept.new ≡ None) }
+    ensures unkept_tasks { IsTasks (map string_bytes words.now) → kept.new ≡ None }
     ensures kept { (result ≡ Status.Done → ⊥) → kept.new ≡ None }
 
     // Done means that the sink is flushed. Each other status has its cause, whatever the command; `copy` and `unframe` alone write before
-    // all is read, and `unframe` reads no lines.
+    // all is read. `unframe` reads no lines, and `tasks` no lines of events: what is wrong with these is in their own clauses.
     ensures flushed { result ≡ Status.Done → IsTrue (K.is_flushed sink.new) }
-    ensures bad_line { result ≡ Status.BadLine → CommandRefused (map string_bytes words.now) S.tells K.tells (S.left source.old)
-        (S.left source.new) (K.taken sink.old) (K.taken sink.new) }
+    ensures bad_line { (IsTasks (map string_bytes words.now) → ⊥) → result ≡ Status.BadLine →
+        CommandRefused (map string_bytes words.now) S.tells K.tells (S.left source.old) (S.left source.new) (K.taken sink.old)
+        (K.taken sink.new) }
     ensures too_long { result ≡ Status.TooLong → IsTrue S.tells → TookTooMany (S.left source.old) (S.left source.new) }
     ensures read_fault { result ≡ Status.ReadFault → Rose (S.faults source.old) (S.faults source.new) }
     ensures write_fault { result ≡ Status.WriteFault → Rose (K.faults sink.old) (K.faults sink.new) }
@@ -205,8 +217,12 @@ pub fn top<R: Threads + Wait + Clock + Sync, S: ByteSource, K: ByteSink, N: Sock
     ensures bad_frame { result ≡ Status.BadFrame → IsUnframe (map string_bytes words.now) }
     // Only `echo` and `relay` use the object.
     ensures net_fault { result ≡ Status.NetFault → Rose (N.view net.old).faults (N.view net.new).faults }
+    // A run of them that is done has listened: the object's count of handles rose.
+    ensures listens { (plan : Planned) → IsRelay (map string_bytes words.now) plan → result ≡ Status.Done →
+        (N.view net.old).made < (N.view net.new).made }
     ensures unused_net { ((plan : Planned) → IsRelay (map string_bytes words.now) plan → ⊥) → net.new ≡ net.old }
-    ensures memory { (IsUnframe (map string_bytes words.now) → ⊥) → result ≡ Status.OutOfMemory →
+    ensures memory { (IsUnframe (map string_bytes words.now) → ⊥) → (IsTasks (map string_bytes words.now) → ⊥) →
+        result ≡ Status.OutOfMemory →
         RanShort completion S.tells K.tells (reading S.left S.faults source.old source.new)
         (writing K.taken K.faults K.is_flushed sink.old sink.new) }
 
@@ -255,6 +271,7 @@ fn run_command<R: Threads + Wait + Clock + Sync, S: ByteSource, K: ByteSink, N: 
         (writing K.taken K.faults K.is_flushed sink.old sink.new) stop.new result }
     ensures net_fault { result ≡ Status.NetFault → Rose (N.view net.old).faults (N.view net.new).faults }
     ensures unused { UsesNoNet command.entry → net.new ≡ net.old }
+    ensures listens { (UsesNoNet command.entry → ⊥) → result ≡ Status.Done → (N.view net.old).made < (N.view net.new).made }
 {
     match command {
         Command::Run(capacity) => run_lines(alloc, capacity, source, sink, kept, stop),
@@ -265,6 +282,7 @@ fn run_command<R: Threads + Wait + Clock + Sync, S: ByteSource, K: ByteSink, N: 
         Command::Copy(capacity, word) => run_copy(alloc, capacity, word, source, sink),
         Command::Unframe => run_unframe(rt, alloc, source, sink),
         Command::Relay(plan) => run_relay(rt, alloc, plan, sink, net),
+        Command::Tasks => run_tasks(alloc, source, sink, stop),
     }
 }
 
@@ -340,21 +358,6 @@ fn run_session<M: Stepping + Drop, S: ByteSource, K: ByteSink>(
     match read_input::<M, S>(alloc, source, stop) {
         Ok(text) => run_events(alloc, session, text.as_slice(), sink, stop),
         Err(why) => Err(refuse(why, sink)),
-    }
-}
-
-// Ends a command that has no events to run; only a wrong line is written.
-fn refuse<K: ByteSink>(why: NoEvents, sink: &mut K) -> Status
-    ensures { RefusesFor K.tells (K.taken sink.old) (K.taken sink.new) (K.faults sink.old) (K.faults sink.new) result why }
-{
-    match why {
-        NoEvents::BadLine(line) => match write_number(b"line ", line, sink) {
-            Ok(()) => Status::BadLine,
-            Err(_) => Status::WriteFault,
-        },
-        NoEvents::TooLong => Status::TooLong,
-        NoEvents::Fault => Status::ReadFault,
-        NoEvents::OutOfMemory => Status::OutOfMemory,
     }
 }
 

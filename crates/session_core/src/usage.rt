@@ -22,6 +22,7 @@ usage: session_run run CAP [-i]
        session_run relay PORT TO CONNECTIONS ROUNDS
        session_run unframe
        session_run frame
+       session_run tasks
        session_run --help
        session_run --version
 
@@ -61,6 +62,9 @@ unframe              reads pieces of messages from standard input, and writes
 frame                reads lines of a channel's number and bytes in hexadecimal
                      digits (- for none), and writes the pieces of these
                      messages
+tasks                reads lines of bytes in hexadecimal digits (- for none),
+                     sends each through a pipe in memory as a job of an executor,
+                     and writes what each job received, and how many are left
 
 exit status: 0 success; 1 invalid command line; 2 invalid line, whose number
 is printed; 3 more than 16777216 bytes of input; 4 reading failed; 5 writing
@@ -188,9 +192,22 @@ fn tell_line<R: Eprint>(rt: &R, known: &Known<'_>) -> io::Result<()> {
         Some(Stop::Line(number, text)) => (*number, text.as_slice()),
         _ => return eprintln!(rt; "session_run: a line is no event"),
     };
+    if is_tasks(known.words) {
+        return eprintln!(rt;
+            "session_run: line {number}: expected bytes: pairs of the digits 0-9a-f, or '-' for none"
+        );
+    }
     match complaint_of(line, known.words) {
         Some(complaint) => eprintln!(rt; "session_run: line {number}, {complaint}"),
         None => eprintln!(rt; "session_run: line {number} is no event"),
+    }
+}
+
+// The words are those of `tasks`.
+fn is_tasks(words: &[String]) -> bool {
+    match words {
+        [word] => word.as_str() == "tasks",
+        _ => false,
     }
 }
 

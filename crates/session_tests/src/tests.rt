@@ -9,6 +9,7 @@ mod rows;
 mod senders;
 mod sessions;
 mod standard;
+mod tasks;
 pub(crate) mod text;
 mod usage;
 mod words;

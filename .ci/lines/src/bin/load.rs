@@ -1,11 +1,11 @@
 //! The clients of a line server, on one thread, and a check of each byte that they are answered.
 //!
-//!     load PORT [CONNECTIONS [LINES [LENGTH [TOGETHER]]]]
+//!     load PORT [CONNECTIONS [LINES [LENGTH [TOGETHER [SPINS [ECHO]]]]]]
 //!
 //! CONNECTIONS connections (64) are opened first. Then each sends LINES lines (1000) of LENGTH bytes and a newline (80), in requests of TOGETHER
 //! lines (1): a request is sent when the one before has been answered. With 1, a line goes and comes; with 16, sixteen lines are under way. When
 //! a connection has its last answer it ends its stream, and waits for the server's end. It prints how many lines there were, and how long they
-//! took, from the first request to the last end.
+//! took, from the first request to the last end. Where ECHO is 1, each line is to come back as it was sent.
 
 use mio::net::TcpStream;
 use mio::{Events, Interest, Poll, Token};
@@ -46,7 +46,7 @@ struct Connection {
 }
 
 // Letters of both cases, digits and signs, always the same.
-fn make_requests(length: usize, together: usize) -> Vec<Request> {
+fn make_requests(length: usize, together: usize, is_echo: bool) -> Vec<Request> {
     let alphabet = b"abcdefghijklmnopqrstuvwxyzabcdefghijklmnopqrstuvwxyzABCDEFGH0123456789 .,:;@[`{~";
     let size = together * (length + 1);
     let mut state = 0x9e37_79b9_7f4a_7c15_u64;
@@ -62,7 +62,7 @@ fn make_requests(length: usize, together: usize) -> Vec<Request> {
                 }
                 says.push(b'\n');
             }
-            let answer = says.to_ascii_uppercase();
+            let answer = if is_echo { says.clone() } else { says.to_ascii_uppercase() };
             Request { says, answer }
         })
         .collect()
@@ -126,7 +126,7 @@ fn main() -> io::Result<()> {
     let words: Vec<usize> = env::args().skip(1).map(|word| word.parse().unwrap()).collect();
     let word = |at: usize, otherwise: usize| words.get(at).copied().unwrap_or(otherwise);
     if words.is_empty() {
-        eprintln!("usage: load PORT [CONNECTIONS [LINES [LENGTH [TOGETHER [SPINS]]]]]");
+        eprintln!("usage: load PORT [CONNECTIONS [LINES [LENGTH [TOGETHER [SPINS [ECHO]]]]]]");
         exit(2);
     }
     let port = word(0, 0) as u16;
@@ -136,7 +136,7 @@ fn main() -> io::Result<()> {
     let patience = if word(5, 0) != 0 { Duration::ZERO } else { PATIENCE };
     let count = lines.div_ceil(together);
     let load = Load {
-        requests: make_requests(length, together),
+        requests: make_requests(length, together, word(6, 0) != 0),
         count,
         last: (lines - together * count.saturating_sub(1)) * (length + 1),
     };

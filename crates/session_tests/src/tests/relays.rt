@@ -6,7 +6,7 @@ use rent_buf::Buf;
 use session_core::Status;
 use socket_io::MioIo;
 use std::alloc::Global;
-use std::io::{self, Read, Write};
+use std::io::{self, Read as _, Write};
 use std::net::{Ipv4Addr, Net, Shutdown, SocketAddr, TcpListener, TcpStream};
 use std::sync::Wait;
 use std::sync::ledger::Ledger;

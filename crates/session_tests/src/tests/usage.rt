@@ -184,7 +184,7 @@ fn the_system_s_reason_is_told(rt: HostRuntime) -> Result<(), Fail> {
 
 // The lines of the help.
 #[rattlefmt::skip]
-const LINES: [&str; 56] = [
+const LINES: [&str; 60] = [
     "Runs an I/O engine with owned buffers on events that it reads.",
     "",
     "usage: session_run run CAP [-i]",
@@ -197,6 +197,7 @@ const LINES: [&str; 56] = [
     "       session_run relay PORT TO CONNECTIONS ROUNDS",
     "       session_run unframe",
     "       session_run frame",
+    "       session_run tasks",
     "       session_run --help",
     "       session_run --version",
     "",
@@ -236,6 +237,9 @@ const LINES: [&str; 56] = [
     "frame                reads lines of a channel's number and bytes in hexadecimal",
     "                     digits (- for none), and writes the pieces of these",
     "                     messages",
+    "tasks                reads lines of bytes in hexadecimal digits (- for none),",
+    "                     sends each through a pipe in memory as a job of an executor,",
+    "                     and writes what each job received, and how many are left",
     "",
     "exit status: 0 success; 1 invalid command line; 2 invalid line, whose number",
     "is printed; 3 more than 16777216 bytes of input; 4 reading failed; 5 writing",

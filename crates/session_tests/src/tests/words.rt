@@ -55,7 +55,7 @@ fn faults(rt: HostRuntime) {
 
 // The same of `gen` and `wake`, which read nothing, and of words that are no command's.
 #[rattlefmt::skip]
-const WORDS: [Case; 31] = [
+const WORDS: [Case; 33] = [
     ("gen 1 5", "", None, None, Status::Done, "events 36 refused 1 ready 4;"),
     ("gen 0 0", "", None, None, Status::Done, "events 1 refused 0 ready 0;"),
     ("gen 2147483647 0", "", None, None, Status::Done, "events 1 refused 0 ready 0;"),
@@ -76,6 +76,8 @@ const WORDS: [Case; 31] = [
     ("ready 4", "", None, None, Status::BadWords, ""),
     ("unframe 4", "", None, None, Status::BadWords, ""),
     ("Unframe", "", None, None, Status::BadWords, ""),
+    ("tasks 4", "", None, None, Status::BadWords, ""),
+    ("Tasks", "", None, None, Status::BadWords, ""),
     ("Ready", "", None, None, Status::BadWords, ""),
     ("Run 4", "", None, None, Status::BadWords, ""),
     ("wake 2 3", "", None, None, Status::Done, "drained 6;"),

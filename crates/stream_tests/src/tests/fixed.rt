@@ -1,7 +1,7 @@
 // Reads into buffers of fixed length.
 use crate::tests::base::{Why, are_bytes, is_like, is_well, list_of, made, nums_of, stream};
 use rent_buf::{ByteList, FixedVec};
-use rent_io::{AsyncBufRead, AsyncReadRent, MemSource, PollBuf, PollCount, SourceStream};
+use rent_io::{AsyncBufRead as _, AsyncReadRent, MemSource, PollBuf, PollCount, SourceStream};
 use std::alloc::Global;
 use std::test::Fail;
 use stream_util::{BufReader, BufWriter, Duplex, PrefixedReadIo};

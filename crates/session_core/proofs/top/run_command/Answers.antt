@@ -4,6 +4,7 @@ use Rattle.session_core.specs.DriverKind.{completion, readiness, KeepsRun, Keeps
 use Rattle.session_core.proofs.Endings.{ends-status}
 use Rattle.session_core.proofs.Framing.{unframe-status}
 use Rattle.session_core.proofs.Relaying.{relay-status}
+use Rattle.session_core.proofs.Tasking.{tasks-status}
 use Rattle.session_core.proofs.top.run_command.Goals as goal
 
 pub returns-in-Run-clause-status : goal.returns-in-Run-clause-status
@@ -28,3 +29,6 @@ returns-in-Ready-clause-net_fault g c = λ is.
     (reading g.S.ByteSource.left g.S.ByteSource.faults c.args.source.now c.run_ready.new.source)
     (writing g.K.ByteSink.taken g.K.ByteSink.faults g.K.ByteSink.is_flushed c.args.sink.now c.run_ready.new.sink) c.run_ready.new.kept
     status) is (c.run_ready.ensures.ends 0))
+
+pub returns-in-Tasks-clause-status : goal.returns-in-Tasks-clause-status
+returns-in-Tasks-clause-status g c = tasks-status g.S.ByteSource.tells g.K.ByteSink.tells _ _ _ c.run_tasks.ensures.ends

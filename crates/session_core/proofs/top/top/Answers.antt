@@ -1,10 +1,11 @@
 use Rattle.std.proofs.Common.{ap}
-use Rattle.session_core.proofs.Commands.{reads-nothing, generate-nothing, trace-nothing, wake-keeps, copy-keeps, unframe-keeps}
+use Rattle.session_core.proofs.Commands.{reads-nothing, generate-nothing, trace-nothing, wake-keeps, copy-keeps, unframe-keeps, tasks-keeps}
 use Rattle.session_core.proofs.Endings.{run-ends, ready-ends, sum-ends, trace-ends, wake-ends, copy-ends, line-refused, written-late}
 use Rattle.session_core.proofs.Completing.{command-complete, input-taken}
 use Rattle.session_core.proofs.Framing.{frame-refused, ran-short-of, unframe-complete, unframe-ends}
-use Rattle.session_core.proofs.Relaying.{other-unused, relay-complete, relay-ends, relay-nothing}
-use Rattle.session_core.proofs.Stopping.{run-stops, ready-stops, none-stops}
+use Rattle.session_core.proofs.Relaying.{other-unused, relay-complete, relay-ends, relay-nothing, relay-uses}
+use Rattle.session_core.proofs.Stopping.{run-stops, ready-stops, tasks-stops, none-stops}
+use Rattle.session_core.proofs.Tasking.{tasks-ends}
 use Rattle.session_core.proofs.top.top.Goals as goal
 
 pub returns-in-Some-clause-runs : goal.returns-in-Some-clause-runs
@@ -17,8 +18,8 @@ returns-in-Some-clause-readies g c = λ ready capacity.
     c.run_command.ensures.ends
 
 pub returns-in-Some-clause-bad_line : goal.returns-in-Some-clause-bad_line
-returns-in-Some-clause-bad_line g c = λ is.
-    line-refused g.S.ByteSource.tells g.K.ByteSink.tells _ c.in-Some.command _ _ _ _ c.in-Some.ensures c.run_command.ensures.ends is
+returns-in-Some-clause-bad_line g c = λ other is.
+    line-refused g.S.ByteSource.tells g.K.ByteSink.tells _ c.in-Some.command _ _ _ _ c.in-Some.ensures c.run_command.ensures.ends is other
 
 pub returns-in-Some-clause-sums : goal.returns-in-Some-clause-sums
 returns-in-Some-clause-sums g c = λ seed rounds gen.
@@ -67,9 +68,9 @@ returns-in-Some-clause-bad_frame g c = λ is.
     frame-refused g.S.ByteSource.tells g.K.ByteSink.tells _ c.in-Some.command _ _ _ _ c.in-Some.ensures c.run_command.ensures.ends is
 
 pub returns-in-Some-clause-memory : goal.returns-in-Some-clause-memory
-returns-in-Some-clause-memory g c = λ other is.
+returns-in-Some-clause-memory g c = λ other apart is.
     ran-short-of g.S.ByteSource.tells g.K.ByteSink.tells _ c.in-Some.command _ _ _ _ c.in-Some.ensures c.run_command.ensures.ends
-    c.run_command.ensures.status (λ none. ap g.S.ByteSource.left (c.run_command.ensures.unread none)) other is
+    c.run_command.ensures.status (λ none. ap g.S.ByteSource.left (c.run_command.ensures.unread none)) other apart is
 
 pub returns-in-Some-clause-complete_unframes : goal.returns-in-Some-clause-complete_unframes
 returns-in-Some-clause-complete_unframes g c = λ unframe told few calm.
@@ -108,8 +109,8 @@ returns-in-Some-clause-stops_ready g c = λ ready capacity.
     c.run_command.ensures.stops
 
 pub returns-in-Some-clause-stops_none : goal.returns-in-Some-clause-stops_none
-returns-in-Some-clause-stops_none g c = λ no_run no_ready.
-    none-stops g.S.ByteSource.tells g.K.ByteSink.tells _ c.in-Some.command _ _ _ _ c.in-Some.ensures no_run no_ready
+returns-in-Some-clause-stops_none g c = λ no_run no_ready no_tasks.
+    none-stops g.S.ByteSource.tells g.K.ByteSink.tells _ c.in-Some.command _ _ _ _ c.in-Some.ensures no_run no_ready no_tasks
     c.run_command.ensures.stops
 
 pub returns-in-Some-clause-relays : goal.returns-in-Some-clause-relays
@@ -132,3 +133,22 @@ returns-in-Some-clause-complete_relays g c = λ plan relay calm still.
 
 pub returns-in-None-clause-complete_relays : goal.returns-in-None-clause-complete_relays
 returns-in-None-clause-complete_relays g c = λ plan relay calm still. absurd (c.in-None.ensures.no_relay plan relay)
+
+pub returns-in-Some-clause-tasks : goal.returns-in-Some-clause-tasks
+returns-in-Some-clause-tasks g c = λ tasks.
+    tasks-ends g.S.ByteSource.tells g.K.ByteSink.tells _ c.in-Some.command _ _ _ _ c.in-Some.ensures tasks c.run_command.ensures.ends
+
+pub returns-in-Some-clause-unkept_tasks : goal.returns-in-Some-clause-unkept_tasks
+returns-in-Some-clause-unkept_tasks g c = λ tasks.
+    c.run_command.ensures.unkept (tasks-keeps _ c.in-Some.command c.in-Some.ensures tasks)
+
+pub returns-in-Some-clause-stops_tasks : goal.returns-in-Some-clause-stops_tasks
+returns-in-Some-clause-stops_tasks g c = λ tasks.
+    tasks-stops g.S.ByteSource.tells g.K.ByteSink.tells _ c.in-Some.command _ _ _ _ c.in-Some.ensures tasks c.run_command.ensures.stops
+
+pub returns-in-Some-clause-listens : goal.returns-in-Some-clause-listens
+returns-in-Some-clause-listens g c = λ plan relay done.
+    c.run_command.ensures.listens (relay-uses _ c.in-Some.command plan c.in-Some.ensures relay) done
+
+pub returns-in-None-clause-listens : goal.returns-in-None-clause-listens
+returns-in-None-clause-listens g c = λ plan relay done. absurd (c.in-None.ensures.no_relay plan relay)
