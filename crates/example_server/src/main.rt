@@ -22,7 +22,7 @@ use wake_core::with_senders;
 
 // For how many milliseconds a connection of the trial may be idle, and how many may be open.
 const TRIAL: Limits = Limits {
-    idle: 2000,
+    idle: 5000,
     most: 100,
 };
 

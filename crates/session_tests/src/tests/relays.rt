@@ -112,11 +112,11 @@ impl<'a, R: Wait + Clock + Net<Stream = TcpStream>> Work for Echoing<'a, R> {
     ) -> io::Result<bool> {
         let Echoing { rt, alloc } = self;
         let mut sleeper = sleeper;
-        let Some(relay) = echo_on(rt, alloc, 40018) else {
+        let Some(relay) = echo_on(rt, alloc, 21018) else {
             return Ok(false);
         };
         let mut relay = relay;
-        let mut client = dial(rt, 40018)?;
+        let mut client = dial(rt, 21018)?;
         client.write_all(b"hello")?;
         client.shutdown(Shutdown::Write)?;
         if !until_closed(rt, &mut relay, &mut sleeper) {
@@ -138,16 +138,16 @@ fn a_client_in_the_same_thread_is_echoed(rt: HostRuntime) -> Result<(), Fail> {
 
 // The program echoes one client, which closes its connection.
 fn serve<R: Threads + Wait + Net + Clock + Sync>(rt: &R, alloc: Global) -> bool {
-    let call = calm("echo 40020 1 4000", b"");
+    let call = calm("echo 21020 1 4000", b"");
     match run_over(rt, alloc, call, MioIo::new(rt, alloc)) {
         Ok(ran) => is_like(&ran, Status::Done, b"closed 1\n").is_ok(),
         Err(_) => false,
     }
 }
 
-// Dials until the program listens.
+// Dials until the program listens, for twenty seconds at least. (Its port is below those that Linux gives to connections.)
 fn dial_until<R: Net + Clock>(rt: &R, port: u16) -> io::Result<R::Stream> {
-    for _ in 0..1000 {
+    for _ in 0..20000 {
         if let Ok(stream) = dial(rt, port) {
             return Ok(stream);
         }
@@ -158,7 +158,7 @@ fn dial_until<R: Net + Clock>(rt: &R, port: u16) -> io::Result<R::Stream> {
 
 // Sends a text, receives it again, and closes.
 fn talk<R: Net<Stream = TcpStream> + Clock>(rt: &R) -> io::Result<bool> {
-    let mut client = dial_until(rt, 40020)?;
+    let mut client = dial_until(rt, 21020)?;
     client.write_all(b"hello")?;
     let mut came = [0; 5];
     client.read_exact(&mut came)?;
