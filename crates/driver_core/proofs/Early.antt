@@ -1,10 +1,11 @@
 -- Ledgers whose queue is of operations that weren't executed, and where operations come from once it was taken.
-use Rattle.std.proofs.Common.{◌≡◌, inl, inr, ℕ, ◌≤◌, Bool, true, false, List, [], ◌∷◌, length, map, Some, refl, sym}
+use Rattle.std.proofs.Common.{◌≡◌, inl, inr, ℕ, ◌≤◌, Bool, true, false, List, [], ◌∷◌, length, map, Some, refl, sym, Option, None}
 use Rattle.std.proofs.Common.{◌∙◌, ap, arith, subst, if◌then◌else◌}
 use Rattle.std.specs.Prelude.{slice_get, ◌==◌}
 use Rattle.ring_core.specs.Lists.{amended, passes}
 use Rattle.ring_core.specs.Ledger.{Ledger, Operation, Place, InQueue, InFlight, InDone, Reaped, Gone, Queued, Req, Cancel}
-use Rattle.ring_core.specs.Queue.{at_place, canceled_at, with_cancel, take_one, take_each, take_all, push, push_each}
+use Rattle.ring_core.specs.Queue.{at_place, canceled_at, with_take, with_cancel, take_one, leader_behind, take_behind, take_each, take_all, push}
+use Rattle.ring_core.specs.Queue.{push_each}
 use Rattle.ring_core.specs.Closes.{made_at}
 use Rattle.ring_core.proofs.Amended.{changed-cases, there-before}
 use Rattle.ring_core.proofs.Making.{From, OpsFrom, ops_from-then, ops_from-same}
@@ -72,19 +73,25 @@ from-change L M n change ops owners comes = record {
 }
 
 -- One entry taken.
-from-take_one : (L : Ledger) (entry : Queued) → AreEarly L.ops (entry ∷ []) → OpsFrom L (take_one L entry)
-from-take_one L (Req n) h = from-change L (take_one L (Req n)) n (at_place InFlight) refl refl (λ o there.
+from-take_one : (leader : Option ℕ) (L : Ledger) (entry : Queued) → AreEarly L.ops (entry ∷ []) → OpsFrom L (take_one leader L entry)
+from-take_one leader L (Req n) h = from-change L (take_one leader L (Req n)) n (with_take leader) refl refl (λ o there.
     let early = h.early 0 n o refl there in
     record { request = refl; made = refl; live = λ l. early-live o early; place = λ l. sym (early-made o.place early) })
-from-take_one L (Cancel n) h = from-change L (take_one L (Cancel n)) n with_cancel refl refl (λ o there. from-canceled o.place o)
-from-take_one L (Queued.Close k) h = record { users = λ h is. is; ops = (ops_from-same L).ops }
+from-take_one leader L (Cancel n) h =
+    from-change L (take_one leader L (Cancel n)) n with_cancel refl refl (λ o there. from-canceled o.place o)
+from-take_one leader L (Queued.Close k) h = record { users = λ h is. is; ops = (ops_from-same L).ops }
+
+-- Entries taken, whatever the first of them follows.
+from-take_behind : (leader : Option ℕ) (L : Ledger) (entries : List Queued) → AreEarly L.ops entries →
+    OpsFrom L (take_behind leader L entries)
+from-take_behind leader L [] h = ops_from-same L
+from-take_behind leader L (entry ∷ entries) h =
+    ops_from-then (from-take_one leader L entry (early-first L.ops entry entries h))
+    (from-take_behind (leader_behind L entry) (take_one leader L entry) entries (early-take_one leader L entry entries h))
 
 -- Entries taken.
 pub from-take_each : (L : Ledger) (entries : List Queued) → AreEarly L.ops entries → OpsFrom L (take_each L entries)
-from-take_each L [] h = ops_from-same L
-from-take_each L (entry ∷ entries) h =
-    ops_from-then (from-take_one L entry (early-first L.ops entry entries h))
-    (from-take_each (take_one L entry) entries (early-take_one L entry entries h))
+from-take_each L entries h = from-take_behind None L entries h
 
 -- An entry pushed.
 pub from-push : (L : Ledger) (entry : Queued) → AreEarly L.ops L.queue → OpsFrom L (push L entry)

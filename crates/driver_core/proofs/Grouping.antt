@@ -1,5 +1,5 @@
 -- What calls leave of groups that stand for those of a ledger.
-use Rattle.std.proofs.Common.{◌≡◌, ◌≢◌, ◌⊎◌, inl, inr, ℕ, ◌<◌, true, false, [], ◌∷◌, ◌++◌, length, Option, Some}
+use Rattle.std.proofs.Common.{◌≡◌, ◌≢◌, ◌⊎◌, inl, inr, ℕ, ◌<◌, true, false, [], ◌∷◌, ◌++◌, length, Option, Some, Bool}
 use Rattle.std.proofs.Common.{None, slice_get, IfSome, refl, sym, ◌∙◌, ap, subst, arith, nat_cmp}
 use Rattle.std.specs.FinMap as finite
 use Rattle.std.proofs.lemmas.Bool.{lt-leb}
@@ -142,11 +142,11 @@ under-group L None handle is = ap (group_under L) is
 under-group L (Some g) handle is = is
 
 -- That cancel handle was created.
-pub under-known : (L : Ledger) (request : Request Buffer Parts) (under handle : Option ℕ) → IsUnder L under handle →
-    has_no_canceller L (Submit request handle) ≡ false
-under-known L request under None is = refl
-under-known L request None (Some k) is = (let f : ⊥ = cc in absurd f)
-under-known L request (Some g) (Some k) is = lt-leb (length L.cancel_handles) k (slice_get_within L.cancel_handles k g is)
+pub under-known : (L : Ledger) (request : Request Buffer Parts) (under handle : Option ℕ) (linked : Bool) → IsUnder L under handle →
+    has_no_canceller L (Submit request handle linked) ≡ false
+under-known L request under None linked is = refl
+under-known L request None (Some k) linked is = (let f : ⊥ = cc in absurd f)
+under-known L request (Some g) (Some k) linked is = lt-leb (length L.cancel_handles) k (slice_get_within L.cancel_handles k g is)
 
 -- Where a new operation joins the group that it is submitted under, or none, they stand for those of the next ledger.
 module _ {B : Type 0} (buffer : B → Buffer) (old new : Ops B) (L M : Ledger) (m : Membership) (op : Op) (under : Option ℕ)

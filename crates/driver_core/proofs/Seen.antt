@@ -7,7 +7,8 @@ use Rattle.ring_core.specs.Request.{named}
 use Rattle.ring_core.specs.declared.request.Outcome.{Outcome}
 use Rattle.ring_core.specs.Ledger.{Ledger, Operation, Place, InQueue, InFlight, InDone, Reaped, Gone, Queued, Req, Cancel}
 use Rattle.ring_core.specs.Ledger.{is_kept, is_live, user_holds, with_made}
-use Rattle.ring_core.specs.Queue.{with_op, at_place, canceled_at, with_cancel, take_one, take_each, take_all, make_room, push, push_each}
+use Rattle.ring_core.specs.Queue.{with_op, canceled_at, with_take, with_cancel, take_one, leader_behind, take_behind, take_each}
+use Rattle.ring_core.specs.Queue.{take_all, make_room, push, push_each}
 use Rattle.ring_core.proofs.Amended.{changed-cases, joined-cases, there-before}
 use Rattle.ring_core.proofs.Taken.{queue-take_each}
 use Rattle.ring_core.proofs.Where.{where-kept}
@@ -139,35 +140,40 @@ canceled-alike (Reaped outcome) o = (record { request = refl; made = refl; live 
 canceled-alike Gone o = (record { request = refl; made = refl; live = refl }, refl)
 
 -- One entry taken.
-seen-take_one : (L : Ledger) (entry : Queued) → AreEarly L.ops (entry ∷ []) → SameSeen L (take_one L entry)
-seen-take_one L (Req n) h = record {
+seen-take_one : (leader : Option ℕ) (L : Ledger) (entry : Queued) → AreEarly L.ops (entry ∷ []) → SameSeen L (take_one leader L entry)
+seen-take_one leader L (Req n) h = record {
   users = λ k. refl;
-  ops = (seen-op L n (at_place InFlight) (λ o there.
+  ops = (seen-op L n (with_take leader) (λ o there.
       let early = h.early 0 n o refl there in record {
         request = refl;
         made = made-early o.dropped InFlight o.task refl ∙ sym (made-early o.dropped o.place o.task early);
         live = sym (early-live o early);
       })).ops;
 }
-seen-take_one L (Cancel n) h = seen-op L n with_cancel (λ o there. (canceled-alike o.place o).0)
-seen-take_one L (Queued.Close k) h = record { users = λ k. refl; ops = λ k. refl }
+seen-take_one leader L (Cancel n) h = seen-op L n with_cancel (λ o there. (canceled-alike o.place o).0)
+seen-take_one leader L (Queued.Close k) h = record { users = λ k. refl; ops = λ k. refl }
 
 -- One entry taken leaves the requests of the rest those of operations that weren't executed.
-pub early-take_one : (L : Ledger) (entry : Queued) (entries : List Queued) → AreEarly L.ops (entry ∷ entries) →
-    AreEarly (take_one L entry).ops entries
-early-take_one L (Req n) entries h =
-    early-changed L.ops entries n (at_place InFlight) (λ o is. refl) (record { early = λ place. h.early (suc place) })
-early-take_one L (Cancel n) entries h =
+pub early-take_one : (leader : Option ℕ) (L : Ledger) (entry : Queued) (entries : List Queued) → AreEarly L.ops (entry ∷ entries) →
+    AreEarly (take_one leader L entry).ops entries
+early-take_one leader L (Req n) entries h =
+    early-changed L.ops entries n (with_take leader) (λ o is. refl) (record { early = λ place. h.early (suc place) })
+early-take_one leader L (Cancel n) entries h =
     early-changed L.ops entries n with_cancel (λ o is. ap is_early (canceled-alike o.place o).1 ∙ is)
     (record { early = λ place. h.early (suc place) })
-early-take_one L (Queued.Close k) entries h = record { early = λ place. h.early (suc place) }
+early-take_one leader L (Queued.Close k) entries h = record { early = λ place. h.early (suc place) }
+
+-- Entries taken, whatever the first of them follows.
+seen-take_behind : (leader : Option ℕ) (L : Ledger) (entries : List Queued) → AreEarly L.ops entries →
+    SameSeen L (take_behind leader L entries)
+seen-take_behind leader L [] h = seen-own L
+seen-take_behind leader L (entry ∷ entries) h =
+    seen-then (seen-take_one leader L entry (early-first L.ops entry entries h))
+    (seen-take_behind (leader_behind L entry) (take_one leader L entry) entries (early-take_one leader L entry entries h))
 
 -- Entries taken.
 pub seen-take_each : (L : Ledger) (entries : List Queued) → AreEarly L.ops entries → SameSeen L (take_each L entries)
-seen-take_each L [] h = seen-own L
-seen-take_each L (entry ∷ entries) h =
-    seen-then (seen-take_one L entry (early-first L.ops entry entries h))
-    (seen-take_each (take_one L entry) entries (early-take_one L entry entries h))
+seen-take_each L entries h = seen-take_behind None L entries h
 
 -- The queue taken.
 pub seen-take_all : (L : Ledger) → AreEarly L.ops L.queue → SameSeen L (take_all L)

@@ -1,5 +1,5 @@
 -- What the calls of a driver answer, by the relation that says when it stands for a ledger: the same for every driver.
-use Rattle.std.specs.Prelude.{ℕ, ◌≡◌, List, length, Option, None, Some, slice_get}
+use Rattle.std.specs.Prelude.{ℕ, ◌≡◌, Bool, List, length, Option, None, Some, slice_get}
 use Rattle.rent_buf.specs.Buffer.{Buffer}
 use Rattle.rent_buf.specs.Parts.{Parts}
 use Rattle.ring_core.specs.declared.request.Request.{Request}
@@ -28,13 +28,14 @@ abbrev pub IsUnder : Ledger → Option ℕ → Option ℕ → Type 0
 IsUnder L None handle = handle ≡ None
 IsUnder L (Some group) handle = group_under L handle ≡ Some group
 
--- A submission got the machine's next number; under a canceled group what its request holds comes back, as the machine's reply has it.
-abbrev pub SubmitsFor : {D B : Type 0} → (D → Ledger → Type 0) → (B → Buffer) → Ledger → Request B Parts → Option ℕ → D → Submitted B →
-    Type 0
-SubmitsFor relation buffer L request handle new (Op op) =
-    Answers relation L (Submit (plain_request buffer request) handle) (Given (number_of op)) new
-SubmitsFor relation buffer L request handle new (Canceled back) =
-    Answers relation L (Submit (plain_request buffer request) handle) (CanceledAtOnce (held_of (plain_request buffer back))) new
+-- A submission, linked or not, got the machine's next number; under a canceled group what its request holds comes back, as the machine's
+-- reply has it.
+abbrev pub SubmitsFor : {D B : Type 0} → (D → Ledger → Type 0) → (B → Buffer) → Bool → Ledger → Request B Parts → Option ℕ → D →
+    Submitted B → Type 0
+SubmitsFor relation buffer linked L request handle new (Op op) =
+    Answers relation L (Submit (plain_request buffer request) handle linked) (Given (number_of op)) new
+SubmitsFor relation buffer linked L request handle new (Canceled back) =
+    Answers relation L (Submit (plain_request buffer request) handle linked) (CanceledAtOnce (held_of (plain_request buffer back))) new
 
 -- A new canceller is the machine's next one, and is of the machine's fresh group.
 pub record CancellerFor {D : Type 0} (relation : D → Ledger → Type 0) (L : Ledger) (group : ℕ) (new : D) : Type 0 where

@@ -39,9 +39,10 @@ use Rattle.ring_core.proofs.Listed.{make_room-ops, submit-joined, listed-changed
 use Rattle.ring_core.proofs.Ending.{listed-gone}
 use Rattle.ring_core.proofs.Turning.{Grows, grows-effect, owner-before}
 use Rattle.ring_core.proofs.Stepping.{step-refused, step-row, OwnedAt, found, executed-there, submitted-held}
-use Rattle.ring_core.proofs.Lawful.{Lawful, handed-there, lawful-step, lawful-ledger}
+use Rattle.ring_core.proofs.Lawful.{Lawful, handed-there, lawful-executed, lawful-step, lawful-ledger}
 use Rattle.ring_core.proofs.Making.{From, OpsFrom, ops_from-then, ops_from-same, ops_from-op, from-gone, ops_from-took, ops_from-push}
 use Rattle.ring_core.proofs.Making.{ops_from-closes, ops_from-cancels, ops_from-leave, ops_from-turn, ops_from-left}
+use Rattle.ring_core.proofs.Releasing.{ops_from-released}
 
 -- A test that can't pass fails.
 pub fails-by : (b : Bool) → (b ≡ true → ⊥) → b ≡ false
@@ -134,18 +135,18 @@ alone-new_op L o none queued names a = record {
         let f : None ≡ Some h = sym none ∙ ap (λ z. z.made) q ∙ made in cc
 
 -- A submission, under a marked group or not.
-alone-submit_if : (b : Bool) (L : Ledger) (request : Request Buffer Parts) (group : Option ℕ) →
+alone-submit_if : (b : Bool) (L : Ledger) (request : Request Buffer Parts) (group : Option ℕ) (linked : Bool) →
     ((h : ℕ) → has_number h (named request) ≡ true → user_holds L h ≡ true) → Listed L → MadeAlone L →
-    MadeAlone (submit_if b L request group).0
-alone-submit_if true L request group names lists a = a
-alone-submit_if false L request group names lists a =
+    MadeAlone (submit_if b L request group linked).0
+alone-submit_if true L request group linked names lists a = a
+alone-submit_if false L request group linked names lists a =
     let M : Ledger = make_room L in
-    let o : Operation = new_operation request group in
+    let o : Operation = new_operation request group linked in
     let owners = (stays-make_room L).owners in
     let room : OpsFrom L M = ops_from-took L M owners (λ n. make_room-ops L lists n) in
     let new = alone-new_op M o refl refl
     (λ h is. ap (λ os. passes (λ owner. owner.is_user) (slice_get os h)) owners ∙ names h is) (alone-from room a) in
-    subst MadeAlone (sym (submit-joined L request group lists))
+    subst MadeAlone (sym (submit-joined L request group linked lists))
     (record { agrees = new.agrees; users = new.users; others = new.others; makers = new.makers })
 
 -- The lists hold what the places say once a handle is handed over.
@@ -255,13 +256,15 @@ alone-exec : (L : Ledger) (place : ℕ) (told : Told) (item : Item) → slice_ge
 alone-exec L place told (Op m) there l a =
     let f = flying-there L place m l.lists there in
     let C : Ledger = complete_at L place (Op m) in
-    subst (λ x. MadeAlone (exec_op C m told x)) (sym f.1)
+    let E : Ledger = exec_op C m told (slice_get L.ops m) in
+    alone-from (ops_from-released told E m (lawful-executed L place told m there l).lists)
+    (subst (λ x. MadeAlone (exec_op C m told x)) (sym f.1)
     (alone-effect C m told (effect_of L f.0.request told) (grows-effect L.world (call_of f.0.request) (sent_of f.0.request) told)
     (λ o at. (let q : f.0 ≡ o = (let w = sym f.1 ∙ at in cc) in ap is_live (sym q) ∙ ap is_kept f.2))
     (λ h o at made. (
     let q : f.0 ≡ o = (let w = sym f.1 ∙ at in cc) in
     ap (λ z. makes z.request) (sym q) ∙ made-makes L.world f.0.request told h made))
-    (known-lists L L.queue C.flying C.done l.known) (record { agrees = a.agrees; users = a.users; others = a.others; makers = a.makers }))
+    (known-lists L L.queue C.flying C.done l.known) (record { agrees = a.agrees; users = a.users; others = a.others; makers = a.makers })))
 alone-exec L place told (Item.Close k) there l a = record { agrees = a.agrees; users = a.users; others = a.others; makers = a.makers }
 
 -- An operation that a task waits for.
@@ -309,8 +312,8 @@ alone-row L (Close h) u l a =
     let U : Ledger = with_user L h false in
     alone-from (ops_from-then (ops_from-left L h) (ops_from-close_if (is_unheld U h) U h
     (record { waiting = l.lists.waiting; flown = l.lists.flown; standing = l.lists.standing }))) a
-alone-row L (Submit request under) u l a =
-    alone-submit_if (is_under_marked L under) L request (group_under L under) (submitted-held L request under u) l.lists a
+alone-row L (Submit request under linked) u l a =
+    alone-submit_if (is_under_marked L under) L request (group_under L under) linked (submitted-held L request under linked u) l.lists a
 alone-row L (Poll n task) u l a =
     let f : OwnedAt L n = found L n u in
     subst (λ x. MadeAlone (poll_step L n task x).0) (sym f.there)

@@ -10,7 +10,8 @@ use Rattle.ring_core.specs.declared.entry.Flight.{Flight}
 use Rattle.ring_core.specs.Lists.{amended}
 use Rattle.ring_core.specs.Ranks.{kept, kept_first}
 use Rattle.ring_core.specs.Flights.{words_of}
-use Rattle.ring_core.specs.Bound.{completion_of, is_bound, bound_front, behind_bound, unbound, first_unbound, left_behind, taken_along, flying_left}
+use Rattle.ring_core.specs.Bound.{completion_of, is_bound, bound_front, behind_bound, unbound, first_unbound, left_behind, taken_along}
+use Rattle.ring_core.specs.Bound.{flying_left}
 use Rattle.ring_core.specs.Bound.{broken, IsTakenBound}
 
 -- A list without the element of a number, in parts.
@@ -71,7 +72,8 @@ unbound-parts (x ∷ xs) zero = refl
 unbound-parts (x ∷ xs) (suc n) = ap (λ ys. x ∷ ys) (unbound-parts xs n)
 
 -- Where the first entry isn't bound, none of the front is.
-pub none-bound : (xs : List Flight) (n : ℕ) → is_bound xs n ≡ false → (behind_bound (drop n xs) ≡ drop n xs) × (bound_front (drop n xs) ≡ [])
+pub none-bound : (xs : List Flight) (n : ℕ) → is_bound xs n ≡ false → (behind_bound (drop n xs) ≡ drop n xs)
+    × (bound_front (drop n xs) ≡ [])
 none-bound [] zero free = (refl, refl)
 none-bound [] (suc n) free = (refl, refl)
 none-bound (x ∷ xs) zero free = (

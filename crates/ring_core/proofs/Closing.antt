@@ -1,13 +1,13 @@
 -- What each change of a ledger makes of its closes, by how many there are of a handle; and that its handles stay known.
 use Rattle.std.proofs.Common.{◌≡◌, inl, inr, ℕ, ◌+◌, ◌<◌, Bool, true, false, List, [], ◌∷◌, length}
-use Rattle.std.proofs.Common.{None, Some, slice_get, refl, sym, ◌∙◌, ap, arith}
+use Rattle.std.proofs.Common.{Option, None, Some, slice_get, refl, sym, ◌∙◌, ap, arith}
 use Rattle.std.specs.Prelude.{if◌then◌else◌, ◌==◌}
 use Rattle.std.proofs.lemmas.List.{length-append}
 use Rattle.ring_core.specs.declared.world.HandleState.{HandleState}
 use Rattle.ring_core.specs.Lists.{amended, has_number}
 use Rattle.ring_core.specs.Request.{named}
 use Rattle.ring_core.specs.Ledger.{Ledger, Operation, with_made, holds, Queued, Req, Cancel, Item, Op}
-use Rattle.ring_core.specs.Queue.{with_op, take_one, take_each, take_all, make_room, push, push_each}
+use Rattle.ring_core.specs.Queue.{with_op, take_one, leader_behind, take_behind, take_each, take_all, make_room, push, push_each}
 use Rattle.ring_core.specs.Turn.{complete_at}
 use Rattle.ring_core.specs.Step.{new_owner, give_step, with_handle, as_user, with_user, with_new_op}
 use Rattle.ring_core.specs.Closes.{closes_queued, closes_listed, close_count, AreKnown}
@@ -16,17 +16,24 @@ use Rattle.ring_core.proofs.Taken.{queue-take_each, done-take_each}
 use Rattle.ring_core.proofs.Occurring.{closes_queued-append, closes_listed-append, closes_listed-remove}
 use Rattle.ring_core.proofs.Staying.{Stays, stays-at}
 
+-- Closes that are taken fly, whatever the first entry follows.
+closes-flown_behind : (leader : Option ℕ) (L : Ledger) (entries : List Queued) (h : ℕ) →
+    closes_listed h (take_behind leader L entries).flying ≡ closes_listed h L.flying + closes_queued h entries
+closes-flown_behind leader L [] h = omega arith
+closes-flown_behind leader L (Req n ∷ entries) h =
+    let r = closes-flown_behind (leader_behind L (Req n)) (take_one leader L (Req n)) entries h in
+    let a = closes_listed-append h L.flying (Op n ∷ []) in
+    omega arith
+closes-flown_behind leader L (Cancel n ∷ entries) h = closes-flown_behind None (take_one leader L (Cancel n)) entries h
+closes-flown_behind leader L (Queued.Close k ∷ entries) h =
+    let r = closes-flown_behind None (take_one leader L (Queued.Close k)) entries h in
+    let a = closes_listed-append h L.flying (Item.Close k ∷ []) in
+    omega arith
+
 -- Closes that are taken fly.
 pub closes-flown : (L : Ledger) (entries : List Queued) (h : ℕ) →
     closes_listed h (take_each L entries).flying ≡ closes_listed h L.flying + closes_queued h entries
-closes-flown L [] h = omega arith
-closes-flown L (Req n ∷ entries) h =
-    let r = closes-flown (take_one L (Req n)) entries h in let a = closes_listed-append h L.flying (Op n ∷ []) in omega arith
-closes-flown L (Cancel n ∷ entries) h = closes-flown (take_one L (Cancel n)) entries h
-closes-flown L (Queued.Close k ∷ entries) h =
-    let r = closes-flown (take_one L (Queued.Close k)) entries h in
-    let a = closes_listed-append h L.flying (Item.Close k ∷ []) in
-    omega arith
+closes-flown L entries h = closes-flown_behind None L entries h
 
 -- Taking leaves how many closes there are.
 pub count-take_all : (L : Ledger) (h : ℕ) → close_count (take_all L) h ≡ close_count L h

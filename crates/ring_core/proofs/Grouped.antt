@@ -150,12 +150,12 @@ under-there L None g a there = (let f : ⊥ = cc in absurd f)
 under-there L (Some handle) g a there = a.handles handle g there
 
 -- A submission, under a marked group or not.
-grouped-submit : (b : Bool) (L : Ledger) (request : Request Buffer Parts) (under : Option ℕ) → Grouped L →
-    Grouped (submit_if b L request (group_under L under)).0
-grouped-submit true L request under a = a
-grouped-submit false L request under a =
-    let s = groups-submit L request (group_under L under) in
-    let M : Ledger = submit_step L request (group_under L under) in
+grouped-submit : (b : Bool) (L : Ledger) (request : Request Buffer Parts) (under : Option ℕ) (linked : Bool) → Grouped L →
+    Grouped (submit_if b L request (group_under L under) linked).0
+grouped-submit true L request under linked a = a
+grouped-submit false L request under linked a =
+    let s = groups-submit L request (group_under L under) linked in
+    let M : Ledger = submit_step L request (group_under L under) linked in
     subst (λ G. AreGrouped G (op_groups M)) (sym s.0) (subst (AreGrouped (groups_of L)) (sym s.1)
     (grouped-new_op (groups_of L) (op_groups L) (group_under L under) (λ g there. under-there L under g a there) a))
 
@@ -171,7 +171,7 @@ grouped-row L (FeedMessage k addr bytes) u a = grouped-quiet L (FeedMessage k ad
 grouped-row L (End k) u a = grouped-quiet L (End k) refl a
 grouped-row L (Look k) u a = grouped-quiet L (Look k) refl a
 grouped-row L (Close k) u a = grouped-quiet L (Close k) refl a
-grouped-row L (Submit request under) u a = grouped-submit (is_under_marked L under) L request under a
+grouped-row L (Submit request under linked) u a = grouped-submit (is_under_marked L under) L request under linked a
 grouped-row L (Poll n task) u a = grouped-quiet L (Poll n task) refl a
 grouped-row L (Drop n) u a = grouped-quiet L (Drop n) refl a
 grouped-row L (Cancel n) u a = grouped-quiet L (Cancel n) refl a

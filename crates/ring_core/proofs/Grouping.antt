@@ -7,6 +7,7 @@ use Rattle.rent_buf.specs.Buffer.{Buffer}
 use Rattle.rent_buf.specs.Parts.{Parts}
 use Rattle.ring_core.specs.declared.request.Request.{Request}
 use Rattle.ring_core.specs.declared.request.Told.{Told}
+use Rattle.ring_core.specs.declared.request.Told.TheVariants.{Count, Fail}
 use Rattle.ring_core.specs.declared.ledger.Event.{Event}
 use Rattle.ring_core.specs.declared.ledger.Event.TheVariants.{Give, Feed, FeedMessage, End, Look, Close, Submit, Poll, Drop, Cancel, Turn}
 use Rattle.ring_core.specs.declared.ledger.Event.TheVariants.{Exec}
@@ -15,12 +16,14 @@ use Rattle.ring_core.specs.Lists.{amended}
 use Rattle.ring_core.specs.Ledger.{Ledger, Operation, Place, InQueue, InFlight, InDone, Reaped, Gone, Queued, Req, Item, Op}
 use Rattle.ring_core.specs.Ledger.{new_operation, members}
 use Rattle.ring_core.specs.Queue.{with_op, take_all, is_unheld, push_each}
-use Rattle.ring_core.specs.Turn.{exec_op, exec_step, complete_at, with_result, effect_of}
+use Rattle.ring_core.specs.Turn.{exec_op, exec_step, complete_at, with_result, effect_of, waiting_on, with_break, break_one, break_each}
+use Rattle.ring_core.specs.Turn.{released}
 use Rattle.ring_core.specs.Step.{row, with_new_op, submit_step, with_task, handed_over, poll_at, poll_step, with_drop, drop_at}
 use Rattle.ring_core.specs.Step.{drop_step, with_user, close_if, group_of, with_mark, cancel_all_step}
 use Rattle.ring_core.proofs.Amended.{map-amended}
 use Rattle.ring_core.proofs.Staying.{stay_of, Groups, groups_of, Stays, stays-take_all, stays-push, stays-push_each, stays-leave}
 use Rattle.ring_core.proofs.Staying.{stays-reap_each}
+use Rattle.ring_core.proofs.Releasing.{stays-let_go}
 
 -- The group of each operation, by number.
 abbrev pub op_groups : Ledger → List (Option ℕ)
@@ -108,16 +111,31 @@ groups-exec_op L n told None = groups-same L
 groups-exec_op L n told (Some o) =
     let s = groups-op L n (with_result told (effect_of L o.request told)) (λ o. refl) in record { groups = s.groups; ops = s.ops }
 
+-- Operations that end with their leaders.
+groups-break_each : (L : Ledger) (numbers : List ℕ) → GroupsStay L (break_each L numbers)
+groups-break_each L [] = groups-same L
+groups-break_each L (m ∷ numbers) =
+    let s = groups-op L m with_break (λ o. refl) in
+    let r = groups-break_each (break_one L m) numbers in
+    record { groups = r.groups ∙ s.groups; ops = r.ops ∙ s.ops }
+
+-- Those that wait for an operation that was executed are released.
+groups-released : (told : Told) (L : Ledger) (n : ℕ) → GroupsStay L (released told L n)
+groups-released (Fail e) L n = groups-break_each L (waiting_on L.ops n L.flying)
+groups-released (Count k) L n = groups-stay (stays-let_go L n)
+
 -- The execution of what is in flight.
 groups-exec : (L : Ledger) (place : ℕ) (told : Told) (x : Option Item) → GroupsStay L (exec_step L place told x).0
 groups-exec L place told None = groups-same L
 groups-exec L place told (Some (Op n)) =
-    let s = groups-exec_op (complete_at L place (Op n)) n told (slice_get L.ops n) in record { groups = s.groups; ops = s.ops }
+    let s = groups-exec_op (complete_at L place (Op n)) n told (slice_get L.ops n) in
+    let r = groups-released told (exec_op (complete_at L place (Op n)) n told (slice_get L.ops n)) n in
+    record { groups = r.groups ∙ s.groups; ops = r.ops ∙ s.ops }
 groups-exec L place told (Some (Item.Close h)) = record { groups = refl; ops = refl }
 
 -- The events that may change groups, or bring an operation into one.
 abbrev pub may_group : Event → Bool
-may_group (Submit request under) = true
+may_group (Submit request under linked) = true
 may_group NewCanceller = true
 may_group (NewHandle c) = true
 may_group (CancelAll c) = true
@@ -133,7 +151,7 @@ groups-row L (Look k) h = groups-same L
 groups-row L (Close k) h =
     let U : Ledger = with_user L k false in
     let s = groups-close_if (is_unheld U k) U k in record { groups = s.groups; ops = s.ops }
-groups-row L (Submit request under) h = (let f : ⊥ = cc in absurd f)
+groups-row L (Submit request under linked) h = (let f : ⊥ = cc in absurd f)
 groups-row L (Poll n task) h = groups-poll L n task (slice_get L.ops n)
 groups-row L (Drop n) h = groups-drop L n (slice_get L.ops n)
 groups-row L (Cancel n) h = groups-stay (stays-push L (Queued.Cancel n))
@@ -160,11 +178,13 @@ abbrev pub renewed : Groups → ℕ → ℕ → Groups
 renewed G c g = with_fresh (record G { groups = amended G.groups g (λ mark. true) }) c
 
 -- The groups after a submission: those of the operations have one more.
-pub groups-submit : (L : Ledger) (request : Request Buffer Parts) (group : Option ℕ) →
-    (groups_of (submit_step L request group) ≡ groups_of L) × (op_groups (submit_step L request group) ≡ op_groups L ++ group ∷ [])
-groups-submit L request group =
-    let o : Operation = new_operation request group in
-    let s : GroupsStay (with_new_op L o) (submit_step L request group) = groups-stay (stays-push (with_new_op L o) (Req (length L.ops))) in
+pub groups-submit : (L : Ledger) (request : Request Buffer Parts) (group : Option ℕ) (linked : Bool) →
+    (groups_of (submit_step L request group linked) ≡ groups_of L)
+    × (op_groups (submit_step L request group linked) ≡ op_groups L ++ group ∷ [])
+groups-submit L request group linked =
+    let o : Operation = new_operation request group linked in
+    let s : GroupsStay (with_new_op L o) (submit_step L request group linked) =
+    groups-stay (stays-push (with_new_op L o) (Req (length L.ops))) in
     (s.groups, s.ops ∙ map-append (λ o. o.group) L.ops (o ∷ []))
 
 -- The groups after a CancelAll.

@@ -1,12 +1,13 @@
 -- Who holds a handle, after each change of a ledger.
 use Rattle.std.proofs.Common.{◌≡◌, inl, inr, ℕ, zero, suc, ◌+◌, Bool, true, false, not, ◌&&◌, List, [], ◌∷◌, ◌++◌, length, map}
-use Rattle.std.proofs.Common.{Some, slice_get, refl, sym, ◌∙◌, ap, arith}
+use Rattle.std.proofs.Common.{Option, None, Some, slice_get, refl, sym, ◌∙◌, ap, arith}
 use Rattle.std.specs.Prelude.{if◌then◌else◌, ◌==◌}
 use Rattle.ring_core.specs.Lists.{amended, is_empty, has_number}
 use Rattle.ring_core.specs.Request.{named}
 use Rattle.ring_core.specs.Ledger.{Ledger, Operation, Place, InQueue, InFlight, InDone, Reaped, Gone, Queued, Req, Cancel, is_live}
 use Rattle.ring_core.specs.Ledger.{user_holds, User, ByOp, with_made, holds, is_holding, holding_ops, holders}
-use Rattle.ring_core.specs.Queue.{with_op, at_place, canceled_at, with_cancel, take_one, take_each, take_all, make_room, push}
+use Rattle.ring_core.specs.Queue.{with_op, at_place, canceled_at, with_take, with_cancel, take_one, leader_behind, take_behind, take_each}
+use Rattle.ring_core.specs.Queue.{take_all, make_room, push}
 use Rattle.ring_core.specs.Queue.{push_each, is_unheld, with_gone}
 use Rattle.ring_core.specs.Step.{with_new_op}
 use Rattle.ring_core.proofs.Numbers.{and-left, and-right, not-passes}
@@ -179,29 +180,35 @@ canceled-holds (Reaped outcome) o = record { request = refl; made = refl; live =
 canceled-holds Gone o = record { request = refl; made = refl; live = refl }
 
 -- One entry taken.
-pub holders-take_one : (L : Ledger) (entry : Queued) → AreLive L.ops (entry ∷ []) → SameHolders L (take_one L entry)
-holders-take_one L (Req n) h = record {
+pub holders-take_one : (leader : Option ℕ) (L : Ledger) (entry : Queued) → AreLive L.ops (entry ∷ []) →
+    SameHolders L (take_one leader L entry)
+holders-take_one leader L (Req n) h = record {
   users = λ k. refl;
-  ops = (holders-op L n (at_place InFlight) (λ o there. record { request = refl; made = refl; live = sym (h.live 0 n o refl there) })).ops;
+  ops = (holders-op L n (with_take leader) (λ o there. record { request = refl; made = refl; live = sym (h.live 0 n o refl there) })).ops;
 }
-holders-take_one L (Cancel n) h = holders-op L n with_cancel (λ o there. canceled-holds o.place o)
-holders-take_one L (Queued.Close k) h = record { users = λ k. refl; ops = λ k. refl }
+holders-take_one leader L (Cancel n) h = holders-op L n with_cancel (λ o there. canceled-holds o.place o)
+holders-take_one leader L (Queued.Close k) h = record { users = λ k. refl; ops = λ k. refl }
 
 -- One entry taken leaves the requests of the rest those of operations that aren't gone.
-pub live-take_one : (L : Ledger) (entry : Queued) (entries : List Queued) → AreLive L.ops (entry ∷ entries) →
-    AreLive (take_one L entry).ops entries
-live-take_one L (Req n) entries h =
-    live-changed L.ops entries n (at_place InFlight) (λ o is. refl) (record { live = λ place. h.live (suc place) })
-live-take_one L (Cancel n) entries h =
+pub live-take_one : (leader : Option ℕ) (L : Ledger) (entry : Queued) (entries : List Queued) → AreLive L.ops (entry ∷ entries) →
+    AreLive (take_one leader L entry).ops entries
+live-take_one leader L (Req n) entries h =
+    live-changed L.ops entries n (with_take leader) (λ o is. refl) (record { live = λ place. h.live (suc place) })
+live-take_one leader L (Cancel n) entries h =
     live-changed L.ops entries n with_cancel (λ o is. (canceled-holds o.place o).live ∙ is) (record { live = λ place. h.live (suc place) })
-live-take_one L (Queued.Close k) entries h = record { live = λ place. h.live (suc place) }
+live-take_one leader L (Queued.Close k) entries h = record { live = λ place. h.live (suc place) }
+
+-- Entries taken, whatever the first of them follows.
+holders-take_behind : (leader : Option ℕ) (L : Ledger) (entries : List Queued) → AreLive L.ops entries →
+    SameHolders L (take_behind leader L entries)
+holders-take_behind leader L [] h = holders-own L
+holders-take_behind leader L (entry ∷ entries) h =
+    holders-then (holders-take_one leader L entry (live-first L.ops entry entries h))
+    (holders-take_behind (leader_behind L entry) (take_one leader L entry) entries (live-take_one leader L entry entries h))
 
 -- Entries taken.
 pub holders-take_each : (L : Ledger) (entries : List Queued) → AreLive L.ops entries → SameHolders L (take_each L entries)
-holders-take_each L [] h = holders-own L
-holders-take_each L (entry ∷ entries) h =
-    holders-then (holders-take_one L entry (live-first L.ops entry entries h))
-    (holders-take_each (take_one L entry) entries (live-take_one L entry entries h))
+holders-take_each L entries h = holders-take_behind None L entries h
 
 -- The queue taken.
 pub holders-take_all : (L : Ledger) → AreLive L.ops L.queue → SameHolders L (take_all L)

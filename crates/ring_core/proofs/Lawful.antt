@@ -5,6 +5,7 @@ use Rattle.rent_buf.specs.Buffer.{Buffer}
 use Rattle.rent_buf.specs.Parts.{Parts}
 use Rattle.ring_core.specs.declared.request.Request.{Request}
 use Rattle.ring_core.specs.declared.request.Told.{Told}
+use Rattle.ring_core.specs.declared.request.Told.TheVariants.{Count, Fail}
 use Rattle.ring_core.specs.declared.request.Outcome.{Outcome}
 use Rattle.ring_core.specs.declared.world.HandleState.{HandleState}
 use Rattle.ring_core.specs.declared.ledger.Event.{Event}
@@ -19,7 +20,8 @@ use Rattle.ring_core.specs.Effect.{Effect}
 use Rattle.ring_core.specs.Ledger.{Ledger, Operation, Place, InQueue, InFlight, InDone, Reaped, Gone, Queued, Req, Item, Op, empty}
 use Rattle.ring_core.specs.Ledger.{new_operation, with_made, holds, is_kept, is_live, user_holds, is_under_marked, group_under, members}
 use Rattle.ring_core.specs.Queue.{with_op, take_all, make_room, append, push, push_each, is_unheld, leave}
-use Rattle.ring_core.specs.Turn.{turn_step, exec_op, exec_step, complete_at, effect_of, with_result}
+use Rattle.ring_core.specs.Turn.{turn_step, exec_op, exec_step, complete_at, effect_of, with_result, waiting_on, break_one, break_each}
+use Rattle.ring_core.specs.Turn.{released}
 use Rattle.ring_core.specs.Step.{step, row, give_step, with_handle, with_user, close_if, close_step, with_new_op, submit_step}
 use Rattle.ring_core.specs.Step.{submit_if, new_canceller_step, group_of, new_handle_step, with_mark, renew_group, cancel_all_step}
 use Rattle.ring_core.specs.Step.{with_task, handed_over, poll_at, poll_step, with_drop, drop_at, drop_step}
@@ -41,6 +43,8 @@ use Rattle.ring_core.proofs.Taking.{in_queue, in_flight, in_done, queue_mark, Li
 use Rattle.ring_core.proofs.Listed.{submit-joined, listed-make_room, listed-push_cancel, listed-push_close, listed-joined}
 use Rattle.ring_core.proofs.Listed.{listed-changed, listed-executed, listed-closed, flying-there}
 use Rattle.ring_core.proofs.Ending.{listed-leave, listed-reap_all}
+use Rattle.ring_core.proofs.Releasing.{AreFlown, waiting-flown, first-flies, rest-flown, listed-break_one, known-break_one, once-break_one}
+use Rattle.ring_core.proofs.Releasing.{listed-let_go, stays-let_go, once-let_go}
 use Rattle.ring_core.proofs.Stepping.{step-refused, step-row, OwnedAt, found, executed-there, closed-held, held-there, submitted-held}
 
 -- What holds of every ledger that events led to.
@@ -148,17 +152,17 @@ once-ask M n c =
     (record { users = λ h. refl; ops = λ h. refl }) (omega arith) c
 
 -- A new operation on handles that its user holds.
-lawful-submit : (L : Ledger) (request : Request Buffer Parts) (group : Option ℕ) →
-    ((h : ℕ) → has_number h (named request) ≡ true → user_holds L h ≡ true) → Lawful L → Lawful (submit_step L request group)
-lawful-submit L request group holds l =
+lawful-submit : (L : Ledger) (request : Request Buffer Parts) (group : Option ℕ) (linked : Bool) →
+    ((h : ℕ) → has_number h (named request) ≡ true → user_holds L h ≡ true) → Lawful L → Lawful (submit_step L request group linked)
+lawful-submit L request group linked holds l =
     let M : Ledger = make_room L in
-    let o : Operation = new_operation request group in
+    let o : Operation = new_operation request group linked in
     let stays : Stays L M = stays-make_room L in
     let holds_there : (h : ℕ) → has_number h (named request) ≡ true → user_holds M h ≡ true = λ h names.
     ap (λ owners. user_holds (record L { owners = owners }) h) stays.owners ∙ holds h names in
     let known : AreKnown M = known-stays stays l.known in
     let new : AreKnown (with_new_op M o) = known-new_op M o (λ h names. held-there M h (holds_there h names)) refl known in
-    subst Lawful (sym (submit-joined L request group l.lists)) (record {
+    subst Lawful (sym (submit-joined L request group linked l.lists)) (record {
       lists = listed-joined M o refl (listed-make_room L l.lists);
       known = record { known = new.known; above = new.above; together = new.together };
       closes =
@@ -176,10 +180,10 @@ lawful-cancel L n l = record {
 }
 
 -- A submission, under a marked group or not.
-lawful-submit_if : (b : Bool) (L : Ledger) (request : Request Buffer Parts) (group : Option ℕ) →
-    ((h : ℕ) → has_number h (named request) ≡ true → user_holds L h ≡ true) → Lawful L → Lawful (submit_if b L request group).0
-lawful-submit_if true L request group holds l = l
-lawful-submit_if false L request group holds l = lawful-submit L request group holds l
+lawful-submit_if : (b : Bool) (L : Ledger) (request : Request Buffer Parts) (group : Option ℕ) (linked : Bool) →
+    ((h : ℕ) → has_number h (named request) ≡ true → user_holds L h ≡ true) → Lawful L → Lawful (submit_if b L request group linked).0
+lawful-submit_if true L request group linked holds l = l
+lawful-submit_if false L request group linked holds l = lawful-submit L request group linked holds l
 
 -- Cancels that are pushed.
 lawful-cancels : (L : Ledger) (numbers : List ℕ) → Lawful L → Lawful (push_each L (map Queued.Cancel numbers))
@@ -284,10 +288,10 @@ lawful-turn L l =
       })).closes;
     }
 
--- An execution of what is in flight.
-lawful-exec : (L : Ledger) (place : ℕ) (told : Told) (item : Item) → slice_get L.flying place ≡ Some item → Lawful L →
-    Lawful (exec_step L place told (Some item)).0
-lawful-exec L place told (Op m) there l =
+-- An execution of an operation in flight, before those that wait for it are released.
+pub lawful-executed : (L : Ledger) (place : ℕ) (told : Told) (m : ℕ) → slice_get L.flying place ≡ Some (Op m) → Lawful L →
+    Lawful (exec_op (complete_at L place (Op m)) m told (slice_get L.ops m))
+lawful-executed L place told m there l =
     let f = flying-there L place m l.lists there in
     let C : Ledger = complete_at L place (Op m) in
     let result : Effect = effect_of L f.0.request told in
@@ -302,6 +306,32 @@ lawful-exec L place told (Op m) there l =
           (λ o at. (let q : f.0 ≡ o = (let w = sym f.1 ∙ at in cc) in ap is_live (sym q) ∙ ap is_kept f.2)) known
           (once-complete_at L place (Op m) there l.closes);
     })
+
+-- Operations in flight that end with their leaders.
+lawful-break_each : (L : Ledger) (numbers : List ℕ) → AreFlown L numbers → Lawful L → Lawful (break_each L numbers)
+lawful-break_each L [] a l = l
+lawful-break_each L (m ∷ numbers) a l =
+    let f = first-flies L m numbers l.lists a in
+    lawful-break_each (break_one L m) numbers (rest-flown L m numbers l.lists a) (record {
+      lists = listed-break_one L m f l.lists;
+      known = known-break_one L m l.known;
+      closes = once-break_one L m f l.lists l.closes;
+    })
+
+-- Those that wait for an operation that was executed are released.
+lawful-released : (told : Told) (L : Ledger) (n : ℕ) → Lawful L → Lawful (released told L n)
+lawful-released (Fail e) L n l = lawful-break_each L (waiting_on L.ops n L.flying) (waiting-flown L n) l
+lawful-released (Count k) L n l = record {
+  lists = listed-let_go L n l.lists;
+  known = known-stays (stays-let_go L n) l.known;
+  closes = once-let_go L n l.closes;
+}
+
+-- An execution of what is in flight.
+lawful-exec : (L : Ledger) (place : ℕ) (told : Told) (item : Item) → slice_get L.flying place ≡ Some item → Lawful L →
+    Lawful (exec_step L place told (Some item)).0
+lawful-exec L place told (Op m) there l =
+    lawful-released told (exec_op (complete_at L place (Op m)) m told (slice_get L.ops m)) m (lawful-executed L place told m there l)
 lawful-exec L place told (Item.Close k) there l =
     let C : Ledger = complete_at L place (Item.Close k) in
     record {
@@ -318,8 +348,8 @@ lawful-row L (FeedMessage h addr bytes) u l = lawful-handle L h (with_message ad
 lawful-row L (End h) u l = lawful-handle L h with_end l
 lawful-row L (Look h) u l = l
 lawful-row L (Close h) u l = lawful-close L h (closed-held L h u) l
-lawful-row L (Submit request under) u l =
-    lawful-submit_if (is_under_marked L under) L request (group_under L under) (submitted-held L request under u) l
+lawful-row L (Submit request under linked) u l =
+    lawful-submit_if (is_under_marked L under) L request (group_under L under) linked (submitted-held L request under linked u) l
 lawful-row L (Poll n task) u l =
     let f : OwnedAt L n = found L n u in
     subst (λ x. Lawful (poll_step L n task x).0) (sym f.there)

@@ -33,6 +33,11 @@ pub mod Stepping
 pub mod Lawful
 pub mod Unheld
 pub mod Making
+pub mod Releasing
+pub mod Behind
+pub mod Parting
+pub mod Released
+pub mod Following
 pub mod Alone
 pub mod Makes
 pub mod Grouping

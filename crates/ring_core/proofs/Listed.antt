@@ -7,17 +7,19 @@ use Rattle.rent_buf.specs.Parts.{Parts}
 use Rattle.ring_core.specs.declared.request.Request.{Request}
 use Rattle.ring_core.specs.declared.request.Outcome.{Outcome}
 use Rattle.ring_core.specs.declared.world.HandleState.{HandleState}
-use Rattle.ring_core.specs.Lists.{amended}
+use Rattle.ring_core.specs.Lists.{amended, passes}
 use Rattle.ring_core.specs.Ledger.{Ledger, Operation, Owner, Place, InQueue, InFlight, InDone, Reaped, Gone, Queued, Req, Cancel, Item, Op}
 use Rattle.ring_core.specs.Ledger.{new_operation}
-use Rattle.ring_core.specs.Queue.{with_op, at_place, with_cancel, take_one, take_each, take_all, make_room, append, push, push_each}
+use Rattle.ring_core.specs.Queue.{with_op, with_take, with_cancel, take_one, leader_behind, take_behind, take_each, take_all, make_room}
+use Rattle.ring_core.specs.Queue.{append, push, push_each}
 use Rattle.ring_core.specs.Turn.{complete_at}
 use Rattle.ring_core.specs.Step.{with_new_op, submit_step}
 use Rattle.ring_core.proofs.Amended.{get-amended-other, get-amended, amended-append, amended-append-fixed, changed-cases, joined-cases}
 use Rattle.ring_core.proofs.Numbers.{below-or-not}
+use Rattle.ring_core.proofs.Appended.{get-append-within}
 use Rattle.ring_core.proofs.Taken.{length-make_room}
 use Rattle.ring_core.proofs.Occurring.{same-cases, same, queued, listed, queued-append, listed-append, listed-remove}
-use Rattle.ring_core.proofs.Taking.{in_queue, in_flight, in_done, queue_mark, flight_mark, done_mark, Listed, taken_place, with_take}
+use Rattle.ring_core.proofs.Taking.{in_queue, in_flight, in_done, queue_mark, flight_mark, done_mark, Listed, taken_place, with_taking}
 use Rattle.ring_core.proofs.Taking.{Took, take_all-ops}
 use Rattle.ring_core.proofs.Taking.{listed-take_all, one-taken, one-canceled}
 
@@ -33,19 +35,36 @@ known ops m entries fits = elim (same-cases m m) [
   ]
 ]
 
--- Taking before a new operation is appended, or after it, is the same: no cancel is recorded of what isn't in flight.
+-- A linked operation is linked beside a new one too.
+leader-new_op : (L : Ledger) (o : Operation) (m : ℕ) → m < length L.ops → leader_behind (with_new_op L o) (Req m) ≡ leader_behind L (Req m)
+leader-new_op L o m within =
+    ap (λ x. if passes (λ (operation : Operation). operation.linked) x then Some m else None) (get-append-within L.ops o m within)
+
+-- Taking before a new operation is appended, or after it, is the same, whatever the first entry follows: no cancel is recorded of what
+-- isn't in flight.
+take-new_op_behind : (leader : Option ℕ) (L : Ledger) (o : Operation) (entries : List Queued) → with_cancel o ≡ o →
+    ((n : ℕ) → queued n entries ≡ queue_mark (slice_get L.ops n)) →
+    take_behind leader (with_new_op L o) entries ≡ with_new_op (take_behind leader L entries) o
+take-new_op_behind leader L o [] still h = refl
+take-new_op_behind leader L o (Req m ∷ entries) still h =
+    let within = known L.ops m entries h in
+    let next = leader_behind L (Req m) in
+    ap (λ x. take_behind x (take_one leader (with_new_op L o) (Req m)) entries) (leader-new_op L o m within)
+    ∙ ap (λ ops. take_behind next (record (take_one leader L (Req m)) { ops = ops }) entries)
+    (amended-append L.ops (o ∷ []) m (with_take leader) within)
+    ∙ take-new_op_behind next (take_one leader L (Req m)) o entries still (λ n. (one-taken leader L.ops m entries h n None).1)
+take-new_op_behind leader L o (Cancel m ∷ entries) still h =
+    ap (λ ops. take_behind None (record (take_one leader L (Cancel m)) { ops = ops }) entries)
+    (amended-append-fixed L.ops o m with_cancel still)
+    ∙ take-new_op_behind None (take_one leader L (Cancel m)) o entries still (λ n. h n ∙ sym (one-canceled L.ops m n None).1)
+take-new_op_behind leader L o (Queued.Close m ∷ entries) still h =
+    take-new_op_behind None (take_one leader L (Queued.Close m)) o entries still h
+
+-- Taking at once, before a new operation is appended or after it.
 pub take-new_op : (L : Ledger) (o : Operation) (entries : List Queued) → with_cancel o ≡ o →
     ((n : ℕ) → queued n entries ≡ queue_mark (slice_get L.ops n)) →
     take_each (with_new_op L o) entries ≡ with_new_op (take_each L entries) o
-take-new_op L o [] still h = refl
-take-new_op L o (Req m ∷ entries) still h =
-    ap (λ ops. take_each (record (take_one L (Req m)) { ops = ops }) entries)
-    (amended-append L.ops (o ∷ []) m (at_place InFlight) (known L.ops m entries h))
-    ∙ take-new_op (take_one L (Req m)) o entries still (λ n. (one-taken L.ops m entries h n None).1)
-take-new_op L o (Cancel m ∷ entries) still h =
-    ap (λ ops. take_each (record (take_one L (Cancel m)) { ops = ops }) entries) (amended-append-fixed L.ops o m with_cancel still)
-    ∙ take-new_op (take_one L (Cancel m)) o entries still (λ n. h n ∙ sym (one-canceled L.ops m n None).1)
-take-new_op L o (Queued.Close m ∷ entries) still h = take-new_op (take_one L (Queued.Close m)) o entries still h
+take-new_op L o entries still h = take-new_op_behind None L o entries still h
 
 -- A new operation and its request join the ledger.
 abbrev pub joined : Ledger → Operation → Ledger
@@ -58,11 +77,12 @@ room-new_op true L o still h = take-new_op (record L { queue = [] }) o L.queue s
 room-new_op false L o still h = refl
 
 -- Submitting makes room, then joins the operation and its request.
-pub submit-joined : (L : Ledger) (request : Request Buffer Parts) (group : Option ℕ) → Listed L →
-    submit_step L request group ≡ joined (make_room L) (new_operation request group)
-submit-joined L request group h =
-    ap (λ M. append M (Req (length L.ops))) (room-new_op (length L.queue == L.capacity) L (new_operation request group) refl h)
-    ∙ ap (λ n. append (with_new_op (make_room L) (new_operation request group)) (Req n)) (sym (length-make_room L))
+pub submit-joined : (L : Ledger) (request : Request Buffer Parts) (group : Option ℕ) (linked : Bool) → Listed L →
+    submit_step L request group linked ≡ joined (make_room L) (new_operation request group linked)
+submit-joined L request group linked h =
+    let o : Operation = new_operation request group linked in
+    ap (λ M. append M (Req (length L.ops))) (room-new_op (length L.queue == L.capacity) L o refl h)
+    ∙ ap (λ n. append (with_new_op (make_room L) o) (Req n)) (sym (length-make_room L))
 
 -- An operation stayed as it was, or was taken.
 abbrev pub MayTake : Option Operation → Option Operation → Type 0
@@ -77,16 +97,19 @@ taken-twice (Reaped outcome) = refl
 taken-twice Gone = refl
 
 -- Taking an operation that was taken is taking it.
-with_take-twice : (first second : Bool) (x : Option Operation) →
-    option_map (with_take second) (option_map (with_take first) x) ≡ option_map (with_take second) x
-with_take-twice first second None = refl
-with_take-twice first second (Some o) = ap (λ p. Some (record o { canceled = second; place = p })) (taken-twice o.place)
+with_taking-twice : (first second : Bool) (a b : Option ℕ) (x : Option Operation) →
+    option_map (with_taking second b) (option_map (with_taking first a) x) ≡ option_map (with_taking second b) x
+with_taking-twice first second a b None = refl
+with_taking-twice first second a b (Some o) =
+    ap (λ p. Some (record o { waits_for = b; canceled = second; place = p })) (taken-twice o.place)
 
 -- Two takings are one.
 took-then : (x y z : Option Operation) → Took x y → Took y z → Took x z
 took-then x y z a b = record {
   canceled = b.canceled;
-  is = b.is ∙ ap (option_map (with_take b.canceled)) a.is ∙ with_take-twice a.canceled b.canceled x;
+  waits_for = b.waits_for;
+  is = b.is ∙ ap (option_map (with_taking b.canceled b.waits_for)) a.is
+      ∙ with_taking-twice a.canceled b.canceled a.waits_for b.waits_for x;
 }
 
 -- The same of what may be taken.
@@ -204,7 +227,7 @@ listed-changed L n change o h there m = record {
 }
 
 -- What has the mark of flight is in flight.
-flight-place : (p : Place) → 1 ≤ in_flight p → p ≡ InFlight
+pub flight-place : (p : Place) → 1 ≤ in_flight p → p ≡ InFlight
 flight-place InQueue h = absurd (omega (arith, h))
 flight-place InFlight h = refl
 flight-place (InDone outcome) h = absurd (omega (arith, h))
@@ -212,7 +235,7 @@ flight-place (Reaped outcome) h = absurd (omega (arith, h))
 flight-place Gone h = absurd (omega (arith, h))
 
 -- What counts as in flight is an operation in flight.
-flight-there : (x : Option Operation) → 1 ≤ flight_mark x → (o : Operation) × (x ≡ Some o) × (o.place ≡ InFlight)
+pub flight-there : (x : Option Operation) → 1 ≤ flight_mark x → (o : Operation) × (x ≡ Some o) × (o.place ≡ InFlight)
 flight-there None h = absurd (omega (arith, h))
 flight-there (Some o) h = (o, refl, flight-place o.place h)
 

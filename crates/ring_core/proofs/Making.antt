@@ -12,7 +12,7 @@ use Rattle.ring_core.proofs.Numbers.{same-or-not}
 use Rattle.ring_core.proofs.Amended.{get-amended, changed-cases, there-before}
 use Rattle.ring_core.proofs.Staying.{stays-take_all, stays-push, stays-push_each, stays-reap_each}
 use Rattle.ring_core.proofs.Users.{user-with_user-other}
-use Rattle.ring_core.proofs.Taking.{taken_place, with_take, Listed, take_all-ops, listed-take_all}
+use Rattle.ring_core.proofs.Taking.{taken_place, with_taking, Listed, take_all-ops, listed-take_all}
 use Rattle.ring_core.proofs.Listed.{MayTake, make_room-ops, push_closes-ops, listed-push_cancel}
 use Rattle.ring_core.proofs.Reaping.{ended_place, with_end, reap_all-ops, closed-take_all}
 use Rattle.ring_core.proofs.Ending.{Unmarked, listed-gone}
@@ -54,18 +54,23 @@ ops_from-then {L} {K} {M} a b = record {
 pub ops_from-same : (L : Ledger) → OpsFrom L L
 ops_from-same L = record { users = λ h is. is; ops = λ n p there. (p, there, from-same p) }
 
--- One operation that is changed.
-pub ops_from-op : (L : Ledger) (n : ℕ) (change : Operation → Operation) → ((o : Operation) → From o (change o)) →
-    OpsFrom L (with_op L n change)
-ops_from-op L n change comes = record {
+-- One operation that is changed, by what it was.
+pub ops_from-op_at : (L : Ledger) (n : ℕ) (change : Operation → Operation) →
+    ((o : Operation) → slice_get L.ops n ≡ Some o → From o (change o)) → OpsFrom L (with_op L n change)
+ops_from-op_at L n change comes = record {
   users = λ h is. is;
   ops = λ m p there. elim (changed-cases change L.ops n m) [
     | inl e ↦ (
         let b = there-before change (slice_get L.ops n) p (sym e.1 ∙ there) in
-        (b.0, ap (slice_get L.ops) e.0 ∙ b.1, subst (From b.0) (sym b.2) (comes b.0)))
+        (b.0, ap (slice_get L.ops) e.0 ∙ b.1, subst (From b.0) (sym b.2) (comes b.0 b.1)))
     | inr e ↦ (p, sym e.1 ∙ there, from-same p)
   ];
 }
+
+-- One operation that is changed.
+pub ops_from-op : (L : Ledger) (n : ℕ) (change : Operation → Operation) → ((o : Operation) → From o (change o)) →
+    OpsFrom L (with_op L n change)
+ops_from-op L n change comes = ops_from-op_at L n change (λ o there. comes o)
 
 -- An operation that is gone.
 pub from-gone : (o : Operation) → From o (at_place Gone o)
@@ -93,8 +98,8 @@ made-taken (Reaped outcome) = refl
 made-taken Gone = refl
 
 -- An operation that is taken.
-from-taken : (canceled : Bool) (o : Operation) → From o (with_take canceled o)
-from-taken canceled o =
+from-taken : (canceled : Bool) (waits_for : Option ℕ) (o : Operation) → From o (with_taking canceled waits_for o)
+from-taken canceled waits_for o =
     record { request = refl; made = refl; live = λ l. sym (kept-taken o.place) ∙ l; place = λ l. made-taken o.place }
 
 -- What isn't gone once all that was done was reaped wasn't before, and its place says the same of what was made.
@@ -127,8 +132,8 @@ ops_from-took L M owners took = record {
         (o : Operation) × (slice_get L.ops n ≡ Some o) × From o p
     at n p y there (inl e) = (p, sym e ∙ there, from-same p)
     at n p y there (inr t) =
-        let b = there-before (with_take t.canceled) (slice_get L.ops n) p (sym t.is ∙ there) in
-        (b.0, b.1, subst (From b.0) (sym b.2) (from-taken t.canceled b.0))
+        let b = there-before (with_taking t.canceled t.waits_for) (slice_get L.ops n) p (sym t.is ∙ there) in
+        (b.0, b.1, subst (From b.0) (sym b.2) (from-taken t.canceled t.waits_for b.0))
 
 -- An entry that is pushed.
 pub ops_from-push : (L : Ledger) (entry : Queued) → Listed L → OpsFrom L (push L entry)

@@ -84,7 +84,7 @@ pub ops-take_closes : (L : Ledger) (entries : List Queued) → AreCloses entries
 ops-take_closes L [] h = refl
 ops-take_closes L (Req n ∷ entries) h = absurd h
 ops-take_closes L (Cancel n ∷ entries) h = absurd h
-ops-take_closes L (Queued.Close k ∷ entries) h = ops-take_closes (take_one L (Queued.Close k)) entries h
+ops-take_closes L (Queued.Close k ∷ entries) h = ops-take_closes (take_one None L (Queued.Close k)) entries h
 
 -- One close more.
 are_closes-append : (entries : List Queued) (k : ℕ) → AreCloses entries → AreCloses (entries ++ Queued.Close k ∷ [])
@@ -170,7 +170,7 @@ reap_op-other L m (Some o) n closes other = reap_if-other o.dropped L m n closes
 module _ (L : Ledger) (m : ℕ) (items : List Item) (closes : AreCloses L.queue)
     (fits : (n : ℕ) → listed n (Op m ∷ items) ≡ done_mark (slice_get L.ops n)) where
   -- By number: reaping the first completion is part of reaping all, and the rest holds what isn't yet reaped.
-  one-reaped : (n : ℕ) → (option_map with_end (slice_get (reap_one L (Op m)).ops n) ≡ option_map with_end (slice_get L.ops n))
+  pub one-reaped : (n : ℕ) → (option_map with_end (slice_get (reap_one L (Op m)).ops n) ≡ option_map with_end (slice_get L.ops n))
       × (listed n items ≡ done_mark (slice_get (reap_one L (Op m)).ops n))
   one-reaped n = elim (same-cases n m) [
     | inl e ↦ (

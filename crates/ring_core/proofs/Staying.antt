@@ -7,7 +7,8 @@ use Rattle.rent_buf.specs.Parts.{Parts}
 use Rattle.rent_buf.specs.Held.{HeldBuf}
 use Rattle.ring_core.specs.declared.request.Request.{Request}
 use Rattle.ring_core.specs.Ledger.{Ledger, Operation, Place, InQueue, InFlight, InDone, Reaped, Gone, Queued, Req, Cancel, Item, Op}
-use Rattle.ring_core.specs.Queue.{with_op, at_place, canceled_at, with_cancel, take_one, take_each, take_all, make_room, append, push}
+use Rattle.ring_core.specs.Queue.{with_op, at_place, canceled_at, with_take, with_cancel, take_one, leader_behind, take_behind, take_each}
+use Rattle.ring_core.specs.Queue.{take_all, make_room, append, push}
 use Rattle.ring_core.specs.Queue.{push_each}
 use Rattle.ring_core.specs.Queue.{became_unheld, with_gone, leave}
 use Rattle.ring_core.specs.Turn.{with_reap, reap_if, reap_op, reap_one, reap_each}
@@ -87,17 +88,22 @@ stay-canceled (Reaped outcome) o = refl
 stay-canceled Gone o = refl
 
 -- One entry taken.
-pub stays-take_one : (L : Ledger) (entry : Queued) → Stays L (take_one L entry)
-stays-take_one L (Req n) =
-    let kept = stays-op L n (at_place InFlight) (λ o. refl) in
+pub stays-take_one : (leader : Option ℕ) (L : Ledger) (entry : Queued) → Stays L (take_one leader L entry)
+stays-take_one leader L (Req n) =
+    let kept = stays-op L n (with_take leader) (λ o. refl) in
     record { capacity = refl; done = refl; world = refl; owners = refl; groups = refl; ops = kept.ops }
-stays-take_one L (Cancel n) = stays-op L n with_cancel (λ o. stay-canceled o.place o)
-stays-take_one L (Queued.Close h) = record { capacity = refl; done = refl; world = refl; owners = refl; groups = refl; ops = refl }
+stays-take_one leader L (Cancel n) = stays-op L n with_cancel (λ o. stay-canceled o.place o)
+stays-take_one leader L (Queued.Close h) = record { capacity = refl; done = refl; world = refl; owners = refl; groups = refl; ops = refl }
+
+-- Entries taken, whatever the first of them follows.
+stays-take_behind : (leader : Option ℕ) (L : Ledger) (entries : List Queued) → Stays L (take_behind leader L entries)
+stays-take_behind leader L [] = stays-same L
+stays-take_behind leader L (entry ∷ entries) =
+    stays-then (stays-take_one leader L entry) (stays-take_behind (leader_behind L entry) (take_one leader L entry) entries)
 
 -- Entries taken.
 pub stays-take_each : (L : Ledger) (entries : List Queued) → Stays L (take_each L entries)
-stays-take_each L [] = stays-same L
-stays-take_each L (entry ∷ entries) = stays-then (stays-take_one L entry) (stays-take_each (take_one L entry) entries)
+stays-take_each L entries = stays-take_behind None L entries
 
 -- The queue taken.
 pub stays-take_all : (L : Ledger) → Stays L (take_all L)
@@ -156,17 +162,31 @@ stays-reap_each L (item ∷ items) = stays-then (stays-reap_one L item) (stays-r
 -- What is done plays no part in pushing: it is the same beside other completions.
 module _ (L : Ledger) (done : List Item) where
   -- One entry taken beside other completions.
-  beside-take_one : (entry : Queued) → take_one (record L { done = done }) entry ≡ record (take_one L entry) { done = done }
-  beside-take_one (Req n) = refl
-  beside-take_one (Cancel n) = refl
-  beside-take_one (Queued.Close h) = refl
+  beside-take_one : (leader : Option ℕ) (entry : Queued) →
+      take_one leader (record L { done = done }) entry ≡ record (take_one leader L entry) { done = done }
+  beside-take_one leader (Req n) = refl
+  beside-take_one leader (Cancel n) = refl
+  beside-take_one leader (Queued.Close h) = refl
+
+  -- The leader of what is behind an entry is the same.
+  beside-leader : (entry : Queued) → leader_behind (record L { done = done }) entry ≡ leader_behind L entry
+  beside-leader (Req n) = refl
+  beside-leader (Cancel n) = refl
+  beside-leader (Queued.Close h) = refl
+
+-- Entries, in order, whatever the first of them follows.
+beside-take_behind : (leader : Option ℕ) (L : Ledger) (done : List Item) (entries : List Queued) →
+    take_behind leader (record L { done = done }) entries ≡ record (take_behind leader L entries) { done = done }
+beside-take_behind leader L done [] = refl
+beside-take_behind leader L done (entry ∷ entries) =
+    ap (λ M. take_behind (leader_behind (record L { done = done }) entry) M entries) (beside-take_one L done leader entry)
+    ∙ ap (λ x. take_behind x (record (take_one leader L entry) { done = done }) entries) (beside-leader L done entry)
+    ∙ beside-take_behind (leader_behind L entry) (take_one leader L entry) done entries
 
 -- Entries, in order.
 beside-take_each : (L : Ledger) (done : List Item) (entries : List Queued) →
     take_each (record L { done = done }) entries ≡ record (take_each L entries) { done = done }
-beside-take_each L done [] = refl
-beside-take_each L done (entry ∷ entries) =
-    ap (λ M. take_each M entries) (beside-take_one L done entry) ∙ beside-take_each (take_one L entry) done entries
+beside-take_each L done entries = beside-take_behind None L done entries
 
 -- Room that is made or not, beside other completions.
 beside-room : (b : Bool) (L : Ledger) (done : List Item) →

@@ -12,12 +12,12 @@ use Rattle.ring_core.specs.declared.request.Told.{Told}
 use Rattle.ring_core.specs.declared.ledger.Event.{Event}
 use Rattle.ring_core.specs.declared.ledger.Event.TheVariants.{Close, Submit, NewHandle, CancelAll, Exec}
 use Rattle.ring_core.specs.declared.ledger.Refusal.{Refusal}
-use Rattle.ring_core.specs.declared.ledger.Refusal.TheVariants.{NoOp, NoCanceller, NoHandle, Full, NotFlying, BadOutcome}
+use Rattle.ring_core.specs.declared.ledger.Refusal.TheVariants.{NoOp, NoCanceller, NoHandle, Full, NotFlying, Waiting, BadOutcome}
 use Rattle.ring_core.specs.declared.ledger.Reply.TheVariants.{Refused}
 use Rattle.ring_core.specs.Lists.{passes, has_number}
 use Rattle.ring_core.specs.Request.{named}
 use Rattle.ring_core.specs.Ledger.{Ledger, Operation, Owner, Item, is_kept, is_owned, user_holds}
-use Rattle.ring_core.specs.Refusal.{cause, refused_if, lacks_op, lacks_handle, allowed, has_no_canceller, is_full}
+use Rattle.ring_core.specs.Refusal.{cause, refused_if, lacks_op, lacks_handle, allowed, has_no_canceller, is_full, waits}
 use Rattle.ring_core.specs.Step.{step, row, answered}
 use Rattle.ring_core.proofs.Numbers.{same-or-not}
 use Rattle.ring_core.proofs.Leaving.{has-other}
@@ -60,18 +60,20 @@ owned-there L n (Some o) there h =
 pub found : (L : Ledger) (n : ℕ) → refused_if (lacks_op L n) NoOp None ≡ None → OwnedAt L n
 found L n h = owned-there L n (slice_get L.ops n) refl (unrefused (passes is_owned (slice_get L.ops n)) h)
 
--- What has neither cause of an Exec is in flight.
-item-there : (L : Ledger) (told : Told) (b : Bool) (x : Option Item) →
-    refused_if b NotFlying (refused_if (not (passes (λ item. allowed L item told) x)) BadOutcome None) ≡ None →
+-- What has no cause of an Exec is in flight.
+item-there : (L : Ledger) (told : Told) (b waiting : Bool) (x : Option Item) →
+    refused_if b NotFlying (refused_if waiting Waiting (refused_if (not (passes (λ item. allowed L item told) x)) BadOutcome None)) ≡ None →
     (item : Item) × (x ≡ Some item)
-item-there L told true x h = (let f : ⊥ = cc in absurd f)
-item-there L told false None h = (let f : ⊥ = cc in absurd f)
-item-there L told false (Some item) h = (item, refl)
+item-there L told true waiting x h = (let f : ⊥ = cc in absurd f)
+item-there L told false true x h = (let f : ⊥ = cc in absurd f)
+item-there L told false false None h = (let f : ⊥ = cc in absurd f)
+item-there L told false false (Some item) h = (item, refl)
 
 -- An Exec that isn't refused finds an item in flight.
 pub executed-there : (L : Ledger) (place : ℕ) (told : Told) → cause L (Exec place told) ≡ None → (item : Item)
     × (slice_get L.flying place ≡ Some item)
-executed-there L place told h = item-there L told (nat_le (length L.flying) place) (slice_get L.flying place) h
+executed-there L place told h =
+    item-there L told (nat_le (length L.flying) place) (passes (waits L) (slice_get L.flying place)) (slice_get L.flying place) h
 
 -- A test whose opposite refuses nothing, beside none other, passes.
 holds-if : (b : Bool) → refused_if (not b || false) NoHandle None ≡ None → b ≡ true
@@ -115,18 +117,30 @@ refuses-next : (b : Bool) (refusal : Refusal) (next : Option Refusal) → refuse
 refuses-next true refusal next h = (let f : ⊥ = cc in absurd f)
 refuses-next false refusal next h = h
 
+-- What is refused of an Exec of what waits for nothing.
+abbrev exec_next : Ledger → ℕ → Told → Option Refusal
+exec_next L place told = refused_if (not (passes (λ item. allowed L item told) (slice_get L.flying place))) BadOutcome None
+
+-- An Exec that isn't refused is one of what waits for nothing.
+pub executed-free : (L : Ledger) (place : ℕ) (told : Told) → cause L (Exec place told) ≡ None →
+    passes (waits L) (slice_get L.flying place) ≡ false
+executed-free L place told h =
+    refuses-none (passes (waits L) (slice_get L.flying place)) Waiting (exec_next L place told)
+    (refuses-next (nat_le (length L.flying) place) NotFlying
+    (refused_if (passes (waits L) (slice_get L.flying place)) Waiting (exec_next L place told)) h)
+
 -- What is refused of a Submit, once its cancel handle is there: a handle that it names isn't its user's, or there are too many.
-abbrev submit_next : Ledger → Request Buffer Parts → Option ℕ → Option Refusal
-submit_next L request under =
-    refused_if (lacks_handle L (named request)) NoHandle (refused_if (is_full L (Submit request under)) Full None)
+abbrev submit_next : Ledger → Request Buffer Parts → Option ℕ → Bool → Option Refusal
+submit_next L request under linked =
+    refused_if (lacks_handle L (named request)) NoHandle (refused_if (is_full L (Submit request under linked)) Full None)
 
 -- A Submit that isn't refused names handles that its user holds.
-pub submitted-held : (L : Ledger) (request : Request Buffer Parts) (under : Option ℕ) → cause L (Submit request under) ≡ None → (h : ℕ) →
-    has_number h (named request) ≡ true → user_holds L h ≡ true
-submitted-held L request under unrefused h names =
+pub submitted-held : (L : Ledger) (request : Request Buffer Parts) (under : Option ℕ) (linked : Bool) →
+    cause L (Submit request under linked) ≡ None → (h : ℕ) → has_number h (named request) ≡ true → user_holds L h ≡ true
+submitted-held L request under linked unrefused h names =
     names-held L (named request)
-    (refuses-none (lacks_handle L (named request)) NoHandle (refused_if (is_full L (Submit request under)) Full None)
-    (refuses-next (has_no_canceller L (Submit request under)) NoCanceller (submit_next L request under) unrefused)) h names
+    (refuses-none (lacks_handle L (named request)) NoHandle (refused_if (is_full L (Submit request under linked)) Full None)
+    (refuses-next (has_no_canceller L (Submit request under linked)) NoCanceller (submit_next L request under linked) unrefused)) h names
 
 -- What isn't at or past the end is below it.
 below-end : (n end : ℕ) (refusal : Refusal) (next : Option Refusal) → refused_if (nat_le end n) refusal next ≡ None → n < end
@@ -136,10 +150,10 @@ below-end n end refusal next h = elim (leb_tells end n) [
 ]
 
 -- A Submit under a cancel handle that isn't refused finds it.
-pub submitted-under : (L : Ledger) (request : Request Buffer Parts) (handle : ℕ) → cause L (Submit request (Some handle)) ≡ None →
-    handle < length L.cancel_handles
-submitted-under L request handle unrefused =
-    below-end handle (length L.cancel_handles) NoCanceller (submit_next L request (Some handle)) unrefused
+pub submitted-under : (L : Ledger) (request : Request Buffer Parts) (handle : ℕ) (linked : Bool) →
+    cause L (Submit request (Some handle) linked) ≡ None → handle < length L.cancel_handles
+submitted-under L request handle linked unrefused =
+    below-end handle (length L.cancel_handles) NoCanceller (submit_next L request (Some handle) linked) unrefused
 
 -- A NewHandle that isn't refused finds its canceller.
 pub handle-canceller : (L : Ledger) (c : ℕ) → cause L (NewHandle c) ≡ None → c < length L.cancellers

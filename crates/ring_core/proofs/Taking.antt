@@ -3,7 +3,7 @@ use Rattle.std.proofs.Common.{◌≡◌, inl, inr, ℕ, ◌+◌, Bool, false, Li
 use Rattle.std.proofs.Common.{sym, ◌∙◌, ap, subst, arith}
 use Rattle.ring_core.specs.Lists.{amended}
 use Rattle.ring_core.specs.Ledger.{Ledger, Operation, Place, InQueue, InFlight, InDone, Reaped, Gone, Queued, Req, Cancel, Item, Op}
-use Rattle.ring_core.specs.Queue.{at_place, canceled_at, with_cancel, take_one, take_each, take_all}
+use Rattle.ring_core.specs.Queue.{canceled_at, with_take, with_cancel, take_one, leader_behind, take_behind, take_each, take_all}
 use Rattle.ring_core.proofs.Amended.{get-amended-other, get-amended}
 use Rattle.ring_core.proofs.Taken.{queue-take_each, done-take_each}
 use Rattle.ring_core.proofs.Occurring.{same-cases, queued, listed, listed-append}
@@ -49,14 +49,15 @@ abbrev pub taken_place : Place → Place
 taken_place InQueue = InFlight
 taken_place place = place
 
--- An operation after the queue was taken; its cancel was taken by then, or wasn't.
-abbrev pub with_take : Bool → Operation → Operation
-with_take canceled o = record o { canceled = canceled; place = taken_place o.place }
+-- An operation after the queue was taken; its cancel was taken by then, or wasn't, and it waits for another by then, or doesn't.
+abbrev pub with_taking : Bool → Option ℕ → Operation → Operation
+with_taking canceled waits_for o = record o { waits_for = waits_for; canceled = canceled; place = taken_place o.place }
 
 -- Taking changed no more than that.
 pub record Took (old new : Option Operation) : Type 0 where
   pub canceled : Bool
-  pub is : new ≡ option_map (with_take canceled) old
+  pub waits_for : Option ℕ
+  pub is : new ≡ option_map (with_taking canceled waits_for) old
 
 -- What doesn't stand in the queue isn't taken.
 untaken-place : (p : Place) → in_queue p ≡ 0 → taken_place p ≡ p
@@ -68,8 +69,12 @@ untaken-place Gone h = refl
 
 -- What isn't in the queue is as if it were taken.
 untaken : (x : Option Operation) → queue_mark x ≡ 0 → Took x x
-untaken None h = record { canceled = false; is = refl }
-untaken (Some o) h = record { canceled = o.canceled; is = ap (λ p. Some (record o { place = p })) (sym (untaken-place o.place h)) }
+untaken None h = record { canceled = false; waits_for = None; is = refl }
+untaken (Some o) h = record {
+  canceled = o.canceled;
+  waits_for = o.waits_for;
+  is = ap (λ p. Some (record o { place = p })) (sym (untaken-place o.place h));
+}
 
 -- What stands in the queue is taken, and stands there once.
 taken-place : (p : Place) (k : ℕ) → 1 + k ≡ in_queue p → (taken_place p ≡ InFlight) × (k ≡ 0)
@@ -80,16 +85,20 @@ taken-place (Reaped outcome) k h = absurd (omega (arith, h))
 taken-place Gone k h = absurd (omega (arith, h))
 
 -- What stands in the queue is taken as one entry is.
-taken-once : (x y : Option Operation) (k : ℕ) → 1 + k ≡ queue_mark x → (Took (option_map (at_place InFlight) x) y → Took x y)
-    × (k ≡ queue_mark (option_map (at_place InFlight) x))
-taken-once None y k h = absurd (omega (arith, h))
-taken-once (Some o) y k h = let t = taken-place o.place k h in (
-  λ took. record { canceled = took.canceled; is = took.is ∙ ap (λ p. Some (record o { canceled = took.canceled; place = p })) (sym t.0) },
+taken-once : (leader : Option ℕ) (x y : Option Operation) (k : ℕ) → 1 + k ≡ queue_mark x →
+    (Took (option_map (with_take leader) x) y → Took x y) × (k ≡ queue_mark (option_map (with_take leader) x))
+taken-once leader None y k h = absurd (omega (arith, h))
+taken-once leader (Some o) y k h = let t = taken-place o.place k h in (
+  λ took. record {
+    canceled = took.canceled;
+    waits_for = took.waits_for;
+    is = took.is ∙ ap (λ p. Some (record o { waits_for = took.waits_for; canceled = took.canceled; place = p })) (sym t.0);
+  },
   t.1,
 )
 
 -- A cancel that is taken leaves the place, and is part of taking all.
-canceled-place : (p : Place) (o : Operation) → (canceled_at p o).place ≡ o.place
+pub canceled-place : (p : Place) (o : Operation) → (canceled_at p o).place ≡ o.place
 canceled-place InQueue o = refl
 canceled-place InFlight o = refl
 canceled-place (InDone outcome) o = refl
@@ -97,37 +106,42 @@ canceled-place (Reaped outcome) o = refl
 canceled-place Gone o = refl
 
 -- Taking an operation after its cancel is taking it.
-canceled-taken : (canceled : Bool) (p : Place) (o : Operation) → with_take canceled (canceled_at p o) ≡ with_take canceled o
-canceled-taken canceled InQueue o = refl
-canceled-taken canceled InFlight o = refl
-canceled-taken canceled (InDone outcome) o = refl
-canceled-taken canceled (Reaped outcome) o = refl
-canceled-taken canceled Gone o = refl
+canceled-taken : (canceled : Bool) (waits_for : Option ℕ) (p : Place) (o : Operation) →
+    with_taking canceled waits_for (canceled_at p o) ≡ with_taking canceled waits_for o
+canceled-taken canceled waits_for InQueue o = refl
+canceled-taken canceled waits_for InFlight o = refl
+canceled-taken canceled waits_for (InDone outcome) o = refl
+canceled-taken canceled waits_for (Reaped outcome) o = refl
+canceled-taken canceled waits_for Gone o = refl
 
 -- What is taken after its cancel was, was taken, and the other way round.
 canceled-once : (x y : Option Operation) → (Took (option_map with_cancel x) y → Took x y)
     × (queue_mark (option_map with_cancel x) ≡ queue_mark x)
 canceled-once None y = (λ took. took, refl)
 canceled-once (Some o) y = (
-  λ took. record { canceled = took.canceled; is = took.is ∙ ap Some (canceled-taken took.canceled o.place o) },
+  λ took. record {
+    canceled = took.canceled;
+    waits_for = took.waits_for;
+    is = took.is ∙ ap Some (canceled-taken took.canceled took.waits_for o.place o);
+  },
   ap in_queue (canceled-place o.place o),
 )
 
-module _ (ops : List Operation) (m : ℕ) (entries : List Queued)
+module _ (leader : Option ℕ) (ops : List Operation) (m : ℕ) (entries : List Queued)
     (fits : (n : ℕ) → queued n (Req m ∷ entries) ≡ queue_mark (slice_get ops n)) where
   -- By number: taking the first entry is part of taking all, and the rest of the queue holds what isn't yet taken.
-  pub one-taken : (n : ℕ) (y : Option Operation) → (Took (slice_get (amended ops m (at_place InFlight)) n) y → Took (slice_get ops n) y)
-      × (queued n entries ≡ queue_mark (slice_get (amended ops m (at_place InFlight)) n))
+  pub one-taken : (n : ℕ) (y : Option Operation) → (Took (slice_get (amended ops m (with_take leader)) n) y → Took (slice_get ops n) y)
+      × (queued n entries ≡ queue_mark (slice_get (amended ops m (with_take leader)) n))
   one-taken n y = elim (same-cases n m) [
     | inl e ↦ (
-        let at : slice_get (amended ops m (at_place InFlight)) n ≡ option_map (at_place InFlight) (slice_get ops n) = subst
-        (λ k. slice_get (amended ops k (at_place InFlight)) n ≡ option_map (at_place InFlight) (slice_get ops n)) e.0
-        (get-amended (at_place InFlight) ops n) in
+        let at : slice_get (amended ops m (with_take leader)) n ≡ option_map (with_take leader) (slice_get ops n) = subst
+        (λ k. slice_get (amended ops k (with_take leader)) n ≡ option_map (with_take leader) (slice_get ops n)) e.0
+        (get-amended (with_take leader) ops n) in
         let f : 1 + queued n entries ≡ queue_mark (slice_get ops n) = ap (λ k. k + queued n entries) (sym e.1) ∙ fits n in
-        let t = taken-once (slice_get ops n) y (queued n entries) f in
+        let t = taken-once leader (slice_get ops n) y (queued n entries) f in
         (λ took. t.0 (subst (λ x. Took x y) at took), t.1 ∙ ap queue_mark (sym at)))
     | inr e ↦ (
-        let at : slice_get (amended ops m (at_place InFlight)) n ≡ slice_get ops n = get-amended-other (at_place InFlight) ops m n e.0 in
+        let at : slice_get (amended ops m (with_take leader)) n ≡ slice_get ops n = get-amended-other (with_take leader) ops m n e.0 in
         let f : queued n entries ≡ queue_mark (slice_get ops n) = (let g = fits n in let z = e.1 in omega arith) in
         (λ took. subst (λ x. Took x y) at took, f ∙ ap queue_mark (sym at)))
   ]
@@ -148,28 +162,44 @@ module _ (ops : List Operation) (m : ℕ) where
         (λ took. subst (λ x. Took x y) at took, ap queue_mark at))
   ]
 
+-- Taking entries takes each operation whose request is among them, whatever the first of them follows, and leaves the others.
+take-ops_behind : (leader : Option ℕ) (L : Ledger) (entries : List Queued) →
+    ((n : ℕ) → queued n entries ≡ queue_mark (slice_get L.ops n)) → (n : ℕ) →
+    Took (slice_get L.ops n) (slice_get (take_behind leader L entries).ops n)
+take-ops_behind leader L [] h n = untaken (slice_get L.ops n) (sym (h n))
+take-ops_behind leader L (Req m ∷ entries) h n =
+    let next = leader_behind L (Req m) in
+    let y : Option Operation = slice_get (take_behind next (take_one leader L (Req m)) entries).ops n in
+    (one-taken leader L.ops m entries h n y).0
+    (take-ops_behind next (take_one leader L (Req m)) entries (λ k. (one-taken leader L.ops m entries h k None).1) n)
+take-ops_behind leader L (Cancel m ∷ entries) h n =
+    let y : Option Operation = slice_get (take_behind None (take_one leader L (Cancel m)) entries).ops n in
+    (one-canceled L.ops m n y).0
+    (take-ops_behind None (take_one leader L (Cancel m)) entries (λ k. h k ∙ sym (one-canceled L.ops m k None).1) n)
+take-ops_behind leader L (Queued.Close m ∷ entries) h n = take-ops_behind None (take_one leader L (Queued.Close m)) entries h n
+
 -- Taking the queue takes each operation that stands in it, and leaves the others.
 pub take-ops : (L : Ledger) (entries : List Queued) → ((n : ℕ) → queued n entries ≡ queue_mark (slice_get L.ops n)) → (n : ℕ) →
     Took (slice_get L.ops n) (slice_get (take_each L entries).ops n)
-take-ops L [] h n = untaken (slice_get L.ops n) (sym (h n))
-take-ops L (Req m ∷ entries) h n =
-    let y : Option Operation = slice_get (take_each (take_one L (Req m)) entries).ops n in
-    (one-taken L.ops m entries h n y).0 (take-ops (take_one L (Req m)) entries (λ k. (one-taken L.ops m entries h k None).1) n)
-take-ops L (Cancel m ∷ entries) h n =
-    let y : Option Operation = slice_get (take_each (take_one L (Cancel m)) entries).ops n in
-    (one-canceled L.ops m n y).0 (take-ops (take_one L (Cancel m)) entries (λ k. h k ∙ sym (one-canceled L.ops m k None).1) n)
-take-ops L (Queued.Close m ∷ entries) h n = take-ops (take_one L (Queued.Close m)) entries h n
+take-ops L entries h n = take-ops_behind None L entries h n
+
+-- What was queued is in flight, whatever the first entry follows.
+take-flying_behind : (leader : Option ℕ) (L : Ledger) (entries : List Queued) (n : ℕ) →
+    listed n (take_behind leader L entries).flying ≡ listed n L.flying + queued n entries
+take-flying_behind leader L [] n = omega arith
+take-flying_behind leader L (Req m ∷ entries) n =
+    let r = take-flying_behind (leader_behind L (Req m)) (take_one leader L (Req m)) entries n in
+    let a = listed-append n L.flying (Op m ∷ []) in
+    omega arith
+take-flying_behind leader L (Cancel m ∷ entries) n = take-flying_behind None (take_one leader L (Cancel m)) entries n
+take-flying_behind leader L (Queued.Close m ∷ entries) n =
+    let r = take-flying_behind None (take_one leader L (Queued.Close m)) entries n in
+    let a = listed-append n L.flying (Item.Close m ∷ []) in
+    omega arith
 
 -- What was queued is in flight.
 take-flying : (L : Ledger) (entries : List Queued) (n : ℕ) → listed n (take_each L entries).flying ≡ listed n L.flying + queued n entries
-take-flying L [] n = omega arith
-take-flying L (Req m ∷ entries) n =
-    let r = take-flying (take_one L (Req m)) entries n in let a = listed-append n L.flying (Op m ∷ []) in omega arith
-take-flying L (Cancel m ∷ entries) n = take-flying (take_one L (Cancel m)) entries n
-take-flying L (Queued.Close m ∷ entries) n =
-    let r = take-flying (take_one L (Queued.Close m)) entries n in
-    let a = listed-append n L.flying (Item.Close m ∷ []) in
-    omega arith
+take-flying L entries n = take-flying_behind None L entries n
 
 -- The marks of what was taken.
 taken-marks-at : (p : Place) → (in_queue (taken_place p) ≡ 0) × (in_flight (taken_place p) ≡ in_flight p + in_queue p)
@@ -181,17 +211,19 @@ taken-marks-at (Reaped outcome) = (refl, refl, refl)
 taken-marks-at Gone = (refl, refl, refl)
 
 -- The marks of what was taken, of an operation that was looked up.
-taken-marks-of : (canceled : Bool) (x : Option Operation) → (queue_mark (option_map (with_take canceled) x) ≡ 0)
-    × (flight_mark (option_map (with_take canceled) x) ≡ flight_mark x + queue_mark x)
-    × (done_mark (option_map (with_take canceled) x) ≡ done_mark x)
-taken-marks-of canceled None = (refl, refl, refl)
-taken-marks-of canceled (Some o) = taken-marks-at o.place
+taken-marks-of : (canceled : Bool) (waits_for : Option ℕ) (x : Option Operation) →
+    (queue_mark (option_map (with_taking canceled waits_for) x) ≡ 0)
+    × (flight_mark (option_map (with_taking canceled waits_for) x) ≡ flight_mark x + queue_mark x)
+    × (done_mark (option_map (with_taking canceled waits_for) x) ≡ done_mark x)
+taken-marks-of canceled waits_for None = (refl, refl, refl)
+taken-marks-of canceled waits_for (Some o) = taken-marks-at o.place
 
 -- The same of an operation that was looked up.
 taken-marks : (x y : Option Operation) → Took x y → (queue_mark y ≡ 0) × (flight_mark y ≡ flight_mark x + queue_mark x)
     × (done_mark y ≡ done_mark x)
 taken-marks x y took =
-    let m = taken-marks-of took.canceled x in (ap queue_mark took.is ∙ m.0, ap flight_mark took.is ∙ m.1, ap done_mark took.is ∙ m.2)
+    let m = taken-marks-of took.canceled took.waits_for x in
+    (ap queue_mark took.is ∙ m.0, ap flight_mark took.is ∙ m.1, ap done_mark took.is ∙ m.2)
 
 -- Taking all takes each operation that stands in the queue.
 pub take_all-ops : (L : Ledger) → Listed L → (n : ℕ) → Took (slice_get L.ops n) (slice_get (take_all L).ops n)

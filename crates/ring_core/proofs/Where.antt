@@ -1,5 +1,5 @@
 -- The numbers of the elements that pass a test, after one element is changed or joins.
-use Rattle.std.proofs.Common.{◌≡◌, ℕ, zero, suc, ◌+◌, Bool, true, false, List, [], ◌∷◌, ◌++◌, length, Some, slice_get, refl, sym, ◌∙◌}
+use Rattle.std.proofs.Common.{◌≡◌, ℕ, zero, suc, ◌+◌, Bool, true, false, List, [], ◌∷◌, ◌++◌, length, map, Some, slice_get, refl, sym, ◌∙◌}
 use Rattle.std.proofs.Common.{ap, arith}
 use Rattle.std.specs.Prelude.{if◌then◌else◌, ◌==◌}
 use Rattle.ring_core.specs.Lists.{amended, numbers_where, is_empty}
@@ -82,3 +82,10 @@ pub none-where : {A : Type 0} (test : A → Bool) (xs : List A) (k : ℕ) → ((
 none-where test [] k fails = refl
 none-where test (y ∷ xs) k fails =
     ap (λ b. led b k (numbers_where test (suc k) xs)) (fails 0 y refl) ∙ none-where test xs (suc k) (λ n x there. fails (suc n) x there)
+
+-- Changes after which each element passes exactly where it did.
+pub where-map : {A : Type 0} (test : A → Bool) (f : A → A) (xs : List A) (k : ℕ) → ((x : A) → test (f x) ≡ test x) →
+    numbers_where test k (map f xs) ≡ numbers_where test k xs
+where-map test f [] k keeps = refl
+where-map test f (x ∷ xs) k keeps =
+    ap (λ b. led b k (numbers_where test (suc k) (map f xs))) (keeps x) ∙ ap (led (test x) k) (where-map test f xs (suc k) keeps)

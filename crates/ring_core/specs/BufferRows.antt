@@ -1,5 +1,5 @@
 -- Worked runs of the machine on bytes: what a read leaves in each kind of buffer, and what a send leaves on its handle.
-use Rattle.std.specs.Prelude.{ℕ, ◌≡◌, List, [], ◌∷◌, None}
+use Rattle.std.specs.Prelude.{ℕ, ◌≡◌, List, [], ◌∷◌, None, false}
 use Rattle.rent_buf.specs.Rent.{Rented}
 use Rattle.rent_buf.specs.declared.kind.Kind.{Kind}
 use Rattle.rent_buf.specs.declared.kind.Kind.TheVariants.{Vector, Grown, Fixed}
@@ -26,7 +26,7 @@ ShortReadInto kind bytes =
     replies (empty 4) (
     Give Stream ∷
     Feed 0 (97 ∷ 98 ∷ []) ∷
-    Submit (Recv 0 (record (vector 4 0 4 (48 ∷ 49 ∷ 50 ∷ 51 ∷ [])) { kind = kind })) None ∷
+    Submit (Recv 0 (record (vector 4 0 4 (48 ∷ 49 ∷ 50 ∷ 51 ∷ [])) { kind = kind })) None false ∷
     Turn ∷
     Exec 0 (Count 2) ∷
     Turn ∷
@@ -58,7 +58,7 @@ RangeRead =
     replies (empty 4) (
     Give Stream ∷
     Feed 0 (97 ∷ 98 ∷ 99 ∷ 100 ∷ 101 ∷ []) ∷
-    Submit (Recv 0 (vector 10 1 8 (48 ∷ 49 ∷ 50 ∷ 51 ∷ []))) None ∷
+    Submit (Recv 0 (vector 10 1 8 (48 ∷ 49 ∷ 50 ∷ 51 ∷ []))) None false ∷
     Turn ∷
     Exec 0 (Count 5) ∷
     Turn ∷
@@ -78,7 +78,7 @@ PartsRead =
     replies (empty 4) (
     Give Stream ∷
     Feed 0 (97 ∷ 98 ∷ 99 ∷ 100 ∷ []) ∷
-    Submit (ReadVec 0 (part 2 [] ∷ part 3 [] ∷ part 4 (122 ∷ []) ∷ [])) None ∷
+    Submit (ReadVec 0 (part 2 [] ∷ part 3 [] ∷ part 4 (122 ∷ []) ∷ [])) None false ∷
     Turn ∷
     Exec 0 (Count 4) ∷
     Turn ∷
@@ -97,7 +97,7 @@ abbrev pub ShortSend : Type 0
 ShortSend =
     replies (empty 4) (
     Give Stream ∷
-    Submit (Send 0 (vector 8 0 5 (104 ∷ 101 ∷ 108 ∷ 108 ∷ 111 ∷ []))) None ∷
+    Submit (Send 0 (vector 8 0 5 (104 ∷ 101 ∷ 108 ∷ 108 ∷ 111 ∷ []))) None false ∷
     Turn ∷
     Exec 0 (Count 6) ∷
     Exec 0 (Count 3) ∷
@@ -119,7 +119,7 @@ abbrev pub PartsSend : Type 0
 PartsSend =
     replies (empty 4) (
     Give Stream ∷
-    Submit (WriteVec 0 (part 3 (97 ∷ 98 ∷ []) ∷ part 0 [] ∷ part 2 (99 ∷ []) ∷ [])) None ∷
+    Submit (WriteVec 0 (part 3 (97 ∷ 98 ∷ []) ∷ part 0 [] ∷ part 2 (99 ∷ []) ∷ [])) None false ∷
     Turn ∷
     Exec 0 (Count 3) ∷
     Turn ∷

@@ -1,5 +1,5 @@
 -- Worked runs of the machine on cancellers and their groups.
-use Rattle.std.specs.Prelude.{◌≡◌, [], ◌∷◌, Some, None}
+use Rattle.std.specs.Prelude.{◌≡◌, [], ◌∷◌, Some, None, false}
 use Rattle.rent_buf.specs.declared.held.Held.TheVariants.{One}
 use Rattle.ring_core.specs.declared.world.HandleKind.TheVariants.{Stream}
 use Rattle.ring_core.specs.declared.request.Request.TheVariants.{Recv}
@@ -22,17 +22,17 @@ CanceledGroup =
     Give Stream ∷
     NewCanceller ∷
     NewHandle 0 ∷
-    Submit (Recv 0 (vector 1 0 1 [])) (Some 0) ∷
-    Submit (Recv 0 (vector 1 0 1 [])) (Some 0) ∷
+    Submit (Recv 0 (vector 1 0 1 [])) (Some 0) false ∷
+    Submit (Recv 0 (vector 1 0 1 [])) (Some 0) false ∷
     CancelAll 0 ∷
-    Submit (Recv 0 (vector 1 0 1 [])) (Some 0) ∷
+    Submit (Recv 0 (vector 1 0 1 [])) (Some 0) false ∷
     Turn ∷
     Exec 0 (Fail CANCELED) ∷
     Exec 0 (Fail CANCELED) ∷
     Turn ∷
     Poll 0 3 ∷
     NewHandle 0 ∷
-    Submit (Recv 0 (vector 1 0 1 [])) (Some 1) ∷ [])
+    Submit (Recv 0 (vector 1 0 1 [])) (Some 1) false ∷ [])
     ≡ (
     Handle 0 ∷
     Canceller 0 ∷
@@ -56,8 +56,8 @@ FullQueueGroup =
     Give Stream ∷
     NewCanceller ∷
     NewHandle 0 ∷
-    Submit (Recv 0 (vector 1 0 1 [])) (Some 0) ∷
-    Submit (Recv 0 (vector 1 0 1 [])) (Some 0) ∷
+    Submit (Recv 0 (vector 1 0 1 [])) (Some 0) false ∷
+    Submit (Recv 0 (vector 1 0 1 [])) (Some 0) false ∷
     CancelAll 0 ∷
     Turn ∷
     Exec 0 (Fail CANCELED) ∷
@@ -82,12 +82,12 @@ GroupMembers =
     replies (empty 8) (
     Give Stream ∷
     CancelAll 0 ∷
-    Submit (Recv 0 (vector 1 0 1 [])) (Some 0) ∷
+    Submit (Recv 0 (vector 1 0 1 [])) (Some 0) false ∷
     NewCanceller ∷
     NewHandle 0 ∷
-    Submit (Recv 0 (vector 1 0 1 [])) (Some 0) ∷
-    Submit (Recv 0 (vector 1 0 1 [])) None ∷
-    Submit (Recv 0 (vector 1 0 1 [])) (Some 0) ∷
+    Submit (Recv 0 (vector 1 0 1 [])) (Some 0) false ∷
+    Submit (Recv 0 (vector 1 0 1 [])) None false ∷
+    Submit (Recv 0 (vector 1 0 1 [])) (Some 0) false ∷
     Drop 0 ∷
     CancelAll 0 ∷
     CancelAll 0 ∷

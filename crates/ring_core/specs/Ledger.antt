@@ -28,10 +28,13 @@ pub data Place : Type 0 where
   Reaped : Outcome → Place
   Gone : Place
 
--- An operation: the request that was submitted, its buffer as it is now, the group that it was submitted under, the task that waits
--- for it, whether its cancel was taken, whether it was dropped, the handle that it made, and its place.
+-- An operation: the request that was submitted, whether it is linked, the operation that it waits for, its buffer as it is now, the group
+-- that it was submitted under, the task that waits for it, whether its cancel was taken, whether it was dropped, the handle that it made,
+-- and its place.
 pub record Operation : Type 0 where
   pub request : Request Buffer Parts
+  pub linked : Bool
+  pub waits_for : Option ℕ
   pub buffer : HeldBuf
   pub group : Option ℕ
   pub task : Option ℕ
@@ -73,11 +76,13 @@ empty capacity = record {
   groups = [];
 }
 
--- A new operation of a request, under a group or none.
-abbrev pub new_operation : Request Buffer Parts → Option ℕ → Operation
-new_operation request group =
+-- A new operation of a request, under a group or none, and linked or not.
+abbrev pub new_operation : Request Buffer Parts → Option ℕ → Bool → Operation
+new_operation request group linked =
     record {
       request = request;
+      linked = linked;
+      waits_for = None;
       buffer = held_of request;
       group = group;
       task = None;

@@ -17,6 +17,7 @@ pub mod OutcomeRows
 pub mod BufferRows
 pub mod RequestRows
 pub mod MadeRows
+pub mod LinkRows
 pub mod Counts
 pub mod Entry
 pub mod Ring

@@ -1,5 +1,5 @@
 -- Worked runs of the machine on handles that an operation makes.
-use Rattle.std.specs.Prelude.{◌≡◌, [], ◌∷◌, None}
+use Rattle.std.specs.Prelude.{◌≡◌, [], ◌∷◌, None, false}
 use Rattle.rent_buf.specs.declared.held.Held.TheVariants.{One, Nothing}
 use Rattle.ring_core.specs.declared.world.HandleKind.TheVariants.{Listener}
 use Rattle.ring_core.specs.declared.request.Request.TheVariants.{Accept, Open, Recv, Send}
@@ -18,7 +18,7 @@ abbrev pub AbandonedAccept : Type 0
 AbandonedAccept =
     replies (empty 4) (
     Give Listener ∷
-    Submit (Accept 0) None ∷
+    Submit (Accept 0) None false ∷
     Turn ∷
     Drop 0 ∷
     Exec 0 (Count 0) ∷
@@ -43,24 +43,24 @@ abbrev pub EchoServer : Type 0
 EchoServer =
     replies (empty 1024) (
     Give Listener ∷
-    Submit (Accept 0) None ∷
+    Submit (Accept 0) None false ∷
     Turn ∷
     Exec 0 (Count 0) ∷
     Feed 1 (104 ∷ 105 ∷ []) ∷
     Turn ∷
     Poll 0 1 ∷
     Feed 1 (104 ∷ 105 ∷ []) ∷
-    Submit (Recv 1 (vector 8192 0 8192 [])) None ∷
+    Submit (Recv 1 (vector 8192 0 8192 [])) None false ∷
     Turn ∷
     Exec 0 (Count 2) ∷
     Turn ∷
     Poll 1 1 ∷
-    Submit (Send 1 (vector 8192 0 2 (104 ∷ 105 ∷ []))) None ∷
+    Submit (Send 1 (vector 8192 0 2 (104 ∷ 105 ∷ []))) None false ∷
     Turn ∷
     Exec 0 (Count 1) ∷
     Turn ∷
     Poll 2 1 ∷
-    Submit (Send 1 (vector 8192 1 2 (104 ∷ 105 ∷ []))) None ∷
+    Submit (Send 1 (vector 8192 1 2 (104 ∷ 105 ∷ []))) None false ∷
     Turn ∷
     Exec 0 (Count 1) ∷
     Turn ∷
@@ -104,7 +104,7 @@ EchoServer =
 abbrev pub OpenedFile : Type 0
 OpenedFile =
     replies (empty 8) (
-    Submit (Open (47 ∷ 97 ∷ []) 0 0) None ∷
+    Submit (Open (47 ∷ 97 ∷ []) 0 0) None false ∷
     Turn ∷
     Exec 0 (Count 0) ∷
     Turn ∷

@@ -1,5 +1,5 @@
 -- Worked runs of the machine on outcomes: which are allowed, and what an end changes.
-use Rattle.std.specs.Prelude.{◌≡◌, ◌+◌, [], ◌∷◌, None}
+use Rattle.std.specs.Prelude.{◌≡◌, ◌+◌, [], ◌∷◌, None, false}
 use Rattle.rent_buf.specs.declared.held.Held.TheVariants.{One}
 use Rattle.ring_core.specs.declared.world.HandleKind.TheVariants.{Stream}
 use Rattle.ring_core.specs.declared.request.Request.TheVariants.{Recv}
@@ -18,7 +18,7 @@ abbrev pub RefusedOutcomes : Type 0
 RefusedOutcomes =
     replies (empty 4) (
     Give Stream ∷
-    Submit (Recv 0 (vector 2 0 2 [])) None ∷
+    Submit (Recv 0 (vector 2 0 2 [])) None false ∷
     Turn ∷
     Feed 0 (97 ∷ []) ∷
     Exec 0 (Count 2) ∷
@@ -39,7 +39,7 @@ Errors =
     replies (empty 4) (
     Give Stream ∷
     Feed 0 (97 ∷ []) ∷
-    Submit (Recv 0 (vector 2 0 2 (48 ∷ 49 ∷ []))) None ∷
+    Submit (Recv 0 (vector 2 0 2 (48 ∷ 49 ∷ []))) None false ∷
     Turn ∷
     Exec 0 (Fail 0) ∷
     Exec 0 (Fail (LAST_ERROR + 1)) ∷
@@ -64,7 +64,7 @@ abbrev pub ReadAtTheEnd : Type 0
 ReadAtTheEnd =
     replies (empty 4) (
     Give Stream ∷
-    Submit (Recv 0 (vector 4 0 4 (48 ∷ []))) None ∷
+    Submit (Recv 0 (vector 4 0 4 (48 ∷ []))) None false ∷
     Turn ∷
     Exec 0 (Count 0) ∷
     End 0 ∷

@@ -1,6 +1,7 @@
 -- Taking the queue, pushing an entry, and the leaving of an operation.
-use Rattle.std.specs.Prelude.{ℕ, Bool, true, not, ◌&&◌, ◌==◌, if◌then◌else◌, List, [], ◌∷◌, ◌++◌, length, map, filter}
-use Rattle.ring_core.specs.Lists.{amended, is_empty, numbers_below}
+use Rattle.std.specs.Prelude.{ℕ, Bool, true, not, ◌&&◌, ◌==◌, if◌then◌else◌, List, [], ◌∷◌, ◌++◌, length, map, filter, Option, Some, None}
+use Rattle.std.specs.Prelude.{slice_get}
+use Rattle.ring_core.specs.Lists.{amended, is_empty, numbers_below, passes}
 use Rattle.ring_core.specs.Ledger.{Ledger, Operation, Place, InFlight, Gone, Queued, Req, Cancel, Item, Op, holders}
 
 -- The ledger with an operation changed.
@@ -24,16 +25,31 @@ canceled_at _ operation = operation
 abbrev pub with_cancel : Operation → Operation
 with_cancel operation = canceled_at operation.place operation
 
--- Taking one entry: Req n and Close h join the end of `flying`; Cancel n is recorded where n is in flight, and else does nothing.
-abbrev pub take_one : Ledger → Queued → Ledger
-take_one L (Req n) = with_op (with_flying L (Op n)) n (at_place InFlight)
-take_one L (Cancel n) = with_op L n with_cancel
-take_one L (Queued.Close h) = with_flying L (Item.Close h)
+-- An operation in flight that waits for another, or for none.
+abbrev pub with_take : Option ℕ → Operation → Operation
+with_take leader operation = record operation { waits_for = leader; place = InFlight }
 
--- Taking entries, in order.
+-- Taking one entry: Req n and Close h join the end of `flying`, and n waits for the leader, where there is one; Cancel n is recorded where
+-- n is in flight, and else does nothing.
+abbrev pub take_one : Option ℕ → Ledger → Queued → Ledger
+take_one leader L (Req n) = with_op (with_flying L (Op n)) n (with_take leader)
+take_one leader L (Cancel n) = with_op L n with_cancel
+take_one leader L (Queued.Close h) = with_flying L (Item.Close h)
+
+-- The leader of a request that is taken directly behind an entry: the operation of a linked request, and none behind any other entry.
+abbrev pub leader_behind : Ledger → Queued → Option ℕ
+leader_behind L (Req n) = if passes (λ operation. operation.linked) (slice_get L.ops n) then Some n else None
+leader_behind L (Cancel n) = None
+leader_behind L (Queued.Close h) = None
+
+-- Taking entries, in order, the first of them behind a leader or behind none.
+abbrev pub take_behind : Option ℕ → Ledger → List Queued → Ledger
+take_behind leader L [] = L
+take_behind leader L (entry ∷ entries) = take_behind (leader_behind L entry) (take_one leader L entry) entries
+
+-- Taking entries at once, in order.
 abbrev pub take_each : Ledger → List Queued → Ledger
-take_each L [] = L
-take_each L (entry ∷ entries) = take_each (take_one L entry) entries
+take_each L entries = take_behind None L entries
 
 -- Taking empties the queue, in order.
 abbrev pub take_all : Ledger → Ledger

@@ -1,11 +1,12 @@
 -- Which events are refused, and why: a test for each refusal, over the events that may get it.
-use Rattle.std.specs.Prelude.{ℕ, Bool, true, false, not, ◌&&◌, ◌||◌, nat_le, List, [], ◌∷◌, length, Option, Some, None, slice_get}
+use Rattle.std.specs.Prelude.{ℕ, Bool, true, false, not, ◌&&◌, ◌||◌, nat_le, List, [], ◌∷◌, length, Option, Some, None, is_some, slice_get}
 use Rattle.ring_core.specs.declared.ledger.TheConstants.{MOST_LIVE}
 use Rattle.ring_core.specs.declared.ledger.Event.{Event}
 use Rattle.ring_core.specs.declared.ledger.Event.TheVariants.{Feed, FeedMessage, End, Look, Close, Submit, Poll, Drop, Cancel, Exec}
 use Rattle.ring_core.specs.declared.ledger.Event.TheVariants.{NewHandle, CancelAll}
 use Rattle.ring_core.specs.declared.ledger.Refusal.{Refusal}
-use Rattle.ring_core.specs.declared.ledger.Refusal.TheVariants.{NoOp, NoCanceller, NoHandle, Full, NotFlying, BadOutcome, BadHandleEvent}
+use Rattle.ring_core.specs.declared.ledger.Refusal.TheVariants.{NoOp, NoCanceller, NoHandle, Full, NotFlying, Waiting, BadOutcome}
+use Rattle.ring_core.specs.declared.ledger.Refusal.TheVariants.{BadHandleEvent}
 use Rattle.ring_core.specs.declared.request.Told.{Told}
 use Rattle.ring_core.specs.Lists.{passes}
 use Rattle.ring_core.specs.World.{refuses_feed, refuses_message, refuses_end}
@@ -38,7 +39,7 @@ has_no_op L _ = false
 abbrev pub has_no_canceller : Ledger → Event → Bool
 has_no_canceller L (NewHandle c) = nat_le (length L.cancellers) c
 has_no_canceller L (CancelAll c) = nat_le (length L.cancellers) c
-has_no_canceller L (Submit request (Some handle)) = nat_le (length L.cancel_handles) handle
+has_no_canceller L (Submit request (Some handle) linked) = nat_le (length L.cancel_handles) handle
 has_no_canceller L _ = false
 
 -- NoHandle: the user doesn't hold a handle that the event names.
@@ -48,18 +49,28 @@ has_no_handle L (FeedMessage h addr bytes) = lacks_handle L (h ∷ [])
 has_no_handle L (End h) = lacks_handle L (h ∷ [])
 has_no_handle L (Look h) = lacks_handle L (h ∷ [])
 has_no_handle L (Close h) = lacks_handle L (h ∷ [])
-has_no_handle L (Submit request under) = lacks_handle L (named request)
+has_no_handle L (Submit request under linked) = lacks_handle L (named request)
 has_no_handle L _ = false
 
 -- Full: as many operations as there may be are live. It is asked only of a request that isn't submitted under a marked group.
 abbrev pub is_full : Ledger → Event → Bool
-is_full L (Submit request under) = not (is_under_marked L under) && nat_le MOST_LIVE (length (live_ops L))
+is_full L (Submit request under linked) = not (is_under_marked L under) && nat_le MOST_LIVE (length (live_ops L))
 is_full L _ = false
 
 -- NotFlying: the place isn't below the length of `flying`.
 abbrev pub is_not_flying : Ledger → Event → Bool
 is_not_flying L (Exec place told) = nat_le (length L.flying) place
 is_not_flying L _ = false
+
+-- An item of `flying` waits: it is an operation that waits for another.
+abbrev pub waits : Ledger → Item → Bool
+waits L (Op n) = passes (λ operation. is_some operation.waits_for) (slice_get L.ops n)
+waits L (Item.Close h) = false
+
+-- Waiting: the operation at the place waits for another.
+abbrev pub is_waiting : Ledger → Event → Bool
+is_waiting L (Exec place told) = passes (waits L) (slice_get L.flying place)
+is_waiting L _ = false
 
 -- BadOutcome: the outcome isn't allowed to the item at the place.
 abbrev pub has_bad_outcome : Ledger → Event → Bool
@@ -86,5 +97,6 @@ cause L event =
     refused_if (has_no_handle L event) NoHandle (
     refused_if (is_full L event) Full (
     refused_if (is_not_flying L event) NotFlying (
+    refused_if (is_waiting L event) Waiting (
     refused_if (has_bad_outcome L event) BadOutcome (
-    refused_if (has_bad_handle_event L event) BadHandleEvent None))))))
+    refused_if (has_bad_handle_event L event) BadHandleEvent None)))))))

@@ -21,14 +21,14 @@ MessagesInAndOut =
     replies (empty 8) (
     Give Datagram ∷
     FeedMessage 0 5 (97 ∷ 98 ∷ 99 ∷ []) ∷
-    Submit (RecvMsg 0 (vector 2 0 2 [])) None ∷
+    Submit (RecvMsg 0 (vector 2 0 2 [])) None false ∷
     Turn ∷
     Exec 0 (Count 3) ∷
     Exec 0 (Count 2) ∷
     Turn ∷
     Poll 0 1 ∷
-    Submit (RecvMsg 0 (vector 2 0 2 [])) None ∷
-    Submit (SendMsg 0 None (vector 1 0 1 (120 ∷ []))) None ∷
+    Submit (RecvMsg 0 (vector 2 0 2 [])) None false ∷
+    Submit (SendMsg 0 None (vector 1 0 1 (120 ∷ []))) None false ∷
     Turn ∷
     Exec 0 (Count 0) ∷
     Exec 1 (Count 1) ∷
@@ -55,17 +55,17 @@ FilePositions =
     replies (empty 8) (
     Give File ∷
     Feed 0 (97 ∷ 98 ∷ []) ∷
-    Submit (Write 0 3 (vector 1 0 1 (120 ∷ []))) None ∷
+    Submit (Write 0 3 (vector 1 0 1 (120 ∷ []))) None false ∷
     Turn ∷
     Exec 0 (Count 1) ∷
     Look 0 ∷
-    Submit (Write 0 1 (vector 2 0 2 (121 ∷ 122 ∷ []))) None ∷
-    Submit (Read 0 4 (vector 2 0 2 [])) None ∷
+    Submit (Write 0 1 (vector 2 0 2 (121 ∷ 122 ∷ []))) None false ∷
+    Submit (Read 0 4 (vector 2 0 2 [])) None false ∷
     Turn ∷
     Exec 0 (Count 2) ∷
     Exec 0 (Count 0) ∷
     Look 0 ∷
-    Submit (Write 0 MOST_FILE (vector 1 0 1 (120 ∷ []))) None ∷
+    Submit (Write 0 MOST_FILE (vector 1 0 1 (120 ∷ []))) None false ∷
     Turn ∷
     Exec 0 (Count 1) ∷
     Exec 0 (Fail 27) ∷ [])
@@ -94,12 +94,12 @@ Splices =
     Give Stream ∷
     Give Pipe ∷
     Feed 0 (97 ∷ 98 ∷ 99 ∷ []) ∷
-    Submit (SpliceTo 0 1 2) None ∷
+    Submit (SpliceTo 0 1 2) None false ∷
     Turn ∷
     Exec 0 (Count 2) ∷
     Look 1 ∷
-    Submit (SpliceFrom 1 1 2) None ∷
-    Submit (SpliceFrom 1 0 9) None ∷
+    Submit (SpliceFrom 1 1 2) None false ∷
+    Submit (SpliceFrom 1 0 9) None false ∷
     Turn ∷
     Exec 0 (Count 2) ∷
     Exec 0 (Fail 22) ∷
@@ -131,11 +131,11 @@ PlainRequests =
     replies (empty 8) (
     Give File ∷
     Give Stream ∷
-    Submit (MkDir (98 ∷ []) 511) None ∷
-    Submit (Connect 0 7) None ∷
-    Submit (Fsync 0 true) None ∷
-    Submit (PollAdd 1 false) None ∷
-    Submit (PollAdd 2 false) None ∷
+    Submit (MkDir (98 ∷ []) 511) None false ∷
+    Submit (Connect 0 7) None false ∷
+    Submit (Fsync 0 true) None false ∷
+    Submit (PollAdd 1 false) None false ∷
+    Submit (PollAdd 2 false) None false ∷
     Turn ∷
     Exec 0 (Count 1) ∷
     Exec 0 (Count 0) ∷

@@ -1,5 +1,5 @@
 -- Worked runs of the machine on operations: a capacity, the events, and their replies.
-use Rattle.std.specs.Prelude.{ℕ, ◌≡◌, List, [], ◌∷◌, None}
+use Rattle.std.specs.Prelude.{ℕ, ◌≡◌, List, [], ◌∷◌, None, false}
 use Rattle.rent_buf.specs.Buffer.{Buffer}
 use Rattle.rent_buf.specs.declared.kind.Kind.TheVariants.{Vector}
 use Rattle.rent_buf.specs.declared.held.Held.TheVariants.{One}
@@ -25,7 +25,7 @@ abbrev pub OneRead : Type 0
 OneRead =
     replies (empty 1) (
     Give Stream ∷
-    Submit (Recv 0 (vector 4 0 4 [])) None ∷
+    Submit (Recv 0 (vector 4 0 4 [])) None false ∷
     Poll 0 7 ∷
     Feed 0 (97 ∷ 98 ∷ []) ∷
     Turn ∷
@@ -50,7 +50,7 @@ OneRead =
 abbrev pub RefusedInOrder : Type 0
 RefusedInOrder =
     replies (empty 4) (
-    Submit (Recv 9 (vector 1 0 1 [])) None ∷
+    Submit (Recv 9 (vector 1 0 1 [])) None false ∷
     Exec 0 (Count 0) ∷
     NewHandle 3 ∷
     Poll 0 1 ∷ [])
@@ -66,13 +66,13 @@ LateCancel =
     replies (empty 8) (
     Give Stream ∷
     Feed 0 (97 ∷ []) ∷
-    Submit (Recv 0 (vector 1 0 1 [])) None ∷
+    Submit (Recv 0 (vector 1 0 1 [])) None false ∷
     Turn ∷
     Exec 0 (Count 1) ∷
     Turn ∷
     Cancel 0 ∷
     Poll 0 1 ∷
-    Submit (Recv 0 (vector 1 0 1 [])) None ∷
+    Submit (Recv 0 (vector 1 0 1 [])) None false ∷
     Turn ∷
     Exec 0 (Fail CANCELED) ∷
     Feed 0 (98 ∷ []) ∷
@@ -101,8 +101,8 @@ abbrev pub FullQueue : Type 0
 FullQueue =
     replies (empty 1) (
     Give Stream ∷
-    Submit (Recv 0 (vector 1 0 1 [])) None ∷
-    Submit (Recv 0 (vector 1 0 1 [])) None ∷
+    Submit (Recv 0 (vector 1 0 1 [])) None false ∷
+    Submit (Recv 0 (vector 1 0 1 [])) None false ∷
     Drop 1 ∷
     Turn ∷
     Exec 1 (Fail CANCELED) ∷
@@ -123,7 +123,7 @@ abbrev pub CloseUnderRead : Type 0
 CloseUnderRead =
     replies (empty 4) (
     Give Stream ∷
-    Submit (Recv 0 (vector 1 0 1 [])) None ∷
+    Submit (Recv 0 (vector 1 0 1 [])) None false ∷
     Turn ∷
     Close 0 ∷
     Exec 0 (Fail 104) ∷

@@ -1,5 +1,7 @@
 -- The ledger after events, the replies, and the moments of an operation.
-use Rattle.std.specs.Prelude.{ℕ, ◌≡◌, ◌<◌, ◌≤◌, List, [], ◌∷◌, take, Option, Some, None, slice_get}
+use Rattle.std.specs.List.{list_any}
+use Rattle.std.specs.Prelude.{ℕ, suc, ◌≡◌, ◌<◌, ◌≤◌, ◌==◌, Bool, true, false, if◌then◌else◌, List, [], ◌∷◌, take, Option, Some, None}
+use Rattle.std.specs.Prelude.{slice_get}
 use Rattle.rent_buf.specs.Buffer.{Buffer}
 use Rattle.rent_buf.specs.Parts.{Parts}
 use Rattle.rent_buf.specs.Held.{HeldBuf}
@@ -10,11 +12,11 @@ use Rattle.ring_core.specs.declared.ledger.Event.{Event}
 use Rattle.ring_core.specs.declared.ledger.Event.TheVariants.{Submit, Turn, Exec}
 use Rattle.ring_core.specs.declared.ledger.Reply.{Reply}
 use Rattle.ring_core.specs.declared.ledger.Reply.TheVariants.{Submitted}
-use Rattle.ring_core.specs.Effect.{Effect}
-use Rattle.ring_core.specs.Ledger.{Ledger, Op, empty}
+use Rattle.ring_core.specs.declared.request.TheConstants.{CANCELED}
+use Rattle.ring_core.specs.Ledger.{Ledger, Item, Op, empty}
 use Rattle.ring_core.specs.Refusal.{cause}
-use Rattle.ring_core.specs.Turn.{effect_of}
-use Rattle.ring_core.specs.Request.{held}
+use Rattle.ring_core.specs.Turn.{effect_of, is_op}
+use Rattle.ring_core.specs.Request.{held, held_of}
 use Rattle.ring_core.specs.Step.{step}
 
 -- The ledger after events.
@@ -35,19 +37,22 @@ ledger capacity events = after (empty capacity) events
 abbrev pub ledger_before : ℕ → List Event → ℕ → Ledger
 ledger_before capacity events i = ledger capacity (take i events)
 
--- The event at i got the reply Submitted n; it submitted a request, under a cancel handle or none.
+-- The event at i got the reply Submitted n; it submitted a request, under a cancel handle or none, and linked or not.
 pub record IsGiven (capacity : ℕ) (events : List Event) (n i : ℕ) : Type 0 where
   pub request : Request Buffer Parts
   pub under : Option ℕ
-  pub event : slice_get events i ≡ Some (Submit request under)
+  pub linked : Bool
+  pub event : slice_get events i ≡ Some (Submit request under linked)
   pub reply : slice_get (replies (empty capacity) events) i ≡ Some (Submitted n)
 
--- The event at i is the unrefused Exec of a place that holds Op n, with this report.
-pub record IsExecuted (capacity : ℕ) (events : List Event) (n i : ℕ) (told : Told) : Type 0 where
+-- The event at i is the unrefused Exec at which Op n leaves `flying`; it reports this of the item at its place.
+pub record IsExecuted (capacity : ℕ) (events : List Event) (n i : ℕ) (told : Told) (item : Item) : Type 0 where
   pub place : ℕ
   pub event : slice_get events i ≡ Some (Exec place told)
   pub unrefused : cause (ledger_before capacity events i) (Exec place told) ≡ None
-  pub item : slice_get (ledger_before capacity events i).flying place ≡ Some (Op n)
+  pub there : slice_get (ledger_before capacity events i).flying place ≡ Some item
+  pub flew : list_any (is_op n) (ledger_before capacity events i).flying ≡ true
+  pub left : list_any (is_op n) (ledger_before capacity events (suc i)).flying ≡ false
 
 -- The event at i is the first Turn after the event at j.
 pub record IsFirstTurn (events : List Event) (j i : ℕ) : Type 0 where
@@ -59,8 +64,17 @@ pub record IsFirstTurn (events : List Event) (j i : ℕ) : Type 0 where
 pub record IsReaped (capacity : ℕ) (events : List Event) (n i : ℕ) : Type 0 where
   pub exec : ℕ
   pub told : Told
-  pub executed : IsExecuted capacity events n exec told
+  pub item : Item
+  pub executed : IsExecuted capacity events n exec told item
   pub turn : IsFirstTurn events exec i
+
+-- What an operation of a request ends with, where an item is executed with a report: it is that item, or its leader failed.
+abbrev pub own_answer : Ledger → ℕ → Item → Request Buffer Parts → Told → Outcome × HeldBuf
+own_answer L n (Op m) request told =
+    if n == m
+    then ((effect_of L request told).outcome, held request told (effect_of L request told).got)
+    else (Outcome.Fail CANCELED, held_of request)
+own_answer L n (Item.Close h) request told = (Outcome.Fail CANCELED, held_of request)
 
 -- An operation's own outcome and own buffer, read from the events that submitted and executed it.
 pub record IsOwn (capacity : ℕ) (events : List Event) (n : ℕ) (outcome : Outcome) (buffer : HeldBuf) : Type 0 where
@@ -68,8 +82,7 @@ pub record IsOwn (capacity : ℕ) (events : List Event) (n : ℕ) (outcome : Out
   pub exec : ℕ
   pub told : Told
   pub is_given : IsGiven capacity events n given
-  pub is_executed : IsExecuted capacity events n exec told
-  pub result : Effect
-  pub result_is : result ≡ effect_of (ledger_before capacity events exec) is_given.request told
-  pub outcome_is : outcome ≡ result.outcome
-  pub buffer_is : buffer ≡ held is_given.request told result.got
+  pub item : Item
+  pub is_executed : IsExecuted capacity events n exec told item
+  pub outcome_is : outcome ≡ (own_answer (ledger_before capacity events exec) n item is_given.request told).0
+  pub buffer_is : buffer ≡ (own_answer (ledger_before capacity events exec) n item is_given.request told).1

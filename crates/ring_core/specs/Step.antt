@@ -61,14 +61,14 @@ close_step L h = close_unheld (with_user L h false) h
 abbrev pub with_new_op : Ledger → Operation → Ledger
 with_new_op L operation = record L { ops = L.ops ++ operation ∷ [] }
 
--- Submit under no marked group: the next number, and a push of its request.
-abbrev pub submit_step : Ledger → Request Buffer Parts → Option ℕ → Ledger
-submit_step L request group = push (with_new_op L (new_operation request group)) (Req (length L.ops))
+-- Submit under no marked group: the next number with its link, and a push of its request.
+abbrev pub submit_step : Ledger → Request Buffer Parts → Option ℕ → Bool → Ledger
+submit_step L request group linked = push (with_new_op L (new_operation request group linked)) (Req (length L.ops))
 
 -- Submit: under a marked group what the request holds comes back, and nothing changes; else it is a new operation of its group.
-abbrev pub submit_if : Bool → Ledger → Request Buffer Parts → Option ℕ → Ledger × Reply
-submit_if true L request group = (L, CanceledAtOnce (held_of request))
-submit_if false L request group = (submit_step L request group, Submitted (length L.ops))
+abbrev pub submit_if : Bool → Ledger → Request Buffer Parts → Option ℕ → Bool → Ledger × Reply
+submit_if true L request group linked = (L, CanceledAtOnce (held_of request))
+submit_if false L request group linked = (submit_step L request group linked, Submitted (length L.ops))
 
 -- An operation that a task waits for.
 abbrev pub with_task : ℕ → Operation → Operation
@@ -144,7 +144,7 @@ row L (FeedMessage h addr bytes) = (with_handle L h (with_message addr bytes), F
 row L (End h) = (with_handle L h with_end, Ended)
 row L (Look h) = (L, look_reply (look_at L.world h))
 row L (Close h) = (close_step L h, Released)
-row L (Submit request under) = submit_if (is_under_marked L under) L request (group_under L under)
+row L (Submit request under linked) = submit_if (is_under_marked L under) L request (group_under L under) linked
 row L (Poll n task) = poll_step L n task (slice_get L.ops n)
 row L (Drop n) = drop_step L n (slice_get L.ops n)
 row L (Cancel n) = (push L (Queued.Cancel n), Asked)

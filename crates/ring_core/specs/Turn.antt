@@ -1,13 +1,18 @@
 -- The steps of Turn and Exec.
-use Rattle.std.specs.Prelude.{ℕ, Bool, true, false, List, [], ◌∷◌, ◌++◌, remove, option_to_list, Option, Some, None, slice_get}
+use Rattle.std.specs.Prelude.{ℕ, Bool, true, false, not, ◌==◌, if◌then◌else◌, List, [], ◌∷◌, ◌++◌, map, filter, remove, option_to_list}
+use Rattle.std.specs.Prelude.{Option, Some, None, slice_get}
 use Rattle.rent_buf.specs.Buffer.{Buffer}
 use Rattle.rent_buf.specs.Parts.{Parts}
 use Rattle.ring_core.specs.declared.request.Request.{Request}
+use Rattle.ring_core.specs.declared.request.TheConstants.{CANCELED}
+use Rattle.ring_core.specs.declared.request.Outcome.{Outcome}
 use Rattle.ring_core.specs.declared.request.Told.{Told}
+use Rattle.ring_core.specs.declared.request.Told.TheVariants.{Count, Fail}
+use Rattle.ring_core.specs.Lists.{passes}
 use Rattle.ring_core.specs.declared.ledger.Refusal.TheVariants.{NotFlying}
 use Rattle.ring_core.specs.declared.ledger.Reply.{Reply}
 use Rattle.ring_core.specs.declared.ledger.Reply.TheVariants.{Turned, ExecutedOp, ExecutedClose, Refused}
-use Rattle.ring_core.specs.Request.{sent_of, call_of, held}
+use Rattle.ring_core.specs.Request.{sent_of, call_of, held, held_of}
 use Rattle.ring_core.specs.Effect.{Effect, effect, made_by}
 use Rattle.ring_core.specs.Ledger.{Ledger, Operation, Owner, Place, InDone, Reaped, Item, Op}
 use Rattle.ring_core.specs.Queue.{with_op, take_all, leave}
@@ -109,8 +114,55 @@ exec_op L n told (Some operation) = with_effect L n told (effect_of L operation.
 abbrev pub complete_at : Ledger → ℕ → Item → Ledger
 complete_at L place item = record L { flying = remove L.flying place; done = L.done ++ item ∷ [] }
 
--- Exec: the item at the place is executed and completed. A close moves nothing.
+-- An operation waits for another.
+abbrev pub waits_on : ℕ → Operation → Bool
+waits_on n operation = passes (λ leader. leader == n) operation.waits_for
+
+-- The operation among items that waits for n, then the one behind it that waits for that one, and so on.
+abbrev pub waiting_on : List Operation → ℕ → List Item → List ℕ
+waiting_on ops n [] = []
+waiting_on ops n (Op m ∷ items) =
+    if passes (waits_on n) (slice_get ops m) then m ∷ waiting_on ops m items else waiting_on ops n items
+waiting_on ops n (Item.Close h ∷ items) = waiting_on ops n items
+
+-- An operation that waits no more.
+abbrev pub without_wait : Operation → Operation
+without_wait operation = record operation { waits_for = None }
+
+-- An operation that waits for n waits no more; any other stays.
+abbrev pub unless_waits : ℕ → Operation → Operation
+unless_waits n operation = if waits_on n operation then without_wait operation else operation
+
+-- An operation whose leader failed: it is done with the error of a cancel, with what its request holds, and waits no more.
+abbrev pub with_break : Operation → Operation
+with_break operation = record operation {
+  waits_for = None;
+  buffer = held_of operation.request;
+  place = InDone (Outcome.Fail CANCELED);
+}
+
+-- An item is the operation of a number.
+abbrev pub is_op : ℕ → Item → Bool
+is_op n (Op m) = n == m
+is_op n (Item.Close h) = false
+
+-- An operation whose leader failed leaves `flying` for the end of `done`.
+abbrev pub break_one : Ledger → ℕ → Ledger
+break_one L n = record (with_op L n with_break) { flying = filter (λ item. not (is_op n item)) L.flying; done = L.done ++ Op n ∷ [] }
+
+-- Operations whose leaders failed, in order.
+abbrev pub break_each : Ledger → List ℕ → Ledger
+break_each L [] = L
+break_each L (n ∷ numbers) = break_each (break_one L n) numbers
+
+-- What becomes of those that wait for an operation that was executed: where it failed, they end too, one after another; else the one that
+-- waits for it waits no more.
+abbrev pub released : Told → Ledger → ℕ → Ledger
+released (Fail e) L n = break_each L (waiting_on L.ops n L.flying)
+released (Count k) L n = record L { ops = map (unless_waits n) L.ops }
+
+-- Exec: the item at the place is executed and completed, and those that wait for it are released. A close moves nothing.
 abbrev pub exec_step : Ledger → ℕ → Told → Option Item → Ledger × Reply
 exec_step L place told None = (L, Refused NotFlying)
-exec_step L place told (Some (Op n)) = (exec_op (complete_at L place (Op n)) n told (slice_get L.ops n), ExecutedOp n)
+exec_step L place told (Some (Op n)) = (released told (exec_op (complete_at L place (Op n)) n told (slice_get L.ops n)) n, ExecutedOp n)
 exec_step L place told (Some (Item.Close h)) = (complete_at L place (Item.Close h), ExecutedClose h)

@@ -6,6 +6,7 @@ ghost use Rattle.ring_core.specs.OutcomeRows.{RefusedOutcomes, Errors, ReadAtThe
 ghost use Rattle.ring_core.specs.BufferRows.{ShortRead, GrownRead, FixedRead, RangeRead, PartsRead, ShortSend, PartsSend};
 ghost use Rattle.ring_core.specs.RequestRows.{MessagesInAndOut, FilePositions, Splices, PlainRequests};
 ghost use Rattle.ring_core.specs.MadeRows.{AbandonedAccept, EchoServer, OpenedFile};
+ghost use Rattle.ring_core.specs.LinkRows.{LinkedReads, BrokenChain, TakenApart, CanceledFollower};
 
 use crate::request::{Outcome, Request, Told};
 use crate::world::HandleKind;
@@ -29,8 +30,9 @@ pub enum Event {
     Look(u64),
     /// The user gives up the handle of this number.
     Close(u64),
-    /// Submits this request as a new operation, under the cancel handle of this number or under none.
-    Submit(Request<BufSpec, PartsSpec>, Option<u64>),
+    /// Submits this request as a new operation, under the cancel handle of this number or under none, and linked or not: the request that
+    /// is taken directly behind a linked one waits for its operation.
+    Submit(Request<BufSpec, PartsSpec>, Option<u64>, bool),
     /// Polls an operation, by its number, for a task.
     Poll(u64, u64),
     /// Drops an operation, by its number: its user wants no outcome.
@@ -63,6 +65,8 @@ pub enum Refusal {
     Full,
     /// The place isn't below the length of the in-flight list.
     NotFlying,
+    /// The operation at the place waits for another.
+    Waiting,
     /// The reported outcome isn't allowed to what is at the place.
     BadOutcome,
     /// The handle doesn't take what arrives, by its kind, or because its end is marked.
@@ -150,4 +154,10 @@ pub fn worked_rows()
     ensures abandoned_accept { AbandonedAccept }
     ensures echo_server { EchoServer }
     ensures opened_file { OpenedFile }
+
+    // Linked submissions.
+    ensures linked_reads { LinkedReads }
+    ensures broken_chain { BrokenChain }
+    ensures taken_apart { TakenApart }
+    ensures canceled_follower { CanceledFollower }
 {}

@@ -2,13 +2,17 @@
 use Rattle.std.proofs.Common.{◌≡◌, ◌⊎◌, inl, inr, ℕ, zero, suc, Bool, true, false, List, [], ◌∷◌, ◌++◌, length, map, Option, Some, None}
 use Rattle.std.proofs.Common.{slice_get, refl, sym, ◌∙◌, ap, subst, if◌then◌else◌, ◌==◌}
 use Rattle.ring_core.specs.Lists.{amended}
-use Rattle.ring_core.specs.Ledger.{Ledger, Operation, InFlight, Gone, Queued, Req, Cancel, Item, Op}
-use Rattle.ring_core.specs.Queue.{with_op, at_place, with_cancel, take_one, take_each, take_all, make_room, append, push, push_each}
+use Rattle.ring_core.specs.declared.request.Told.{Told}
+use Rattle.ring_core.specs.Ledger.{Ledger, Operation, Gone, Queued, Req, Cancel, Item, Op}
+use Rattle.ring_core.specs.Queue.{with_op, at_place, with_take, with_cancel, take_one, leader_behind, take_behind, take_all, make_room}
+use Rattle.ring_core.specs.Queue.{append, push, push_each}
 use Rattle.ring_core.specs.Queue.{became_unheld, with_gone, leave}
-use Rattle.ring_core.specs.Turn.{with_reap, reap_if, reap_op, reap_one, reap_each, reap_all}
+use Rattle.ring_core.specs.Turn.{with_reap, reap_if, reap_op, reap_one, reap_each, reap_all, with_break, released}
 use Rattle.ring_core.proofs.Taken.{queue-take_each}
 use Rattle.ring_core.proofs.Amended.{changed-cases, joined-cases, there-before}
+use Rattle.ring_core.proofs.Taking.{Listed}
 use Rattle.ring_core.proofs.Listed.{joined}
+use Rattle.ring_core.proofs.Releasing.{with_waits, released-ops, released-beside}
 
 -- Each cancel among these entries is one of an operation with this property.
 abbrev pub CancelsOf : (ℕ → Type 0) → List Queued → Type 0
@@ -43,21 +47,24 @@ module _ (P : ℕ → Type 0) where
   ]
 
   -- One entry taken.
-  taken-one : (L : Ledger) (entry : Queued) → CancelsOf P (entry ∷ []) → TakenOf P L.ops → TakenOf P (take_one L entry).ops
-  taken-one L (Req m) of h = taken-changed L.ops m (at_place InFlight) (λ o is. inl is) h
-  taken-one L (Cancel m) of h = taken-changed L.ops m with_cancel (λ o is. inr (of m 0 refl)) h
-  taken-one L (Queued.Close k) of h = h
+  taken-one : (leader : Option ℕ) (L : Ledger) (entry : Queued) → CancelsOf P (entry ∷ []) → TakenOf P L.ops →
+      TakenOf P (take_one leader L entry).ops
+  taken-one leader L (Req m) of h = taken-changed L.ops m (with_take leader) (λ o is. inl is) h
+  taken-one leader L (Cancel m) of h = taken-changed L.ops m with_cancel (λ o is. inr (of m 0 refl)) h
+  taken-one leader L (Queued.Close k) of h = h
 
   -- The first of some entries, and the rest.
   first-of : (entry : Queued) (entries : List Queued) → CancelsOf P (entry ∷ entries) → CancelsOf P (entry ∷ [])
   first-of entry entries h n zero there = h n zero there
   first-of entry entries h n (suc place) there = (let e : ⊥ = cc in absurd e)
 
-  -- Entries taken, in order.
-  taken-each : (L : Ledger) (entries : List Queued) → CancelsOf P entries → TakenOf P L.ops → TakenOf P (take_each L entries).ops
-  taken-each L [] of h = h
-  taken-each L (entry ∷ entries) of h =
-      taken-each (take_one L entry) entries (λ n place. of n (suc place)) (taken-one L entry (first-of entry entries of) h)
+  -- Entries taken, in order, whatever the first of them follows.
+  taken-each : (leader : Option ℕ) (L : Ledger) (entries : List Queued) → CancelsOf P entries → TakenOf P L.ops →
+      TakenOf P (take_behind leader L entries).ops
+  taken-each leader L [] of h = h
+  taken-each leader L (entry ∷ entries) of h =
+      taken-each (leader_behind L entry) (take_one leader L entry) entries (λ n place. of n (suc place))
+      (taken-one leader L entry (first-of entry entries of) h)
 
   -- The queue taken.
   pub asked-take_all : (L : Ledger) → Asked P L → Asked P (take_all L)
@@ -65,7 +72,7 @@ module _ (P : ℕ → Type 0) where
     waiting =
         λ n place there. (let e : slice_get [] place ≡ Some (Cancel n) = sym
         (ap (λ q. slice_get q place) (queue-take_each (record L { queue = [] }) L.queue)) ∙ there in let f : ⊥ = cc in absurd f);
-    taken = taken-each (record L { queue = [] }) L.queue h.waiting h.taken;
+    taken = taken-each None (record L { queue = [] }) L.queue h.waiting h.taken;
   }
 
   -- Making room, or not, keeps what was asked for.
@@ -153,3 +160,17 @@ module _ (P : ℕ → Type 0) where
   -- All that was done reaped.
   pub asked-reap_all : (L : Ledger) → Asked P L → Asked P (reap_all L).0
   asked-reap_all L h = asked-each (record L { done = [] }) L.done (record { waiting = h.waiting; taken = h.taken })
+
+  -- Those that wait for an operation that was executed are released.
+  pub asked-released : (told : Told) (L : Ledger) (n : ℕ) → Listed L → Asked P L → Asked P (released told L n)
+  asked-released told L n lists h = record {
+    waiting = subst (CancelsOf P) (sym (released-beside told L n).queue) h.waiting;
+    taken = λ k o there is. elim (released-ops told L n lists k) [
+      | inl s ↦ (
+          let b = there-before (with_waits s.waits_for) (slice_get L.ops k) o (sym s.is ∙ there) in
+          h.taken k b.0 b.1 (ap (λ z. z.canceled) (sym b.2) ∙ is))
+      | inr b ↦ (
+          let q : with_break b.operation ≡ o = (let w = sym b.is ∙ there in cc) in
+          h.taken k b.operation b.there (ap (λ z. z.canceled) q ∙ is))
+    ];
+  }

@@ -31,15 +31,16 @@ use Rattle.run_laws.proofs.Looks.{looked}
 record IsAtOnce (L : Ledger) (e : Event) (buffer : HeldBuf) : Type 0 where
   request : Request Buffer Parts
   under : Option ℕ
-  event : e ≡ Submit request under
+  linked : Bool
+  event : e ≡ Submit request under linked
   marked : is_under_marked L under ≡ true
   holds : buffer ≡ held_of request
 
 -- A submission is, under a marked group, and then with what its request holds.
-submit-at_once : (b : Bool) (L : Ledger) (request : Request Buffer Parts) (group : Option ℕ) (buffer : HeldBuf) →
-    (submit_if b L request group).1 ≡ CanceledAtOnce buffer → (b ≡ true) × (buffer ≡ held_of request)
-submit-at_once true L request group buffer h = (refl, (let q : held_of request ≡ buffer = cc in sym q))
-submit-at_once false L request group buffer h = (let f : ⊥ = cc in absurd f)
+submit-at_once : (b : Bool) (L : Ledger) (request : Request Buffer Parts) (group : Option ℕ) (linked : Bool) (buffer : HeldBuf) →
+    (submit_if b L request group linked).1 ≡ CanceledAtOnce buffer → (b ≡ true) × (buffer ≡ held_of request)
+submit-at_once true L request group linked buffer h = (refl, (let q : held_of request ≡ buffer = cc in sym q))
+submit-at_once false L request group linked buffer h = (let f : ⊥ = cc in absurd f)
 
 -- By its row.
 row-at_once : (L : Ledger) (e : Event) (buffer : HeldBuf) → (row L e).1 ≡ CanceledAtOnce buffer → IsAtOnce L e buffer
@@ -49,9 +50,9 @@ row-at_once L (FeedMessage k addr bytes) buffer h = (let f : ⊥ = cc in absurd 
 row-at_once L (End k) buffer h = (let f : ⊥ = cc in absurd f)
 row-at_once L (Look k) buffer h = absurd (looked (λ reply. reply ≡ CanceledAtOnce buffer → ⊥) L k (λ b q. cc) (λ m q. cc) h)
 row-at_once L (Close k) buffer h = (let f : ⊥ = cc in absurd f)
-row-at_once L (Submit request under) buffer h =
-    let both = submit-at_once (is_under_marked L under) L request (group_under L under) buffer h in
-    record { request = request; under = under; event = refl; marked = both.0; holds = both.1 }
+row-at_once L (Submit request under linked) buffer h =
+    let both = submit-at_once (is_under_marked L under) L request (group_under L under) linked buffer h in
+    record { request = request; under = under; linked = linked; event = refl; marked = both.0; holds = both.1 }
 row-at_once L (Poll n task) buffer h = absurd (answered-group L (Poll n task) (CanceledAtOnce buffer) refl h refl)
 row-at_once L (Drop n) buffer h = absurd (answered-group L (Drop n) (CanceledAtOnce buffer) refl h refl)
 row-at_once L (Cancel n) buffer h = (let f : ⊥ = cc in absurd f)
@@ -110,11 +111,12 @@ module _ (capacity : ℕ) (events : List Event) where
       let s = step-at_once L e.0 buffer now in
       let x : IsAtOnce L e.0 buffer = s.1 in
       let u : MarkedUnder L x.under = marked-under L x.under x.marked in
-      let event : e.0 ≡ Submit x.request (Some u.handle) = x.event ∙ ap (Submit x.request) u.is in
+      let event : e.0 ≡ Submit x.request (Some u.handle) x.linked = x.event ∙ ap (λ under. Submit x.request under x.linked) u.is in
       let o : Origin capacity events i (groups_of L) u.handle u.g = (origins_at capacity events i e.0 e.1).origin u.handle u.g u.there in
       record {
         request = x.request;
         handle = u.handle;
+        linked = x.linked;
         event = e.1 ∙ ap Some event;
         unrefused = sym (ap (cause L) event) ∙ s.0;
         canceled = elim o.state [
@@ -130,7 +132,7 @@ module _ (capacity : ℕ) (events : List Event) where
       slice_get (answers capacity events) i ≡ Some (CanceledAtOnce buffer)
   canceled-at_once i buffer x =
       let L : Ledger = ledger_before capacity events i in
-      let e : Event = Submit x.request (Some x.handle) in
+      let e : Event = Submit x.request (Some x.handle) x.linked in
       let origins : OriginsAt capacity events i L = origins_at capacity events i e x.event in
       let y : IsCanceledHandle events (answers capacity events) x.handle i = x.canceled in
       let before : y.made < i = (let a = y.canceled.after in let b = y.canceled.before in omega (arith, a, b)) in
@@ -142,7 +144,7 @@ module _ (capacity : ℕ) (events : List Event) where
             let under : is_under_marked L (Some x.handle) ≡ true = ap (passes (is_marked L)) g.2 ∙ ap (passes (λ mark. mark)) marked in
             reply-at (empty capacity) events i e x.event
             ∙ ap (λ s. Some s.1) (step-row L e x.unrefused)
-            ∙ ap (λ b. Some (submit_if b L x.request (group_under L (Some x.handle))).1) under
+            ∙ ap (λ b. Some (submit_if b L x.request (group_under L (Some x.handle)) x.linked).1) under
             ∙ ap (λ held. Some (CanceledAtOnce held)) (sym x.holds))
         | inr past ↦ absurd (let p = past.0 in omega (arith, p, within))
       ]

@@ -1,5 +1,5 @@
 -- The laws of bytes, by what the transfers of a whole run leave of each handle.
-use Rattle.std.proofs.Common.{◌≡◌, ◌≢◌, inl, inr, ℕ, ◌≤◌, Bool, true, not, List, [], ◌∷◌, ◌++◌, take, Option, None, Some}
+use Rattle.std.proofs.Common.{◌≡◌, ◌⊎◌, ◌≢◌, inl, inr, ℕ, ◌≤◌, Bool, true, not, List, [], ◌∷◌, ◌++◌, take, Option, None, Some}
 use Rattle.std.proofs.Common.{slice_get, refl, sym}
 use Rattle.std.proofs.Common.{◌∙◌, ap, subst, length, option_map, unwrap_or, arith, true≢false}
 use Rattle.std.specs.Prelude.{nat_le, ◌==◌}
@@ -10,7 +10,7 @@ use Rattle.rent_buf.specs.Held.{HeldBuf}
 use Rattle.ring_core.specs.declared.request.Call.{Call}
 use Rattle.ring_core.specs.declared.request.Call.TheVariants.{In, MessageIn, ToPipe, FromPipe}
 use Rattle.ring_core.specs.declared.request.Told.{Told}
-use Rattle.ring_core.specs.declared.request.Told.TheVariants.{Count}
+use Rattle.ring_core.specs.declared.request.Told.TheVariants.{Count, Fail}
 use Rattle.ring_core.specs.declared.request.Outcome.{Outcome}
 use Rattle.ring_core.specs.declared.world.HandleState.{HandleState}
 use Rattle.ring_core.specs.declared.ledger.Event.{Event}
@@ -20,22 +20,23 @@ use Rattle.ring_core.specs.World.{input_at, messages_at}
 use Rattle.ring_core.specs.Request.{call_of, sent_of}
 use Rattle.ring_core.specs.Outcome.{may_take, may_receive, is_allowed}
 use Rattle.ring_core.specs.Effect.{Effect, effect, message_effect, without_message}
-use Rattle.ring_core.specs.Ledger.{Ledger, Operation, InFlight, Op, empty}
-use Rattle.ring_core.specs.Refusal.{allowed}
+use Rattle.ring_core.specs.Ledger.{Ledger, Operation, InFlight, Item, Op, empty}
+use Rattle.ring_core.specs.Turn.{effect_of}
+use Rattle.ring_core.specs.Refusal.{allowed, waits}
 use Rattle.ring_core.specs.Step.{step}
-use Rattle.ring_core.specs.Run.{after, ledger_before, IsOwn, IsGiven}
+use Rattle.ring_core.specs.Run.{after, ledger_before, IsOwn, IsGiven, own_answer}
+use Rattle.run_laws.proofs.Executing.{executed-flew, breaks-by-failure, counted-itself, own-itself}
 use Rattle.run_laws.specs.Transfers.{Transfer, Taken, Sent, MessageTaken, moved_as, op_moves, item_moves, moves_if, event_moves, transfers}
 use Rattle.run_laws.specs.Transfers.{at_handle, message_taken, spliced}
 use Rattle.run_laws.specs.Bytes.{InputInOrder, MessagesInOrder, FilesHoldLast, OutputInOrder, SentInOrder, ReadsTakeOwn, TakesMessage}
-use Rattle.run_laws.specs.Bytes.{ReceivesTakeOwn, PassesOn, SplicesPassOn, MovesOwn, own_moves, transfers_before}
+use Rattle.run_laws.specs.Bytes.{ReceivesTakeOwn, PassesOn, SplicesPassOn, MovesOwn, own_moves, own_got, transfers_before}
 use Rattle.run_laws.specs.Files.{pieces}
 use Rattle.ring_core.proofs.Numbers.{and-left, and-right, not-passes}
 use Rattle.ring_core.proofs.Moving.{read-within}
-use Rattle.ring_core.proofs.Listed.{flying-there}
 use Rattle.ring_core.proofs.Lawful.{Lawful, lawful-step, lawful-ledger}
 use Rattle.run_laws.proofs.Moments.{History}
 use Rattle.run_laws.proofs.Trace.{Trace}
-use Rattle.run_laws.proofs.Polls.{traced, lists_before, given-once}
+use Rattle.run_laws.proofs.Polls.{traced, given-once}
 use Rattle.run_laws.proofs.Ends.{allowed-there}
 use Rattle.run_laws.proofs.Files.{holds-last}
 use Rattle.run_laws.proofs.Passing.{IsLeft}
@@ -95,6 +96,11 @@ takes-message h want k world (Some message) moves result outcome may moved is ow
   address = own ∙ ap (λ r. r.outcome) is;
 }
 
+-- A failure moves nothing.
+fails-moves : (h : ℕ) (world : List HandleState) (e : ℕ) (x : Option Operation) → op_moves h world (Fail e) x ≡ []
+fails-moves h world e None = refl
+fails-moves h world e (Some o) = refl
+
 module _ (capacity : ℕ) (events : List Event) where
   -- What a handle has before an event.
   left-before : (i h : ℕ) (handle : HandleState) → slice_get (ledger_before capacity events i).world h ≡ Some handle →
@@ -136,43 +142,70 @@ module _ (capacity : ℕ) (events : List Event) where
         let x = own.is_executed in
         let t : Trace capacity events own.exec L = traced capacity events own.exec (Exec x.place own.told) x.event in
         let f : (o : Operation) × (slice_get L.ops n ≡ Some o) × (o.place ≡ InFlight) =
-        flying-there L x.place n (lists_before capacity events own.exec) x.item in
+        executed-flew capacity events n own.exec own.told own.item x in
         let past : History capacity events own.exec n (Some f.0) = subst (History capacity events own.exec n) f.1 (t.history n) in
         let g : IsGiven capacity events n past.given.at =
-        record { request = f.0.request; under = past.given.under; event = past.given.event; reply = past.given.reply } in
+        record {
+          request = f.0.request;
+          under = past.given.under;
+          linked = past.given.linked;
+          event = past.given.event;
+          reply = past.given.reply;
+        } in
         let same : past.given.at ≡ own.given = given-once capacity events n past.given.at own.given g own.is_given in
         (f.0, f.1, (let q = sym past.given.event ∙ ap (slice_get events) same ∙ own.is_given.event in cc))
+
+    -- What the execution of an item moves, which is the operation, or fails.
+    item-moves : (item : Item) → (item ≡ Op n) ⊎ ((m error : ℕ) × (item ≡ Op m) × (own.told ≡ Fail error)) →
+        item_moves h L own.told (Some item)
+        ≡ moved_as h L.world (call_of own.is_given.request) (sent_of own.is_given.request) own.told
+    item-moves item (inl e) =
+        ap (λ i. item_moves h L own.told (Some i)) e ∙ ap (op_moves h L.world own.told) executed.1
+        ∙ ap (λ r. moved_as h L.world (call_of r) (sent_of r) own.told) executed.2
+    item-moves item (inr b) =
+        ap (λ i. item_moves h L own.told (Some i)) b.2 ∙ ap (λ t. op_moves h L.world t (slice_get L.ops b.0)) b.3
+        ∙ fails-moves h L.world b.1 (slice_get L.ops b.0)
+        ∙ sym (ap (moved_as h L.world (call_of own.is_given.request) (sent_of own.is_given.request)) b.3)
 
     -- What the execution moves.
     own-moves : event_moves h L (Exec own.is_executed.place own.told)
         ≡ moved_as h L.world (call_of own.is_given.request) (sent_of own.is_given.request) own.told
     own-moves =
         let x = own.is_executed in
-        ap (λ c. moves_if h c L (Exec x.place own.told)) x.unrefused ∙ ap (item_moves h L own.told) x.item
-        ∙ ap (op_moves h L.world own.told) executed.1
-        ∙ ap (λ r. moved_as h L.world (call_of r) (sent_of r) own.told) executed.2
+        ap (λ c. moves_if h c L (Exec x.place own.told)) x.unrefused ∙ ap (item_moves h L own.told) x.there
+        ∙ item-moves own.item (breaks-by-failure capacity events n own.exec own.told own.item x)
 
     -- What it got.
     own-got : (call : Call) (told : Told) → call_of own.is_given.request ≡ call → own.told ≡ told →
-        own.result ≡ effect L.world call (sent_of own.is_given.request) told
+        effect_of L own.is_given.request own.told ≡ effect L.world call (sent_of own.is_given.request) told
     own-got call told is report =
-        own.result_is ∙ ap (λ c. effect L.world c (sent_of own.is_given.request) own.told) is
+        ap (λ c. effect L.world c (sent_of own.is_given.request) own.told) is
         ∙ ap (effect L.world call (sent_of own.is_given.request)) report
 
     -- It was allowed.
-    own-allowed : (call : Call) (told : Told) → call_of own.is_given.request ≡ call → own.told ≡ told →
-        (canceled : Bool) × (is_allowed L.world canceled call told ≡ true)
-    own-allowed call told is report =
+    own-allowed : (call : Call) (k : ℕ) → call_of own.is_given.request ≡ call → own.told ≡ Count k →
+        (canceled : Bool) × (is_allowed L.world canceled call (Count k) ≡ true)
+    own-allowed call k is report =
         let x = own.is_executed in
         let o : Operation = executed.0 in
-        let allows : allowed L (Op n) own.told ≡ true = sym (ap (passes (λ item. allowed L item own.told)) x.item)
-        ∙ allowed-there L own.told (nat_le (length L.flying) x.place) (slice_get L.flying x.place) x.unrefused in (
+        let itself : own.item ≡ Op n = counted-itself capacity events n own.exec k own.told own.item x report in
+        let allows : allowed L (Op n) own.told ≡ true =
+        sym (ap (passes (λ item. allowed L item own.told)) (x.there ∙ ap Some itself))
+        ∙ allowed-there L own.told (nat_le (length L.flying) x.place) (passes (waits L) (slice_get L.flying x.place))
+        (slice_get L.flying x.place) x.unrefused in (
           o.canceled,
           ap (is_allowed L.world o.canceled call) (sym report)
               ∙ ap (λ c. is_allowed L.world o.canceled c own.told) (sym is)
               ∙ ap (λ r. is_allowed L.world o.canceled (call_of r) own.told) (sym executed.2)
               ∙ sym (ap (passes (λ p. is_allowed L.world p.canceled (call_of p.request) own.told)) executed.1) ∙ allows,
         )
+
+    -- Its own outcome is that of its execution.
+    own-outcome : (k : ℕ) → own.told ≡ Count k → outcome ≡ (effect_of L own.is_given.request own.told).outcome
+    own-outcome k report =
+        let itself = counted-itself capacity events n own.exec k own.told own.item own.is_executed report in
+        own.outcome_is ∙ ap (λ i. (own_answer L n i own.is_given.request own.told).0) itself
+        ∙ ap (λ a. a.0) (own-itself L n own.is_given.request own.told)
 
     -- What it moves, by its call and what was told.
     own-moved : (call : Call) (told : Told) → call_of own.is_given.request ≡ call → own.told ≡ told →
@@ -189,9 +222,9 @@ module _ (capacity : ℕ) (events : List Event) where
   pub reads-take-own : ReadsTakeOwn capacity events
   reads-take-own n h want k outcome buffer own is report =
       let L : Ledger = ledger_before capacity events own.exec in
-      let may = (own-allowed n h outcome buffer own (In h want) (Count k) is report).1 in
+      let may = (own-allowed n h outcome buffer own (In h want) k is report).1 in
       let f = passes-there _ (slice_get L.world h) may in
-      let got : own.result.got ≡ take k (input_at L.world h) =
+      let got : own_got capacity events n outcome buffer own ≡ take k (input_at L.world h) =
       ap (λ r. r.got) (own-got n h outcome buffer own (In h want) (Count k) is report) in
       record {
         moved = own-moved n h outcome buffer own (In h want) (Count k) is report
@@ -203,21 +236,22 @@ module _ (capacity : ℕ) (events : List Event) where
   pub receives-take-own : ReceivesTakeOwn capacity events
   receives-take-own n h want k outcome buffer own is report =
       let L : Ledger = ledger_before capacity events own.exec in
-      let may = (own-allowed n h outcome buffer own (MessageIn h want) (Count k) is report).1 in
+      let may = (own-allowed n h outcome buffer own (MessageIn h want) k is report).1 in
       let f = passes-there _ (slice_get L.world h) may in
       let first : slice_get f.0.messages_in 0 ≡ slice_get (messages_at L.world h) 0 =
       ap (λ x. slice_get (unwrap_or (option_map (λ handle. handle.messages_in) x) []) 0) (sym f.1) in
       takes-message h want k (amended L.world h without_message) (slice_get (messages_at L.world h) 0)
-      (own_moves capacity events n h outcome buffer own) own.result outcome (ap (may_receive want k) (sym first) ∙ and-right _ _ f.2)
+      (own_moves capacity events n h outcome buffer own) (effect_of L own.is_given.request own.told) outcome
+      (ap (may_receive want k) (sym first) ∙ and-right _ _ f.2)
       (own-moved n h outcome buffer own (MessageIn h want) (Count k) is report)
-      (own-got n h outcome buffer own (MessageIn h want) (Count k) is report) own.outcome_is
+      (own-got n h outcome buffer own (MessageIn h want) (Count k) is report) (own-outcome n h outcome buffer own k report)
 
   -- A splice passes on so many bytes.
   pub splices-pass-on : SplicesPassOn capacity events
   splices-pass-on n from to want k outcome buffer own (inl is) report =
       let L : Ledger = ledger_before capacity events own.exec in
       let call : Call = ToPipe from to want in
-      let may = (own-allowed n from outcome buffer own call (Count k) is report).1 in
+      let may = (own-allowed n from outcome buffer own call k is report).1 in
       let two = and-left _ _ may in
       let f = passes-there _ (slice_get L.world from) (and-right _ _ two) in
       passes-on from to k L.world f.0 f.1 (and-left _ _ two) (read-within want k f.0 f.2) _ _
@@ -225,7 +259,7 @@ module _ (capacity : ℕ) (events : List Event) where
   splices-pass-on n from to want k outcome buffer own (inr is) report =
       let L : Ledger = ledger_before capacity events own.exec in
       let call : Call = FromPipe from to want in
-      let may = (own-allowed n from outcome buffer own call (Count k) is report).1 in
+      let may = (own-allowed n from outcome buffer own call k is report).1 in
       let two = and-left _ _ may in
       let f = passes-there _ (slice_get L.world from) (and-right _ _ two) in
       passes-on from to k L.world f.0 f.1 (and-left _ _ two) (take-within want k f.0.input (and-right _ _ f.2)) _ _

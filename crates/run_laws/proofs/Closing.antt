@@ -20,7 +20,7 @@ use Rattle.ring_core.specs.Effect.{Effect, made_by}
 use Rattle.ring_core.specs.Ledger.{Ledger, Operation, Place, InQueue, InFlight, InDone, Reaped, Gone, Queued, Req, Item, Op}
 use Rattle.ring_core.specs.Ledger.{new_operation, is_kept, is_live, user_holds, is_under_marked, group_under, members}
 use Rattle.ring_core.specs.Queue.{with_op, take_all, make_room, append, push, push_each, leave, is_unheld}
-use Rattle.ring_core.specs.Turn.{closes_in, turn_step, exec_op, exec_step, complete_at, effect_of, made_owners, with_effect}
+use Rattle.ring_core.specs.Turn.{closes_in, turn_step, exec_op, exec_step, complete_at, effect_of, made_owners, with_effect, released}
 use Rattle.ring_core.specs.Step.{new_owner, give_step, step, row, with_new_op, submit_step, with_task, handed_over, poll_at, poll_step}
 use Rattle.ring_core.specs.Step.{with_drop}
 use Rattle.ring_core.specs.Step.{drop_at, drop_step, submit_if, new_canceller_step, group_of, new_handle_step, with_mark, renew_group}
@@ -41,7 +41,8 @@ use Rattle.ring_core.proofs.Turning.{apart-none, live-gone, Grows, grows-effect,
 use Rattle.ring_core.proofs.Taking.{in_queue, Listed}
 use Rattle.ring_core.proofs.Listed.{submit-joined, listed-changed, flying-there}
 use Rattle.ring_core.proofs.Stepping.{step-refused, step-row, OwnedAt, found, executed-there, closed-held, submitted-held}
-use Rattle.ring_core.proofs.Lawful.{Lawful, listed-live, listed-unasked, handed-there}
+use Rattle.ring_core.proofs.Releasing.{released-beside, released-holders, released-count}
+use Rattle.ring_core.proofs.Lawful.{Lawful, listed-live, listed-unasked, handed-there, lawful-executed}
 use Rattle.ring_core.proofs.Alone.{made-there, made-holding, listed-handed}
 use Rattle.ring_core.proofs.Makes.{closing-handed, unheld-before}
 use Rattle.ring_core.proofs.Unheld.{Closing, closing-same, closing-then, closing-op, closing-take_all, closing-make_room, closing-new_op}
@@ -106,26 +107,26 @@ ends-give L handle =
     }
 
 -- A new operation on handles that its user holds.
-ends-submit : (L : Ledger) (request : Request Buffer Parts) (group : Option ℕ) →
-    ((h : ℕ) → has_number h (named request) ≡ true → user_holds L h ≡ true) → Lawful L → Ends L (submit_step L request group) []
-ends-submit L request group holds l =
+ends-submit : (L : Ledger) (request : Request Buffer Parts) (group : Option ℕ) (linked : Bool) →
+    ((h : ℕ) → has_number h (named request) ≡ true → user_holds L h ≡ true) → Lawful L → Ends L (submit_step L request group linked) []
+ends-submit L request group linked holds l =
     let M : Ledger = make_room L in
-    let N : Ledger = with_new_op M (new_operation request group) in
+    let N : Ledger = with_new_op M (new_operation request group linked) in
     let stays : Stays L M = stays-make_room L in
-    let new : Closing M N = closing-new_op M (new_operation request group) (λ h names. held-by_user M h
+    let new : Closing M N = closing-new_op M (new_operation request group linked) (λ h names. held-by_user M h
     (ap (λ owners. user_holds (record L { owners = owners }) h) stays.owners ∙ holds h names)) in
     let asked : Closing N (append N (Req (length M.ops))) = closing-same N (append N (Req (length M.ops))) refl
     (record { users = λ h. refl; ops = λ h. refl })
     (λ h. (let a = closes_queued-append h N.queue (Req (length M.ops) ∷ []) in omega (arith, a))) in
-    subst (λ K. Ends L K []) (sym (submit-joined L request group l.lists))
+    subst (λ K. Ends L K []) (sym (submit-joined L request group linked l.lists))
     (ends-quiet (closing-then (closing-make_room L (listed-live L l.lists)) (closing-then new asked)))
 
 -- A submission, under a marked group or not.
-ends-submit_if : (b : Bool) (L : Ledger) (request : Request Buffer Parts) (group : Option ℕ) →
+ends-submit_if : (b : Bool) (L : Ledger) (request : Request Buffer Parts) (group : Option ℕ) (linked : Bool) →
     ((h : ℕ) → has_number h (named request) ≡ true → user_holds L h ≡ true) → Lawful L →
-    Ends L (submit_if b L request group).0 (closed_by (submit_if b L request group).1)
-ends-submit_if true L request group holds l = ends-same L
-ends-submit_if false L request group holds l = ends-submit L request group holds l
+    Ends L (submit_if b L request group linked).0 (closed_by (submit_if b L request group linked).1)
+ends-submit_if true L request group linked holds l = ends-same L
+ends-submit_if false L request group linked holds l = ends-submit L request group linked holds l
 
 -- A cancel that is pushed.
 closing-cancel : (L : Ledger) (n : ℕ) → AreLive L.ops L.queue → Closing L (push L (Queued.Cancel n))
@@ -238,6 +239,23 @@ ends-effect L n o told result grows known there live none =
       few = λ h. omega arith;
     }
 
+-- Those that wait for an operation that was executed are released.
+ends-released : (L E : Ledger) (m : ℕ) (told : Told) → Listed E → Ends L E [] → Ends L (released told E m) []
+ends-released L E m told lists e =
+    let owners = ap length (released-beside told E m).owners in
+    let same : (h : ℕ) → is_unheld (released told E m) h ≡ is_unheld E h = unheld-same (released-holders told E m lists) in
+    record {
+      more = (let a = e.more in omega (arith, owners, a));
+      stays = λ h within is. same h ∙ e.stays h within is;
+      closes = λ h within is. (let c = released-count told E m h in let a = e.closes h within is in omega (arith, c, a));
+      comes = λ h within held is. (
+          let inside : h < length E.owners = omega (arith, owners, within) in
+          let a = e.comes h inside held (sym (same h) ∙ is) in
+          let c = released-count told E m h in
+          omega (arith, a, c));
+      few = e.few;
+    }
+
 -- An execution of what is in flight.
 ends-exec : (L : Ledger) (place : ℕ) (told : Told) (item : Item) → slice_get L.flying place ≡ Some item → Lawful L → MadeAlone L →
     Ends L (exec_step L place told (Some item)).0 (closed_by (exec_step L place told (Some item)).1)
@@ -247,13 +265,14 @@ ends-exec L place told (Op m) there l a =
     let e = ends-effect C m f.0 told (effect_of L f.0.request told)
     (grows-effect L.world (call_of f.0.request) (sent_of f.0.request) told) (known-lists L L.queue C.flying C.done l.known) f.1
     (ap is_kept f.2) (a.agrees m f.0 f.1 (ap is_kept f.2) ∙ ap made_at f.2) in
-    subst (λ x. Ends L (exec_op C m told x) []) (sym f.1) (record {
+    ends-released L (exec_op C m told (slice_get L.ops m)) m told (lawful-executed L place told m there l).lists
+    (subst (λ x. Ends L (exec_op C m told x) []) (sym f.1) (record {
       more = e.more;
       stays = e.stays;
       closes = λ h within is. e.closes h within is ∙ count-complete_at L place (Op m) h there;
       comes = e.comes;
       few = λ h. omega arith;
-    })
+    }))
 ends-exec L place told (Item.Close k) there l a =
     let C : Ledger = complete_at L place (Item.Close k) in
     ends-quiet (closing-same L C refl (record { users = λ h. refl; ops = λ h. refl })
@@ -268,8 +287,8 @@ ends-row L (End h) u l a = ends-world L _
 ends-row L (Look h) u l a = looked (λ reply. Ends L L (closed_by reply)) L h (λ b. ends-same L) (λ m. ends-same L)
 ends-row L (Close h) u l a =
     ends-quiet (closing-close L h (held-by_user L h (closed-held L h u)) (listed-live L l.lists))
-ends-row L (Submit request under) u l a =
-    ends-submit_if (is_under_marked L under) L request (group_under L under) (submitted-held L request under u) l
+ends-row L (Submit request under linked) u l a =
+    ends-submit_if (is_under_marked L under) L request (group_under L under) linked (submitted-held L request under linked u) l
 ends-row L (Poll n task) u l a =
     let f : OwnedAt L n = found L n u in
     subst (λ x. Ends L (poll_step L n task x).0 (closed_by (poll_step L n task x).1)) (sym f.there)

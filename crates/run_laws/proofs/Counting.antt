@@ -73,10 +73,11 @@ counts-plain L e plain =
     }
 
 -- Nor does a submission, under a marked group or not.
-counts-submit : (b : Bool) (L : Ledger) (request : Request Buffer Parts) (group : Option ℕ) → CountsBoth L (submit_if b L request group)
-counts-submit true L request group = record { cancellers = inl (refl, refl); handles = inl (refl, refl) }
-counts-submit false L request group =
-    let s = groups-submit L request group in record {
+counts-submit : (b : Bool) (L : Ledger) (request : Request Buffer Parts) (group : Option ℕ) (linked : Bool) →
+    CountsBoth L (submit_if b L request group linked)
+counts-submit true L request group linked = record { cancellers = inl (refl, refl); handles = inl (refl, refl) }
+counts-submit false L request group linked =
+    let s = groups-submit L request group linked in record {
       cancellers = inl (refl, ap (λ G. length G.cancellers) s.0);
       handles = inl (refl, ap (λ G. length G.cancel_handles) s.0);
     }
@@ -89,7 +90,7 @@ counts-row L (FeedMessage k addr bytes) = counts-plain L (FeedMessage k addr byt
 counts-row L (End k) = counts-plain L (End k) refl
 counts-row L (Look k) = counts-plain L (Look k) refl
 counts-row L (Close k) = counts-plain L (Close k) refl
-counts-row L (Submit request under) = counts-submit (is_under_marked L under) L request (group_under L under)
+counts-row L (Submit request under linked) = counts-submit (is_under_marked L under) L request (group_under L under) linked
 counts-row L (Poll n task) = counts-plain L (Poll n task) refl
 counts-row L (Drop n) = counts-plain L (Drop n) refl
 counts-row L (Cancel n) = counts-plain L (Cancel n) refl

@@ -9,12 +9,13 @@ use Rattle.ring_core.specs.declared.ledger.Event.TheVariants.{Give, Feed, FeedMe
 use Rattle.ring_core.specs.declared.ledger.Event.TheVariants.{Exec}
 use Rattle.ring_core.specs.declared.ledger.Event.TheVariants.{NewCanceller, NewHandle, CancelAll}
 use Rattle.ring_core.specs.declared.ledger.Refusal.{Refusal}
-use Rattle.ring_core.specs.declared.ledger.Refusal.TheVariants.{NoOp, NoCanceller, NoHandle, Full, NotFlying, BadOutcome, BadHandleEvent}
+use Rattle.ring_core.specs.declared.ledger.Refusal.TheVariants.{NoOp, NoCanceller, NoHandle, Full, NotFlying, Waiting}
+use Rattle.ring_core.specs.declared.ledger.Refusal.TheVariants.{BadOutcome, BadHandleEvent}
 use Rattle.ring_core.specs.declared.ledger.Reply.{Reply}
 use Rattle.ring_core.specs.declared.ledger.Reply.TheVariants.{Canceller, CancelHandle, Refused}
 use Rattle.ring_core.specs.Ledger.{Ledger, empty}
 use Rattle.ring_core.specs.Refusal.{cause, refused_if, has_no_op, has_no_canceller, has_no_handle, is_full, is_not_flying, has_bad_outcome}
-use Rattle.ring_core.specs.Refusal.{has_bad_handle_event}
+use Rattle.ring_core.specs.Refusal.{is_waiting, has_bad_handle_event}
 use Rattle.ring_core.specs.Step.{step}
 use Rattle.ring_core.specs.Run.{replies, ledger_before}
 use Rattle.run_laws.specs.Groups.{IsCancellerBefore, IsHandleBefore}
@@ -24,23 +25,24 @@ use Rattle.run_laws.proofs.Replies.{reply-at, after-next, step-refused, step-cau
 use Rattle.run_laws.proofs.Counting.{canceller_in, handle_in, Counts, canceller-is, handle-is, CountsBoth, counts-step}
 
 -- What is refused as NoCanceller fails the first test, and passes the second.
-no_canceller-tests : (a b c d e f g : Bool) →
+no_canceller-tests : (a b c d e w f g : Bool) →
     refused_if a NoOp (refused_if b NoCanceller (refused_if c NoHandle (refused_if d Full (refused_if e NotFlying (
-    refused_if f BadOutcome (refused_if g BadHandleEvent None)))))) ≡ Some NoCanceller → b ≡ true
-no_canceller-tests a true c d e f g h = refl
-no_canceller-tests true false c d e f g h = (let z : ⊥ = cc in absurd z)
-no_canceller-tests false false true d e f g h = (let z : ⊥ = cc in absurd z)
-no_canceller-tests false false false true e f g h = (let z : ⊥ = cc in absurd z)
-no_canceller-tests false false false false true f g h = (let z : ⊥ = cc in absurd z)
-no_canceller-tests false false false false false true g h = (let z : ⊥ = cc in absurd z)
-no_canceller-tests false false false false false false true h = (let z : ⊥ = cc in absurd z)
-no_canceller-tests false false false false false false false h = (let z : ⊥ = cc in absurd z)
+    refused_if w Waiting (refused_if f BadOutcome (refused_if g BadHandleEvent None))))))) ≡ Some NoCanceller → b ≡ true
+no_canceller-tests a true c d e w f g h = refl
+no_canceller-tests true false c d e w f g h = (let z : ⊥ = cc in absurd z)
+no_canceller-tests false false true d e w f g h = (let z : ⊥ = cc in absurd z)
+no_canceller-tests false false false true e w f g h = (let z : ⊥ = cc in absurd z)
+no_canceller-tests false false false false true w f g h = (let z : ⊥ = cc in absurd z)
+no_canceller-tests false false false false false true f g h = (let z : ⊥ = cc in absurd z)
+no_canceller-tests false false false false false false true g h = (let z : ⊥ = cc in absurd z)
+no_canceller-tests false false false false false false false true h = (let z : ⊥ = cc in absurd z)
+no_canceller-tests false false false false false false false false h = (let z : ⊥ = cc in absurd z)
 
 -- So it is with the tests of an event.
 refused-test : (L : Ledger) (e : Event) → cause L e ≡ Some NoCanceller → has_no_canceller L e ≡ true
 refused-test L e h =
-    no_canceller-tests (has_no_op L e) (has_no_canceller L e) (has_no_handle L e) (is_full L e) (is_not_flying L e) (has_bad_outcome L e)
-    (has_bad_handle_event L e) h
+    no_canceller-tests (has_no_op L e) (has_no_canceller L e) (has_no_handle L e) (is_full L e) (is_not_flying L e) (is_waiting L e)
+    (has_bad_outcome L e) (has_bad_handle_event L e) h
 
 -- What passes the second test first is refused so.
 test-refused : (b : Bool) (next : Option Refusal) → b ≡ true → refused_if b NoCanceller next ≡ Some NoCanceller
@@ -168,8 +170,8 @@ module _ (capacity : ℕ) (events : List Event) where
   test-names : (k : ℕ) (L : Ledger) (e : Event) → AreGiven k L → has_no_canceller L e ≡ true → NamesNoCanceller given k e
   test-names k L (NewHandle c) a h = λ x. test-past (length L.cancellers) c h (canceller-there k c L a x)
   test-names k L (CancelAll c) a h = λ x. test-past (length L.cancellers) c h (canceller-there k c L a x)
-  test-names k L (Submit request (Some handle)) a h = λ x. test-past (length L.cancel_handles) handle h (handle-there k handle L a x)
-  test-names k L (Submit request None) a h = cc
+  test-names k L (Submit request (Some handle) linked) a h = λ x. test-past (length L.cancel_handles) handle h (handle-there k handle L a x)
+  test-names k L (Submit request None linked) a h = cc
   test-names k L (Give kind) a h = cc
   test-names k L (Feed x bytes) a h = cc
   test-names k L (FeedMessage x addr bytes) a h = cc
@@ -189,10 +191,10 @@ module _ (capacity : ℕ) (events : List Event) where
       test-refused (nat_le (length L.cancellers) c) None (past-test (length L.cancellers) c (λ w. h (canceller-before k c L a w)))
   names-refused k L (CancelAll c) a h =
       test-refused (nat_le (length L.cancellers) c) None (past-test (length L.cancellers) c (λ w. h (canceller-before k c L a w)))
-  names-refused k L (Submit request (Some handle)) a h =
+  names-refused k L (Submit request (Some handle) linked) a h =
       test-refused (nat_le (length L.cancel_handles) handle) _
       (past-test (length L.cancel_handles) handle (λ w. h (handle-before k handle L a w)))
-  names-refused k L (Submit request None) a h = absurd h
+  names-refused k L (Submit request None linked) a h = absurd h
   names-refused k L (Give kind) a h = absurd h
   names-refused k L (Feed x bytes) a h = absurd h
   names-refused k L (FeedMessage x addr bytes) a h = absurd h

@@ -14,7 +14,7 @@ use Rattle.ring_core.proofs.Taking.{in_queue, in_flight, in_done, Listed}
 use Rattle.ring_core.proofs.Listed.{listed-changed}
 use Rattle.ring_core.proofs.Ending.{listed-gone}
 use Rattle.run_laws.proofs.Asked.{asked-op, asked-make_room, asked-appended}
-use Rattle.run_laws.proofs.Moments.{Placed, Owned, History, reaped-before}
+use Rattle.run_laws.proofs.Moments.{Placed, Owned, History, reaped-before, no-exec}
 use Rattle.run_laws.proofs.History.{given-next, placed-next, history-next}
 use Rattle.run_laws.proofs.Trace.{AskedBefore, Trace, asked-on, history-room, trace-closes}
 
@@ -65,7 +65,8 @@ module _ (capacity : ℕ) (events : List Event) (k : ℕ) (L : Ledger) (lists : 
       let was : History capacity events k n (Some o) = subst (History capacity events k n) there (trace.history n) in
       record {
         given = given-next capacity events k (Drop n) Dropped here reply n o.request was.given;
-        placed = placed-next capacity events k (Drop n) Dropped here reply n o.buffer o.place (λ q. cc) (λ q. cc) was.placed;
+        placed = placed-next capacity events k (Drop n) Dropped here reply n o.buffer o.place
+            (no-exec capacity events k (Drop n) here refl n) (λ q. cc) was.placed;
         owned = record { drop = k; before = omega arith; is_dropped = drops };
       }
 
@@ -80,10 +81,9 @@ module _ (capacity : ℕ) (events : List Event) (k : ℕ) (L : Ledger) (lists : 
               (history-next capacity events k (Drop n) Dropped here reply m (slice_get L.ops m)
               (record {
                 gives_none = λ q. cc;
-                executes_none = λ q. cc;
                 hands_none = λ t outcome buffer p q. cc;
                 drops_none = λ p q. e.0 (let w : n ≡ m = cc in sym w);
-              }) (λ q. cc) (trace.history m))
+              }) (no-exec capacity events k (Drop n) here refl m) (λ q. cc) (trace.history m))
         ];
         asked = asked-op (AskedBefore capacity events (suc k)) L n with_drop (λ o. refl) (asked-on capacity events k L lists trace);
       }

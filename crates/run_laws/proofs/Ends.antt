@@ -14,7 +14,7 @@ use Rattle.ring_core.specs.declared.ledger.Event.TheVariants.{Give, Feed, FeedMe
 use Rattle.ring_core.specs.declared.ledger.Event.TheVariants.{Exec}
 use Rattle.ring_core.specs.declared.ledger.Event.TheVariants.{NewCanceller, NewHandle, CancelAll}
 use Rattle.ring_core.specs.declared.ledger.Refusal.{Refusal}
-use Rattle.ring_core.specs.declared.ledger.Refusal.TheVariants.{NotFlying, BadOutcome}
+use Rattle.ring_core.specs.declared.ledger.Refusal.TheVariants.{NotFlying, Waiting, BadOutcome}
 use Rattle.ring_core.specs.declared.ledger.Reply.TheVariants.{Turned}
 use Rattle.ring_core.specs.Lists.{passes}
 use Rattle.ring_core.specs.declared.request.TheConstants.{CANCELED}
@@ -22,7 +22,7 @@ use Rattle.ring_core.specs.Ledger.{Ledger, Operation, Place, InQueue, InFlight, 
 use Rattle.ring_core.specs.Ledger.{is_under_marked, group_under}
 use Rattle.ring_core.specs.Queue.{take_all}
 use Rattle.ring_core.specs.Turn.{ops_in, closes_in, tasks_woken, exec_step}
-use Rattle.ring_core.specs.Refusal.{cause, refused_if, allowed}
+use Rattle.ring_core.specs.Refusal.{cause, refused_if, allowed, waits}
 use Rattle.ring_core.specs.Step.{step, row, answered, submit_if, poll_at, poll_step, drop_step}
 use Rattle.ring_core.specs.Run.{replies, ledger_before, IsReaped}
 use Rattle.run_laws.specs.Moments.{NamesReaped}
@@ -88,10 +88,11 @@ exec-no-turn L place told (Some (Op n)) reaped closed woken h = cc
 exec-no-turn L place told (Some (Item.Close k)) reaped closed woken h = cc
 
 -- A submission isn't answered as a turn.
-submit-no-turn : (b : Bool) (L : Ledger) (request : Request Buffer Parts) (group : Option ℕ) (reaped closed woken : List ℕ) →
-    (submit_if b L request group).1 ≡ Turned reaped closed woken → ⊥
-submit-no-turn true L request group reaped closed woken h = cc
-submit-no-turn false L request group reaped closed woken h = cc
+submit-no-turn : (b : Bool) (L : Ledger) (request : Request Buffer Parts) (group : Option ℕ) (linked : Bool)
+    (reaped closed woken : List ℕ) →
+    (submit_if b L request group linked).1 ≡ Turned reaped closed woken → ⊥
+submit-no-turn true L request group linked reaped closed woken h = cc
+submit-no-turn false L request group linked reaped closed woken h = cc
 
 -- Only a Turn is answered so.
 turn-row : (L : Ledger) (e : Event) (reaped closed woken : List ℕ) → (row L e).1 ≡ Turned reaped closed woken → e ≡ Turn
@@ -102,8 +103,8 @@ turn-row L (End x) reaped closed woken h = cc
 turn-row L (Look x) reaped closed woken h =
     absurd (looked (λ reply. reply ≡ Turned reaped closed woken → ⊥) L x (λ b q. cc) (λ m q. cc) h)
 turn-row L (Close x) reaped closed woken h = cc
-turn-row L (Submit request under) reaped closed woken h =
-    absurd (submit-no-turn (is_under_marked L under) L request (group_under L under) reaped closed woken h)
+turn-row L (Submit request under linked) reaped closed woken h =
+    absurd (submit-no-turn (is_under_marked L under) L request (group_under L under) linked reaped closed woken h)
 turn-row L (Poll n task) reaped closed woken h = absurd (poll-step-no-turn L n task (slice_get L.ops n) reaped closed woken h)
 turn-row L (Drop n) reaped closed woken h = absurd (drop-no-turn L n (slice_get L.ops n) reaped closed woken h)
 turn-row L (Cancel n) reaped closed woken h = cc
@@ -137,11 +138,12 @@ turn-names L reaped closed woken h =
     (sym e ∙ ap ops_in d, sym f ∙ ap closes_in d)
 
 -- What stands in flight, and isn't refused its outcome, is allowed it.
-pub allowed-there : (L : Ledger) (told : Told) (b : Bool) (x : Option Item) →
-    refused_if b NotFlying (refused_if (not (passes (λ item. allowed L item told) x)) BadOutcome None) ≡ None →
+pub allowed-there : (L : Ledger) (told : Told) (b waiting : Bool) (x : Option Item) →
+    refused_if b NotFlying (refused_if waiting Waiting (refused_if (not (passes (λ item. allowed L item told) x)) BadOutcome None)) ≡ None →
     passes (λ item. allowed L item told) x ≡ true
-allowed-there L told true x h = (let f : ⊥ = cc in absurd f)
-allowed-there L told false x h = passed (passes (λ item. allowed L item told) x) h
+allowed-there L told true waiting x h = (let f : ⊥ = cc in absurd f)
+allowed-there L told false true x h = (let f : ⊥ = cc in absurd f)
+allowed-there L told false false x h = passed (passes (λ item. allowed L item told) x) h
   where
     passed : (b : Bool) → refused_if (not b) BadOutcome None ≡ None → b ≡ true
     passed true h = refl
@@ -150,22 +152,23 @@ allowed-there L told false x h = passed (passes (λ item. allowed L item told) x
 module _ (capacity : ℕ) (events : List Event) where
   -- What was executed before a Turn that is the first since stands among the completions before it.
   stood : (n i : ℕ) (o : Operation) (x : IsReaped capacity events n i) (p : Place) → Placed capacity events i n o.buffer p → in_done p ≡ 1
-  stood n i o x InQueue h = absurd (h x.exec x.turn.behind (x.told, x.executed))
-  stood n i o x InFlight h = absurd (h x.exec x.turn.behind (x.told, x.executed))
+  stood n i o x InQueue h = absurd (h x.exec x.turn.behind (x.told, x.item, x.executed))
+  stood n i o x InFlight h = absurd (h x.exec x.turn.behind (x.told, x.item, x.executed))
   stood n i o x (InDone outcome) h = refl
   stood n i o x (Reaped outcome) h =
-      let e : x.exec ≡ h.own.exec = executed-once capacity events n x.exec h.own.exec x.told h.own.told x.executed h.own.is_executed in
+      let e : x.exec ≡ h.own.exec =
+      executed-once capacity events n x.exec h.own.exec x.told h.own.told x.item h.own.item x.executed h.own.is_executed in
       absurd (let a = x.turn.first h.turn (let b = h.first.behind in omega arith) h.first.event in let c = h.before in omega arith)
   stood n i o x Gone h =
       let e : x.exec ≡ h.reaped.exec =
-      executed-once capacity events n x.exec h.reaped.exec x.told h.reaped.told x.executed h.reaped.executed in
+      executed-once capacity events n x.exec h.reaped.exec x.told h.reaped.told x.item h.reaped.item x.executed h.reaped.executed in
       absurd (
       let a = x.turn.first h.reap (let b = h.reaped.turn.behind in omega arith) h.reaped.turn.event in
       let c = h.before in omega arith)
 
   -- What an event reaps was done before it.
   done-of_reap : (n i : ℕ) (x : IsReaped capacity events n i) (y : Option Operation) → History capacity events i n y → done_mark y ≡ 1
-  done-of_reap n i x None h = absurd (h.unexecuted x.exec x.turn.behind (x.told, x.executed))
+  done-of_reap n i x None h = absurd (h.unexecuted x.exec x.turn.behind (x.told, x.item, x.executed))
   done-of_reap n i x (Some o) h = stood n i o x o.place h.placed
 
   -- The Turn that reaps an operation names it.
@@ -195,6 +198,7 @@ module _ (capacity : ℕ) (events : List Event) where
     reaps buffer (InDone outcome) h past = record {
       exec = past.own.exec;
       told = past.own.told;
+      item = past.own.item;
       executed = past.own.is_executed;
       turn = record {
         behind = past.before;
@@ -242,8 +246,9 @@ module _ (capacity : ℕ) (events : List Event) where
       let told : Told = Fail CANCELED in
       let t : Trace capacity events i L = traced capacity events i (Exec x.place told) x.event in
       let f : (o : Operation) × (slice_get L.ops n ≡ Some o) × (o.place ≡ InFlight) =
-      flying-there L x.place n (lists_before capacity events i) x.item in
-      let allows : allowed L (Op n) told ≡ true = sym (ap (passes (λ item. allowed L item told)) x.item)
-      ∙ allowed-there L told (nat_le (length L.flying) x.place) (slice_get L.flying x.place) x.unrefused in
+      flying-there L x.place n (lists_before capacity events i) x.there in
+      let allows : allowed L (Op n) told ≡ true = sym (ap (passes (λ item. allowed L item told)) x.there)
+      ∙ allowed-there L told (nat_le (length L.flying) x.place) (passes (waits L) (slice_get L.flying x.place))
+      (slice_get L.flying x.place) x.unrefused in
       let canceled : f.0.canceled ≡ true = sym (ap (passes (λ o. o.canceled)) f.1) ∙ allows in
       t.asked.taken n f.0 f.1 canceled

@@ -53,7 +53,7 @@ plain-row L (FeedMessage k addr bytes) h = refl
 plain-row L (End k) h = refl
 plain-row L (Look k) h = looked (λ reply. is_of_group reply ≡ false) L k (λ b. refl) (λ m. refl)
 plain-row L (Close k) h = refl
-plain-row L (Submit request under) h = (let f : ⊥ = cc in absurd f)
+plain-row L (Submit request under linked) h = (let f : ⊥ = cc in absurd f)
 plain-row L (Poll n task) h = plain-poll L n task (slice_get L.ops n)
 plain-row L (Drop n) h = plain-drop L n (slice_get L.ops n)
 plain-row L (Cancel n) h = refl

@@ -28,12 +28,12 @@ use Rattle.run_laws.proofs.Origins.{origins-renewed, origins-as, Origin}
 use Rattle.run_laws.proofs.Polls.{once-by}
 
 -- The group that a request is submitted under, unrefused, is that of its cancel handle.
-group-under-is : (L : Ledger) (request : Request Buffer Parts) (under : Option ℕ) → cause L (Submit request under) ≡ None →
-    IsGroupUnder (groups_of L) under (group_under L under)
-group-under-is L request None u = refl
-group-under-is L request (Some handle) u = elim (slice_get_cases L.cancel_handles handle).1 [
+group-under-is : (L : Ledger) (request : Request Buffer Parts) (under : Option ℕ) (linked : Bool) →
+    cause L (Submit request under linked) ≡ None → IsGroupUnder (groups_of L) under (group_under L under)
+group-under-is L request None linked u = refl
+group-under-is L request (Some handle) linked u = elim (slice_get_cases L.cancel_handles handle).1 [
   | inl e ↦ (e.0, e.2, e.2)
-  | inr e ↦ absurd (let past = e.0 in let within = submitted-under L request handle u in omega (arith, past, within))
+  | inr e ↦ absurd (let past = e.0 in let within = submitted-under L request handle linked u in omega (arith, past, within))
 ]
 
 -- The number of a cancel handle that is created is the count of those before it.
@@ -63,29 +63,37 @@ module _ (capacity : ℕ) (events : List Event) where
         }) origins)
 
     -- A submission, under a marked group or not.
-    submit-next : (b : Bool) (request : Request Buffer Parts) (under : Option ℕ) → slice_get events k ≡ Some (Submit request under) →
-        cause (ledger_before capacity events k) (Submit request under) ≡ None →
+    submit-next : (b : Bool) (request : Request Buffer Parts) (under : Option ℕ) (linked : Bool) →
+        slice_get events k ≡ Some (Submit request under linked) →
+        cause (ledger_before capacity events k) (Submit request under linked) ≡ None →
         let L : Ledger = ledger_before capacity events k in
-        slice_get (answers capacity events) k ≡ Some (submit_if b L request (group_under L under)).1 →
-        OriginsAt capacity events (suc k) (submit_if b L request (group_under L under)).0
-    submit-next true request under here unrefused reply =
+        slice_get (answers capacity events) k ≡ Some (submit_if b L request (group_under L under) linked).1 →
+        OriginsAt capacity events (suc k) (submit_if b L request (group_under L under) linked).0
+    submit-next true request under linked here unrefused reply =
         let L : Ledger = ledger_before capacity events k in
-        origins-still capacity events k (Submit request under) (CanceledAtOnce (held_of request)) here reply (groups_of L) (op_groups L)
+        origins-still capacity events k (Submit request under linked) (CanceledAtOnce (held_of request)) here reply (groups_of L)
+        (op_groups L)
         (record { makes_none = λ c handle p q. cc; cancels_none = λ c numbers p q. cc }) origins
-    submit-next false request under here unrefused reply =
+    submit-next false request under linked here unrefused reply =
         let L : Ledger = ledger_before capacity events k in
         let group : Option ℕ = group_under L under in
-        let s = groups-submit L request group in
+        let s = groups-submit L request group linked in
         let same : length (op_groups L) ≡ length L.ops = length-map L.ops (λ o. o.group) in
-        origins-as capacity events (suc k) (submit_step L request group) (groups_of L) (op_groups L ++ group ∷ []) s.0 s.1
+        origins-as capacity events (suc k) (submit_step L request group linked) (groups_of L) (op_groups L ++ group ∷ []) s.0 s.1
         (origins-given capacity events (suc k) (groups_of L) (op_groups L) group (record {
           at = k;
           before = omega arith;
           is_given =
-              record { request = request; under = under; event = here; reply = reply ∙ ap (λ n. Some (Submitted n)) (sym same) };
-          under = group-under-is L request under unrefused;
+              record {
+                request = request;
+                under = under;
+                linked = linked;
+                event = here;
+                reply = reply ∙ ap (λ n. Some (Submitted n)) (sym same);
+              };
+          under = group-under-is L request under linked unrefused;
         })
-        (origins-still capacity events k (Submit request under) (Submitted (length L.ops)) here reply (groups_of L) (op_groups L)
+        (origins-still capacity events k (Submit request under linked) (Submitted (length L.ops)) here reply (groups_of L) (op_groups L)
         (record { makes_none = λ c handle p q. cc; cancels_none = λ c numbers p q. cc }) origins))
 
     -- A new canceller.
@@ -130,8 +138,8 @@ module _ (capacity : ℕ) (events : List Event) where
     row-next (End h) here unrefused reply = quiet-next (End h) here refl reply
     row-next (Look h) here unrefused reply = quiet-next (Look h) here refl reply
     row-next (Close h) here unrefused reply = quiet-next (Close h) here refl reply
-    row-next (Submit request under) here unrefused reply =
-        submit-next (is_under_marked (ledger_before capacity events k) under) request under here unrefused reply
+    row-next (Submit request under linked) here unrefused reply =
+        submit-next (is_under_marked (ledger_before capacity events k) under) request under linked here unrefused reply
     row-next (Poll n task) here unrefused reply = quiet-next (Poll n task) here refl reply
     row-next (Drop n) here unrefused reply = quiet-next (Drop n) here refl reply
     row-next (Cancel n) here unrefused reply = quiet-next (Cancel n) here refl reply

@@ -57,10 +57,10 @@ exec-none L place told (Some (Op n)) = refl
 exec-none L place told (Some (Item.Close h)) = refl
 
 -- Nor a submission.
-submit-none : (b : Bool) (L : Ledger) (request : Request Buffer Parts) (group : Option ℕ) →
-    handle_of (submit_if b L request group).1 ≡ None
-submit-none true L request group = refl
-submit-none false L request group = refl
+submit-none : (b : Bool) (L : Ledger) (request : Request Buffer Parts) (group : Option ℕ) (linked : Bool) →
+    handle_of (submit_if b L request group linked).1 ≡ None
+submit-none true L request group linked = refl
+submit-none false L request group linked = refl
 
 -- A Give gives the next number.
 record Gives (L : Ledger) (e : Event) (h : ℕ) : Type 0 where
@@ -82,9 +82,9 @@ gives-row L (Look k) h names =
     names-none L (Look k) h (row L (Look k)).1
     (looked (λ reply. handle_of reply ≡ None) L k (λ b. refl) (λ m. refl)) names
 gives-row L (Close k) h names = (let f : ⊥ = cc in absurd f)
-gives-row L (Submit request under) h names =
-    names-none L (Submit request under) h (row L (Submit request under)).1
-    (submit-none (is_under_marked L under) L request (group_under L under)) names
+gives-row L (Submit request under linked) h names =
+    names-none L (Submit request under linked) h (row L (Submit request under linked)).1
+    (submit-none (is_under_marked L under) L request (group_under L under) linked) names
 gives-row L (Poll n task) h names = names-none L (Poll n task) h (row L (Poll n task)).1 (poll-none L n task (slice_get L.ops n)) names
 gives-row L (Drop n) h names = names-none L (Drop n) h (row L (Drop n)).1 (drop-none L n (slice_get L.ops n)) names
 gives-row L (Cancel n) h names = (let f : ⊥ = cc in absurd f)

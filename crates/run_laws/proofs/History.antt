@@ -9,15 +9,14 @@ use Rattle.ring_core.specs.declared.request.Outcome.{Outcome}
 use Rattle.ring_core.specs.declared.ledger.Event.{Event}
 use Rattle.ring_core.specs.declared.ledger.Event.TheVariants.{Turn}
 use Rattle.ring_core.specs.declared.ledger.Reply.{Reply}
-use Rattle.ring_core.specs.declared.ledger.Reply.TheVariants.{ExecutedOp}
 use Rattle.ring_core.specs.Ledger.{Operation, Place, InQueue, InFlight, InDone, Reaped, Gone, empty, is_kept}
 use Rattle.ring_core.specs.Run.{replies, IsGiven}
 use Rattle.run_laws.specs.Moments.{IsReapedBefore, IsHandedBefore, IsDroppedBefore}
 use Rattle.ring_core.proofs.Making.{kept-taken}
 use Rattle.ring_core.proofs.Numbers.{same-or-not, below-or-not}
-use Rattle.ring_core.proofs.Taking.{taken_place, with_take, Took}
+use Rattle.ring_core.proofs.Taking.{taken_place, with_taking, Took}
+use Rattle.ring_core.proofs.Releasing.{with_waits}
 use Rattle.ring_core.proofs.Reaping.{place_after, ended_place, with_end}
-use Rattle.run_laws.proofs.Replies.{executed-reply}
 use Rattle.run_laws.proofs.Moments.{NotBefore, Executes, Hands, Drops, Given, Stands, WasReaped, reaped-before, Placed, Owned, Unknown}
 use Rattle.run_laws.proofs.Moments.{History, IsCalm}
 
@@ -30,10 +29,6 @@ not-before-next P k here before = λ j lt p. elim (same-or-not j k) [
 
 module _ (capacity : ℕ) (events : List Event) (k : ℕ) (e : Event) (r : Reply)
     (here : slice_get events k ≡ Some e) (reply : slice_get (replies (empty capacity) events) k ≡ Some r) where
-  -- Such an event executes nothing of that number, gives none, hands none over, and drops none.
-  pub quiet-executes : (n : ℕ) → (r ≡ ExecutedOp n → ⊥) → Executes capacity events n k → ⊥
-  quiet-executes n none x = none (let q = sym reply ∙ executed-reply capacity events n k x.0 x.1 in cc)
-
   -- A calm event gives no operation.
   calm-gives : (n : ℕ) → IsCalm e r n → IsGiven capacity events n k → ⊥
   calm-gives n calm x = calm.gives_none (let q = sym reply ∙ x.reply in cc)
@@ -52,6 +47,7 @@ module _ (capacity : ℕ) (events : List Event) (k : ℕ) (e : Event) (r : Reply
     at = g.at;
     before = (let b = g.before in omega arith);
     under = g.under;
+    linked = g.linked;
     event = g.event;
     reply = g.reply;
   }
@@ -89,11 +85,11 @@ module _ (capacity : ℕ) (events : List Event) (k : ℕ) (e : Event) (r : Reply
       IsDroppedBefore events (replies (empty capacity) events) n (suc k)
   dropped-next n h = record { drop = h.drop; before = (let b = h.before in omega arith); is_dropped = h.is_dropped }
 
-  -- An event that is no Turn and executes nothing of n passes on what happened to an operation that stays at its place.
-  pub placed-next : (n : ℕ) (buffer : HeldBuf) (p : Place) → (r ≡ ExecutedOp n → ⊥) → (e ≡ Turn → ⊥) →
+  -- An event that is no Turn and doesn't execute n passes on what happened to an operation that stays at its place.
+  pub placed-next : (n : ℕ) (buffer : HeldBuf) (p : Place) → (Executes capacity events n k → ⊥) → (e ≡ Turn → ⊥) →
       Placed capacity events k n buffer p → Placed capacity events (suc k) n buffer p
-  placed-next n buffer InQueue none turns h = not-before-next (Executes capacity events n) k (quiet-executes n none) h
-  placed-next n buffer InFlight none turns h = not-before-next (Executes capacity events n) k (quiet-executes n none) h
+  placed-next n buffer InQueue none turns h = not-before-next (Executes capacity events n) k none h
+  placed-next n buffer InFlight none turns h = not-before-next (Executes capacity events n) k none h
   placed-next n buffer (InDone outcome) none turns h = stands-next n outcome buffer turns h
   placed-next n buffer (Reaped outcome) none turns h = was_reaped-next n outcome buffer h
   placed-next n buffer Gone none turns h = reaped-next n h
@@ -107,21 +103,22 @@ module _ (capacity : ℕ) (events : List Event) (k : ℕ) (e : Event) (r : Reply
   owned-next n false false hands drops h = handed-next n h
 
   -- A number that wasn't given still wasn't.
-  unknown-next : (n : ℕ) → IsCalm e r n → Unknown capacity events k n → Unknown capacity events (suc k) n
-  unknown-next n calm h = record {
+  unknown-next : (n : ℕ) → IsCalm e r n → (Executes capacity events n k → ⊥) → Unknown capacity events k n →
+      Unknown capacity events (suc k) n
+  unknown-next n calm none h = record {
     ungiven = not-before-next (IsGiven capacity events n) k (calm-gives n calm) h.ungiven;
-    unexecuted = not-before-next (Executes capacity events n) k (quiet-executes n calm.executes_none) h.unexecuted;
+    unexecuted = not-before-next (Executes capacity events n) k none h.unexecuted;
     unhanded = not-before-next (Hands capacity events n) k (calm-hands n calm) h.unhanded;
     undropped = not-before-next (Drops capacity events n) k (calm-drops n calm) h.undropped;
   }
 
-  -- An event that is no Turn, and does nothing to n, passes its history on.
-  pub history-next : (n : ℕ) (x : Option Operation) → IsCalm e r n → (e ≡ Turn → ⊥) → History capacity events k n x →
-      History capacity events (suc k) n x
-  history-next n None calm turns h = unknown-next n calm h
-  history-next n (Some o) calm turns h = record {
+  -- An event that is no Turn, doesn't execute n, and does nothing else to it, passes its history on.
+  pub history-next : (n : ℕ) (x : Option Operation) → IsCalm e r n → (Executes capacity events n k → ⊥) → (e ≡ Turn → ⊥) →
+      History capacity events k n x → History capacity events (suc k) n x
+  history-next n None calm none turns h = unknown-next n calm none h
+  history-next n (Some o) calm none turns h = record {
     given = given-next n o.request h.given;
-    placed = placed-next n o.buffer o.place calm.executes_none turns h.placed;
+    placed = placed-next n o.buffer o.place none turns h.placed;
     owned = owned-next n o.dropped (is_kept o.place) (calm-hands n calm) (calm-drops n calm) h.owned;
   }
 
@@ -147,10 +144,10 @@ module _ (capacity : ℕ) (events : List Event) (k : ℕ) (e : Event) (r : Reply
   placed-after n buffer false outcome s = s
 
   -- A Turn passes on what happened, and reaps what was executed.
-  placed-ended : (n : ℕ) (buffer : HeldBuf) (dropped : Bool) (p : Place) → (r ≡ ExecutedOp n → ⊥) → e ≡ Turn →
+  placed-ended : (n : ℕ) (buffer : HeldBuf) (dropped : Bool) (p : Place) → (Executes capacity events n k → ⊥) → e ≡ Turn →
       Placed capacity events k n buffer p → Placed capacity events (suc k) n buffer (ended_place dropped p)
-  placed-ended n buffer dropped InQueue none turn h = not-before-next (Executes capacity events n) k (quiet-executes n none) h
-  placed-ended n buffer dropped InFlight none turn h = not-before-next (Executes capacity events n) k (quiet-executes n none) h
+  placed-ended n buffer dropped InQueue none turn h = not-before-next (Executes capacity events n) k none h
+  placed-ended n buffer dropped InFlight none turn h = not-before-next (Executes capacity events n) k none h
   placed-ended n buffer dropped (InDone outcome) none turn h = placed-after n buffer dropped outcome (stands-reaped n outcome buffer turn h)
   placed-ended n buffer dropped (Reaped outcome) none turn h = was_reaped-next n outcome buffer h
   placed-ended n buffer dropped Gone none turn h = reaped-next n h
@@ -172,12 +169,12 @@ module _ (capacity : ℕ) (events : List Event) (k : ℕ) (e : Event) (r : Reply
       (owned-next n false (is_kept p) (calm-hands n calm) (calm-drops n calm) h)
 
   -- A Turn reaps what was executed.
-  pub history-reaped : (n : ℕ) (x : Option Operation) → IsCalm e r n → e ≡ Turn → History capacity events k n x →
-      History capacity events (suc k) n (option_map with_end x)
-  history-reaped n None calm turn h = unknown-next n calm h
-  history-reaped n (Some o) calm turn h = record {
+  pub history-reaped : (n : ℕ) (x : Option Operation) → IsCalm e r n → (Executes capacity events n k → ⊥) → e ≡ Turn →
+      History capacity events k n x → History capacity events (suc k) n (option_map with_end x)
+  history-reaped n None calm none turn h = unknown-next n calm none h
+  history-reaped n (Some o) calm none turn h = record {
     given = given-next n o.request h.given;
-    placed = placed-ended n o.buffer o.dropped o.place calm.executes_none turn h.placed;
+    placed = placed-ended n o.buffer o.dropped o.place none turn h.placed;
     owned = owned-ended n o.dropped o.place calm h.owned;
   }
 
@@ -191,10 +188,10 @@ placed-taken capacity events k n buffer (Reaped outcome) h = h
 placed-taken capacity events k n buffer Gone h = h
 
 -- Taking an operation keeps its history.
-taken-history : (capacity : ℕ) (events : List Event) (k n : ℕ) (canceled : Bool) (x : Option Operation) → History capacity events k n x →
-    History capacity events k n (option_map (with_take canceled) x)
-taken-history capacity events k n canceled None h = h
-taken-history capacity events k n canceled (Some o) h = record {
+taken-history : (capacity : ℕ) (events : List Event) (k n : ℕ) (canceled : Bool) (waits_for : Option ℕ) (x : Option Operation) →
+    History capacity events k n x → History capacity events k n (option_map (with_taking canceled waits_for) x)
+taken-history capacity events k n canceled waits_for None h = h
+taken-history capacity events k n canceled waits_for (Some o) h = record {
   given = h.given;
   placed = placed-taken capacity events k n o.buffer o.place h.placed;
   owned = subst (Owned capacity events k n o.dropped) (sym (kept-taken o.place)) h.owned;
@@ -204,4 +201,10 @@ taken-history capacity events k n canceled (Some o) h = record {
 pub history-taken : (capacity : ℕ) (events : List Event) (k n : ℕ) (x y : Option Operation) → Took x y → History capacity events k n x →
     History capacity events k n y
 history-taken capacity events k n x y took h =
-    subst (History capacity events k n) (sym took.is) (taken-history capacity events k n took.canceled x h)
+    subst (History capacity events k n) (sym took.is) (taken-history capacity events k n took.canceled took.waits_for x h)
+
+-- Whom an operation waits for is no part of its history.
+pub history-waits : (capacity : ℕ) (events : List Event) (k n : ℕ) (waits_for : Option ℕ) (x : Option Operation) →
+    History capacity events k n x → History capacity events k n (option_map (with_waits waits_for) x)
+history-waits capacity events k n waits_for None h = h
+history-waits capacity events k n waits_for (Some o) h = record { given = h.given; placed = h.placed; owned = h.owned }

@@ -7,6 +7,10 @@ use Rattle.run_laws.specs.Headline.{OneReplyEach}
 use Rattle.run_laws.proofs.Replies.{length-replies}
 pub use Rattle.run_laws.proofs.Replies.{refused-exactly}
 pub use Rattle.run_laws.proofs.Numbers.{given-in-order}
+pub use Rattle.run_laws.proofs.Executing.{breaks-by-failure}
+pub use Rattle.run_laws.proofs.Waiting.{waits-behind, starts-free, breaks-with-leader, starts-behind-leader}
+pub use Rattle.run_laws.proofs.Starting.{waits-once-taken, waits-only-taken, starts-after-leader, moves-behind-leader}
+pub use Rattle.run_laws.proofs.Breaking.{breaks-chain, completes-in-order}
 pub use Rattle.run_laws.proofs.Polls.{pending-until-reaped, reaped-or-not, hands-back-own, given-once, executed-once, reaped-once, one-own}
 pub use Rattle.run_laws.proofs.Once.{handed-once, dropped-once, refused-where-gone, first-poll-hands}
 pub use Rattle.run_laws.proofs.Ends.{reap-names, kept-until-reaped, canceled-where-asked}

@@ -3,10 +3,16 @@ pub mod Asked
 pub mod Replies
 pub mod Numbers
 pub mod Moments
+pub mod Executing
+pub mod Waiting
 pub mod History
 pub mod Trace
 pub mod Dropped
 pub mod Reached
+pub mod Keeps
+pub mod Kept
+pub mod Starting
+pub mod Breaking
 pub mod Polls
 pub mod Once
 pub mod Ends

@@ -12,13 +12,15 @@ use Rattle.ring_core.specs.declared.ledger.Reply.TheVariants.{Handed}
 use Rattle.ring_core.specs.Lists.{passes}
 use Rattle.ring_core.specs.Request.{call_of, sent_of, held}
 use Rattle.ring_core.specs.Effect.{made_by}
-use Rattle.ring_core.specs.Ledger.{Ledger, Operation, Place, InQueue, InFlight, InDone, Reaped, Gone, empty, is_kept, is_live, user_holds}
+use Rattle.ring_core.specs.Ledger.{Ledger, Operation, Place, InQueue, InFlight, InDone, Reaped, Gone, Item, Op, empty, is_kept, is_live}
+use Rattle.ring_core.specs.Ledger.{user_holds}
 use Rattle.ring_core.specs.Queue.{is_unheld}
 use Rattle.ring_core.specs.Turn.{effect_of}
 use Rattle.ring_core.specs.Step.{step, handed_over, poll_at, poll_step}
 use Rattle.ring_core.specs.Refusal.{cause}
 use Rattle.ring_core.specs.Closes.{made_at}
 use Rattle.ring_core.specs.Run.{replies, ledger_before, IsExecuted, IsOwn}
+use Rattle.run_laws.proofs.Executing.{made-itself, exec-itself, own-itself}
 use Rattle.run_laws.specs.Moments.{IsReapedBefore}
 use Rattle.run_laws.specs.Closes.{IsMadeBy, IsAbandonedBefore, IsOverBefore, MadeOnce, MadeOnly}
 use Rattle.ring_core.proofs.Numbers.{same-or-not, below-or-not, below-or-above}
@@ -86,10 +88,10 @@ module _ (capacity : ℕ) (events : List Event) where
       ]
 
   -- What is returned was executed before.
-  handed-late : (n i j : ℕ) (told : Told) → IsExecuted capacity events n j told → Hands capacity events n i → j < i
-  handed-late n i j told executed x =
+  handed-late : (n i j : ℕ) (told : Told) (item : Item) → IsExecuted capacity events n j told item → Hands capacity events n i → j < i
+  handed-late n i j told item executed x =
       let r : IsReapedBefore capacity events n i = handed-reaped capacity events n i x in
-      let same = executed-once capacity events n r.reaped.exec j r.reaped.told told r.reaped.executed executed in
+      let same = executed-once capacity events n r.reaped.exec j r.reaped.told told r.reaped.item item r.reaped.executed executed in
       let a = r.reaped.turn.behind in
       let b = r.before in
       omega (arith, same, a, b)
@@ -105,7 +107,7 @@ module _ (capacity : ℕ) (events : List Event) where
         let L : Ledger = ledger_before capacity events m.own.exec in
         let request = m.own.is_given.request in
         let made : made_by (effect_of L request m.own.told).outcome ≡ Some h =
-        ap (λ r. made_by r.outcome) (sym m.own.result_is) ∙ ap made_by (sym m.own.outcome_is) in
+        ap made_by (sym (made-itself capacity events n h m.buffer m.own).1) in
         (grows-effect L.world (call_of request) (sent_of request) m.own.told).last h made
         ∙ sym (lawful-ledger capacity (take m.own.exec events)).known.together
 
@@ -127,8 +129,8 @@ module _ (capacity : ℕ) (events : List Event) where
     -- The state of the maker, by its place.
     maker-state : (k : ℕ) (o : Operation) → slice_get (ledger_before capacity events k).ops n ≡ Some o → m.own.exec < k → (p : Place) →
         o.place ≡ p → Placed capacity events k n o.buffer p → ((is_live o ≡ true) × (o.made ≡ Some h)) ⊎ (o.place ≡ Gone)
-    maker-state k o there lt InQueue at placed = absurd (placed m.own.exec lt (m.own.told, m.own.is_executed))
-    maker-state k o there lt InFlight at placed = absurd (placed m.own.exec lt (m.own.told, m.own.is_executed))
+    maker-state k o there lt InQueue at placed = absurd (placed m.own.exec lt (m.own.told, m.own.item, m.own.is_executed))
+    maker-state k o there lt InFlight at placed = absurd (placed m.own.exec lt (m.own.told, m.own.item, m.own.is_executed))
     maker-state k o there lt (InDone outcome) at placed =
         inl (maker-live k o outcome there (ap is_kept at) (ap made_at at) placed.own)
     maker-state k o there lt (Reaped outcome) at placed =
@@ -138,7 +140,7 @@ module _ (capacity : ℕ) (events : List Event) where
     -- The maker, by what was looked up.
     maker-found : (k : ℕ) → m.own.exec < k → (x : Option Operation) → slice_get (ledger_before capacity events k).ops n ≡ x →
         History capacity events k n x → IsMaker k
-    maker-found k lt None there past = absurd (past.unexecuted m.own.exec lt (m.own.told, m.own.is_executed))
+    maker-found k lt None there past = absurd (past.unexecuted m.own.exec lt (m.own.told, m.own.item, m.own.is_executed))
     maker-found k lt (Some o) there past =
         record { operation = o; there = there; had = past; state = maker-state k o there lt o.place refl past.placed }
 
@@ -158,7 +160,8 @@ module _ (capacity : ℕ) (events : List Event) where
           | inr gone ↦ absurd (
               let r : IsReapedBefore capacity events n k = subst (Placed capacity events k n x.operation.buffer) gone x.had.placed in
               let same =
-              executed-once capacity events n r.reaped.exec m.own.exec r.reaped.told m.own.told r.reaped.executed m.own.is_executed in
+              executed-once capacity events n r.reaped.exec m.own.exec r.reaped.told m.own.told r.reaped.item m.own.item r.reaped.executed
+              m.own.is_executed in
               let a = r.reaped.turn.behind in
               let b = r.before in
               omega (arith, same, a, b))
@@ -241,9 +244,13 @@ module _ (capacity : ℕ) (events : List Event) where
   pub made-once : MadeOnce capacity events
   made-once h n m x y = elim (same-or-not x.own.exec y.own.exec) [
     | inl e ↦ (
-        let q = sym (executed-reply capacity events n x.own.exec x.own.told x.own.is_executed)
+        let first : IsExecuted capacity events n x.own.exec x.own.told (Op n) =
+        subst (IsExecuted capacity events n x.own.exec x.own.told) (made-itself capacity events n h x.buffer x.own).0 x.own.is_executed in
+        let second : IsExecuted capacity events m y.own.exec y.own.told (Op m) =
+        subst (IsExecuted capacity events m y.own.exec y.own.told) (made-itself capacity events m h y.buffer y.own).0 y.own.is_executed in
+        let q = sym (executed-reply capacity events n n x.own.exec x.own.told first)
         ∙ ap (slice_get (replies (empty capacity) events)) e
-        ∙ executed-reply capacity events m y.own.exec y.own.told y.own.is_executed in
+        ∙ executed-reply capacity events m m y.own.exec y.own.told second in
         let p : n ≡ m = cc in p)
     | inr apart ↦ absurd (elim (below-or-above x.own.exec y.own.exec apart) [
       | inl lt ↦ made-twice h n m x y lt
@@ -270,12 +277,9 @@ module _ (capacity : ℕ) (events : List Event) where
         let had : History capacity events k m.n (Some o) =
         subst (History capacity events k m.n) m.there ((reached capacity events k (omega (arith, inside))).history m.n) in
         let g = had.given in
-        let executed : IsExecuted capacity events m.n k m.told = record {
-          place = m.place;
-          event = here ∙ ap Some m.event;
-          unrefused = ap (cause L) (sym m.event) ∙ is;
-          item = m.item;
-        } in
+        let executed : IsExecuted capacity events m.n k m.told (Op m.n) =
+        exec-itself capacity events m.n k m.place m.told (here ∙ ap Some m.event) (ap (cause L) (sym m.event) ∙ is) m.item in
+        let answer = own-itself L m.n o.request m.told in
         record {
           maker = m.n;
           made = record {
@@ -284,16 +288,15 @@ module _ (capacity : ℕ) (events : List Event) where
               given = g.at;
               exec = k;
               told = m.told;
-              is_given = record { request = o.request; under = g.under; event = g.event; reply = g.reply };
+              is_given = record { request = o.request; under = g.under; linked = g.linked; event = g.event; reply = g.reply };
+              item = Op m.n;
               is_executed = executed;
-              result = result;
-              result_is = refl;
-              outcome_is = sym (made-outcome result.outcome h m.made);
-              buffer_is = refl;
+              outcome_is = sym (made-outcome result.outcome h m.made) ∙ sym (ap (λ a. a.0) answer);
+              buffer_is = sym (ap (λ a. a.1) answer);
             };
           };
           before = omega arith;
-          kept = λ j lt x. (let late = handed-late m.n j k m.told executed x in omega (arith, lt, late));
+          kept = λ j lt x. (let late = handed-late m.n j k m.told (Op m.n) executed x in omega (arith, lt, late));
         }
 
     -- What wasn't returned before an event isn't at it, where the user doesn't hold the handle after it.

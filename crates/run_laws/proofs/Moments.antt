@@ -1,6 +1,6 @@
 -- The history of an operation before the event at k: what submitted, executed, reaped, returned or dropped it, by what the ledger
 -- keeps of it.
-use Rattle.std.proofs.Common.{◌≡◌, ℕ, ◌<◌, Bool, true, false, List, Option, Some, None, slice_get}
+use Rattle.std.proofs.Common.{◌≡◌, ℕ, ◌<◌, Bool, true, false, List, Option, Some, None, slice_get, sym, ◌∙◌, ap, true≢false}
 use Rattle.rent_buf.specs.Buffer.{Buffer}
 use Rattle.rent_buf.specs.Parts.{Parts}
 use Rattle.rent_buf.specs.Held.{HeldBuf}
@@ -8,10 +8,10 @@ use Rattle.ring_core.specs.declared.request.Request.{Request}
 use Rattle.ring_core.specs.declared.request.Told.{Told}
 use Rattle.ring_core.specs.declared.request.Outcome.{Outcome}
 use Rattle.ring_core.specs.declared.ledger.Event.{Event}
-use Rattle.ring_core.specs.declared.ledger.Event.TheVariants.{Submit, Poll, Drop, Turn}
+use Rattle.ring_core.specs.declared.ledger.Event.TheVariants.{Submit, Poll, Drop, Turn, Exec}
 use Rattle.ring_core.specs.declared.ledger.Reply.{Reply}
-use Rattle.ring_core.specs.declared.ledger.Reply.TheVariants.{Submitted, Handed, Dropped, ExecutedOp}
-use Rattle.ring_core.specs.Ledger.{Operation, Place, InQueue, InFlight, InDone, Reaped, Gone, empty, is_kept}
+use Rattle.ring_core.specs.declared.ledger.Reply.TheVariants.{Submitted, Handed, Dropped}
+use Rattle.ring_core.specs.Ledger.{Operation, Place, InQueue, InFlight, InDone, Reaped, Gone, Item, empty, is_kept}
 use Rattle.ring_core.specs.Run.{replies, IsGiven, IsExecuted, IsFirstTurn, IsOwn}
 use Rattle.run_laws.specs.Moments.{IsHanded, IsDropped, IsReapedBefore, IsHandedBefore, IsDroppedBefore}
 
@@ -21,7 +21,7 @@ NotBefore P k = (j : ℕ) → j < k → P j → ⊥
 
 -- The event at j executes n.
 abbrev pub Executes : ℕ → List Event → ℕ → ℕ → Type 0
-Executes capacity events n j = (told : Told) × IsExecuted capacity events n j told
+Executes capacity events n j = (told : Told) × (item : Item) × IsExecuted capacity events n j told item
 
 -- The event at j hands n over.
 abbrev pub Hands : ℕ → List Event → ℕ → ℕ → Type 0
@@ -36,7 +36,8 @@ pub record Given (capacity : ℕ) (events : List Event) (k n : ℕ) (request : R
   pub at : ℕ
   pub before : at < k
   pub under : Option ℕ
-  pub event : slice_get events at ≡ Some (Submit request under)
+  pub linked : Bool
+  pub event : slice_get events at ≡ Some (Submit request under linked)
   pub reply : slice_get (replies (empty capacity) events) at ≡ Some (Submitted n)
 
 -- n was executed before k, and no Turn came since.
@@ -64,6 +65,7 @@ reaped-before capacity events k n outcome buffer s =
       reaped = record {
         exec = s.own.exec;
         told = s.own.told;
+        item = s.own.item;
         executed = s.own.is_executed;
         turn = s.first;
       };
@@ -103,9 +105,20 @@ abbrev pub History : ℕ → List Event → ℕ → ℕ → Option Operation →
 History capacity events k n None = Unknown capacity events k n
 History capacity events k n (Some o) = Had capacity events k n o.request o.buffer o.dropped o.place
 
--- An event with this reply neither gives, nor executes, nor hands over, nor drops n.
+-- An event with this reply neither gives, nor hands over, nor drops n.
 pub record IsCalm (e : Event) (r : Reply) (n : ℕ) : Type 0 where
   pub gives_none : r ≡ Submitted n → ⊥
-  pub executes_none : r ≡ ExecutedOp n → ⊥
   pub hands_none : (task : ℕ) (outcome : Outcome) (buffer : HeldBuf) → e ≡ Poll n task → r ≡ Handed outcome buffer → ⊥
   pub drops_none : e ≡ Drop n → r ≡ Dropped → ⊥
+
+-- An event is an Exec.
+abbrev pub is_exec : Event → Bool
+is_exec (Exec place told) = true
+is_exec _ = false
+
+-- An event that is no Exec executes nothing.
+pub no-exec : (capacity : ℕ) (events : List Event) (k : ℕ) (e : Event) → slice_get events k ≡ Some e → is_exec e ≡ false → (n : ℕ) →
+    Executes capacity events n k → ⊥
+no-exec capacity events k e here none n x =
+    let q : e ≡ Exec x.2.place x.0 = (let w = sym here ∙ x.2.event in cc) in
+    true≢false (sym (ap is_exec q) ∙ none)

@@ -31,9 +31,10 @@ use Rattle.ring_core.specs.Ledger.{Ledger, Operation, Place, InQueue, InFlight, 
 use Rattle.ring_core.specs.Ledger.{new_operation, user_holds, is_under_marked, group_under, members}
 use Rattle.ring_core.specs.Queue.{with_op, take_all, is_unheld}
 use Rattle.ring_core.specs.Turn.{exec_op, exec_step, complete_at}
-use Rattle.ring_core.specs.Refusal.{cause, allowed}
+use Rattle.ring_core.specs.Refusal.{cause, allowed, waits}
 use Rattle.ring_core.specs.Step.{step, row, with_new_op, submit_if, group_of, with_mark, handed_over, poll_at, poll_step, with_drop}
 use Rattle.ring_core.specs.Step.{drop_at, drop_step, with_user, close_if}
+use Rattle.ring_core.proofs.Releasing.{released-beside}
 use Rattle.run_laws.specs.Transfers.{Transfer, Fed, Taken, Sent, Written, MessageFed, MessageTaken, MessageSent, at_handle, message_taken}
 use Rattle.run_laws.specs.Transfers.{spliced, moved, moved_as, op_moves, item_moves, row_moves, moves_if, event_moves}
 use Rattle.ring_core.proofs.Numbers.{equal-other, and-left, and-right}
@@ -241,8 +242,12 @@ steps-item L place told (Op n) h there may l =
     let o : Operation = f.0 in
     let is : is_allowed L.world o.canceled (call_of o.request) told ≡ true =
     sym (ap (passes (λ p. is_allowed L.world p.canceled (call_of p.request) told)) f.1) ∙ may in
-    subst (λ x. Steps (slice_get L.world h) (op_moves h L.world told x) (slice_get (exec_op (complete_at L place (Op n)) n told x).world h))
-    (sym f.1) (steps-effect L.world (call_of o.request) (sent_of o.request) told o.canceled h is)
+    let E : Ledger = exec_op (complete_at L place (Op n)) n told (slice_get L.ops n) in
+    subst (λ world. Steps (slice_get L.world h) (op_moves h L.world told (slice_get L.ops n)) (slice_get world h))
+    (sym (released-beside told E n).world)
+    (subst (λ x. Steps (slice_get L.world h) (op_moves h L.world told x)
+    (slice_get (exec_op (complete_at L place (Op n)) n told x).world h))
+    (sym f.1) (steps-effect L.world (call_of o.request) (sent_of o.request) told o.canceled h is))
 steps-item L place told (Item.Close k) h there may l = inl refl
 
 -- The same world.
@@ -286,10 +291,11 @@ world-close_if true L h = (stays-push L (Queued.Close h)).world
 world-close_if false L h = refl
 
 -- So does a submission, under a marked group or not.
-world-submit_if : (b : Bool) (L : Ledger) (request : Request Buffer Parts) (group : Option ℕ) →
-    (submit_if b L request group).0.world ≡ L.world
-world-submit_if true L request group = refl
-world-submit_if false L request group = (stays-push (with_new_op L (new_operation request group)) (Req (length L.ops))).world
+world-submit_if : (b : Bool) (L : Ledger) (request : Request Buffer Parts) (group : Option ℕ) (linked : Bool) →
+    (submit_if b L request group linked).0.world ≡ L.world
+world-submit_if true L request group linked = refl
+world-submit_if false L request group linked =
+    (stays-push (with_new_op L (new_operation request group linked)) (Req (length L.ops))).world
 
 -- A handle that its user holds is there.
 user-there : (L : Ledger) (k : ℕ) → Lawful L → user_holds L k ≡ true → (old : HandleState) × (slice_get L.world k ≡ Some old)
@@ -324,8 +330,9 @@ steps-row L (End k) h u l =
 steps-row L (Look k) h u l = inl refl
 steps-row L (Close k) h u l =
     let U : Ledger = with_user L k false in steps-same L (row L (Close k)).0 h (world-close_if (is_unheld U k) U k)
-steps-row L (Submit request under) h u l =
-    steps-same L (row L (Submit request under)).0 h (world-submit_if (is_under_marked L under) L request (group_under L under))
+steps-row L (Submit request under linked) h u l =
+    steps-same L (row L (Submit request under linked)).0 h
+    (world-submit_if (is_under_marked L under) L request (group_under L under) linked)
 steps-row L (Poll n task) h u l = steps-same L (row L (Poll n task)).0 h (world-poll_step L n task (slice_get L.ops n))
 steps-row L (Drop n) h u l = steps-same L (row L (Drop n)).0 h (world-drop_step L n (slice_get L.ops n))
 steps-row L (Cancel n) h u l = steps-same L (row L (Cancel n)).0 h (stays-push L (Queued.Cancel n)).world
@@ -340,7 +347,7 @@ steps-row L Turn h u l =
 steps-row L (Exec place told) h u l =
     let i = executed-there L place told u in
     let may : allowed L i.0 told ≡ true = sym (ap (passes (λ item. allowed L item told)) i.1)
-    ∙ allowed-there L told (nat_le (length L.flying) place) (slice_get L.flying place) u in
+    ∙ allowed-there L told (nat_le (length L.flying) place) (passes (waits L) (slice_get L.flying place)) (slice_get L.flying place) u in
     subst (λ x. Steps (slice_get L.world h) (item_moves h L told x) (slice_get (exec_step L place told x).0.world h)) (sym i.1)
     (steps-item L place told i.0 h i.1 may l)
 

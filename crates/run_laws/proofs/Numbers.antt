@@ -23,6 +23,7 @@ use Rattle.ring_core.specs.Step.{step, row, answered, poll_at, poll_step, with_d
 use Rattle.ring_core.specs.Step.{handed_over, with_user, close_if, submit_if, group_of, with_mark}
 use Rattle.ring_core.specs.Run.{after, replies}
 use Rattle.run_laws.specs.Headline.{gives_number, GivenInOrder}
+use Rattle.ring_core.proofs.Releasing.{released-beside}
 use Rattle.ring_core.proofs.Amended.{length-amended}
 use Rattle.ring_core.proofs.Taken.{length-take_each, length-make_room}
 use Rattle.ring_core.proofs.Staying.{stays-length, stays-push_each, stays-leave, stays-reap_each}
@@ -82,7 +83,11 @@ length-exec_op L n told (Some o) = length-amended (with_result told (effect_of L
 numbers-exec : (L : Ledger) (place : ℕ) (told : Told) (x : Option Item) → Numbers L (exec_step L place told x)
 numbers-exec L place told None = record { count = omega arith; number = λ m q. cc }
 numbers-exec L place told (Some (Op n)) =
-    record { count = length-exec_op (complete_at L place (Op n)) n told (slice_get L.ops n) ∙ omega arith; number = λ m q. cc }
+    let E : Ledger = exec_op (complete_at L place (Op n)) n told (slice_get L.ops n) in
+    record {
+      count = (released-beside told E n).count ∙ length-exec_op (complete_at L place (Op n)) n told (slice_get L.ops n) ∙ omega arith;
+      number = λ m q. cc;
+    }
 numbers-exec L place told (Some (Item.Close k)) = record { count = omega arith; number = λ m q. cc }
 
 -- A close that is pushed, or isn't, keeps the count.
@@ -91,10 +96,11 @@ length-closed true L h = length-make_room L
 length-closed false L h = refl
 
 -- A Submit gives the count, but under a marked group.
-numbers-submit : (b : Bool) (L : Ledger) (request : Request Buffer Parts) (group : Option ℕ) → Numbers L (submit_if b L request group)
-numbers-submit true L request group = record { count = omega arith; number = λ m q. cc }
-numbers-submit false L request group =
-    let o : Operation = new_operation request group in record {
+numbers-submit : (b : Bool) (L : Ledger) (request : Request Buffer Parts) (group : Option ℕ) (linked : Bool) →
+    Numbers L (submit_if b L request group linked)
+numbers-submit true L request group linked = record { count = omega arith; number = λ m q. cc }
+numbers-submit false L request group linked =
+    let o : Operation = new_operation request group linked in record {
       count = length-make_room (with_new_op L o) ∙ length-append L.ops (o ∷ []) ∙ omega arith;
       number = λ m q. cc;
     }
@@ -111,7 +117,7 @@ numbers-row L (Look h) =
 numbers-row L (Close h) =
     let U : Ledger = with_user L h false in
     record { count = length-closed (is_unheld U h) U h ∙ omega arith; number = λ m q. cc }
-numbers-row L (Submit request under) = numbers-submit (is_under_marked L under) L request (group_under L under)
+numbers-row L (Submit request under linked) = numbers-submit (is_under_marked L under) L request (group_under L under) linked
 numbers-row L (Poll n task) = numbers-poll L n task (slice_get L.ops n)
 numbers-row L (Drop n) = numbers-drop L n (slice_get L.ops n)
 numbers-row L (Cancel n) = record { count = length-make_room L ∙ omega arith; number = λ m q. cc }

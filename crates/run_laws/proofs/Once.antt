@@ -9,18 +9,18 @@ use Rattle.ring_core.specs.declared.ledger.Event.TheVariants.{NewCanceller, NewH
 use Rattle.ring_core.specs.declared.ledger.Refusal.{Refusal}
 use Rattle.ring_core.specs.declared.ledger.Refusal.TheVariants.{NoOp}
 use Rattle.ring_core.specs.declared.ledger.Reply.TheVariants.{Refused}
-use Rattle.ring_core.specs.Ledger.{Ledger, Operation, InFlight, empty, is_kept, is_owned}
+use Rattle.ring_core.specs.Ledger.{Ledger, Operation, InFlight, Item, empty, is_kept, is_owned}
 use Rattle.ring_core.specs.Lists.{passes}
 use Rattle.ring_core.specs.Refusal.{cause, lacks_op, refused_if}
 use Rattle.ring_core.specs.Run.{replies, ledger_before, IsExecuted}
+use Rattle.run_laws.proofs.Executing.{executed-flew}
 use Rattle.run_laws.specs.Moments.{operation_of, IsAbout, IsReapedBefore, IsGivenBefore, IsHandedBefore, IsDroppedBefore}
 use Rattle.run_laws.specs.Headline.{HandedOnce, DroppedOnce, RefusedWhereGone, FirstPollHands}
-use Rattle.ring_core.proofs.Listed.{flying-there}
 use Rattle.ring_core.proofs.Stepping.{step-refused}
 use Rattle.run_laws.proofs.Replies.{reply-at, step-caused}
 use Rattle.run_laws.proofs.Moments.{NotBefore, Given, Hands, Drops, Owned, History}
 use Rattle.run_laws.proofs.Trace.{Trace}
-use Rattle.run_laws.proofs.Polls.{traced, lists_before, answer, reaped-once}
+use Rattle.run_laws.proofs.Polls.{traced, answer, reaped-once}
 
 -- An event about an operation is refused where that isn't its user's, and by no other test.
 cause-about : (L : Ledger) (e : Event) (n : ℕ) → operation_of e ≡ Some n → cause L e ≡ refused_if (lacks_op L n) NoOp None
@@ -30,7 +30,7 @@ cause-about L (FeedMessage x addr bytes) n h = (let f : ⊥ = cc in absurd f)
 cause-about L (End x) n h = (let f : ⊥ = cc in absurd f)
 cause-about L (Look x) n h = (let f : ⊥ = cc in absurd f)
 cause-about L (Close x) n h = (let f : ⊥ = cc in absurd f)
-cause-about L (Submit request under) n h = (let f : ⊥ = cc in absurd f)
+cause-about L (Submit request under linked) n h = (let f : ⊥ = cc in absurd f)
 cause-about L (Poll m task) n h = ap (λ k. refused_if (lacks_op L k) NoOp None) (let e : m ≡ n = cc in e)
 cause-about L (Drop m) n h = ap (λ k. refused_if (lacks_op L k) NoOp None) (let e : m ≡ n = cc in e)
 cause-about L (Cancel m) n h = ap (λ k. refused_if (lacks_op L k) NoOp None) (let e : m ≡ n = cc in e)
@@ -47,7 +47,7 @@ module _ (capacity : ℕ) (events : List Event) where
       record {
         given = g.at;
         before = (let b = g.before in omega arith);
-        is_given = record { request = o.request; under = g.under; event = g.event; reply = g.reply };
+        is_given = record { request = o.request; under = g.under; linked = g.linked; event = g.event; reply = g.reply };
       }
 
   -- Why an operation isn't its user's: it wasn't given before, or was handed over or dropped before.
@@ -138,12 +138,12 @@ module _ (capacity : ℕ) (events : List Event) where
   poll-about n i task there = record { event = Poll n task; there = there; about = refl }
 
   -- What was executed before was given before.
-  executed-given : (n i j : ℕ) (told : Told) → i < j → IsExecuted capacity events n i told → IsGivenBefore capacity events n j
-  executed-given n i j told lt x =
+  executed-given : (n i j : ℕ) (told : Told) (item : Item) → i < j → IsExecuted capacity events n i told item →
+      IsGivenBefore capacity events n j
+  executed-given n i j told item lt x =
       let L : Ledger = ledger_before capacity events i in
       let t : Trace capacity events i L = traced capacity events i (Exec x.place told) x.event in
-      let f : (o : Operation) × (slice_get L.ops n ≡ Some o) × (o.place ≡ InFlight) =
-      flying-there L x.place n (lists_before capacity events i) x.item in
+      let f : (o : Operation) × (slice_get L.ops n ≡ Some o) × (o.place ≡ InFlight) = executed-flew capacity events n i told item x in
       let h : History capacity events i n (Some f.0) = subst (History capacity events i n) f.1 (t.history n) in
       given-before n i j f.0 (omega arith) h.given
 
@@ -170,7 +170,8 @@ module _ (capacity : ℕ) (events : List Event) where
       | inr w ↦ w.0
     ]
     | inr b ↦ absurd (elim b.1 [
-      | inl ungiven ↦ ungiven (executed-given n reaped.exec j reaped.told (let c = reaped.turn.behind in omega arith) reaped.executed)
+      | inl ungiven ↦ ungiven (executed-given n reaped.exec j reaped.told reaped.item
+          (let c = reaped.turn.behind in omega arith) reaped.executed)
       | inr gone ↦ elim gone [
         | inl z ↦ (
             let r : IsReapedBefore capacity events n z.hand = handed-reaped n z.hand z.is_handed in

@@ -47,7 +47,13 @@ module _ (capacity : ℕ) (events : List Event) where
     over-at None there lt past unheld = absurd (past.ungiven j lt x.given)
     over-at (Some o) there lt past unheld =
         let g : IsGiven capacity events n past.given.at =
-        record { request = o.request; under = past.given.under; event = past.given.event; reply = past.given.reply } in
+        record {
+          request = o.request;
+          under = past.given.under;
+          linked = past.given.linked;
+          event = past.given.event;
+          reply = past.given.reply;
+        } in
         let same : past.given.at ≡ j = given-once capacity events n past.given.at j g x.given in
         let request : o.request ≡ x.given.request =
         (let q = sym past.given.event ∙ ap (slice_get events) same ∙ x.given.event in cc) in
@@ -93,14 +99,15 @@ module _ (capacity : ℕ) (events : List Event) where
   unheld-ungiven : (h n i j : ℕ) → i < j → h < length (ledger_before capacity events i).owners →
       is_unheld (ledger_before capacity events i) h ≡ true → IsGivenOn capacity events n h j → ⊥
   unheld-ungiven h n i j lt within is x =
-      let inside = slice_get_within events j (Submit x.given.request x.given.under) x.given.event in
+      let inside = slice_get_within events j (Submit x.given.request x.given.under x.given.linked) x.given.event in
       let at : i + (j - i) ≡ j = omega arith in
       let later = unheld-later h i (j - i) (omega (arith, at, inside)) within is in
       let L : Ledger = ledger_before capacity events j in
       let unheld : is_unheld L h ≡ true = subst (λ k. is_unheld (ledger_before capacity events k) h ≡ true) at later.1 in
-      let e : Event = Submit x.given.request x.given.under in
+      let e : Event = Submit x.given.request x.given.under x.given.linked in
       let unrefused = given-unrefused j n e (cause L e) x.given.event x.given.reply refl in
-      let f : true ≡ false = sym (submitted-held L x.given.request x.given.under unrefused h x.names) ∙ (unheld-is L h unheld).user in
+      let f : true ≡ false = sym (submitted-held L x.given.request x.given.under x.given.linked unrefused h x.names)
+      ∙ (unheld-is L h unheld).user in
       cc
 
   -- A Turn names the close of a handle only after each operation on it was over.

@@ -5,13 +5,11 @@ use Rattle.ring_core.specs.declared.ledger.Event.{Event}
 use Rattle.ring_core.specs.declared.ledger.Event.TheVariants.{Submit, Poll, Exec}
 use Rattle.ring_core.specs.declared.ledger.Reply.TheVariants.{Pending}
 use Rattle.ring_core.specs.Ledger.{Ledger, Operation, Place, InQueue, InFlight, InDone, Reaped, Gone, empty, is_kept}
-use Rattle.ring_core.specs.Turn.{effect_of}
-use Rattle.ring_core.specs.Request.{held}
 use Rattle.ring_core.specs.Step.{poll_at, poll_step}
-use Rattle.ring_core.specs.Run.{replies, ledger_before, IsGiven, IsReaped}
+use Rattle.ring_core.specs.Run.{replies, ledger_before, IsGiven, IsReaped, own_answer}
+use Rattle.run_laws.proofs.Executing.{executed-flew}
 use Rattle.run_laws.specs.Moments.{IsPolled, IsReapedBefore, HandsOwn}
 use Rattle.run_laws.specs.Headline.{PendingUntilReaped, ReapedOrNot, HandsBackOwn, GivenOnce, ExecutedOnce, ReapedOnce, OneOwn}
-use Rattle.ring_core.proofs.Listed.{flying-there}
 use Rattle.ring_core.proofs.Numbers.{same-or-not, below-or-above}
 use Rattle.ring_core.proofs.Taking.{Listed}
 use Rattle.ring_core.proofs.Stepping.{step-row, OwnedAt, found}
@@ -42,25 +40,24 @@ module _ (capacity : ℕ) (events : List Event) where
   executed-late : (n i j : ℕ) → i < j → Executes capacity events n i → Executes capacity events n j → ⊥
   executed-late n i j lt x y =
       let L : Ledger = ledger_before capacity events j in
-      let t : Trace capacity events j L = traced j (Exec y.1.place y.0) y.1.event in
-      let f : (o : Operation) × (slice_get L.ops n ≡ Some o) × (o.place ≡ InFlight) =
-      flying-there L y.1.place n (lists_before j) y.1.item in
+      let t : Trace capacity events j L = traced j (Exec y.2.place y.0) y.2.event in
+      let f : (o : Operation) × (slice_get L.ops n ≡ Some o) × (o.place ≡ InFlight) = executed-flew capacity events n j y.0 y.1 y.2 in
       let h : History capacity events j n (Some f.0) = subst (History capacity events j n) f.1 (t.history n) in
       let p : Placed capacity events j n f.0.buffer InFlight = subst (Placed capacity events j n f.0.buffer) f.2 h.placed in
       p i lt x
 
   -- At most one event executes n.
   pub executed-once : ExecutedOnce capacity events
-  executed-once n i j told_first told_second x y =
-      once-by (Executes capacity events n) (executed-late n) i j (told_first, x) (told_second, y)
+  executed-once n i j told_first told_second first second x y =
+      once-by (Executes capacity events n) (executed-late n) i j (told_first, first, x) (told_second, second, y)
 
   -- What was given isn't given again.
   given-late : (n i j : ℕ) → i < j → IsGiven capacity events n i → IsGiven capacity events n j → ⊥
   given-late n i j lt x y =
       let L : Ledger = ledger_before capacity events j in
-      let t : Trace capacity events j L = traced j (Submit y.request y.under) y.event in
-      let number : n ≡ length L.ops = submitted-number L (Submit y.request y.under) n
-      (let q = sym (reply-at (empty capacity) events j (Submit y.request y.under) y.event) ∙ y.reply in cc) in
+      let t : Trace capacity events j L = traced j (Submit y.request y.under y.linked) y.event in
+      let number : n ≡ length L.ops = submitted-number L (Submit y.request y.under y.linked) n
+      (let q = sym (reply-at (empty capacity) events j (Submit y.request y.under y.linked) y.event) ∙ y.reply in cc) in
       let h : History capacity events j n None = subst (History capacity events j n) (slice_get_past L.ops n (omega arith)) (t.history n) in
       h.ungiven i lt x
 
@@ -71,7 +68,7 @@ module _ (capacity : ℕ) (events : List Event) where
   -- The first Turn after an execution is before each other one.
   reaped-first : (n i j : ℕ) → IsReaped capacity events n i → IsReaped capacity events n j → i ≤ j
   reaped-first n i j x y =
-      let e : x.exec ≡ y.exec = executed-once n x.exec y.exec x.told y.told x.executed y.executed in
+      let e : x.exec ≡ y.exec = executed-once n x.exec y.exec x.told y.told x.item y.item x.executed y.executed in
       x.turn.first j (let b = y.turn.behind in omega arith) y.turn.event
 
   -- At most one event reaps n.
@@ -81,21 +78,23 @@ module _ (capacity : ℕ) (events : List Event) where
   -- The events that gave and executed n are one each, so its own outcome and own buffer are.
   pub one-own : OneOwn capacity events
   one-own n o p b c x y =
-      let e : x.exec ≡ y.exec = executed-once n x.exec y.exec x.told y.told x.is_executed y.is_executed in
+      let e : x.exec ≡ y.exec = executed-once n x.exec y.exec x.told y.told x.item y.item x.is_executed y.is_executed in
       let g : x.given ≡ y.given = given-once n x.given y.given x.is_given y.is_given in
-      let told : x.told ≡ y.told = (let q = sym x.is_executed.event ∙ ap (slice_get events) e ∙ y.is_executed.event in cc) in
+      let event = sym x.is_executed.event ∙ ap (slice_get events) e ∙ y.is_executed.event in
+      let told : x.told ≡ y.told = (let q = event in cc) in
+      let place : x.is_executed.place ≡ y.is_executed.place = (let q = event in cc) in
       let request : x.is_given.request ≡ y.is_given.request =
       (let q = sym x.is_given.event ∙ ap (slice_get events) g ∙ y.is_given.event in cc) in
-      let result : x.result ≡ y.result =
-      x.result_is
-      ∙ ap (λ i. effect_of (ledger_before capacity events i) x.is_given.request x.told) e
-      ∙ ap (λ r. effect_of (ledger_before capacity events y.exec) r x.told) request
-      ∙ ap (λ t. effect_of (ledger_before capacity events y.exec) y.is_given.request t) told
-      ∙ sym y.result_is in (
-        x.outcome_is ∙ ap (λ r. r.outcome) result ∙ sym y.outcome_is,
-        x.buffer_is ∙ ap (λ r. held r x.told x.result.got) request ∙ ap (λ t. held y.is_given.request t x.result.got) told
-            ∙ ap (λ r. held y.is_given.request y.told r.got) result ∙ sym y.buffer_is,
-      )
+      let item : x.item ≡ y.item = (
+      let q = sym x.is_executed.there ∙ ap (λ i. slice_get (ledger_before capacity events i).flying x.is_executed.place) e
+      ∙ ap (slice_get (ledger_before capacity events y.exec).flying) place ∙ y.is_executed.there in cc) in
+      let answer : own_answer (ledger_before capacity events x.exec) n x.item x.is_given.request x.told
+      ≡ own_answer (ledger_before capacity events y.exec) n y.item y.is_given.request y.told =
+      ap (λ i. own_answer (ledger_before capacity events i) n x.item x.is_given.request x.told) e
+      ∙ ap (λ z. own_answer (ledger_before capacity events y.exec) n z x.is_given.request x.told) item
+      ∙ ap (λ r. own_answer (ledger_before capacity events y.exec) n y.item r x.told) request
+      ∙ ap (own_answer (ledger_before capacity events y.exec) n y.item y.is_given.request) told in
+      (x.outcome_is ∙ ap (λ a. a.0) answer ∙ sym y.outcome_is, x.buffer_is ∙ ap (λ a. a.1) answer ∙ sym y.buffer_is)
 
   -- The two answers of a Poll that isn't refused.
   abbrev pub Answers : ℕ → ℕ → Type 0
@@ -110,7 +109,7 @@ module _ (capacity : ℕ) (events : List Event) where
         inl (
           reply,
           λ z. never z.reaped.exec (let a = z.reaped.turn.behind in let b = z.before in omega arith)
-              (z.reaped.told, z.reaped.executed),
+              (z.reaped.told, z.reaped.item, z.reaped.executed),
         )
 
     -- The answer by the place of the operation.
@@ -122,7 +121,8 @@ module _ (capacity : ℕ) (events : List Event) where
       reply,
       λ z. (
           let e : z.reaped.exec
-          ≡ h.own.exec = executed-once n z.reaped.exec h.own.exec z.reaped.told h.own.told z.reaped.executed h.own.is_executed in
+          ≡ h.own.exec = executed-once n z.reaped.exec h.own.exec z.reaped.told h.own.told z.reaped.item h.own.item z.reaped.executed
+          h.own.is_executed in
           h.no_turn z.reap (let a = z.reaped.turn.behind in omega arith) z.before z.reaped.turn.event),
     )
     answer-at (Reaped outcome) live h reply = inr (

@@ -15,21 +15,22 @@ use Rattle.ring_core.specs.declared.ledger.Refusal.{Refusal}
 use Rattle.ring_core.specs.declared.ledger.Reply.TheVariants.{Released, Dropped, Asked, ExecutedClose, Refused}
 use Rattle.ring_core.specs.Ledger.{Ledger, Operation, InFlight, Queued, Item, Op, empty, is_under_marked, group_under, members}
 use Rattle.ring_core.specs.Queue.{with_op, push, push_each, is_unheld}
-use Rattle.ring_core.specs.Turn.{effect_of, complete_at, exec_op, exec_step}
+use Rattle.ring_core.specs.Turn.{effect_of, complete_at, exec_op, exec_step, released}
 use Rattle.ring_core.specs.Lists.{has_number}
 use Rattle.ring_core.specs.Refusal.{cause}
 use Rattle.ring_core.specs.Step.{step, row, poll_at, poll_step, with_drop, drop_at, drop_step, with_user, close_if}
 use Rattle.ring_core.specs.Step.{submit_if, new_canceller_step, group_of, new_handle_step, with_mark, renew_group}
-use Rattle.ring_core.specs.Run.{replies, ledger_before, IsExecuted}
+use Rattle.ring_core.specs.Run.{replies, ledger_before}
 use Rattle.ring_core.proofs.Listed.{flying-there, listed-push_cancel}
 use Rattle.ring_core.proofs.Leaving.{has-first, has-later}
-use Rattle.ring_core.proofs.Taking.{Listed}
+use Rattle.ring_core.proofs.Taking.{flight_mark, Listed}
 use Rattle.ring_core.proofs.Stepping.{step-refused, step-row, OwnedAt, found, executed-there}
-use Rattle.ring_core.proofs.Lawful.{lawful-ledger}
+use Rattle.ring_core.proofs.Lawful.{Lawful, lawful-ledger, lawful-executed}
 use Rattle.run_laws.proofs.Replies.{reply-at, after-next, dropped-row}
 use Rattle.run_laws.proofs.Trace.{AskedBefore, Trace, trace-closes, trace-world, trace-turn, trace-submit, trace-polled, trace-executed}
 use Rattle.run_laws.proofs.Dropped.{trace-pushed, trace-dropped}
-use Rattle.run_laws.proofs.Moments.{IsCalm}
+use Rattle.run_laws.proofs.Moments.{IsCalm, no-exec}
+use Rattle.run_laws.proofs.Executing.{executed-left, left-executed, exec-after}
 use Rattle.run_laws.proofs.Looks.{looked}
 
 -- The row of an event passes the trace on.
@@ -47,14 +48,29 @@ module _ (capacity : ℕ) (events : List Event) (k : ℕ) (trace : Trace capacit
   item-next place told (Op m) here unrefused item reply =
       let L : Ledger = ledger_before capacity events k in
       let f : (o : Operation) × (slice_get L.ops m ≡ Some o) × (o.place ≡ InFlight) = flying-there L place m lists item in
-      let executed : IsExecuted capacity events m k told = record { place = place; event = here; unrefused = unrefused; item = item } in
-      subst (λ x. Trace capacity events (suc k) (exec_op (complete_at L place (Op m)) m told x)) (sym f.1)
-      (trace-executed capacity events k L lists trace place m told f.0 (effect_of L f.0.request told) executed item f.1 f.2 refl here)
+      let N : Ledger = ledger_before capacity events (suc k) in
+      let after = exec-after capacity events k place told (Op m) here unrefused item in
+      let M : Ledger = (exec_step L place told (Some (Op m))).0 in
+      let l : Lawful L = lawful-ledger capacity (take k events) in
+      let E : Ledger = exec_op (complete_at L place (Op m)) m told (slice_get L.ops m) in
+      let F : Ledger = exec_op (complete_at L place (Op m)) m told (Some f.0) in
+      let same : E ≡ F = ap (exec_op (complete_at L place (Op m)) m told) f.1 in
+      subst (Trace capacity events (suc k)) after
+      (trace-executed capacity events k L lists trace place m told f.0 (effect_of L f.0.request told) N
+      (after ∙ ap (λ K. released told K m) same) (subst Listed same (lawful-executed L place told m item l).lists)
+      (λ n flew left. left-executed capacity events k place told (Op m) here unrefused item n (record { flew = flew; left = left }))
+      (λ n x. (let y = executed-left capacity events n k x.0 x.1 x.2 in (y.flew, y.left))) reply f.1 f.2 refl here)
   item-next place told (Item.Close h) here unrefused item reply =
       let L : Ledger = ledger_before capacity events k in
+      let after = exec-after capacity events k place told (Item.Close h) here unrefused item in
       let same : Trace capacity events (suc k) L =
       trace-world capacity events k L lists trace (Exec place told) (ExecutedClose h) here reply
-      (λ m. record { gives_none = λ q. cc; executes_none = λ q. cc; hands_none = λ t outcome buffer p q. cc; drops_none = λ p q. cc })
+      (λ m. record { gives_none = λ q. cc; hands_none = λ t outcome buffer p q. cc; drops_none = λ p q. cc })
+      (λ n x. (
+      let y = executed-left capacity events n k x.0 x.1 x.2 in
+      let a = y.flew in
+      let b : flight_mark (slice_get L.ops n) ≡ 0 = ap (λ K. flight_mark (slice_get K.ops n)) (sym after) ∙ y.left in
+      omega (arith, a, b)))
       (λ q. cc) L.world L.owners in
       record { history = same.history; asked = record { waiting = same.asked.waiting; taken = same.asked.taken } }
 
@@ -84,8 +100,8 @@ module _ (capacity : ℕ) (events : List Event) (k : ℕ) (trace : Trace capacit
       let U : Ledger = with_user L h false in
       trace-close_if (is_unheld U h) U h (record { waiting = lists.waiting; flown = lists.flown; standing = lists.standing })
       (trace-world capacity events k L lists trace (Close h) Released here reply
-      (λ m. record { gives_none = λ q. cc; executes_none = λ q. cc; hands_none = λ t outcome buffer p q. cc; drops_none = λ p q. cc })
-      (λ q. cc) L.world U.owners)
+      (λ m. record { gives_none = λ q. cc; hands_none = λ t outcome buffer p q. cc; drops_none = λ p q. cc })
+      (no-exec capacity events k _ here refl) (λ q. cc) L.world U.owners)
 
   -- A Poll leaves its operation waiting, or hands it over.
   poll-next : (n task : ℕ) → slice_get events k ≡ Some (Poll n task) → cause (ledger_before capacity events k) (Poll n task) ≡ None →
@@ -118,8 +134,8 @@ module _ (capacity : ℕ) (events : List Event) (k : ℕ) (trace : Trace capacit
   cancel-next n here reply =
       let L : Ledger = ledger_before capacity events k in
       let same : Trace capacity events (suc k) L = trace-world capacity events k L lists trace (Cancel n) Asked here reply
-      (λ m. record { gives_none = λ q. cc; executes_none = λ q. cc; hands_none = λ t outcome buffer p q. cc; drops_none = λ p q. cc })
-      (λ q. cc) L.world L.owners in
+      (λ m. record { gives_none = λ q. cc; hands_none = λ t outcome buffer p q. cc; drops_none = λ p q. cc })
+      (no-exec capacity events k _ here refl) (λ q. cc) L.world L.owners in
       trace-pushed capacity events (suc k) L n lists same
       (record { ask = k; before = omega arith; asked = inl (record { event = here; reply = reply }) })
 
@@ -130,15 +146,16 @@ module _ (capacity : ℕ) (events : List Event) (k : ℕ) (trace : Trace capacit
       record { history = t.history; asked = record { waiting = t.asked.waiting; taken = t.asked.taken } }
 
   -- A submission is a new operation, but under a marked group.
-  submit-next : (b : Bool) (request : Request Buffer Parts) (under group : Option ℕ) → slice_get events k ≡ Some (Submit request under) →
-      slice_get (replies (empty capacity) events) k ≡ Some (submit_if b (ledger_before capacity events k) request group).1 →
-      Trace capacity events (suc k) (submit_if b (ledger_before capacity events k) request group).0
-  submit-next true request under group here reply =
-      trace-world capacity events k (ledger_before capacity events k) lists trace (Submit request under) _ here reply
-      (λ m. record { gives_none = λ q. cc; executes_none = λ q. cc; hands_none = λ t outcome buffer p q. cc; drops_none = λ p q. cc })
-      (λ q. cc) _ _
-  submit-next false request under group here reply =
-      trace-submit capacity events k (ledger_before capacity events k) lists trace request under group here reply
+  submit-next : (b : Bool) (request : Request Buffer Parts) (under group : Option ℕ) (linked : Bool) →
+      slice_get events k ≡ Some (Submit request under linked) →
+      slice_get (replies (empty capacity) events) k ≡ Some (submit_if b (ledger_before capacity events k) request group linked).1 →
+      Trace capacity events (suc k) (submit_if b (ledger_before capacity events k) request group linked).0
+  submit-next true request under group linked here reply =
+      trace-world capacity events k (ledger_before capacity events k) lists trace (Submit request under linked) _ here reply
+      (λ m. record { gives_none = λ q. cc; hands_none = λ t outcome buffer p q. cc; drops_none = λ p q. cc })
+      (no-exec capacity events k _ here refl) (λ q. cc) _ _
+  submit-next false request under group linked here reply =
+      trace-submit capacity events k (ledger_before capacity events k) lists trace request under group linked here reply
 
   -- Cancels that were asked for are pushed.
   cancels-next : (j : ℕ) (M : Ledger) (numbers : List ℕ) → Listed M → Trace capacity events j M →
@@ -159,8 +176,8 @@ module _ (capacity : ℕ) (events : List Event) (k : ℕ) (trace : Trace capacit
       let M : Ledger = with_mark L g in
       let N : Ledger = push_each M (map Queued.Cancel (members L g)) in
       let same : Trace capacity events (suc k) L = trace-world capacity events k L lists trace (CancelAll c) _ here reply
-      (λ m. record { gives_none = λ q. cc; executes_none = λ q. cc; hands_none = λ t outcome buffer p q. cc; drops_none = λ p q. cc })
-      (λ q. cc) L.world L.owners in
+      (λ m. record { gives_none = λ q. cc; hands_none = λ t outcome buffer p q. cc; drops_none = λ p q. cc })
+      (no-exec capacity events k _ here refl) (λ q. cc) L.world L.owners in
       trace-groups (suc k) N (renew_group N c).cancellers N.cancel_handles (renew_group N c).groups
       (cancels-next (suc k) M (members L g) (record { waiting = lists.waiting; flown = lists.flown; standing = lists.standing })
       (trace-groups (suc k) L L.cancellers L.cancel_handles M.groups same)
@@ -176,30 +193,30 @@ module _ (capacity : ℕ) (events : List Event) (k : ℕ) (trace : Trace capacit
       Trace capacity events (suc k) (row (ledger_before capacity events k) e).0
   row-next (Give kind) here unrefused reply =
       trace-world capacity events k (ledger_before capacity events k) lists trace (Give kind) _ here reply
-      (λ n. record { gives_none = λ q. cc; executes_none = λ q. cc; hands_none = λ t outcome buffer p q. cc; drops_none = λ p q. cc })
-      (λ q. cc) _ _
+      (λ n. record { gives_none = λ q. cc; hands_none = λ t outcome buffer p q. cc; drops_none = λ p q. cc })
+      (no-exec capacity events k _ here refl) (λ q. cc) _ _
   row-next (Feed h bytes) here unrefused reply =
       trace-world capacity events k (ledger_before capacity events k) lists trace (Feed h bytes) _ here reply
-      (λ n. record { gives_none = λ q. cc; executes_none = λ q. cc; hands_none = λ t outcome buffer p q. cc; drops_none = λ p q. cc })
-      (λ q. cc) _ _
+      (λ n. record { gives_none = λ q. cc; hands_none = λ t outcome buffer p q. cc; drops_none = λ p q. cc })
+      (no-exec capacity events k _ here refl) (λ q. cc) _ _
   row-next (FeedMessage h addr bytes) here unrefused reply =
       trace-world capacity events k (ledger_before capacity events k) lists trace (FeedMessage h addr bytes) _ here reply
-      (λ n. record { gives_none = λ q. cc; executes_none = λ q. cc; hands_none = λ t outcome buffer p q. cc; drops_none = λ p q. cc })
-      (λ q. cc) _ _
+      (λ n. record { gives_none = λ q. cc; hands_none = λ t outcome buffer p q. cc; drops_none = λ p q. cc })
+      (no-exec capacity events k _ here refl) (λ q. cc) _ _
   row-next (End h) here unrefused reply =
       trace-world capacity events k (ledger_before capacity events k) lists trace (End h) _ here reply
-      (λ n. record { gives_none = λ q. cc; executes_none = λ q. cc; hands_none = λ t outcome buffer p q. cc; drops_none = λ p q. cc })
-      (λ q. cc) _ _
+      (λ n. record { gives_none = λ q. cc; hands_none = λ t outcome buffer p q. cc; drops_none = λ p q. cc })
+      (no-exec capacity events k _ here refl) (λ q. cc) _ _
   row-next (Look h) here unrefused reply =
       trace-world capacity events k (ledger_before capacity events k) lists trace (Look h) _ here reply
       (λ n. looked (λ r. IsCalm (Look h) r n) (ledger_before capacity events k) h
-      (λ b. record { gives_none = λ q. cc; executes_none = λ q. cc; hands_none = λ t outcome buffer p q. cc; drops_none = λ p q. cc })
-      (λ m. record { gives_none = λ q. cc; executes_none = λ q. cc; hands_none = λ t outcome buffer p q. cc; drops_none = λ p q. cc }))
-      (λ q. cc) _ _
+      (λ b. record { gives_none = λ q. cc; hands_none = λ t outcome buffer p q. cc; drops_none = λ p q. cc })
+      (λ m. record { gives_none = λ q. cc; hands_none = λ t outcome buffer p q. cc; drops_none = λ p q. cc }))
+      (no-exec capacity events k _ here refl) (λ q. cc) _ _
   row-next (Close h) here unrefused reply = close-next h here reply
-  row-next (Submit request under) here unrefused reply =
+  row-next (Submit request under linked) here unrefused reply =
       let L : Ledger = ledger_before capacity events k in
-      submit-next (is_under_marked L under) request under (group_under L under) here reply
+      submit-next (is_under_marked L under) request under (group_under L under) linked here reply
   row-next (Poll n task) here unrefused reply = poll-next n task here unrefused reply
   row-next (Drop n) here unrefused reply = drop-next n here unrefused reply
   row-next (Cancel n) here unrefused reply = cancel-next n here reply
@@ -207,18 +224,18 @@ module _ (capacity : ℕ) (events : List Event) (k : ℕ) (trace : Trace capacit
       let L : Ledger = ledger_before capacity events k in
       let N : Ledger = new_canceller_step L in
       trace-groups (suc k) L N.cancellers L.cancel_handles N.groups (trace-world capacity events k L lists trace NewCanceller _ here reply
-      (λ m. record { gives_none = λ q. cc; executes_none = λ q. cc; hands_none = λ t outcome buffer p q. cc; drops_none = λ p q. cc })
-      (λ q. cc) L.world L.owners)
+      (λ m. record { gives_none = λ q. cc; hands_none = λ t outcome buffer p q. cc; drops_none = λ p q. cc })
+      (no-exec capacity events k _ here refl) (λ q. cc) L.world L.owners)
   row-next (NewHandle c) here unrefused reply =
       let L : Ledger = ledger_before capacity events k in
       trace-groups (suc k) L L.cancellers (new_handle_step L c).cancel_handles L.groups
       (trace-world capacity events k L lists trace (NewHandle c) _ here reply
-      (λ m. record { gives_none = λ q. cc; executes_none = λ q. cc; hands_none = λ t outcome buffer p q. cc; drops_none = λ p q. cc })
-      (λ q. cc) L.world L.owners)
+      (λ m. record { gives_none = λ q. cc; hands_none = λ t outcome buffer p q. cc; drops_none = λ p q. cc })
+      (no-exec capacity events k _ here refl) (λ q. cc) L.world L.owners)
   row-next (CancelAll c) here unrefused reply = cancel_all-next c here reply
   row-next Turn here unrefused reply =
       trace-turn capacity events k (ledger_before capacity events k) lists trace _ here reply
-      (λ n. record { gives_none = λ q. cc; executes_none = λ q. cc; hands_none = λ t outcome buffer p q. cc; drops_none = λ p q. cc })
+      (λ n. record { gives_none = λ q. cc; hands_none = λ t outcome buffer p q. cc; drops_none = λ p q. cc })
   row-next (Exec place told) here unrefused reply = exec-next place told here unrefused reply
 
   -- A refused event is no Turn, since no Turn is refused.
@@ -231,7 +248,12 @@ module _ (capacity : ℕ) (events : List Event) (k : ℕ) (trace : Trace capacit
       Trace capacity events (suc k) (ledger_before capacity events k)
   trace-refused e refusal here reply h =
       trace-world capacity events k (ledger_before capacity events k) lists trace e (Refused refusal) here reply
-      (λ n. record { gives_none = λ q. cc; executes_none = λ q. cc; hands_none = λ t outcome buffer p q. cc; drops_none = λ p q. cc })
+      (λ n. record { gives_none = λ q. cc; hands_none = λ t outcome buffer p q. cc; drops_none = λ p q. cc })
+      (λ n x. (
+      let L : Ledger = ledger_before capacity events k in
+      let q : Exec x.2.place x.0 ≡ e = (let w = sym x.2.event ∙ here in cc) in
+      let f : None ≡ Some refusal = sym x.2.unrefused ∙ ap (cause L) q ∙ h in
+      let g : ⊥ = cc in g))
       (turn-unrefused (ledger_before capacity events k) e refusal h) _ _
 
   -- Each event, by its cause.

@@ -54,14 +54,14 @@ pub executed-row : (L : Ledger) (place m : ℕ) (told : Told) → slice_get L.fl
     (row L (Exec place told)).1 ≡ ExecutedOp m
 executed-row L place m told h = ap (λ x. (exec_step L place told x).1) h
 
--- The event that executes n is answered so.
-pub executed-reply : (capacity : ℕ) (events : List Event) (n i : ℕ) (told : Told) → IsExecuted capacity events n i told →
-    slice_get (replies (empty capacity) events) i ≡ Some (ExecutedOp n)
-executed-reply capacity events n i told x =
+-- The event that executes an operation is answered so, also where it ends others with it.
+pub executed-reply : (capacity : ℕ) (events : List Event) (n m i : ℕ) (told : Told) → IsExecuted capacity events n i told (Op m) →
+    slice_get (replies (empty capacity) events) i ≡ Some (ExecutedOp m)
+executed-reply capacity events n m i told x =
     let L : Ledger = ledger_before capacity events i in
     reply-at (empty capacity) events i (Exec x.place told) x.event
     ∙ ap (λ s. Some s.1) (step-row L (Exec x.place told) x.unrefused)
-    ∙ ap Some (executed-row L x.place n told x.item)
+    ∙ ap Some (executed-row L x.place m told x.there)
 
 -- A Drop that finds an operation is answered so.
 pub dropped-row : (L : Ledger) (n : ℕ) → OwnedAt L n → (row L (Drop n)).1 ≡ Dropped
@@ -81,10 +81,10 @@ item-answers L place told (Op m) c h = cc
 item-answers L place told (Item.Close k) c h = cc
 
 -- A Submit of a request that isn't refused isn't answered so, under a marked group or not.
-submit-answers : (b : Bool) (L : Ledger) (request : Request Buffer Parts) (group : Option ℕ) (c : Refusal) →
-    (submit_if b L request group).1 ≡ Refused c → ⊥
-submit-answers true L request group c h = cc
-submit-answers false L request group c h = cc
+submit-answers : (b : Bool) (L : Ledger) (request : Request Buffer Parts) (group : Option ℕ) (linked : Bool) (c : Refusal) →
+    (submit_if b L request group linked).1 ≡ Refused c → ⊥
+submit-answers true L request group linked c h = cc
+submit-answers false L request group linked c h = cc
 
 -- An event that isn't refused isn't answered so.
 row-answers : (L : Ledger) (e : Event) (c : Refusal) → cause L e ≡ None → (row L e).1 ≡ Refused c → ⊥
@@ -94,7 +94,7 @@ row-answers L (FeedMessage x addr bytes) c h r = cc
 row-answers L (End x) c h r = cc
 row-answers L (Look x) c h r = looked (λ reply. reply ≡ Refused c → ⊥) L x (λ b q. cc) (λ m q. cc) r
 row-answers L (Close x) c h r = cc
-row-answers L (Submit request under) c h r = submit-answers (is_under_marked L under) L request (group_under L under) c r
+row-answers L (Submit request under linked) c h r = submit-answers (is_under_marked L under) L request (group_under L under) linked c r
 row-answers L (Poll n task) c h r =
     (let f = found L n h in let a = ap (λ x. (poll_step L n task x).1) f.there in
     place-answers L n task f.operation f.operation.place c (sym a ∙ r))

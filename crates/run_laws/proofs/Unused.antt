@@ -23,6 +23,7 @@ use Rattle.ring_core.specs.Step.{new_owner, step, row, with_new_op, submit_if, g
 use Rattle.ring_core.specs.Step.{with_drop, drop_at, drop_step, as_user, with_user, close_if}
 use Rattle.ring_core.specs.Refusal.{cause}
 use Rattle.ring_core.specs.Closes.{AreKnown}
+use Rattle.ring_core.proofs.Releasing.{released-beside}
 use Rattle.ring_core.proofs.Numbers.{same-or-not, below-or-not}
 use Rattle.ring_core.proofs.Amended.{length-amended}
 use Rattle.ring_core.proofs.Appended.{get-append-within, get-append-end}
@@ -87,10 +88,11 @@ owners-close_if true L h = (stays-push L (Queued.Close h)).owners
 owners-close_if false L h = refl
 
 -- So does a submission, under a marked group or not.
-pub owners-submit_if : (b : Bool) (L : Ledger) (request : Request Buffer Parts) (group : Option ℕ) →
-    (submit_if b L request group).0.owners ≡ L.owners
-owners-submit_if true L request group = refl
-owners-submit_if false L request group = (stays-push (with_new_op L (new_operation request group)) (Req (length L.ops))).owners
+pub owners-submit_if : (b : Bool) (L : Ledger) (request : Request Buffer Parts) (group : Option ℕ) (linked : Bool) →
+    (submit_if b L request group linked).0.owners ≡ L.owners
+owners-submit_if true L request group linked = refl
+owners-submit_if false L request group linked =
+    (stays-push (with_new_op L (new_operation request group linked)) (Req (length L.ops))).owners
 
 -- An Exec of an operation in flight makes a handle.
 pub record Makes (L : Ledger) (e : Event) (h : ℕ) : Type 0 where
@@ -134,7 +136,9 @@ unused-exec : (L : Ledger) (place : ℕ) (told : Told) (x : Option Item) (h : �
 unused-exec L place told None h there known u = inl u
 unused-exec L place told (Some (Op n)) h there known u =
     let C : Ledger = complete_at L place (Op n) in
-    elim (unused-exec_op C n told (slice_get L.ops n) h (known-lists L L.queue C.flying C.done known) u) [
+    let E : Ledger = exec_op C n told (slice_get L.ops n) in
+    elim (unused-exec_op C n told (slice_get L.ops n) h (known-lists L L.queue C.flying C.done known)
+    (unused-same E (exec_step L place told (Some (Op n))).0 h (released-beside told E n).owners u)) [
       | inl v ↦ inl v
       | inr m ↦ inr (record {
         place = place;
@@ -172,9 +176,9 @@ unused-row L (Close k) h known u = elim (same-or-not h k) [
       let count = length-amended (as_user false) L.owners k in
       inl ((let w = v.0 in omega (arith, w, count)), sym (user-with_user-other L k h false e) ∙ v.1))
 ]
-unused-row L (Submit request under) h known u =
-    inl (unused-same L (row L (Submit request under)).0 h
-    (owners-submit_if (is_under_marked L under) L request (group_under L under)) u)
+unused-row L (Submit request under linked) h known u =
+    inl (unused-same L (row L (Submit request under linked)).0 h
+    (owners-submit_if (is_under_marked L under) L request (group_under L under) linked) u)
 unused-row L (Poll n task) h known u = inl (unused-poll_step L n task (slice_get L.ops n) h u)
 unused-row L (Drop n) h known u = inl (unused-same L (row L (Drop n)).0 h (owners-drop_step L n (slice_get L.ops n)) u)
 unused-row L (Cancel n) h known u = inl (unused-same L (row L (Cancel n)).0 h (stays-push L (Queued.Cancel n)).owners u)

@@ -20,6 +20,7 @@ use Rattle.ring_core.specs.Step.{new_owner, step, row, group_of, with_mark, hand
 use Rattle.ring_core.specs.Refusal.{cause, lacks_handle}
 use Rattle.ring_core.specs.Closes.{made_at}
 use Rattle.ring_core.specs.Run.{replies, ledger_before, IsOwn}
+use Rattle.ring_core.proofs.Releasing.{released-beside}
 use Rattle.run_laws.specs.Moments.{IsHanded, IsHandedBefore}
 use Rattle.run_laws.specs.Closes.{IsMadeBy, is_about_handle, UsedWhenReturned}
 use Rattle.ring_core.proofs.Numbers.{same-or-not, below-or-not}
@@ -116,7 +117,9 @@ comes-exec : (L : Ledger) (e : Event) (place : ℕ) (told : Told) (x : Option It
     user_holds (exec_step L place told x).0 h ≡ true → Comes L e h
 comes-exec L e place told None h is = inl is
 comes-exec L e place told (Some (Op n)) h is =
-    elim (comes-exec_op (complete_at L place (Op n)) e n told (slice_get L.ops n) h is) [
+    let E : Ledger = exec_op (complete_at L place (Op n)) n told (slice_get L.ops n) in
+    elim (comes-exec_op (complete_at L place (Op n)) e n told (slice_get L.ops n) h
+    (ap (λ os. passes (λ owner. owner.is_user) (slice_get os h)) (sym (released-beside told E n).owners) ∙ is)) [
       | inl before ↦ inl before
       | inr past ↦ inr (inl past)
     ]
@@ -134,9 +137,9 @@ comes-row L (Close k) h is =
     let U : Ledger = with_user L k false in
     inl ((ops_from-left L k).users h
     (ap (λ os. passes (λ owner. owner.is_user) (slice_get os h)) (sym (owners-close_if (is_unheld U k) U k)) ∙ is))
-comes-row L (Submit request under) h is =
-    comes-same L (row L (Submit request under)).0 (Submit request under) h
-    (owners-submit_if (is_under_marked L under) L request (group_under L under)) is
+comes-row L (Submit request under linked) h is =
+    comes-same L (row L (Submit request under linked)).0 (Submit request under linked) h
+    (owners-submit_if (is_under_marked L under) L request (group_under L under) linked) is
 comes-row L (Poll n task) h is = comes-poll_step L n task (slice_get L.ops n) h refl is
 comes-row L (Drop n) h is = comes-same L (row L (Drop n)).0 (Drop n) h (owners-drop_step L n (slice_get L.ops n)) is
 comes-row L (Cancel n) h is = comes-same L (row L (Cancel n)).0 (Cancel n) h (stays-push L (Queued.Cancel n)).owners is
@@ -171,7 +174,7 @@ used-held L (FeedMessage k addr bytes) h about u = about-held L h k (refuses-non
 used-held L (End k) h about u = about-held L h k (refuses-none (lacks_handle L (k ∷ [])) NoHandle _ u) about
 used-held L (Look k) h about u = about-held L h k (refuses-none (lacks_handle L (k ∷ [])) NoHandle _ u) about
 used-held L (Close k) h about u = about-held L h k (refuses-none (lacks_handle L (k ∷ [])) NoHandle _ u) about
-used-held L (Submit request under) h about u = submitted-held L request under u h about
+used-held L (Submit request under linked) h about u = submitted-held L request under linked u h about
 used-held L (Give kind) h about u = (let f : ⊥ = cc in absurd f)
 used-held L (Poll n task) h about u = (let f : ⊥ = cc in absurd f)
 used-held L (Drop n) h about u = (let f : ⊥ = cc in absurd f)

@@ -15,6 +15,7 @@ use Rattle.ring_core.specs.declared.ledger.Event.TheVariants.{Exec}
 use Rattle.ring_core.specs.World.{is_file}
 use Rattle.ring_core.specs.Request.{call_of, sent_of}
 use Rattle.ring_core.specs.Ledger.{empty}
+use Rattle.ring_core.specs.Turn.{effect_of}
 use Rattle.ring_core.specs.Run.{ledger_before, IsOwn}
 use Rattle.run_laws.specs.Transfers.{Transfer, Fed, Taken, Sent, MessageFed, MessageTaken, MessageSent, moved_as}
 use Rattle.run_laws.specs.Transfers.{event_moves, transfers}
@@ -104,6 +105,12 @@ abbrev pub own_moves : (capacity : ℕ) (events : List Event) (n h : ℕ) (outco
 own_moves capacity events n h outcome buffer own =
     event_moves h (ledger_before capacity events own.exec) (Exec own.is_executed.place own.told)
 
+-- What a request gets by what is told of it, from what the handles have at the execution of its operation.
+abbrev pub own_got : (capacity : ℕ) (events : List Event) (n : ℕ) (outcome : Outcome) (buffer : HeldBuf) →
+    IsOwn capacity events n outcome buffer → List ℕ
+own_got capacity events n outcome buffer own =
+    (effect_of (ledger_before capacity events own.exec) own.is_given.request own.told).got
+
 -- It is what the request that was submitted moves with what was told.
 abbrev pub MovesOwn : ℕ → List Event → Type 0
 MovesOwn capacity events =
@@ -121,7 +128,7 @@ abbrev pub ReadsTakeOwn : ℕ → List Event → Type 0
 ReadsTakeOwn capacity events =
     (n h want k : ℕ) (outcome : Outcome) (buffer : HeldBuf) (own : IsOwn capacity events n outcome buffer) →
     call_of own.is_given.request ≡ In h want → own.told ≡ Count k →
-    TakesBytes (own_moves capacity events n h outcome buffer own) own.result.got k
+    TakesBytes (own_moves capacity events n h outcome buffer own) (own_got capacity events n outcome buffer own) k
 
 -- One message leaves a handle, whole: the outcome has its address, and what came of it are its first bytes.
 pub record TakesMessage (moves : List Transfer) (got : List ℕ) (outcome : Outcome) (k : ℕ) : Type 0 where
@@ -135,7 +142,7 @@ abbrev pub ReceivesTakeOwn : ℕ → List Event → Type 0
 ReceivesTakeOwn capacity events =
     (n h want k : ℕ) (outcome : Outcome) (buffer : HeldBuf) (own : IsOwn capacity events n outcome buffer) →
     call_of own.is_given.request ≡ MessageIn h want → own.told ≡ Count k →
-    TakesMessage (own_moves capacity events n h outcome buffer own) own.result.got outcome k
+    TakesMessage (own_moves capacity events n h outcome buffer own) (own_got capacity events n outcome buffer own) outcome k
 
 -- So many bytes leave the input of one handle, and are sent to another one.
 pub record PassesOn (from to : List Transfer) (k : ℕ) : Type 0 where

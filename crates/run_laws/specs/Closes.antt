@@ -65,7 +65,7 @@ is_about_handle h (FeedMessage k addr bytes) = h == k
 is_about_handle h (End k) = h == k
 is_about_handle h (Look k) = h == k
 is_about_handle h (Close k) = h == k
-is_about_handle h (Submit request under) = has_number h (named request)
+is_about_handle h (Submit request under linked) = has_number h (named request)
 is_about_handle h _ = false
 
 -- The event at i is about h, and isn't refused.

@@ -77,8 +77,9 @@ CancelsMembers capacity events replies =
 pub record IsUnderCanceled (capacity : ℕ) (events : List Event) (replies : List Reply) (i : ℕ) (buffer : HeldBuf) : Type 0 where
   pub request : Request Buffer Parts
   pub handle : ℕ
-  pub event : slice_get events i ≡ Some (Submit request (Some handle))
-  pub unrefused : cause (ledger_before capacity events i) (Submit request (Some handle)) ≡ None
+  pub linked : Bool
+  pub event : slice_get events i ≡ Some (Submit request (Some handle) linked)
+  pub unrefused : cause (ledger_before capacity events i) (Submit request (Some handle) linked) ≡ None
   pub canceled : IsCanceledHandle events replies handle i
   pub holds : buffer ≡ held_of request
 
@@ -104,7 +105,7 @@ pub record IsHandleBefore (replies : List Reply) (handle i : ℕ) : Type 0 where
 abbrev pub NamesNoCanceller : List Reply → ℕ → Event → Type 0
 NamesNoCanceller replies i (NewHandle c) = IsCancellerBefore replies c i → ⊥
 NamesNoCanceller replies i (CancelAll c) = IsCancellerBefore replies c i → ⊥
-NamesNoCanceller replies i (Submit request (Some handle)) = IsHandleBefore replies handle i → ⊥
+NamesNoCanceller replies i (Submit request (Some handle) linked) = IsHandleBefore replies handle i → ⊥
 NamesNoCanceller replies i _ = ⊥
 
 -- An event is refused as NoCanceller exactly where it names a canceller, or submits under a cancel handle, that was never created.

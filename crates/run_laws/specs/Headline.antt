@@ -11,7 +11,7 @@ use Rattle.ring_core.specs.declared.ledger.Refusal.TheVariants.{NoOp}
 use Rattle.ring_core.specs.declared.ledger.Reply.{Reply}
 use Rattle.ring_core.specs.declared.ledger.Reply.TheVariants.{Submitted, Pending, Refused}
 use Rattle.ring_core.specs.declared.request.TheConstants.{CANCELED}
-use Rattle.ring_core.specs.Ledger.{Operation, Gone}
+use Rattle.ring_core.specs.Ledger.{Operation, Gone, Item, Op}
 use Rattle.ring_core.specs.Refusal.{cause}
 use Rattle.ring_core.specs.Run.{ledger_before, IsGiven, IsExecuted, IsReaped, IsOwn}
 use Rattle.run_laws.specs.Moments.{IsPolled, IsReapedBefore, HandsOwn, IsHanded, IsDropped, IsAbout, IsGivenBefore, IsHandedBefore}
@@ -84,11 +84,17 @@ KeptUntilReaped capacity events =
     operation.place ≡ Gone →
     IsReapedBefore capacity events n i
 
--- An operation ends with the error of a cancel only where its own cancel was asked for, or it was dropped, or its group was canceled,
--- before.
+-- An operation that is executed ends with the error of a cancel only where its own cancel was asked for, or it was dropped, or its group
+-- was canceled, before.
 abbrev pub CanceledWhereAsked : ℕ → List Event → List Reply → Type 0
 CanceledWhereAsked capacity events replies =
-    (n i : ℕ) → IsExecuted capacity events n i (Fail CANCELED) → IsCanceledBefore events replies n i
+    (n i : ℕ) → IsExecuted capacity events n i (Fail CANCELED) (Op n) → IsCanceledBefore events replies n i
+
+-- An operation that ends by the execution of another item ends as that one, an operation, fails.
+abbrev pub BreaksByFailure : ℕ → List Event → Type 0
+BreaksByFailure capacity events =
+    (n i : ℕ) (told : Told) (item : Item) → IsExecuted capacity events n i told item →
+    (item ≡ Op n) ⊎ ((m error : ℕ) × (item ≡ Op m) × (told ≡ Fail error))
 
 -- At most one event gives n.
 abbrev pub GivenOnce : ℕ → List Event → Type 0
@@ -97,8 +103,8 @@ GivenOnce capacity events = (n i j : ℕ) → IsGiven capacity events n i → Is
 -- At most one event executes n.
 abbrev pub ExecutedOnce : ℕ → List Event → Type 0
 ExecutedOnce capacity events =
-    (n i j : ℕ) (told_first told_second : Told) → IsExecuted capacity events n i told_first → IsExecuted capacity events n j told_second →
-    i ≡ j
+    (n i j : ℕ) (told_first told_second : Told) (first second : Item) → IsExecuted capacity events n i told_first first →
+    IsExecuted capacity events n j told_second second → i ≡ j
 
 -- At most one event reaps n.
 abbrev pub ReapedOnce : ℕ → List Event → Type 0

@@ -5,3 +5,4 @@ pub mod Groups
 pub mod Transfers
 pub mod Files
 pub mod Bytes
+pub mod Waits

@@ -5,7 +5,9 @@ ghost use Rattle.ring_core.specs.Ledger.{empty};
 ghost use Rattle.ring_core.specs.Run.{replies};
 ghost use Rattle.run_laws.specs.Headline.{OneReplyEach, RefusedExactly, PendingUntilReaped, ReapedOrNot, HandsBackOwn, HandedOnce};
 ghost use Rattle.run_laws.specs.Headline.{DroppedOnce, RefusedWhereGone, FirstPollHands, ReapNames, KeptUntilReaped};
-ghost use Rattle.run_laws.specs.Headline.{CanceledWhereAsked, GivenOnce, ExecutedOnce, ReapedOnce, OneOwn, GivenInOrder};
+ghost use Rattle.run_laws.specs.Headline.{CanceledWhereAsked, BreaksByFailure, GivenOnce, ExecutedOnce, ReapedOnce, OneOwn, GivenInOrder};
+ghost use Rattle.run_laws.specs.Waits.{WaitsOnceTaken, WaitsOnlyTaken, WaitsBehind, StartsFree, StartsAfterLeader};
+ghost use Rattle.run_laws.specs.Waits.{MovesBehindLeader, StartsBehindLeader, BreaksWithLeader, BreaksChain, CompletesInOrder};
 ghost use Rattle.run_laws.specs.Closes.{ClosedOnce, ClosedWhenReleased, ClosedWhenOver, ClosedWhenMakerOver, UnheldCloses, ClosedOnly};
 ghost use Rattle.run_laws.specs.Closes.{CreatedOnce, MadeOnce, UsedWhenReturned, MadeOnly};
 ghost use Rattle.run_laws.specs.Bytes.{InputInOrder, MessagesInOrder, FilesHoldLast, OutputInOrder, SentInOrder};
@@ -19,9 +21,17 @@ ghost use Rattle.run_laws.specs.Groups.{CancellersInOrder, HandlesInOrder};
 /// reap, the first turn after the operation was executed. The first poll after it hands back, once, that
 /// operation's own buffer with its own outcome, as the events that gave and executed it tell them. What was handed
 /// over or dropped is there no more. A turn names exactly the operations that it reaps, and until then each is
-/// kept, also a dropped one. The error of a cancel comes only where that operation's own cancel was asked for, it
-/// was dropped, or a cancel of its group named it. Each operation is given, executed and reaped at most once, and
-/// numbers are given in order from 0.
+/// kept, also a dropped one. The error of a cancel comes from an execution only where that operation's own cancel was
+/// asked for, it was dropped, or a cancel of its group named it; an operation that ends by another item's execution
+/// ends as that one, an operation, fails. Each operation is given, executed and reaped at most once, and numbers are
+/// given in order from 0.
+///
+/// A request that stands in the queue directly behind that of a linked operation stands there until one event takes
+/// both; then its operation waits for that one, and no other does. An operation waits for another only while both
+/// are in flight, directly one behind the other. It is executed only once it waits for none: where that one fails
+/// it ends by the same event, and else it waits no more. So one that waited is executed only after its leader was,
+/// which didn't fail, and what its leader moved at a handle was moved before. What a failed operation takes with it
+/// is exactly what waits for it, what waits for that one, and so on, and they complete behind it in this order.
 ///
 /// The close of a handle is named by at most one turn, and once: only after its user closed it, or the operation
 /// that made it was dropped and reaped, and after each operation on it was handed back, or was dropped and reaped.
@@ -55,6 +65,19 @@ pub fn headline()
     ensures names { (capacity : ℕ) (events : List Event) → ReapNames capacity events (replies (empty capacity) events) }
     ensures kept { (capacity : ℕ) (events : List Event) → KeptUntilReaped capacity events }
     ensures canceled { (capacity : ℕ) (events : List Event) → CanceledWhereAsked capacity events (replies (empty capacity) events) }
+    ensures breaks { (capacity : ℕ) (events : List Event) → BreaksByFailure capacity events }
+
+    // What a linked request and the one behind it do.
+    ensures once_taken { (capacity : ℕ) (events : List Event) → WaitsOnceTaken capacity events }
+    ensures only_taken { (capacity : ℕ) (events : List Event) → WaitsOnlyTaken capacity events }
+    ensures waits { (capacity : ℕ) (events : List Event) → WaitsBehind capacity events }
+    ensures starts { (capacity : ℕ) (events : List Event) → StartsFree capacity events }
+    ensures behind { (capacity : ℕ) (events : List Event) → StartsBehindLeader capacity events }
+    ensures broken { (capacity : ℕ) (events : List Event) → BreaksWithLeader capacity events }
+    ensures after_leader { (capacity : ℕ) (events : List Event) → StartsAfterLeader capacity events }
+    ensures moves_behind { (capacity : ℕ) (events : List Event) → MovesBehindLeader capacity events }
+    ensures chain { (capacity : ℕ) (events : List Event) → BreaksChain capacity events }
+    ensures chain_order { (capacity : ℕ) (events : List Event) → CompletesInOrder capacity events }
 
     // The moments of an operation.
     ensures given { (capacity : ℕ) (events : List Event) → GivenOnce capacity events }

@@ -101,3 +101,19 @@ returns-clause-echo_server c = refl
 pub returns-clause-opened_file : goal.returns-clause-opened_file
 unfolding step
 returns-clause-opened_file c = refl
+
+pub returns-clause-linked_reads : goal.returns-clause-linked_reads
+unfolding step
+returns-clause-linked_reads c = refl
+
+pub returns-clause-broken_chain : goal.returns-clause-broken_chain
+unfolding step
+returns-clause-broken_chain c = refl
+
+pub returns-clause-taken_apart : goal.returns-clause-taken_apart
+unfolding step
+returns-clause-taken_apart c = refl
+
+pub returns-clause-canceled_follower : goal.returns-clause-canceled_follower
+unfolding step
+returns-clause-canceled_follower c = refl

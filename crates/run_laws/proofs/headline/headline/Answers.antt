@@ -1,7 +1,9 @@
 -- Each law is a lemma over plain events.
 use Rattle.run_laws.proofs.Laws.{one-reply-each, refused-exactly, pending-until-reaped, reaped-or-not, hands-back-own, handed-once}
 use Rattle.run_laws.proofs.Laws.{dropped-once, refused-where-gone, first-poll-hands, reap-names, kept-until-reaped, canceled-where-asked}
-use Rattle.run_laws.proofs.Laws.{given-once, executed-once, reaped-once, one-own, given-in-order}
+use Rattle.run_laws.proofs.Laws.{waits-behind, starts-free, breaks-with-leader, starts-behind-leader}
+use Rattle.run_laws.proofs.Laws.{waits-once-taken, waits-only-taken, starts-after-leader, moves-behind-leader, breaks-chain, completes-in-order}
+use Rattle.run_laws.proofs.Laws.{breaks-by-failure, given-once, executed-once, reaped-once, one-own, given-in-order}
 use Rattle.run_laws.proofs.Laws.{closed-once, closed-when-released, closed-when-over, closed-when-maker-over, unheld-closes}
 use Rattle.run_laws.proofs.Laws.{closed-only, created-once, made-once, made-only, used-when-returned}
 use Rattle.run_laws.proofs.Laws.{cancels-members, canceled-at-once-exactly, no-canceller-exactly}
@@ -45,6 +47,39 @@ returns-clause-kept c = kept-until-reaped
 
 pub returns-clause-canceled : goal.returns-clause-canceled
 returns-clause-canceled c = canceled-where-asked
+
+pub returns-clause-breaks : goal.returns-clause-breaks
+returns-clause-breaks c = breaks-by-failure
+
+pub returns-clause-once_taken : goal.returns-clause-once_taken
+returns-clause-once_taken c = waits-once-taken
+
+pub returns-clause-only_taken : goal.returns-clause-only_taken
+returns-clause-only_taken c = waits-only-taken
+
+pub returns-clause-waits : goal.returns-clause-waits
+returns-clause-waits c = waits-behind
+
+pub returns-clause-starts : goal.returns-clause-starts
+returns-clause-starts c = starts-free
+
+pub returns-clause-behind : goal.returns-clause-behind
+returns-clause-behind c = starts-behind-leader
+
+pub returns-clause-broken : goal.returns-clause-broken
+returns-clause-broken c = breaks-with-leader
+
+pub returns-clause-after_leader : goal.returns-clause-after_leader
+returns-clause-after_leader c = starts-after-leader
+
+pub returns-clause-moves_behind : goal.returns-clause-moves_behind
+returns-clause-moves_behind c = moves-behind-leader
+
+pub returns-clause-chain : goal.returns-clause-chain
+returns-clause-chain c = breaks-chain
+
+pub returns-clause-chain_order : goal.returns-clause-chain_order
+returns-clause-chain_order c = completes-in-order
 
 pub returns-clause-given : goal.returns-clause-given
 returns-clause-given c = given-once

@@ -1,4 +1,4 @@
-use Rattle.std.proofs.Common.{false, [], ◌∷◌, ◌++◌, length, take, drop, remove, slice_get, sym, ◌∙◌, ap, subst, arith}
+use Rattle.std.proofs.Common.{false, [], ◌∷◌, ◌++◌, length, take, drop, slice_get, sym, ◌∙◌, ap, subst, arith}
 use Rattle.ring_core.specs.declared.entry.Flight.{Flight}
 use Rattle.ring_core.specs.Bound.{AreLed, left_behind}
 use Rattle.ring_core.specs.MemRing.{entry_at, completed}
