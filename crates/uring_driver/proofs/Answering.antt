@@ -24,6 +24,8 @@ use Rattle.ring_core.proofs.Grouping.{GroupsStay, may_group}
 use Rattle.ring_core.specs.Closes.{MadeAlone}
 use Rattle.ring_core.proofs.Alone.{alone-ledger}
 use Rattle.ring_core.proofs.Lawful.{Lawful, lawful-ledger}
+use Rattle.ring_core.proofs.Parting.{Follows}
+use Rattle.ring_core.proofs.Following.{follows-ledger}
 use Rattle.uring_driver.specs.declared.uring.IoUringDriver.{IoUringDriver}
 use Rattle.uring_driver.specs.Holding.{HandlesStand}
 use Rattle.uring_driver.specs.Op.{ops_in}
@@ -38,6 +40,12 @@ pub lawful-of : {R B : Type 0} {view : R → RingView} {buffer : B → Buffer} {
     Stands view buffer d L → Lawful L
 lawful-of {R} {B} {view} {buffer} {d} {L} stands =
     subst (λ M. Lawful M) (sym stands.reached) (lawful-ledger (view (ring_in d)).capacity stands.events)
+
+-- Each operation of it that waits is directly behind the one that it waits for.
+pub follows-of : {R B : Type 0} {view : R → RingView} {buffer : B → Buffer} {d : IoUringDriver R B} {L : Ledger} →
+    Stands view buffer d L → Follows L
+follows-of {R} {B} {view} {buffer} {d} {L} stands =
+    subst (λ M. Follows M) (sym stands.reached) (follows-ledger (view (ring_in d)).capacity stands.events)
 
 -- Nobody else holds what an operation of it made.
 pub alone-of : {R B : Type 0} {view : R → RingView} {buffer : B → Buffer} {d : IoUringDriver R B} {L : Ledger} →

@@ -1,5 +1,5 @@
 -- What the enter of a turn and the completions that came by themselves come to.
-use Rattle.std.proofs.Common.{◌≡◌, ◌∙◌, Bool, [], length, sym, ap, subst, arith}
+use Rattle.std.proofs.Common.{◌≡◌, ◌∙◌, Bool, length, sym, ap, subst, arith}
 use Rattle.ring_core.specs.Ring.{RingView, IsSynced}
 use Rattle.uring_driver.specs.Pending.{Pending}
 use Rattle.uring_driver.specs.Submissions.{TakesFront, Enters, Arrives, pending_ring, with_due}

@@ -25,13 +25,13 @@ use Rattle.ring_core.proofs.Numbers.{same-or-not}
 use Rattle.driver_core.proofs.Lists.{some, get-pushed}
 use Rattle.driver_core.proofs.Maps.{put-same, put-other}
 use Rattle.driver_core.proofs.Slots.{slots-replaced, slots-freed, other-left}
-use Rattle.uring_driver.proofs.Kept.{KeepsOp, KeepsSlot, call-queued, call-flown, lists-kept}
+use Rattle.uring_driver.proofs.Kept.{StaysOp, stays-own, KeepsOp, KeepsSlot, call-queued, call-flown, lists-kept}
 
 -- A slot's life changes, and its operation with it, where it stands.
 module _ {B : Type 0} (buffer : B → Buffer) (v : RingView) (slots : FinMap nat_cmp (Slot B)) (L : Ledger) (key : ℕ) (s : Slot B)
     (life : Lifecycle Outcome) (f : Operation → Operation) (o : Operation)
     (old : Means buffer v slots L) (there : get slots key ≡ Some s) (which : slice_get L.ops s.serial ≡ Some o)
-    (stays : (p : Operation) → ((f p).place ≡ p.place) × ((f p).canceled ≡ p.canceled))
+    (stays : (p : Operation) → StaysOp p (f p))
     (fits : SlotFor buffer (amended L.ops s.serial f) (with_life s life)) where
   abbrev t : Slot B
   t = with_life s life
@@ -42,10 +42,9 @@ module _ {B : Type 0} (buffer : B → Buffer) (v : RingView) (slots : FinMap nat
       f p,
       ap (slice_get (amended L.ops s.serial f)) e
           ∙ get-amended-same f L.ops s.serial p (ap (slice_get L.ops) (sym e) ∙ h),
-      (stays p).0,
-      (stays p).1,
+      stays p,
     )
-    | inr e ↦ (p, get-amended-other f L.ops s.serial n e ∙ h, refl, refl)
+    | inr e ↦ (p, get-amended-other f L.ops s.serial n e ∙ h, stays-own p)
   ]
 
   slot-kept : (n : ℕ) → KeepsSlot slots (insert slots key t) n
@@ -63,7 +62,7 @@ module _ {B : Type 0} (buffer : B → Buffer) (v : RingView) (slots : FinMap nat
   means-changed = record {
     capacity = old.capacity;
     world = old.world;
-    in_slots = slots-replaced buffer slots L.ops key s t f o old.in_slots there refl which (ap is_kept (stays o).0) fits;
+    in_slots = slots-replaced buffer slots L.ops key s t f o old.in_slots there refl which (ap is_kept (stays o).place) fits;
     in_lists = lists-kept buffer slots (insert slots key t) L.ops (amended L.ops s.serial f) v L refl (λ n a. (slot-kept n, op-kept n))
         (λ n a. (slot-kept n, op-kept n)) (λ i c h q a. (slot-kept c.serial, op-kept c.serial)) old.in_lists;
   }
@@ -87,7 +86,7 @@ module _ {B : Type 0} (buffer : B → Buffer) (v : RingView) (slots : FinMap nat
       refl,
       refl,
     ),
-    λ q i. (q, get-amended-other f L.ops s.serial n (other n p a h) ∙ i, refl, refl),
+    λ q i. (q, get-amended-other f L.ops s.serial n (other n p a h) ∙ i, stays-own q),
   )
 
   pub means-freed : Means buffer v (remove slots key) (with_op L s.serial f)

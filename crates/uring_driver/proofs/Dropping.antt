@@ -130,7 +130,8 @@ module _ {R B : Type 0} (view : R → RingView) (buffer : B → Buffer) (tells s
         let waits = left-waits o.place o.task my.fit.live (sym (ap after_drop my.life) ∙ left) in
         let a = subst (λ x. Means buffer (pending_ring view d.ring) x M) (sym put)
         (means-changed buffer (pending_ring view d.ring) d.slots.values L key s (dropped s.life) with_drop o (means-of old) there
-        my.fit.there (λ p. (refl, refl)) fits) in
+        my.fit.there
+        (λ p. record { place = refl; canceled = refl; linked = refl; waits_for = refl }) fits) in
         let c = posts-cancel view buffer tells steady new.slots.values always d.ring new.ring M key t s.serial a
         (ap (λ m. get m key) put ∙ put-same d.slots.values key t) refl has-room (fits-of view d old) posts in
         let e = step-drop-waiting L s.serial o my.fit.there my.owned waits in

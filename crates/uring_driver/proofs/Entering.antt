@@ -54,12 +54,27 @@ pub took-none : (v : RingView) (spare : ℕ) → TakesFront v (with_spare v spar
 took-none v spare = record {
   count = 0;
   takings = [];
-  took = record { within = omega arith; taken = refl; queue = refl; flying = refl; done = refl; world = refl };
+  took = record { within = omega arith; taken = refl; queue = refl; flying = refl; once = λ fits. refl; done = refl; world = refl };
 }
 
--- One prefix is taken, then one of what is left.
-pub took-on : (a b c : RingView) → TakesFront a b → TakesFront b c → TakesFront a c
-took-on a b c f g =
+-- Nothing is taken where memory was reserved at most.
+pub took-still : {R : Type 0} (view : R → RingView) (old new : Pending R) →
+    view new.ring ≡ with_spare (view old.ring) (view new.ring).spare → new.due ≡ old.due →
+    TakesFront (pending_ring view old) (pending_ring view new)
+took-still view old new ring due =
+    subst (λ v. TakesFront (pending_ring view old) v)
+    (sym (ap (λ v. with_due v new.due) ring ∙ ap (with_due (with_spare (view old.ring) (view new.ring).spare)) due))
+    (took-none (pending_ring view old) (view new.ring).spare)
+
+-- Where what is pending is the same, none of it was taken.
+none-taken : {A : Type 0} (n : ℕ) (xs ys : List A) → n ≤ length xs → ys ≡ drop n xs → ys ≡ xs → n ≡ 0
+none-taken n xs ys within left same =
+    (let a = ap length left in let b = ap length same in let c = length-drop n xs in omega (arith, within, a, b, c))
+
+-- One prefix is taken, then one of what is left. Where what is pending fits the queue, all of it is taken by the second.
+pub took-on : (a b c : RingView) → (length a.queue ≤ a.capacity → b ≡ with_spare a b.spare) → TakesFront a b → TakesFront b c →
+    TakesFront a c
+took-on a b c still f g =
     let m = f.count in
     let n = g.count in
     let front : take (m + n) a.queue ≡ take m a.queue ++ take n b.queue = take-add m n a.queue
@@ -75,6 +90,12 @@ took-on a b c f g =
             ∙ ap (λ x. take m a.queue ++ x) g.took.taken ∙ sym front;
         queue = g.took.queue ∙ ap (drop n) f.took.queue ∙ drop-more m n a.queue;
         flying = g.took.flying ∙ ap (λ x. flying_each x g.takings) f.took.flying ∙ sym (flying-joined a.flying f.takings g.takings);
+        once = λ fits.
+            let same : b ≡ with_spare a b.spare = still fits in
+            let none : m ≡ 0 = none-taken m a.queue b.queue f.took.within f.took.queue (ap (λ x. x.queue) same) in
+            let count : n ≡ m + n = omega (arith, none) in
+            g.took.once (subst (λ x. length x.queue ≤ x.capacity) (sym same) fits)
+            ∙ ap (λ x. flying_after x.flying (take n x.queue)) same ∙ ap (λ k. flying_after a.flying (take k a.queue)) count;
         done =
             g.took.done ∙ ap (λ x. done_after x (take n b.queue)) f.took.done ∙ sym (done-joined a.done (take m a.queue) (take n b.queue))
             ∙ ap (done_after a.done) (sym front);
@@ -92,6 +113,7 @@ took-behind n v w due t = record {
     taken = append-nil (take n v.queue) ∙ sym (take-front n v.queue due t.within);
     queue = ap (λ q. q ++ due) t.queue ∙ sym (drop-front n v.queue due t.within);
     flying = t.flying;
+    once = λ fits. t.flying ∙ ap (flying_after v.flying) (sym (take-front n v.queue due t.within));
     done = t.done ∙ ap (done_after v.done) (sym (take-front n v.queue due t.within));
     world = t.world;
   };
@@ -106,6 +128,10 @@ took-entered v = record {
   done = ap (done_after v.done) (sym (take-length v.queue));
   world = refl;
 }
+
+-- Where the queue with what is due behind it fits, their lengths together do.
+pub fits-split : (queue due : List Entry) (capacity : ℕ) → length (queue ++ due) ≤ capacity → length queue + length due ≤ capacity
+fits-split queue due capacity h = (let l = length-append queue due in omega (arith, l, h))
 
 -- What no call makes less, over two calls.
 pub later-on : (a b c : RingView) → IsLater a b → IsLater b c → IsLater a c
@@ -131,14 +157,18 @@ module _ {R : Type 0} (view : R → RingView) (tells : Bool) where
     told = λ t. took-none (pending_ring view old) (view old.ring).spare;
   }
 
-  pub enters-on : (a b c : Pending R) → Enters view tells a b → Enters view tells b c → Enters view tells a c
-  enters-on a b c f g = record {
+  -- What is pending stays as it is before the second, where it fits the queue.
+  pub enters-on : (a b c : Pending R) → (IsTrue tells → length (view a.ring).queue + length a.due ≤ (view a.ring).capacity →
+      pending_ring view b ≡ with_spare (pending_ring view a) (view b.ring).spare) →
+      Enters view tells a b → Enters view tells b c → Enters view tells a c
+  enters-on a b c still f g = record {
     later = later-on (view a.ring) (view b.ring) (view c.ring) f.later g.later;
     few_done = (let x = f.few_done in let y = g.few_done in omega (arith, x, y));
     few_to_come = (let x = f.few_to_come in let y = g.few_to_come in omega (arith, x, y));
     more_done = (let x = f.more_done in let y = g.more_done in omega (arith, x, y));
     same_room = g.same_room ∙ f.same_room;
-    told = λ t. took-on (pending_ring view a) (pending_ring view b) (pending_ring view c) (f.told t) (g.told t);
+    told = λ t. took-on (pending_ring view a) (pending_ring view b) (pending_ring view c)
+        (λ fits. still t (fits-split (view a.ring).queue a.due (view a.ring).capacity fits)) (f.told t) (g.told t);
   }
 
   -- The ring takes of its queue what it takes.
@@ -321,10 +351,6 @@ none-pending queue due q d = ap (λ x. x ++ due) q ∙ d
 pub later-behind : (v w : RingView) (due due' : List Entry) → IsLater v w → IsLater (with_due v due) (with_due w due')
 later-behind v w due due' l =
     record { same_capacity = l.same_capacity; more_handles = l.more_handles; more_faults = l.more_faults; more_busies = l.more_busies }
-
--- Where the queue with what is due behind it fits, their lengths together do.
-pub fits-split : (queue due : List Entry) (capacity : ℕ) → length (queue ++ due) ≤ capacity → length queue + length due ≤ capacity
-fits-split queue due capacity h = (let l = length-append queue due in omega (arith, l, h))
 
 -- A completion is taken off, behind which all that is pending stays.
 pub taken-behind : {R : Type 0} (view : R → RingView) (old new : Pending R) (rest : List Completion) →

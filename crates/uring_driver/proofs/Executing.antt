@@ -1,48 +1,41 @@
--- What an execution does to a ring and slots that mean a ledger.
-use Rattle.std.proofs.Common.{◌≡◌, ◌≢◌, ℕ, ◌≤◌, Bool, true, false, Option, List, [], ◌∷◌, ◌++◌, Some, refl, sym, ◌∙◌}
-use Rattle.std.proofs.Common.{ap, subst, arith, length}
+-- What an execution does to a ring and slots that mean a ledger, before it releases what waits.
+use Rattle.std.proofs.Common.{◌≡◌, ◌≢◌, ℕ, ◌≤◌, Bool, true, false, Option, List, ◌++◌, Some, refl, sym, ◌∙◌}
+use Rattle.std.proofs.Common.{ap, subst, length}
 use Rattle.std.specs.Prelude.{slice_get}
 use Rattle.std.specs.Ordering.{nat_cmp}
 use Rattle.std.specs.FinMap.{FinMap, get, insert}
 use Rattle.rent_buf.specs.Buffer.{Buffer}
 use Rattle.rent_buf.specs.Parts.{Parts}
 use Rattle.ring_core.specs.Ring.{RingView}
-use Rattle.ring_core.specs.Entry.{target}
-use Rattle.ring_core.specs.declared.entry.Target.TheVariants.{Slot as Keyed}
-use Rattle.ring_core.proofs.Targets.{target-slot}
 use Rattle.ring_core.specs.Lists.{amended}
-use Rattle.ring_core.specs.MemRing.{IsFinished, body_effect}
+use Rattle.ring_core.specs.MemRing.{IsFinished, body_effect, completion_of}
 use Rattle.ring_core.specs.Outcome.{is_allowed}
 use Rattle.ring_core.specs.Effect.{Effect, effect, made_by}
 use Rattle.ring_core.specs.Payloads.{comes, body_comes, StoresIf}
 use Rattle.ring_core.specs.Request.{call_of, sent_of, plain_request, room_of, held, held_of, held_after, IsHolding}
-use Rattle.ring_core.specs.declared.entry.Entry.{Entry}
-use Rattle.ring_core.specs.declared.entry.Flight.{Flight}
 use Rattle.ring_core.specs.declared.entry.Completion.{Completion}
 use Rattle.ring_core.specs.declared.request.Request.{Request}
 use Rattle.ring_core.specs.declared.request.Told.{Told}
 use Rattle.ring_core.specs.declared.request.Outcome.{Outcome}
-use Rattle.ring_core.specs.Ledger.{Ledger, Operation, Place, InQueue, InFlight, InDone, Op, is_live, is_kept}
+use Rattle.ring_core.specs.Ledger.{Ledger, Operation, InFlight, InDone, Op, is_live, is_kept}
 use Rattle.ring_core.specs.Turn.{with_result, with_effect, made_owners, complete_at}
-use Rattle.ring_core.proofs.Amended.{get-amended-same, get-amended-other}
+use Rattle.ring_core.proofs.Amended.{get-amended-same}
 use Rattle.ring_core.proofs.Requests.{holding-own, held-comes, held-stays, got-fits}
 use Rattle.driver_core.specs.declared.slot.Slot.{Slot}
 use Rattle.driver_core.specs.Ops.{Ops}
 use Rattle.driver_core.specs.Slot.{KeepsNumbers}
 use Rattle.driver_core.specs.Slots.{SlotFor, SlotsStand, life_of}
 use Rattle.driver_core.specs.Operations.{StoresAt}
-use Rattle.uring_driver.specs.Lists.{EntryFor, CompletionFor, DoneFor, IsAt, IsFlown, ListsStand, is_call, names_slot, done_items_in}
+use Rattle.uring_driver.specs.Lists.{CompletionFor, is_call}
 use Rattle.uring_driver.proofs.Means.{Means}
-use Rattle.driver_core.proofs.Lists.{some, skip, skip-not}
 use Rattle.driver_core.proofs.Maps.{put-same, put-self}
 use Rattle.driver_core.proofs.Slots.{slots-replaced, other-slot}
 use Rattle.driver_core.proofs.Filling.{filled-where-fits}
-use Rattle.uring_driver.proofs.Kept.{slot-done}
-use Rattle.uring_driver.proofs.Finishing.{lists-finished, lists-owners}
-use Rattle.uring_driver.proofs.Flights.{o, s, slot-there, n-is, mine, which, flies, request-is, life-is, allows-is, comes-is, here}
+use Rattle.uring_driver.proofs.Finishing.{ended, lists-owners, means-ended}
+use Rattle.uring_driver.proofs.Flights.{o, s, slot-there, n-is, mine, flies, request-is, life-is, allows-is, comes-is}
 
 -- An operation that was executed keeps its stage of life.
-done-life : (b : Bool) (r : Outcome) (t : Option ℕ) → life_of b InFlight t ≡ life_of b (InDone r) t
+pub done-life : (b : Bool) (r : Outcome) (t : Option ℕ) → life_of b InFlight t ≡ life_of b (InDone r) t
 done-life true r t = refl
 done-life false r t = refl
 
@@ -127,12 +120,6 @@ module _ {B : Type 0} (buffer : B → Buffer) (v : RingView) (before after : Ops
   word : c.word ≡ fin.flight.entry.word
   word = ap (λ x. x.word) fin.answer
 
-  serial : c.serial ≡ n
-  serial = ap (λ x. x.serial) fin.answer
-
-  outcome : c.outcome ≡ result.outcome
-  outcome = ap (λ x. x.outcome) fin.answer ∙ ap (λ x. x.outcome) eff
-
   got-is : got ≡ result.got
   got-is = fin.bytes ∙ ap (λ x. x.got) eff
 
@@ -186,86 +173,37 @@ module _ {B : Type 0} (buffer : B → Buffer) (v : RingView) (before after : Ops
       (λ r. q (r ∙ n-is buffer v slots L place fin.flight old fin.there calls)) in
       ap (λ m. get m k) (stored-is.changed ∙ ap (λ x. insert slots x t) word) ∙ a
 
-  at-kept : (m : ℕ) (p : Place) → IsAt L.ops m p → m ≢ n → IsAt ops' m p
-  at-kept m p a q = record { operation = a.operation; there = get-amended-other f L.ops n m q ∙ a.there; stays = a.stays }
-
-  flown-kept : (x : Flight) → IsFlown L.ops x → x.entry.serial ≢ n → IsFlown ops' x
-  flown-kept x a q = record {
-    operation = a.operation;
-    there = get-amended-other f L.ops n x.entry.serial q ∙ a.there;
-    stays = a.stays;
-    marked = a.marked;
-    free = a.free;
-  }
-
-  entry-kept : (x : Entry) → EntryFor buffer slots x → x.serial ≢ n → EntryFor buffer slots' x
-  entry-kept x E q = record {
-    slot = E.slot;
-    there = slot-kept x.word E.slot E.there (λ r. q (sym E.serial ∙ r));
-    serial = E.serial;
-    call = E.call;
-    unlinked = E.unlinked;
-  }
-
-  completion-kept : (x : Completion) → CompletionFor slots x → x.serial ≢ n → CompletionFor slots' x
-  completion-kept x E q = record { slot = E.slot; there = slot-kept x.word E.slot E.there (λ r. q (sym E.serial ∙ r)); serial = E.serial }
-
-  not-this : (m : ℕ) (p : Place) → IsAt L.ops m p → p ≢ InFlight → m ≢ n
-  not-this m p a h e =
-      let b = here buffer v slots L place fin.flight old fin.there calls in
-      h (sym a.stays ∙ ap (λ x. x.place)
-      (some a.operation op (slice_get L.ops m) a.there (ap (slice_get L.ops) e
-      ∙ which buffer v slots L place fin.flight old fin.there calls)) ∙ flies buffer v slots L place fin.flight old fin.there calls)
-
-  new-place : IsAt ops' n (InDone c.outcome)
-  new-place = record {
-    operation = f op;
-    there = get-amended-same f L.ops n op (which buffer v slots L place fin.flight old fin.there calls);
-    stays = ap (λ x. InDone x) (sym outcome);
-  }
-
-  new-completion : CompletionFor slots' c
+  new-completion : CompletionFor slots' (completion_of fin.flight.entry result.outcome)
   unfolding stored-is
   new-completion = record {
     slot = t;
-    there = ap (λ m. get m c.word) stored-is.changed ∙ put-same slots c.word t;
-    serial = stored-is.serial ∙ n-is buffer v slots L place fin.flight old fin.there calls ∙ sym serial;
+    there = ap (λ m. get m fin.flight.entry.word) (stored-is.changed ∙ ap (λ k. insert slots k t) word)
+        ∙ put-same slots fin.flight.entry.word t;
+    serial = stored-is.serial ∙ n-is buffer v slots L place fin.flight old fin.there calls;
   }
 
-  keyed : target c.word ≡ Keyed c.word
-  keyed =
-      let below = old.in_slots.below fin.flight.entry.word slot (slot-there buffer v slots L place fin.flight old fin.there calls) in
-      target-slot c.word (omega (arith, word, below))
+  completion : completion_of fin.flight.entry result.outcome ≡ c
+  completion = sym (fin.answer ∙ ap (λ x. completion_of fin.flight.entry x.outcome) eff)
 
-  -- What was done before is of another operation.
-  done-other : (i : ℕ) (x : Completion) → slice_get v.done i ≡ Some x → names_slot (target x.word) ≡ true → x.serial ≢ n
-  done-other i x h q = not-this x.serial (InDone x.outcome) (slot-done slots L.ops x (target x.word) (old.in_lists.in_done i x h) q).1
-      (λ z. cc)
+  done-with : Means buffer (ended v place (completion_of fin.flight.entry result.outcome) result.world) slots'
+      (record (complete_at L place (Op n)) { ops = ops'; world = result.world })
+  done-with = means-ended buffer v slots slots' L place fin.flight old fin.there calls f result.outcome refl slots-stand new-completion
+      slot-kept result.world
 
-  lists-stand : ListsStand buffer slots' v' L'
-  lists-stand = lists-owners buffer slots' v' (record (complete_at L place (Op n)) { ops = ops'; world = result.world })
-      (L.owners ++ made_owners (made_by result.outcome))
-      (lists-finished buffer slots slots' v v' place told sent got c fin L ops' result.world (Op n) old.in_lists
-      (ap (done_items_in c) keyed ∙ ap (λ x. Op x ∷ []) serial)
-      (λ x a. (let q = not-this x.serial InQueue a.1 (λ r. cc) in (entry-kept x a.0 q, at-kept x.serial InQueue a.1 q)))
-      (λ i x at b a. (
-      let q : x.entry.serial ≢ n = λ r. skip-not place i
-      (old.in_lists.flight_once (skip place i) place x fin.flight at fin.there b calls r) in
-      (entry-kept x.entry a.0 q, flown-kept x a.1 q)))
-      (λ x a. (
-      let q = not-this x.serial (InDone x.outcome) a.1 (λ y. cc) in
-      (completion-kept x a.0 q, at-kept x.serial (InDone x.outcome) a.1 q)))
-      (subst (λ t. DoneFor slots' ops' c t) (sym keyed)
-      (new-completion, subst (λ y. IsAt ops' y (InDone c.outcome)) (sym serial) new-place))
-      (λ i x h p _ r. done-other i x h p (r ∙ serial)))
-
-  pub means-executed : Means buffer v' after.slots.values
+  -- The operation is done, and what waits for it waits still.
+  pub means-executed : Means buffer (ended v place c (effect L.world
+      (call_of (o buffer v before.slots.values L place fin.flight old fin.there calls).request)
+      (sent_of (o buffer v before.slots.values L place fin.flight old fin.there calls).request) told).world) after.slots.values
       (with_effect (complete_at L place (Op fin.flight.entry.serial)) fin.flight.entry.serial told
       (effect L.world (call_of (o buffer v before.slots.values L place fin.flight old fin.there calls).request)
       (sent_of (o buffer v before.slots.values L place fin.flight old fin.there calls).request) told))
-  means-executed = record {
-    capacity = ap (λ x. x.capacity) fin.ring ∙ old.capacity;
-    world = ap (λ x. x.world) fin.ring ∙ ap (λ x. x.world) eff;
-    in_slots = slots-stand;
-    in_lists = lists-stand;
-  }
+  means-executed =
+      let m = done-with in
+      let w = result.world in
+      subst (λ x. Means buffer (ended v place x w) slots' L') completion (record {
+        capacity = m.capacity;
+        world = refl;
+        in_slots = m.in_slots;
+        in_lists = lists-owners buffer slots' (ended v place (completion_of fin.flight.entry result.outcome) w)
+            (record (complete_at L place (Op n)) { ops = ops'; world = w }) (L.owners ++ made_owners (made_by result.outcome)) m.in_lists;
+      })

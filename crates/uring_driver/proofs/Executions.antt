@@ -1,10 +1,10 @@
 -- What an execution answers, of a driver that stands for a ledger.
-use Rattle.std.proofs.Common.{◌≡◌, ◌≤◌, ℕ, true, List, [], ◌∷◌, ◌++◌, Some, refl, sym, ◌∙◌, ap, subst, arith, length}
-use Rattle.std.specs.Prelude.{slice_get, ◌&&◌, not, Ok}
+use Rattle.std.proofs.Common.{◌≡◌, ◌≤◌, ℕ, true, false, List, [], ◌∷◌, ◌++◌, Some, refl, sym, ◌∙◌, ap, subst, arith, length}
+use Rattle.std.specs.Prelude.{slice_get, is_some, ◌&&◌, not, Ok}
 use Rattle.std.specs.FinMap.{get}
 use Rattle.rent_buf.specs.Buffer.{Buffer}
 use Rattle.ring_core.specs.Ring.{RingView}
-use Rattle.ring_core.specs.MemRing.{IsFinished, IsExecuted, body_effect}
+use Rattle.ring_core.specs.MemRing.{IsFinished, IsExecuted, body_effect, completion_of, finished}
 use Rattle.ring_core.specs.Payloads.{body_comes}
 use Rattle.ring_core.specs.Entry.{target}
 use Rattle.ring_core.specs.Request.{call_of, sent_of, shown_by, plain_request}
@@ -18,12 +18,16 @@ use Rattle.ring_core.specs.declared.request.Told.{Told}
 use Rattle.ring_core.specs.declared.ledger.Event.TheVariants.{Exec}
 use Rattle.ring_core.specs.declared.ledger.Reply.TheVariants.{ExecutedOp, ExecutedClose}
 use Rattle.ring_core.specs.declared.ledger.Reply.{Reply}
-use Rattle.ring_core.specs.Lists.{numbers_where}
+use Rattle.ring_core.specs.Lists.{numbers_where, passes}
 use Rattle.ring_core.specs.Ledger.{Ledger, Operation, Item, Op, is_kept, is_owned}
-use Rattle.ring_core.specs.Refusal.{allowed}
+use Rattle.ring_core.specs.Refusal.{allowed, waits}
 use Rattle.ring_core.specs.Step.{step}
 use Rattle.ring_core.proofs.Targets.{target-slot}
-use Rattle.ring_core.specs.Turn.{effect_of, with_result, with_effect, exec_op, complete_at}
+use Rattle.ring_core.specs.Turn.{effect_of, with_result, with_effect, exec_op, complete_at, released}
+use Rattle.ring_core.proofs.Taking.{Listed}
+use Rattle.ring_core.proofs.Lawful.{lawful-executed}
+use Rattle.ring_core.proofs.Releasing.{released-beside, released-count}
+use Rattle.ring_core.proofs.Parting.{Parted, parted-executed}
 use Rattle.ring_core.specs.Run.{ledger}
 use Rattle.ring_core.proofs.Amended.{length-amended}
 use Rattle.driver_core.specs.Groups.{GroupsStand}
@@ -45,10 +49,13 @@ use Rattle.uring_driver.proofs.Means.{Means, means-of, ring-of}
 use Rattle.uring_driver.proofs.Kept.{call-item}
 use Rattle.uring_driver.proofs.Steps.{reached-more, step-exec, allowed-op}
 use Rattle.driver_core.proofs.Counts.{where-same}
-use Rattle.uring_driver.proofs.Flights.{o, s, slot-there, which, flies, allows-is, effect-sends, flying-at}
+use Rattle.uring_driver.proofs.Flights.{o, s, slot-there, which, flies, bound-of, allows-is, effect-sends, flying-at}
+use Rattle.uring_driver.proofs.Answering.{lawful-of, follows-of}
+use Rattle.uring_driver.proofs.Finishing.{ended}
+use Rattle.uring_driver.proofs.Releasing.{let_behind, IsOutcome, effect-ends, means-released, finished-parts, leaves-released}
 use Rattle.uring_driver.proofs.Executing.{means-executed, executed-numbers}
 use Rattle.uring_driver.proofs.ExecutingCloses.{means-close-executed, close-named, close-allows, close-stores}
-use Rattle.uring_driver.proofs.Holders.{handles-executed, handles-closed}
+use Rattle.uring_driver.proofs.Holders.{handles-same, handles-executed, handles-closed}
 
 -- What an execution does to a ring it does to it with more behind its queue.
 finished-behind : (v w : RingView) (place : ℕ) (told : Told) (sent got : List ℕ) (c : Completion) (due : List Entry) →
@@ -106,11 +113,12 @@ module _ {B : Type 0} (buffer : B → Buffer) (d : IoUringDriver RingView B) (L 
 
   -- The step of an operation that is executed.
   step-op : (n : ℕ) (op : Operation) (m : ℕ) → slice_get L.flying place ≡ Some (Op n) → slice_get L.ops n ≡ Some op →
-      allowed L (Op n) told ≡ true → n ≡ m →
-      step L (Exec place told) ≡ (with_effect (complete_at L place (Op n)) n told (effect_of L op.request told), ExecutedOp m)
-  step-op n op m there which allows same = step-exec L place told (Op n) there allows
-      ∙ ap (λ x. (exec_op (complete_at L place (Op n)) n told x, ExecutedOp n)) which
-      ∙ ap (λ x. (with_effect (complete_at L place (Op n)) n told (effect_of L op.request told), ExecutedOp x)) same
+      waits L (Op n) ≡ false → allowed L (Op n) told ≡ true → n ≡ m →
+      step L (Exec place told)
+      ≡ (released told (with_effect (complete_at L place (Op n)) n told (effect_of L op.request told)) n, ExecutedOp m)
+  step-op n op m there which free allows same = step-exec L place told (Op n) there free allows
+      ∙ ap (λ x. (released told (exec_op (complete_at L place (Op n)) n told x) n, ExecutedOp n)) which
+      ∙ ap (λ x. (released told (with_effect (complete_at L place (Op n)) n told (effect_of L op.request told)) n, ExecutedOp x)) same
 
   -- A call was executed.
   executes-call : (new : IoUringDriver RingView B) (c : Completion)
@@ -122,13 +130,13 @@ module _ {B : Type 0} (buffer : B → Buffer) (d : IoUringDriver RingView B) (L 
   executes-call new c executed calls due room holding members few =
       let sent = offered buffer (ops_in d) c.word in
       let got = executed.got in
-      let finished = executed.finishes in
+      let finishes = executed.finishes in
       let v = whole_ring (λ r. r) d in
       let before = means-of old in
       let w = with_due (ring_in new) d.ring.due in
-      let fin = finished-behind (ring_in d) (ring_in new) place told sent got c d.ring.due finished in
+      let fin = finished-behind (ring_in d) (ring_in new) place told sent got c d.ring.due finishes in
       let slots = d.slots.values in
-      let stays = executed-numbers buffer (ops_in d) (ops_in new) c.word got (body_comes finished.flight.entry.body told)
+      let stays = executed-numbers buffer (ops_in d) (ops_in new) c.word got (body_comes finishes.flight.entry.body told)
       executed.stored in
       let slot = s buffer v slots L place fin.flight before fin.there calls in
       let here = slot-there buffer v slots L place fin.flight before fin.there calls in
@@ -144,20 +152,41 @@ module _ {B : Type 0} (buffer : B → Buffer) (d : IoUringDriver RingView B) (L 
       let there = flying-at buffer v slots L place fin.flight (Op n) before fin.there
       (call-item fin.flight.entry fin.flight.entry.body calls) in
       let result = effect L.world (call_of op.request) (sent_of op.request) told in
-      let M = with_effect (complete_at L place (Op n)) n told result in
+      let N = with_effect (complete_at L place (Op n)) n told result in
+      let M = released told N n in
       let serial : n ≡ c.serial = sym (ap (λ x. x.serial) fin.answer) in
       let allows : allowed L (Op n) told ≡ true = allowed-op L n told op wh
       ∙ sym (allows-is buffer v slots L place fin.flight before fin.there calls told) ∙ fin.allows in
-      let e : step L (Exec place told) ≡ (M, ExecutedOp c.serial) = step-op n op c.serial there wh allows serial in
+      let free : waits L (Op n) ≡ false = ap (passes (λ operation. is_some operation.waits_for)) wh
+      ∙ sym (bound-of buffer v slots L place fin.flight before fin.there calls) ∙ fin.free in
+      let e : step L (Exec place told) ≡ (M, ExecutedOp c.serial) = step-op n op c.serial there wh free allows serial in
+      let is : exec_op (complete_at L place (Op n)) n told (slice_get L.ops n) ≡ N = ap (exec_op (complete_at L place (Op n)) n told) wh in
+      let lawful = lawful-of old in
+      let listed : Listed N = subst Listed is (lawful-executed L place told n there lawful).lists in
+      let parted : Parted N n place = subst (λ K. Parted K n place) is
+      (parted-executed L place told n there free lawful.lists (follows-of old)) in
+      let leaves = leaves-released told N n listed in
+      let beside = released-beside told N n in
+      let ends : IsOutcome told result.outcome = effect-ends L.world (call_of op.request) (sent_of op.request) told in
+      let once = means-executed buffer v (ops_in d) (ops_in new) L place told sent w got c before fin calls executed.stored eff in
+      let view : w ≡ let_behind result.outcome place (ended v place c result.world) =
+      fin.ring ∙ ap (finished v place fin.flight.entry) eff ∙ finished-parts v place fin.flight.entry result
+      ∙ ap (λ x. let_behind result.outcome place (ended v place x result.world))
+      (sym (fin.answer ∙ ap (λ x. completion_of fin.flight.entry x.outcome) eff)) in
+      let after : Means buffer w (ops_in new).slots.values M = subst (λ x. Means buffer x (ops_in new).slots.values M) (sym view)
+      (means-released buffer (ended v place c result.world) (ops_in new).slots.values N n place told result.outcome ends once listed
+      parted) in
       let early : (p : Operation) → slice_get L.ops n ≡ Some p → is_early p.place ≡ true = λ p h.
       ap (λ x. is_early x.place) (some p op (slice_get L.ops n) h wh) ∙ ap is_early at in
       let below = before.in_slots.below fin.flight.entry.word slot here in
       subst (λ x. ExecutesFor buffer L place told new (Ok x))
       (sym (ap (executed_as c) (target-slot c.word (omega (arith, word, below)))))
-      (stands-next new c sent got M (ExecutedOp c.serial) finished e
-      (means-executed buffer v (ops_in d) (ops_in new) L place told sent w got c before fin calls executed.stored eff)
-      (handles-executed d.holding L old.handles place n told result there early) (length-amended (with_result told result) L.ops n)
-      (where-same is_owned (with_result told result) L.ops n op wh (sym (ap (λ p. is_kept p && not op.dropped) at)))
+      (stands-next new c sent got M (ExecutedOp c.serial) finishes e
+      after
+      (handles-same d.holding N (handles-executed d.holding L old.handles place n told result there early) M leaves.seen
+      (released-count told N n))
+      (beside.count ∙ length-amended (with_result told result) L.ops n)
+      (leaves.owned ∙ where-same is_owned (with_result told result) L.ops n op wh (sym (ap (λ p. is_kept p && not op.dropped) at)))
       stays.1 due room holding members stays.0 few)
 
   -- A close was executed.
@@ -170,20 +199,21 @@ module _ {B : Type 0} (buffer : B → Buffer) (d : IoUringDriver RingView B) (L 
   executes-close new c executed k closes due room holding members few =
       let sent = offered buffer (ops_in d) c.word in
       let got = executed.got in
-      let finished = executed.finishes in
+      let finishes = executed.finishes in
       let v = whole_ring (λ r. r) d in
       let before = means-of old in
       let w = with_due (ring_in new) d.ring.due in
-      let fin = finished-behind (ring_in d) (ring_in new) place told sent got c d.ring.due finished in
+      let fin = finished-behind (ring_in d) (ring_in new) place told sent got c d.ring.due finishes in
       let slots = d.slots.values in
-      let same = close-stores (StoresAt buffer) finished.flight told k c.word got (ops_in d) (ops_in new) closes executed.stored in
+      let behind = (follows-of old).behind in
+      let same = close-stores (StoresAt buffer) finishes.flight told k c.word got (ops_in d) (ops_in new) closes executed.stored in
       let there = flying-at buffer v slots L place fin.flight (Item.Close k) before fin.there (ap (item_in fin.flight.entry) closes) in
-      let e = step-exec L place told (Item.Close k) there (sym (close-allows v.world fin.flight k told closes) ∙ fin.allows) in
+      let e = step-exec L place told (Item.Close k) there refl (sym (close-allows v.world fin.flight k told closes) ∙ fin.allows) in
       subst (λ x. ExecutesFor buffer L place told new (Ok x))
-      (sym (ap (executed_as c) (close-named buffer v slots L place told sent w got c k before fin closes)))
-      (stands-next new c sent got (complete_at L place (Item.Close k)) (ExecutedClose k) finished e
+      (sym (ap (executed_as c) (close-named buffer v slots L place told sent w got c k before fin closes behind)))
+      (stands-next new c sent got (complete_at L place (Item.Close k)) (ExecutedClose k) finishes e
       (subst (λ m. Means buffer w m (complete_at L place (Item.Close k))) (sym (ap (λ x. x.slots.values) same))
-      (means-close-executed buffer v slots L place told sent w got c k before fin closes))
+      (means-close-executed buffer v slots L place told sent w got c k before fin closes behind))
       (handles-closed d.holding L old.handles place k there) refl refl (ap (λ x. x.given) same) due room holding members
       (λ key. ap (λ x. number_at x.slots.values key) same) few)
 

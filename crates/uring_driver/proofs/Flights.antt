@@ -1,6 +1,6 @@
 -- A call in flight at a place, of a ring and slots that mean a ledger, and what executing it gives.
 use Rattle.std.proofs.Common.{◌≡◌, ℕ, true, List, Some, sym, ◌∙◌, ap, subst}
-use Rattle.std.specs.Prelude.{slice_get}
+use Rattle.std.specs.Prelude.{slice_get, is_some}
 use Rattle.std.specs.Ordering.{nat_cmp}
 use Rattle.std.specs.FinMap.{FinMap, get}
 use Rattle.rent_buf.specs.Buffer.{Buffer}
@@ -71,6 +71,12 @@ module _ {B : Type 0} (buffer : B → Buffer) (v : RingView) (slots : FinMap nat
   pub marked-is : flight.marked ≡ o.canceled
   unfolding here
   marked-is = here.1.marked ∙ ap (λ x. x.canceled) (some here.1.operation o (slice_get L.ops flight.entry.serial) here.1.there which)
+
+  -- It is bound where its operation waits.
+  pub bound-of : flight.bound ≡ is_some o.waits_for
+  unfolding here
+  bound-of = here.1.bound
+      ∙ ap (λ x. is_some x.waits_for) (some here.1.operation o (slice_get L.ops flight.entry.serial) here.1.there which)
 
   pub allows-is : (told : Told) →
       is_allowed_body v.world flight.marked flight.entry.body told ≡ is_allowed L.world o.canceled (call_of o.request) told

@@ -43,7 +43,7 @@ use Rattle.uring_driver.specs.State.{AreHolding}
 use Rattle.uring_driver.specs.Uring.{holds_handle, holds_all}
 use Rattle.uring_driver.specs.Lists.{IsAt, is_call, queued_in, queued_of}
 use Rattle.uring_driver.proofs.Means.{Means}
-use Rattle.uring_driver.proofs.Kept.{call-queued}
+use Rattle.uring_driver.proofs.Kept.{call-queued, queued-at}
 
 -- The user lacks none of the handles that it holds.
 pub lacks-none : {R B : Type 0} (d : IoUringDriver R B) (L : Ledger) (handles : List ℕ) → ((h : ℕ) → holds_handle d h ≡ user_holds L h) →
@@ -67,7 +67,7 @@ module _ {B : Type 0} (buffer : B → Buffer) (v : RingView) (slots : FinMap nat
       let g = map-get queued_of v.queue i (Req n) (ap (λ xs. slice_get xs i) (sym means.in_lists.queue) ∙ h) in
       let r = req-call g.0 g.0.body n (sym g.2) in
       subst (λ x. IsAt L.ops x InQueue) r.0
-      (call-queued buffer slots L.ops g.0 g.0.body (means.in_lists.in_queue i g.0 g.1) r.1).1
+      (queued-at L.ops g.0 (call-queued buffer slots L.ops g.0 g.0.body (means.in_lists.in_queue i g.0 g.1) r.1).1)
 
   -- So it is that of an operation that wasn't executed.
   pub means-early : AreEarly L.ops L.queue
@@ -171,9 +171,10 @@ module _ (holding : Holding) (L : Ledger) (old : HandlesStand holding L) where
       (λ h. count-complete_at L place (Item.Close k) h there)
 
 -- A new operation holds the handles that it names: room is made, and its request is queued.
-module _ (holding : Holding) (L : Ledger) (request : Request Buffer Parts) (group : Option ℕ) (n : ℕ) (early : AreEarly L.ops L.queue) where
+module _ (holding : Holding) (L : Ledger) (request : Request Buffer Parts) (group : Option ℕ) (linked : Bool) (n : ℕ)
+    (early : AreEarly L.ops L.queue) where
   abbrev joined : Ledger
-  joined = append (with_new_op (make_room L) (new_operation request group)) (Req n)
+  joined = append (with_new_op (make_room L) (new_operation request group linked)) (Req n)
 
   joined-count : (h : ℕ) → close_count joined h ≡ close_count L h
   joined-count h =
@@ -182,10 +183,11 @@ module _ (holding : Holding) (L : Ledger) (request : Request Buffer Parts) (grou
       omega (arith, q, m)
 
   pub handles-joined : (maker : Bool) → HandlesStand holding L →
-      HandlesStand (op_joined holding (named request) maker) (append (with_new_op (make_room L) (new_operation request group)) (Req n))
+      HandlesStand (op_joined holding (named request) maker)
+      (append (with_new_op (make_room L) (new_operation request group linked)) (Req n))
   handles-joined maker old = record {
     holders = holders-stand-same
-        (holders-stand-joined holding.table (make_room L) (new_operation request group)
+        (holders-stand-joined holding.table (make_room L) (new_operation request group linked)
         (holders-stand-same old.holders (seen-make_room L early)) refl refl)
         (record { users = λ h. refl; ops = λ h. refl });
     closing = λ h. old.closing h ∙ ap (nat_lt 0) (sym (joined-count h));

@@ -2,11 +2,11 @@
 use Rattle.std.proofs.Common.{◌≡◌, ◌≤◌, ◌<◌, ℕ, Bool, true, false, List, [], ◌∷◌, ◌++◌, Some, refl, sym, ◌∙◌, ap, subst, append-nil}
 use Rattle.std.proofs.Common.{arith, flat_map}
 use Rattle.std.proofs.lemmas.List.Concat.{flat_map-append}
-use Rattle.std.specs.Prelude.{slice_get}
+use Rattle.std.specs.Prelude.{slice_get, is_some}
 use Rattle.std.specs.Ordering.{nat_cmp}
 use Rattle.std.specs.FinMap.{FinMap, get}
 use Rattle.rent_buf.specs.Buffer.{Buffer}
-use Rattle.ring_core.specs.Ring.{RingView, binds_next}
+use Rattle.ring_core.specs.Ring.{RingView}
 use Rattle.ring_core.specs.Request.{call_of, plain_request}
 use Rattle.ring_core.specs.declared.entry.Body.{Body}
 use Rattle.ring_core.specs.declared.entry.Body.TheVariants.{Call as Calls, Cancel as Cancels, Close as Closes}
@@ -18,13 +18,13 @@ use Rattle.ring_core.specs.declared.entry.Target.TheVariants.{Slot as Keyed, Han
 use Rattle.ring_core.specs.Entry.{target, close_entry}
 use Rattle.ring_core.specs.Ledger.{Ledger, Op, Operation, Place, InQueue, InFlight, InDone}
 use Rattle.driver_core.specs.declared.slot.Slot.{Slot}
-use Rattle.uring_driver.specs.Lists.{EntryFor, CompletionFor, IsAt, IsFlown, QueuedFor, FlightFor, DoneFor, ListsStand, is_call, names_slot}
-use Rattle.uring_driver.specs.Lists.{item_in, done_items_in, done_items_of}
+use Rattle.uring_driver.specs.Lists.{EntryFor, CompletionFor, IsAt, IsQueued, IsFlown, QueuedFor, FlightFor, DoneFor, ListsStand, is_call}
+use Rattle.uring_driver.specs.Lists.{names_slot, item_in, done_items_in, done_items_of}
 use Rattle.ring_core.specs.declared.entry.TheConstants.{CANCEL_WORD, FIRST_CLOSE, MOST_HANDLES}
 
 -- What a call in the queue is.
 pub call-queued : {B : Type 0} (buffer : B → Buffer) (slots : FinMap nat_cmp (Slot B)) (ops : List Operation) (e : Entry) (b : Body) →
-    QueuedFor buffer slots ops e b → is_call b ≡ true → EntryFor buffer slots e × IsAt ops e.serial InQueue
+    QueuedFor buffer slots ops e b → is_call b ≡ true → EntryFor buffer slots e × IsQueued ops e
 call-queued buffer slots ops e (Calls call) q h = q
 call-queued buffer slots ops e (Cancels key) q h = (let f : ⊥ = cc in absurd f)
 call-queued buffer slots ops e (Closes k) q h = (let f : ⊥ = cc in absurd f)
@@ -42,11 +42,15 @@ close-queued buffer slots ops e b q h is = subst (λ x. QueuedFor buffer slots o
 
 -- What an entry in the queue means is kept by all that keeps it of a call.
 pub queued-kept : {B : Type 0} (buffer : B → Buffer) (slots slots' : FinMap nat_cmp (Slot B)) (ops ops' : List Operation) (e : Entry)
-    (b : Body) → (is_call b ≡ true → EntryFor buffer slots e × IsAt ops e.serial InQueue →
-    EntryFor buffer slots' e × IsAt ops' e.serial InQueue) → QueuedFor buffer slots ops e b → QueuedFor buffer slots' ops' e b
+    (b : Body) → (is_call b ≡ true → EntryFor buffer slots e × IsQueued ops e → EntryFor buffer slots' e × IsQueued ops' e) →
+    QueuedFor buffer slots ops e b → QueuedFor buffer slots' ops' e b
 queued-kept buffer slots slots' ops ops' e (Calls call) go q = go refl q
 queued-kept buffer slots slots' ops ops' e (Cancels key) go q = q
 queued-kept buffer slots slots' ops ops' e (Closes h) go q = q
+
+-- Where what is queued is.
+pub queued-at : (ops : List Operation) (e : Entry) → IsQueued ops e → IsAt ops e.serial InQueue
+queued-at ops e a = record { operation = a.operation; there = a.there; stays = a.stays }
 
 -- Where what is in flight is.
 pub flown-at : (ops : List Operation) (f : Flight) → IsFlown ops f → IsAt ops f.entry.serial InFlight
@@ -65,20 +69,6 @@ pub close-flown : {B : Type 0} (buffer : B → Buffer) (slots : FinMap nat_cmp (
 close-flown buffer slots ops f (Calls call) q h = (let f : ⊥ = cc in absurd f)
 close-flown buffer slots ops f (Cancels key) q h = absurd q
 close-flown buffer slots ops f (Closes k) q h = (let w = ap (λ e. e.word) q.0 in omega (arith, w))
-
--- What is in flight isn't bound.
-pub free-flown : {B : Type 0} (buffer : B → Buffer) (slots : FinMap nat_cmp (Slot B)) (ops : List Operation) (f : Flight) (b : Body) →
-    FlightFor buffer slots ops f b → f.bound ≡ false
-free-flown buffer slots ops f (Calls call) q = q.1.free
-free-flown buffer slots ops f (Cancels key) q = absurd q
-free-flown buffer slots ops f (Closes k) q = q.3
-
--- What stands in the queue binds nothing.
-pub unlinked-queued : {B : Type 0} (buffer : B → Buffer) (slots : FinMap nat_cmp (Slot B)) (ops : List Operation) (e : Entry) (b : Body) →
-    QueuedFor buffer slots ops e b → binds_next e b ≡ false
-unlinked-queued buffer slots ops e (Calls call) q = q.0.unlinked
-unlinked-queued buffer slots ops e (Cancels key) q = refl
-unlinked-queued buffer slots ops e (Closes k) q = refl
 
 -- What an entry in flight means is kept by all that keeps it of a call, also where the mark of a call changes.
 pub flight-kept : {B : Type 0} (buffer : B → Buffer) (slots slots' : FinMap nat_cmp (Slot B)) (ops ops' : List Operation) (f : Flight)
@@ -116,10 +106,21 @@ pub done-reserved : (xs : List Completion) (c : Completion) (word : ℕ) → tar
 done-reserved xs c word h = flat_map-append done_items_of xs (c ∷ []) ∙ ap (λ t. flat_map done_items_of xs ++ (done_items_in c t ++ [])) h
     ∙ append-nil (flat_map done_items_of xs)
 
--- The operation of a number is at the place where it was, and its cancel was taken exactly where it was.
+-- An operation is at the place where the other is, its cancel was taken exactly where the other's was, it is linked exactly where the other
+-- is, and it waits for the same one.
+pub record StaysOp (o p : Operation) : Type 0 where
+  pub place : p.place ≡ o.place
+  pub canceled : p.canceled ≡ o.canceled
+  pub linked : p.linked ≡ o.linked
+  pub waits_for : p.waits_for ≡ o.waits_for
+
+-- It and itself.
+pub stays-own : (o : Operation) → StaysOp o o
+stays-own o = record { place = refl; canceled = refl; linked = refl; waits_for = refl }
+
+-- The operation of a number stays so.
 abbrev pub KeepsOp : List Operation → List Operation → ℕ → Type 0
-KeepsOp ops ops' n = (o : Operation) → slice_get ops n ≡ Some o →
-    (p : Operation) × (slice_get ops' n ≡ Some p) × (p.place ≡ o.place) × (p.canceled ≡ o.canceled)
+KeepsOp ops ops' n = (o : Operation) → slice_get ops n ≡ Some o → (p : Operation) × (slice_get ops' n ≡ Some p) × StaysOp o p
 
 -- A slot of a number stays at its key, with its number and its request.
 abbrev pub KeepsSlot : {B : Type 0} → FinMap nat_cmp (Slot B) → FinMap nat_cmp (Slot B) → ℕ → Type 0
@@ -134,15 +135,24 @@ module _ {B : Type 0} (buffer : B → Buffer) (slots slots' : FinMap nat_cmp (Sl
         there = u.1;
         serial = u.2 ∙ E.serial;
         call = E.call ∙ ap (λ r. Calls (call_of (plain_request buffer r))) (sym u.3);
-        unlinked = E.unlinked;
       })
 
   pub at-kept : (n : ℕ) (p : Place) → KeepsOp ops ops' n → IsAt ops n p → IsAt ops' n p
-  at-kept n p keeps a = (let o = keeps a.operation a.there in record { operation = o.0; there = o.1; stays = o.2 ∙ a.stays })
+  at-kept n p keeps a = (let o = keeps a.operation a.there in record { operation = o.0; there = o.1; stays = o.2.place ∙ a.stays })
+
+  pub link-kept : (e : Entry) → KeepsOp ops ops' e.serial → IsQueued ops e → IsQueued ops' e
+  link-kept e keeps a = (let o = keeps a.operation a.there in
+      record { operation = o.0; there = o.1; stays = o.2.place ∙ a.stays; linked = a.linked ∙ sym o.2.linked })
 
   pub flown-kept : (f : Flight) → KeepsOp ops ops' f.entry.serial → IsFlown ops f → IsFlown ops' f
   flown-kept f keeps a = (let o = keeps a.operation a.there in
-      record { operation = o.0; there = o.1; stays = o.2 ∙ a.stays; marked = a.marked ∙ sym o.3; free = a.free })
+      record {
+        operation = o.0;
+        there = o.1;
+        stays = o.2.place ∙ a.stays;
+        marked = a.marked ∙ sym o.2.canceled;
+        bound = a.bound ∙ ap is_some (sym o.2.waits_for);
+      })
 
   pub completion-kept : (c : Completion) → KeepsSlot slots slots' c.serial → CompletionFor slots c → CompletionFor slots' c
   completion-kept c keeps C = (let u = keeps c.word C.slot C.there C.serial in record { slot = u.0; there = u.1; serial = u.2 ∙ C.serial })
@@ -161,8 +171,8 @@ module _ {B : Type 0} (buffer : B → Buffer) (slots slots' : FinMap nat_cmp (Sl
         flying = old.flying;
         done = old.done;
         in_queue = λ i e h. queued-kept buffer slots slots' L.ops ops' e e.body
-            (λ q a. (let k = in_queue e.serial (at e.serial InQueue a.1) in
-            (entry-kept e k.0 a.0, at-kept e.serial InQueue k.1 (at e.serial InQueue a.1)))) (old.in_queue i e h);
+            (λ q a. (let b = subst (λ x. IsQueued x e) same a.1 in let k = in_queue e.serial (queued-at ops e b) in
+            (entry-kept e k.0 a.0, link-kept e k.1 b))) (old.in_queue i e h);
         in_flight = λ i f h. flight-kept buffer slots slots' L.ops ops' f f.marked f.entry.body (λ _. refl)
             (λ q a. (let b = subst (λ x. IsFlown x f) same a.1 in let k = in_flight f.entry.serial (flown-at ops f b) in
             (entry-kept f.entry k.0 a.0, flown-kept f k.1 b))) (old.in_flight i f h);

@@ -1,6 +1,6 @@
 -- Holders and closes stand for those of a ledger, once an operation or a user left.
 use Rattle.std.proofs.Common.{◌≡◌, ◌∙◌, inl, inr, ℕ, zero, suc, ◌+◌, ◌-◌, ◌<◌, ◌≤◌, Bool, true, false, not, ◌==◌}
-use Rattle.std.proofs.Common.{List, [], ◌∷◌, length, map, Some, refl, sym, ap, subst, arith, IsTrue, if◌then◌else◌}
+use Rattle.std.proofs.Common.{List, [], ◌∷◌, length, map, Some, refl, sym, ap, subst, arith, IsTrue, if◌then◌else◌, Option, None}
 use Rattle.std.specs.Prelude.{◌||◌, ◌&&◌, is_some, nat_lt, slice_get}
 use Rattle.std.proofs.Math.Bool.{or-false, or_assoc}
 use Rattle.std.proofs.lemmas.Bool.{or_right}
@@ -16,8 +16,8 @@ use Rattle.ring_core.specs.Entry.{close_entry}
 use Rattle.ring_core.specs.Ring.{RingView}
 use Rattle.ring_core.specs.Ledger.{Ledger, Operation, Queued, Req, Cancel, Place, InQueue, InFlight, InDone, Reaped, Gone}
 use Rattle.ring_core.specs.Ledger.{is_live, is_owned}
-use Rattle.ring_core.specs.Queue.{at_place, canceled_at, with_cancel, take_one, take_each, take_all, push, push_each, with_gone}
-use Rattle.ring_core.specs.Queue.{leave, became_unheld}
+use Rattle.ring_core.specs.Queue.{canceled_at, with_take, with_cancel, take_one, leader_behind, take_behind, take_all, push, push_each}
+use Rattle.ring_core.specs.Queue.{with_gone, leave, became_unheld}
 use Rattle.ring_core.specs.Closes.{close_count, closes_queued, is_closing}
 use Rattle.ring_core.proofs.Numbers.{same-or-not, equal-other}
 use Rattle.ring_core.proofs.Closing.{count-push_each}
@@ -112,20 +112,20 @@ owned-canceled (Reaped outcome) o = refl
 owned-canceled Gone o = refl
 
 -- Taking one entry leaves which operations are their user's.
-owned-take_one : (L : Ledger) (entry : Queued) → AreLive L.ops (entry ∷ []) →
-    numbers_where is_owned 0 (take_one L entry).ops ≡ numbers_where is_owned 0 L.ops
-owned-take_one L (Req n) requests =
-    where-kept is_owned (at_place InFlight) L.ops n 0 (λ o there. ap (λ b. b && not o.dropped) (sym (requests.live 0 n o refl there)))
-owned-take_one L (Cancel n) requests = where-kept is_owned with_cancel L.ops n 0 (λ o there. owned-canceled o.place o)
-owned-take_one L (Queued.Close h) requests = refl
+owned-take_one : (leader : Option ℕ) (L : Ledger) (entry : Queued) → AreLive L.ops (entry ∷ []) →
+    numbers_where is_owned 0 (take_one leader L entry).ops ≡ numbers_where is_owned 0 L.ops
+owned-take_one leader L (Req n) requests =
+    where-kept is_owned (with_take leader) L.ops n 0 (λ o there. ap (λ b. b && not o.dropped) (sym (requests.live 0 n o refl there)))
+owned-take_one leader L (Cancel n) requests = where-kept is_owned with_cancel L.ops n 0 (λ o there. owned-canceled o.place o)
+owned-take_one leader L (Queued.Close h) requests = refl
 
--- Taking entries does.
-owned-take_each : (L : Ledger) (entries : List Queued) → AreLive L.ops entries →
-    numbers_where is_owned 0 (take_each L entries).ops ≡ numbers_where is_owned 0 L.ops
-owned-take_each L [] requests = refl
-owned-take_each L (entry ∷ entries) requests =
-    owned-take_each (take_one L entry) entries (live-take_one L entry entries requests)
-    ∙ owned-take_one L entry (record { live = λ place n o asks there. first-live place n o asks there })
+-- Taking entries does, whatever the first of them follows.
+owned-take_behind : (leader : Option ℕ) (L : Ledger) (entries : List Queued) → AreLive L.ops entries →
+    numbers_where is_owned 0 (take_behind leader L entries).ops ≡ numbers_where is_owned 0 L.ops
+owned-take_behind leader L [] requests = refl
+owned-take_behind leader L (entry ∷ entries) requests =
+    owned-take_behind (leader_behind L entry) (take_one leader L entry) entries (live-take_one leader L entry entries requests)
+    ∙ owned-take_one leader L entry (record { live = λ place n o asks there. first-live place n o asks there })
   where
     first-live : (place n : ℕ) (o : Operation) → slice_get (entry ∷ []) place ≡ Some (Req n) → slice_get L.ops n ≡ Some o → is_live o ≡ true
     first-live zero n o asks there = requests.live 0 n o asks there
@@ -134,7 +134,7 @@ owned-take_each L (entry ∷ entries) requests =
 -- Making room does.
 owned-made : (b : Bool) (L : Ledger) → AreLive L.ops L.queue →
     numbers_where is_owned 0 (if b then take_all L else L).ops ≡ numbers_where is_owned 0 L.ops
-owned-made true L requests = owned-take_each (record L { queue = [] }) L.queue requests
+owned-made true L requests = owned-take_behind None (record L { queue = [] }) L.queue requests
 owned-made false L requests = refl
 
 -- Pushing an entry leaves which operations are their user's.

@@ -28,6 +28,8 @@ mod Joining
 mod Flights
 mod Finishing
 mod Executing
+mod Loosing
+mod Releasing
 mod ExecutingCloses
 mod Storing
 mod Executions

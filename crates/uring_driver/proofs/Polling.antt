@@ -136,7 +136,8 @@ module _ {R B : Type 0} (view : R → RingView) (buffer : B → Buffer) (d new :
       let means = subst (λ x. Means buffer (pending_ring view x) new.slots.values M) (sym ring)
       (subst (λ x. Means buffer (pending_ring view d.ring) x M) (sym slots)
       (means-changed buffer (pending_ring view d.ring) d.slots.values L key s (polled s.life task) (with_task task) o
-      (means-of old) there my.fit.there (λ p. (refl, refl)) fits)) in
+      (means-of old) there my.fit.there
+      (λ p. record { place = refl; canceled = refl; linked = refl; waits_for = refl }) fits)) in
       let e = step-poll-waiting L s.serial task o my.fit.there my.owned w in
       let capacity = ap (λ p. (view p.ring).capacity) ring in
       answers-parts view buffer d new L M (Poll s.serial task) Pending old e capacity means

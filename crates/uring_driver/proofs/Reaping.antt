@@ -29,7 +29,7 @@ use Rattle.driver_core.proofs.Completing.{named-flying, slots-flying}
 use Rattle.driver_core.proofs.Lists.{some}
 use Rattle.driver_core.proofs.Maps.{remove-put}
 use Rattle.driver_core.proofs.Slots.{slots-replaced, other-slot, slots-freed, other-left}
-use Rattle.uring_driver.proofs.Kept.{KeepsOp, KeepsSlot, lists-kept}
+use Rattle.uring_driver.proofs.Kept.{stays-own, KeepsOp, KeepsSlot, lists-kept}
 
 -- A completion names an operation, and so many tasks.
 pub record Names (named : Option (ℕ × Option ℕ)) (number : ℕ) (tasks : List ℕ) : Type 0 where
@@ -212,7 +212,7 @@ module _ {B : Type 0} (buffer : B → Buffer) (v : RingView) (slots : FinMap nat
   )
 
   op-kept : (f : Operation → Operation) (n : ℕ) → n ≢ c.serial → KeepsOp L.ops (amended L.ops c.serial f) n
-  op-kept f n q p h = (p, get-amended-other f L.ops c.serial n q ∙ h, refl, refl)
+  op-kept f n q p h = (p, get-amended-other f L.ops c.serial n q ∙ h, stays-own p)
 
   not-this : (n : ℕ) (p : Place) → IsAt L.ops n p → p ≢ InDone c.outcome → n ≢ c.serial
   not-this n p a h e = h (sym a.stays ∙ ap (λ x. x.place) (some a.operation o (slice_get L.ops n) a.there (ap (slice_get L.ops) e ∙ which))

@@ -16,7 +16,7 @@ use Rattle.ring_core.specs.declared.ledger.Event.TheVariants.{FeedMessage, NewCa
 use Rattle.ring_core.specs.declared.ledger.Reply.TheVariants.{Handle, Fed, Ended, Submitted, Pending, Handed, Dropped, Asked}
 use Rattle.ring_core.specs.declared.ledger.Reply.TheVariants.{Released, CanceledAtOnce, Canceller, CancelHandle, Cancels}
 use Rattle.ring_core.specs.declared.ledger.Refusal.{Refusal}
-use Rattle.ring_core.specs.declared.ledger.Refusal.TheVariants.{NoOp, NoCanceller, NoHandle, Full, NotFlying, BadOutcome}
+use Rattle.ring_core.specs.declared.ledger.Refusal.TheVariants.{NoOp, NoCanceller, NoHandle, Full, NotFlying, Waiting, BadOutcome}
 use Rattle.ring_core.specs.declared.ledger.Refusal.TheVariants.{BadHandleEvent}
 use Rattle.ring_core.specs.Lists.{passes}
 use Rattle.ring_core.specs.Outcome.{is_allowed}
@@ -25,7 +25,7 @@ use Rattle.ring_core.specs.World.{fresh, with_input, with_message, with_end, loo
 use Rattle.ring_core.specs.Ledger.{Ledger, Operation, Place, InQueue, InFlight, InDone, Reaped, Gone, Cancel, Item, Op, is_owned}
 use Rattle.ring_core.specs.Ledger.{live_ops, user_holds, empty, is_under_marked, group_under, members}
 use Rattle.ring_core.specs.Queue.{with_op, push, leave}
-use Rattle.ring_core.specs.Refusal.{cause, refused_if, lacks_handle, allowed, has_no_canceller}
+use Rattle.ring_core.specs.Refusal.{cause, refused_if, lacks_handle, allowed, waits, has_no_canceller}
 use Rattle.ring_core.specs.declared.ledger.TheConstants.{MOST_LIVE}
 use Rattle.ring_core.specs.Turn.{turn_step, exec_step}
 use Rattle.ring_core.specs.Step.{step, answered, give_step, poll_at, poll_step, drop_at, drop_step, submit_step, with_handle, with_task}
@@ -122,30 +122,31 @@ abbrev submit-cause : Bool → Bool → Bool → Bool → Option Refusal
 submit-cause unknown lacks marked full =
     refused_if unknown NoCanceller (refused_if lacks NoHandle (refused_if (not marked && full) Full None))
 
-module _ (L : Ledger) (r : Request Buffer Parts) (handle : Option ℕ) (here : has_no_canceller L (Submit r handle) ≡ false)
-    (user : lacks_handle L (named r) ≡ false) where
+module _ (L : Ledger) (r : Request Buffer Parts) (handle : Option ℕ) (linked : Bool)
+    (here : has_no_canceller L (Submit r handle linked) ≡ false) (user : lacks_handle L (named r) ≡ false) where
   abbrev full : Bool
   full = nat_le MOST_LIVE (length (live_ops L))
 
   -- A submission of handles that the user holds, under a cancel handle that was created or under none, is refused only where there are too
   -- many operations, and it isn't under a marked group.
   submit-unrefused : (marked : Bool) → is_under_marked L handle ≡ marked →
-      cause L (Submit r handle) ≡ refused_if (not marked && full) Full None
+      cause L (Submit r handle linked) ≡ refused_if (not marked && full) Full None
   submit-unrefused marked is =
       ap (λ b. submit-cause b (lacks_handle L (named r)) (is_under_marked L handle) full) here
       ∙ ap (λ b. submit-cause false b (is_under_marked L handle) full) user ∙ ap (λ b. submit-cause false false b full) is
 
   -- It is submitted where there is room for one more, and its group isn't marked.
   pub step-submit : is_under_marked L handle ≡ false → full ≡ false →
-      step L (Submit r handle) ≡ (submit_step L r (group_under L handle), Submitted (length L.ops))
+      step L (Submit r handle linked) ≡ (submit_step L r (group_under L handle) linked, Submitted (length L.ops))
   step-submit unmarked room =
-      step-row L (Submit r handle) (submit-unrefused false unmarked ∙ ap (λ b. refused_if b Full None) room)
-      ∙ ap (λ b. submit_if b L r (group_under L handle)) unmarked
+      step-row L (Submit r handle linked) (submit-unrefused false unmarked ∙ ap (λ b. refused_if b Full None) room)
+      ∙ ap (λ b. submit_if b L r (group_under L handle) linked) unmarked
 
   -- Under a marked group nothing is submitted.
-  pub step-canceled : is_under_marked L handle ≡ true → step L (Submit r handle) ≡ (L, CanceledAtOnce (held_of r))
+  pub step-canceled : is_under_marked L handle ≡ true → step L (Submit r handle linked) ≡ (L, CanceledAtOnce (held_of r))
   step-canceled marked =
-      step-row L (Submit r handle) (submit-unrefused true marked) ∙ ap (λ b. submit_if b L r (group_under L handle)) marked
+      step-row L (Submit r handle linked) (submit-unrefused true marked)
+      ∙ ap (λ b. submit_if b L r (group_under L handle) linked) marked
 
 -- A new canceller is never refused.
 pub step-canceller : (L : Ledger) → step L NewCanceller ≡ (new_canceller_step L, Canceller (length L.cancellers))
@@ -228,34 +229,41 @@ pub step-close : (L : Ledger) (h : ℕ) → user_holds L h ≡ true → step L (
 unfolding step
 step-close L h user = ap (λ b. answered (refused_if (not b || false) NoHandle None) L (Close h)) user
 
--- An execution is refused by what is in flight, and by the outcome of what is at the place.
-abbrev exec-cause : Bool → Bool → Option Refusal
-exec-cause past allows = refused_if past NotFlying (refused_if (not allows) BadOutcome None)
+-- An execution is refused by what is in flight, by whether what is at the place waits, and by the outcome.
+abbrev exec-cause : Bool → Bool → Bool → Option Refusal
+exec-cause past waiting allows = refused_if past NotFlying (refused_if waiting Waiting (refused_if (not allows) BadOutcome None))
 
 -- The cause of an execution at a place where something is in flight.
-cause-exec : (L : Ledger) (place : ℕ) (told : Told) (item : Item) (allows : Bool) → slice_get L.flying place ≡ Some item →
-    allowed L item told ≡ allows → cause L (Exec place told) ≡ exec-cause false allows
-cause-exec L place told item allows there is =
-    ap (λ b. exec-cause b (passes (λ x. allowed L x told) (slice_get L.flying place)))
+cause-exec : (L : Ledger) (place : ℕ) (told : Told) (item : Item) (waiting allows : Bool) → slice_get L.flying place ≡ Some item →
+    waits L item ≡ waiting → allowed L item told ≡ allows → cause L (Exec place told) ≡ exec-cause false waiting allows
+cause-exec L place told item waiting allows there awaits is =
+    ap (λ b. exec-cause b (passes (waits L) (slice_get L.flying place)) (passes (λ x. allowed L x told) (slice_get L.flying place)))
     (lt-leb (length L.flying) place (slice_get_within L.flying place item there))
-    ∙ ap (λ x. exec-cause false (passes (λ y. allowed L y told) x)) there ∙ ap (exec-cause false) is
+    ∙ ap (λ x. exec-cause false (passes (waits L) x) (passes (λ y. allowed L y told) x)) there
+    ∙ ap (λ b. exec-cause false b (allowed L item told)) awaits ∙ ap (exec-cause false waiting) is
 
--- An execution of an allowed outcome is not refused.
+-- An execution of what waits is refused.
+pub cause-waiting : (L : Ledger) (place : ℕ) (told : Told) (item : Item) → slice_get L.flying place ≡ Some item → waits L item ≡ true →
+    cause L (Exec place told) ≡ Some Waiting
+cause-waiting L place told item there awaits = cause-exec L place told item true (allowed L item told) there awaits refl
+
+-- An execution of an allowed outcome is not refused, where what is at the place doesn't wait.
 pub unrefused-exec : (L : Ledger) (place : ℕ) (told : Told) (item : Item) → slice_get L.flying place ≡ Some item →
-    allowed L item told ≡ true → cause L (Exec place told) ≡ None
-unrefused-exec L place told item there allows = cause-exec L place told item true there allows
+    waits L item ≡ false → allowed L item told ≡ true → cause L (Exec place told) ≡ None
+unrefused-exec L place told item there free allows = cause-exec L place told item false true there free allows
 
 -- It is that of the item.
 pub step-exec : (L : Ledger) (place : ℕ) (told : Told) (item : Item) → slice_get L.flying place ≡ Some item →
-    allowed L item told ≡ true → step L (Exec place told) ≡ exec_step L place told (Some item)
+    waits L item ≡ false → allowed L item told ≡ true → step L (Exec place told) ≡ exec_step L place told (Some item)
 unfolding step
-step-exec L place told item there allows =
-    ap (λ why. answered why L (Exec place told)) (unrefused-exec L place told item there allows) ∙ ap (exec_step L place told) there
+step-exec L place told item there free allows =
+    ap (λ why. answered why L (Exec place told)) (unrefused-exec L place told item there free allows)
+    ∙ ap (exec_step L place told) there
 
 -- An execution of an outcome that isn't allowed is refused.
 pub cause-outcome : (L : Ledger) (place : ℕ) (told : Told) (item : Item) → slice_get L.flying place ≡ Some item →
-    allowed L item told ≡ false → cause L (Exec place told) ≡ Some BadOutcome
-cause-outcome L place told item there forbids = cause-exec L place told item false there forbids
+    waits L item ≡ false → allowed L item told ≡ false → cause L (Exec place told) ≡ Some BadOutcome
+cause-outcome L place told item there free forbids = cause-exec L place told item false false there free forbids
 
 -- An outcome is allowed to an operation in flight as it is to its call.
 pub allowed-op : (L : Ledger) (n : ℕ) (told : Told) (o : Operation) → slice_get L.ops n ≡ Some o →
@@ -265,5 +273,5 @@ allowed-op L n told o which = ap (passes (λ operation. is_allowed L.world opera
 -- An execution past what is in flight is refused.
 pub cause-flying : (L : Ledger) (place : ℕ) (told : Told) → length L.flying ≤ place → cause L (Exec place told) ≡ Some NotFlying
 cause-flying L place told h =
-    ap (λ b. refused_if b NotFlying (refused_if (not (passes (λ item. allowed L item told) (slice_get L.flying place))) BadOutcome None))
+    ap (λ b. exec-cause b (passes (waits L) (slice_get L.flying place)) (passes (λ item. allowed L item told) (slice_get L.flying place)))
     (le-leb (length L.flying) place h)

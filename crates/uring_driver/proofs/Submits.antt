@@ -21,9 +21,9 @@ use Rattle.ring_core.specs.declared.entry.Entry.{Entry}
 use Rattle.ring_core.specs.declared.ledger.Event.TheVariants.{Submit}
 use Rattle.ring_core.specs.declared.ledger.Reply.TheVariants.{Submitted, CanceledAtOnce}
 use Rattle.ring_core.specs.Lists.{numbers_where, passes}
-use Rattle.ring_core.specs.Ledger.{Ledger, Queued, Req, Cancel, Operation, InFlight, is_live, is_owned, live_ops, new_operation}
+use Rattle.ring_core.specs.Ledger.{Ledger, Queued, Req, Cancel, Operation, is_live, is_owned, live_ops, new_operation}
 use Rattle.ring_core.specs.Ledger.{is_marked, is_under_marked, group_under}
-use Rattle.ring_core.specs.Queue.{take_one, take_each, take_all, make_room, append, push, at_place, with_cancel}
+use Rattle.ring_core.specs.Queue.{with_take, with_cancel, take_one, leader_behind, take_behind, take_all, make_room, append, push}
 use Rattle.ring_core.specs.declared.ledger.TheConstants.{MOST_LIVE}
 use Rattle.ring_core.specs.Step.{step, submit_step, with_new_op}
 use Rattle.ring_core.proofs.Grouping.{op_groups, groups-submit}
@@ -50,7 +50,8 @@ use Rattle.driver_core.specs.Operations.{Submits, new_slot}
 use Rattle.uring_driver.specs.Submissions.{with_spare, room_made}
 use Rattle.uring_driver.specs.Stands.{Stands, Answers}
 use Rattle.uring_driver.specs.Submitted.{IsSameRing, WhyRefused, CannotSubmit}
-use Rattle.ring_core.proofs.Amended.{amended-append, amended-append-fixed}
+use Rattle.ring_core.proofs.Amended.{amended-append, amended-append-fixed, length-amended}
+use Rattle.ring_core.proofs.Appended.{get-append-within}
 use Rattle.driver_core.proofs.Counts.{where-more, where-within, owned-lives}
 use Rattle.uring_driver.proofs.Means.{Means, means-of, ring-of}
 use Rattle.uring_driver.proofs.Entering.{room-capacity}
@@ -61,7 +62,7 @@ use Rattle.uring_driver.proofs.Steps.{reached-more, step-submit, step-canceled}
 use Rattle.uring_driver.proofs.Submitting.{means-pushed}
 use Rattle.uring_driver.proofs.Heads.{means-view}
 use Rattle.uring_driver.proofs.Taking.{means-room, owned-room}
-use Rattle.ring_core.proofs.Taken.{length-take_each, length-make_room}
+use Rattle.ring_core.proofs.Taken.{length-make_room}
 
 -- A request in the queue is that of an operation that there is.
 abbrev IsKnown : ℕ → Queued → Type 0
@@ -83,26 +84,41 @@ if-new_op false L M o = refl
 -- Taking leaves an operation that isn't in the queue and has no cancel that does anything.
 module _ (o : Operation) (fixed : with_cancel o ≡ o) where
   -- Taking one entry leaves such an operation.
-  take_one-new_op : (L : Ledger) (q : Queued) → IsKnown (length L.ops) q → take_one (with_new_op L o) q ≡ with_new_op (take_one L q) o
-  take_one-new_op L (Req n) h = ap (λ ops. record (take_one L (Req n)) { ops = ops })
-      (amended-append L.ops (o ∷ []) n (at_place InFlight) h)
-  take_one-new_op L (Cancel n) h = ap (λ ops. record L { ops = ops }) (amended-append-fixed L.ops o n with_cancel fixed)
-  take_one-new_op L (Queued.Close k) h = refl
+  take_one-new_op : (leader : Option ℕ) (L : Ledger) (q : Queued) → IsKnown (length L.ops) q →
+      take_one leader (with_new_op L o) q ≡ with_new_op (take_one leader L q) o
+  take_one-new_op leader L (Req n) h = ap (λ ops. record (take_one leader L (Req n)) { ops = ops })
+      (amended-append L.ops (o ∷ []) n (with_take leader) h)
+  take_one-new_op leader L (Cancel n) h = ap (λ ops. record L { ops = ops }) (amended-append-fixed L.ops o n with_cancel fixed)
+  take_one-new_op leader L (Queued.Close k) h = refl
 
-  -- Taking entries leaves it.
-  take_each-new_op : (L : Ledger) (qs : List Queued) → AllKnown (length L.ops) qs →
-      take_each (with_new_op L o) qs ≡ with_new_op (take_each L qs) o
-  take_each-new_op L [] h = refl
-  take_each-new_op L (q ∷ qs) h =
-      ap (λ M. take_each M qs) (take_one-new_op L q h.0)
-      ∙ take_each-new_op (take_one L q) qs (subst (λ k. AllKnown k qs) (sym (length-take_each L (q ∷ []))) h.1)
+  -- An entry leads whom it led.
+  leader-new_op : (L : Ledger) (q : Queued) → IsKnown (length L.ops) q → leader_behind (with_new_op L o) q ≡ leader_behind L q
+  leader-new_op L (Req n) h = ap (λ x. if passes (λ operation. operation.linked) x then Some n else None) (get-append-within L.ops o n h)
+  leader-new_op L (Cancel n) h = refl
+  leader-new_op L (Queued.Close k) h = refl
+
+  -- Taking one entry adds no operation.
+  length-take_one : (leader : Option ℕ) (L : Ledger) (q : Queued) → length (take_one leader L q).ops ≡ length L.ops
+  length-take_one leader L (Req n) = length-amended (with_take leader) L.ops n
+  length-take_one leader L (Cancel n) = length-amended with_cancel L.ops n
+  length-take_one leader L (Queued.Close k) = refl
+
+  -- Taking entries leaves the operation, whatever the first of them follows.
+  take_behind-new_op : (leader : Option ℕ) (L : Ledger) (qs : List Queued) → AllKnown (length L.ops) qs →
+      take_behind leader (with_new_op L o) qs ≡ with_new_op (take_behind leader L qs) o
+  take_behind-new_op leader L [] h = refl
+  take_behind-new_op leader L (q ∷ qs) h =
+      ap (λ next. take_behind next (take_one leader (with_new_op L o) q) qs) (leader-new_op L q h.0)
+      ∙ ap (λ M. take_behind (leader_behind L q) M qs) (take_one-new_op leader L q h.0)
+      ∙ take_behind-new_op (leader_behind L q) (take_one leader L q) qs
+      (subst (λ k. AllKnown k qs) (sym (length-take_one leader L q)) h.1)
 
   -- A push after the operation was appended is the operation appended after room was made, then the entry.
   push-new_op : (L : Ledger) (q : Queued) → AllKnown (length L.ops) L.queue → push (with_new_op L o) q
       ≡ append (with_new_op (make_room L) o) q
   push-new_op L q h =
       ap (λ M. append (if length L.queue == L.capacity then M else with_new_op L o) q)
-      (take_each-new_op (record L { queue = [] }) L.queue h)
+      (take_behind-new_op None (record L { queue = [] }) L.queue h)
       ∙ ap (λ M. append M q) (if-new_op (length L.queue == L.capacity) L (take_all L) o)
 
 -- What is queued was given before.
@@ -130,88 +146,90 @@ under-marked m L (Some g) handle stand is within = ap (λ x. passes (is_marked L
 
 module _ {R B : Type 0} (view : R → RingView) (buffer : B → Buffer) where
   -- Under a canceled group the driver stays, and the machine's reply is what the request holds.
-  pub stands-canceled : (d : IoUringDriver R B) (L : Ledger) (request : Request B Parts) (under handle : Option ℕ) →
+  pub stands-canceled : (d : IoUringDriver R B) (L : Ledger) (request : Request B Parts) (under handle : Option ℕ) (linked : Bool) →
       Stands view buffer d L → IsTrue (holds_all d (named request)) → IsUnder L under handle →
       IfSome under (λ g. g < length d.members.groups) → is_under_canceled d.members under ≡ true →
-      Answers view buffer L (Submit (plain_request buffer request) handle) (CanceledAtOnce (held_of (plain_request buffer request))) d
-  stands-canceled d L request under handle old user names_group within marked =
+      Answers view buffer L (Submit (plain_request buffer request) handle linked)
+      (CanceledAtOnce (held_of (plain_request buffer request))) d
+  stands-canceled d L request under handle linked old user names_group within marked =
       let r = plain_request buffer request in
       let names : named r ≡ named request = named-mapped buffer (λ parts. parts) request in
       let user' = lacks-none d L (named r) old.handles.holders.users (ap (holds_all d) names ∙ user) in
-      let s = step-canceled L r handle (under-known L r under handle names_group) user'
+      let s = step-canceled L r handle linked (under-known L r under handle linked names_group) user'
       (under-marked d.members L under handle old.groups names_group within ∙ marked) in
       record { reply_is = ap (λ x. x.1) s; stands = subst (λ K. Stands view buffer d K) (sym (ap (λ x. x.0) s)) old }
 
   -- A submission that went well answers what the machine does.
-  pub stands-submits : (d new : IoUringDriver R B) (L : Ledger) (request : Request B Parts) (under handle : Option ℕ)
+  pub stands-submits : (d new : IoUringDriver R B) (L : Ledger) (request : Request B Parts) (under handle : Option ℕ) (linked : Bool)
       (key spare spare' : ℕ) (mid : RingView) (held : Holding) →
       Stands view buffer d L → IsTrue (holds_all d (named request)) → len d.slots.values < MAX_LIVE → get d.slots.values key ≡ None →
       key < MAX_LIVE →
       new.slots.values ≡ insert d.slots.values key (record { serial = d.given; request = request; life = Fresh }) →
       mid ≡ with_spare (room_made (whole_ring view d)) spare → length mid.queue < mid.capacity →
       whole_ring view new
-      ≡ with_spare (pushed mid (call_entry key d.given false (call_of (plain_request buffer request)))) spare' →
+      ≡ with_spare (pushed mid (call_entry key d.given linked (call_of (plain_request buffer request)))) spare' →
       IsSameHolding d.holding held → len d.slots.values + (places held + one_if (makes request)) + 1 ≤ room_in new →
       CanJoin held.table (named request) → new.given ≡ d.given + 1 → new.holding ≡ op_joined held (named request) (makes request) →
       IsUnder L under handle → IfSome under (λ g. g < length d.members.groups) → is_under_canceled d.members under ≡ false →
       (op : Op) → op.number ≡ d.given → AddsToken (ops_in d) (ops_in new) op →
       new.members ≡ joins_if d.members under op.number op.key →
-      Answers view buffer L (Submit (plain_request buffer request) handle) (Submitted op.number) new
-  stands-submits d new L request under handle key spare spare' mid held old user few free below put made has_room ring same_held more can
-      given holding names_group within unmarked op is adds members =
+      Answers view buffer L (Submit (plain_request buffer request) handle linked) (Submitted op.number) new
+  stands-submits d new L request under handle linked key spare spare' mid held old user few free below put made has_room ring same_held
+      more can given holding names_group within unmarked op is adds members =
       let r = plain_request buffer request in
       let v = whole_ring view d in
       let before = means-of old in
-      let entry : Entry = call_entry key d.given false (call_of r) in
+      let entry : Entry = call_entry key d.given linked (call_of r) in
       let names : named r ≡ named request = named-mapped buffer (λ parts. parts) request in
       let user' = lacks-none d L (named r) old.handles.holders.users (ap (holds_all d) names ∙ user) in
-      let s = step-submit L r handle (under-known L r under handle names_group) user'
+      let s = step-submit L r handle linked (under-known L r under handle linked names_group) user'
       (under-marked d.members L under handle old.groups names_group within ∙ unmarked)
       (is-room (length (live_ops L)) (subst (λ n. n < MAX_LIVE) old.operations.in_slots.counted few))
-      ∙ ap (λ g. (submit_step L r g, Submitted (length L.ops))) (under-group L under handle names_group) in
+      ∙ ap (λ g. (submit_step L r g linked, Submitted (length L.ops))) (under-group L under handle names_group) in
       let M = make_room L in
-      let order : submit_step L r under ≡ append (with_new_op M (new_operation r under)) (Req d.given) =
-      push-new_op (new_operation r under) refl L (Req (length L.ops))
+      let o = new_operation r under linked in
+      let order : submit_step L r under linked ≡ append (with_new_op M o) (Req d.given) =
+      push-new_op o refl L (Req (length L.ops))
       (all-known (length L.ops) L.queue (queue-numbers buffer v d.slots.values L before))
-      ∙ ap (λ n. append (with_new_op M (new_operation r under)) (Req n)) (sym old.operations.numbered) in
+      ∙ ap (λ n. append (with_new_op M o) (Req n)) (sym old.operations.numbered) in
       let e = s ∙ ap (λ K. (K, Submitted (length L.ops))) order in
       let long : length M.ops ≡ length L.ops = length-make_room L in
       let roomy = means-room buffer v d.slots.values L before in
       let m : Means buffer mid d.slots.values M = subst (λ x. Means buffer x d.slots.values M) (sym made)
       (means-view buffer (room_made v) (with_spare (room_made v) spare) d.slots.values M refl refl refl refl refl roomy) in
-      let p = means-pushed buffer mid d.slots.values M d.given key request under m (old.operations.numbered ∙ sym long) free below in
+      let p = means-pushed buffer mid d.slots.values M d.given key request under linked m (old.operations.numbered ∙ sym long) free below in
       let capacity : (view (ring_in new)).capacity ≡ v.capacity = ap (λ x. x.capacity) ring ∙ ap (λ x. x.capacity) made ∙ room-capacity v in
       let means = subst (λ K. Means buffer (whole_ring view new) new.slots.values K) (sym (ap (λ x. x.0) e))
-      (subst (λ x. Means buffer x new.slots.values (append (with_new_op M (new_operation r under)) (Req d.given))) (sym ring)
-      (subst (λ x. Means buffer (with_spare (pushed mid entry) spare') x (append (with_new_op M (new_operation r under)) (Req d.given)))
+      (subst (λ x. Means buffer x new.slots.values (append (with_new_op M o) (Req d.given))) (sym ring)
+      (subst (λ x. Means buffer (with_spare (pushed mid entry) spare') x (append (with_new_op M o) (Req d.given)))
       (sym put)
       (means-view buffer (pushed mid entry) (with_spare (pushed mid entry) spare')
       (insert d.slots.values key (record { serial = d.given; request = request; life = Fresh }))
-      (append (with_new_op M (new_operation r under)) (Req d.given)) refl refl refl refl refl p))) in
+      (append (with_new_op M o) (Req d.given)) refl refl refl refl refl p))) in
       let number : op.number ≡ length L.ops = is ∙ old.operations.numbered in
-      let grouped = groups-submit L r under in
+      let grouped = groups-submit L r under linked in
       record {
         reply_is = ap (λ x. x.1) s ∙ ap (λ x. Submitted x) (sym number);
         stands = record {
-          events = old.events ++ Submit r handle ∷ [];
-          reached = reached-more L (view (ring_in new)).capacity old.events (Submit r handle)
+          events = old.events ++ Submit r handle linked ∷ [];
+          reached = reached-more L (view (ring_in new)).capacity old.events (Submit r handle linked)
               (old.reached ∙ ap (λ x. ledger x old.events) (sym capacity));
           operations = record {
-            numbered = given ∙ ap (λ n. n + 1) (old.operations.numbered ∙ sym long) ∙ sym (length-append M.ops (new_operation r under ∷ []))
+            numbered = given ∙ ap (λ n. n + 1) (old.operations.numbered ∙ sym long) ∙ sym (length-append M.ops (o ∷ []))
                 ∙ ap (λ x. length x.0.ops) (sym e);
             in_slots = means.in_slots;
           };
           handles = subst (λ K. HandlesStand new.holding K) (sym (ap (λ x. x.0) e))
-              (subst (λ h. HandlesStand h (append (with_new_op M (new_operation r under)) (Req d.given)))
+              (subst (λ h. HandlesStand h (append (with_new_op M o) (Req d.given)))
               (sym (holding ∙ ap (λ hs. op_joined held hs (makes request)) (sym names)))
-              (handles-joined held L r under d.given (means-early buffer v d.slots.values L before) (makes request)
+              (handles-joined held L r under linked d.given (means-early buffer v d.slots.values L before) (makes request)
               (handles-room d.holding held L same_held old.handles)));
-          groups = subst (λ m. GroupsStand m (step L (Submit r handle)).0) (sym members)
-              (groups-joined buffer (ops_in d) (ops_in new) L (step L (Submit r handle)).0 d.members op under old.operations.in_slots
+          groups = subst (λ m. GroupsStand m (step L (Submit r handle linked)).0) (sym members)
+              (groups-joined buffer (ops_in d) (ops_in new) L (step L (Submit r handle linked)).0 d.members op under old.operations.in_slots
               means.in_slots adds (ap (λ x. groups_of x.0) s ∙ grouped.0) (ap (λ x. op_groups x.0) s ∙ grouped.1) number old.groups op.key
               within unmarked);
           room = (
-              let a = where-more is_owned M.ops (new_operation r under) refl in
+              let a = where-more is_owned M.ops o refl in
               let b = owned-room buffer v d.slots.values L before in
               let c = where-within is_owned is_live L.ops owned-lives in
               let k = old.operations.in_slots.counted in

@@ -1,6 +1,6 @@
 -- What a new operation and its entry do to a ring and slots that mean a ledger.
-use Rattle.std.proofs.Common.{◌≡◌, ◌≢◌, ◌⊎◌, inl, inr, ℕ, ◌+◌, ◌<◌, true, false, List, [], ◌∷◌, ◌++◌, length, Option, Some, None, refl, sym, ◌∙◌}
-use Rattle.std.proofs.Common.{ap, subst, arith}
+use Rattle.std.proofs.Common.{◌≡◌, ◌≢◌, ◌⊎◌, inl, inr, ℕ, ◌+◌, ◌<◌, Bool, true, List, [], ◌∷◌, ◌++◌, length, Option, Some, None, refl, sym}
+use Rattle.std.proofs.Common.{◌∙◌, ap, subst, arith}
 use Rattle.std.specs.Prelude.{slice_get}
 use Rattle.std.specs.Ordering.{nat_cmp}
 use Rattle.std.specs.FinMap.{FinMap, get, insert}
@@ -18,12 +18,13 @@ use Rattle.ring_core.specs.declared.entry.Flight.{Flight}
 use Rattle.ring_core.specs.declared.request.Request.{Request}
 use Rattle.ring_core.specs.declared.entry.Body.TheVariants.{Cancel as Cancels}
 use Rattle.ring_core.specs.Entry.{target, call_entry}
-use Rattle.ring_core.specs.Ledger.{Ledger, Req, Operation, Place, InQueue, InDone, is_live, new_operation}
+use Rattle.ring_core.specs.Ledger.{Ledger, Req, Operation, Place, InDone, is_live, new_operation}
 use Rattle.ring_core.specs.Queue.{append}
 use Rattle.ring_core.specs.Step.{with_new_op}
 use Rattle.driver_core.specs.declared.slot.Slot.{Slot}
 use Rattle.driver_core.specs.Slots.{SlotFor, SlotsStand}
-use Rattle.uring_driver.specs.Lists.{EntryFor, CompletionFor, IsAt, IsFlown, QueuedFor, CancelsMean, ListsStand, is_call, queued_of}
+use Rattle.uring_driver.specs.Lists.{EntryFor, CompletionFor, IsAt, IsQueued, IsFlown, QueuedFor, CancelsMean, ListsStand, is_call}
+use Rattle.uring_driver.specs.Lists.{queued_of}
 use Rattle.uring_driver.proofs.Means.{Means}
 use Rattle.ring_core.proofs.Numbers.{same-or-not}
 use Rattle.ring_core.proofs.Appended.{get-append-end}
@@ -34,16 +35,16 @@ use Rattle.uring_driver.proofs.Kept.{queued-kept, flight-kept, done-kept, call-q
 use Rattle.ring_core.proofs.Requests.{holding-own}
 
 module _ {B : Type 0} (buffer : B → Buffer) (w : RingView) (slots : FinMap nat_cmp (Slot B)) (M : Ledger) (given key : ℕ)
-    (request : Request B Parts) (group : Option ℕ)
+    (request : Request B Parts) (group : Option ℕ) (linked : Bool)
     (old : Means buffer w slots M) (numbered : given ≡ length M.ops) (free : get slots key ≡ None) (below : key < MAX_LIVE) where
   abbrev t : Slot B
   t = record { serial = given; request = request; life = Fresh }
 
   abbrev e : Entry
-  e = call_entry key given false (call_of (plain_request buffer request))
+  e = call_entry key given linked (call_of (plain_request buffer request))
 
   abbrev new : Operation
-  new = new_operation (plain_request buffer request) group
+  new = new_operation (plain_request buffer request) group linked
 
   abbrev ops' : List Operation
   ops' = M.ops ++ new ∷ []
@@ -65,17 +66,25 @@ module _ {B : Type 0} (buffer : B → Buffer) (w : RingView) (slots : FinMap nat
   at-kept : (n : ℕ) (p : Place) → IsAt M.ops n p → IsAt ops' n p
   at-kept n p a = record { operation = a.operation; there = get-front M.ops (new ∷ []) n a.operation a.there; stays = a.stays }
 
+  queued-stays : (x : Entry) → IsQueued M.ops x → IsQueued ops' x
+  queued-stays x a = record {
+    operation = a.operation;
+    there = get-front M.ops (new ∷ []) x.serial a.operation a.there;
+    stays = a.stays;
+    linked = a.linked;
+  }
+
   flown-kept : (x : Flight) → IsFlown M.ops x → IsFlown ops' x
   flown-kept x a = record {
     operation = a.operation;
     there = get-front M.ops (new ∷ []) x.entry.serial a.operation a.there;
     stays = a.stays;
     marked = a.marked;
-    free = a.free;
+    bound = a.bound;
   }
 
   entry-kept : (x : Entry) → EntryFor buffer slots x → EntryFor buffer (insert slots key t) x
-  entry-kept x E = record { slot = E.slot; there = kept x.word E.slot E.there; serial = E.serial; call = E.call; unlinked = E.unlinked }
+  entry-kept x E = record { slot = E.slot; there = kept x.word E.slot E.there; serial = E.serial; call = E.call }
 
   completion-kept : (c : Completion) → CompletionFor slots c → CompletionFor (insert slots key t) c
   completion-kept c C = record { slot = C.slot; there = kept c.word C.slot C.there; serial = C.serial }
@@ -167,14 +176,15 @@ module _ {B : Type 0} (buffer : B → Buffer) (w : RingView) (slots : FinMap nat
     flying = l.flying;
     done = l.done;
     in_queue = λ i x h. elim (get-pushed w.queue e i x h) [
-      | inl a ↦ queued-kept buffer slots (insert slots key t) M.ops ops' x x.body (λ _ m. (entry-kept x m.0, at-kept x.serial InQueue m.1))
+      | inl a ↦ queued-kept buffer slots (insert slots key t) M.ops ops' x x.body (λ _ m. (entry-kept x m.0, queued-stays x m.1))
           (l.in_queue i x a)
       | inr a ↦ subst (λ y. QueuedFor buffer (insert slots key t) ops' y y.body) (sym a.1) (
-        record { slot = t; there = put-same slots key t; serial = refl; call = refl; unlinked = refl },
+        record { slot = t; there = put-same slots key t; serial = refl; call = refl },
         record {
           operation = new;
           there = there-new;
           stays = refl;
+          linked = refl;
         },
       )
     ];
@@ -197,9 +207,9 @@ module _ {B : Type 0} (buffer : B → Buffer) (w : RingView) (slots : FinMap nat
     cancels = cancels-stay;
   })
 
-  pub means-pushed : Means buffer (pushed w (call_entry key given false (call_of (plain_request buffer request))))
+  pub means-pushed : Means buffer (pushed w (call_entry key given linked (call_of (plain_request buffer request))))
       (insert slots key (record { serial = given; request = request; life = Fresh }))
-      (append (with_new_op M (new_operation (plain_request buffer request) group)) (Req given))
+      (append (with_new_op M (new_operation (plain_request buffer request) group linked)) (Req given))
   means-pushed = record {
     capacity = old.capacity;
     world = old.world;

@@ -1,7 +1,7 @@
 -- What taking a call off the queue does to a ring and slots that mean a ledger.
 use Rattle.std.proofs.Common.{◌≡◌, ◌≢◌, inl, inr, ℕ, suc, Bool, true, false, List, [], ◌∷◌, ◌++◌, length, map, Option, Some, refl, sym, ◌∙◌}
 use Rattle.std.proofs.Common.{ap, subst, arith}
-use Rattle.std.specs.Prelude.{slice_get, ◌&&◌, not}
+use Rattle.std.specs.Prelude.{slice_get, is_some, ◌&&◌, not}
 use Rattle.std.specs.Ordering.{nat_cmp}
 use Rattle.std.specs.FinMap.{FinMap}
 use Rattle.std.proofs.lemmas.List.{map-append}
@@ -14,11 +14,11 @@ use Rattle.ring_core.specs.declared.entry.Entry.{Entry}
 use Rattle.ring_core.specs.declared.entry.Flight.{Flight}
 use Rattle.ring_core.specs.Entry.{target}
 use Rattle.ring_core.specs.Ledger.{Ledger, Req, Op, Operation, Place, InQueue, InFlight, InDone, is_live, is_kept, is_owned}
-use Rattle.ring_core.specs.Queue.{take_one, at_place}
+use Rattle.ring_core.specs.Queue.{take_one, with_take}
 use Rattle.ring_core.proofs.Amended.{get-amended-same, get-amended-other}
 use Rattle.driver_core.specs.declared.slot.Slot.{Slot}
 use Rattle.driver_core.specs.Slots.{SlotFor, life_of, is_early}
-use Rattle.uring_driver.specs.Lists.{EntryFor, IsAt, IsFlown, FlightFor, Meets, ListsStand, is_call, queued_of, item_in, item_of}
+use Rattle.uring_driver.specs.Lists.{EntryFor, IsAt, IsQueued, IsFlown, FlightFor, Meets, ListsStand, is_call, queued_of, item_in, item_of}
 use Rattle.uring_driver.proofs.Means.{Means}
 use Rattle.driver_core.proofs.Lists.{some, get-pushed}
 use Rattle.driver_core.proofs.Counts.{where-same}
@@ -31,17 +31,18 @@ early-life : (d : Bool) (t : Option ℕ) → life_of d InQueue t ≡ life_of d I
 early-life true t = refl
 early-life false t = refl
 
--- A call is taken: it is in flight, not marked.
+-- A call is taken, behind a leader or behind none: it is in flight, not marked, and bound where there is a leader.
 module _ {B : Type 0} (buffer : B → Buffer) (v : RingView) (slots : FinMap nat_cmp (Slot B)) (L : Ledger) (e : Entry) (rest : List Entry)
-    (old : Means buffer v slots L) (first : v.queue ≡ e ∷ rest) (call : Call) (body : e.body ≡ Calls call) where
-  here : EntryFor buffer slots e × IsAt L.ops e.serial InQueue
+    (old : Means buffer v slots L) (first : v.queue ≡ e ∷ rest) (leader : Option ℕ) (b : Bool) (binds : b ≡ is_some leader) (call : Call)
+    (body : e.body ≡ Calls call) where
+  here : EntryFor buffer slots e × IsQueued L.ops e
   here = call-queued buffer slots L.ops e e.body (old.in_lists.in_queue 0 e (at-head v.queue e rest first)) (ap is_call body)
 
   abbrev ops' : List Operation
-  ops' = amended L.ops e.serial (at_place InFlight)
+  ops' = amended L.ops e.serial (with_take leader)
 
   abbrev f' : Flight
-  f' = record { entry = e; marked = false; bound = false }
+  f' = record { entry = e; marked = false; bound = b }
 
   not-this : (m : ℕ) (p : Place) → IsAt L.ops m p → p ≢ InQueue → m ≢ e.serial
   unfolding here
@@ -59,18 +60,26 @@ module _ {B : Type 0} (buffer : B → Buffer) (v : RingView) (slots : FinMap nat
   stays : (m : ℕ) (p : Place) → m ≢ e.serial → IsAt L.ops m p → IsAt ops' m p
   stays m p h a = record {
     operation = a.operation;
-    there = get-amended-other (at_place InFlight) L.ops e.serial m h ∙ a.there;
+    there = get-amended-other (with_take leader) L.ops e.serial m h ∙ a.there;
     stays = a.stays;
+  }
+
+  queued-stays : (x : Entry) → x.serial ≢ e.serial → IsQueued L.ops x → IsQueued ops' x
+  queued-stays x h a = record {
+    operation = a.operation;
+    there = get-amended-other (with_take leader) L.ops e.serial x.serial h ∙ a.there;
+    stays = a.stays;
+    linked = a.linked;
   }
 
   flown-stays : (f : Flight) → IsFlown L.ops f → IsFlown ops' f
   flown-stays f a = record {
     operation = a.operation;
-    there = get-amended-other (at_place InFlight) L.ops e.serial f.entry.serial
+    there = get-amended-other (with_take leader) L.ops e.serial f.entry.serial
         (not-this f.entry.serial InFlight (flown-at L.ops f a) (λ q. cc)) ∙ a.there;
     stays = a.stays;
     marked = a.marked;
-    free = a.free;
+    bound = a.bound;
   }
 
   fits : (t : Slot B) → t.serial ≡ e.serial → SlotFor buffer L.ops t → SlotFor buffer ops' t
@@ -80,9 +89,9 @@ module _ {B : Type 0} (buffer : B → Buffer) (v : RingView) (slots : FinMap nat
       (ap (slice_get L.ops) q ∙ here.1.there) in
       let at : m.operation.place ≡ InQueue = ap (λ x. x.place) same ∙ here.1.stays in
       record {
-        operation = at_place InFlight m.operation;
-        there = ap (slice_get (amended L.ops e.serial (at_place InFlight))) q
-            ∙ get-amended-same (at_place InFlight) L.ops e.serial m.operation (ap (slice_get L.ops) (sym q) ∙ m.there);
+        operation = with_take leader m.operation;
+        there = ap (slice_get (amended L.ops e.serial (with_take leader))) q
+            ∙ get-amended-same (with_take leader) L.ops e.serial m.operation (ap (slice_get L.ops) (sym q) ∙ m.there);
         live = refl;
         request = m.request;
         life = m.life ∙ ap (λ p. life_of m.operation.dropped p m.operation.task) at ∙ early-life m.operation.dropped m.operation.task;
@@ -90,11 +99,11 @@ module _ {B : Type 0} (buffer : B → Buffer) (v : RingView) (slots : FinMap nat
         uncanceled = λ z. cc;
       }
 
-  lives : is_live (at_place InFlight here.1.operation) ≡ is_live here.1.operation
+  lives : is_live (with_take leader here.1.operation) ≡ is_live here.1.operation
   unfolding here
   lives = sym (ap is_kept here.1.stays)
 
-  owned : is_owned (at_place InFlight here.1.operation) ≡ is_owned here.1.operation
+  owned : is_owned (with_take leader here.1.operation) ≡ is_owned here.1.operation
   unfolding here
   owned = ap (λ p. is_kept p && not here.1.operation.dropped) (sym here.1.stays)
 
@@ -110,11 +119,11 @@ module _ {B : Type 0} (buffer : B → Buffer) (v : RingView) (slots : FinMap nat
   now-flown : IsFlown ops' f'
   unfolding here uncanceled
   now-flown = record {
-    operation = at_place InFlight here.1.operation;
-    there = get-amended-same (at_place InFlight) L.ops e.serial here.1.operation here.1.there;
+    operation = with_take leader here.1.operation;
+    there = get-amended-same (with_take leader) L.ops e.serial here.1.operation here.1.there;
     stays = refl;
     marked = uncanceled;
-    free = refl;
+    bound = binds;
   }
 
   -- A call in flight has another number.
@@ -123,14 +132,14 @@ module _ {B : Type 0} (buffer : B → Buffer) (v : RingView) (slots : FinMap nat
       (flown-at L.ops x (call-flown buffer slots L.ops x x.entry.body (old.in_lists.in_flight i x h) c).1) (λ q. cc)
 
   lists-call : ListsStand buffer slots (record v { queue = rest; flying = v.flying ++ f' ∷ [] })
-      (take_one (record L { queue = map queued_of rest }) (Req e.serial))
+      (take_one leader (record L { queue = map queued_of rest }) (Req e.serial))
   unfolding here
   lists-call = record {
     queue = refl;
     flying = ap (λ x. x ++ Op e.serial ∷ []) old.in_lists.flying ∙ ap (λ b. map item_of v.flying ++ item_in e b ∷ []) (sym body)
         ∙ sym (map-append item_of v.flying (f' ∷ []));
     done = old.in_lists.done;
-    in_queue = λ i x h. queued-kept buffer slots slots L.ops ops' x x.body (λ c a. (a.0, stays x.serial InQueue (behind i x h c) a.1))
+    in_queue = λ i x h. queued-kept buffer slots slots L.ops ops' x x.body (λ c a. (a.0, queued-stays x (behind i x h c) a.1))
         (old.in_lists.in_queue (suc i) x (behind-head v.queue e rest first i x h));
     in_flight = λ i x h. elim (get-pushed v.flying f' i x h) [
       | inl r ↦ flight-kept buffer slots slots L.ops ops' x x.marked x.entry.body (λ _. refl) (λ _ a. (a.0, flown-stays x a.1))
@@ -164,15 +173,15 @@ module _ {B : Type 0} (buffer : B → Buffer) (v : RingView) (slots : FinMap nat
   }
 
   pub means-call : Means buffer (record v { queue = rest; flying = v.flying ++ f' ∷ [] }) slots
-      (take_one (record L { queue = map queued_of rest }) (Req e.serial))
+      (take_one leader (record L { queue = map queued_of rest }) (Req e.serial))
   unfolding here
   means-call = record {
     capacity = old.capacity;
     world = old.world;
-    in_slots = slots-amended buffer slots L.ops e.serial (at_place InFlight) here.1.operation old.in_slots here.1.there lives fits;
+    in_slots = slots-amended buffer slots L.ops e.serial (with_take leader) here.1.operation old.in_slots here.1.there lives fits;
     in_lists = lists-call;
   }
 
   pub owned-call : length (numbers_where is_owned 0 ops') ≡ length (numbers_where is_owned 0 L.ops)
   unfolding here
-  owned-call = where-same is_owned (at_place InFlight) L.ops e.serial here.1.operation here.1.there owned
+  owned-call = where-same is_owned (with_take leader) L.ops e.serial here.1.operation here.1.there owned

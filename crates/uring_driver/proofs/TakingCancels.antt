@@ -1,7 +1,7 @@
 -- What taking a cancel off the queue does to a ring and slots that mean a ledger.
 use Rattle.std.proofs.Common.{◌≡◌, ◌<◌, inl, inr, ℕ, suc, true, false, List, [], ◌∷◌, ◌++◌, map, Option, Some, None, refl, sym, ◌∙◌}
 use Rattle.std.proofs.Common.{ap, subst, arith}
-use Rattle.std.specs.Prelude.{slice_get, ◌||◌}
+use Rattle.std.specs.Prelude.{slice_get, is_some, ◌||◌}
 use Rattle.std.specs.Ordering.{nat_cmp}
 use Rattle.std.specs.FinMap.{FinMap}
 use Rattle.std.proofs.Math.Bool.{or-true, or-false}
@@ -22,7 +22,8 @@ use Rattle.ring_core.specs.Queue.{take_one, canceled_at, with_cancel}
 use Rattle.ring_core.proofs.Amended.{get-amended-same, get-amended-other}
 use Rattle.driver_core.specs.declared.slot.Slot.{Slot}
 use Rattle.driver_core.specs.Slots.{SlotFor, SlotsStand}
-use Rattle.uring_driver.specs.Lists.{IsAt, IsFlown, FlightFor, DoneFor, Meets, ListsStand, is_call, names_slot, queued_of, item_of}
+use Rattle.uring_driver.specs.Lists.{IsAt, IsQueued, IsFlown, FlightFor, DoneFor, Meets, ListsStand, is_call, names_slot, queued_of}
+use Rattle.uring_driver.specs.Lists.{item_of}
 use Rattle.uring_driver.proofs.Means.{Means}
 use Rattle.ring_core.proofs.Numbers.{equal-other, same-or-not}
 use Rattle.driver_core.proofs.Distinct.{equal-is}
@@ -54,7 +55,7 @@ same-flying key (f ∷ fs) = ap (λ xs. item_of f ∷ xs) (same-flying key fs)
 
 -- A cancel is taken: what is in flight with its key is marked, and it leaves a completion that means nothing.
 module _ {B : Type 0} (buffer : B → Buffer) (v : RingView) (slots : FinMap nat_cmp (Slot B)) (L : Ledger) (e : Entry) (rest : List Entry)
-    (old : Means buffer v slots L) (first : v.queue ≡ e ∷ rest) (key : ℕ) (body : e.body ≡ Cancels key) where
+    (old : Means buffer v slots L) (first : v.queue ≡ e ∷ rest) (leader : Option ℕ) (key : ℕ) (body : e.body ≡ Cancels key) where
   abbrev marked_ops : List Operation
   marked_ops = amended L.ops e.serial with_cancel
 
@@ -83,6 +84,24 @@ module _ {B : Type 0} (buffer : B → Buffer) (v : RingView) (slots : FinMap nat
     | inr q ↦ record { operation = a.operation; there = get-amended-other with_cancel L.ops e.serial m q ∙ a.there; stays = a.stays }
   ]
 
+  -- A call that is queued stays there, linked as it was.
+  queued-stays : (x : Entry) → IsQueued L.ops x → IsQueued marked_ops x
+  queued-stays x a = elim (same-or-not x.serial e.serial) [
+    | inl q ↦ record {
+      operation = with_cancel a.operation;
+      there = ap (slice_get marked_ops) q
+          ∙ get-amended-same with_cancel L.ops e.serial a.operation (ap (slice_get L.ops) (sym q) ∙ a.there);
+      stays = ap (λ o. o.place) (cancel-same a.operation.place a.operation) ∙ a.stays;
+      linked = a.linked ∙ sym (ap (λ o. o.linked) (cancel-same a.operation.place a.operation));
+    }
+    | inr q ↦ record {
+      operation = a.operation;
+      there = get-amended-other with_cancel L.ops e.serial x.serial q ∙ a.there;
+      stays = a.stays;
+      linked = a.linked;
+    }
+  ]
+
   -- The central step: the ring compares words alone, and marks just the entry of the number that the cancel was pushed for.
   flown-marked : (i : ℕ) (f : Flight) → slice_get v.flying i ≡ Some f → is_call f.entry.body ≡ true → IsFlown L.ops f →
       IsFlown marked_ops (marked_by key f)
@@ -96,14 +115,14 @@ module _ {B : Type 0} (buffer : B → Buffer) (v : RingView) (slots : FinMap nat
           stays = ap (λ x. x.place) (cancel-same a.operation.place a.operation) ∙ a.stays;
           marked = ap (λ b. f.marked || b) (equal-is f.entry.word key (meets.by_serial q)) ∙ or-true f.marked
               ∙ sym (ap (λ p. (canceled_at p a.operation).canceled) a.stays);
-          free = a.free;
+          bound = a.bound ∙ sym (ap (λ o. is_some o.waits_for) (cancel-same a.operation.place a.operation));
         }
         | inr q ↦ record {
           operation = a.operation;
           there = get-amended-other with_cancel L.ops e.serial f.entry.serial q ∙ a.there;
           stays = a.stays;
           marked = ap (λ b. f.marked || b) (equal-other f.entry.word key (λ w. q (meets.by_word w))) ∙ or-false f.marked ∙ a.marked;
-          free = a.free;
+          bound = a.bound;
         }
       ]
 
@@ -133,12 +152,12 @@ module _ {B : Type 0} (buffer : B → Buffer) (v : RingView) (slots : FinMap nat
   slots-marked (Some o) h = slots-amended buffer slots L.ops e.serial with_cancel o old.in_slots h (cancel-live o) marked-fits
 
   lists-cancel : ListsStand buffer slots (record v { queue = rest; flying = map (marked_by key) v.flying; done = v.done ++ answer ∷ [] })
-      (take_one (record L { queue = map queued_of rest }) (Cancel e.serial))
+      (take_one leader (record L { queue = map queued_of rest }) (Cancel e.serial))
   lists-cancel = record {
     queue = refl;
     flying = old.in_lists.flying ∙ sym (same-flying key v.flying);
     done = old.in_lists.done ∙ sym (done-reserved v.done answer CANCEL_WORD reserved);
-    in_queue = λ i x h. queued-kept buffer slots slots L.ops marked_ops x x.body (λ c a. (a.0, stays-at x.serial InQueue a.1))
+    in_queue = λ i x h. queued-kept buffer slots slots L.ops marked_ops x x.body (λ c a. (a.0, queued-stays x a.1))
         (old.in_lists.in_queue (suc i) x (behind-head v.queue e rest first i x h));
     in_flight = λ i f h. (
         let g = map-get (marked_by key) v.flying i f h in
@@ -174,7 +193,7 @@ module _ {B : Type 0} (buffer : B → Buffer) (v : RingView) (slots : FinMap nat
   }
 
   pub means-cancel : Means buffer (record v { queue = rest; flying = map (marked_by key) v.flying; done = v.done ++ answer ∷ [] }) slots
-      (take_one (record L { queue = map queued_of rest }) (Cancel e.serial))
+      (take_one leader (record L { queue = map queued_of rest }) (Cancel e.serial))
   means-cancel = record {
     capacity = old.capacity;
     world = old.world;

@@ -1,5 +1,5 @@
 -- What taking the close of a handle off the queue does to a ring and slots that mean a ledger.
-use Rattle.std.proofs.Common.{◌≡◌, ◌<◌, inl, inr, ℕ, suc, true, false, List, [], ◌∷◌, ◌++◌, map, refl, sym, ◌∙◌, ap, subst}
+use Rattle.std.proofs.Common.{◌≡◌, ◌<◌, inl, inr, ℕ, suc, true, false, List, [], ◌∷◌, ◌++◌, map, Option, refl, sym, ◌∙◌, ap, subst}
 use Rattle.std.specs.Ordering.{nat_cmp}
 use Rattle.std.specs.FinMap.{FinMap}
 use Rattle.std.proofs.lemmas.List.{map-append}
@@ -19,9 +19,9 @@ use Rattle.driver_core.proofs.Lists.{get-pushed}
 use Rattle.uring_driver.proofs.Kept.{close-queued}
 use Rattle.uring_driver.proofs.Heads.{at-head, behind-head, once-behind, cancels-left}
 
--- A close is taken: it is in flight, not marked.
+-- A close is taken: it is in flight, not marked and not bound.
 module _ {B : Type 0} (buffer : B → Buffer) (v : RingView) (slots : FinMap nat_cmp (Slot B)) (L : Ledger) (e : Entry) (rest : List Entry)
-    (old : Means buffer v slots L) (first : v.queue ≡ e ∷ rest) (k : ℕ) (body : e.body ≡ Closes k) where
+    (old : Means buffer v slots L) (first : v.queue ≡ e ∷ rest) (leader : Option ℕ) (k : ℕ) (body : e.body ≡ Closes k) where
   here : (e ≡ close_entry k) × (k < MOST_HANDLES)
   here = close-queued buffer slots L.ops e e.body (old.in_lists.in_queue 0 e (at-head v.queue e rest first)) k body
 
@@ -32,7 +32,7 @@ module _ {B : Type 0} (buffer : B → Buffer) (v : RingView) (slots : FinMap nat
   not-call x h q = (let z : false ≡ true = sym (ap (λ y. is_call y.entry.body) h ∙ ap is_call body) ∙ q in cc)
 
   lists-close : ListsStand buffer slots (record v { queue = rest; flying = v.flying ++ f' ∷ [] })
-      (take_one (record L { queue = map queued_of rest }) (Queued.Close k))
+      (take_one leader (record L { queue = map queued_of rest }) (Queued.Close k))
   lists-close = record {
     queue = refl;
     flying = ap (λ x. x ++ Item.Close k ∷ []) old.in_lists.flying ∙ ap (λ b. map item_of v.flying ++ item_in e b ∷ []) (sym body)
@@ -62,7 +62,7 @@ module _ {B : Type 0} (buffer : B → Buffer) (v : RingView) (slots : FinMap nat
   }
 
   pub means-close : Means buffer (record v { queue = rest; flying = v.flying ++ f' ∷ [] }) slots
-      (take_one (record L { queue = map queued_of rest }) (Queued.Close k))
+      (take_one leader (record L { queue = map queued_of rest }) (Queued.Close k))
   means-close = record {
     capacity = old.capacity;
     world = old.world;

@@ -103,7 +103,7 @@ module _ {R B : Type 0} (view : R → RingView) (buffer : B → Buffer) (tells s
       amid-mid (taken_front front.count L)
       (amid-front buffer (whole_ring view old) (whole_ring view mid) old.slots.values old.holding L (amid-of stands making-old) front.count
       (means-took-front buffer (whole_ring view old) old.slots.values L (means-of stands) (whole_ring view mid) front.count
-      front.takings later front.took))
+      front.takings stands.fits later front.took))
 
   all-mid : EnteredFor view tells steady old.ring mid.ring false →
       Amid buffer (whole_ring view mid) mid.slots.values mid.holding (take_all L)
@@ -113,7 +113,7 @@ module _ {R B : Type 0} (view : R → RingView) (buffer : B → Buffer) (tells s
       amid-mid (take_all L)
       (amid-all buffer (whole_ring view old) (whole_ring view mid) old.slots.values old.holding L (amid-of stands making-old)
       (means-took-all buffer (whole_ring view old) old.slots.values L (means-of stands) (whole_ring view mid) front.count
-      front.takings later front.took (none-pending (view (ring_in mid)).queue (due_in mid) enter.1 enter.2)))
+      front.takings stands.fits later front.took (none-pending (view (ring_in mid)).queue (due_in mid) enter.1 enter.2)))
 
   -- Against the ledger to which the enter led.
   module _ (K : Ledger) (amid : Amid buffer (whole_ring view mid) mid.slots.values mid.holding K)

@@ -4,7 +4,8 @@ use Rattle.rent_buf.specs.Buffer.{Buffer}
 use Rattle.ring_core.specs.declared.request.Told.{Told}
 use Rattle.ring_core.specs.declared.ledger.Event.TheVariants.{Exec}
 use Rattle.ring_core.specs.declared.ledger.Reply.TheVariants.{ExecutedOp, ExecutedClose}
-use Rattle.ring_core.specs.declared.ledger.Refusal.TheVariants.{NotFlying as NoFlight, BadOutcome as WrongOutcome}
+use Rattle.ring_core.specs.declared.ledger.Refusal.TheVariants.{NotFlying as NoFlight, Waiting as WaitsStill}
+use Rattle.ring_core.specs.declared.ledger.Refusal.TheVariants.{BadOutcome as WrongOutcome}
 use Rattle.ring_core.specs.declared.mem_ring.ExecRefusal.{ExecRefusal}
 use Rattle.ring_core.specs.declared.mem_ring.ExecRefusal.TheVariants.{NotFlying, Waiting, BadOutcome, OutOfMemory}
 use Rattle.ring_core.specs.Refusal.{cause}
@@ -23,10 +24,10 @@ use Rattle.uring_driver.specs.Uring.{ring_in}
 use Rattle.uring_driver.specs.Op.{ops_in}
 use Rattle.uring_driver.specs.Stands.{Answers}
 
--- Why an execution was refused: by the machine's cause, or memory ran out and the machine names none. Nothing in flight waits.
+-- Why an execution was refused: by the machine's cause, or memory ran out and the machine names none.
 abbrev pub RefusedFor : Ledger → ℕ → Told → ExecRefusal → Type 0
 RefusedFor L place told NotFlying = cause L (Exec place told) ≡ Some NoFlight
-RefusedFor L place told Waiting = ⊥
+RefusedFor L place told Waiting = cause L (Exec place told) ≡ Some WaitsStill
 RefusedFor L place told BadOutcome = cause L (Exec place told) ≡ Some WrongOutcome
 RefusedFor L place told OutOfMemory = cause L (Exec place told) ≡ None
 
@@ -49,7 +50,8 @@ pub record IsExecutedOver {B : Type 0} (buffer : B → Buffer) (old : IoUringDri
   pub named : answer ≡ executed_as completion (target completion.word)
   pub executed : IsExecuted (offered buffer) (StoresAt buffer) (ring_in old) place told (ring_in new) (ops_in old) (ops_in new) completion
 
--- Why nothing was executed: there is nothing at the place, it is bound, the outcome isn't allowed to it, or bytes are sent and memory ran out.
+-- Why nothing was executed: there is nothing at the place, it is bound, the outcome isn't allowed to it, or bytes are sent and memory ran
+-- out.
 abbrev pub NotExecuted : RingView → ℕ → Told → ExecRefusal → Type 0
 NotExecuted ring place told NotFlying = length ring.flying ≤ place
 NotExecuted ring place told Waiting = is_bound ring.flying place ≡ true

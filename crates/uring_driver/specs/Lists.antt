@@ -1,6 +1,6 @@
 -- What the lists of a ring mean in the ledger. Its entries are read by serials there; the ring itself compares words alone.
 -- Cited by `Stands`.
-use Rattle.std.specs.Prelude.{ℕ, ◌≡◌, ◌<◌, Bool, true, false, List, [], ◌∷◌, map, flat_map, Some, slice_get, ⊤}
+use Rattle.std.specs.Prelude.{ℕ, ◌≡◌, ◌<◌, Bool, true, false, List, [], ◌∷◌, map, flat_map, Some, is_some, slice_get, ⊤}
 use Rattle.std.specs.Ordering.{nat_cmp}
 use Rattle.std.specs.FinMap as finite
 use Rattle.rent_buf.specs.Buffer.{Buffer}
@@ -71,21 +71,27 @@ pub record IsAt (ops : List Operation) (number : ℕ) (place : Place) : Type 0 w
   pub there : slice_get ops number ≡ Some operation
   pub stays : operation.place ≡ place
 
--- An entry in flight is marked exactly where its operation's cancel was taken, and isn't bound.
+-- An entry in the queue is linked exactly where its operation is, which is queued.
+pub record IsQueued (ops : List Operation) (entry : Entry) : Type 0 where
+  pub operation : Operation
+  pub there : slice_get ops entry.serial ≡ Some operation
+  pub stays : operation.place ≡ InQueue
+  pub linked : entry.linked ≡ operation.linked
+
+-- An entry in flight is marked exactly where its operation's cancel was taken, and bound exactly where its operation waits for another.
 pub record IsFlown (ops : List Operation) (flight : Flight) : Type 0 where
   pub operation : Operation
   pub there : slice_get ops flight.entry.serial ≡ Some operation
   pub stays : operation.place ≡ InFlight
   pub marked : flight.marked ≡ operation.canceled
-  pub free : flight.bound ≡ false
+  pub bound : flight.bound ≡ is_some operation.waits_for
 
--- An entry's word is the key of the slot that has its serial, it asks for that slot's request, and it isn't linked.
+-- An entry's word is the key of the slot that has its serial, and it asks for that slot's request.
 pub record EntryFor {B : Type 0} (buffer : B → Buffer) (slots : finite.FinMap nat_cmp (Slot B)) (entry : Entry) : Type 0 where
   pub slot : Slot B
   pub there : finite.get slots entry.word ≡ Some slot
   pub serial : slot.serial ≡ entry.serial
   pub call : entry.body ≡ Calls (call_of (plain_request buffer slot.request))
-  pub unlinked : entry.linked ≡ false
 
 -- A completion's word is the key of the slot that has its serial.
 pub record CompletionFor {B : Type 0} (slots : finite.FinMap nat_cmp (Slot B)) (completion : Completion) : Type 0 where
@@ -93,10 +99,10 @@ pub record CompletionFor {B : Type 0} (slots : finite.FinMap nat_cmp (Slot B)) (
   pub there : finite.get slots completion.word ≡ Some slot
   pub serial : slot.serial ≡ completion.serial
 
--- What stands in the queue, by its body: a call is that of an operation that is queued; the word of a cancel is reserved, its key is no
--- close's word, and it isn't linked; a close is that of a handle below the bound of handles.
+-- What stands in the queue, by its body: a call is that of an operation that is queued, and linked where that is; the word of a cancel is
+-- reserved, its key is no close's word, and it isn't linked; a close is that of a handle below the bound of handles.
 abbrev pub QueuedFor : {B : Type 0} → (B → Buffer) → finite.FinMap nat_cmp (Slot B) → List Operation → Entry → Body → Type 0
-QueuedFor buffer slots ops entry (Calls call) = EntryFor buffer slots entry × IsAt ops entry.serial InQueue
+QueuedFor buffer slots ops entry (Calls call) = EntryFor buffer slots entry × IsQueued ops entry
 QueuedFor buffer slots ops entry (Cancels key) = (entry.word ≡ CANCEL_WORD) × (key < FIRST_CLOSE) × (entry.linked ≡ false)
 QueuedFor buffer slots ops entry (Closes h) = (entry ≡ close_entry h) × (h < MOST_HANDLES)
 
@@ -129,7 +135,8 @@ pub record CancelsMean (queue : List Entry) (flying : List Flight) : Type 0 wher
       cancel.body ≡ Cancels key → is_call flight.entry.body ≡ true → Meets flight.entry key cancel.serial
 
 -- The three lists of a ring, read by serials, are those of the ledger; each word in them is the key of the slot of that serial;
--- an operation's completion has its outcome; no operation stands twice in a list; and each cancel means its operation.
+-- a queued entry is linked where its operation is, and one in flight bound where its operation waits; an operation's completion has its
+-- outcome; no operation stands twice in a list; and each cancel means its operation.
 pub record ListsStand {B : Type 0} (buffer : B → Buffer) (slots : finite.FinMap nat_cmp (Slot B)) (view : RingView)
     (L : Ledger) : Type 0 where
   pub queue : L.queue ≡ map queued_of view.queue

@@ -1,6 +1,6 @@
 -- Which tokens a driver holds, and what a call keeps of them and of their requests: what its operations do. Cited by each call of
 -- the driver, and by whoever keeps tokens.
-use Rattle.std.specs.Prelude.{◌≡◌, false, Some}
+use Rattle.std.specs.Prelude.{◌≡◌, Bool, Some}
 use Rattle.rent_buf.specs.Parts.{Parts}
 use Rattle.ring_core.specs.declared.request.Request.{Request}
 use Rattle.ring_core.specs.Surroundings.{Surroundings}
@@ -46,9 +46,9 @@ KeepsRequests old new = KeepsRequestsIn (ops_in old) (ops_in new)
 abbrev pub KeepsSurroundings : {R B : Type 0} → (B → Surroundings) → IoUringDriver R B → IoUringDriver R B → Type 0
 KeepsSurroundings reader old new = KeepsSurroundingsIn reader (ops_in old) (ops_in new)
 
--- The entry of a token's call. It isn't linked.
-abbrev pub call_for : Op → Call → Entry
-call_for op call = call_entry op.key op.number false call
+-- The entry of a token's call, linked or not.
+abbrev pub call_for : Op → Bool → Call → Entry
+call_for op linked call = call_entry op.key op.number linked call
 
 -- The cancel of a token's operation.
 abbrev pub cancel_for : Op → Entry

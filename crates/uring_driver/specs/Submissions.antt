@@ -1,6 +1,7 @@
 -- The ring as the driver uses it: what is pending, and what entering it and joining it do. Cited by `Submissions`, and by the
 -- driver's calls.
-use Rattle.std.specs.Prelude.{ℕ, ◌≡◌, ◌+◌, ◌<◌, ◌≤◌, ◌==◌, ◌⊎◌, if◌then◌else◌, Bool, true, false, IsTrue, List, [], ◌∷◌, ◌++◌, length, take, drop}
+use Rattle.std.specs.Prelude.{ℕ, ◌≡◌, ◌+◌, ◌<◌, ◌≤◌, ◌==◌, ◌⊎◌, if◌then◌else◌, Bool, true, false, IsTrue, List, [], ◌∷◌, ◌++◌, length, take}
+use Rattle.std.specs.Prelude.{drop}
 use Rattle.ring_core.specs.Counts.{Rose}
 use Rattle.ring_core.specs.declared.entry.Entry.{Entry}
 use Rattle.ring_core.specs.declared.ring.EnterError.{EnterError}
@@ -54,12 +55,14 @@ abbrev pub taken_by : List (List Entry) → List Entry
 taken_by [] = []
 taken_by (entries ∷ takings) = entries ++ taken_by takings
 
--- A prefix of what is pending was taken, of `count` entries, by enters that took these entries, one after another.
+-- A prefix of what is pending was taken, of `count` entries, by enters that took these entries, one after another. Where what is pending
+-- fits the queue, one enter took them at once.
 pub record TookEach (takings : List (List Entry)) (count : ℕ) (old new : RingView) : Type 0 where
   pub within : count ≤ length old.queue
   pub taken : taken_by takings ≡ take count old.queue
   pub queue : new.queue ≡ drop count old.queue
   pub flying : new.flying ≡ flying_each old.flying takings
+  pub once : length old.queue ≤ old.capacity → new.flying ≡ flying_after old.flying (take count old.queue)
   pub done : new.done ≡ done_after old.done (take count old.queue)
   pub world : new.world ≡ old.world
 

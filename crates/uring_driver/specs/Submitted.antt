@@ -30,10 +30,11 @@ use Rattle.uring_driver.specs.Pending.{Pending}
 use Rattle.uring_driver.specs.Submissions.{IsSameButRoom, PendingMoves, MustEnter}
 use Rattle.uring_driver.specs.Stands.{Stands}
 
--- A submission got the machine's next number; under a canceled group what its request holds comes back, as the machine's reply has it.
-abbrev pub SubmitsFor : {R B : Type 0} → (R → RingView) → (B → Buffer) → Ledger → Request B Parts → Option ℕ → IoUringDriver R B →
-    Submitted B → Type 0
-SubmitsFor view buffer L request handle new submitted = SubmitsBy (Stands view buffer) buffer L request handle new submitted
+-- A submission, linked or not, got the machine's next number; under a canceled group what its request holds comes back, as the machine's
+-- reply has it.
+abbrev pub SubmitsFor : {R B : Type 0} → (R → RingView) → (B → Buffer) → Bool → Ledger → Request B Parts → Option ℕ →
+    IoUringDriver R B → Submitted B → Type 0
+SubmitsFor view buffer linked L request handle new submitted = SubmitsBy (Stands view buffer) buffer linked L request handle new submitted
 
 -- The driver holds the new token beside those that it held, and no other.
 abbrev pub AddsTo : {R B : Type 0} → IoUringDriver R B → IoUringDriver R B → Token → Type 0
@@ -61,14 +62,14 @@ JoinsFor old new request under (Op op) =
     JoinsHandles request old.holding new.holding × (new.members ≡ joins_if old.members under op.number op.key)
 JoinsFor old new request under (Canceled back) = new ≡ old
 
--- The new entry joined what is pending, after a prefix of it was entered. A refused submission, and one under a canceled group, joined
--- nothing.
-abbrev pub SubmitMoves : {R B : Type 0} → (R → RingView) → (B → Buffer) → Request B Parts →
+-- The new entry, linked or not, joined what is pending, after a prefix of it was entered. A refused submission, and one under a canceled
+-- group, joined nothing.
+abbrev pub SubmitMoves : {R B : Type 0} → (R → RingView) → (B → Buffer) → Bool → Request B Parts →
     IoUringDriver R B → IoUringDriver R B → Result (Submitted B) (SubmitError B) → Type 0
-SubmitMoves view buffer request old new (Ok (Op op)) =
-    PendingMoves (pending view old) (pending view new) (call_for op (call_of (plain_request buffer request)) ∷ [])
-SubmitMoves view buffer request old new (Ok (Canceled back)) = PendingMoves (pending view old) (pending view new) []
-SubmitMoves view buffer request old new (Err refused) = PendingMoves (pending view old) (pending view new) []
+SubmitMoves view buffer linked request old new (Ok (Op op)) =
+    PendingMoves (pending view old) (pending view new) (call_for op linked (call_of (plain_request buffer request)) ∷ [])
+SubmitMoves view buffer linked request old new (Ok (Canceled back)) = PendingMoves (pending view old) (pending view new) []
+SubmitMoves view buffer linked request old new (Err refused) = PendingMoves (pending view old) (pending view new) []
 
 -- The request came back, since its group is canceled.
 abbrev pub IsCanceled : {B : Type 0} → Result (Submitted B) (SubmitError B) → Type 0

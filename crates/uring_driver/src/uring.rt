@@ -153,7 +153,7 @@ impl<R: Ring, B: IoBufMut + Drop> IoUringDriver<R, B> {
         requires counter { given_by self.old < MOST_GIVEN }
         // The answer is the machine's, over each ring that tells its lists, for each cancel handle of the machine of that group.
         ensures answers { IfOk result (λ submitted. IsTrue R.tells → (L : Ledger) → Stands R.view B.buffer self.old L →
-            (handle : Option ℕ) → IsUnder L under handle → SubmitsFor R.view B.buffer L request handle self.new submitted) }
+            (handle : Option ℕ) → IsUnder L under handle → SubmitsFor R.view B.buffer false L request handle self.new submitted) }
         ensures token { IfOk result (λ submitted. AddsToken self.old self.new submitted) }
         // Over every ring the new token's operation has this request, and every other one keeps its own.
         ensures request { IfOk result (λ submitted. GivesRequest self.new submitted request) }
@@ -161,8 +161,8 @@ impl<R: Ring, B: IoBufMut + Drop> IoUringDriver<R, B> {
         // The operation holds each handle that it names, until it is gone, and is a member of its group, until it is gone or dropped.
         ensures joins { IfOk result (λ submitted. JoinsFor self.old self.new request under submitted) }
 
-        // Nothing passes what is pending. Over a steady ring nothing becomes due.
-        ensures pending { IsTrue R.tells → SubmitMoves R.view B.buffer request self.old self.new result }
+        // Nothing passes what is pending: its entry, linked or not, joins the end. Over a steady ring nothing becomes due.
+        ensures pending { IsTrue R.tells → SubmitMoves R.view B.buffer false request self.old self.new result }
         ensures none_due { IsTrue R.steady → due_in self.old ≡ [] → due_in self.new ≡ [] }
 
         // The request comes back exactly when its group is canceled. Else it is Full exactly when all slots are live; a fault of the ring
@@ -172,6 +172,65 @@ impl<R: Ring, B: IoBufMut + Drop> IoUringDriver<R, B> {
         ensures err { IfErr result (SubmitRefused R.view B.buffer R.steady request self.old self.new) }
         ensures memory { IfErr result (λ refused. refused.why ≡ SubmitFault.OutOfMemory → IsSameRing R.view self.old self.new) }
         // A refused one only enters what is pending. No completion is lost, over every ring.
+        ensures takes { OnErr result (IsTrue R.tells → TakesFront (whole_ring R.view self.old) (whole_ring R.view self.new)) }
+        ensures kept { length (R.view (ring_in self.old)).done ≤ length (R.view (ring_in self.new)).done }
+    {
+        self.submit_entry(request, under, false)
+    }
+
+    /// Submits a request as `submit_with` does, linked: the request that the ring takes directly behind it, in the same enter, starts only
+    /// once this one has succeeded. Where this one fails, that one ends with the error `CANCELED` and doesn't start; so does the one that
+    /// was linked behind it, and so on, in order. A count of fewer bytes than were asked for is a success too. A turn enters the queue, and
+    /// so does a submission where it is at capacity; a cancel or a close that was queued between the two parts them. (io_uring:
+    /// `IOSQE_IO_LINK`; not in monoio)
+    pub fn submit_linked(
+        &mut self,
+        request: Request<B, VecBuf>,
+        under: Option<CancelHandle>,
+    ) -> Result<Submitted<B>, SubmitError<B>>
+        requires held { IsTrue (holds_all self.old (named request)) }
+        requires known { IfSome under (λ g. g < group_count self.old) }
+        requires counter { given_by self.old < MOST_GIVEN }
+        ensures answers { IfOk result (λ submitted. IsTrue R.tells → (L : Ledger) → Stands R.view B.buffer self.old L →
+            (handle : Option ℕ) → IsUnder L under handle → SubmitsFor R.view B.buffer true L request handle self.new submitted) }
+        ensures token { IfOk result (λ submitted. AddsToken self.old self.new submitted) }
+        ensures request { IfOk result (λ submitted. GivesRequest self.new submitted request) }
+        ensures requests { KeepsRequests self.old self.new }
+        ensures joins { IfOk result (λ submitted. JoinsFor self.old self.new request under submitted) }
+        ensures pending { IsTrue R.tells → SubmitMoves R.view B.buffer true request self.old self.new result }
+        ensures none_due { IsTrue R.steady → due_in self.old ≡ [] → due_in self.new ≡ [] }
+        ensures canceled { IsCanceled result ↔ (is_under_canceled (members_in self.old) under ≡ true) }
+        ensures full { IsFullError result ↔ ((is_under_canceled (members_in self.old) under ≡ false) × (live_slots self.old ≡ MAX_LIVE)) }
+        ensures err { IfErr result (SubmitRefused R.view B.buffer R.steady request self.old self.new) }
+        ensures memory { IfErr result (λ refused. refused.why ≡ SubmitFault.OutOfMemory → IsSameRing R.view self.old self.new) }
+        ensures takes { OnErr result (IsTrue R.tells → TakesFront (whole_ring R.view self.old) (whole_ring R.view self.new)) }
+        ensures kept { length (R.view (ring_in self.old)).done ≤ length (R.view (ring_in self.new)).done }
+    {
+        self.submit_entry(request, under, true)
+    }
+
+    // Submits a request as both do, and its entry is linked or not.
+    fn submit_entry(
+        &mut self,
+        request: Request<B, VecBuf>,
+        under: Option<CancelHandle>,
+        linked: bool,
+    ) -> Result<Submitted<B>, SubmitError<B>>
+        requires held { IsTrue (holds_all self.old (named request)) }
+        requires known { IfSome under (λ g. g < group_count self.old) }
+        requires counter { given_by self.old < MOST_GIVEN }
+        ensures answers { IfOk result (λ submitted. IsTrue R.tells → (L : Ledger) → Stands R.view B.buffer self.old L →
+            (handle : Option ℕ) → IsUnder L under handle → SubmitsFor R.view B.buffer linked L request handle self.new submitted) }
+        ensures token { IfOk result (λ submitted. AddsToken self.old self.new submitted) }
+        ensures request { IfOk result (λ submitted. GivesRequest self.new submitted request) }
+        ensures requests { KeepsRequests self.old self.new }
+        ensures joins { IfOk result (λ submitted. JoinsFor self.old self.new request under submitted) }
+        ensures pending { IsTrue R.tells → SubmitMoves R.view B.buffer linked request self.old self.new result }
+        ensures none_due { IsTrue R.steady → due_in self.old ≡ [] → due_in self.new ≡ [] }
+        ensures canceled { IsCanceled result ↔ (is_under_canceled (members_in self.old) under ≡ true) }
+        ensures full { IsFullError result ↔ ((is_under_canceled (members_in self.old) under ≡ false) × (live_slots self.old ≡ MAX_LIVE)) }
+        ensures err { IfErr result (SubmitRefused R.view B.buffer R.steady request self.old self.new) }
+        ensures memory { IfErr result (λ refused. refused.why ≡ SubmitFault.OutOfMemory → IsSameRing R.view self.old self.new) }
         ensures takes { OnErr result (IsTrue R.tells → TakesFront (whole_ring R.view self.old) (whole_ring R.view self.new)) }
         ensures kept { length (R.view (ring_in self.old)).done ≤ length (R.view (ring_in self.new)).done }
     {
@@ -196,7 +255,7 @@ impl<R: Ring, B: IoBufMut + Drop> IoUringDriver<R, B> {
         let number = op.number();
         let key = op.key();
         self.members.set_key(number, key);
-        self.ring.join(Entry::call(key, number, false, call));
+        self.ring.join(Entry::call(key, number, linked, call));
         Ok(Submitted::Op(op))
     }
 

@@ -1,6 +1,6 @@
 // A driver over any ring, with the tokens of its operations.
 ghost use Rattle.std.specs.Prelude.{◌<◌, IsTrue, IfSome, IfOk};
-ghost use Rattle.ring_core.specs.Request.{listed};
+ghost use Rattle.ring_core.specs.Request.{listed, named};
 ghost use Rattle.uring_driver.specs.Op.{Holds};
 ghost use Rattle.uring_driver.specs.Uring.{holds_all, given_by, group_count};
 
@@ -16,7 +16,7 @@ use std::sync::Wait;
 use std::sync::ledger::Ledger;
 use uring_driver::{
     CancelHandle, Canceller, Done, Driver, IoUringDriver, MOST_GIVEN, Op, Parked, PollOp,
-    Submitted, Turned,
+    SubmitError, Submitted, Turned,
 };
 use wake_core::Sleeper;
 
@@ -77,17 +77,36 @@ fn takes<R: Ring, B: IoBufMut + Drop>(
     driver.holds_names(names) && driver.given() < MOST_GIVEN
 }
 
-// A submission.
+// A submission that the driver takes.
+fn submitted<R: Ring, B: IoBufMut + Drop>(
+    driver: &mut IoUringDriver<R, B>,
+    request: Request<B, VecBuf>,
+    under: Option<CancelHandle>,
+    linked: bool,
+) -> Result<Submitted<B>, SubmitError<B>>
+    requires held { IsTrue (holds_all driver.old (named request)) }
+    requires known { IfSome under (λ g. g < group_count driver.old) }
+    requires counter { given_by driver.old < MOST_GIVEN }
+{
+    if linked {
+        driver.submit_linked(request, under)
+    } else {
+        driver.submit_with(request, under)
+    }
+}
+
+// A submission, linked or not.
 pub(crate) fn submit<R: Ring, B: IoBufMut + Drop>(
     driver: &mut IoUringDriver<R, B>,
     request: Request<B, VecBuf>,
     under: Option<CancelHandle>,
+    linked: bool,
     bytes: &str,
 ) -> Given {
     if !takes(driver, request.names(), &under) {
         return Given::Nothing(Submits::Unmet);
     }
-    match driver.submit_with(request, under) {
+    match submitted(driver, request, under, linked) {
         Ok(submitted) => token_of(submitted, bytes),
         Err(refused) => Given::Nothing(returned(
             &refused.request,
@@ -228,10 +247,10 @@ fn cancel_group<R: Ring, B: IoBufMut + Drop>(
 }
 
 impl<R: Ring, B: IoBufMut + Drop + Makes> Stage for Bench<R, B> {
-    fn submit(&mut self, ask: Ask, under: bool) -> Result<Submits, Why> {
+    fn submit(&mut self, ask: Ask, under: bool, linked: bool) -> Result<Submits, Why> {
         let under = if under { self.group } else { None };
         let request = ask.request(self.alloc)?;
-        match submit(&mut self.driver, request, under, ask.2) {
+        match submit(&mut self.driver, request, under, linked, ask.2) {
             Given::Token(op) => {
                 self.keep(op)?;
                 Ok(Submits::Done)

@@ -4,7 +4,7 @@ ghost use Rattle.uring_driver.specs.Submissions.{IsIdle};
 use crate::tests::asks::{Makes, Why};
 use crate::tests::bench::{Bench, Given, adopt, submit};
 use crate::tests::stage::Submits;
-use crate::tests::steps::{ASK, Own, OwnCalls, READ, Step, TURN, is_like, run_row};
+use crate::tests::steps::{ASK, LINKED_READ, Own, OwnCalls, READ, Step, TURN, is_like, run_row};
 use rent_buf::{Buf, IoBufMut, NumList, OutOfMemory};
 use ring_core::{Completion, FIRST_CLOSE, FaultRing, MemRing, Outcome, Ring};
 use std::alloc::Global;
@@ -36,11 +36,21 @@ fn first_flying<B: IoBufMut + Drop>(driver: &IoUringDriver<FaultRing, B>) -> Opt
     }
 }
 
+// What is in flight at a place is bound to what is directly before it.
+fn is_bound<B: IoBufMut + Drop>(driver: &IoUringDriver<FaultRing, B>, place: usize) -> bool {
+    let ring = driver.ring().ring();
+    match ring.flying_at(place) {
+        Some(_) => ring.bound(place),
+        None => false,
+    }
+}
+
 impl<B: IoBufMut + Drop> OwnCalls for Bench<FaultRing, B> {
     fn own(&mut self, own: Own) -> Result<(), Why> {
         match own {
             Own::Inject(word) => inject(&mut self.driver, word),
             Own::Flies(serial) => is_like(first_flying(&self.driver) == serial),
+            Own::Binds(place, bound) => is_like(is_bound(&self.driver, place) == bound),
             _ => Err(Why::Unmet),
         }
     }
@@ -93,8 +103,8 @@ pub(crate) fn bench_over(
     Ok(Bench::new(alloc, driver_over(alloc, entries, failing, busy)?))
 }
 
-use Own::{Flies, Inject};
-use Step::{Drop as Drops, Has, Own as Does, Submit, Turn};
+use Own::{Binds, Flies, Inject};
+use Step::{Drop as Drops, Has, Own as Does, Pends, Ready, Submit, Turn, Wakes};
 
 const FAULT: Option<Stop> = Some(Stop::RingFault);
 
@@ -143,6 +153,19 @@ const ROWS: &[Row] = &[
     ("a key that is completed", 4, &[], &[],
         &[READ, READ, READ, Does(Inject(2)), Turn(None, &[2]), Does(Inject(2)), Does(Inject(1)), Does(Inject(0)),
           Turn(Some(Stop::BadCompletion(2)), &[]), Has(3, 0, 0, 2), Turn(None, &[1, 0])]),
+    ("linked, and taken by one enter", 4, &[], &[],
+        &[LINKED_READ, LINKED_READ, READ, READ, TURN, Does(Binds(0, false)), Does(Binds(1, true)), Does(Binds(2, true)),
+          Does(Binds(3, false))]),
+    ("a failed enter that takes nothing, between a linked one and the next", 4, &[0], &[],
+        &[LINKED_READ, Turn(FAULT, &[]), READ, TURN, Does(Flies(Some(0))), Does(Binds(1, true))]),
+    ("a linked one that is taken alone, behind a failed enter", 1, &[0], &[],
+        &[LINKED_READ, FAILED_READ, READ, Has(2, 1, 0, 0), TURN, Does(Flies(Some(0))), Does(Binds(1, false))]),
+    ("a busy enter before both", 4, &[], &[0],
+        &[LINKED_READ, READ, Turn(BUSY, &[]), Does(Flies(None)), TURN, Does(Flies(Some(0))), Does(Binds(1, true))]),
+    ("a completion of one that waits, and again", 4, &[], &[],
+        &[LINKED_READ, READ, TURN, Does(Inject(1)), Turn(None, &[1]), Does(Binds(1, true)), Pends(0, 7),
+          Ready(1, Outcome::Fail(ERROR), &["01"]), Does(Inject(1)), Turn(Some(Stop::BadCompletion(1)), &[]), Does(Inject(0)),
+          Wakes(&[0], &[7]), Ready(0, Outcome::Fail(ERROR), &["01"])]),
 ];
 
 // One row.
@@ -180,7 +203,7 @@ fn add_read<R: Ring, B: IoBufMut + Drop + Makes>(
 ) -> Result<(), Why> {
     adopt(driver, 0)?;
     let request = ASK.request(alloc)?;
-    match submit(driver, request, None, "01") {
+    match submit(driver, request, None, false, "01") {
         Given::Token(op) => {
             op.forget();
             Ok(())

@@ -104,7 +104,7 @@ impl<B: IoBufMut + Drop> OwnCalls for Bench<MemRing, B> {
             Own::End(h, want) => end(driver, h, want),
             Own::Sent(h, want) => look(driver, h, want),
             Own::Execute(place, told, want) => execute(driver, place, told, want),
-            Own::Inject(_) | Own::Flies(_) => Err(Why::Unmet),
+            Own::Inject(_) | Own::Flies(_) | Own::Binds(..) => Err(Why::Unmet),
         }
     }
 }

@@ -4,7 +4,7 @@ ghost use Rattle.ring_core.specs.Bound.{is_bound};
 
 use crate::tests::asks::Why;
 use crate::tests::bench::Bench;
-use crate::tests::steps::{Own, OwnCalls, READ, Step, TURN, run_row};
+use crate::tests::steps::{LINKED_READ, Own, OwnCalls, READ, Step, TURN, run_row};
 use rent_buf::{Buf, ByteList, OutOfMemory};
 use ring_core::{Completion, EnterError, Entry, MemRing, Outcome, Push, Ring, Told};
 use std::alloc::Global;
@@ -21,6 +21,8 @@ enum Manner {
     Reverse,
     // At once, and every other completion is the one before it again.
     Twice,
+    // At once, in order, and it knows no links.
+    Unlinked,
 }
 
 // A ring that completes all that it takes at once: each entry fails with its word and one more.
@@ -136,7 +138,11 @@ impl Ring for HastyRing {
     }
 
     fn push_reserved(&mut self, entry: Entry) -> Push {
-        self.ring.push_reserved(entry)
+        let linked = entry.linked && self.manner != Manner::Unlinked;
+        match self.ring.push_reserved(Entry { linked, ..entry }) {
+            Push::Done => Push::Done,
+            Push::Full(_) => Push::Full(entry),
+        }
     }
 
     fn enter(&mut self) -> Result<u32, EnterError> {
@@ -199,6 +205,12 @@ const ROWS: &[Row] = &[
     ("twice", Manner::Twice,
         &[Adopt(0), READ, READ, READ, Turn(Some(Stop::BadCompletion(0)), &[0]), Turn(None, &[2]),
           Ready(0, Outcome::Fail(1), &["01"]), Pends(1, 7), Ready(2, Outcome::Fail(3), &["01"])]),
+    // This ring completes neither what waits nor what it waits for.
+    ("linked, at once", Manner::AtOnce, &[Adopt(0), LINKED_READ, READ, TURN, Pends(0, 7), Pends(1, 7)]),
+    ("linked, the last one first", Manner::Reverse,
+        &[Adopt(0), READ, LINKED_READ, READ, Turn(None, &[0]), Pends(1, 7), Pends(2, 7), Ready(0, Outcome::Fail(1), &["01"])]),
+    ("linked, of which the ring knows nothing", Manner::Unlinked,
+        &[Adopt(0), LINKED_READ, READ, Turn(None, &[0, 1]), Ready(0, Outcome::Fail(1), &["01"]), Ready(1, Outcome::Fail(2), &["01"])]),
 ];
 
 // A bench over such a ring.

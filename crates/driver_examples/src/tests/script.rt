@@ -155,7 +155,7 @@ fn submits<S: Stage>(stage: &mut S, busy: bool) -> Result<Answer, Why> {
     } else {
         SubmitFault::RingFault
     };
-    match stage.submit(ASK, false)? {
+    match stage.submit(ASK, false, false)? {
         Submits::Done => Ok(Answer::Done),
         Submits::Refused(refused) if refused == why => Ok(Answer::Refused),
         _ => Err(Why::Unlike),

@@ -38,8 +38,8 @@ pub(crate) enum Polls {
 
 /// A driver with the tokens of its operations. `Unmet` comes where the condition of a call isn't met, and then the call isn't made.
 pub(crate) trait Stage {
-    /// Submits a request, under the last group that was made or under none.
-    fn submit(&mut self, ask: Ask, under: bool) -> Result<Submits, Why>;
+    /// Submits a request, under the last group that was made or under none, and linked or not.
+    fn submit(&mut self, ask: Ask, under: bool, linked: bool) -> Result<Submits, Why>;
 
     /// Whether the last group that was made is canceled.
     fn canceled(&self) -> Result<bool, Why>;

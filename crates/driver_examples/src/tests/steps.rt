@@ -13,6 +13,8 @@ pub(crate) enum Step {
     Submit(Ask, Submits),
     /// A request is submitted under the last group that was made.
     Under(Ask, Submits),
+    /// A request is submitted under no group, linked.
+    Linked(Ask, Submits),
     /// A group is made, which isn't canceled.
     Group,
     /// The last group is canceled, which has these members.
@@ -70,6 +72,8 @@ pub(crate) enum Own {
     Inject(u64),
     /// The serial of the entry in flight at the first place, if there is one.
     Flies(Option<u64>),
+    /// Whether what is in flight at a place is bound to what is directly before it.
+    Binds(usize, bool),
 }
 
 /// A driver with calls that only one over its ring has.
@@ -84,6 +88,9 @@ pub(crate) const ASK: Ask = Ask(Asks::Read, 0, "01");
 /// That read is submitted.
 pub(crate) const READ: Step = Step::Submit(ASK, Submits::Done);
 
+/// That read is submitted, linked.
+pub(crate) const LINKED_READ: Step = Step::Linked(ASK, Submits::Done);
+
 /// A turn that names nobody.
 pub(crate) const TURN: Step = Step::Turn(None, &[]);
 
@@ -93,8 +100,13 @@ pub(crate) fn is_like(like: bool) -> Result<(), Why> {
 }
 
 // A request is submitted.
-fn submits<S: Stage>(stage: &mut S, ask: Ask, under: bool, want: Submits) -> Result<(), Why> {
-    is_like(stage.submit(ask, under)? == want)
+fn submits<S: Stage>(
+    stage: &mut S,
+    ask: Ask,
+    (under, linked): (bool, bool),
+    want: Submits,
+) -> Result<(), Why> {
+    is_like(stage.submit(ask, under, linked)? == want)
 }
 
 // A group is made.
@@ -152,8 +164,9 @@ fn turns<S: Stage>(
 /// Makes a step. `Unlike` comes where it answers otherwise than it says.
 pub(crate) fn make_step<S: Stage + OwnCalls>(stage: &mut S, step: Step) -> Result<(), Why> {
     match step {
-        Step::Submit(ask, want) => submits(stage, ask, false, want),
-        Step::Under(ask, want) => submits(stage, ask, true, want),
+        Step::Submit(ask, want) => submits(stage, ask, (false, false), want),
+        Step::Under(ask, want) => submits(stage, ask, (true, false), want),
+        Step::Linked(ask, want) => submits(stage, ask, (false, true), want),
         Step::Group => makes_group(stage),
         Step::CancelAll(members) => cancels_all(stage, members),
         Step::Pends(n, task) => polls(stage, n, task, &[], Polls::Pending),

@@ -181,7 +181,8 @@ impl<B: IoBufMut + Drop> IoUringDriver<MemRing, B> {
     /// Executes what is in flight at a place with a reported outcome: it becomes the last completion. A close moves nothing. The bytes
     /// that come go from the handle into the operation's buffer, those that are sent are copied from the buffer to the handle, and those of
     /// a splice go from one handle to the other; an error leaves the buffer as it was submitted. Only what sends or splices takes memory.
-    /// (not in monoio)
+    /// An error ends those behind it that wait for it too, in order, each with the error `CANCELED` and its buffer as it was submitted;
+    /// after a count the one that waits for it may be executed. (not in monoio)
     pub fn execute(&mut self, place: usize, told: Told) -> Result<Executed, ExecRefusal>
         ensures answers { (L : Ledger) → Stands (λ r. r) B.buffer self.old L → ExecutesFor B.buffer L place told self.new result }
         // Over every driver: what its ring does with its operations, and nothing else.

@@ -1,4 +1,4 @@
-use Rattle.std.proofs.Common.{false, IsTrue, IfSome, ◌<◌, ◌+◌, ◌≤◌, refl, sym, ap, subst, ◌∙◌, arith, length, length-append}
+use Rattle.std.proofs.Common.{IsTrue, IfSome, ◌<◌, ◌+◌, ◌≤◌, refl, sym, ap, subst, ◌∙◌, arith, length, length-append}
 use Rattle.std.specs.FinMap as map
 use Rattle.op_slots.specs.declared.slab.TheConstants.{MAX_LIVE}
 use Rattle.ring_core.specs.Entry.{call_entry}
@@ -22,7 +22,7 @@ use Rattle.uring_driver.proofs.Sound.{sound-more, sound-keeps}
 use Rattle.driver_core.specs.Groups.{AreInSlots}
 use Rattle.driver_core.proofs.Placing.{in-slots-joined, joined-at}
 use Rattle.uring_driver.proofs.Submits.{stands-submits, stands-canceled, why-refused, put-over, adds-over}
-use Rattle.uring_driver.proofs.uring.IoUringDriver.submit_with.Goals as goal
+use Rattle.uring_driver.proofs.uring.IoUringDriver.submit_entry.Goals as goal
 
 pub invariant_of-self : goal.invariant_of-self
 invariant_of-self g c =
@@ -140,15 +140,15 @@ returns-clause-answers g c =
     let more : map.len d.slots.values + (places held + one_if (makes c.args.request)) + 1 ≤ c.join-2.new.self.room =
     (let a = ok.spare in let b = c.join-2.ensures.room in let s = ap map.len c.in-Ok.ensures.slots in
     let h = ap one_if c.makes-maker.ensures in omega (arith, a, b, s, h)) in
-    stands-submits view g.B.IoBufMut.buffer d _ L c.args.request c.args.under handle op.key (view made.ring).spare spare mid held stands
-    user
+    stands-submits view g.B.IoBufMut.buffer d _ L c.args.request c.args.under handle c.args.linked op.key (view made.ring).spare spare mid
+    held stands user
     (subst (λ m. map.len m < MAX_LIVE) c.in-Ok.ensures.slots ok.few) puts.free puts.below puts.slots
     (c.in-Ok.ensures.told tells (fits-split (view d.ring.ring).queue d.ring.due (view d.ring.ring).capacity stands.fits))
     roomy
     (c.join-2.ensures.told tells ∙ ap (λ e. with_spare (pushed mid e) spare) c.call.ensures
-    ∙ ap (λ k. with_spare (pushed mid (call_entry k c.number-number.result false c.call-call.result)) spare) c.key-key.ensures
-    ∙ ap (λ n. with_spare (pushed mid (call_entry op.key n false c.call-call.result)) spare) (c.number-number.ensures ∙ puts.number)
-    ∙ ap (λ x. with_spare (pushed mid (call_entry op.key d.given false x)) spare) c.call-call.ensures)
+    ∙ ap (λ k. with_spare (pushed mid (call_entry k c.number-number.result c.args.linked c.call-call.result)) spare) c.key-key.ensures
+    ∙ ap (λ n. with_spare (pushed mid (call_entry op.key n c.args.linked c.call-call.result)) spare) (c.number-number.ensures ∙ puts.number)
+    ∙ ap (λ x. with_spare (pushed mid (call_entry op.key d.given c.args.linked x)) spare) c.call-call.ensures)
     same more can puts.given (c.join.ensures ∙ ap (λ hs. op_joined held hs c.makes-maker.result) c.names.ensures
     ∙ ap (op_joined held (named c.args.request)) c.makes-maker.ensures)
     named_by within open_group op puts.number adds members)
@@ -160,8 +160,8 @@ returns-then-is_under_canceled-clause-answers g c =
     let user = subst (λ x. IsTrue (holds_all x (named c.args.request))) (sym c.self.view_is) c.requires.held in
     let within = subst (λ x. IfSome c.args.under (λ n. n < group_count x)) (sym c.self.view_is) c.requires.known in
     rw (← c.self.view_is) (
-    λ tells L stands handle named_by. stands-canceled g.R.Ring.view g.B.IoBufMut.buffer d L c.args.request c.args.under handle stands user
-    named_by within (sym c.is_under_canceled.ensures ∙ c.if-is_under_canceled.true))
+    λ tells L stands handle named_by. stands-canceled g.R.Ring.view g.B.IoBufMut.buffer d L c.args.request c.args.under handle c.args.linked
+    stands user named_by within (sym c.is_under_canceled.ensures ∙ c.if-is_under_canceled.true))
 
 pub returns-clause-joins : goal.returns-clause-joins
 returns-clause-joins g c =
