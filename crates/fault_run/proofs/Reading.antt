@@ -1,5 +1,5 @@
 -- What lines stand for.
-use Rattle.std.proofs.Common.{◌≡◌, ◌∙◌, ℕ, List, ◌∷◌, ◌++◌, get_or, refl, ap, sym, subst, arith, Option, Some, None}
+use Rattle.std.proofs.Common.{◌≡◌, ◌∙◌, ℕ, true, false, List, [], ◌∷◌, ◌++◌, get_or, refl, ap, sym, subst, arith, Option, Some, None}
 use Rattle.std.specs.Prelude.{MatchOption, codes, decimal}
 use Rattle.ring_core.specs.declared.ledger.Event.{Event}
 use Rattle.ring_core.specs.declared.ledger.Event.TheVariants.{Give, Feed, FeedMessage, End, Look, Close, Submit, Poll, Drop, Cancel}
@@ -7,6 +7,7 @@ use Rattle.ring_core.specs.declared.ledger.Event.TheVariants.{NewCanceller, NewH
 use Rattle.ring_core.specs.declared.request.Told.{Told}
 use Rattle.event_text.specs.TextEvent.{StandsFor, event_text, told_words}
 use Rattle.event_text.specs.TextLines.{IsWrong}
+use Rattle.event_text.specs.TextRequest.{request_words}
 use Rattle.event_text.specs.TextWords.{spaced}
 use Rattle.event_text.proofs.TextEvents.{stands_once}
 use Rattle.fault_run.specs.declared.line.Line.{Line}
@@ -54,6 +55,11 @@ completes-if text rest execution event (Some l) text-is execution-is stands foun
 first-differs : (a b : ℕ) (xs ys : List ℕ) → (a ≡ b → ⊥) → a ∷ xs ≡ b ∷ ys → ⊥
 first-differs a b xs ys other same = other (ap (λ zs. get_or zs 0 0) same)
 
+-- The text of a linked request differs from one with another first byte, whatever its words are.
+link-differs : (words : List (List ℕ)) (b : ℕ) (ys : List ℕ) → (108 ≡ b → ⊥) → spaced (codes "link" ∷ words) ≡ b ∷ ys → ⊥
+link-differs [] b ys other same = first-differs 108 b _ ys other same
+link-differs (word ∷ words) b ys other same = first-differs 108 b _ ys other same
+
 -- The text of an event that isn't taken is neither a completion's nor `ring`.
 untaken : (event : Event) → (IsTaken event → ⊥) → (line : Line) → Says (event_text event) line → (other : Event) × (line ≡ Of other) × IsTaken other
 untaken event refused (Of other) says = (other, refl, says.1)
@@ -62,15 +68,21 @@ untaken (FeedMessage h address bytes) refused (Complete word told) says =
     absurd (first-differs 109 99 _ _ (λ is. omega (arith, is)) says.2)
 untaken (End h) refused (Complete word told) says = absurd (first-differs 101 99 _ _ (λ is. omega (arith, is)) says.2)
 untaken (Look h) refused (Complete word told) says = absurd (first-differs 108 99 _ _ (λ is. omega (arith, is)) says.2)
+untaken (Submit request None true) refused (Complete word told) says =
+    absurd (link-differs (request_words request) 99 _ (λ is. omega (arith, is)) says.2)
+untaken (Submit request (Some c) true) refused (Complete word told) says =
+    absurd (first-differs 108 99 _ _ (λ is. omega (arith, is)) says.2)
 untaken (Exec place report) refused (Complete word told) says = absurd (first-differs 101 99 _ _ (λ is. omega (arith, is)) says.2)
 untaken (Feed h bytes) refused Ring says = absurd (first-differs 102 114 _ _ (λ is. omega (arith, is)) says)
 untaken (FeedMessage h address bytes) refused Ring says = absurd (first-differs 109 114 _ _ (λ is. omega (arith, is)) says)
 untaken (End h) refused Ring says = absurd (first-differs 101 114 _ _ (λ is. omega (arith, is)) says)
 untaken (Look h) refused Ring says = absurd (first-differs 108 114 _ _ (λ is. omega (arith, is)) says)
+untaken (Submit request None true) refused Ring says = absurd (link-differs (request_words request) 114 _ (λ is. omega (arith, is)) says)
+untaken (Submit request (Some c) true) refused Ring says = absurd (first-differs 108 114 _ _ (λ is. omega (arith, is)) says)
 untaken (Exec place report) refused Ring says = absurd (first-differs 101 114 _ _ (λ is. omega (arith, is)) says)
 untaken (Give kind) refused line says = absurd (refused tt)
 untaken (Close h) refused line says = absurd (refused tt)
-untaken (Submit request under) refused line says = absurd (refused tt)
+untaken (Submit request under false) refused line says = absurd (refused tt)
 untaken (Poll n task) refused line says = absurd (refused tt)
 untaken (Drop n) refused line says = absurd (refused tt)
 untaken (Cancel n) refused line says = absurd (refused tt)

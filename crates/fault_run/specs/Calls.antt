@@ -70,12 +70,12 @@ pub record CloseCall (old : Engine) (h : ℕ) (new : Engine) (released : Release
 pub record SubmitCall (old : Engine) (request : Request Buf Parts) (group : Option ℕ) (new : Engine)
     (result : Result (Submitted Buf) (SubmitError Buf)) : Type 0 where
   pub answers : IfOk result (λ submitted. (L : Ledger) → EngineStands old L → (handle : Option ℕ) → IsUnder L group handle →
-      SubmitsFor faulty_ring built L request handle new submitted)
+      SubmitsFor faulty_ring built false L request handle new submitted)
   pub token : IfOk result (λ submitted. AddsToken old new submitted)
   pub request_of : IfOk result (λ submitted. GivesRequest new submitted request)
   pub requests : KeepsRequests old new
   pub joins : IfOk result (λ submitted. JoinsFor old new request group submitted)
-  pub moves : SubmitMoves faulty_ring built request old new result
+  pub moves : SubmitMoves faulty_ring built false request old new result
   pub canceled : IsCanceled result ↔ (is_under_canceled (members_in old) group ≡ true)
   pub full : IsFullError result ↔ ((is_under_canceled (members_in old) group ≡ false) × (live_slots old ≡ MAX_LIVE))
   pub err : IfErr result (SubmitRefused faulty_ring built false request old new)

@@ -261,7 +261,7 @@ pub record MakesTurn (old : FaultSession) (answer : Answer) (new : FaultSession)
 abbrev pub StepsEvent : FaultSession → Event → Answer → FaultSession → Type 0
 StepsEvent old (Give kind) answer new = Gives old answer new
 StepsEvent old (Close h) answer new = ClosesIf (holds_handle (driver_in old) h) old h answer new
-StepsEvent old (Submit request under) answer new = StepsSubmit old request under answer new
+StepsEvent old (Submit request under linked) answer new = StepsSubmit old request under answer new
 StepsEvent old (Poll n task) answer new = RefusesNoOp old n answer new ⊎ Polls old n task answer new
 StepsEvent old (Drop n) answer new = RefusesNoOp old n answer new ⊎ Drops old n answer new
 StepsEvent old (Cancel n) answer new = RefusesNoOp old n answer new ⊎ Asks old n answer new

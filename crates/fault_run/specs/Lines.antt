@@ -1,19 +1,21 @@
 -- The lines that a run over a faulty ring takes, and what each stands for.
-use Rattle.std.specs.Prelude.{ℕ, ◌≡◌, ◌^◌, ◌<◌, List, ◌∷◌, codes, decimal}
+use Rattle.std.specs.Prelude.{ℕ, ◌≡◌, ◌^◌, ◌<◌, true, List, ◌∷◌, codes, decimal}
 use Rattle.ring_core.specs.declared.ledger.Event.{Event}
-use Rattle.ring_core.specs.declared.ledger.Event.TheVariants.{Feed, FeedMessage, End, Look, Exec}
+use Rattle.ring_core.specs.declared.ledger.Event.TheVariants.{Feed, FeedMessage, End, Look, Submit, Exec}
 use Rattle.ring_core.specs.declared.request.Told.{Told}
 use Rattle.event_text.specs.TextEvent.{StandsFor, IsTold, told_words}
 use Rattle.event_text.specs.TextWords.{spaced}
 use Rattle.fault_run.specs.declared.line.Line.{Line}
 use Rattle.fault_run.specs.declared.line.Line.TheVariants.{Of, Complete, Ring}
 
--- An event that a line may stand for: a call of the engine's user, or a turn. Nothing arrives at handles, and nothing is executed.
+-- An event that a line may stand for: a call of the engine's user, or a turn. Nothing arrives at handles, nothing is executed, and nothing
+-- is linked.
 abbrev pub IsTaken : Event → Type 0
 IsTaken (Feed h bytes) = ⊥
 IsTaken (FeedMessage h address bytes) = ⊥
 IsTaken (End h) = ⊥
 IsTaken (Look h) = ⊥
+IsTaken (Submit request under true) = ⊥
 IsTaken (Exec place told) = ⊥
 IsTaken event = Unit {0}
 

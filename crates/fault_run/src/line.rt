@@ -51,6 +51,7 @@ fn taken(event: Event) -> Option<Line>
         | Event::FeedMessage(_, _, _)
         | Event::End(_)
         | Event::Look(_)
+        | Event::Submit(_, _, true)
         | Event::Exec(_, _) => None,
         _ => Some(Line::Of(event)),
     }

@@ -92,7 +92,7 @@ impl FaultSession {
         match event {
             Event::Give(_) => self.give(),
             Event::Close(h) => Ok(self.close(h)),
-            Event::Submit(request, under) => self.submit(request, under),
+            Event::Submit(request, under, _) => self.submit(request, under),
             Event::Poll(n, task) => Ok(self.poll(n, task)),
             Event::Drop(n) => Ok(self.give_up(n)),
             Event::Cancel(n) => self.cancel(n),

@@ -1,5 +1,5 @@
 -- What the calls of the completion driver do, over any ring: its own clauses. Cited by its `OpDriver`.
-use Rattle.std.specs.Prelude.{ℕ, ◌≡◌, ◌↔◌, Bool, true, IsTrue, [], map, ◌∷◌, None, Some, Result, Ok, Err}
+use Rattle.std.specs.Prelude.{ℕ, ◌≡◌, ◌↔◌, Bool, true, false, IsTrue, [], map, ◌∷◌, None, Some, Result, Ok, Err}
 use Rattle.rent_buf.specs.Buffer.{Buffer}
 use Rattle.rent_buf.specs.Parts.{Parts}
 use Rattle.rent_buf.specs.declared.fault.OutOfMemory.{OutOfMemory}
@@ -30,14 +30,14 @@ use Rattle.uring_driver.specs.Uring.{holding_in, members_in, pending}
 abbrev pub UringSubmits : {R B : Type 0} → (R → RingView) → (B → Buffer) → Bool → Bool → IoUringDriver R B → IoUringDriver R B →
     Request B Parts → Result Token (SubmitError B) → Type 0
 UringSubmits view buffer tells steady old new request (Ok op) =
-    JoinsFor old new request None (Op op) × (IsTrue tells → SubmitMoves view buffer request old new (Ok (Op op)))
+    JoinsFor old new request None (Op op) × (IsTrue tells → SubmitMoves view buffer false request old new (Ok (Op op)))
 UringSubmits view buffer tells steady old new request (Err refused) = SubmitRefused view buffer steady request old new refused
 
 -- The same under a group. Under a canceled one nothing changes, and the request comes back.
 abbrev pub UringJoins : {R B : Type 0} → (R → RingView) → (B → Buffer) → Bool → Bool → IoUringDriver R B → IoUringDriver R B →
     Request B Parts → ℕ → Result (Submitted B) (SubmitError B) → Type 0
 UringJoins view buffer tells steady old new request group (Ok submitted) =
-    JoinsFor old new request (Some group) submitted × (IsTrue tells → SubmitMoves view buffer request old new (Ok submitted))
+    JoinsFor old new request (Some group) submitted × (IsTrue tells → SubmitMoves view buffer false request old new (Ok submitted))
 UringJoins view buffer tells steady old new request group (Err refused) = SubmitRefused view buffer steady request old new refused
 
 -- A poll: what it did to the slot at the token's key, to who holds handles and to the groups, and which closes joined what is pending.

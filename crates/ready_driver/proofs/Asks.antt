@@ -6,12 +6,13 @@ use Rattle.std.proofs.Math.Bool.{or-true, or-false}
 use Rattle.std.proofs.lemmas.Bool.Decides.{eqb_tells}
 use Rattle.ring_core.specs.Lists.{amended, passes}
 use Rattle.ring_core.specs.Ledger.{Ledger, Operation, Place, InQueue, InFlight, InDone, Reaped, Gone, Queued, Req, Cancel}
-use Rattle.ring_core.specs.Queue.{with_op, at_place, canceled_at, with_cancel, take_all, make_room, append}
+use Rattle.ring_core.specs.Queue.{with_op, canceled_at, with_take, with_cancel, take_all, make_room, append}
 use Rattle.ring_core.proofs.Amended.{changed-cases, joined-cases, there-before}
 use Rattle.ring_core.proofs.Taken.{length-take_each}
 use Rattle.ring_core.proofs.Taking.{Listed}
 use Rattle.ring_core.proofs.Listed.{joined}
 use Rattle.ready_driver.specs.Spelled.{asked, has_cancel}
+use Rattle.ready_driver.proofs.Free.{Free, AllFree}
 use Rattle.ready_driver.proofs.Flat.{take-none, flat-queue, flat-append, flat-joined, Unmoved, flat-changed}
 
 -- An operation at a place is calm: it is in flight, wasn't dropped and made nothing; or it is gone.
@@ -115,8 +116,8 @@ pub record Flies (T : Ledger) (n : ℕ) : Type 0 where
   pub place : o.place ≡ InFlight
 
 -- They are once the cancel of what is in flight was appended.
-pub asks-cancel : (M : Ledger) (m : ℕ) → Flies (take_all M) m → Asks M → Asks (append M (Cancel m))
-asks-cancel M m f h n =
+pub asks-cancel : (M : Ledger) (m : ℕ) → Flies (take_all M) m → AllFree M.ops → Asks M → Asks (append M (Cancel m))
+asks-cancel M m f free h n =
     let T : Ledger = take_all M in
     let a : Bool = canceled_in (slice_get M.ops n) in
     let mid : asked (append M (Cancel m)) n ≡ canceled_in (slice_get (amended T.ops m with_cancel) n) = (elim (eqb_tells n m) [
@@ -129,23 +130,24 @@ asks-cancel M m f h n =
         | inr c ↦ ap canceled_in c.1
       ])
     ]) in
-    mid ∙ ap (λ K. canceled_in (slice_get K.ops n)) (sym (flat-append M (Cancel m)))
+    mid ∙ ap (λ K. canceled_in (slice_get K.ops n)) (sym (flat-append M (Cancel m) free))
 
 -- They are once a close was appended.
-pub asks-close : (M : Ledger) (m : ℕ) → Asks M → Asks (append M (Queued.Close m))
-asks-close M m h n =
+pub asks-close : (M : Ledger) (m : ℕ) → AllFree M.ops → Asks M → Asks (append M (Queued.Close m))
+asks-close M m free h n =
     ap (λ b. canceled_in (slice_get M.ops n) || b) (cancel-close M.queue m n) ∙ h n
-    ∙ ap (λ K. canceled_in (slice_get K.ops n)) (sym (flat-append M (Queued.Close m)))
+    ∙ ap (λ K. canceled_in (slice_get K.ops n)) (sym (flat-append M (Queued.Close m) free))
 
 -- They are once a new operation and its request joined.
-pub asks-joined : (M : Ledger) (o : Operation) → o.canceled ≡ false → with_cancel o ≡ o → Listed M → Asks M → Asks (joined M o)
-asks-joined M o fresh fixed l h n =
+pub asks-joined : (M : Ledger) (o : Operation) → o.canceled ≡ false → with_cancel o ≡ o → Free o → Listed M → AllFree M.ops → Asks M →
+    Asks (joined M o)
+asks-joined M o fresh fixed free l all h n =
     let T : Ledger = take_all M in
     let count : length T.ops ≡ length M.ops = length-take_each (record M { queue = [] }) M.queue in
-    let mid : asked (joined M o) n ≡ canceled_in (slice_get (T.ops ++ at_place InFlight o ∷ []) n) =
+    let mid : asked (joined M o) n ≡ canceled_in (slice_get (T.ops ++ with_take None o ∷ []) n) =
     (ap (λ b. canceled_in (slice_get (M.ops ++ o ∷ []) n) || b) (cancel-req M.queue (length M.ops) n)
     ∙ elim (joined-cases M.ops o n) [
-      | inl e ↦ elim (joined-cases T.ops (at_place InFlight o) n) [
+      | inl e ↦ elim (joined-cases T.ops (with_take None o) n) [
         | inl f ↦ (
             let none : has_cancel n M.queue ≡ false = ap (λ x. canceled_in x || has_cancel n M.queue) (sym e.1) ∙ h n
             ∙ ap canceled_in f.1 in
@@ -153,12 +155,12 @@ asks-joined M o fresh fixed l h n =
             ∙ sym (ap canceled_in f.2))
         | inr f ↦ absurd (f.0 (e.0 ∙ sym count))
       ]
-      | inr e ↦ elim (joined-cases T.ops (at_place InFlight o) n) [
+      | inr e ↦ elim (joined-cases T.ops (with_take None o) n) [
         | inl f ↦ absurd (e.0 (f.0 ∙ count))
         | inr f ↦ ap (λ x. canceled_in x || has_cancel n M.queue) e.1 ∙ h n ∙ ap canceled_in (sym f.1)
       ]
     ]) in
-    mid ∙ ap (λ ops. canceled_in (slice_get ops n)) (sym (flat-joined M o fixed l))
+    mid ∙ ap (λ ops. canceled_in (slice_get ops n)) (sym (flat-joined M o fixed free l all))
 
 -- A change that leaves whether cancels were taken.
 canceled-kept : (ops : List Operation) (n : ℕ) (f : Operation → Operation) → ((o : Operation) → (f o).canceled ≡ o.canceled) → (k : ℕ) →
@@ -173,8 +175,8 @@ canceled-kept ops n f same k = elim (changed-cases f ops n k) [
     at (Some o) = same o
 
 -- They are after a change that leaves whether cancels were taken.
-pub asks-changed : (L : Ledger) (n : ℕ) (f : Operation → Operation) → Unmoved f → ((o : Operation) → (f o).canceled ≡ o.canceled) → Asks L →
-    Asks (with_op L n f)
-asks-changed L n f u same h k =
+pub asks-changed : (L : Ledger) (n : ℕ) (f : Operation → Operation) → Unmoved f → ((o : Operation) → (f o).canceled ≡ o.canceled) →
+    AllFree L.ops → Asks L → Asks (with_op L n f)
+asks-changed L n f u same free h k =
     ap (λ b. b || has_cancel k L.queue) (canceled-kept L.ops n f same k) ∙ h k
-    ∙ sym (ap (λ K. canceled_in (slice_get K.ops k)) (flat-changed L n f u) ∙ canceled-kept (take_all L).ops n f same k)
+    ∙ sym (ap (λ K. canceled_in (slice_get K.ops k)) (flat-changed L n f u free) ∙ canceled-kept (take_all L).ops n f same k)

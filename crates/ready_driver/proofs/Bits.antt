@@ -1,11 +1,13 @@
 -- Sets of readiness bits, bit by bit.
-use Rattle.std.proofs.Common.{◌≡◌, ◌∙◌, ℕ, sym, ap, arith}
-use Rattle.std.specs.Prelude.{◌-◌, ◌<◌, bit_and, bit_or, min}
-use Rattle.std.proofs.Common.{inl, inr}
+use Rattle.std.proofs.Common.{◌≡◌, ◌≢◌, ◌∙◌, ◌⊎◌, inl, inr, ℕ, zero, suc, true, false, not, ◌==◌, sym, ap, arith, true≢false}
+use Rattle.std.specs.Prelude.{◌+◌, ◌-◌, ◌^◌, ◌<◌, bit_and, bit_or, min}
 use Rattle.std.specs.Int.{bit_at, w8}
 use Rattle.std.proofs.lemmas.Bool.{cases_lt}
-use Rattle.std.proofs.lemmas.Nat.{or_lt, and_comm, and-not, le_or_l}
+use Rattle.std.proofs.lemmas.Bool.Decides.{eqb_tells}
+use Rattle.std.proofs.lemmas.Nat.{or_lt, and_comm, and_assoc, and-not, le_or_l}
 use Rattle.std.proofs.lemmas.Nat.Bits.{bit_at_and, bit_at_not, bit_at_above, bit_at-lt}
+use lib.Bits.{and_zero_r}
+use native.Mathlib.Nat.{pow-suc}
 use Rattle.ready_driver.specs.Ready.{without}
 
 -- The union of two sets is a set.
@@ -40,3 +42,23 @@ bits_without a b k a_set b_set = elim (cases_lt k 8) [
       let none_left = bit_at_above (without a b) 6 k (omega arith) (omega arith) in
       omega arith
 ]
+
+-- A number is below the power of two of it.
+below-power : (n : ℕ) → n < 2 ^ n
+below-power zero = omega arith
+below-power (suc n) = omega (arith, below-power n, pow-suc 2 n)
+
+-- A set that has no bit of another has none of it either without some of its bits.
+pub none-without : (a b c : ℕ) → not (bit_and a c == 0) ≡ false → bit_and (without a b) c ≡ 0
+none-without a b c none =
+    let w : ℕ = b + a in
+    let low : w < 2 ^ w = below-power w in
+    let rest : ℕ = 2 ^ w - 1 - b in
+    let parts : bit_and rest a + bit_and b a ≡ a = and-not w b a (omega (arith, low)) (omega (arith, low)) in
+    let swapped = and_comm b a in
+    let is : without a b ≡ bit_and rest a = omega (arith, parts, swapped) in
+    ap (λ x. bit_and x c) is ∙ and_assoc c rest a ∙ ap (bit_and rest) (by (eqb_tells (bit_and a c) 0)) ∙ and_zero_r rest
+  where
+    by : (((bit_and a c == 0) ≡ true) × (bit_and a c ≡ 0)) ⊎ (((bit_and a c == 0) ≡ false) × (bit_and a c ≢ 0)) → bit_and a c ≡ 0
+    by (inl e) = e.1
+    by (inr e) = absurd (true≢false (sym (ap not e.0) ∙ none))

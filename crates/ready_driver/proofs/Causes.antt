@@ -18,7 +18,7 @@ use Rattle.ring_core.specs.Ledger.{user_holds, is_marked, is_member, is_under_ma
 use Rattle.ring_core.specs.Queue.{take_all}
 use Rattle.ring_core.specs.Refusal.{cause, refused_if, lacks_handle, has_no_canceller, has_bad_handle_event}
 use Rattle.ring_core.proofs.Amended.{get-map}
-use Rattle.ring_core.proofs.Taking.{Took, take_all-ops, taken_place, with_take}
+use Rattle.ring_core.proofs.Taking.{Took, take_all-ops, taken_place, with_taking}
 use Rattle.ready_driver.specs.Legacy.{LegacyOp, Legacy, seen, slot_in, slot_at, holds_at, is_under_at, members_at}
 use Rattle.ready_driver.specs.LegacyStep.{misses_handle, has_no_room, legacy_cause}
 use Rattle.ready_driver.specs.Readiness.{IsDriven, slot_by}
@@ -59,7 +59,7 @@ sees-group D L under s = ap (λ S. group_under S under) (sees D L s) ∙ bare-gr
 
 -- A canceller is there by that alone.
 bare-canceller : (L : Ledger) (request : Request Buffer Parts) (under : Option ℕ) →
-    has_no_canceller (bare L) (Submit request under) ≡ has_no_canceller L (Submit request under)
+    has_no_canceller (bare L) (Submit request under false) ≡ has_no_canceller L (Submit request under false)
 bare-canceller L request None = refl
 bare-canceller L request (Some handle) = refl
 
@@ -98,11 +98,11 @@ calm-kept (Reaped outcome) dropped made c = absurd c
 calm-kept Gone dropped made c = refl
 
 -- A test of a slot is one of the operation that was looked up, where it is so of each.
-by-slot : {X : Type 0} (test : Option LegacyOp → X) (read : Operation → X) (x : Option Operation) (canceled : Bool) →
-    ((o : Operation) → x ≡ Some o → test (shown (with_take canceled o)) ≡ read o) →
-    option_map test (option_map shown (option_map (with_take canceled) x)) ≡ option_map read x
-by-slot test read None canceled h = refl
-by-slot test read (Some o) canceled h = ap Some (h o refl)
+by-slot : {X : Type 0} (test : Option LegacyOp → X) (read : Operation → X) (x : Option Operation) (canceled : Bool) (waits : Option ℕ) →
+    ((o : Operation) → x ≡ Some o → test (shown (with_taking canceled waits o)) ≡ read o) →
+    option_map test (option_map shown (option_map (with_taking canceled waits) x)) ≡ option_map read x
+by-slot test read None canceled waits h = refl
+by-slot test read (Some o) canceled waits h = ap Some (h o refl)
 
 -- A driver that stands for a ledger.
 module _ (D : Legacy) (L : Ledger) (st : Stands D L) where
@@ -112,17 +112,19 @@ module _ (D : Legacy) (L : Ledger) (st : Stands D L) where
 
   -- A test of the slots is one of the operations.
   pub tests-alike : {X : Type 0} (test : Option LegacyOp → X) (read : Operation → X) →
-      ((o : Operation) (canceled : Bool) → Calm (with_take canceled o) → test (shown (with_take canceled o)) ≡ read o) → (k : ℕ) →
+      ((o : Operation) (canceled : Bool) (waits : Option ℕ) → Calm (with_taking canceled waits o) →
+      test (shown (with_taking canceled waits o)) ≡ read o) → (k : ℕ) →
       option_map test (slice_get D.slots k) ≡ option_map read (slice_get L.ops k)
   tests-alike test read same k =
       ap (λ xs. option_map test (slice_get xs k)) st.shows.slots
       ∙ ap (option_map test) (get-map shown (take_all L).ops k ∙ ap (option_map shown) (took k).is)
-      ∙ by-slot test read (slice_get L.ops k) (took k).canceled (λ o there. same o (took k).canceled
-      (st.settled.half.calm k (with_take (took k).canceled o) ((took k).is ∙ ap (option_map (with_take (took k).canceled)) there)))
+      ∙ by-slot test read (slice_get L.ops k) (took k).canceled (took k).waits_for (λ o there. same o (took k).canceled (took k).waits_for
+      (st.settled.half.calm k (with_taking (took k).canceled (took k).waits_for o)
+      ((took k).is ∙ ap (option_map (with_taking (took k).canceled (took k).waits_for)) there)))
 
   -- There is a slot of each operation that isn't gone.
   live-slots : numbers_where is_some 0 D.slots ≡ numbers_where is_live 0 L.ops
-  live-slots = numbers-like is_some is_live 0 D.slots L.ops (tests-alike is_some is_live (λ o canceled calm.
+  live-slots = numbers-like is_some is_live 0 D.slots L.ops (tests-alike is_some is_live (λ o canceled waits calm.
       ap is_some (slot-by-taken o.place _) ∙ slot-live is_some false true o.place _ refl refl ∙ if-same (is_kept o.place)))
     where
       if-same : (b : Bool) → (if b then true else false) ≡ b
@@ -140,7 +142,7 @@ module _ (D : Legacy) (L : Ledger) (st : Stands D L) where
 
   -- There is a slot of a number exactly where the operation is its user's.
   slot-owned : (n : ℕ) → is_some (slot_at D n) ≡ passes is_owned (slice_get L.ops n)
-  slot-owned n = passes-some (slice_get D.slots n) (slice_get L.ops n) (tests-alike is_some is_owned (λ o canceled calm.
+  slot-owned n = passes-some (slice_get D.slots n) (slice_get L.ops n) (tests-alike is_some is_owned (λ o canceled waits calm.
       ap is_some (slot-by-taken o.place _) ∙ slot-live is_some false true o.place _ refl refl ∙ if-and (is_kept o.place) true
       ∙ and-true (is_kept o.place) ∙ calm-kept o.place o.dropped o.made calm) n)
     where
@@ -153,7 +155,7 @@ module _ (D : Legacy) (L : Ledger) (st : Stands D L) where
   same-members g =
       ap (λ S. if is_marked S g then [] else numbers_where (is_under_at g) 0 D.slots) (sees D L st.shows)
       ∙ ap (λ xs. if is_marked L g then [] else xs) (numbers-like (is_under_at g) (is_member g) 0 D.slots L.ops
-      (tests-alike (is_under_at g) (is_member g) (λ o canceled calm.
+      (tests-alike (is_under_at g) (is_member g) (λ o canceled waits calm.
       let under : Bool = passes (λ group. group == g) o.group in
       ap (is_under_at g) (slot-by-taken o.place _) ∙ slot-live (is_under_at g) false under o.place _ refl refl
       ∙ if-and (is_kept o.place) under ∙ and-swap (is_kept o.place) under
@@ -191,18 +193,18 @@ module _ (D : Legacy) (L : Ledger) (st : Stands D L) where
       ∙ ap (λ b. refused_if (lacks_handle L (h ∷ [])) NoHandle (refused_if b BadHandleEvent None))
       (ap (λ S. has_bad_handle_event S e) (sees D L st.shows) ∙ same)
 
-  -- A submission.
+  -- A submission that isn't linked.
   submit-cause : (request : Request Buffer Parts) (under : Option ℕ) →
-      legacy_cause D (Submit request under) ≡ cause L (Submit request under)
+      legacy_cause D (Submit request under false) ≡ cause L (Submit request under false)
   submit-cause request under =
-      ap (λ b. refused_if b NoCanceller (refused_if (misses_handle D (named request)) NoHandle
-      (refused_if (has_no_room D (Submit request under)) Full None)))
-      (ap (λ S. has_no_canceller S (Submit request under)) (sees D L st.shows) ∙ bare-canceller L request under)
-      ∙ ap (λ b. refused_if (has_no_canceller L (Submit request under)) NoCanceller (refused_if b NoHandle
-      (refused_if (has_no_room D (Submit request under)) Full None))) (misses-lacks (named request))
-      ∙ ap (λ b. refused_if (has_no_canceller L (Submit request under)) NoCanceller (refused_if (lacks_handle L (named request)) NoHandle
+      let e : Event = Submit request under false in
+      ap (λ b. refused_if b NoCanceller (refused_if (misses_handle D (named request)) NoHandle (refused_if (has_no_room D e) Full None)))
+      (ap (λ S. has_no_canceller S e) (sees D L st.shows) ∙ bare-canceller L request under)
+      ∙ ap (λ b. refused_if (has_no_canceller L e) NoCanceller (refused_if b NoHandle (refused_if (has_no_room D e) Full None)))
+      (misses-lacks (named request))
+      ∙ ap (λ b. refused_if (has_no_canceller L e) NoCanceller (refused_if (lacks_handle L (named request)) NoHandle
       (refused_if (not b && nat_le MOST_LIVE (length (numbers_where is_some 0 D.slots))) Full None))) (sees-under D L under st.shows)
-      ∙ ap (λ xs. refused_if (has_no_canceller L (Submit request under)) NoCanceller (refused_if (lacks_handle L (named request)) NoHandle
+      ∙ ap (λ xs. refused_if (has_no_canceller L e) NoCanceller (refused_if (lacks_handle L (named request)) NoHandle
       (refused_if (not (is_under_marked L under) && nat_le MOST_LIVE (length xs)) Full None))) live-slots
 
   -- It refuses what the machine refuses.
@@ -213,7 +215,8 @@ module _ (D : Legacy) (L : Ledger) (st : Stands D L) where
   same-cause (End h) r = arrives-cause (End h) h refl
   same-cause (Look h) r = ap (λ b. refused_if b NoHandle None) (misses-lacks (h ∷ []))
   same-cause (Close h) r = ap (λ b. refused_if b NoHandle None) (misses-lacks (h ∷ []))
-  same-cause (Submit request under) r = submit-cause request under
+  same-cause (Submit request under true) r = absurd r
+  same-cause (Submit request under false) r = submit-cause request under
   same-cause (Poll n task) r = ap (λ b. refused_if (not b) NoOp None) (slot-owned n)
   same-cause (Drop n) r = ap (λ b. refused_if (not b) NoOp None) (slot-owned n)
   same-cause (Cancel n) r = ap (λ b. refused_if (not b) NoOp None) (slot-owned n)

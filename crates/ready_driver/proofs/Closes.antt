@@ -7,10 +7,10 @@ use Rattle.std.proofs.lemmas.Option.{slice_get_within}
 use Rattle.ring_core.specs.declared.request.Told.TheVariants.{Count}
 use Rattle.ring_core.specs.declared.ledger.Event.{Event}
 use Rattle.ring_core.specs.declared.ledger.Event.TheVariants.{Turn, Exec}
-use Rattle.ring_core.specs.declared.ledger.Refusal.TheVariants.{NotFlying, BadOutcome}
+use Rattle.ring_core.specs.declared.ledger.Refusal.TheVariants.{NotFlying, Waiting, BadOutcome}
 use Rattle.ring_core.specs.Lists.{passes}
 use Rattle.ring_core.specs.Ledger.{Ledger, Queued, Req, Cancel, Item, Op}
-use Rattle.ring_core.specs.Refusal.{cause, refused_if, allowed}
+use Rattle.ring_core.specs.Refusal.{cause, refused_if, waits, allowed}
 use Rattle.ring_core.specs.Queue.{take_all}
 use Rattle.ring_core.specs.Turn.{reap_each, reap_all, exec_step}
 use Rattle.ring_core.specs.Step.{step}
@@ -54,10 +54,10 @@ close-executes T xs ys h e =
     let item : slice_get T.flying (length xs) ≡ Some (Item.Close h) =
     ap (λ zs. slice_get zs (length xs)) e ∙ get-behind xs (Item.Close h) ys in
     let u : cause T (Exec (length xs) (Count 0)) ≡ None =
-    ap (λ b. refused_if b NotFlying (refused_if (not (passes (λ i. allowed T i (Count 0))
-    (slice_get T.flying (length xs)))) BadOutcome None))
+    ap (λ b. refused_if b NotFlying (refused_if (passes (waits T) (slice_get T.flying (length xs))) Waiting
+    (refused_if (not (passes (λ i. allowed T i (Count 0)) (slice_get T.flying (length xs)))) BadOutcome None)))
     (lt-leb (length T.flying) (length xs) (slice_get_within T.flying (length xs) (Item.Close h) item))
-    ∙ ap (λ x. refused_if (not (passes (λ i. allowed T i (Count 0)) x)) BadOutcome None) item in
+    ∙ ap (λ x. refused_if (passes (waits T) x) Waiting (refused_if (not (passes (λ i. allowed T i (Count 0)) x)) BadOutcome None)) item in
     ap (λ s. s.0) (step-row T (Exec (length xs) (Count 0)) u)
     ∙ ap (λ x. (exec_step T (length xs) (Count 0) x).0) item
     ∙ ap (λ zs. record T { flying = zs; done = T.done ++ Item.Close h ∷ [] })

@@ -22,6 +22,7 @@ use Rattle.driver_core.proofs.Lists.{amended-twice}
 use Rattle.ready_driver.specs.Spelled.{place_of, spelled_out, spelled_reply, drop_spelling, row_spelling}
 use Rattle.ready_driver.specs.Legacy.{Legacy}
 use Rattle.ready_driver.specs.LegacyStep.{freed, legacy_row}
+use Rattle.ready_driver.proofs.Free.{AllFree, free-changed, free-canceled}
 use Rattle.ready_driver.proofs.Flat.{flat-push, flat-changed}
 use Rattle.ready_driver.proofs.Closes.{turn-takes}
 use Rattle.ready_driver.proofs.Settled.{Stands}
@@ -59,8 +60,8 @@ module _ (D : Legacy) (L : Ledger) (n : ℕ) (st : Stands D L) (f : OwnedAt L n)
       let K : Ledger = with_op L n with_drop in
       ap (λ s. (step s.0 Turn).0) drop-row
       ∙ turn-takes (push K (Queued.Cancel n)) ((stays-push K (Queued.Cancel n)).done ∙ st.settled.half.idle)
-      ∙ flat-push K (Queued.Cancel n)
-      ∙ ap (λ M. take_one M (Queued.Cancel n)) (flat-changed L n with_drop drop-unmoved)
+      ∙ flat-push K (Queued.Cancel n) (free-changed L.ops n with_drop (λ x g. g) st.settled.half.free)
+      ∙ ap (λ M. take_one None M (Queued.Cancel n)) (flat-changed L n with_drop drop-unmoved st.settled.half.free)
 
   -- The operation then.
   abbrev dropped_op : Operation
@@ -71,6 +72,12 @@ module _ (D : Legacy) (L : Ledger) (n : ℕ) (st : Stands D L) (f : OwnedAt L n)
   dropped-there =
       get-amended with_cancel (amended (take_all L).ops n with_drop) n
       ∙ ap (option_map with_cancel) (get-amended with_drop (take_all L).ops n ∙ ap (option_map with_drop) t.there)
+
+  -- None of its operations is linked, or waits.
+  canceled-free : AllFree canceled.ops
+  canceled-free =
+      free-changed (amended (take_all L).ops n with_drop) n with_cancel (λ x g. free-canceled x.place x g)
+      (free-changed (take_all L).ops n with_drop (λ x g. g) (flat-taken D L n 0 st f t).free)
 
   -- The error of its cancel, which moves nothing.
   abbrev unmoved : Effect
@@ -92,7 +99,7 @@ module _ (D : Legacy) (L : Ledger) (n : ℕ) (st : Stands D L) (f : OwnedAt L n)
       let flat = flat-taken D L n 0 st f t in
       let result : Operation → Operation = with_result (Fail CANCELED) unmoved in
       ap (λ X. after X (Exec (place_of n X.flying) (Fail CANCELED) ∷ Turn ∷ [])) drop-taken
-      ∙ finish-dropped canceled p n dropped_op (Fail CANCELED) flat.queue flat.done (item-there D L n 0 st f t) dropped-there
+      ∙ finish-dropped canceled p n dropped_op (Fail CANCELED) flat.queue flat.done canceled-free (item-there D L n 0 st f t) dropped-there
       (ap (λ at. (canceled_at at (with_drop (flying D L n 0 st f t))).canceled) t.place)
       (ap (λ at. (canceled_at at (with_drop (flying D L n 0 st f t))).dropped) t.place)
       ∙ ap (λ ops. leave (record T {
@@ -112,6 +119,6 @@ module _ (D : Legacy) (L : Ledger) (n : ℕ) (st : Stands D L) (f : OwnedAt L n)
       let m = hands-alike None T.owners D.users (length T.world) (λ h is. (let x : ⊥ = cc in absurd x)) flat.counted users in
       meets-same (freed D n, Dropped) (after L (spelled_out (drop_spelling L n))) ended (spelled_reply L (drop_spelling L n)) Dropped
       drop-left (ap (λ s. s.1) drop-row)
-      (left-meets D L (place D L n 0 st f t) n ended_op st (item-there D L n 0 st f t) (taken-flies L n f.operation t) D.users
-      D.world T.world
+      (left-meets D L (place D L n 0 st f t) n ended_op (λ x g. free-canceled x.place (with_drop x) g) st (item-there D L n 0 st f t)
+      (taken-flies L n f.operation t) D.users D.world T.world
       (T.owners ++ []) m.0 (same-world D L n 0 st f t) (let e = m.1 in omega (arith, e)) Dropped)

@@ -170,21 +170,21 @@ module _ {I B : Type 0} (view : I → IoView) (buffer : B → Buffer) (d : Legac
 
       -- It is refused only as Full.
       cause-by : (marked full : Bool) → is_under_marked (seen D) handle ≡ marked → nat_le MOST_LIVE (length (live_at D)) ≡ full →
-          legacy_cause D (Submit r handle) ≡ submit_cause false false marked full
+          legacy_cause D (Submit r handle false) ≡ submit_cause false false marked full
       cause-by marked full m f =
           ap (λ b. submit_cause b (misses_handle D (named r)) (is_under_marked (seen D) handle) (nat_le MOST_LIVE (length (live_at D))))
-          (under-known (seen D) r under handle is)
+          (under-known (seen D) r under handle false is)
           ∙ ap (λ b. submit_cause false b (is_under_marked (seen D) handle) (nat_le MOST_LIVE (length (live_at D)))) user-there
           ∙ ap (λ b. submit_cause false false b (nat_le MOST_LIVE (length (live_at D)))) m ∙ ap (submit_cause false false marked) f
 
       -- Under a canceled group the request comes back.
       pub stands-canceled : is_under_canceled d.members under ≡ true →
-          LegacyAnswers view buffer D (Submit r handle) (CanceledAtOnce (held_of r)) d
+          LegacyAnswers view buffer D (Submit r handle false) (CanceledAtOnce (held_of r)) d
       stands-canceled canceled =
           let marked = under-marked d.members D under handle old.groups is known ∙ canceled in
-          let row : legacy_row D (Submit r handle) ≡ (D, CanceledAtOnce (held_of r)) =
+          let row : legacy_row D (Submit r handle false) ≡ (D, CanceledAtOnce (held_of r)) =
           ap (λ b. submit_at b D r (group_under (seen D) handle)) marked in
-          answers-row view buffer D (Submit r handle) (CanceledAtOnce (held_of r)) d
+          answers-row view buffer D (Submit r handle false) (CanceledAtOnce (held_of r)) d
           (cause-by true (nat_le MOST_LIVE (length (live_at D))) marked refl) (ap (λ p. p.1) row)
           (subst (LegacyStands view buffer d) (sym (ap (λ p. p.0) row)) old)
 
@@ -195,14 +195,14 @@ module _ {I B : Type 0} (view : I → IoView) (buffer : B → Buffer) (d : Legac
           (view new.handling.io).world ≡ (view d.handling.io).world →
           HandlesStand new.handling.table (view new.handling.io).keys (joined_at D r under) →
           new.members ≡ joins_if d.members under number key →
-          LegacyAnswers view buffer D (Submit r handle) (Given number) new
+          LegacyAnswers view buffer D (Submit r handle false) (Given number) new
       stands-submits new number key slot uncanceled few numbered ops free slots world handles members =
           let marked = under-marked d.members D under handle old.groups is known ∙ uncanceled in
-          let row : legacy_row D (Submit r handle) ≡ (joined_at D r under, Given (length D.slots)) =
+          let row : legacy_row D (Submit r handle false) ≡ (joined_at D r under, Given (length D.slots)) =
           ap (λ b. submit_at b D r (group_under (seen D) handle)) marked
           ∙ ap (submit_at false D r) (under-group (seen D) under handle is) in
           let live = old.live in
-          answers-row view buffer D (Submit r handle) (Given number) new
+          answers-row view buffer D (Submit r handle false) (Given number) new
           (cause-by false false marked (grind (arith, nat_tests)))
           (ap (λ p. p.1) row ∙ ap Given (sym numbered))
           (subst (LegacyStands view buffer new) (sym (ap (λ p. p.0) row)) (record {

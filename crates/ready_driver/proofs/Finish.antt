@@ -2,13 +2,14 @@
 use Rattle.std.proofs.Common.{◌≡◌, inl, inr, ℕ, suc, ◌≤◌, Bool, true, false, not, ◌&&◌, List, [], ◌∷◌, ◌++◌, length, remove, Option, Some}
 use Rattle.std.proofs.Common.{None}
 use Rattle.std.proofs.Common.{option_map, slice_get, refl, sym, ◌∙◌, ap, subst, arith, if◌then◌else◌}
+use Rattle.std.specs.Prelude.{is_some}
 use Rattle.std.proofs.lemmas.Bool.{lt-leb}
 use Rattle.std.proofs.lemmas.Bool.Decides.{eqb_tells}
 use Rattle.std.proofs.lemmas.Option.{slice_get_within}
 use Rattle.ring_core.specs.declared.request.Told.{Told}
 use Rattle.ring_core.specs.declared.world.HandleState.{HandleState}
 use Rattle.ring_core.specs.declared.ledger.Event.TheVariants.{Poll, Turn, Exec}
-use Rattle.ring_core.specs.declared.ledger.Refusal.TheVariants.{NoOp, NotFlying, BadOutcome}
+use Rattle.ring_core.specs.declared.ledger.Refusal.TheVariants.{NoOp, NotFlying, Waiting, BadOutcome}
 use Rattle.ring_core.specs.declared.ledger.Reply.TheVariants.{Handed}
 use Rattle.ring_core.specs.Lists.{amended, passes}
 use Rattle.ring_core.specs.Request.{call_of, held}
@@ -16,10 +17,9 @@ use Rattle.ring_core.specs.Outcome.{is_allowed}
 use Rattle.ring_core.specs.Effect.{Effect, made_by}
 use Rattle.ring_core.specs.Ledger.{Ledger, Operation, Owner, Gone, Item, Op, is_kept}
 use Rattle.ring_core.specs.Queue.{leave}
-use Rattle.ring_core.specs.Refusal.{cause, refused_if, allowed}
+use Rattle.ring_core.specs.Refusal.{cause, refused_if, waits, allowed}
 use Rattle.ring_core.specs.Turn.{with_reap, reap_if, reap_op, reap_each, reap_all, effect_of, with_result, made_owners, with_effect}
-use Rattle.ring_core.specs.Turn.{exec_op}
-use Rattle.ring_core.specs.Turn.{complete_at, exec_step}
+use Rattle.ring_core.specs.Turn.{exec_op, complete_at, released, exec_step}
 use Rattle.ring_core.specs.Step.{step, as_user, handed_over, poll_at, poll_step}
 use Rattle.ring_core.specs.Run.{after}
 use Rattle.ring_core.proofs.Amended.{get-amended, get-amended-other}
@@ -28,6 +28,7 @@ use Rattle.ring_core.proofs.Taking.{in_queue, in_flight, in_done, queue_mark, fl
 use Rattle.ring_core.proofs.Stepping.{step-row}
 use Rattle.driver_core.proofs.Lists.{amended-twice}
 use Rattle.ready_driver.specs.Spelled.{place_of}
+use Rattle.ready_driver.proofs.Free.{Free, AllFree, free-changed, releases-none}
 use Rattle.ready_driver.proofs.Flat.{take-none}
 use Rattle.ready_driver.proofs.Asks.{Calm, calm-changed, Flies}
 use Rattle.ready_driver.proofs.Settled.{Flat}
@@ -56,7 +57,8 @@ allows T o told = is_allowed T.world o.canceled (call_of o.request) told
 
 -- An operation in flight, at a place of a ledger whose queue is empty, and with nothing done.
 module _ (T : Ledger) (p n : ℕ) (o : Operation) (told : Told) (queue : T.queue ≡ []) (idle : T.done ≡ [])
-    (item : slice_get T.flying p ≡ Some (Op n)) (there : slice_get T.ops n ≡ Some o) (may : allows T o told ≡ true) where
+    (free : AllFree T.ops) (item : slice_get T.flying p ≡ Some (Op n)) (there : slice_get T.ops n ≡ Some o)
+    (may : allows T o told ≡ true) where
   -- What its execution moves.
   abbrev pub moves : Effect
   moves = effect_of T o.request told
@@ -68,10 +70,13 @@ module _ (T : Ledger) (p n : ℕ) (o : Operation) (told : Told) (queue : T.queue
   -- Its execution isn't refused.
   exec-unrefused : cause T (Exec p told) ≡ None
   exec-unrefused =
-      ap (λ b. refused_if b NotFlying (refused_if (not (passes (λ i. allowed T i told) (slice_get T.flying p))) BadOutcome None))
+      ap (λ b. refused_if b NotFlying (refused_if (passes (waits T) (slice_get T.flying p)) Waiting
+      (refused_if (not (passes (λ i. allowed T i told) (slice_get T.flying p))) BadOutcome None)))
       (lt-leb (length T.flying) p (slice_get_within T.flying p (Op n) item))
-      ∙ ap (λ x. refused_if (not (passes (λ i. allowed T i told) x)) BadOutcome None) item
-      ∙ ap (λ x. refused_if (not (passes (λ q. allows T q told) x)) BadOutcome None) there
+      ∙ ap (λ x. refused_if (passes (waits T) x) Waiting (refused_if (not (passes (λ i. allowed T i told) x)) BadOutcome None)) item
+      ∙ ap (λ x. refused_if (passes (λ q. is_some q.waits_for) x) Waiting
+      (refused_if (not (passes (λ q. allows T q told) x)) BadOutcome None)) there
+      ∙ ap (λ w. refused_if (is_some w) Waiting (refused_if (not (allows T o told)) BadOutcome None)) (free n o there).1
       ∙ ap (λ b. refused_if (not b) BadOutcome None) may
 
   -- It is executed.
@@ -79,7 +84,8 @@ module _ (T : Ledger) (p n : ℕ) (o : Operation) (told : Told) (queue : T.queue
   exec-executes =
       ap (λ s. s.0) (step-row T (Exec p told) exec-unrefused)
       ∙ ap (λ x. (exec_step T p told x).0) item
-      ∙ ap (λ x. exec_op (complete_at T p (Op n)) n told x) there
+      ∙ ap (λ x. released told (exec_op (complete_at T p (Op n)) n told x) n) there
+      ∙ releases-none told done_by n (free-changed T.ops n (with_result told moves) (λ x f. f) free)
 
   -- The turn behind that reaps it.
   turn-reaps : (step done_by Turn).0 ≡ reap_if o.dropped (record done_by { done = [] }) n
@@ -109,7 +115,8 @@ reaped_by told result o = with_reap (with_result told result o)
 
 -- An operation in flight, as above.
 module _ (T : Ledger) (p n : ℕ) (o : Operation) (told : Told) (queue : T.queue ≡ []) (idle : T.done ≡ [])
-    (item : slice_get T.flying p ≡ Some (Op n)) (there : slice_get T.ops n ≡ Some o) (may : allows T o told ≡ true) where
+    (free : AllFree T.ops) (item : slice_get T.flying p ≡ Some (Op n)) (there : slice_get T.ops n ≡ Some o)
+    (may : allows T o told ≡ true) where
   -- What its execution moves.
   abbrev result : Effect
   result = effect_of T o.request told
@@ -122,7 +129,7 @@ module _ (T : Ledger) (p n : ℕ) (o : Operation) (told : Told) (queue : T.queue
   pub finish-kept : o.dropped ≡ false →
       after T (Exec p told ∷ Turn ∷ []) ≡ left T p n (reaped_by told result) result.world owners_now
   finish-kept undropped =
-      executed-reaped T p n o told queue idle item there may
+      executed-reaped T p n o told queue idle free item there may
       ∙ ap (λ b. reap_if b (left T p n (with_result told result) result.world owners_now) n) undropped
       ∙ ap (λ ops. record T { flying = remove T.flying p; done = []; ops = ops; world = result.world; owners = owners_now })
       (amended-twice T.ops n (with_result told result) with_reap)
@@ -131,7 +138,7 @@ module _ (T : Ledger) (p n : ℕ) (o : Operation) (told : Told) (queue : T.queue
   pub finish-dropped : o.dropped ≡ true →
       after T (Exec p told ∷ Turn ∷ []) ≡ leave (left T p n (with_result told result) result.world owners_now) n
   finish-dropped dropped =
-      executed-reaped T p n o told queue idle item there may
+      executed-reaped T p n o told queue idle free item there may
       ∙ ap (λ b. reap_if b (left T p n (with_result told result) result.world owners_now) n) dropped
 
 -- A poll of an operation that is its user's goes by its place.
@@ -172,8 +179,8 @@ poll-hands T p n task o told world owners there undropped =
     ∙ ap (λ K. (leave K n, Handed result.outcome (held o.request told result.got))) (hands-over Y (made_by result.outcome))
 
 -- What is left of a ledger whose queue is empty, once an operation in flight is gone.
-module _ (T : Ledger) (p n : ℕ) (change : Operation → Operation) (gone : (x : Operation) → (change x).place ≡ Gone) (flat : Flat T)
-    (item : slice_get T.flying p ≡ Some (Op n)) (f : Flies T n) where
+module _ (T : Ledger) (p n : ℕ) (change : Operation → Operation) (gone : (x : Operation) → (change x).place ≡ Gone)
+    (keeps : (x : Operation) → Free x → Free (change x)) (flat : Flat T) (item : slice_get T.flying p ≡ Some (Op n)) (f : Flies T n) where
   -- By number: what each list holds, and the mark of the operation.
   left-at : (k : ℕ) → (queued k T.queue ≡ queue_mark (slice_get (amended T.ops n change) k))
       × (listed k (remove T.flying p) ≡ flight_mark (slice_get (amended T.ops n change) k))
@@ -209,6 +216,7 @@ module _ (T : Ledger) (p n : ℕ) (change : Operation → Operation) (gone : (x 
     queue = flat.queue;
     done = refl;
     calm = calm-changed T.ops n change (λ o there c. calm-gone (change o) (gone o)) flat.calm;
+    free = free-changed T.ops n change keeps flat.free;
     counted = counted;
   }
     where

@@ -132,12 +132,13 @@ module _ (D : Legacy) (L : Ledger) (st : Stands D L) where
       (stands-meets D L (look_reply (look_at D.world h)) (look_reply (look_at L.world h))
       (ap (λ w. look_reply (look_at w h)) st.shows.world) st)
   row-meets (Close h) r u = closed-meets h u
-  row-meets (Submit request under) r u =
+  row-meets (Submit request under true) r u = absurd r
+  row-meets (Submit request under false) r u =
       let b : Bool = is_under_marked L under in
-      meets-itself (legacy_row D (Submit request under)) L (submit_if b L request (group_under L under)).0 (Submit request under)
-      (submit_if b L request (group_under L under)).1 (step-row L (Submit request under) u)
-      (subst (λ x. Meets (submit_at x D request (group_under (seen D) under)) (submit_if b L request (group_under L under)).0
-      (submit_if b L request (group_under L under)).1) (sym (sees-under D L under st.shows))
+      meets-itself (legacy_row D (Submit request under false)) L (submit_if b L request (group_under L under) false).0
+      (Submit request under false) (submit_if b L request (group_under L under) false).1 (step-row L (Submit request under false) u)
+      (subst (λ x. Meets (submit_at x D request (group_under (seen D) under)) (submit_if b L request (group_under L under) false).0
+      (submit_if b L request (group_under L under) false).1) (sym (sees-under D L under st.shows))
       (submit-meets D L request (group_under (seen D) under) (group_under L under) b (sees-group D L under st.shows) st))
   row-meets (Poll n task) r u =
       let f : OwnedAt L n = found L n u in

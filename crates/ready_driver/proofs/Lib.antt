@@ -8,6 +8,7 @@ pub mod Spots
 pub mod Lists
 pub mod Looking
 pub mod Flat
+pub mod Free
 pub mod Closes
 pub mod Asks
 pub mod Settled
@@ -25,6 +26,7 @@ pub mod Ended
 pub mod Named
 pub mod Naming
 pub mod Grouped
+pub mod Others
 pub mod Parting
 pub mod Driven
 pub mod Events

@@ -14,12 +14,12 @@ use Rattle.ring_core.specs.Request.{held_of}
 use Rattle.ring_core.specs.Ledger.{Ledger, Operation, Owner, Place, InQueue, InFlight, InDone, Reaped, Gone, Queued, Req, new_operation}
 use Rattle.ring_core.specs.Ledger.{is_kept}
 use Rattle.ring_core.specs.Ledger.{is_marked, is_member, members}
-use Rattle.ring_core.specs.Queue.{with_op, at_place, canceled_at, with_cancel, take_one, take_all, make_room, push, push_each}
+use Rattle.ring_core.specs.Queue.{with_op, canceled_at, with_take, with_cancel, take_one, take_all, make_room, push, push_each}
 use Rattle.ring_core.specs.Step.{step, with_new_op, submit_step, submit_if, close_if, with_mark, renew_group, cancel_all_step}
 use Rattle.ring_core.specs.Run.{after}
 use Rattle.ring_core.proofs.Amended.{changed-cases, length-amended}
 use Rattle.ring_core.proofs.Taken.{length-take_each}
-use Rattle.ring_core.proofs.Taking.{Took, take_all-ops, taken_place, with_take}
+use Rattle.ring_core.proofs.Taking.{Took, take_all-ops, taken_place, with_taking}
 use Rattle.ring_core.proofs.Listed.{joined, submit-joined}
 use Rattle.ring_core.proofs.Staying.{stays-make_room, stays-push, stays-push_each}
 use Rattle.ring_core.proofs.Members.{members-are}
@@ -29,6 +29,7 @@ use Rattle.ready_driver.specs.Legacy.{LegacyOp, Legacy, members_at}
 use Rattle.ready_driver.specs.LegacyStep.{with_ask, ask_each, new_op, submit_at, cancel_group}
 use Rattle.ready_driver.specs.Readiness.{slot_by}
 use Rattle.ready_driver.proofs.Lists.{map-changed-at}
+use Rattle.ready_driver.proofs.Free.{free-joined}
 use Rattle.ready_driver.proofs.Flat.{flat-room, flat-append, flat-push, flat-new_op, flat-joined, beside, flat-beside}
 use Rattle.ready_driver.proofs.Closes.{closes_only, closes-op}
 use Rattle.ready_driver.proofs.Asks.{CalmAt, canceled_in, Flies}
@@ -96,7 +97,8 @@ calm-flies Gone dropped made kept c = (let f : ⊥ = cc in absurd f)
 -- An operation that isn't gone, once the queue is taken: it is in flight, and its cancel was taken where it is asked for.
 pub record Taken (L : Ledger) (n : ℕ) (o : Operation) : Type 0 where
   pub canceled : Bool
-  pub there : slice_get (take_all L).ops n ≡ Some (with_take canceled o)
+  pub waits_for : Option ℕ
+  pub there : slice_get (take_all L).ops n ≡ Some (with_taking canceled waits_for o)
   pub asked_is : asked L n ≡ canceled
   pub place : taken_place o.place ≡ InFlight
   pub undropped : o.dropped ≡ false
@@ -105,13 +107,21 @@ pub record Taken (L : Ledger) (n : ℕ) (o : Operation) : Type 0 where
 pub kept-taken : (L : Ledger) (n : ℕ) (o : Operation) → Half L → slice_get L.ops n ≡ Some o → is_kept o.place ≡ true → Taken L n o
 kept-taken L n o s at kept =
     let took : Took (slice_get L.ops n) (slice_get (take_all L).ops n) = take_all-ops L s.lists n in
-    let there : slice_get (take_all L).ops n ≡ Some (with_take took.canceled o) = took.is ∙ ap (option_map (with_take took.canceled)) at in
-    let c = calm-flies o.place o.dropped o.made kept (s.calm n (with_take took.canceled o) there) in
-    record { canceled = took.canceled; there = there; asked_is = s.asks n ∙ ap canceled_in there; place = c.0; undropped = c.1 }
+    let taking : Operation → Operation = with_taking took.canceled took.waits_for in
+    let there : slice_get (take_all L).ops n ≡ Some (taking o) = took.is ∙ ap (option_map taking) at in
+    let c = calm-flies o.place o.dropped o.made kept (s.calm n (taking o) there) in
+    record {
+      canceled = took.canceled;
+      waits_for = took.waits_for;
+      there = there;
+      asked_is = s.asks n ∙ ap canceled_in there;
+      place = c.0;
+      undropped = c.1;
+    }
 
 -- It is in flight.
 pub taken-flies : (L : Ledger) (n : ℕ) (o : Operation) → Taken L n o → Flies (take_all L) n
-taken-flies L n o t = record { o = with_take t.canceled o; there = t.there; place = t.place }
+taken-flies L n o t = record { o = with_taking t.canceled t.waits_for o; there = t.there; place = t.place }
 
 -- An operation in flight whose cancel is taken.
 shown-canceled : (o : Operation) → o.place ≡ InFlight → shown (with_cancel o) ≡ option_map with_ask (shown o)
@@ -124,7 +134,7 @@ pub stands-canceled : (D : Legacy) (L : Ledger) (n : ℕ) → Flies (take_all L)
     Stands (record D { slots = amended D.slots n (option_map with_ask) }) (push L (Queued.Cancel n))
 stands-canceled D L n f g =
     let T : Ledger = take_all L in
-    let e : take_all (push L (Queued.Cancel n)) ≡ with_op T n with_cancel = flat-push L (Queued.Cancel n) in
+    let e : take_all (push L (Queued.Cancel n)) ≡ with_op T n with_cancel = flat-push L (Queued.Cancel n) g.settled.half.free in
     record {
       settled = record {
         half = half-canceled L n f g.settled.half;
@@ -164,7 +174,7 @@ stands-each : (D : Legacy) (L : Ledger) (numbers : List ℕ) → AllFly (take_al
 stands-each D L [] h g = g
 stands-each D L (n ∷ numbers) h g =
     stands-each (record D { slots = amended D.slots n (option_map with_ask) }) (push L (Queued.Cancel n)) numbers
-    (subst (λ K. AllFly K numbers) (sym (flat-push L (Queued.Cancel n))) (all-kept (take_all L) n numbers h.1))
+    (subst (λ K. AllFly K numbers) (sym (flat-push L (Queued.Cancel n) g.settled.half.free)) (all-kept (take_all L) n numbers h.1))
     (stands-canceled D L n h.0 g)
 
 -- Numbers of operations that aren't gone.
@@ -243,22 +253,23 @@ close-meets D L h true g = record {
   half = half-closed L h g.settled.half;
   tidy = tidy-close L h;
   shows = shows-stays D L (push L (Queued.Close h)) D.slots (stays-push L (Queued.Close h))
-      (g.shows.slots ∙ ap (λ K. map shown K.ops) (sym (flat-push L (Queued.Close h)))) g.shows;
+      (g.shows.slots ∙ ap (λ K. map shown K.ops) (sym (flat-push L (Queued.Close h) g.settled.half.free))) g.shows;
 }
 close-meets D L h false g = stands-meets D L Released Released refl g
 
 -- Submit under no marked group.
 submitted-meets : (D : Legacy) (L : Ledger) (request : Request Buffer Parts) (dg group : Option ℕ) → dg ≡ group → Stands D L →
-    Meets (record D { slots = D.slots ++ Some (new_op request dg) ∷ [] }, Submitted (length D.slots)) (submit_step L request group)
+    Meets (record D { slots = D.slots ++ Some (new_op request dg) ∷ [] }, Submitted (length D.slots)) (submit_step L request group false)
     (Submitted (length L.ops))
 submitted-meets D L request dg group same st =
     let M : Ledger = make_room L in
-    let o : Operation = new_operation request group in
+    let o : Operation = new_operation request group false in
     let half : Half L = st.settled.half in
     let hm : Half M = half-room L half in
-    let e : submit_step L request group ≡ joined M o = submit-joined L request group half.lists in
-    let f : take_all (joined M o) ≡ take_one (with_new_op (take_all M) o) (Req (length M.ops)) =
-    flat-append (with_new_op M o) (Req (length M.ops)) ∙ ap (λ K. take_one K (Req (length M.ops))) (flat-new_op M o refl hm.lists) in
+    let e : submit_step L request group false ≡ joined M o = submit-joined L request group false half.lists in
+    let f : take_all (joined M o) ≡ take_one None (with_new_op (take_all M) o) (Req (length M.ops)) =
+    flat-append (with_new_op M o) (Req (length M.ops)) (free-joined M.ops o (refl, refl) hm.free)
+    ∙ ap (λ K. take_one None K (Req (length M.ops))) (flat-new_op M o refl hm.lists) in
     record {
       reply_is = ap Submitted (ap length st.shows.slots ∙ length-map (take_all L).ops shown
           ∙ length-take_each (record L { queue = [] }) L.queue);
@@ -269,17 +280,17 @@ submitted-meets D L request dg group same st =
     }
   where
     joined-shows : (M : Ledger) (o : Operation) → Half (make_room L) →
-        Shown (record D { slots = D.slots ++ Some (new_op request dg) ∷ [] }) (joined (make_room L) (new_operation request group))
+        Shown (record D { slots = D.slots ++ Some (new_op request dg) ∷ [] }) (joined (make_room L) (new_operation request group false))
     joined-shows M o hm =
         let room : Ledger = make_room L in
-        let new : Operation = new_operation request group in
+        let new : Operation = new_operation request group false in
         let s = shows-stays D L room D.slots (stays-make_room L)
         (st.shows.slots ∙ ap (λ K. map shown K.ops) (sym (flat-room L))) st.shows in
         record {
           slots = ap (λ g. D.slots ++ Some (new_op request g) ∷ []) same
               ∙ ap (λ xs. xs ++ Some (new_op request group) ∷ []) s.slots
-              ∙ sym (map-append shown (take_all room).ops (at_place InFlight new ∷ []))
-              ∙ ap (map shown) (sym (flat-joined room new refl hm.lists));
+              ∙ sym (map-append shown (take_all room).ops (with_take None new ∷ []))
+              ∙ ap (map shown) (sym (flat-joined room new refl (refl, refl) hm.lists hm.free));
           users = s.users;
           world = s.world;
           cancellers = s.cancellers;
@@ -289,7 +300,7 @@ submitted-meets D L request dg group same st =
 
 -- Submit, by whether its group is marked.
 pub submit-meets : (D : Legacy) (L : Ledger) (request : Request Buffer Parts) (dg group : Option ℕ) (b : Bool) → dg ≡ group → Stands D L →
-    Meets (submit_at b D request dg) (submit_if b L request group).0 (submit_if b L request group).1
+    Meets (submit_at b D request dg) (submit_if b L request group false).0 (submit_if b L request group false).1
 submit-meets D L request dg group true same st =
     stands-meets D L (CanceledAtOnce (held_of request)) (CanceledAtOnce (held_of request)) refl st
 submit-meets D L request dg group false same st = submitted-meets D L request dg group same st

@@ -28,7 +28,7 @@ use Rattle.driver_core.specs.Slot.{is_flying, with_life}
 use Rattle.driver_core.proofs.Counted.{named-distinct}
 use Rattle.driver_core.proofs.Distinct.{ascends-distinct, one-most}
 use Rattle.driver_core.proofs.Holds.{with-same, with-other, settled-same, settled-other, can-leave, can-join, ops-joined, ops-left}
-use Rattle.driver_core.proofs.Holds.{held-user}
+use Rattle.driver_core.proofs.Holds.{held-op, held-user}
 use Rattle.driver_core.proofs.Maps.{put-same, put-other}
 use Rattle.driver_core.proofs.Passing.{number-none, number-some, number-kept, number-changed}
 use Rattle.ready_driver.specs.LegacyState.{holds_all}
@@ -225,6 +225,10 @@ module _ {B : Type 0} (table : Table) (slots : FinMap nat_cmp (Slot B)) (given k
   -- A handle that the operation at a key names is held by an operation.
   names-held : (h : ℕ) → has_number h (named_in (get slots key)) ≡ true → 0 < (holders_at table h).operations
   names-held h there = number-some (names_it {B = B} h) (are.counted h) key there
+
+  -- So somebody holds it.
+  pub naming-known : (h : ℕ) → has_number h (named_in (get slots key)) ≡ true → is_known table h ≡ true
+  naming-known h there = held-op table h (names-held h there)
 
   -- The operation may leave.
   pub naming-leave : CanLeave table (named_in (get slots key))

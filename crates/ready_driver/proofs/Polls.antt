@@ -24,7 +24,7 @@ use Rattle.ring_core.specs.Step.{step, as_user, with_task, with_drop, poll_at}
 use Rattle.ring_core.specs.Run.{after}
 use Rattle.ring_core.specs.Attempt.{attempt}
 use Rattle.ring_core.proofs.Amended.{map-amended}
-use Rattle.ring_core.proofs.Taking.{taken_place, with_take}
+use Rattle.ring_core.proofs.Taking.{taken_place, with_taking}
 use Rattle.ring_core.proofs.Staying.{Stays, stays-take_all, stays-leave}
 use Rattle.ring_core.proofs.Stepping.{OwnedAt}
 use Rattle.ring_core.proofs.Turning.{Grows, grows-effect}
@@ -37,6 +37,7 @@ use Rattle.ready_driver.specs.LegacyStep.{freed, users_with, ends_with, poll_op,
 use Rattle.ready_driver.specs.Readiness.{slot_by}
 use Rattle.driver_core.proofs.Lists.{amended-twice}
 use Rattle.ready_driver.proofs.Lists.{amended-end, map-changed}
+use Rattle.ready_driver.proofs.Free.{Free}
 use Rattle.ready_driver.proofs.Flat.{take-none, Unmoved, flat-changed}
 use Rattle.ready_driver.proofs.Closes.{closes_only, turn-takes, closes-remove}
 use Rattle.ready_driver.proofs.Asks.{Flies}
@@ -64,17 +65,17 @@ drop-canceled Gone o = refl
 
 -- A task that waits commutes with taking.
 task-unmoved : (task : ℕ) → Unmoved (with_task task)
-task-unmoved task = record { taken = λ o. refl; canceled = λ o. task-canceled task o.place o }
+task-unmoved task = record { taken = λ o. refl; canceled = λ o. task-canceled task o.place o; free = λ o f. f }
 
 -- A drop does.
 pub drop-unmoved : Unmoved with_drop
-drop-unmoved = record { taken = λ o. refl; canceled = λ o. drop-canceled o.place o }
+drop-unmoved = record { taken = λ o. refl; canceled = λ o. drop-canceled o.place o; free = λ o f. f }
 
 -- A poll that waits.
 waiting-meets : (D : Legacy) (L : Ledger) (n task : ℕ) (o : Operation) → slice_get L.ops n ≡ Some o → Stands D L →
     Meets (D, Pending) (with_op L n (with_task task)) Pending
 waiting-meets D L n task o there st =
-    let e = flat-changed L n (with_task task) (task-unmoved task) in
+    let e = flat-changed L n (with_task task) (task-unmoved task) st.settled.half.free in
     record {
       reply_is = refl;
       half = half-changed L n (with_task task) o (task-unmoved task) (λ x. (refl, refl, λ c. c)) there st.settled.half;
@@ -91,8 +92,9 @@ waiting-meets D L n task o there st =
     }
 
 -- An operation in flight leaves, with these handles and users.
-module _ (D : Legacy) (L : Ledger) (p n : ℕ) (change : Operation → Operation) (st : Stands D L)
-    (item : slice_get (take_all L).flying p ≡ Some (Op n)) (f : Flies (take_all L) n) (users : List Bool) (dw world : List HandleState)
+module _ (D : Legacy) (L : Ledger) (p n : ℕ) (change : Operation → Operation)
+    (keeps : (x : Operation) → Free x → Free (change x)) (st : Stands D L) (item : slice_get (take_all L).flying p ≡ Some (Op n))
+    (f : Flies (take_all L) n) (users : List Bool) (dw world : List HandleState)
     (owners : List Owner) (eu : users ≡ is_users owners) (ew : dw ≡ world) (counted : length owners ≡ length world) where
   -- The operation once it is gone.
   abbrev changed : Operation → Operation
@@ -119,7 +121,7 @@ module _ (D : Legacy) (L : Ledger) (p n : ℕ) (change : Operation → Operation
 
   -- It is between two spellings.
   flat-behind : Flat behind
-  flat-behind = flat-left (take_all L) p n changed (λ x. refl) (half-flat L st.settled.half) item f world owners counted
+  flat-behind = flat-left (take_all L) p n changed (λ x. refl) keeps (half-flat L st.settled.half) item f world owners counted
 
   -- The handles that nobody holds any more.
   abbrev unheld : List ℕ
@@ -188,7 +190,7 @@ slot_for o is_asked = record { request = o.request; group = o.group; asked = is_
 module _ (D : Legacy) (L : Ledger) (n task : ℕ) (st : Stands D L) (f : OwnedAt L n) (t : Taken L n f.operation) where
   -- The operation once the queue is taken.
   abbrev pub flying : Operation
-  flying = with_take t.canceled f.operation
+  flying = with_taking t.canceled t.waits_for f.operation
 
   -- Its slot.
   abbrev pub slot : LegacyOp
@@ -248,7 +250,7 @@ module _ (D : Legacy) (L : Ledger) (n task : ℕ) (st : Stands D L) (f : OwnedAt
       flat-taken.counted same-users in
       let reply : Handed driven.outcome (held r told driven.got) ≡ ended_reply told = ap (λ e. Handed e.outcome (held r told e.got)) same in
       subst (Meets (ends_with D n slot told) (ended told)) reply
-      (left-meets D L place n (reaped_by told (moved told)) st item-there (taken-flies L n f.operation t)
+      (left-meets D L place n (reaped_by told (moved told)) (λ x f. f) st item-there (taken-flies L n f.operation t)
       (users_with (made_by driven.outcome) D.users) driven.world (moved told).world
       (handed (made_by (moved told).outcome) (owners_now told)) (ap (λ e. users_with (made_by e.outcome) D.users) same ∙ m.0)
       (ap (λ e. e.world) same) (m.1 ∙ sym grows.count) (Handed driven.outcome (held r told driven.got)))
@@ -262,7 +264,7 @@ module _ (D : Legacy) (L : Ledger) (n task : ℕ) (st : Stands D L) (f : OwnedAt
       ≡ left T place n (reaped_by told (moved told)) (moved told).world (owners_now told) =
       ap (λ X. after X (Exec (place_of n X.flying) (greedy L n) ∷ Turn ∷ [])) (turn-takes L st.settled.half.idle)
       ∙ ap (λ report. after T (Exec place report ∷ Turn ∷ [])) g
-      ∙ finish-kept T place n flying told flat-taken.queue flat-taken.done item-there t.there may t.undropped in
+      ∙ finish-kept T place n flying told flat-taken.queue flat-taken.done flat-taken.free item-there t.there may t.undropped in
       let whole : step (after L (finishing L n (greedy L n))) (Poll n task) ≡ (ended told, ended_reply told) =
       ap (λ K. step K (Poll n task)) first
       ∙ poll-hands T place n task flying told (moved told).world (owners_now told) t.there t.undropped in

@@ -39,6 +39,7 @@ starts capacity = record {
       idle = refl;
       calm = λ n o there. (let f : ⊥ = cc in absurd f);
       asks = λ n. refl;
+      free = λ n o there. (let f : ⊥ = cc in absurd f);
       counted = refl;
     };
     closed = refl;

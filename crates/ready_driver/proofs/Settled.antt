@@ -1,13 +1,13 @@
 -- A ledger between two spellings, what each push keeps of it, and when a readiness driver as plain data shows it.
-use Rattle.std.proofs.Common.{◌≡◌, ℕ, ◌+◌, Bool, true, false, List, [], ◌∷◌, ◌++◌, length, map, Option, Some, slice_get}
-use Rattle.std.proofs.Common.{refl, sym, ◌∙◌, ap, subst, if◌then◌else◌}
+use Rattle.std.proofs.Common.{◌≡◌, ℕ, ◌+◌, Bool, true, false, List, [], ◌∷◌, ◌++◌, length, map, Option, None, Some}
+use Rattle.std.proofs.Common.{slice_get, refl, sym, ◌∙◌, ap, subst, if◌then◌else◌}
 use Rattle.rent_buf.specs.Buffer.{Buffer}
 use Rattle.rent_buf.specs.Parts.{Parts}
 use Rattle.ring_core.specs.declared.request.Request.{Request}
 use Rattle.ring_core.specs.declared.world.HandleState.{HandleState}
 use Rattle.ring_core.specs.declared.ledger.Event.TheVariants.{Turn}
-use Rattle.ring_core.specs.Ledger.{Ledger, Operation, Owner, InFlight, Queued, Cancel, Item, Op, new_operation}
-use Rattle.ring_core.specs.Queue.{with_op, at_place, take_all, make_room, push, push_each}
+use Rattle.ring_core.specs.Ledger.{Ledger, Operation, Owner, Queued, Cancel, Item, Op, new_operation}
+use Rattle.ring_core.specs.Queue.{with_op, with_take, take_all, make_room, push, push_each}
 use Rattle.ring_core.specs.Step.{submit_step}
 use Rattle.ring_core.specs.Run.{after}
 use Rattle.ring_core.proofs.Occurring.{same, listed}
@@ -17,6 +17,7 @@ use Rattle.ring_core.proofs.Staying.{Stays, stays-take_all, stays-make_room, sta
 use Rattle.ready_driver.specs.Spelled.{has_close, close_execs, closes_behind}
 use Rattle.ready_driver.specs.Legacy.{LegacyOp, Legacy}
 use Rattle.ready_driver.specs.Readiness.{slot_of}
+use Rattle.ready_driver.proofs.Free.{AllFree, free-changed, free-joined, free-taken, free-room}
 use Rattle.ready_driver.proofs.Flat.{take-none, flat-queue, flat-room, flat-push, flat-joined, Unmoved, flat-changed, beside, flat-beside}
 use Rattle.ready_driver.proofs.Closes.{ops_only, closes_only, flat-done, still, closes-end, no-closes, none-left, close-there}
 use Rattle.ready_driver.proofs.Asks.{Calm, AllCalm, calm-changed, calm-joined, calm-canceled, canceled_in, Asks, asks-empty, asks-room}
@@ -24,12 +25,13 @@ use Rattle.ready_driver.proofs.Asks.{Flies}
 use Rattle.ready_driver.proofs.Asks.{asks-cancel, asks-close, asks-joined, asks-changed}
 
 -- A ledger behind a spelling, before the closes that follow it: nothing is done, each operation is in flight or gone once the queue is
--- taken, and each handle has its owner.
+-- taken, no operation is linked or waits for another, and each handle has its owner.
 pub record Half (L : Ledger) : Type 0 where
   pub lists : Listed L
   pub idle : L.done ≡ []
   pub calm : AllCalm (take_all L).ops
   pub asks : Asks L
+  pub free : AllFree L.ops
   pub counted : length L.owners ≡ length L.world
 
 -- A close that is in flight once the queue is taken is followed by one in the queue.
@@ -86,6 +88,7 @@ half-room L s = record {
   idle = (stays-make_room L).done ∙ s.idle;
   calm = subst (λ K. AllCalm K.ops) (sym (flat-room L)) s.calm;
   asks = asks-room L s.asks;
+  free = free-room L s.free;
   counted = counted-stays (stays-make_room L) s.counted;
 }
 
@@ -98,8 +101,9 @@ pub half-canceled : (L : Ledger) (n : ℕ) → Flies (take_all L) n → Half L �
 half-canceled L n f s = record {
   lists = listed-push_cancel L n s.lists;
   idle = (stays-push L (Cancel n)).done ∙ s.idle;
-  calm = subst (λ K. AllCalm K.ops) (sym (flat-push L (Cancel n))) (calm-canceled (take_all L).ops n s.calm);
-  asks = asks-cancel (make_room L) n (room-flies L n f) (half-room L s).asks;
+  calm = subst (λ K. AllCalm K.ops) (sym (flat-push L (Cancel n) s.free)) (calm-canceled (take_all L).ops n s.calm);
+  asks = asks-cancel (make_room L) n (room-flies L n f) (free-room L s.free) (half-room L s).asks;
+  free = free-room L s.free;
   counted = counted-stays (stays-push L (Cancel n)) s.counted;
 }
 
@@ -108,8 +112,9 @@ pub half-closed : (L : Ledger) (h : ℕ) → Half L → Half (push L (Queued.Clo
 half-closed L h s = record {
   lists = listed-push_close L h s.lists;
   idle = (stays-push L (Queued.Close h)).done ∙ s.idle;
-  calm = subst (λ K. AllCalm K.ops) (sym (flat-push L (Queued.Close h))) s.calm;
-  asks = asks-close (make_room L) h (half-room L s).asks;
+  calm = subst (λ K. AllCalm K.ops) (sym (flat-push L (Queued.Close h) s.free)) s.calm;
+  asks = asks-close (make_room L) h (free-room L s.free) (half-room L s).asks;
+  free = free-room L s.free;
   counted = counted-stays (stays-push L (Queued.Close h)) s.counted;
 }
 
@@ -118,17 +123,19 @@ pub half-closes : (L : Ledger) (handles : List ℕ) → Half L → Half (push_ea
 half-closes L [] s = s
 half-closes L (h ∷ handles) s = half-closes (push L (Queued.Close h)) handles (half-closed L h s)
 
--- So does a new operation.
-pub half-joined : (L : Ledger) (request : Request Buffer Parts) (group : Option ℕ) → Half L → Half (submit_step L request group)
+-- So does a new operation that isn't linked.
+pub half-joined : (L : Ledger) (request : Request Buffer Parts) (group : Option ℕ) → Half L → Half (submit_step L request group false)
 half-joined L request group s =
     let M : Ledger = make_room L in
     let h : Half M = half-room L s in
-    let o : Operation = new_operation request group in
-    subst Half (sym (submit-joined L request group s.lists)) (record {
+    let o : Operation = new_operation request group false in
+    subst Half (sym (submit-joined L request group false s.lists)) (record {
       lists = listed-joined M o refl h.lists;
       idle = h.idle;
-      calm = subst AllCalm (sym (flat-joined M o refl h.lists)) (calm-joined (take_all M).ops (at_place InFlight o) (refl, refl) h.calm);
-      asks = asks-joined M o refl refl h.lists h.asks;
+      calm = subst AllCalm (sym (flat-joined M o refl (refl, refl) h.lists h.free))
+          (calm-joined (take_all M).ops (with_take None o) (refl, refl) h.calm);
+      asks = asks-joined M o refl refl (refl, refl) h.lists h.free h.asks;
+      free = free-joined M.ops o (refl, refl) h.free;
       counted = h.counted;
     })
 
@@ -142,6 +149,7 @@ half-beside L world owners cancellers handles groups counted s =
       idle = s.idle;
       calm = subst (λ K. AllCalm K.ops) (sym e) s.calm;
       asks = λ n. s.asks n ∙ ap (λ K. canceled_in (slice_get K.ops n)) (sym e);
+      free = s.free;
       counted = counted;
     }
 
@@ -150,13 +158,14 @@ pub half-changed : (L : Ledger) (n : ℕ) (f : Operation → Operation) (o : Ope
     ((x : Operation) → ((f x).canceled ≡ x.canceled) × ((f x).place ≡ x.place) × (Calm x → Calm (f x))) → slice_get L.ops n ≡ Some o →
     Half L → Half (with_op L n f)
 half-changed L n f o u same there s =
-    let e : (take_all (with_op L n f)).ops ≡ (with_op (take_all L) n f).ops = ap (λ K. K.ops) (flat-changed L n f u) in
+    let e : (take_all (with_op L n f)).ops ≡ (with_op (take_all L) n f).ops = ap (λ K. K.ops) (flat-changed L n f u s.free) in
     record {
       lists = listed-changed L n f o s.lists there
           (record { queue = ap in_queue (same o).1; flight = ap in_flight (same o).1; done = ap in_done (same o).1 });
       idle = s.idle;
       calm = subst AllCalm (sym e) (calm-changed (take_all L).ops n f (λ x at c. (same x).2 c) s.calm);
-      asks = asks-changed L n f u (λ x. (same x).0) s.asks;
+      asks = asks-changed L n f u (λ x. (same x).0) s.free s.asks;
+      free = free-changed L.ops n f u.free s.free;
       counted = s.counted;
     }
 
@@ -166,6 +175,7 @@ pub record Flat (T : Ledger) : Type 0 where
   pub queue : T.queue ≡ []
   pub done : T.done ≡ []
   pub calm : AllCalm T.ops
+  pub free : AllFree T.ops
   pub counted : length T.owners ≡ length T.world
 
 -- It is so once the queue is taken.
@@ -175,6 +185,7 @@ half-flat L s = record {
   queue = flat-queue L;
   done = flat-done L s.idle;
   calm = s.calm;
+  free = free-taken L s.free;
   counted = counted-stays (stays-take_all L) s.counted;
 }
 
@@ -185,6 +196,7 @@ flat-half T f = record {
   idle = f.done;
   calm = subst (λ K. AllCalm K.ops) (sym (take-none T f.queue)) f.calm;
   asks = asks-empty T f.queue;
+  free = f.free;
   counted = f.counted;
 }
 
@@ -207,6 +219,7 @@ still-flat L s =
       queue = f.queue;
       done = f.done;
       calm = f.calm;
+      free = f.free;
       counted = f.counted;
     }
 

@@ -9,7 +9,7 @@ use Rattle.ring_core.specs.Ledger.{user_holds}
 use Rattle.ring_core.specs.Ledger.{with_made, holders}
 use Rattle.ring_core.specs.Queue.{take_all}
 use Rattle.ring_core.proofs.Taken.{length-take_each}
-use Rattle.ring_core.proofs.Taking.{Took, take_all-ops, taken_place, with_take}
+use Rattle.ring_core.proofs.Taking.{Took, take_all-ops, taken_place, with_taking}
 use Rattle.ready_driver.specs.Spelled.{asked}
 use Rattle.ready_driver.specs.Legacy.{Legacy, slot_in, slot_at, is_on, holders_at}
 use Rattle.ready_driver.specs.Readiness.{slot_of_op, Shows}
@@ -19,10 +19,10 @@ use Rattle.ready_driver.proofs.Settled.{Stands, shown}
 use Rattle.ready_driver.proofs.Causes.{slot-taken, slot-by-taken, slot-live, if-and, tests-alike, same-members, same-users}
 
 -- The slot of what was taken, that was looked up.
-slot-of-taken : (x : Option Operation) (c b : Bool) → b ≡ canceled_in (option_map (with_take c) x) →
-    slot_in (option_map shown (option_map (with_take c) x)) ≡ slot_of_op b x
-slot-of-taken None c b h = refl
-slot-of-taken (Some o) c b h = slot-by-taken o.place _ ∙ ap (λ a. slot_of_op a (Some o)) (sym h)
+slot-of-taken : (x : Option Operation) (c : Bool) (w : Option ℕ) (b : Bool) → b ≡ canceled_in (option_map (with_taking c w) x) →
+    slot_in (option_map shown (option_map (with_taking c w) x)) ≡ slot_of_op b x
+slot-of-taken None c w b h = refl
+slot-of-taken (Some o) c w b h = slot-by-taken o.place _ ∙ ap (λ a. slot_of_op a (Some o)) (sym h)
 
 -- A calm operation that isn't gone made nothing: it holds what it names.
 calm-holds : (p : Place) (dropped : Bool) (made : Option ℕ) (h : ℕ) (names : List ℕ) → CalmAt (taken_place p) dropped made →
@@ -40,11 +40,12 @@ module _ (D : Legacy) (L : Ledger) (st : Stands D L) where
   slots-shown n =
       let took : Took (slice_get L.ops n) (slice_get (take_all L).ops n) = take_all-ops L st.settled.half.lists n in
       slot-taken D L n st.shows ∙ ap (λ x. slot_in (option_map shown x)) took.is
-      ∙ slot-of-taken (slice_get L.ops n) took.canceled (asked L n) (st.settled.half.asks n ∙ ap canceled_in took.is)
+      ∙ slot-of-taken (slice_get L.ops n) took.canceled took.waits_for (asked L n) (st.settled.half.asks n ∙ ap canceled_in took.is)
 
   -- The same operations hold a handle.
   holding-ops : (h : ℕ) → numbers_where (is_on h) 0 D.slots ≡ numbers_where (is_holding h) 0 L.ops
-  holding-ops h = numbers-like (is_on h) (is_holding h) 0 D.slots L.ops (tests-alike D L st (is_on h) (is_holding h) (λ o canceled calm.
+  holding-ops h = numbers-like (is_on h) (is_holding h) 0 D.slots L.ops (
+      tests-alike D L st (is_on h) (is_holding h) (λ o canceled waits calm.
       ap (is_on h) (slot-by-taken o.place _) ∙ slot-live (is_on h) false (has_number h (named o.request)) o.place _ refl refl
       ∙ if-and (is_kept o.place) (has_number h (named o.request)) ∙ calm-holds o.place o.dropped o.made h (named o.request) calm))
 

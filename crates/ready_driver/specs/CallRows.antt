@@ -1,5 +1,5 @@
 -- Worked runs of a readiness driver over handles in memory of each kind: a capacity of the machine, the events, and their replies.
-use Rattle.std.specs.Prelude.{[], ◌∷◌, true, None}
+use Rattle.std.specs.Prelude.{[], ◌∷◌, true, false, None}
 use Rattle.rent_buf.specs.declared.held.Held.TheVariants.{One, Nothing}
 use Rattle.ring_core.specs.declared.world.TheConstants.{MOST_FILE}
 use Rattle.ring_core.specs.declared.world.call.TheConstants.{INVALID, BROKEN_PIPE, FILE_TOO_BIG}
@@ -21,14 +21,14 @@ abbrev pub DatagramAtOnce : Type 0
 DatagramAtOnce =
     AnswersBoth 1 (
     Give Datagram ∷
-    Submit (RecvMsg 0 (vector 2 0 2 [])) None ∷
-    Submit (Recv 0 (vector 1 0 1 [])) None ∷
+    Submit (RecvMsg 0 (vector 2 0 2 [])) None false ∷
+    Submit (Recv 0 (vector 1 0 1 [])) None false ∷
     Poll 0 7 ∷
     Poll 1 7 ∷
     FeedMessage 0 5 (97 ∷ 98 ∷ 99 ∷ []) ∷
     Poll 1 7 ∷
     Poll 0 7 ∷
-    Submit (SendMsg 0 None (vector 1 0 1 (120 ∷ []))) None ∷
+    Submit (SendMsg 0 None (vector 1 0 1 (120 ∷ []))) None false ∷
     Poll 2 7 ∷
     Look 0 ∷ []) (
     Handle 0 ∷
@@ -49,13 +49,13 @@ FileAtOnce =
     AnswersBoth 4 (
     Give File ∷
     Feed 0 (97 ∷ 98 ∷ []) ∷
-    Submit (Read 0 1 (vector 4 0 4 [])) None ∷
+    Submit (Read 0 1 (vector 4 0 4 [])) None false ∷
     Poll 0 1 ∷
-    Submit (Read 0 2 (vector 4 0 4 [])) None ∷
+    Submit (Read 0 2 (vector 4 0 4 [])) None false ∷
     Poll 1 1 ∷
-    Submit (Write 0 1 (vector 1 0 1 (120 ∷ []))) None ∷
+    Submit (Write 0 1 (vector 1 0 1 (120 ∷ []))) None false ∷
     Poll 2 1 ∷
-    Submit (Write 0 MOST_FILE (vector 1 0 1 (120 ∷ []))) None ∷
+    Submit (Write 0 MOST_FILE (vector 1 0 1 (120 ∷ []))) None false ∷
     Poll 3 1 ∷
     Look 0 ∷ []) (
     Handle 0 ∷
@@ -77,9 +77,9 @@ SplicesAtOnce =
     AnswersBoth 2 (
     Give Stream ∷
     Give Pipe ∷
-    Submit (SpliceFrom 1 0 4) None ∷
-    Submit (SpliceTo 0 1 2) None ∷
-    Submit (PollAdd 0 true) None ∷
+    Submit (SpliceFrom 1 0 4) None false ∷
+    Submit (SpliceTo 0 1 2) None false ∷
+    Submit (PollAdd 0 true) None false ∷
     Poll 0 1 ∷
     Poll 1 1 ∷
     Poll 2 1 ∷
@@ -89,9 +89,9 @@ SplicesAtOnce =
     Poll 0 1 ∷
     Look 0 ∷
     End 1 ∷
-    Submit (Send 1 (vector 1 0 1 [])) None ∷
+    Submit (Send 1 (vector 1 0 1 [])) None false ∷
     Poll 3 1 ∷
-    Submit (SpliceTo 1 1 1) None ∷
+    Submit (SpliceTo 1 1 1) None false ∷
     Poll 4 1 ∷ []) (
     Handle 0 ∷
     Handle 1 ∷
@@ -117,16 +117,16 @@ abbrev pub MadeAtOnce : Type 0
 MadeAtOnce =
     AnswersBoth 1 (
     Give Listener ∷
-    Submit (Accept 0) None ∷
+    Submit (Accept 0) None false ∷
     Feed 1 (97 ∷ []) ∷
     Poll 0 7 ∷
     Feed 1 (97 ∷ []) ∷
-    Submit (Recv 1 (vector 1 0 1 [])) None ∷
+    Submit (Recv 1 (vector 1 0 1 [])) None false ∷
     Poll 1 7 ∷
-    Submit (Accept 0) None ∷
+    Submit (Accept 0) None false ∷
     Close 0 ∷
     Drop 2 ∷
-    Submit (Open (47 ∷ 97 ∷ []) 0 0) None ∷
+    Submit (Open (47 ∷ 97 ∷ []) 0 0) None false ∷
     Poll 3 7 ∷
     End 2 ∷ []) (
     Handle 0 ∷

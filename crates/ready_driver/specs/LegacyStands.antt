@@ -53,9 +53,10 @@ pub record LegacyAnswers {I B : Type 0} (view : I → IoView) (buffer : B → Bu
 abbrev pub SubmitsFor : {I B : Type 0} → (I → IoView) → (B → Buffer) → Legacy → Request B Parts → Option ℕ → LegacyState I B →
     Submitted B → Type 0
 SubmitsFor view buffer D request handle new (Op op) =
-    LegacyAnswers view buffer D (Submit (plain_request buffer request) handle) (Given (number_of op)) new
+    LegacyAnswers view buffer D (Submit (plain_request buffer request) handle false) (Given (number_of op)) new
 SubmitsFor view buffer D request handle new (Canceled back) =
-    LegacyAnswers view buffer D (Submit (plain_request buffer request) handle) (CanceledAtOnce (held_of (plain_request buffer back))) new
+    LegacyAnswers view buffer D (Submit (plain_request buffer request) handle false)
+    (CanceledAtOnce (held_of (plain_request buffer back))) new
 
 -- A poll answers what the driver as plain data does, but that it may also be Pending where no bit meets the direction that its operation
 -- waits for; a driver with as many handles as there are numbers of handles makes none. Pending, and where memory runs out, it is as it was.

@@ -1,5 +1,5 @@
--- The step of a readiness driver over handles in memory: the next driver and the reply, for each event but Turn and Exec. Cited by
--- `readiness`, and by the calls of `LegacyDriver` over such handles.
+-- The step of a readiness driver over handles in memory: the next driver and the reply, for each event but Turn, Exec and
+-- a linked Submit. Cited by `readiness`, and by the calls of `LegacyDriver` over such handles.
 use Rattle.std.specs.Prelude.{ℕ, Bool, true, false, not, ◌&&◌, ◌||◌, nat_le, List, [], ◌∷◌, ◌++◌, length}
 use Rattle.std.specs.Prelude.{Option, Some, None, is_some, option_map}
 use Rattle.rent_buf.specs.Buffer.{Buffer}
@@ -46,12 +46,12 @@ misses_handles D (FeedMessage h addr bytes) = misses_handle D (h ∷ [])
 misses_handles D (End h) = misses_handle D (h ∷ [])
 misses_handles D (Look h) = misses_handle D (h ∷ [])
 misses_handles D (Close h) = misses_handle D (h ∷ [])
-misses_handles D (Submit request under) = misses_handle D (named request)
+misses_handles D (Submit request under linked) = misses_handle D (named request)
 misses_handles D _ = false
 
 -- Full: as many operations as there may be aren't gone.
 abbrev pub has_no_room : Legacy → Event → Bool
-has_no_room D (Submit request under) = not (is_under_marked (seen D) under) && nat_le MOST_LIVE (length (live_at D))
+has_no_room D (Submit request under linked) = not (is_under_marked (seen D) under) && nat_le MOST_LIVE (length (live_at D))
 has_no_room D _ = false
 
 -- What an event is refused with: the first refusal whose test passes, in this order; else none.
@@ -123,7 +123,7 @@ cancel_group D c g = record D {
   cancellers = amended D.cancellers c (λ group. length D.groups);
 }
 
--- The rule for an event that isn't refused. It has none for Turn and Exec.
+-- The rule for an event that isn't refused. It has none for Turn, Exec and a linked Submit.
 abbrev pub legacy_row : Legacy → Event → Legacy × Reply
 legacy_row D (Give kind) = (record D { world = D.world ++ fresh kind ∷ []; users = D.users ++ true ∷ [] }, Handle (length D.world))
 legacy_row D (Feed h bytes) = (record D { world = amended D.world h (with_input bytes) }, Fed)
@@ -131,7 +131,7 @@ legacy_row D (FeedMessage h addr bytes) = (record D { world = amended D.world h 
 legacy_row D (End h) = (record D { world = amended D.world h with_end }, Ended)
 legacy_row D (Look h) = (D, look_reply (look_at D.world h))
 legacy_row D (Close h) = (record D { users = amended D.users h (λ is_user. false) }, Released)
-legacy_row D (Submit request under) = submit_at (is_under_marked (seen D) under) D request (group_under (seen D) under)
+legacy_row D (Submit request under false) = submit_at (is_under_marked (seen D) under) D request (group_under (seen D) under)
 legacy_row D (Poll n task) = poll_slot D n (slot_at D n)
 legacy_row D (Drop n) = (freed D n, Dropped)
 legacy_row D (Cancel n) = (record D { slots = amended D.slots n (option_map with_ask) }, Asked)
@@ -140,6 +140,7 @@ legacy_row D NewCanceller =
 legacy_row D (NewHandle c) =
     (record D { cancel_handles = D.cancel_handles ++ group_of (seen D) c ∷ [] }, CancelHandle (length D.cancel_handles))
 legacy_row D (CancelAll c) = (cancel_group D c (group_of (seen D) c), Cancels (members_at D (group_of (seen D) c)))
+legacy_row D (Submit request under true) = (D, Pending)
 legacy_row D Turn = (D, Pending)
 legacy_row D (Exec place told) = (D, Pending)
 

@@ -15,6 +15,7 @@ pub mod LegacyStep
 pub mod LegacyTurns
 pub mod MemIo
 pub mod Named
+pub mod Others
 pub mod Polling
 pub mod Readiness
 pub mod Ready

@@ -4,7 +4,7 @@ use Rattle.rent_buf.specs.Held.{HeldBuf}
 use Rattle.ring_core.specs.declared.request.TheConstants.{CANCELED}
 use Rattle.ring_core.specs.declared.request.Outcome.{Outcome}
 use Rattle.ring_core.specs.declared.ledger.Event.{Event}
-use Rattle.ring_core.specs.declared.ledger.Event.TheVariants.{Poll, Turn, Exec}
+use Rattle.ring_core.specs.declared.ledger.Event.TheVariants.{Submit, Poll, Turn, Exec}
 use Rattle.ring_core.specs.declared.ledger.Reply.TheVariants.{Pending, Handed}
 use Rattle.ring_core.specs.Ledger.{Ledger, Operation, Place, Gone, empty, user_holds, members, holders}
 use Rattle.ring_core.specs.Refusal.{cause}
@@ -12,10 +12,11 @@ use Rattle.ready_driver.specs.Spelled.{asked, blocked, spelled, spelled_reply, s
 use Rattle.ready_driver.specs.Legacy.{LegacyOp, Legacy, idle, slot_at, holds_at, members_at, holders_at}
 use Rattle.ready_driver.specs.LegacyStep.{legacy_after, legacy_replies}
 
--- An event that a readiness driver answers: any but Turn and Exec.
+-- An event that a readiness driver answers: any but Turn, Exec and a linked Submit.
 abbrev pub IsDriven : Event → Type 0
 IsDriven Turn = ⊥
 IsDriven (Exec place told) = ⊥
+IsDriven (Submit request under true) = ⊥
 IsDriven event = Unit {0}
 
 -- Events that a readiness driver answers.

@@ -1,5 +1,5 @@
 -- What an event is to the machine where a readiness driver answers it: a list of events, of which one gets the reply. The driver asks for
--- no execution and no turn, so these are for every event but Turn and Exec. Cited by `readiness`.
+-- no execution and no turn, and links no operation, so these are for every event but Turn, Exec and a linked Submit. Cited by `readiness`.
 --
 -- A poll makes its call: it is a turn, the execution of its operation and a turn, and then the poll. A drop is followed by the same, so
 -- that the operation is gone at once, and so is each event after which a handle is closed.
@@ -115,7 +115,7 @@ closes_behind L = if has_close L.queue then closing L else []
 abbrev pub with_closes : Ledger → Spelling → Spelling
 with_closes L spelling = record spelling { behind = spelling.behind ++ closes_behind (after L (spelled_out spelling)) }
 
--- What an event other than Turn and Exec is to the machine.
+-- What an event other than Turn, Exec and a linked Submit is to the machine.
 abbrev pub spelled : Ledger → Event → Spelling
 spelled L event = with_closes L (open_spelling (cause L event) L event)
 

@@ -1,5 +1,5 @@
 -- Worked runs of a readiness driver over handles in memory: a capacity of the machine, the events, and their replies.
-use Rattle.std.specs.Prelude.{ℕ, ◌≡◌, List, [], ◌∷◌, Some, None}
+use Rattle.std.specs.Prelude.{ℕ, ◌≡◌, false, List, [], ◌∷◌, Some, None}
 use Rattle.rent_buf.specs.declared.held.Held.TheVariants.{One}
 use Rattle.ring_core.specs.declared.world.HandleKind.TheVariants.{Stream}
 use Rattle.ring_core.specs.declared.request.TheConstants.{CANCELED}
@@ -27,11 +27,11 @@ abbrev pub OneWait : Type 0
 OneWait =
     AnswersBoth 1 (
     Give Stream ∷
-    Submit (Recv 0 (vector 4 0 4 [])) None ∷
+    Submit (Recv 0 (vector 4 0 4 [])) None false ∷
     Poll 0 7 ∷
     Feed 0 (97 ∷ 98 ∷ []) ∷
     Poll 0 7 ∷
-    Submit (Recv 0 (vector 4 0 4 [])) None ∷
+    Submit (Recv 0 (vector 4 0 4 [])) None false ∷
     Poll 1 7 ∷
     Cancel 1 ∷
     Poll 1 7 ∷
@@ -53,15 +53,15 @@ abbrev pub OrderOfPolls : Type 0
 OrderOfPolls =
     AnswersBoth 2 (
     Give Stream ∷
-    Submit (Recv 0 (vector 2 0 2 [])) None ∷
-    Submit (Recv 0 (vector 2 0 2 [])) None ∷
-    Submit (Recv 0 (vector 2 0 2 [])) None ∷
+    Submit (Recv 0 (vector 2 0 2 [])) None false ∷
+    Submit (Recv 0 (vector 2 0 2 [])) None false ∷
+    Submit (Recv 0 (vector 2 0 2 [])) None false ∷
     Feed 0 (97 ∷ 98 ∷ 99 ∷ []) ∷
     Cancel 1 ∷
     Poll 2 1 ∷
     Poll 1 1 ∷
     Poll 0 1 ∷
-    Submit (Recv 0 (vector 2 0 2 [])) None ∷
+    Submit (Recv 0 (vector 2 0 2 [])) None false ∷
     Poll 3 1 ∷
     End 0 ∷
     Poll 3 1 ∷ []) (
@@ -84,17 +84,17 @@ abbrev pub DropAndClose : Type 0
 DropAndClose =
     AnswersBoth 1 (
     Give Stream ∷
-    Submit (Recv 0 (vector 2 0 2 [])) None ∷
-    Submit (Send 0 (vector 4 0 3 (49 ∷ 50 ∷ 51 ∷ []))) None ∷
+    Submit (Recv 0 (vector 2 0 2 [])) None false ∷
+    Submit (Send 0 (vector 4 0 3 (49 ∷ 50 ∷ 51 ∷ []))) None false ∷
     Drop 0 ∷
     Poll 0 1 ∷
     Feed 0 (97 ∷ []) ∷
     Poll 1 1 ∷
     Look 0 ∷
-    Submit (Recv 0 (vector 2 0 2 [])) None ∷
+    Submit (Recv 0 (vector 2 0 2 [])) None false ∷
     Close 0 ∷
     Poll 2 1 ∷
-    Submit (Recv 0 (vector 2 0 2 [])) None ∷ []) (
+    Submit (Recv 0 (vector 2 0 2 [])) None false ∷ []) (
     Handle 0 ∷
     Submitted 0 ∷
     Submitted 1 ∷
@@ -115,14 +115,14 @@ CanceledMembers =
     Give Stream ∷
     NewCanceller ∷
     NewHandle 0 ∷
-    Submit (Recv 0 (vector 2 0 2 [])) (Some 0) ∷
-    Submit (Recv 0 (vector 2 0 2 [])) (Some 0) ∷
-    Submit (Recv 0 (vector 2 0 2 [])) None ∷
+    Submit (Recv 0 (vector 2 0 2 [])) (Some 0) false ∷
+    Submit (Recv 0 (vector 2 0 2 [])) (Some 0) false ∷
+    Submit (Recv 0 (vector 2 0 2 [])) None false ∷
     Drop 0 ∷
     CancelAll 0 ∷
     Poll 1 1 ∷
     Poll 2 1 ∷
-    Submit (Recv 0 (vector 2 0 2 [])) (Some 0) ∷ []) (
+    Submit (Recv 0 (vector 2 0 2 [])) (Some 0) false ∷ []) (
     Handle 0 ∷
     Canceller 0 ∷
     CancelHandle 0 ∷

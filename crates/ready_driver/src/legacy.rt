@@ -5,6 +5,7 @@ ghost use Rattle.std.specs.Prelude.{◌≤◌, ◌+◌, option_to_list};
 ghost use Rattle.std.specs.Vec.{vec_len, vec_capacity};
 ghost use Rattle.std.specs.FinMap as map;
 ghost use Rattle.ring_core.specs.Effect.{made_by};
+ghost use Rattle.ring_core.specs.Lists.{has_number};
 ghost use Rattle.ring_core.specs.Request.{named, listed};
 ghost use Rattle.ring_core.specs.declared.ledger.Event.TheVariants.{Drop, Cancel};
 ghost use Rattle.ring_core.specs.declared.ledger.Reply.TheVariants.{Dropped, Asked};
@@ -26,9 +27,10 @@ ghost use Rattle.ready_driver.specs.LegacyState.{Holds, HoldsNone, KeepsTokens, 
 ghost use Rattle.ready_driver.specs.LegacyState.{holds_all, ops_in, live_slots, group_count};
 ghost use Rattle.ready_driver.specs.LegacyStands.{LegacyStands, LegacyAnswers, SubmitsFor, PollsFor, WaitsFor};
 ghost use Rattle.ready_driver.specs.Named.{IsOnlyCanceled, PollsSlotFor, canceled_slots};
+ghost use Rattle.ready_driver.specs.Others.{KeepsOthers};
 ghost use Rattle.ready_driver.specs.Polling.{OpsStand, asked_at};
 ghost use Rattle.ready_driver.specs.Turns.{AreReported};
-ghost use Rattle.ready_driver.specs.Registry.{HasMadeRoom, IsSameButRoom, LetsGo, MakesReady};
+ghost use Rattle.ready_driver.specs.Registry.{AreRecorded, HasMadeRoom, IsSameButRoom, LetsGo, MakesReady, is_known};
 
 use crate::non_block::{NonBlock, NonBlockError, Reports};
 use crate::polling;
@@ -156,7 +158,12 @@ impl<I: NonBlock, B: IoBufMut + Drop> LegacyDriver<I, B> {
         ensures value { result ≡ self.now.given }
         ensures numbers { (op : Token) → Holds self.now op → number_of op < self.now.given }
         ensures canceled { (key : ℕ) → IsOnlyCanceled (map.get self.now.slots.values key) }
+        // Just the handles that somebody holds have records, and somebody holds each handle that an operation names.
+        ensures recorded { AreRecorded self.now.handling.table self.now.handling.records }
+        ensures held { (key h : ℕ) → has_number h (named_in (map.get self.now.slots.values key)) ≡ true →
+            is_known self.now.handling.table h ≡ true }
     {
+        self.registry.recorded();
         self.ops.given()
     }
 
@@ -243,6 +250,8 @@ impl<I: NonBlock, B: IoBufMut + Drop> LegacyDriver<I, B> {
         ensures slots { PollsSlotFor (ops_in self.old) (ops_in self.new) op result }
         ensures tokens { TokensFor (ops_in self.old) (ops_in self.new) op result }
         ensures ends { EndsFor I.files B.buffer I.called I.view I.tells I.memory self.old self.new op task result }
+        // What the other operations wait for stays.
+        ensures others { KeepsOthers self.old.handling self.new.handling (number_of op) }
         ensures given { self.new.given ≡ self.old.given }
         ensures asked { self.new.asked ≡ self.old.asked }
         ensures untreated { self.new.untreated ≡ self.old.untreated }
@@ -250,6 +259,7 @@ impl<I: NonBlock, B: IoBufMut + Drop> LegacyDriver<I, B> {
         let key = op.key();
         let number = op.number();
         let names = self.ops.names_at(key);
+        self.registry.recorded();
         match reserve(&mut self.registry, self.ops.is_maker(key)) {
             Ok(()) => {}
             Err(why) => return Err((why, op)),
@@ -259,6 +269,7 @@ impl<I: NonBlock, B: IoBufMut + Drop> LegacyDriver<I, B> {
             Ok(PollOp::Ready(done)) => {
                 let done = hand_over(&mut self.registry, done);
                 self.registry.let_go(names);
+                self.registry.recorded();
                 self.members.leave(number);
                 self.lively = self.lively | park::moves(done.outcome);
                 Ok(PollOp::Ready(done))

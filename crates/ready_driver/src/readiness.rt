@@ -4,7 +4,7 @@ ghost use Rattle.ready_driver.specs.SpelledRows.{OneWait, OrderOfPolls, DropAndC
 ghost use Rattle.ready_driver.specs.CallRows.{DatagramAtOnce, FileAtOnce, SplicesAtOnce, MadeAtOnce};
 
 /// The laws of a readiness driver over handles in memory, as plain data with its own step (`legacy_step`): for every capacity of the
-/// machine and every list of events without Turn and Exec, with numbers of any size.
+/// machine and every list of events without Turn, Exec and linked Submit, with numbers of any size.
 ///
 /// It answers each event as the machine answers the list of events that the event is spelled as (`spelled`): a poll that isn't blocked is a
 /// turn, the execution of its operation with what its call makes, a turn and the poll; a drop, and the close of a handle, are followed by

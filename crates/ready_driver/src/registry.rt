@@ -118,6 +118,13 @@ impl<I: NonBlock> Registry<I> {
         self.table.holders(h).is_some()
     }
 
+    /// Just the handles that somebody holds have records. (not in monoio)
+    pub fn recorded(&self)
+        ensures { AreRecorded self.now.table self.now.records }
+    {
+        let _records = &self.records;
+    }
+
     /// A handle that a call names as made can't be new: somebody holds it, or it is no handle's number. (not in monoio)
     pub fn is_old(&self, h: u64) -> bool
         ensures { result ≡ is_old self.now.table h }

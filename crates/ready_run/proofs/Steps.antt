@@ -1,5 +1,5 @@
 -- What each step of a session's driver makes of the session.
-use Rattle.std.proofs.Common.{◌≡◌, ◌∙◌, ℕ, ◌+◌, true, [], ◌∷◌, ◌++◌, length, Option, None, Some, length-append, refl, sym, ap, subst}
+use Rattle.std.proofs.Common.{◌≡◌, ◌∙◌, ℕ, ◌+◌, true, false, [], ◌∷◌, ◌++◌, length, Option, None, Some, length-append, refl, sym, ap, subst}
 use Rattle.std.specs.Prelude.{Result, Ok, Err, IfOk, OnErr}
 use Rattle.rent_buf.specs.Buffer.{Buffer}
 use Rattle.rent_buf.specs.Buf.{built}
@@ -147,7 +147,7 @@ answers-taken old new D n op event reply stands there tokens groups plain taken 
 pub answers-added : (old new : ReadySession) (D : Legacy) (op : Op) (request : Request Buffer Parts) (under : Option ℕ) (reply : Reply) →
     SessionStands old D → by_number new.tokens ≡ by_number old.tokens ++ Some op ∷ [] → KeepsGroups old.tokens new.tokens →
     AddsToken (ops_in old.driver) (ops_in new.driver) op → (Single old → Single new) →
-    LegacyAnswers memory_view built D (Submit request under) reply new.driver → SessionAnswers D (Submit request under) reply new
+    LegacyAnswers memory_view built D (Submit request under false) reply new.driver → SessionAnswers D (Submit request under false) reply new
 answers-added old new D op request under reply stands tokens groups adds single answers = record {
   reply_is = answers.reply_is;
   stands = record {
@@ -157,8 +157,8 @@ answers-added old new D op request under reply stands tokens groups adds single 
         ∙ ap (λ k. k + 1) stands.numbered ∙ sym adds.next;
     tokens = subst (λ items. AreHeld items (ops_in new.driver)) (sym tokens)
         (are_held-added (by_number old.tokens) (ops_in old.driver) (ops_in new.driver) op stands.numbered stands.tokens adds);
-    groups = groups-kept old.tokens new.tokens D (legacy_step D (Submit request under)).0 stands.groups groups
-        (groups-step D (Submit request under) tt);
+    groups = groups-kept old.tokens new.tokens D (legacy_step D (Submit request under false)).0 stands.groups groups
+        (groups-step D (Submit request under false) tt);
   };
 }
 
@@ -166,12 +166,12 @@ answers-added old new D op request under reply stands tokens groups adds single 
 pub steps-built : (new : ReadySession) (old : ReadySession) (D : Legacy) (own : Request Buf Parts) (request : Request Buffer Parts)
     (group under : Option ℕ) (result : Result Reply NoMemory) →
     IfOk result (λ reply. (D : Legacy) (under : Option ℕ) → SessionStands old D → IsUnder (seen D) group under →
-    SessionAnswers D (Submit (plain_request built own) under) reply new) →
+    SessionAnswers D (Submit (plain_request built own) under false) reply new) →
     OnErr result ((D : Legacy) → SessionStands old D → SessionStands new D) →
-    plain_request built own ≡ request → SessionStands old D → IsUnder (seen D) group under → legacy_cause D (Submit request under) ≡ None →
-    StepsFor D (Submit request under) new result
+    plain_request built own ≡ request → SessionStands old D → IsUnder (seen D) group under →
+    legacy_cause D (Submit request under false) ≡ None → StepsFor D (Submit request under false) new result
 steps-built new old D own request group under (Ok reply) ok err plain stands is unrefused =
-    subst (λ r. SessionAnswers D (Submit r under) reply new) plain (ok D under stands is)
+    subst (λ r. SessionAnswers D (Submit r under false) reply new) plain (ok D under stands is)
 steps-built new old D own request group under (Err error) ok err plain stands is unrefused =
     record { stands = err D stands; unrefused = unrefused }
 
@@ -212,9 +212,9 @@ keeps-members old new members same = subst (λ d. KeepsOps old d) (sym same) (re
 -- Under a canceled group the driver is the same, and its answer is the session's.
 pub answers-returned : (old new : ReadySession) (D : Legacy) (request : Request Buffer Parts) (under : Option ℕ) (reply : Reply) →
     SessionStands old D → SameTokens old.tokens new.tokens → new.driver ≡ old.driver →
-    LegacyAnswers memory_view built D (Submit request under) reply new.driver → SessionAnswers D (Submit request under) reply new
+    LegacyAnswers memory_view built D (Submit request under false) reply new.driver → SessionAnswers D (Submit request under false) reply new
 answers-returned old new D request under reply stands tokens same answers =
-    answers-kept old new D (Submit request under) reply stands tokens tt answers
+    answers-kept old new D (Submit request under false) reply stands tokens tt answers
     (λ single. subst (λ d. AreSingle d.handling.table) (sym same) single) (same-driver old.driver new.driver same)
 
 -- A session whose submission was refused is the same driver as plain data.

@@ -56,7 +56,8 @@ row-answers D (FeedMessage h addr bytes) refusal unrefused is = (let f : ⊥ = c
 row-answers D (End h) refusal unrefused is = (let f : ⊥ = cc in f)
 row-answers D (Look h) refusal unrefused is = look-answers (look_at D.world h) refusal is
 row-answers D (Close h) refusal unrefused is = (let f : ⊥ = cc in f)
-row-answers D (Submit request under) refusal unrefused is =
+row-answers D (Submit request under true) refusal unrefused is = (let f : ⊥ = cc in f)
+row-answers D (Submit request under false) refusal unrefused is =
     submit-answers (is_under_marked (seen D) under) D request (group_under (seen D) under) refusal is
 row-answers D (Poll n task) refusal unrefused is = poll-answers D n (slot_at D n) refusal unrefused is
 row-answers D (Drop n) refusal unrefused is = (let f : ⊥ = cc in f)

@@ -62,8 +62,8 @@ impl ReadySession {
     }
 
     /// Does what an event says on the driver, and answers what the machine replies to the event as it is spelled. A poll makes a turn
-    /// first. The event is any but Turn and Exec. `OutOfMemory` comes if memory runs out: the session stands for the same ledger. It comes
-    /// only at an event that the machine doesn't refuse, and never at a close, a drop or an end. (not in monoio)
+    /// first. The event is any but Turn, Exec and a linked Submit. `OutOfMemory` comes if memory runs out: the session stands for the same
+    /// ledger. It comes only at an event that the machine doesn't refuse, and never at a close, a drop or an end. (not in monoio)
     pub fn step(&mut self, event: &Event) -> Result<Reply, OutOfMemory>
         requires { IsDriven event.now }
         ensures answers { (L : Ledger) → ReadyStands self.old L → ReadySteps L event.now self.new result }
@@ -79,13 +79,13 @@ impl ReadySession {
         ensures memory { TakesNoMemory event → IsOk result }
     {
         match event {
-            Event::Submit(request, under) => self.submit(request, under),
+            Event::Submit(request, under, _) => self.submit(request, under),
             event => self.answer(&event),
         }
     }
 
-    /// Runs fewer than `MOST_GIVEN` events, none of which is Turn or Exec, from a session with no handle and no operation on: the replies,
-    /// one for each event, and the session after the last. The memory of the replies is taken first. (not in monoio)
+    /// Runs fewer than `MOST_GIVEN` events, none of which is Turn, Exec or a linked Submit, from a session with no handle and no operation
+    /// on: the replies, one for each event, and the session after the last. The memory of the replies is taken first. (not in monoio)
     pub fn run(alloc: Global, events: &[Event]) -> Result<(Vec<Reply>, ReadySession), RunError>
         requires driven { AreDriven events.now }
         requires count { length events.now < MOST_GIVEN }
@@ -123,14 +123,14 @@ impl ReadySession {
             Event::End(h) => Ok(self.end(*h)),
             Event::Look(h) => self.look(*h),
             Event::Close(h) => Ok(self.close(*h)),
-            Event::Submit(request, under) => self.submit_copy(request, *under),
+            Event::Submit(request, under, false) => self.submit_copy(request, *under),
             Event::Poll(n, task) => self.poll(*n, *task),
             Event::Drop(n) => Ok(self.give_up(*n)),
             Event::Cancel(n) => self.cancel(*n),
             Event::NewCanceller => self.new_canceller(),
             Event::NewHandle(c) => self.new_handle(*c),
             Event::CancelAll(c) => self.cancel_all(*c),
-            Event::Turn | Event::Exec(_, _) => unreachable!(),
+            Event::Submit(_, _, true) | Event::Turn | Event::Exec(_, _) => unreachable!(),
         }
     }
 

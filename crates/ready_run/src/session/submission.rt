@@ -1,5 +1,5 @@
 //! The submission of a request, under a cancel handle or none.
-ghost use Rattle.std.specs.Prelude.{ℕ, Option, ◌≡◌, ◌<◌, IfSome, IfNone, IfOk, OnErr, IsTrue};
+ghost use Rattle.std.specs.Prelude.{ℕ, Option, false, ◌≡◌, ◌<◌, IfSome, IfNone, IfOk, OnErr, IsTrue};
 ghost use Rattle.rent_buf.specs.Buf.{built};
 ghost use Rattle.ring_core.specs.Request.{named, plain_request};
 ghost use Rattle.ring_core.specs.Ledger.{is_under_marked};
@@ -25,7 +25,7 @@ impl ReadySession {
         request: &Request<BufSpec, PartsSpec>,
         under: Option<u64>,
     ) -> Result<Reply, OutOfMemory>
-        ensures { (D : Legacy) → SessionStands self.old D → StepsFor D (Submit request.now under) self.new result }
+        ensures { (D : Legacy) → SessionStands self.old D → StepsFor D (Submit request.now under false) self.new result }
     {
         match self.handle_under(under) {
             Ok(group) => self.submit_copy_to(request, group),
@@ -39,7 +39,7 @@ impl ReadySession {
         request: Request<BufSpec, PartsSpec>,
         under: Option<u64>,
     ) -> Result<Reply, OutOfMemory>
-        ensures { (D : Legacy) → SessionStands self.old D → StepsFor D (Submit request under) self.new result }
+        ensures { (D : Legacy) → SessionStands self.old D → StepsFor D (Submit request under false) self.new result }
     {
         match self.handle_under(under) {
             Ok(group) => self.submit_to(request, group),
@@ -55,7 +55,7 @@ impl ReadySession {
     ) -> Result<Reply, OutOfMemory>
         requires made { IfSome group (λ g. g < group_count self.old.driver) }
         ensures { (D : Legacy) (under : Option ℕ) → SessionStands self.old D → IsUnder (seen D) group under →
-            StepsFor D (Submit request.now under) self.new result }
+            StepsFor D (Submit request.now under false) self.new result }
     {
         match self.refusal_of(request, &group) {
             Some(refusal) => Ok(Reply::Refused(refusal)),
@@ -74,7 +74,7 @@ impl ReadySession {
     ) -> Result<Reply, OutOfMemory>
         requires made { IfSome group (λ g. g < group_count self.old.driver) }
         ensures { (D : Legacy) (under : Option ℕ) → SessionStands self.old D → IsUnder (seen D) group under →
-            StepsFor D (Submit request under) self.new result }
+            StepsFor D (Submit request under false) self.new result }
     {
         match self.refusal_of(&request, &group) {
             Some(refusal) => return Ok(Reply::Refused(refusal)),
@@ -132,7 +132,7 @@ impl ReadySession {
     ) -> Option<Refusal>
         requires made { IfSome group.now (λ g. g < group_count self.now.driver) }
         ensures named { (D : Legacy) (under : Option ℕ) → SessionStands self.now D → IsUnder (seen D) group.now under →
-            legacy_cause D (Submit request.now under) ≡ result }
+            legacy_cause D (Submit request.now under false) ≡ result }
         ensures held { IfNone result (IsTrue (holds_all self.now.driver.handling.table (named request.now))) }
     {
         if !self.holds_named(request) {
@@ -163,7 +163,7 @@ impl ReadySession {
         requires counter { self.old.driver.given < MOST_GIVEN }
         requires room { HasRoom self.old.tokens }
         ensures ok { IfOk result (λ reply. (D : Legacy) (under : Option ℕ) → SessionStands self.old D → IsUnder (seen D) group under →
-            SessionAnswers D (Submit (plain_request built request) under) reply self.new) }
+            SessionAnswers D (Submit (plain_request built request) under false) reply self.new) }
         ensures err { OnErr result ((D : Legacy) → SessionStands self.old D → SessionStands self.new D) }
     {
         match self.driver.submit_with(request, group) {

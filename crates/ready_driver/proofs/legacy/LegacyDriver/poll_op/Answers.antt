@@ -21,12 +21,13 @@ use Rattle.ready_driver.specs.Named.{AreNaming, IsCompleted, PollsSlotFor, Keeps
 use Rattle.ready_driver.specs.HandlesStand.{HandlesStand}
 use Rattle.ready_driver.specs.Polling.{PartsStand, PollsFor}
 use Rattle.ready_driver.specs.Turns.{AreReported}
-use Rattle.ready_driver.specs.Registry.{Handling, LetsGo}
+use Rattle.ready_driver.specs.Registry.{AreRecorded, Handling, LetsGo}
 use Rattle.ready_driver.specs.Reports.{with_made_key}
 use Rattle.ready_driver.proofs.Calling.{refused-calls, calls-room}
 use Rattle.ready_driver.proofs.Driven.{by_parts}
 use Rattle.ready_driver.proofs.Errors.{error-caused}
 use Rattle.ready_driver.proofs.Naming.{naming-room, naming-kept, naming-leave, naming-left, in-slots-tokens}
+use Rattle.ready_driver.proofs.Others.{polls-keep}
 use Rattle.ready_driver.proofs.Polled.{naming-handed, parts-room, room-handles, reported-room, stands-waiting, step-waits}
 use Rattle.ready_driver.proofs.Polled.{answers-waits, stands-ended}
 use Rattle.ready_driver.proofs.Registering.{leaves-refused, leaves-spare, made-room}
@@ -372,6 +373,30 @@ returns-in-Ok-Ready-clause-ends g c =
           c.let_go.ensures;
       members = c.leave.ensures.left ∙ ap (leaves_of d.members) c.number-number.ensures;
     })
+
+pub returns-in-Ok-Pending-clause-others : goal.returns-in-Ok-Pending-clause-others
+returns-in-Ok-Pending-clause-others g c =
+    let new : LegacyState g.row.I.Denot g.row.B.Denot =
+    by_parts c.poll_op.new.self c.poll_op.new.ops c.self.inside.members c.self.inside.asked.items c.self.inside.untreated in
+    polls-keep g.I.NonBlock.files g.B.IoBufMut.buffer g.I.Calls.called g.I.NonBlock.view g.I.NonBlock.tells g.I.NonBlock.memory
+    c.args.self.now new c.args.op c.args.task (Ok (Pending c.in-Ok-Pending.op)) (returns-in-Ok-Pending-clause-ends g c)
+    (subst (λ d. AreRecorded d.handling.table d.handling.records) c.self.view_is c.recorded.ensures) tt
+
+pub returns-in-Err-poll_op-clause-others : goal.returns-in-Err-poll_op-clause-others
+returns-in-Err-poll_op-clause-others g c =
+    let new : LegacyState g.row.I.Denot g.row.B.Denot =
+    by_parts c.poll_op.new.self c.poll_op.new.ops c.self.inside.members c.self.inside.asked.items c.self.inside.untreated in
+    polls-keep g.I.NonBlock.files g.B.IoBufMut.buffer g.I.Calls.called g.I.NonBlock.view g.I.NonBlock.tells g.I.NonBlock.memory
+    c.args.self.now new c.args.op c.args.task (Err c.in-Err-poll_op.refused) (returns-in-Err-poll_op-clause-ends g c)
+    (subst (λ d. AreRecorded d.handling.table d.handling.records) c.self.view_is c.recorded.ensures) tt
+
+pub returns-in-Ok-Ready-clause-others : goal.returns-in-Ok-Ready-clause-others
+returns-in-Ok-Ready-clause-others g c =
+    let new : LegacyState g.row.I.Denot g.row.B.Denot =
+    by_parts c.let_go.new.self c.poll_op.new.ops c.leave.new.self c.self.inside.asked.items c.self.inside.untreated in
+    polls-keep g.I.NonBlock.files g.B.IoBufMut.buffer g.I.Calls.called g.I.NonBlock.view g.I.NonBlock.tells g.I.NonBlock.memory
+    c.args.self.now new c.args.op c.args.task (Ok (Ready c.hand_over-done.result)) (returns-in-Ok-Ready-clause-ends g c)
+    (subst (λ d. AreRecorded d.handling.table d.handling.records) c.self.view_is c.recorded.ensures) c.recorded-in-Ok-Ready.ensures
 
 pub returns-in-Ok-Ready-clause-fails : goal.returns-in-Ok-Ready-clause-fails
 returns-in-Ok-Ready-clause-fails g c =

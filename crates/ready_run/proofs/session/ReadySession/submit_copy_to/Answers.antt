@@ -1,4 +1,4 @@
-use Rattle.std.proofs.Common.{refl, subst}
+use Rattle.std.proofs.Common.{false, refl, subst}
 use Rattle.ring_core.specs.declared.ledger.Event.TheVariants.{Submit}
 use Rattle.ready_run.specs.ReadySession.{StepsFor}
 use Rattle.ready_run.proofs.Kept.{tokens-same}
@@ -10,7 +10,7 @@ returns-in-Some c = λ D under stands is.
     answers-refused c.args.self.now _ D _ _ stands (c.in-Some.ensures.named D under stands is) refl (tokens-same _)
 
 pub returns-in-Ok : goal.returns-in-Ok
-returns-in-Ok c = λ D under stands is. subst (λ request. StepsFor D (Submit request under) c.submit_to.new.self c.submit_to.result)
+returns-in-Ok c = λ D under stands is. subst (λ request. StepsFor D (Submit request under false) c.submit_to.new.self c.submit_to.result)
     c.in-Ok.ensures (c.submit_to.ensures D under stands is)
 
 pub returns-in-Err : goal.returns-in-Err
