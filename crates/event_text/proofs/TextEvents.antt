@@ -19,8 +19,8 @@ use Rattle.event_text.specs.TextReaders.{with_first, at_end, last_of}
 use Rattle.event_text.specs.TextReads.{words, number_of, number_below, bytes_end, handle_kind_of}
 use Rattle.event_text.specs.TextRequest.{IsRequest, request_words}
 use Rattle.event_text.specs.TextRequestReads.{request_of}
-use Rattle.event_text.specs.TextEventReads.{told_rows, told_of, engine_rows, arrived_rows, created_rows, numbered_rows, numbered_by}
-use Rattle.event_text.specs.TextEventReads.{created_by, external_by, event_of}
+use Rattle.event_text.specs.TextEventReads.{told_rows, told_of, engine_rows, linked_rows, arrived_rows, created_rows, numbered_rows, numbered_by}
+use Rattle.event_text.specs.TextEventReads.{created_by, external_by, linked_by, event_of}
 use Rattle.event_text.specs.TextWords.{AreBytes, spaced, bytes_word, is_solid}
 use Rattle.event_text.proofs.TextFields.{at_end-Some, value_of-Some}
 use Rattle.event_text.proofs.TextForms.{IsWord, IsForm, IsRow, AreRows, number_word, below_word, bytes_form, last_form, with_first_form}
@@ -106,7 +106,7 @@ told_behind = with_first_form number_word told_form
 
 -- What an event's words are read as.
 pub event_of-event_words : (event : Event) → IsEvent event → event_of false (event_words event) ≡ Some event
-unfolding external_by created_by numbered_by
+unfolding linked_by external_by created_by numbered_by
 event_of-event_words (Give kind) h = ap (λ o. option_map Give o) (kind_behind.reads kind tt)
 event_of-event_words (Feed n bytes) h = ap (λ o. option_map (λ x. Feed x.0 x.1) o) (bytes_behind.reads (n, bytes) h)
 event_of-event_words (FeedMessage n address bytes) h =
@@ -114,10 +114,14 @@ event_of-event_words (FeedMessage n address bytes) h =
 event_of-event_words (End n) h = ap (λ o. option_map End o) (alone_behind.reads n h)
 event_of-event_words (Look n) h = ap (λ o. option_map Look o) (alone_behind.reads n h)
 event_of-event_words (Close n) h = ap (λ o. option_map Close o) (alone_behind.reads n h)
-event_of-event_words (Submit request None) h =
-    ap (λ (o : Option (Request Buffer Parts)). option_map (λ r. Submit r None) o) (request_of-words request h)
-event_of-event_words (Submit request (Some handle)) h =
-    ap (λ o. option_map (λ x. Submit x.1 (Some x.0)) o) (under_behind.reads (handle, request) h)
+event_of-event_words (Submit request None false) h =
+    ap (λ (o : Option (Request Buffer Parts)). option_map (λ r. Submit r None false) o) (request_of-words request h)
+event_of-event_words (Submit request (Some handle) false) h =
+    ap (λ o. option_map (λ x. Submit x.1 (Some x.0) false) o) (under_behind.reads (handle, request) h)
+event_of-event_words (Submit request None true) h =
+    ap (λ (o : Option (Request Buffer Parts)). option_map (λ r. Submit r None true) o) (request_of-words request h)
+event_of-event_words (Submit request (Some handle) true) h =
+    ap (λ o. option_map (λ x. Submit x.1 (Some x.0) true) o) (under_behind.reads (handle, request) h)
 event_of-event_words (Poll n task) h = ap (λ o. option_map (λ x. Poll x.0 x.1) o) (number_behind.reads (n, task) h)
 event_of-event_words (Drop n) h = ap (λ o. option_map Drop o) (alone_behind.reads n h)
 event_of-event_words (Cancel n) h = ap (λ o. option_map Cancel o) (alone_behind.reads n h)
@@ -135,8 +139,10 @@ solid_event (FeedMessage n address bytes) h = (refl, message_behind.solid (n, (a
 solid_event (End n) h = (refl, alone_behind.solid n h)
 solid_event (Look n) h = (refl, alone_behind.solid n h)
 solid_event (Close n) h = (refl, alone_behind.solid n h)
-solid_event (Submit request None) h = (refl, solid_request request h)
-solid_event (Submit request (Some handle)) h = (refl, under_behind.solid (handle, request) h)
+solid_event (Submit request None false) h = (refl, solid_request request h)
+solid_event (Submit request (Some handle) false) h = (refl, under_behind.solid (handle, request) h)
+solid_event (Submit request None true) h = (refl, solid_request request h)
+solid_event (Submit request (Some handle) true) h = (refl, under_behind.solid (handle, request) h)
 solid_event (Poll n task) h = (refl, number_behind.solid (n, task) h)
 solid_event (Drop n) h = (refl, alone_behind.solid n h)
 solid_event (Cancel n) h = (refl, alone_behind.solid n h)
@@ -180,9 +186,9 @@ numbered_rows-are = (
 -- .. each of what submits or creates,
 created_rows-are : AreRows event_words IsEvent created_rows
 created_rows-are = (
-  row_form event_words IsEvent (codes "submit") (λ request. Submit request None) request_behind (λ x h. (refl, h)),
+  row_form event_words IsEvent (codes "submit") (λ request. Submit request None false) request_behind (λ x h. (refl, h)),
   (
-    row_form event_words IsEvent (codes "under") (λ x. Submit x.1 (Some x.0)) under_behind (λ x h. (refl, h)),
+    row_form event_words IsEvent (codes "under") (λ x. Submit x.1 (Some x.0) false) under_behind (λ x h. (refl, h)),
     (
       row_form event_words IsEvent (codes "give") Give kind_behind (λ kind h. (refl, tt)),
       (alone (codes "canceller") NewCanceller refl tt, tt),
@@ -204,6 +210,13 @@ arrived_rows-are = (
   ),
 )
 
+-- .. each of a linked submission,
+linked_rows-are : AreRows event_words IsEvent linked_rows
+linked_rows-are = (
+  row_form event_words IsEvent (codes "link") (λ request. Submit request None true) request_behind (λ x h. (refl, h)),
+  (row_form event_words IsEvent (codes "linkunder") (λ x. Submit x.1 (Some x.0) true) under_behind (λ x h. (refl, h)), tt),
+)
+
 -- .. and each of a turn and an execution.
 engine_rows-are : AreRows event_words IsEvent engine_rows
 engine_rows-are = (
@@ -220,14 +233,22 @@ external_by-Some name words event is =
     by_name-Some event_words IsEvent created_rows created_rows-are (numbered_by name words) name words event (λ numbered.
     by_name-Some event_words IsEvent numbered_rows numbered_rows-are None name words event (λ none. absurd (cc)) numbered) created) is
 
+-- .. where linked submissions are, too,
+linked_by-Some : (name : List ℕ) (words : List (List ℕ)) (event : Event) → linked_by name words ≡ Some event
+    → (name ∷ words ≡ event_words event) × IsEvent event
+unfolding linked_by
+linked_by-Some name words event is =
+    by_name-Some event_words IsEvent linked_rows linked_rows-are (external_by name words) name words event
+    (external_by-Some name words event) is
+
 -- .. and where any is.
 event_of-Some : (external : Bool) (all : List (List ℕ)) (event : Event) → event_of external all ≡ Some event
     → (all ≡ event_words event) × IsEvent event
 event_of-Some external [] event is = absurd (cc)
 event_of-Some true (name ∷ words) event is = external_by-Some name words event is
 event_of-Some false (name ∷ words) event is =
-    by_name-Some event_words IsEvent engine_rows engine_rows-are (external_by name words) name words event
-    (external_by-Some name words event) is
+    by_name-Some event_words IsEvent engine_rows engine_rows-are (linked_by name words) name words event
+    (linked_by-Some name words event) is
 
 -- Nothing is no event.
 none_isnt_some : (event : Event) → None ≡ Some event → ⊥
@@ -235,18 +256,23 @@ none_isnt_some event is = cc
 
 -- The words of an external event are read as the same, whichever are taken.
 external_of-event_words : (event : Event) → IsExternal event → event_of true (event_words event) ≡ event_of false (event_words event)
-unfolding external_by created_by numbered_by
+unfolding linked_by external_by created_by numbered_by
 external_of-event_words Turn external = absurd external
 external_of-event_words (Exec place told) external = absurd external
-external_of-event_words (Submit request None) external = refl
-external_of-event_words (Submit request (Some handle)) external = refl
+external_of-event_words (Submit request under true) external = absurd external
+external_of-event_words (Submit request None false) external = refl
+external_of-event_words (Submit request (Some handle) false) external = refl
 external_of-event_words event external = refl
 
--- Words that are read as an event, where only external ones are taken, aren't those of a turn or an execution.
+-- Words that are read as an event, where only external ones are taken, aren't those of a turn, an execution or a linked submission.
 is_external : (event : Event) → event_of true (event_words event) ≡ Some event → IsExternal event
-unfolding external_by created_by numbered_by
+unfolding linked_by external_by created_by numbered_by
 is_external Turn is = absurd (none_isnt_some Turn is)
 is_external (Exec place told) is = absurd (none_isnt_some (Exec place told) is)
+is_external (Submit request None true) is = absurd (none_isnt_some (Submit request None true) is)
+is_external (Submit request (Some handle) true) is = absurd (none_isnt_some (Submit request (Some handle) true) is)
+is_external (Submit request None false) is = tt
+is_external (Submit request (Some handle) false) is = tt
 is_external event is = tt
 
 -- Words that have no space in them, and are some, are those that their line is cut into.

@@ -31,8 +31,10 @@ event_words (FeedMessage h address bytes) = codes "message" ∷ decimal h ∷ de
 event_words (End h) = codes "end" ∷ decimal h ∷ []
 event_words (Look h) = codes "look" ∷ decimal h ∷ []
 event_words (Close h) = codes "close" ∷ decimal h ∷ []
-event_words (Submit request None) = codes "submit" ∷ request_words request
-event_words (Submit request (Some handle)) = codes "under" ∷ decimal handle ∷ request_words request
+event_words (Submit request None false) = codes "submit" ∷ request_words request
+event_words (Submit request (Some handle) false) = codes "under" ∷ decimal handle ∷ request_words request
+event_words (Submit request None true) = codes "link" ∷ request_words request
+event_words (Submit request (Some handle) true) = codes "linkunder" ∷ decimal handle ∷ request_words request
 event_words (Poll n task) = codes "poll" ∷ decimal n ∷ decimal task ∷ []
 event_words (Drop n) = codes "drop" ∷ decimal n ∷ []
 event_words (Cancel n) = codes "cancel" ∷ decimal n ∷ []
@@ -59,8 +61,8 @@ IsEvent (FeedMessage h address bytes) = (h < 2 ^ 64) × (address < 2 ^ 64) × Ar
 IsEvent (End h) = h < 2 ^ 64
 IsEvent (Look h) = h < 2 ^ 64
 IsEvent (Close h) = h < 2 ^ 64
-IsEvent (Submit request None) = IsRequest request
-IsEvent (Submit request (Some handle)) = (handle < 2 ^ 64) × IsRequest request
+IsEvent (Submit request None linked) = IsRequest request
+IsEvent (Submit request (Some handle) linked) = (handle < 2 ^ 64) × IsRequest request
 IsEvent (Poll n task) = (n < 2 ^ 64) × (task < 2 ^ 64)
 IsEvent (Drop n) = n < 2 ^ 64
 IsEvent (Cancel n) = n < 2 ^ 64
@@ -75,8 +77,10 @@ pub record StandsFor (line : List ℕ) (event : Event) : Type 0 where
   pub typed : IsEvent event
   pub text : line ≡ event_text event
 
--- An event from outside the engine: a call of its user, or what arrives at a handle. A turn and an execution aren't.
+-- An event from outside an engine that links no requests: a call of its user, or what arrives at a handle. A turn, an execution and a
+-- linked submission aren't.
 abbrev pub IsExternal : Event → Type 0
+IsExternal (Submit request under true) = ⊥
 IsExternal Turn = ⊥
 IsExternal (Exec place told) = ⊥
 IsExternal event = Unit {0}

@@ -43,11 +43,19 @@ message_of words =
 
 -- .. of a request.
 abbrev pub submit_of : List (List ℕ) → Option Event
-submit_of words = option_map (λ request. Submit request None) (request_of words)
+submit_of words = option_map (λ request. Submit request None false) (request_of words)
 
 -- .. of a cancel handle and a request.
 abbrev pub under_of : List (List ℕ) → Option Event
-under_of words = option_map (λ found. Submit found.1 (Some found.0)) (with_first number_of request_of words)
+under_of words = option_map (λ found. Submit found.1 (Some found.0) false) (with_first number_of request_of words)
+
+-- .. of a request that is linked.
+abbrev pub link_of : List (List ℕ) → Option Event
+link_of words = option_map (λ request. Submit request None true) (request_of words)
+
+-- .. of a cancel handle and a request that is linked.
+abbrev pub linkunder_of : List (List ℕ) → Option Event
+linkunder_of words = option_map (λ found. Submit found.1 (Some found.0) true) (with_first number_of request_of words)
 
 -- .. of an operation and a task.
 abbrev pub poll_of : List (List ℕ) → Option Event
@@ -82,6 +90,10 @@ created_rows =
 abbrev pub arrived_rows : List (List ℕ × (List (List ℕ) → Option Event))
 arrived_rows = (codes "poll", poll_of) ∷ (codes "feed", feed_of) ∷ (codes "message", message_of) ∷ []
 
+-- Events that submit a linked request.
+abbrev pub linked_rows : List (List ℕ × (List (List ℕ) → Option Event))
+linked_rows = (codes "link", link_of) ∷ (codes "linkunder", linkunder_of) ∷ []
+
 -- Events of a turn and an execution.
 abbrev pub engine_rows : List (List ℕ × (List (List ℕ) → Option Event))
 engine_rows = (codes "turn", turn_of) ∷ (codes "exec", exec_of) ∷ []
@@ -98,10 +110,14 @@ created_by name words = by_name created_rows (numbered_by name words) name words
 unfoldable pub external_by : List ℕ → List (List ℕ) → Option Event
 external_by name words = by_name arrived_rows (created_by name words) name words
 
--- .. by all of them, or by all but that of a turn and an execution.
+-- .. from that of linked requests on,
+unfoldable pub linked_by : List ℕ → List (List ℕ) → Option Event
+linked_by name words = by_name linked_rows (external_by name words) name words
+
+-- .. by all of them, or by all but those of linked requests, and of a turn and an execution.
 abbrev pub event_by : Bool → List ℕ → List (List ℕ) → Option Event
 event_by true name words = external_by name words
-event_by false name words = by_name engine_rows (external_by name words) name words
+event_by false name words = by_name engine_rows (linked_by name words) name words
 
 -- The event that words write, if only external ones are taken, or any.
 abbrev pub event_of : Bool → List (List ℕ) → Option Event

@@ -3,7 +3,8 @@ use Rattle.std.specs.Prelude.{ℕ, List, [], ◌∷◌, length, codes, decimal, 
 use Rattle.rent_buf.specs.Held.{HeldBuf}
 use Rattle.rent_buf.specs.declared.held.Held.TheVariants.{One, Parts, Nothing}
 use Rattle.ring_core.specs.declared.ledger.Refusal.{Refusal}
-use Rattle.ring_core.specs.declared.ledger.Refusal.TheVariants.{NoOp, NoCanceller, NoHandle, Full, NotFlying, BadOutcome, BadHandleEvent}
+use Rattle.ring_core.specs.declared.ledger.Refusal.TheVariants.{NoOp, NoCanceller, NoHandle, Full, NotFlying, Waiting, BadOutcome}
+use Rattle.ring_core.specs.declared.ledger.Refusal.TheVariants.{BadHandleEvent}
 use Rattle.ring_core.specs.declared.ledger.Reply.{Reply}
 use Rattle.ring_core.specs.declared.ledger.Reply.TheVariants.{Handle, Fed, Ended, Released, Output, Messages, Submitted, Pending, Handed}
 use Rattle.ring_core.specs.declared.ledger.Reply.TheVariants.{Dropped, Asked, Turned, ExecutedOp, ExecutedClose, Refused}
@@ -20,6 +21,7 @@ refusal_word NoCanceller = codes "NoCanceller"
 refusal_word NoHandle = codes "NoHandle"
 refusal_word Full = codes "Full"
 refusal_word NotFlying = codes "NotFlying"
+refusal_word Waiting = codes "Waiting"
 refusal_word BadOutcome = codes "BadOutcome"
 refusal_word BadHandleEvent = codes "BadHandleEvent"
 

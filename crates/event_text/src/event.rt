@@ -1,5 +1,5 @@
 //! Events as text: one line each, read and written.
-ghost use Rattle.std.specs.Prelude.{◌≡◌, ◌++◌, [], IfOk, MatchOption, OnOk, OnErr, false};
+ghost use Rattle.std.specs.Prelude.{◌≡◌, ◌++◌, [], IfOk, MatchOption, OnOk, OnErr, true, false};
 ghost use Rattle.event_text.specs.TextWrites.{Starts};
 ghost use Rattle.event_text.specs.TextEvent.{event_text, stands_for};
 ghost use Rattle.event_text.specs.TextLines.{IsWrong};
@@ -7,7 +7,8 @@ ghost use Rattle.event_text.specs.TextLook.{line_end, line_of, words_left};
 ghost use Rattle.event_text.specs.TextReaders.{behind_first, first_of, last_of};
 ghost use Rattle.event_text.specs.TextReads.{words, handle_kind_of};
 ghost use Rattle.event_text.specs.TextEventReads.{event_of, feed_of, message_of, submit_of, under_of, poll_of, exec_of, give_of};
-ghost use Rattle.event_text.specs.TextEventReads.{turn_of, canceller_of, external_by, created_by, numbered_by, told_of};
+ghost use Rattle.event_text.specs.TextEventReads.{turn_of, canceller_of, linked_by, external_by, created_by, numbered_by, told_of};
+ghost use Rattle.event_text.specs.TextEventReads.{link_of, linkunder_of};
 
 use crate::request::put::put_request;
 use crate::request::read_request;
@@ -49,6 +50,21 @@ fn any_event(alloc: Global, line: &[u8]) -> Result<Option<Event>, OutOfMemory>
     }
     if let Some(rest) = behind_word(line, b"exec") {
         return exec_event(rest);
+    }
+    linked_event(alloc, line)
+}
+
+// The same, if the event submits a linked request, or is an external one.
+#[tactic(auto, unfolding(crate::specs::TextEventReads::linked_by))]
+fn linked_event(alloc: Global, line: &[u8]) -> Result<Option<Event>, OutOfMemory>
+    requires { line_end line.now ≡ [] }
+    ensures { IfOk result (λ event. event ≡ linked_by (first_of (words (line_of line.now))) (behind_first (words (line_of line.now)))) }
+{
+    if let Some(rest) = behind_word(line, b"link") {
+        return link_event(alloc, rest);
+    }
+    if let Some(rest) = behind_word(line, b"linkunder") {
+        return linkunder_event(alloc, rest);
     }
     external_event(alloc, line)
 }
@@ -230,7 +246,17 @@ fn submit_event(alloc: Global, rest: &[u8]) -> Result<Option<Event>, OutOfMemory
     ensures { IfOk result (λ event. event ≡ submit_of (words_left rest.now)) }
 {
     match read_request(alloc, rest)? {
-        Some(request) => Ok(Some(Event::Submit(request, None))),
+        Some(request) => Ok(Some(Event::Submit(request, None, false))),
+        None => Ok(None),
+    }
+}
+
+fn link_event(alloc: Global, rest: &[u8]) -> Result<Option<Event>, OutOfMemory>
+    requires { line_end rest.now ≡ [] }
+    ensures { IfOk result (λ event. event ≡ link_of (words_left rest.now)) }
+{
+    match read_request(alloc, rest)? {
+        Some(request) => Ok(Some(Event::Submit(request, None, true))),
         None => Ok(None),
     }
 }
@@ -243,7 +269,20 @@ fn under_event(alloc: Global, rest: &[u8]) -> Result<Option<Event>, OutOfMemory>
         return Ok(None);
     };
     match read_request(alloc, rest)? {
-        Some(request) => Ok(Some(Event::Submit(request, Some(handle)))),
+        Some(request) => Ok(Some(Event::Submit(request, Some(handle), false))),
+        None => Ok(None),
+    }
+}
+
+fn linkunder_event(alloc: Global, rest: &[u8]) -> Result<Option<Event>, OutOfMemory>
+    requires { line_end rest.now ≡ [] }
+    ensures { IfOk result (λ event. event ≡ linkunder_of (words_left rest.now)) }
+{
+    let Some((handle, rest)) = next_number(rest) else {
+        return Ok(None);
+    };
+    match read_request(alloc, rest)? {
+        Some(request) => Ok(Some(Event::Submit(request, Some(handle), true))),
         None => Ok(None),
     }
 }
@@ -322,7 +361,8 @@ fn put_event(event: &Event, out: &mut Vec<u8>) -> Result<(), OutOfMemory>
         Event::End(h) => put_counted(b"end ", *h, out),
         Event::Look(h) => put_counted(b"look ", *h, out),
         Event::Close(h) => put_counted(b"close ", *h, out),
-        Event::Submit(request, under) => put_submit(request, *under, out),
+        Event::Submit(request, under, true) => put_link(request, *under, out),
+        Event::Submit(request, under, false) => put_submit(request, *under, out),
         Event::Poll(n, task) => put_poll(*n, *task, out),
         Event::Drop(n) => put_counted(b"drop ", *n, out),
         Event::Cancel(n) => put_counted(b"cancel ", *n, out),
@@ -369,13 +409,32 @@ fn put_submit(
     under: Option<u64>,
     out: &mut Vec<u8>,
 ) -> Result<(), OutOfMemory>
-    ensures ok { OnOk result (out.new.items ≡ out.old.items ++ event_text (Event.Submit request.now under)) }
+    ensures ok { OnOk result (out.new.items ≡ out.old.items ++ event_text (Event.Submit request.now under false)) }
     ensures err { OnErr result (Starts out.old.items out.new.items) }
 {
     match under {
         None => put(b"submit ", out)?,
         Some(handle) => {
             put_counted(b"under ", handle, out)?;
+            put_byte(b' ', out)?;
+        }
+    }
+    put_request(request, out)
+}
+
+// The same of a linked request.
+fn put_link(
+    request: &Request<BufSpec, PartsSpec>,
+    under: Option<u64>,
+    out: &mut Vec<u8>,
+) -> Result<(), OutOfMemory>
+    ensures ok { OnOk result (out.new.items ≡ out.old.items ++ event_text (Event.Submit request.now under true)) }
+    ensures err { OnErr result (Starts out.old.items out.new.items) }
+{
+    match under {
+        None => put(b"link ", out)?,
+        Some(handle) => {
+            put_counted(b"linkunder ", handle, out)?;
             put_byte(b' ', out)?;
         }
     }

@@ -143,6 +143,7 @@ fn refusal_name(refusal: Refusal) -> &'static [u8]
         Refusal::NoHandle => b"NoHandle",
         Refusal::Full => b"Full",
         Refusal::NotFlying => b"NotFlying",
+        Refusal::Waiting => b"Waiting",
         Refusal::BadOutcome => b"BadOutcome",
         Refusal::BadHandleEvent => b"BadHandleEvent",
     }

@@ -6,7 +6,7 @@ ghost use Rattle.event_text.specs.TextLines.{lines, AreEventsFor, IsFirstWrongFo
 ghost use Rattle.event_text.specs.TextLook.{line_end, line_of, words_left};
 ghost use Rattle.event_text.specs.TextReaders.{behind_first, first_of, last_of};
 ghost use Rattle.event_text.specs.TextReads.{words, number_of};
-ghost use Rattle.event_text.specs.TextEventReads.{event_of, external_by, created_by, numbered_by, feed_of, message_of};
+ghost use Rattle.event_text.specs.TextEventReads.{event_of, linked_by, external_by, created_by, numbered_by, feed_of, message_of};
 ghost use Rattle.event_text.specs.TextEventReads.{under_of, poll_of, exec_of, give_of, told_of};
 
 mod requests;
@@ -68,6 +68,22 @@ fn past_any(text: &[u8]) -> Option<&[u8]>
     }
     if let Some(rest) = behind_word(text, b"exec") {
         return past_exec(rest);
+    }
+    past_linked(text)
+}
+
+// The same, if the event submits a linked request, or is an external one.
+#[tactic(auto, unfolding(crate::specs::TextEventReads::linked_by))]
+fn past_linked(text: &[u8]) -> Option<&[u8]>
+    ensures reads { is_some result ≡
+        is_some (linked_by (first_of (words (line_of text.now))) (behind_first (words (line_of text.now)))) }
+    ensures past { IfSome result (λ past. past.now ≡ line_end text.now) }
+{
+    if let Some(rest) = behind_word(text, b"link") {
+        return past_request(rest);
+    }
+    if let Some(rest) = behind_word(text, b"linkunder") {
+        return past_under(rest);
     }
     past_external(text)
 }

@@ -44,10 +44,11 @@ enum Field {
 type Form = (&'static str, &'static [Field]);
 
 const EVENT: &str =
-    "an event: give, feed, message, end, look, close, submit, poll, drop, cancel, canceller, newhandle, under, \
-cancelall, turn or exec";
+    "an event: give, feed, message, end, look, close, submit, link, poll, drop, cancel, canceller, newhandle, under, \
+linkunder, cancelall, turn or exec";
 
-const EXTERNAL: &str = "an event other than turn and exec, which 'ready' doesn't take";
+const EXTERNAL: &str =
+    "an event other than turn, exec, link and linkunder, which 'ready' doesn't take";
 
 const OF_FAULTS: &str =
     "a line of 'faults': give, close, submit, poll, drop, cancel, canceller, newhandle, under, cancelall, turn, complete \
@@ -79,7 +80,9 @@ const PATH: Field = Field::Bytes("a path: pairs of the digits 0-9a-f, or '-' for
 
 const BYTES: Field = Field::Bytes("bytes: pairs of the digits 0-9a-f, or '-' for none");
 
-const EVENTS: [Form; 16] = [
+const GROUP: Field = Field::Number("the number of a cancel handle (0 to 18446744073709551615)");
+
+const EVENTS: [Form; 18] = [
     (
         "give",
         &[Field::OneOf(
@@ -93,6 +96,7 @@ const EVENTS: [Form; 16] = [
     ("look", &[HANDLE]),
     ("close", &[HANDLE]),
     ("submit", &[Field::Request]),
+    ("link", &[Field::Request]),
     (
         "poll",
         &[
@@ -104,13 +108,8 @@ const EVENTS: [Form; 16] = [
     ("cancel", &[OPERATION]),
     ("canceller", &[]),
     ("newhandle", &[CANCELLER]),
-    (
-        "under",
-        &[
-            Field::Number("the number of a cancel handle (0 to 18446744073709551615)"),
-            Field::Request,
-        ],
-    ),
+    ("under", &[GROUP, Field::Request]),
+    ("linkunder", &[GROUP, Field::Request]),
     ("cancelall", &[CANCELLER]),
     ("turn", &[]),
     (
@@ -122,8 +121,19 @@ const EVENTS: [Form; 16] = [
     ),
 ];
 
+// The events that `ready` doesn't take.
+const INTERNAL: &[&str] = &["turn", "exec", "link", "linkunder"];
+
 // The events that `faults` doesn't take, and the lines that it alone takes.
-const UNTAKEN: &[&str] = &["feed", "message", "end", "look", "exec"];
+const UNTAKEN: &[&str] = &[
+    "feed",
+    "message",
+    "end",
+    "look",
+    "link",
+    "linkunder",
+    "exec",
+];
 
 const OF_RING: [Form; 2] = [
     (
@@ -169,8 +179,8 @@ const REQUESTS: [Form; 18] = [
     ),
 ];
 
-/// What is wrong with a line, with no newline in it, as an event's text; `None` if nothing is. Where `external` is true turns and
-/// executions are wrong too, as under `ready`. It takes no memory. (not in monoio)
+/// What is wrong with a line, with no newline in it, as an event's text; `None` if nothing is. Where `external` is true turns, executions
+/// and linked submissions are wrong too, as under `ready`. It takes no memory. (not in monoio)
 pub fn explain(line: &[u8], external: bool) -> Option<Complaint> {
     let mut words = Words::of(line);
     match event(&mut words, external) {
@@ -217,7 +227,7 @@ fn line_end(text: &[u8]) -> usize
 fn event(words: &mut Words<'_>, external: bool) -> Result<(), Complaint> {
     let expected = if external { EXTERNAL } else { EVENT };
     let name = words.next(expected)?;
-    if external && (is_word(name, "turn") || is_word(name, "exec")) {
+    if external && is_one_of(name, INTERNAL) {
         return Err(words.wrong(expected, ""));
     }
     let Some(fields) = fields_of(name, &EVENTS) else {
@@ -229,10 +239,8 @@ fn event(words: &mut Words<'_>, external: bool) -> Result<(), Complaint> {
 // All words of a line of `faults`.
 fn line_of_faults(words: &mut Words<'_>) -> Result<(), Complaint> {
     let name = words.next(OF_FAULTS)?;
-    for text in UNTAKEN {
-        if is_word(name, text) {
-            return Err(words.wrong(OF_FAULTS, ""));
-        }
+    if is_one_of(name, UNTAKEN) {
+        return Err(words.wrong(OF_FAULTS, ""));
     }
     if let Some(fields) = fields_of(name, &OF_RING) {
         return rest(words, fields);
@@ -241,6 +249,16 @@ fn line_of_faults(words: &mut Words<'_>) -> Result<(), Complaint> {
         return Err(words.wrong(OF_FAULTS, of_word(name)));
     };
     rest(words, fields)
+}
+
+// A name is one of these.
+fn is_one_of(name: &[u8], texts: &[&str]) -> bool {
+    for text in texts {
+        if is_word(name, text) {
+            return true;
+        }
+    }
+    false
 }
 
 // The words behind a name, and the end of the line.

@@ -51,10 +51,11 @@ fn is_right(
 }
 
 const EVENT: &str =
-    "an event: give, feed, message, end, look, close, submit, poll, drop, cancel, canceller, newhandle, under, \
-cancelall, turn or exec";
+    "an event: give, feed, message, end, look, close, submit, link, poll, drop, cancel, canceller, newhandle, under, \
+linkunder, cancelall, turn or exec";
 
-const EXTERNAL: &str = "an event other than turn and exec, which 'ready' doesn't take";
+const EXTERNAL: &str =
+    "an event other than turn, exec, link and linkunder, which 'ready' doesn't take";
 
 const REQUEST: &str =
     "a request: recv, readv, send, writev, recvmsg, sendmsg, read, write, spliceto, splicefrom, accept, open, \
@@ -126,6 +127,9 @@ const LINES: &[Wrong] = &[
     ("newhandle", 2, CANCELLER, ", but the line ends before it"),
     ("canceller 0", 2, END, ""),
     ("under recv 0 v 1 0 1 -", 2, GROUP, ", but it has a byte that is no digit"),
+    ("linkunder recv 0 v 1 0 1 -", 2, GROUP, ", but it has a byte that is no digit"),
+    ("linkunder 0", 3, REQUEST, ", but the line ends before it"),
+    ("link 0 recv 0 v 1 0 1 -", 2, REQUEST, ""),
     ("submit", 2, REQUEST, ", but the line ends before it"),
     ("submit receive 0", 2, REQUEST, ""),
     ("submit recv 0 x 1 0 1 -", 4, "a kind of buffer: 'v', 'g' or 'b'", ""),
@@ -183,10 +187,16 @@ fn of_a_right_line_nothing_is_told(rt: HostRuntime) -> Result<(), Fail> {
 }
 
 // Lines of the events that 'ready' doesn't take.
-const INTERNAL: &[&str] = &["turn", "exec 0 ok 1", "exec 0 err 65535"];
+const INTERNAL: &[&str] = &[
+    "turn",
+    "exec 0 ok 1",
+    "exec 0 err 65535",
+    "link recv 0 v 1 0 1 -",
+    "linkunder 3 unlink 61 dir",
+];
 
 #[test]
-fn a_turn_and_an_execution_are_wrong_under_ready(rt: HostRuntime) -> Result<(), Fail> {
+fn what_drives_a_queue_is_wrong_under_ready(rt: HostRuntime) -> Result<(), Fail> {
     for line in INTERNAL {
         is_right(&rt, rt.alloc(), false, line)?;
         is_wrong(&rt, rt.alloc(), true, (line, 1, EXTERNAL, ""))?;
@@ -209,6 +219,7 @@ const FAULTS: &[(&str, Option<(u64, &str, &str)>)] = &[
     ("turn", None),
     ("exec 0 ok 1", Some((1, OF_FAULTS, ""))),
     ("feed 0 61", Some((1, OF_FAULTS, ""))),
+    ("link recv 0 v 1 0 1 -", Some((1, OF_FAULTS, ""))),
     ("Ring", Some((1, OF_FAULTS, ", but it has a capital letter"))),
     ("ring 1", Some((2, END, ""))),
     ("complete", Some((2, DATA_WORD, ", but the line ends before it"))),

@@ -80,6 +80,9 @@ a submission under a cancel handle|under 0 submit recv 0 v 4 0 4 -
 leading zero of a cancel handle|under 00 recv 0 v 4 0 4 -
 one past u64 of a cancel handle|under 18446744073709551616 recv 0 v 4 0 4 -
 a buffer under a cancel handle that breaks a bound|under 0 recv 0 v 4 0 5 -
+no request that is linked|link
+a cancel handle of a link|link 0 recv 0 v 4 0 4 -
+no cancel handle of a linked request|linkunder recv 0 v 4 0 4 -
 one word behind a canceller|canceller 0
 a canceller's plural|cancellers
 no number of a canceller's handle|newhandle
@@ -226,6 +229,8 @@ drop 18446744073709551615
 cancel 10
 under 0 recv 0 v 4 0 4 -
 under 18446744073709551615 writev 10 p 2 2 6162 0 -
+link recv 0 v 4 0 4 -
+linkunder 18446744073709551615 writev 10 p 2 2 6162 0 -
 canceller
 newhandle 0
 newhandle 18446744073709551615
@@ -306,10 +311,11 @@ fn lines_are_counted(rt: HostRuntime) -> Result<(), Fail> {
 
 // Lines of which some are no external event's, how many events they give, and the first wrong line, or 0.
 #[rattlefmt::skip]
-const EXTERNAL: [(&str, usize, u64); 4] = [
+const EXTERNAL: [(&str, usize, u64); 5] = [
     ("give stream\npoll 0 7\ndrop 0", 3, 0),
     ("give stream\nturn\nno event", 0, 2),
     ("exec 0 ok 1", 0, 1),
+    ("submit accept 0\nlink accept 0", 0, 2),
     ("end 0\nno event\nturn", 0, 2),
 ];
 

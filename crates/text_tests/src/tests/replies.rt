@@ -49,7 +49,7 @@ fn is_text(alloc: Global, reply: &Reply, want: &[u8]) -> Result<bool, OutOfMemor
 
 // Replies that hold no memory, and their texts.
 #[rattlefmt::skip]
-const PLAIN: [(Reply, &[u8]); 23] = [
+const PLAIN: [(Reply, &[u8]); 24] = [
     (Reply::Handle(3), b"handle 3"),
     (Reply::Fed, b"fed"),
     (Reply::Ended, b"ended"),
@@ -71,6 +71,7 @@ const PLAIN: [(Reply, &[u8]); 23] = [
     (Reply::Refused(Refusal::NoHandle), b"refused NoHandle"),
     (Reply::Refused(Refusal::Full), b"refused Full"),
     (Reply::Refused(Refusal::NotFlying), b"refused NotFlying"),
+    (Reply::Refused(Refusal::Waiting), b"refused Waiting"),
     (Reply::Refused(Refusal::BadOutcome), b"refused BadOutcome"),
     (Reply::Refused(Refusal::BadHandleEvent), b"refused BadHandleEvent"),
 ];

@@ -7,6 +7,6 @@ use Rattle.event_text.proofs.event.any_event.Goals as goal
 
 pub returns : goal.returns
 returns c =
-    subst (λ o. IfOk c.external_event.result (λ event. event ≡ o))
+    subst (λ o. IfOk c.linked_event.result (λ event. event ≡ o))
     (other-first (words (line_of c.args.line.now)) (sym c.in_default.ensures.reads) (sym c.in_default-behind_word.ensures.reads))
-    c.external_event.ensures
+    c.linked_event.ensures

@@ -7,6 +7,6 @@ use Rattle.event_text.proofs.valid.past_any.Goals as goal
 
 pub returns-clause-reads : goal.returns-clause-reads
 returns-clause-reads c =
-    c.past_external.ensures.reads
+    c.past_linked.ensures.reads
     ∙ ap is_some (other-first (words (line_of c.args.text.now)) (sym c.in_default.ensures.reads)
     (sym c.in_default-behind_word.ensures.reads))
